@@ -1,0 +1,36 @@
+//! Why octets are no packet, and why a packet was not written.
+
+ghost use Rattle.std.specs.Prelude.{◌≡◌};
+ghost use Rattle.space_packet.specs.declared.fault.WriteFault.TheVariants.{Memory};
+
+use std::alloc::AllocError;
+
+/// The first thing that is wrong with octets that are no packet, in this order.
+#[derive(Clone, Copy, PartialEq, Eq, Debug)]
+pub enum PacketFault {
+    /// There are fewer than 7 octets: no room for a header and a data field.
+    Short,
+    /// The packet version number is not 0 (CCSDS 133.0-B, packet version number).
+    Version,
+    /// The octets after the header are not as many as its packet data length says.
+    Length,
+}
+
+/// Why a packet was not written, in this order.
+#[derive(Clone, Copy, PartialEq, Eq, Debug)]
+pub enum WriteFault {
+    /// The data field has no octet.
+    NoData,
+    /// The data field has over 65,536 octets.
+    TooLong,
+    /// Memory ran out.
+    Memory,
+}
+
+impl From<AllocError> for WriteFault {
+    ghost from_gives = { λ _ fault. fault ≡ Memory };
+
+    fn from(_error: AllocError) -> WriteFault {
+        WriteFault::Memory
+    }
+}

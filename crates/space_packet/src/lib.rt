@@ -1,0 +1,23 @@
+//! The space packet of CCSDS 133.0-B: a primary header of six octets, and a data field of 1 to
+//! 65,536 octets.
+//!
+//! `read` takes one packet apart and `write` appends one; both are the relation `IsPacket`, in which
+//! the header is one number of 48 bits.
+#![tactic(auto)]
+
+mod fault;
+mod laws;
+mod primary;
+mod range;
+mod reading;
+mod writing;
+
+pub use fault::{PacketFault, WriteFault};
+pub use laws::{one_header_for_a_packet, one_packet_for_a_header, written_octets_are_the_packet};
+pub use primary::{Primary, SequenceFlags};
+pub use range::{Apid, SequenceCount};
+pub use reading::read;
+pub use writing::write;
+
+#[cfg(test)]
+mod tests;

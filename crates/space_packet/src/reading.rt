@@ -1,0 +1,67 @@
+//! Reading a packet.
+
+ghost use Rattle.std.specs.Prelude.{◌≡◌, ◌<◌, ◌^◌, ◌%◌, ℕ, List, IfOk, IfErr, IsOkAnd, MatchResult, Ok, Err};
+ghost use Rattle.space_packet.specs.Packet.{IsPacket, IsFirstFault, packet_in};
+
+use crate::fault::PacketFault;
+use crate::primary::{Primary, SequenceFlags};
+use crate::range::{Apid, SequenceCount};
+use byteorder::{BigEndian, ByteOrder};
+
+/// Octets in a primary header.
+pub(crate) const HEADER_LEN: usize = 6;
+
+/// The application process identifier in the low 11 bits of the packet identification.
+fn apid_in(identification: u16) -> Apid
+    ensures { result ≡ identification % 2 ^ 11 }
+{
+    match Apid::new(identification % 2048) {
+        Some(apid) => apid,
+        None => unreachable!(),
+    }
+}
+
+/// The sequence count in the low 14 bits of the packet sequence control.
+fn count_in(sequence_control: u16) -> SequenceCount
+    ensures { result ≡ sequence_control % 2 ^ 14 }
+{
+    match SequenceCount::new(sequence_control % 16384) {
+        Some(count) => count,
+        None => unreachable!(),
+    }
+}
+
+/// The header of the packet that these octets are, and its data field: all octets after the header.
+///
+/// Refusals, in this order: `Short` (under 7 octets), `Version` (not 0), `Length` (the octets are not
+/// exactly as many as the header says).
+pub fn read(octets: &[u8]) -> Result<(Primary, &[u8]), PacketFault>
+    ensures ok { IfOk result (λ found. IsPacket octets.now found.0 found.1.now) }
+    ensures only { (header : Primary) (payload : List ℕ) → IsPacket octets.now header payload →
+        IsOkAnd result (λ found. (found.0 ≡ header) × (found.1.now ≡ payload)) }
+    ensures value { MatchResult result
+        (λ found. packet_in octets.now ≡ Ok (found.0, found.1.now)) (λ fault. packet_in octets.now ≡ Err fault) }
+    ensures err { IfErr result (IsFirstFault octets.now) }
+{
+    if octets.len() <= HEADER_LEN {
+        return Err(PacketFault::Short);
+    }
+    let identification = BigEndian::read_u16(octets);
+    let sequence_control = BigEndian::read_u16(&octets[2..]);
+    let data_length = BigEndian::read_u16(&octets[4..]);
+    let payload = &octets[HEADER_LEN..];
+    if identification >> 13 != 0 {
+        return Err(PacketFault::Version);
+    }
+    if payload.len() != data_length as usize + 1 {
+        return Err(PacketFault::Length);
+    }
+    let header = Primary {
+        telecommand: (identification >> 12) % 2 == 1,
+        secondary: (identification >> 11) % 2 == 1,
+        apid: apid_in(identification),
+        flags: SequenceFlags::of_number(sequence_control >> 14),
+        count: count_in(sequence_control),
+    };
+    Ok((header, payload))
+}
