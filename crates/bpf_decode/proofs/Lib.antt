@@ -1,0 +1,9 @@
+mod RowLemmas
+mod Complete
+mod Bytes
+mod Known
+mod Decode
+pub mod Only
+mod FirstFault
+mod KnownLine
+pub mod Decoded

@@ -1,0 +1,24 @@
+-- The faults of octets that are no instruction that may be loaded, as facts about the octets.
+use Rattle.std.specs.Prelude.{◌≡◌, ◌≢◌, ℕ, ◌<◌, List, length, slice_index}
+use Rattle.bpf_types.specs.declared.line.Line.{Line}
+use Rattle.bpf_types.specs.Line.{first_slot, WritesFramePointer}
+use Rattle.bpf_decode.specs.declared.fault.DecodeFault.{DecodeFault}
+use Rattle.bpf_decode.specs.declared.fault.DecodeFault.TheVariants as fault
+use Rattle.bpf_decode.specs.Decoding.{BeginsWith, HasBadRegister}
+
+-- what each fault says, whatever else holds: a wide load with no second slot, an opcode of no row, a register over 10,
+-- octets that spell no instruction, an instruction that writes R10
+abbrev pub Has : DecodeFault → List ℕ → Type 0
+Has fault.CutWide octets = (slice_index octets 0 ≡ 0x18) × (length octets < 16)
+Has fault.UnknownOpcode octets = (l : Line) → (first_slot l).opcode ≢ slice_index octets 0
+Has fault.BadRegister octets = HasBadRegister octets
+Has fault.ReservedField octets = (l : Line) → ¬ BeginsWith octets l
+Has fault.WritesFramePointer octets = (l : Line) × BeginsWith octets l × WritesFramePointer l
+
+-- the first fault that the octets have: they have this one, and none before it
+abbrev pub IsFirst : DecodeFault → List ℕ → Type 0
+IsFirst fault.CutWide octets = Has fault.CutWide octets
+IsFirst fault.UnknownOpcode octets = ¬ Has fault.CutWide octets × Has fault.UnknownOpcode octets
+IsFirst fault.BadRegister octets = ¬ Has fault.CutWide octets × ¬ Has fault.UnknownOpcode octets × Has fault.BadRegister octets
+IsFirst fault.ReservedField octets = ¬ Has fault.CutWide octets × ¬ Has fault.UnknownOpcode octets × ¬ Has fault.BadRegister octets × Has fault.ReservedField octets
+IsFirst fault.WritesFramePointer octets = ¬ Has fault.CutWide octets × ¬ Has fault.UnknownOpcode octets × ¬ Has fault.BadRegister octets × ¬ Has fault.ReservedField octets × Has fault.WritesFramePointer octets

@@ -1,0 +1,397 @@
+// Instructions as octets.
+ghost use Rattle.std.specs.Prelude.{◌≡◌, ◌*◌, ◌+◌, ◌≤◌, ℕ, List, [], length, take, IfSome, IfNone};
+ghost use Rattle.bpf_types.specs.declared.line.Line.TheVariants as Variants;
+ghost use Rattle.bpf_types.specs.Line.{first_slot, second_slot, spelling, Spells, slot_octets, code_of, offset_of, arithmetic_class, jump_class, test_code, extension_opcode, extension_offset, order_opcode, swapped_bits, size_code, narrow_code};
+
+use bpf_types::{
+    Extension, Fields, Line, Narrow, Operand, Operation, Order, Reg, Size, Swapped, Test, Width,
+};
+use std::marker::Model;
+
+/// The octets of one instruction, 8 or 16. A contract sees the list of them.
+#[derive(Drop)]
+pub struct Slots {
+    octets: [u8; 16],
+    length: usize,
+}
+
+impl Model for Slots {
+    ghost Value = { List ℕ };
+
+    ghost view = { λ s. take s.length s.octets };
+
+    ghost invariant = { λ s. s.length ≤ 16 };
+}
+
+impl Slots {
+    /// The octets, the first slot first.
+    #[inline]
+    pub fn as_slice(&self) -> &[u8]
+        ensures { result.now ≡ self.now }
+    {
+        &self.octets[..self.length]
+    }
+}
+
+/// The code of an operation, the high four bits of its opcodes.
+fn number_of(operation: Operation) -> u8
+    ensures { result ≡ code_of operation }
+{
+    match operation {
+        Operation::Add => 0,
+        Operation::Sub => 1,
+        Operation::Mul => 2,
+        Operation::Div | Operation::SignedDiv => 3,
+        Operation::Or => 4,
+        Operation::And => 5,
+        Operation::Lsh => 6,
+        Operation::Rsh => 7,
+        Operation::Mod | Operation::SignedMod => 9,
+        Operation::Xor => 10,
+        Operation::Mov => 11,
+        Operation::Arsh => 12,
+    }
+}
+
+/// The offset field of an operation.
+fn offset_number(operation: Operation) -> i16
+    ensures { result ≡ offset_of operation }
+{
+    match operation {
+        Operation::SignedDiv | Operation::SignedMod => 1,
+        _ => 0,
+    }
+}
+
+/// The class of arithmetic.
+fn class_of(width: Width) -> u8
+    ensures { result ≡ arithmetic_class width }
+{
+    match width {
+        Width::W32 => 4,
+        Width::W64 => 7,
+    }
+}
+
+/// The octets of one slot.
+fn octets_of(fields: Fields) -> [u8; 8]
+    ensures { result ≡ slot_octets fields }
+{
+    let [low, high] = fields.offset.to_le_bytes();
+    let [a, b, c, d] = fields.imm.to_le_bytes();
+    [
+        fields.opcode,
+        fields.dst.number() + 16 * fields.src.number(),
+        low,
+        high,
+        a,
+        b,
+        c,
+        d,
+    ]
+}
+
+/// The fields of arithmetic with two operands.
+fn arithmetic_fields(width: Width, operation: Operation, dst: Reg, operand: Operand) -> Fields
+    ensures { result ≡ first_slot (Line.Arithmetic width operation dst operand) }
+{
+    let opcode = number_of(operation) * 16 + class_of(width);
+    let offset = offset_number(operation);
+    match operand {
+        Operand::Immediate(imm) => Fields {
+            opcode,
+            dst,
+            src: Reg::zero(),
+            offset,
+            imm,
+        },
+        Operand::Register(src) => Fields {
+            opcode: opcode + 8,
+            dst,
+            src,
+            offset,
+            imm: 0,
+        },
+    }
+}
+
+/// The class of jumps.
+fn jump_class_of(width: Width) -> u8
+    ensures { result ≡ jump_class width }
+{
+    match width {
+        Width::W32 => 6,
+        Width::W64 => 5,
+    }
+}
+
+/// The code of a test, the high four bits of its opcodes.
+fn test_number(test: Test) -> u8
+    ensures { result ≡ test_code test }
+{
+    match test {
+        Test::Equal => 1,
+        Test::Greater => 2,
+        Test::GreaterOrEqual => 3,
+        Test::Set => 4,
+        Test::NotEqual => 5,
+        Test::SignedGreater => 6,
+        Test::SignedGreaterOrEqual => 7,
+        Test::Less => 10,
+        Test::LessOrEqual => 11,
+        Test::SignedLess => 12,
+        Test::SignedLessOrEqual => 13,
+    }
+}
+
+/// The size bits of a load or a store.
+fn size_number(size: Size) -> u8
+    ensures { result ≡ size_code size }
+{
+    match size {
+        Size::Word => 0,
+        Size::Half => 1,
+        Size::Byte => 2,
+        Size::Double => 3,
+    }
+}
+
+/// The size bits of a load that extends the sign.
+fn narrow_number(size: Narrow) -> u8
+    ensures { result ≡ narrow_code size }
+{
+    match size {
+        Narrow::Word => 0,
+        Narrow::Half => 1,
+        Narrow::Byte => 2,
+    }
+}
+
+/// The fields of a jump that tests.
+fn jump_fields(width: Width, test: Test, dst: Reg, operand: Operand, distance: i16) -> Fields
+    ensures { result ≡ first_slot (Line.JumpIf width test dst operand distance) }
+{
+    let opcode = test_number(test) * 16 + jump_class_of(width);
+    match operand {
+        Operand::Immediate(imm) => Fields {
+            opcode,
+            dst,
+            src: Reg::zero(),
+            offset: distance,
+            imm,
+        },
+        Operand::Register(src) => Fields {
+            opcode: opcode + 8,
+            dst,
+            src,
+            offset: distance,
+            imm: 0,
+        },
+    }
+}
+
+/// The fields of a move that extends the sign.
+fn move_fields(extension: Extension, dst: Reg, src: Reg) -> Fields
+    ensures { result ≡ first_slot (Line.MoveExtended extension dst src) }
+{
+    let (opcode, offset) = match extension {
+        Extension::From8To32 => (0xbc, 8),
+        Extension::From16To32 => (0xbc, 16),
+        Extension::From8To64 => (0xbf, 8),
+        Extension::From16To64 => (0xbf, 16),
+        Extension::From32To64 => (0xbf, 32),
+    };
+    Fields {
+        opcode,
+        dst,
+        src,
+        offset,
+        imm: 0,
+    }
+}
+
+/// The fields of a byte order instruction.
+fn order_fields(order: Order, swapped: Swapped, dst: Reg) -> Fields
+    ensures { result ≡ first_slot (Line.ByteOrder order swapped dst) }
+{
+    let opcode = match order {
+        Order::Little => 0xd4,
+        Order::Big => 0xdc,
+        Order::Swap => 0xd7,
+    };
+    let imm = match swapped {
+        Swapped::Bits16 => 16,
+        Swapped::Bits32 => 32,
+        Swapped::Bits64 => 64,
+    };
+    Fields {
+        opcode,
+        dst,
+        src: Reg::zero(),
+        offset: 0,
+        imm,
+    }
+}
+
+/// The fields of the first slot.
+fn first_fields(line: Line) -> Fields
+    ensures { result ≡ first_slot line }
+{
+    let zero = Reg::zero();
+    match line {
+        Line::Arithmetic {
+            width,
+            operation,
+            dst,
+            operand,
+        } => arithmetic_fields(width, operation, dst, operand),
+        Line::Negate { width, dst } => Fields {
+            opcode: 0x80 + class_of(width),
+            dst,
+            src: zero,
+            offset: 0,
+            imm: 0,
+        },
+        Line::MoveExtended {
+            extension,
+            dst,
+            src,
+        } => move_fields(extension, dst, src),
+        Line::ByteOrder {
+            order,
+            swapped,
+            dst,
+        } => order_fields(order, swapped, dst),
+        Line::Jump { distance } => Fields {
+            opcode: 0x05,
+            dst: zero,
+            src: zero,
+            offset: distance,
+            imm: 0,
+        },
+        Line::LongJump { distance } => Fields {
+            opcode: 0x06,
+            dst: zero,
+            src: zero,
+            offset: 0,
+            imm: distance,
+        },
+        Line::JumpIf {
+            width,
+            test,
+            dst,
+            operand,
+            distance,
+        } => jump_fields(width, test, dst, operand, distance),
+        Line::Call { number } => Fields {
+            opcode: 0x85,
+            dst: zero,
+            src: zero,
+            offset: 0,
+            imm: number,
+        },
+        Line::CallLocal { distance } => Fields {
+            opcode: 0x85,
+            dst: zero,
+            src: Reg::one(),
+            offset: 0,
+            imm: distance,
+        },
+        Line::Exit => Fields {
+            opcode: 0x95,
+            dst: zero,
+            src: zero,
+            offset: 0,
+            imm: 0,
+        },
+        Line::LoadWide { dst, value } => Fields {
+            opcode: 0x18,
+            dst,
+            src: zero,
+            offset: 0,
+            imm: ((value % 0x1_0000_0000) as u32).cast_signed(),
+        },
+        Line::Load {
+            size,
+            dst,
+            base,
+            offset,
+        } => Fields {
+            opcode: size_number(size) * 8 + 0x61,
+            dst,
+            src: base,
+            offset,
+            imm: 0,
+        },
+        Line::LoadExtended {
+            size,
+            dst,
+            base,
+            offset,
+        } => Fields {
+            opcode: narrow_number(size) * 8 + 0x81,
+            dst,
+            src: base,
+            offset,
+            imm: 0,
+        },
+        Line::StoreImmediate {
+            size,
+            base,
+            offset,
+            value,
+        } => Fields {
+            opcode: size_number(size) * 8 + 0x62,
+            dst: base,
+            src: zero,
+            offset,
+            imm: value,
+        },
+        Line::Store {
+            size,
+            base,
+            offset,
+            src,
+        } => Fields {
+            opcode: size_number(size) * 8 + 0x63,
+            dst: base,
+            src,
+            offset,
+            imm: 0,
+        },
+    }
+}
+
+/// The second slot's octets, where there is one.
+fn second_octets(line: Line) -> Option<[u8; 8]>
+    ensures some { IfSome result (λ octets. second_slot line ≡ octets) }
+    ensures none { IfNone result (second_slot line ≡ []) }
+{
+    match line {
+        Line::LoadWide { value, .. } => Some(octets_of(Fields {
+            opcode: 0,
+            dst: Reg::zero(),
+            src: Reg::zero(),
+            offset: 0,
+            imm: ((value / 0x1_0000_0000) as u32).cast_signed(),
+        })),
+        _ => None,
+    }
+}
+
+/// The octets that spell an instruction: 16 of a wide load, and 8 of any other (RFC 9669, section 3).
+pub fn encode(line: Line) -> Slots
+    ensures spelling { result ≡ spelling line }
+    ensures spelled { Spells result line }
+{
+    let copied = line;
+    let mut octets = [0; 16];
+    octets[..8].copy_from_slice(&octets_of(first_fields(copied)));
+    match second_octets(line) {
+        Some(second) => {
+            octets[8..].copy_from_slice(&second);
+            Slots { octets, length: 16 }
+        }
+        None => Slots { octets, length: 8 },
+    }
+}

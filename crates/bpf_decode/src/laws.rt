@@ -1,0 +1,30 @@
+// What holds of all instructions and all octets.
+ghost use Rattle.std.specs.Prelude.{◌≡◌, ℕ, List, Ok};
+ghost use Rattle.bpf_types.specs.declared.line.Line.{Line};
+ghost use Rattle.bpf_types.specs.Line.{Spells, WritesFramePointer};
+ghost use Rattle.bpf_decode.specs.declared.fault.DecodeFault.{DecodeFault};
+ghost use Rattle.bpf_decode.specs.Decoding.{decoded, BeginsWith};
+ghost use Rattle.bpf_decode.specs.Faults.{IsFirst};
+
+/// A spelling determines its line, and a line its spelling.
+pub fn spellings_are_unique()
+    ensures one_line { (octets : List ℕ) (a b : Line) → Spells octets a → Spells octets b → a ≡ b }
+    ensures one_spelling { (a b : List ℕ) (line : Line) → Spells a line → Spells b line → a ≡ b }
+{}
+
+/// Octets begin with one instruction at most, so that no spelling begins another one; and an instruction that has a
+/// fault writes R10.
+pub fn instructions_are_unique()
+    ensures one { (octets : List ℕ) (a b : Line) → BeginsWith octets a → BeginsWith octets b → a ≡ b }
+    ensures no_fault { (octets : List ℕ) (fault : DecodeFault) (line : Line) → IsFirst fault octets → BeginsWith octets line → WritesFramePointer line }
+{}
+
+/// Octets that begin with an instruction that does not write R10 are decoded as that instruction.
+pub fn instructions_are_decoded()
+    ensures { (octets : List ℕ) (line : Line) → BeginsWith octets line → ¬ WritesFramePointer line → decoded octets ≡ Ok line }
+{}
+
+/// Octets have one first fault at most.
+pub fn faults_are_unique()
+    ensures { (octets : List ℕ) (a b : DecodeFault) → IsFirst a octets → IsFirst b octets → a ≡ b }
+{}

@@ -1,0 +1,18 @@
+// Between octets and typed instructions: the instruction table of RFC 9669, both ways.
+#![tactic(auto)]
+
+mod codes;
+mod encoding;
+mod fault;
+mod laws;
+mod rows;
+mod slots;
+#[cfg(test)]
+mod tests;
+
+pub use encoding::{Slots, encode};
+pub use fault::DecodeFault;
+pub use laws::{
+    faults_are_unique, instructions_are_decoded, instructions_are_unique, spellings_are_unique,
+};
+pub use slots::decode_at;

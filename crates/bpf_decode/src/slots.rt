@@ -1,0 +1,154 @@
+// Instructions among the octets of code.
+ghost use Rattle.std.specs.Prelude.{◌≡◌, ◌≢◌, ◌≤◌, ◌<◌, ◌+◌, ◌*◌, ◌/◌, ◌%◌, ◌⊎◌, length, drop, take, IfOk, IfErr, IfSome, IfNone, Ok, Err, IsTrue, slice_index};
+ghost use Rattle.bpf_decode.specs.declared.fault.DecodeFault.{DecodeFault};
+ghost use Rattle.bpf_decode.specs.Codes.{is_opcode};
+ghost use Rattle.bpf_types.specs.declared.line.Line.{Line};
+ghost use Rattle.bpf_types.specs.Line.{first_slot, second_slot, spelling, WritesFramePointer};
+ghost use Rattle.bpf_decode.specs.Decoding.{raw_fields, high_in, wide_at, line_at, fields_in, permitted_line, spelled_in, decoded, BeginsWith, HasBadRegister};
+ghost use Rattle.bpf_decode.specs.Rows.{Spelled};
+ghost use Rattle.bpf_decode.specs.Faults.{IsFirst};
+
+use crate::codes::is_known;
+use crate::fault::DecodeFault;
+use crate::rows::short_of;
+use bpf_types::{Fields, Line, Reg};
+
+/// The opcode of a wide load, which has two slots.
+const WIDE: u8 = 0x18;
+
+/// The fields of the first slot, unless a register is not there.
+fn fields_at(octets: &[u8]) -> Option<Fields>
+    requires { 8 ≤ length octets.now }
+    ensures exact { result ≡ fields_in octets.now }
+    ensures found { IfSome result (λ fields. fields ≡ raw_fields octets.now) }
+    ensures registers { IfSome result (λ fields. (fields.dst ≤ 10) × (fields.src ≤ 10)) }
+    ensures none { IfNone result (HasBadRegister octets.now) }
+{
+    let dst = Reg::new(octets[1] % 16)?;
+    let src = Reg::new(octets[1] / 16)?;
+    Some(Fields {
+        opcode: octets[0],
+        dst,
+        src,
+        offset: i16::from_le_bytes([octets[2], octets[3]]),
+        imm: i32::from_le_bytes([octets[4], octets[5], octets[6], octets[7]]),
+    })
+}
+
+/// The upper half of a wide load's value, where the rest of the second slot is zero.
+fn high_at(octets: &[u8]) -> Option<i32>
+    requires { 16 ≤ length octets.now }
+    ensures { result ≡ high_in octets.now }
+{
+    if octets[8] == 0 && octets[9] == 0 && octets[10] == 0 && octets[11] == 0 {
+        Some(i32::from_le_bytes([octets[12], octets[13], octets[14], octets[15]]))
+    } else {
+        None
+    }
+}
+
+/// A wide load.
+fn wide_of(fields: Fields, octets: &[u8]) -> Option<Line>
+    requires long { 16 ≤ length octets.now }
+    ensures { result ≡ wide_at fields octets.now }
+{
+    if fields.src.number() != 0 || fields.offset != 0 {
+        return None;
+    }
+    let high = high_at(octets)?;
+    let value = u64::from(fields.imm.cast_unsigned())
+        + u64::from(high.cast_unsigned()) * 0x1_0000_0000;
+    Some(Line::LoadWide {
+        dst: fields.dst,
+        value,
+    })
+}
+
+/// The instruction of these fields, which are those of the octets' first slot.
+fn line_of(fields: Fields, octets: &[u8]) -> Option<Line>
+    requires { fields.opcode ≡ 0x18 → 16 ≤ length octets.now }
+    ensures exact { result ≡ line_at fields octets.now }
+    ensures short { IfSome result (λ l. fields.opcode ≢ 0x18 → Spelled fields l) }
+{
+    if fields.opcode == WIDE {
+        wide_of(fields, octets)
+    } else {
+        short_of(fields)
+    }
+}
+
+/// The instruction, unless it writes R10.
+fn permitted(line: Line) -> Result<Line, DecodeFault>
+    ensures exact { result ≡ permitted_line line }
+    ensures ok { IfOk result (λ r. (r ≡ line) × ¬ WritesFramePointer line) }
+    ensures err { IfErr result (λ e. (e ≡ DecodeFault.WritesFramePointer) × WritesFramePointer line) }
+{
+    let copied = line;
+    if copied.writes_frame_pointer() {
+        Err(DecodeFault::WritesFramePointer)
+    } else {
+        Ok(line)
+    }
+}
+
+/// The instruction that the octets begin with, where its opcode is known and its slots are there.
+fn decode_known(octets: &[u8]) -> Result<Line, DecodeFault>
+    requires room { 8 ≤ length octets.now }
+    requires wide { slice_index octets.now 0 ≡ 0x18 → 16 ≤ length octets.now }
+    requires known { IsTrue (is_opcode (slice_index octets.now 0)) }
+    ensures exact { result ≡ spelled_in (fields_in octets.now) octets.now }
+    ensures ok { IfOk result (λ line. BeginsWith octets.now line × ¬ WritesFramePointer line) }
+    ensures err { IfErr result (λ fault. IsFirst fault octets.now) }
+{
+    match fields_at(octets) {
+        Some(fields) => match line_of(fields, octets) {
+            Some(line) => permitted(line),
+            None => Err(DecodeFault::ReservedField),
+        },
+        None => Err(DecodeFault::BadRegister),
+    }
+}
+
+/// The instruction that the octets begin with.
+#[tactic(auto, unfolding(crate::specs::Decoding::decoded))]
+fn decode(octets: &[u8]) -> Result<Line, DecodeFault>
+    requires { 8 ≤ length octets.now }
+    ensures exact { result ≡ decoded octets.now }
+    ensures ok { IfOk result (λ line. BeginsWith octets.now line × ¬ WritesFramePointer line) }
+    ensures err { IfErr result (λ fault. IsFirst fault octets.now) }
+{
+    let opcode = octets[0];
+    if opcode == WIDE && octets.len() < 16 {
+        return Err(DecodeFault::CutWide);
+    }
+    if !is_known(opcode) {
+        return Err(DecodeFault::UnknownOpcode);
+    }
+    decode_known(octets)
+}
+
+/// The instruction that the octets begin with, and no other.
+fn decode_octets(octets: &[u8]) -> Result<Line, DecodeFault>
+    requires { 8 ≤ length octets.now }
+    ensures exact { result ≡ decoded octets.now }
+    ensures ok { IfOk result (λ line. BeginsWith octets.now line × ¬ WritesFramePointer line) }
+    ensures only { (line : Line) → BeginsWith octets.now line → ¬ WritesFramePointer line → result ≡ Ok line }
+    ensures err { IfErr result (λ fault. IsFirst fault octets.now) }
+    ensures first { (fault : DecodeFault) → IsFirst fault octets.now → result ≡ Err fault }
+{
+    decode(octets)
+}
+
+/// The instruction at a slot, counted in slots of 8 octets (RFC 9669, section 3).
+///
+/// Refused, in this order: `CutWide`, `UnknownOpcode`, `BadRegister`, `ReservedField`, `WritesFramePointer`.
+pub fn decode_at(code: &[u8], slot: usize) -> Result<Line, DecodeFault>
+    requires { 8 * slot + 8 ≤ length code.now }
+    ensures exact { result ≡ decoded (drop (8 * slot) code.now) }
+    ensures ok { IfOk result (λ line. BeginsWith (drop (8 * slot) code.now) line × ¬ WritesFramePointer line) }
+    ensures only { (line : Line) → BeginsWith (drop (8 * slot) code.now) line → ¬ WritesFramePointer line → result ≡ Ok line }
+    ensures err { IfErr result (λ fault. IsFirst fault (drop (8 * slot) code.now)) }
+    ensures first { (fault : DecodeFault) → IsFirst fault (drop (8 * slot) code.now) → result ≡ Err fault }
+{
+    decode_octets(&code[8 * slot..])
+}

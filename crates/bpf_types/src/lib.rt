@@ -1,0 +1,11 @@
+// The instructions of RFC 9669, typed: each line of code is one row of the instruction table, with its fields in their ranges.
+#![tactic(auto)]
+
+pub mod line;
+pub mod reg;
+
+pub use line::{
+    Extension, Fields, Line, Narrow, Operand, Operation, Order, Size, Swapped, Test, Width,
+    lines_are_in_range,
+};
+pub use reg::Reg;
