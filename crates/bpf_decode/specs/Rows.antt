@@ -75,7 +75,7 @@ move_at width f = if int_eq f.imm (pos 0) then (extension_at width f.offset >>= 
 abbrev pub two_operands_at : Width → Fields → Option Line
 two_operands_at width f = operation_at (f.opcode / 16) >>= λ unsigned. with_offset unsigned f.offset >>= λ operation. operand_at f >>= λ operand. Some (line.Arithmetic width operation f.dst operand)
 
--- the classes ALU and ALU64 (RFC 9669, section 4.1 and 4.2)
+-- the classes ALU and ALU64 (RFC 9669, sections 4.1 and 4.2)
 abbrev pub arithmetic_at : Width → Fields → Option Line
 arithmetic_at width f = if (f.opcode == 0x84) || (f.opcode == 0x87) then negate_at width f
     else if f.opcode == 0xd4 then order_at order.Little f

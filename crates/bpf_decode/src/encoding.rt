@@ -1,5 +1,5 @@
 // Instructions as octets.
-ghost use Rattle.std.specs.Prelude.{◌≡◌, ◌*◌, ◌+◌, ◌≤◌, ℕ, List, [], length, take, IfSome, IfNone};
+ghost use Rattle.std.specs.Prelude.{◌≡◌, ◌*◌, ◌+◌, ◌≤◌, ℕ, List, [], length, take, IfSome, IfNone, pos};
 ghost use Rattle.bpf_types.specs.declared.line.Line.TheVariants as Variants;
 ghost use Rattle.bpf_types.specs.Line.{first_slot, second_slot, spelling, Spells, slot_octets, code_of, offset_of, arithmetic_class, jump_class, test_code, extension_opcode, extension_offset, order_opcode, swapped_bits, size_code, narrow_code};
 
@@ -91,6 +91,19 @@ fn octets_of(fields: Fields) -> [u8; 8]
     ]
 }
 
+/// The fields of a slot that has nothing but an opcode.
+fn blank(opcode: u8) -> Fields
+    ensures { result ≡ record { opcode = opcode; dst = 0; src = 0; offset = pos 0; imm = pos 0 } }
+{
+    Fields {
+        opcode,
+        dst: Reg::zero(),
+        src: Reg::zero(),
+        offset: 0,
+        imm: 0,
+    }
+}
+
 /// The fields of arithmetic with two operands.
 fn arithmetic_fields(width: Width, operation: Operation, dst: Reg, operand: Operand) -> Fields
     ensures { result ≡ first_slot (Line.Arithmetic width operation dst operand) }
@@ -99,18 +112,16 @@ fn arithmetic_fields(width: Width, operation: Operation, dst: Reg, operand: Oper
     let offset = offset_number(operation);
     match operand {
         Operand::Immediate(imm) => Fields {
-            opcode,
             dst,
-            src: Reg::zero(),
             offset,
             imm,
+            ..blank(opcode)
         },
         Operand::Register(src) => Fields {
-            opcode: opcode + 8,
             dst,
             src,
             offset,
-            imm: 0,
+            ..blank(opcode + 8)
         },
     }
 }
@@ -174,18 +185,16 @@ fn jump_fields(width: Width, test: Test, dst: Reg, operand: Operand, distance: i
     let opcode = test_number(test) * 16 + jump_class_of(width);
     match operand {
         Operand::Immediate(imm) => Fields {
-            opcode,
             dst,
-            src: Reg::zero(),
             offset: distance,
             imm,
+            ..blank(opcode)
         },
         Operand::Register(src) => Fields {
-            opcode: opcode + 8,
             dst,
             src,
             offset: distance,
-            imm: 0,
+            ..blank(opcode + 8)
         },
     }
 }
@@ -202,11 +211,10 @@ fn move_fields(extension: Extension, dst: Reg, src: Reg) -> Fields
         Extension::From32To64 => (0xbf, 32),
     };
     Fields {
-        opcode,
         dst,
         src,
         offset,
-        imm: 0,
+        ..blank(opcode)
     }
 }
 
@@ -225,11 +233,9 @@ fn order_fields(order: Order, swapped: Swapped, dst: Reg) -> Fields
         Swapped::Bits64 => 64,
     };
     Fields {
-        opcode,
         dst,
-        src: Reg::zero(),
-        offset: 0,
         imm,
+        ..blank(opcode)
     }
 }
 
@@ -237,7 +243,6 @@ fn order_fields(order: Order, swapped: Swapped, dst: Reg) -> Fields
 fn first_fields(line: Line) -> Fields
     ensures { result ≡ first_slot line }
 {
-    let zero = Reg::zero();
     match line {
         Line::Arithmetic {
             width,
@@ -246,11 +251,8 @@ fn first_fields(line: Line) -> Fields
             operand,
         } => arithmetic_fields(width, operation, dst, operand),
         Line::Negate { width, dst } => Fields {
-            opcode: 0x80 + class_of(width),
             dst,
-            src: zero,
-            offset: 0,
-            imm: 0,
+            ..blank(0x80 + class_of(width))
         },
         Line::MoveExtended {
             extension,
@@ -263,18 +265,12 @@ fn first_fields(line: Line) -> Fields
             dst,
         } => order_fields(order, swapped, dst),
         Line::Jump { distance } => Fields {
-            opcode: 0x05,
-            dst: zero,
-            src: zero,
             offset: distance,
-            imm: 0,
+            ..blank(0x05)
         },
         Line::LongJump { distance } => Fields {
-            opcode: 0x06,
-            dst: zero,
-            src: zero,
-            offset: 0,
             imm: distance,
+            ..blank(0x06)
         },
         Line::JumpIf {
             width,
@@ -284,32 +280,19 @@ fn first_fields(line: Line) -> Fields
             distance,
         } => jump_fields(width, test, dst, operand, distance),
         Line::Call { number } => Fields {
-            opcode: 0x85,
-            dst: zero,
-            src: zero,
-            offset: 0,
             imm: number,
+            ..blank(0x85)
         },
         Line::CallLocal { distance } => Fields {
-            opcode: 0x85,
-            dst: zero,
             src: Reg::one(),
-            offset: 0,
             imm: distance,
+            ..blank(0x85)
         },
-        Line::Exit => Fields {
-            opcode: 0x95,
-            dst: zero,
-            src: zero,
-            offset: 0,
-            imm: 0,
-        },
+        Line::Exit => blank(0x95),
         Line::LoadWide { dst, value } => Fields {
-            opcode: 0x18,
             dst,
-            src: zero,
-            offset: 0,
             imm: ((value % 0x1_0000_0000) as u32).cast_signed(),
+            ..blank(0x18)
         },
         Line::Load {
             size,
@@ -317,11 +300,10 @@ fn first_fields(line: Line) -> Fields
             base,
             offset,
         } => Fields {
-            opcode: size_number(size) * 8 + 0x61,
             dst,
             src: base,
             offset,
-            imm: 0,
+            ..blank(size_number(size) * 8 + 0x61)
         },
         Line::LoadExtended {
             size,
@@ -329,11 +311,10 @@ fn first_fields(line: Line) -> Fields
             base,
             offset,
         } => Fields {
-            opcode: narrow_number(size) * 8 + 0x81,
             dst,
             src: base,
             offset,
-            imm: 0,
+            ..blank(narrow_number(size) * 8 + 0x81)
         },
         Line::StoreImmediate {
             size,
@@ -341,11 +322,10 @@ fn first_fields(line: Line) -> Fields
             offset,
             value,
         } => Fields {
-            opcode: size_number(size) * 8 + 0x62,
             dst: base,
-            src: zero,
             offset,
             imm: value,
+            ..blank(size_number(size) * 8 + 0x62)
         },
         Line::Store {
             size,
@@ -353,11 +333,10 @@ fn first_fields(line: Line) -> Fields
             offset,
             src,
         } => Fields {
-            opcode: size_number(size) * 8 + 0x63,
             dst: base,
             src,
             offset,
-            imm: 0,
+            ..blank(size_number(size) * 8 + 0x63)
         },
     }
 }
@@ -369,11 +348,8 @@ fn second_octets(line: Line) -> Option<[u8; 8]>
 {
     match line {
         Line::LoadWide { value, .. } => Some(octets_of(Fields {
-            opcode: 0,
-            dst: Reg::zero(),
-            src: Reg::zero(),
-            offset: 0,
             imm: ((value / 0x1_0000_0000) as u32).cast_signed(),
+            ..blank(0)
         })),
         _ => None,
     }
