@@ -1,0 +1,10 @@
+pub mod Polynomials
+pub mod Division
+pub mod Bits
+pub mod Steps
+pub mod Function
+pub mod Written
+pub mod Fields
+pub mod ReadTelecommand
+pub mod ReadTelemetry
+pub mod RoundTrips

@@ -1,0 +1,180 @@
+-- What is read as telemetry.
+use Rattle.std.proofs.Common.{◌≡◌, ◌≢◌, ◌<◌, ◌≤◌, ◌⊎◌, ◌&&◌, inl, inr, ℕ, ◌+◌, ◌-◌, ◌*◌, ◌/◌, ◌%◌, ◌^◌, Bool, true, false, eqb, List, [], ◌∷◌, ◌++◌, length, take, drop, get_or, slice_index, refl, sym, ap, subst, ◌∙◌, arith, length-append, length-drop, Option, Some, None, Result, Ok, Err, eq-eqb, eqb-true}
+use Rattle.std.proofs.lemmas.Bool.{le-ltb}
+use Rattle.std.proofs.lemmas.List.{drop-drop}
+use Rattle.byteorder.specs.Endian.{big_bytes, big_number}
+use Rattle.space_packet.specs.declared.primary.Primary.{Primary}
+use Rattle.space_packet.specs.declared.fault.PacketFault.{PacketFault}
+use Rattle.space_packet.specs.Packet.{IsPacket, packet_in}
+use Rattle.pus_fields.specs.declared.fault.Rejection.{Rejection}
+use Rattle.pus_fields.specs.declared.fault.TmFault.{TmFault}
+use Rattle.pus_fields.specs.declared.fault.TmFault.TheVariants.{NotProfile, NotTelemetry}
+use Rattle.pus_fields.specs.ErrorControl.{IsErrorControl, error_control}
+use Rattle.pus_fields.specs.Rejections.{IsSound, covered, last_two, rejection_of}
+use Rattle.pus_fields.specs.Telemetry.{IsTelemetry, IsTelemetryInRange, Telemetry, telemetry_header, telemetry_secondary}
+use Rattle.pus_fields.specs.TelemetryFaults.{IsOtherProfile, fault_of, fault_of_packet, in_profile, telemetry_answer, telemetry_in, telemetry_of, unless_rejected}
+use Rattle.pus_fields.proofs.Function.{same_control}
+use Rattle.pus_fields.proofs.Fields.{AreOctets, between-is, last_two-is, last_two-lt, octets-drop, tail_split}
+
+pub tm_no_packet : (octets : List ℕ) (fault : PacketFault) → packet_in octets ≡ Err fault → telemetry_of octets ≡ Err (fault_of_packet fault)
+unfolding telemetry_of
+tm_no_packet octets fault e = ap (telemetry_answer octets) e
+
+pub tm_not_telemetry : (octets : List ℕ) (header : Primary) (field : List ℕ) → packet_in octets ≡ Ok (header, field) → header.telecommand ≡ true → telemetry_of octets ≡ Err NotTelemetry
+unfolding telemetry_of
+tm_not_telemetry octets header field e t = ap (telemetry_answer octets) e ∙ rw t refl
+
+tm_other_kind : (octets : List ℕ) (header : Primary) (field : List ℕ) → packet_in octets ≡ Ok (header, field) → header.telecommand ≡ false
+    → telemetry_of octets ≡ unless_rejected field (rejection_of 13 octets header field) (telemetry_in header.apid header.count field)
+unfolding telemetry_of
+tm_other_kind octets header field e t = ap (telemetry_answer octets) e ∙ rw t refl
+
+pub tm_rejected : (octets : List ℕ) (header : Primary) (field : List ℕ) → packet_in octets ≡ Ok (header, field) → header.telecommand ≡ false
+    → (why : Rejection) → Some why ≡ rejection_of 13 octets header field → Err (fault_of why) ≡ telemetry_of octets
+tm_rejected octets header field e t why r =
+    ap (λ (x : Option Rejection). unless_rejected field x (telemetry_in header.apid header.count field)) r ∙ sym (tm_other_kind octets header field e t)
+
+tm_sound : (octets : List ℕ) (header : Primary) (field : List ℕ) → packet_in octets ≡ Ok (header, field) → header.telecommand ≡ false
+    → None ≡ rejection_of 13 octets header field → in_profile field (telemetry_in header.apid header.count field) ≡ telemetry_of octets
+tm_sound octets header field e t r =
+    ap (λ (x : Option Rejection). unless_rejected field x (telemetry_in header.apid header.count field)) r ∙ sym (tm_other_kind octets header field e t)
+
+-- whether the first octet and the counter are those of the profile
+abbrev pub tests_profile : List ℕ → Bool
+tests_profile field = eqb (slice_index field 0 % 2 ^ 4) 0 && eqb (big_number 2 (drop 3 field)) 0
+
+pub tm_not_profile : (octets : List ℕ) (header : Primary) (field : List ℕ) → packet_in octets ≡ Ok (header, field) → header.telecommand ≡ false
+    → None ≡ rejection_of 13 octets header field → tests_profile field ≡ false → Err NotProfile ≡ telemetry_of octets
+tm_not_profile octets header field e t r other = rw other at (tm_sound octets header field e t r)
+
+pub tm_accepted : (octets : List ℕ) (header : Primary) (field : List ℕ) → packet_in octets ≡ Ok (header, field) → header.telecommand ≡ false
+    → None ≡ rejection_of 13 octets header field → tests_profile field ≡ true → Ok (telemetry_in header.apid header.count field) ≡ telemetry_of octets
+tm_accepted octets header field e t r same = rw same at (tm_sound octets header field e t r)
+
+both_true : (a b : Bool) → (a && b) ≡ true → (a ≡ true) × (b ≡ true)
+both_true true b e = (refl, e)
+both_true false b e = absurd cc
+
+one_false : (a b : Bool) → (a && b) ≡ false → (a ≡ false) ⊎ (b ≡ false)
+one_false true b e = inr e
+one_false false b e = inl refl
+
+not_equal : (a b : ℕ) → eqb a b ≡ false → a ≢ b
+not_equal a b e same = let yes = eq-eqb a b same in absurd cc
+
+pub profile_fields : (field : List ℕ) → tests_profile field ≡ true → (slice_index field 0 % 2 ^ 4 ≡ 0) × (big_number 2 (drop 3 field) ≡ 0)
+profile_fields field e = let both = both_true _ _ e in (eqb-true _ _ both.0, eqb-true _ _ both.1)
+
+pub other_profile : (field : List ℕ) → tests_profile field ≡ false → IsOtherProfile field
+other_profile field e = elim (one_false (eqb (slice_index field 0 % 2 ^ 4) 0) (eqb (big_number 2 (drop 3 field)) 0) e) [ inl a ↦ inl (not_equal _ _ a) | inr b ↦ inr (not_equal _ _ b) ]
+
+-- the data field of telemetry
+field_of : Telemetry → ℕ → List ℕ
+field_of tm c = telemetry_secondary tm ++ tm.payload ++ big_bytes 2 c
+
+same_telemetry : (a b : Telemetry) → a.apid ≡ b.apid → a.count ≡ b.count → a.service ≡ b.service → a.subtype ≡ b.subtype → a.destination ≡ b.destination → a.time ≡ b.time → a.payload ≡ b.payload → a ≡ b
+same_telemetry a b h1 h2 h3 h4 h5 h6 h7 = λ i. record {
+  apid = h1 i;
+  count = h2 i;
+  service = h3 i;
+  subtype = h4 i;
+  destination = h5 i;
+  time = h6 i;
+  payload = h7 i;
+}
+
+-- four octets of a number are that number
+four_octets : (n : ℕ) → n < 2 ^ 32 → (n / 16777216 % 256) * 16777216 + ((n / 65536 % 256) * 65536 + ((n / 256 % 256) * 256 + (n % 256 * 1 + 0))) ≡ n
+four_octets n h =
+    let a : n / 65536 ≡ n / 256 / 256 = omega arith in
+    let b : n / 16777216 ≡ n / 256 / 256 / 256 = omega arith in
+    omega arith
+
+-- telemetry's octets are not rejected, and say what it says
+sound_answer : (octets : List ℕ) (tm : Telemetry) → IsTelemetry octets tm
+    → (c : ℕ) → c < 2 ^ 16 → drop 6 octets ≡ field_of tm c → IsErrorControl (covered octets) c
+    → unless_rejected (field_of tm c) (rejection_of 13 octets (telemetry_header tm) (field_of tm c)) (telemetry_in tm.apid tm.count (field_of tm c)) ≡ Ok tm
+unfolding field_of
+sound_answer octets tm h c lt remain checked =
+    let field = field_of tm c in
+    let r = h.in_range in
+    let len : length field ≡ length tm.payload + 13 = omega (arith, length-append tm.payload (big_bytes 2 c)) in
+    let some : 1 ≤ length field = omega (arith, len) in
+    let last : last_two octets ≡ c = last_two-is octets field tm.payload 11 c remain refl some lt in
+    let room = le-ltb (length field) 13 (omega (arith, len)) in
+    let control = eq-eqb (error_control (covered octets)) (last_two octets) (sym (same_control (covered octets) c lt checked) ∙ sym last) in
+    let said : telemetry_in tm.apid tm.count field ≡ tm = same_telemetry _ _ refl refl (omega (arith, r.service)) (omega (arith, r.subtype)) (omega (arith, r.destination)) (four_octets tm.time r.time) (between-is field tm.payload 11 c refl) in
+    rw (room, control) (ap Ok said)
+
+-- the octets of telemetry are read as that telemetry
+pub tm_is_read : (octets : List ℕ) (header : Primary) (field : List ℕ) → packet_in octets ≡ Ok (header, field)
+    → (tm : Telemetry) → (h : IsTelemetry octets tm) → header ≡ telemetry_header tm → field ≡ telemetry_secondary tm ++ tm.payload ++ big_bytes 2 h.control
+    → telemetry_of octets ≡ Ok tm
+unfolding field_of
+tm_is_read octets header field e tm h p q =
+    let whole : packet_in octets ≡ Ok (telemetry_header tm, field_of tm h.control) = e ∙ (λ i. Ok (p i, q i)) in
+    tm_other_kind octets (telemetry_header tm) (field_of tm h.control) whole refl
+    ∙ sound_answer octets tm h h.control h.control_fits h.packet.remain h.checked
+
+-- four octets are those of their number
+four_of : (a b c d : ℕ) (rest : List ℕ) → a < 256 → b < 256 → c < 256 → d < 256 → a ∷ b ∷ c ∷ d ∷ [] ≡ big_bytes 4 (big_number 4 (a ∷ b ∷ c ∷ d ∷ rest))
+four_of a b c d rest p q r s =
+    let n : ℕ = big_number 4 (a ∷ b ∷ c ∷ d ∷ rest) in
+    let w : a ≡ n / 16777216 % 256 = omega arith in
+    let x : b ≡ n / 65536 % 256 = omega arith in
+    let y : c ≡ n / 256 % 256 = omega arith in
+    let z : d ≡ n % 256 = omega arith in
+    λ i. w i ∷ x i ∷ y i ∷ z i ∷ []
+
+-- the first eleven octets of a data field are the secondary header that they say
+sound_field : (o0 o1 o2 o3 o4 o5 o6 o7 o8 o9 o10 apid count control : ℕ) (rest : List ℕ)
+    → let field = o0 ∷ o1 ∷ o2 ∷ o3 ∷ o4 ∷ o5 ∷ o6 ∷ o7 ∷ o8 ∷ o9 ∷ o10 ∷ rest in
+    let tm = telemetry_in apid count field in
+    AreOctets field → o0 / 2 ^ 4 ≡ 2 → o0 % 2 ^ 4 ≡ 0 → big_number 2 (drop 3 field) ≡ 0
+    → rest ≡ tm.payload ++ big_bytes 2 control → field ≡ telemetry_secondary tm ++ tm.payload ++ big_bytes 2 control
+sound_field o0 o1 o2 o3 o4 o5 o6 o7 o8 o9 o10 apid count control rest h v s m r =
+    let h1 : o1 < 256 = h 1 in
+    let h2 : o2 < 256 = h 2 in
+    let h5 : o5 < 256 = h 5 in
+    let h6 : o6 < 256 = h 6 in
+    let first : o0 ≡ 32 = omega (arith, v, s) in
+    let service : o1 ≡ o1 % 256 = omega (arith, h1) in
+    let subtype : o2 ≡ o2 % 256 = omega (arith, h2) in
+    let counter_high : o3 ≡ 0 = omega (arith, m) in
+    let counter_low : o4 ≡ 0 = omega (arith, m) in
+    let destination : ℕ = big_number 2 (o5 ∷ o6 ∷ o7 ∷ o8 ∷ o9 ∷ o10 ∷ rest) in
+    let high : o5 ≡ destination / 256 % 256 = omega (arith, h5, h6) in
+    let low : o6 ≡ destination % 256 = omega (arith, h5, h6) in
+    let time = four_of o7 o8 o9 o10 rest (h 7) (h 8) (h 9) (h 10) in
+    λ i. first i ∷ service i ∷ subtype i ∷ counter_high i ∷ counter_low i ∷ high i ∷ low i ∷ (time i ++ r i)
+
+-- the same for each data field that is long enough
+whole_field : (field : List ℕ) (apid count control : ℕ) → 13 ≤ length field → AreOctets field → slice_index field 0 / 2 ^ 4 ≡ 2 → slice_index field 0 % 2 ^ 4 ≡ 0 → big_number 2 (drop 3 field) ≡ 0
+    → let tm = telemetry_in apid count field in drop 11 field ≡ tm.payload ++ big_bytes 2 control → field ≡ telemetry_secondary tm ++ tm.payload ++ big_bytes 2 control
+whole_field (o0 ∷ o1 ∷ o2 ∷ o3 ∷ o4 ∷ o5 ∷ o6 ∷ o7 ∷ o8 ∷ o9 ∷ o10 ∷ rest) apid count control le h v s m r = sound_field o0 o1 o2 o3 o4 o5 o6 o7 o8 o9 o10 apid count control rest h v s m r
+whole_field _ apid count control le h v s m r = absurd (omega (arith, le))
+
+-- a sound packet in the profile is the telemetry that it says
+pub sound_tm_is : (octets : List ℕ) (header : Primary) (field : List ℕ) → IsPacket octets header field → IsSound 13 octets header field → header.telecommand ≡ false
+    → slice_index field 0 % 2 ^ 4 ≡ 0 → big_number 2 (drop 3 field) ≡ 0 → AreOctets octets
+    → IsTelemetry octets (telemetry_in header.apid header.count field)
+sound_tm_is octets header field packet sound t status counter h =
+    let tm = telemetry_in header.apid header.count field in
+    let inner : length octets - 6 ≡ length field = sym (length-drop 6 octets) ∙ ap length packet.remain in
+    let room : 13 ≤ length field = sound.whole.room in
+    let long : 19 ≤ length octets = omega (arith, inner, room) in
+    let fields : AreOctets field = subst AreOctets packet.remain (octets-drop 6 octets h) in
+    let rest : drop 17 octets ≡ drop 11 field = sym (drop-drop 11 6 octets) ∙ ap (drop 11) packet.remain in
+    let size : length octets - 2 - 17 ≡ length field - 2 - 11 = omega (arith, inner, long) in
+    let split : drop 11 field ≡ tm.payload ++ big_bytes 2 (last_two octets) = sym rest ∙ tail_split octets 17 long h ∙ (λ i. take (size i) (rest i) ++ big_bytes 2 (last_two octets)) in
+    let whole : field ≡ telemetry_secondary tm ++ tm.payload ++ big_bytes 2 (last_two octets) = whole_field field header.apid header.count (last_two octets) room fields sound.version status counter split in
+    let top : header ≡ telemetry_header tm = λ i. record { telecommand = t i; secondary = sound.whole.secondary i; apid = header.apid; flags = sound.whole.unsegmented i; count = header.count } in
+    let destination = octets-drop 5 field fields in
+    let time = octets-drop 7 field fields in
+    record {
+      in_range = record { apid = omega (arith, packet.apid); count = omega (arith, packet.count); service = fields 1; subtype = fields 2; destination = omega (arith, destination 0, destination 1); time = omega (arith, time 0, time 1, time 2, time 3) };
+      control = last_two octets;
+      control_fits = last_two-lt octets (omega (arith, long)) h;
+      packet = subst (λ (x : Primary). IsPacket octets x (telemetry_secondary tm ++ tm.payload ++ big_bytes 2 (last_two octets))) top (subst (λ (x : List ℕ). IsPacket octets header x) whole packet);
+      checked = sound.checked;
+    }

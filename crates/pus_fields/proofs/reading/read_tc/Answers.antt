@@ -1,0 +1,40 @@
+use Rattle.std.proofs.Common.{◌≡◌, ◌≤◌, ◌∙◌, ap, sym, length, take, get_or, eqb, [], ◌∷◌, true, arith, Err, Ok, eqb-true}
+use Rattle.pus_fields.specs.Telecommand.{telecommand_header}
+use Rattle.pus_fields.proofs.Fields.{four, not-false, not-true, packet-length}
+use Rattle.pus_fields.proofs.ReadTelecommand.{sound_is, tc_accepted, tc_is_read, tc_no_packet, tc_not_telecommand, tc_other, tc_rejected}
+use Rattle.pus_fields.proofs.reading.read_tc.Goals as goal
+
+pub returns-in-Err-clause-value : goal.returns-in-Err-clause-value
+returns-in-Err-clause-value c = ap Err c.into.ensures ∙ sym (tc_no_packet c.args.apid c.args.octets.now c.in-Err.fault c.in-Err.ensures.value)
+
+pub returns-then-not-header-clause-value : goal.returns-then-not-header-clause-value
+returns-then-not-header-clause-value c = sym (tc_not_telecommand c.args.apid c.args.octets.now _ _ c.in-Ok.ensures.value c.if-not-header.true)
+
+pub returns-then-ne-clause-value : goal.returns-then-ne-clause-value
+returns-then-ne-clause-value c = sym (tc_other c.args.apid c.args.octets.now _ _ c.in-Ok.ensures.value c.if-not-header.false (not-true _ c.if-ne.ensures))
+
+pub returns-in-Some-clause-value : goal.returns-in-Some-clause-value
+returns-in-Some-clause-value c =
+    let octets = c.args.octets.now in
+    let long : 4 ≤ length octets = omega (arith, packet-length octets _ _ c.in-Ok.ensures.ok) in
+    tc_rejected c.args.apid octets _ _ c.in-Ok.ensures.value c.if-not-header.false (not-false _ c.if-ne.ensures) c.in-Some.why _ c.in-Some.ensures.value (four octets long)
+
+pub returns-in-Some-clause-only : goal.returns-in-Some-clause-only
+returns-in-Some-clause-only c tc h e =
+    let same = c.in-Ok.ensures.only (telecommand_header tc) _ h.packet in
+    returns-in-Some-clause-value c ∙ tc_is_read c.args.apid c.args.octets.now _ _ c.in-Ok.ensures.value tc h e same.0 same.1
+
+pub returns-in-Some-clause-err : goal.returns-in-Some-clause-err
+returns-in-Some-clause-err c =
+    let octets = c.args.octets.now in
+    let long : 4 ≤ length octets = omega (arith, packet-length octets _ _ c.in-Ok.ensures.ok) in
+    let ours : c.in-Ok.found.0.apid ≡ c.args.apid = eqb-true _ _ (not-false _ c.if-ne.ensures) in
+    (four octets long, (c.in-Ok.found.0, c.in-Ok.found.1.now, c.in-Ok.ensures.ok, (c.if-not-header.false, ours, c.in-Some.ensures.reason)))
+
+pub returns-clause-value : goal.returns-clause-value
+returns-clause-value c = ap Ok c.tc_in.ensures ∙ tc_accepted c.args.apid c.args.octets.now _ _ c.in-Ok.ensures.value c.if-not-header.false (not-false _ c.if-ne.ensures) c.in_default.ensures.value
+
+pub returns-clause-ok : goal.returns-clause-ok
+returns-clause-ok c =
+    let ours : c.in-Ok.found.0.apid ≡ c.args.apid = eqb-true _ _ (not-false _ c.if-ne.ensures) in
+    rw c.tc_in.ensures (sound_is c.args.octets.now _ _ c.in-Ok.ensures.ok c.in_default.ensures.reason c.if-not-header.false (omega (arith, ours, c.requires)) (λ i. omega (arith, c.type_inv.octets i)), ours)

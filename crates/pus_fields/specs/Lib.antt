@@ -1,0 +1,8 @@
+pub mod Acknowledgement
+pub mod ErrorControl
+pub mod Register
+pub mod Rejections
+pub mod Telecommand
+pub mod TelecommandFaults
+pub mod Telemetry
+pub mod TelemetryFaults

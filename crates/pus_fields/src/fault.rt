@@ -1,0 +1,130 @@
+//! Why octets are no telecommand or no telemetry, and why a packet was not written.
+
+ghost use Rattle.std.specs.Prelude.{◌≡◌};
+ghost use Rattle.pus_fields.specs.declared.fault.TcFault.TheVariants.{Discarded};
+ghost use Rattle.pus_fields.specs.declared.fault.WriteFault.TheVariants.{Memory};
+ghost use Rattle.pus_fields.specs.TelecommandFaults.{discard_of};
+ghost use Rattle.pus_fields.specs.TelemetryFaults.{fault_of, fault_of_packet};
+
+use space_packet::PacketFault;
+use std::alloc::AllocError;
+
+/// Why octets are discarded, with no report. They come in this order.
+#[derive(Clone, Copy, Debug, PartialEq, Eq)]
+pub enum Discard {
+    /// There are fewer than 7 octets.
+    Short,
+    /// The packet version number is not 0.
+    Version,
+    /// The data field is not as long as the header says.
+    Length,
+    /// The packet is telemetry.
+    NotTelecommand,
+    /// The packet is for another application process.
+    OtherApid,
+}
+
+/// Why a telecommand is not accepted, which its sender is told. They come in this order.
+#[derive(Clone, Copy, Debug, PartialEq, Eq)]
+pub enum Rejection {
+    /// The sequence flags are not 11, unsegmented.
+    Segmented,
+    /// There is no secondary header.
+    NoSecondary,
+    /// The data field has under 7 octets.
+    NoRoom,
+    /// The last two octets are not the error control of the others.
+    Pec,
+    /// The version number of the secondary header is not 2.
+    PusVersion,
+}
+
+/// The first thing that is wrong with octets that are to be a telecommand: each discard comes before
+/// each rejection.
+#[derive(Clone, Copy, Debug, PartialEq, Eq)]
+pub enum TcFault {
+    /// Nobody is told.
+    Discarded(Discard),
+    /// The sender is told, with the request identifier: the first four octets of the packet.
+    Rejected(Rejection, [u8; 4]),
+}
+
+/// The first thing that is wrong with octets that are to be telemetry, in this order.
+#[derive(Clone, Copy, Debug, PartialEq, Eq)]
+pub enum TmFault {
+    /// There are fewer than 7 octets.
+    Short,
+    /// The packet version number is not 0.
+    Version,
+    /// The data field is not as long as the header says.
+    Length,
+    /// The packet is a telecommand.
+    NotTelemetry,
+    /// The sequence flags are not 11, unsegmented.
+    Segmented,
+    /// There is no secondary header.
+    NoSecondary,
+    /// The data field has under 13 octets.
+    NoRoom,
+    /// The last two octets are not the error control of the others.
+    Pec,
+    /// The version number of the secondary header is not 2.
+    PusVersion,
+    /// The time reference status or the message type counter is not 0.
+    NotProfile,
+}
+
+/// Why a packet was not written, in this order.
+#[derive(Clone, Copy, Debug, PartialEq, Eq)]
+pub enum WriteFault {
+    /// The payload does not fit into a packet.
+    TooLong,
+    /// Memory ran out.
+    Memory,
+}
+
+impl From<AllocError> for WriteFault {
+    ghost from_gives = { λ _ e. e ≡ Memory };
+
+    fn from(_e: AllocError) -> WriteFault {
+        WriteFault::Memory
+    }
+}
+
+impl From<PacketFault> for TcFault {
+    ghost from_gives = { λ fault result. result ≡ Discarded (discard_of fault) };
+
+    fn from(fault: PacketFault) -> TcFault {
+        TcFault::Discarded(match fault {
+            PacketFault::Short => Discard::Short,
+            PacketFault::Version => Discard::Version,
+            PacketFault::Length => Discard::Length,
+        })
+    }
+}
+
+impl From<PacketFault> for TmFault {
+    ghost from_gives = { λ fault result. result ≡ fault_of_packet fault };
+
+    fn from(fault: PacketFault) -> TmFault {
+        match fault {
+            PacketFault::Short => TmFault::Short,
+            PacketFault::Version => TmFault::Version,
+            PacketFault::Length => TmFault::Length,
+        }
+    }
+}
+
+impl From<Rejection> for TmFault {
+    ghost from_gives = { λ why result. result ≡ fault_of why };
+
+    fn from(why: Rejection) -> TmFault {
+        match why {
+            Rejection::Segmented => TmFault::Segmented,
+            Rejection::NoSecondary => TmFault::NoSecondary,
+            Rejection::NoRoom => TmFault::NoRoom,
+            Rejection::Pec => TmFault::Pec,
+            Rejection::PusVersion => TmFault::PusVersion,
+        }
+    }
+}

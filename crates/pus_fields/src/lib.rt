@@ -1,0 +1,29 @@
+//! The fields of telecommand and telemetry packets (ECSS-E-ST-70-41C), with their error control.
+#![tactic(auto)]
+
+mod ack;
+mod appending;
+mod error_control;
+mod fault;
+mod laws;
+mod reading;
+mod rejecting;
+mod telecommand;
+mod telemetry;
+mod writing;
+
+pub use ack::Ack;
+pub use error_control::crc16;
+pub use fault::{Discard, Rejection, TcFault, TmFault, WriteFault};
+pub use laws::{
+    one_packet_for_a_telecommand, one_packet_for_telemetry, telecommand_octets_are_its_packet,
+    telecommand_octets_are_read_back, telemetry_octets_are_its_packet,
+    telemetry_octets_are_read_back,
+};
+pub use reading::{read_tc, read_tm};
+pub use telecommand::Tc;
+pub use telemetry::Tm;
+pub use writing::{write_tc, write_tm};
+
+#[cfg(test)]
+mod tests;

@@ -1,0 +1,118 @@
+//! Reading packets.
+
+ghost use Rattle.std.specs.Prelude.{◌≡◌, ◌<◌, ◌≤◌, ◌%◌, ◌^◌, ◌==◌, ◌&&◌, drop, slice_index, IfOk, IfErr, Ok, length};
+ghost use Rattle.byteorder.specs.Endian.{big_number};
+ghost use Rattle.pus_fields.specs.Telecommand.{IsTelecommand, Telecommand};
+ghost use Rattle.pus_fields.specs.TelecommandFaults.{HasTcFault, telecommand_in, telecommand_of};
+ghost use Rattle.pus_fields.specs.Telemetry.{IsTelemetry, Telemetry};
+ghost use Rattle.pus_fields.specs.TelemetryFaults.{HasTmFault, telemetry_in, telemetry_of};
+
+use crate::ack::Ack;
+use crate::fault::{Discard, TcFault, TmFault};
+use crate::rejecting::rejection;
+use crate::telecommand::Tc;
+use crate::telemetry::Tm;
+use bitflags::Flags;
+use byteorder::{BigEndian, ByteOrder};
+use space_packet::{Apid, Primary};
+
+/// What the packet with this header and this data field says.
+fn tc_in<'a>(header: &Primary, field: &'a [u8]) -> Tc<'a>
+    requires apid { header.now.apid < 2047 }
+    requires room { 7 ≤ length field.now }
+    ensures { result ≡ telecommand_in header.now.apid header.now.count field.now }
+{
+    let ack = Ack::from_bits_retain(field[0] % 16);
+    let (service, subtype) = (field[1], field[2]);
+    let source = BigEndian::read_u16(&field[3..]);
+    let payload = &field[5..field.len() - 2];
+    match Tc::new(
+        header.apid,
+        header.count,
+        ack,
+        service,
+        subtype,
+        source,
+        payload,
+    ) {
+        Some(tc) => tc,
+        None => unreachable!(),
+    }
+}
+
+/// The telecommand for this application process that the octets are (CCSDS 133.0-B, 4.1;
+/// ECSS-E-ST-70-41C, 7.4.4). Refusals, in this order: the packet is discarded as Short, Version, Length,
+/// NotTelecommand, OtherApid; it is rejected, with the request identifier, as Segmented, NoSecondary,
+/// NoRoom, Pec, PusVersion.
+pub fn read_tc<'a>(apid: Apid, octets: &'a [u8]) -> Result<Tc<'a>, TcFault>
+    requires { apid < 2047 }
+    ensures ok { IfOk result (λ tc. IsTelecommand octets.now tc × (tc.apid ≡ apid)) }
+    ensures only { (tc : Telecommand) → IsTelecommand octets.now tc → tc.apid ≡ apid → result ≡ Ok tc }
+    ensures err { IfErr result (HasTcFault apid octets.now) }
+    ensures value { result ≡ telecommand_of apid octets.now }
+{
+    let (header, field) = match space_packet::read(octets) {
+        Ok(found) => found,
+        Err(fault) => return Err(fault.into()),
+    };
+    if !header.telecommand {
+        return Err(TcFault::Discarded(Discard::NotTelecommand));
+    }
+    if header.apid != apid {
+        return Err(TcFault::Discarded(Discard::OtherApid));
+    }
+    if let Some(why) = rejection(7, octets, &header, field) {
+        let id = [octets[0], octets[1], octets[2], octets[3]];
+        return Err(TcFault::Rejected(why, id));
+    }
+    Ok(tc_in(&header, field))
+}
+
+/// What the packet with this header and this data field says.
+fn tm_in<'a>(header: &Primary, field: &'a [u8]) -> Tm<'a>
+    requires { 13 ≤ length field.now }
+    ensures { result ≡ telemetry_in header.now.apid header.now.count field.now }
+{
+    Tm::new(
+        header.apid,
+        header.count,
+        field[1],
+        field[2],
+        BigEndian::read_u16(&field[5..]),
+        BigEndian::read_u32(&field[7..]),
+        &field[11..field.len() - 2],
+    )
+}
+
+/// Whether the time reference status and the message type counter are 0.
+fn is_in_profile(field: &[u8]) -> bool
+    requires { 5 ≤ length field.now }
+    ensures { result ≡ ((slice_index field.now 0 % 2 ^ 4 == 0) && (big_number 2 (drop 3 field.now) == 0)) }
+{
+    field[0] % 16 == 0 && BigEndian::read_u16(&field[3..]) == 0
+}
+
+/// The telemetry that the octets are (CCSDS 133.0-B, 4.1; ECSS-E-ST-70-41C, 7.4.3). Refusals, in this
+/// order: Short, Version, Length, NotTelemetry, Segmented, NoSecondary, NoRoom, Pec, PusVersion,
+/// NotProfile.
+pub fn read_tm(octets: &[u8]) -> Result<Tm, TmFault>
+    ensures ok { IfOk result (IsTelemetry octets.now) }
+    ensures only { (tm : Telemetry) → IsTelemetry octets.now tm → result ≡ Ok tm }
+    ensures err { IfErr result (HasTmFault octets.now) }
+    ensures value { result ≡ telemetry_of octets.now }
+{
+    let (header, field) = match space_packet::read(octets) {
+        Ok(found) => found,
+        Err(fault) => return Err(fault.into()),
+    };
+    if header.telecommand {
+        return Err(TmFault::NotTelemetry);
+    }
+    if let Some(why) = rejection(13, octets, &header, field) {
+        return Err(why.into());
+    }
+    if !is_in_profile(field) {
+        return Err(TmFault::NotProfile);
+    }
+    Ok(tm_in(&header, field))
+}

@@ -1,0 +1,143 @@
+//! A telecommand.
+
+ghost use Rattle.std.specs.Prelude.{◌≡◌, ◌<◌, ◌^◌, SomeIff};
+ghost use Rattle.pus_fields.specs.Acknowledgement.{flags_of};
+ghost use Rattle.pus_fields.specs.Telecommand.{IsTelecommandInRange, request_id};
+
+use crate::ack::Ack;
+use bitflags::Flags;
+use byteorder::{BigEndian, ByteOrder};
+use space_packet::{Apid, SequenceCount};
+use std::marker::Model;
+
+/// The application process identifier of idle packets.
+const IDLE: u16 = 2047;
+
+/// A telecommand (ECSS-E-ST-70-41C, 7.4.4): application process identifier 0 to 2,046, sequence count 0
+/// to 16,383, the four acknowledgement flags, service type, message subtype, source identifier and
+/// payload, which the caller lends.
+#[derive(Drop)]
+pub struct Tc<'a> {
+    // The first four octets of its packet.
+    id: [u8; 4],
+    apid: Apid,
+    count: SequenceCount,
+    ack: Ack,
+    service: u8,
+    subtype: u8,
+    source: u16,
+    payload: &'a [u8],
+}
+
+impl<'a> Model for Tc<'a> {
+    ghost use Rattle.std.specs.Prelude.{◌≡◌, ◌<◌, ◌^◌};
+    ghost use Rattle.pus_fields.specs.Acknowledgement.{flags_of};
+    ghost use Rattle.pus_fields.specs.Telecommand.{Telecommand, request_id};
+
+    ghost Value = { Telecommand };
+
+    ghost view = { λ t. record { apid = t.apid; count = t.count; ack = t.ack; service = t.service; subtype = t.subtype; source = t.source; payload = t.payload.now } };
+
+    ghost invariant = { λ t. (t.apid < 2047) × (flags_of t.ack < 2 ^ 4) × (t.id ≡ request_id t.apid t.count) };
+}
+
+impl<'a> Tc<'a> {
+    /// A telecommand, where the identifier is not that of idle packets, 2,047, and there are no other
+    /// acknowledgement flags than the four.
+    pub fn new(
+        apid: Apid,
+        count: SequenceCount,
+        ack: Ack,
+        service: u8,
+        subtype: u8,
+        source: u16,
+        payload: &'a [u8],
+    ) -> Option<Tc<'a>>
+        ensures { SomeIff result ((apid < 2047) × (flags_of ack < 2 ^ 4))
+            (record { apid = apid; count = count; ack = ack; service = service; subtype = subtype; source = source; payload = payload.now }) }
+    {
+        if apid.number() >= IDLE || ack.bits() >= 1 << 4 {
+            return None;
+        }
+        let mut id = [0; 4];
+        BigEndian::write_u16(&mut id, (1 << 12) + (1 << 11) + apid.number());
+        BigEndian::write_u16(&mut id[2..], (3 << 14) + count.number());
+        Some(Tc {
+            id,
+            apid,
+            count,
+            ack,
+            service,
+            subtype,
+            source,
+            payload,
+        })
+    }
+
+    /// The request identifier: the first four octets of its packet.
+    pub fn id(&self) -> [u8; 4]
+        ensures { result ≡ request_id self.now.apid self.now.count }
+    {
+        self.id
+    }
+
+    /// The application process identifier, 0 to 2,046.
+    pub fn apid(&self) -> Apid
+        ensures value { result ≡ self.now.apid }
+        ensures in_range { result < 2047 }
+    {
+        self.apid
+    }
+
+    /// The sequence count, 0 to 16,383.
+    pub fn count(&self) -> SequenceCount
+        ensures { result ≡ self.now.count }
+    {
+        self.count
+    }
+
+    /// The acknowledgement flags.
+    pub fn ack(&self) -> Ack
+        ensures value { result ≡ self.now.ack }
+        ensures in_range { flags_of result < 2 ^ 4 }
+    {
+        self.ack
+    }
+
+    /// The service type.
+    pub fn service(&self) -> u8
+        ensures { result ≡ self.now.service }
+    {
+        self.service
+    }
+
+    /// The message subtype.
+    pub fn subtype(&self) -> u8
+        ensures { result ≡ self.now.subtype }
+    {
+        self.subtype
+    }
+
+    /// The source identifier.
+    pub fn source(&self) -> u16
+        ensures { result ≡ self.now.source }
+    {
+        self.source
+    }
+
+    /// The payload: the octets between the secondary header and the error control.
+    pub fn payload(&self) -> &'a [u8]
+        ensures { result.now ≡ self.now.payload }
+    {
+        self.payload
+    }
+
+    /// Each number fits its field.
+    pub fn numbers_fit(&self)
+        ensures { IsTelecommandInRange self.now }
+    {
+        let _ack = self.ack();
+        let _header = (self.apid().number(), self.count().number());
+        let _secondary = (self.service(), self.subtype(), self.source());
+    }
+}

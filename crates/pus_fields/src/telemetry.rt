@@ -1,0 +1,116 @@
+//! Telemetry.
+
+ghost use Rattle.std.specs.Prelude.{◌≡◌};
+ghost use Rattle.pus_fields.specs.Telemetry.{IsTelemetryInRange};
+
+use space_packet::{Apid, SequenceCount};
+use std::marker::Model;
+
+/// A telemetry packet (ECSS-E-ST-70-41C, 7.4.3): application process identifier 0 to 2,047, sequence
+/// count 0 to 16,383, service type, message subtype, destination identifier, time in whole seconds and
+/// payload, which the caller lends.
+#[derive(Drop)]
+pub struct Tm<'a> {
+    apid: Apid,
+    count: SequenceCount,
+    service: u8,
+    subtype: u8,
+    destination: u16,
+    time: u32,
+    payload: &'a [u8],
+}
+
+impl<'a> Model for Tm<'a> {
+    ghost use Rattle.pus_fields.specs.Telemetry.{Telemetry};
+
+    ghost Value = { Telemetry };
+
+    ghost view = { λ t. record { apid = t.apid; count = t.count; service = t.service; subtype = t.subtype; destination = t.destination; time = t.time; payload = t.payload.now } };
+}
+
+impl<'a> Tm<'a> {
+    /// A telemetry packet with these fields.
+    pub fn new(
+        apid: Apid,
+        count: SequenceCount,
+        service: u8,
+        subtype: u8,
+        destination: u16,
+        time: u32,
+        payload: &'a [u8],
+    ) -> Tm<'a>
+        ensures { result ≡ record { apid = apid; count = count; service = service; subtype = subtype; destination = destination; time = time; payload = payload.now } }
+    {
+        Tm {
+            apid,
+            count,
+            service,
+            subtype,
+            destination,
+            time,
+            payload,
+        }
+    }
+
+    /// The application process identifier, 0 to 2,047.
+    pub fn apid(&self) -> Apid
+        ensures { result ≡ self.now.apid }
+    {
+        self.apid
+    }
+
+    /// The sequence count, 0 to 16,383.
+    pub fn count(&self) -> SequenceCount
+        ensures { result ≡ self.now.count }
+    {
+        self.count
+    }
+
+    /// The service type.
+    pub fn service(&self) -> u8
+        ensures { result ≡ self.now.service }
+    {
+        self.service
+    }
+
+    /// The message subtype.
+    pub fn subtype(&self) -> u8
+        ensures { result ≡ self.now.subtype }
+    {
+        self.subtype
+    }
+
+    /// The destination identifier.
+    pub fn destination(&self) -> u16
+        ensures { result ≡ self.now.destination }
+    {
+        self.destination
+    }
+
+    /// The time, in whole seconds.
+    pub fn time(&self) -> u32
+        ensures { result ≡ self.now.time }
+    {
+        self.time
+    }
+
+    /// The payload: the octets between the secondary header and the error control.
+    pub fn payload(&self) -> &'a [u8]
+        ensures { result.now ≡ self.now.payload }
+    {
+        self.payload
+    }
+
+    /// Each number fits its field.
+    pub fn numbers_fit(&self)
+        ensures { IsTelemetryInRange self.now }
+    {
+        let _header = (self.apid().number(), self.count().number());
+        let _secondary = (
+            self.service(),
+            self.subtype(),
+            self.destination(),
+            self.time(),
+        );
+    }
+}

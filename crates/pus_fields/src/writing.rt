@@ -1,0 +1,107 @@
+//! Writing packets.
+
+ghost use Rattle.std.specs.Prelude.{◌≡◌, ◌<◌, ◌≤◌, ◌+◌, ◌↔◌, ℕ, List, ◌++◌, length, OnOk, OnErr, IsErrOf, vec_len, vec_capacity};
+ghost use Rattle.pus_fields.specs.Telecommand.{IsTelecommand, IsTelecommandInRange, telecommand_covered, telecommand_octets};
+ghost use Rattle.pus_fields.specs.Telemetry.{IsTelemetry, IsTelemetryInRange, telemetry_covered, telemetry_octets};
+
+use crate::appending::{append_error_control, append_octets, append_u8, append_u16, append_u32};
+use crate::fault::WriteFault;
+use crate::telecommand::Tc;
+use crate::telemetry::Tm;
+use bitflags::Flags;
+use space_packet::written_octets_are_the_packet;
+use std::alloc::Allocator;
+
+/// The first octet of a secondary header: version number 2 in its higher four bits.
+const VERSION_OCTET: u8 = 0x20;
+
+/// Appends a telecommand but its error control.
+fn append_tc<A: Allocator>(tc: &Tc, out: &mut Vec<u8, A>)
+    requires length { length tc.now.payload ≤ 65529 }
+    requires room { vec_len out.old + (11 + length tc.now.payload) ≤ vec_capacity out.old }
+    ensures items { out.new.items ≡ out.old.items ++ telecommand_covered tc.now }
+    ensures len { vec_len out.new ≡ vec_len out.old + (11 + length tc.now.payload) }
+    ensures capacity { vec_capacity out.old ≤ vec_capacity out.new }
+    ensures in_range { IsTelecommandInRange tc.now }
+{
+    tc.numbers_fit();
+    let payload = tc.payload();
+    append_octets(out, &tc.id());
+    append_u16(out, (payload.len() + 6) as u16);
+    append_u8(out, VERSION_OCTET + tc.ack().bits());
+    append_u8(out, tc.service());
+    append_u8(out, tc.subtype());
+    append_u16(out, tc.source());
+    append_octets(out, payload);
+}
+
+/// Appends the packet of a telecommand (CCSDS 133.0-B, 4.1; ECSS-E-ST-70-41C, 7.4.4): 13 octets more than
+/// its payload has. It is refused, with the vector as it was, where 1. the payload has over 65,529
+/// octets; 2. memory runs out.
+pub fn write_tc<A: Allocator>(tc: &Tc, out: &mut Vec<u8, A>) -> Result<(), WriteFault>
+    ensures written { OnOk result ((packet : List ℕ) × IsTelecommand packet tc.now
+        × (out.new.items ≡ out.old.items ++ packet)) }
+    ensures octets { OnOk result (out.new.items ≡ out.old.items ++ telecommand_octets tc.now) }
+    ensures too_long { IsErrOf result WriteFault.TooLong ↔ (65529 < length tc.now.payload) }
+    // Memory is answered only where the vector had to grow.
+    ensures memory { IsErrOf result WriteFault.Memory → vec_capacity out.old < vec_len out.old + (13 + length tc.now.payload) }
+    ensures err { OnErr result (out.new.items ≡ out.old.items) }
+{
+    let length = tc.payload().len();
+    if length > 65529 {
+        return Err(WriteFault::TooLong);
+    }
+    out.reserve(13 + length)?;
+    written_octets_are_the_packet();
+    let start = out.len();
+    append_tc(tc, out);
+    append_error_control(out, start);
+    Ok(())
+}
+
+/// Appends a telemetry packet but its error control.
+fn append_tm<A: Allocator>(tm: &Tm, out: &mut Vec<u8, A>)
+    requires length { length tm.now.payload ≤ 65523 }
+    requires room { vec_len out.old + (17 + length tm.now.payload) ≤ vec_capacity out.old }
+    ensures items { out.new.items ≡ out.old.items ++ telemetry_covered tm.now }
+    ensures len { vec_len out.new ≡ vec_len out.old + (17 + length tm.now.payload) }
+    ensures capacity { vec_capacity out.old ≤ vec_capacity out.new }
+    ensures in_range { IsTelemetryInRange tm.now }
+{
+    tm.numbers_fit();
+    let payload = tm.payload();
+    append_u16(out, (1 << 11) + tm.apid().number());
+    append_u16(out, (3 << 14) + tm.count().number());
+    append_u16(out, (payload.len() + 12) as u16);
+    append_u8(out, VERSION_OCTET);
+    append_u8(out, tm.service());
+    append_u8(out, tm.subtype());
+    append_u16(out, 0);
+    append_u16(out, tm.destination());
+    append_u32(out, tm.time());
+    append_octets(out, payload);
+}
+
+/// Appends the packet of telemetry (CCSDS 133.0-B, 4.1; ECSS-E-ST-70-41C, 7.4.3): 19 octets more than its
+/// payload has. It is refused, with the vector as it was, where 1. the payload has over 65,523 octets;
+/// 2. memory runs out.
+pub fn write_tm<A: Allocator>(tm: &Tm, out: &mut Vec<u8, A>) -> Result<(), WriteFault>
+    ensures written { OnOk result ((packet : List ℕ) × IsTelemetry packet tm.now
+        × (out.new.items ≡ out.old.items ++ packet)) }
+    ensures octets { OnOk result (out.new.items ≡ out.old.items ++ telemetry_octets tm.now) }
+    ensures too_long { IsErrOf result WriteFault.TooLong ↔ (65523 < length tm.now.payload) }
+    // Memory is answered only where the vector had to grow.
+    ensures memory { IsErrOf result WriteFault.Memory → vec_capacity out.old < vec_len out.old + (19 + length tm.now.payload) }
+    ensures err { OnErr result (out.new.items ≡ out.old.items) }
+{
+    let length = tm.payload().len();
+    if length > 65523 {
+        return Err(WriteFault::TooLong);
+    }
+    out.reserve(19 + length)?;
+    written_octets_are_the_packet();
+    let start = out.len();
+    append_tm(tm, out);
+    append_error_control(out, start);
+    Ok(())
+}
