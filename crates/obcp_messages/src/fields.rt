@@ -1,0 +1,58 @@
+//! Fields of service data, which are put one behind the other.
+
+ghost use Rattle.std.specs.Prelude.{◌≡◌, ◌≤◌, ◌<◌, ◌^◌, ◌+◌, ◌*◌, ◌++◌, length, All};
+ghost use Rattle.std.specs.List.{flat_map};
+ghost use Rattle.arrayvec.specs.ArrayVec.{array_vec_len};
+ghost use Rattle.byteorder.specs.Endian.{big_bytes};
+ghost use Rattle.obcp_messages.specs.Report.{row_data};
+
+use crate::rows::StatusRow;
+use arrayvec::ArrayVec;
+
+/// Room for the fields of each request and report but the octets that a request lends: those of a
+/// communicate request with 8 words are the most.
+pub(crate) type Fields = ArrayVec<u8, 67>;
+
+pub(crate) fn put_octets(fields: &mut Fields, octets: &[u8])
+    requires { array_vec_len fields.old + length octets.now ≤ 67 }
+    ensures { fields.new.items ≡ fields.old.items ++ octets.now }
+{
+    fields.try_extend_from_slice(octets).unwrap();
+}
+
+pub(crate) fn put_u8(fields: &mut Fields, number: u8)
+    requires { array_vec_len fields.old + 1 ≤ 67 }
+    ensures { fields.new.items ≡ fields.old.items ++ big_bytes 1 number }
+{
+    put_octets(fields, &number.to_be_bytes());
+}
+
+pub(crate) fn put_u16(fields: &mut Fields, number: u16)
+    requires { array_vec_len fields.old + 2 ≤ 67 }
+    ensures { fields.new.items ≡ fields.old.items ++ big_bytes 2 number }
+{
+    put_octets(fields, &number.to_be_bytes());
+}
+
+/// Words of 64 bits.
+pub(crate) fn put_words(fields: &mut Fields, words: &[u64])
+    requires { array_vec_len fields.old + 8 * length words.now ≤ 67 }
+    ensures octets { fields.new.items ≡ fields.old.items ++ flat_map (big_bytes 8) words.now }
+    ensures in_range { All (λ word. word < 2 ^ 64) words.now }
+{
+    for word in words {
+        put_octets(fields, &word.to_be_bytes());
+    }
+}
+
+/// The rows of a status report.
+pub(crate) fn put_rows(fields: &mut Fields, rows: &[StatusRow])
+    requires { array_vec_len fields.old + 3 * length rows.now ≤ 67 }
+    ensures octets { fields.new.items ≡ fields.old.items ++ flat_map row_data rows.now }
+    ensures in_range { All (λ row. row.id < 2 ^ 16) rows.now }
+{
+    for row in rows {
+        put_u16(fields, row.id);
+        put_u8(fields, row.status as u8);
+    }
+}

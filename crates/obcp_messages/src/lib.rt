@@ -1,0 +1,31 @@
+//! Requests and status reports of service 18 (on-board control procedures), and reports of service 1
+//! (request verification) of ECSS-E-ST-70-41C: the service data of their packets.
+#![tactic(auto)]
+
+mod fault;
+mod fields;
+mod laws;
+mod lent;
+mod reading_reports;
+mod reading_requests;
+mod report;
+mod request;
+mod rising;
+mod rows;
+mod writing;
+
+pub use fault::{ReportFault, RequestFault};
+pub use laws::{
+    read_reports_are_laid_out, read_requests_are_laid_out, reports_are_read_back,
+    requests_are_read_back,
+};
+pub use lent::{Arguments, Code, MOST_ARGUMENTS, MOST_CODE, MOST_WORDS, Words};
+pub use reading_reports::read_report;
+pub use reading_requests::read_request;
+pub use report::{BAD_CODE, PlainCode, Report, STATUS_REPORT, StartFault, VERIFICATION};
+pub use request::{Request, SERVICE};
+pub use rows::{Status, StatusRow, StatusRows};
+pub use writing::{write_report, write_request};
+
+#[cfg(test)]
+mod tests;

@@ -1,0 +1,52 @@
+//! Requests.
+
+ghost use Rattle.std.specs.Prelude.{◌≡◌};
+
+use crate::lent::{Arguments, Code, Words};
+
+/// The service type of on-board control procedures.
+pub const SERVICE: u8 = 18;
+
+/// A request of service 18 (ECSS-E-ST-70-41C, 6.18).
+#[derive(Drop)]
+pub enum Request<'a> {
+    /// Loads a procedure, by its code.
+    Load { id: u16, code: Code<'a> },
+    /// Unloads a procedure.
+    Unload { id: u16 },
+    /// Activates a procedure with these arguments.
+    Activate { id: u16, arguments: Arguments<'a> },
+    /// Stops a procedure at the end of this step.
+    Stop { id: u16, step: u16 },
+    /// Suspends a procedure at the end of this step.
+    Suspend { id: u16, step: u16 },
+    /// Resumes a held procedure.
+    Resume { id: u16 },
+    /// Communicates parameters to a procedure.
+    Communicate { id: u16, words: Words },
+    /// Asks for the status report.
+    Status,
+    /// Aborts a procedure.
+    Abort { id: u16 },
+}
+
+impl Request<'_> {
+    ghost use Rattle.obcp_messages.specs.Request.{subtype_of};
+
+    /// The message subtype.
+    pub fn subtype(&self) -> u8
+        ensures { result ≡ subtype_of self.now }
+    {
+        match self {
+            Request::Load { .. } => 1,
+            Request::Unload { .. } => 2,
+            Request::Activate { .. } => 3,
+            Request::Stop { .. } => 4,
+            Request::Suspend { .. } => 5,
+            Request::Resume { .. } => 6,
+            Request::Communicate { .. } => 7,
+            Request::Status => 8,
+            Request::Abort { .. } => 12,
+        }
+    }
+}

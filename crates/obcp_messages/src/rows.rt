@@ -1,0 +1,64 @@
+//! The rows of a status report.
+
+ghost use Rattle.std.specs.Prelude.{◌≡◌, ◌≤◌, ◌↔◌, length, IfSome, IsSome};
+
+use crate::rising::is_rising;
+use arrayvec::ArrayVec;
+use std::marker::Model;
+
+/// The status of a loaded procedure.
+#[derive(Clone, Copy, Default)]
+pub enum Status {
+    #[default]
+    Inactive,
+    Running,
+    Held,
+}
+
+/// A row of the status report.
+#[derive(Clone, Copy, Default)]
+pub struct StatusRow {
+    pub id: u16,
+    pub status: Status,
+}
+
+/// The rows of a status report: at most 16, by rising identifier.
+#[derive(Drop)]
+pub struct StatusRows {
+    rows: ArrayVec<StatusRow, 16>,
+}
+
+impl Model for StatusRows {
+    ghost use Rattle.std.specs.Prelude.{List};
+    ghost use Rattle.obcp_messages.specs.declared.rows.StatusRow.{StatusRow as Row};
+    ghost use Rattle.obcp_messages.specs.Rows.{IsRising};
+
+    ghost Value = { List Row };
+
+    ghost view = { λ r. r.rows.items };
+
+    ghost invariant = { λ r. IsRising r.rows.items };
+}
+
+impl StatusRows {
+    ghost use Rattle.obcp_messages.specs.Rows.{IsRising};
+
+    /// These rows, where their identifiers rise.
+    pub fn new(rows: ArrayVec<StatusRow, 16>) -> Option<StatusRows>
+        ensures value { IfSome result (λ value. value ≡ rows.items) }
+        ensures variant { IsSome result ↔ IsRising rows.items }
+    {
+        if !is_rising(rows.as_slice()) {
+            return None;
+        }
+        Some(StatusRows { rows })
+    }
+
+    pub fn as_slice(&self) -> &[StatusRow]
+        ensures value { result.now ≡ self.now }
+        ensures rising { IsRising self.now }
+        ensures bound { length self.now ≤ 16 }
+    {
+        self.rows.as_slice()
+    }
+}

@@ -1,0 +1,128 @@
+//! Writing requests and reports.
+
+ghost use Rattle.std.specs.Prelude.{◌≡◌, ◌<◌, ◌+◌, ◌++◌, length, OnOk, OnErr, vec_len, vec_capacity};
+ghost use Rattle.obcp_messages.specs.Request.{IsRequest, IsRequestData, request_data, subtype_of, lent_octets};
+ghost use Rattle.obcp_messages.specs.Report.{IsReport, IsReportData, IsStartFault, report_data, service_of, kind_of, fault_data};
+
+use crate::fields::{Fields, put_octets, put_rows, put_u8, put_u16, put_words};
+use crate::report::{BAD_CODE, Report, StartFault};
+use crate::request::Request;
+use arrayvec::ArrayVec;
+use std::alloc::{AllocError, Allocator};
+
+/// The fields of a request before the octets that it lends.
+fn request_fields(request: &Request) -> Fields
+    ensures octets { result.items ++ lent_octets request.now ≡ request_data request.now }
+    ensures in_range { IsRequest request.now }
+{
+    let mut fields = ArrayVec::new();
+    match request {
+        Request::Load { id, code } => {
+            put_u16(&mut fields, *id);
+            put_u16(&mut fields, code.octets().len() as u16);
+        }
+        Request::Activate { id, arguments } => {
+            put_u16(&mut fields, *id);
+            put_u16(&mut fields, arguments.octets().len() as u16);
+        }
+        Request::Stop { id, step } | Request::Suspend { id, step } => {
+            put_u16(&mut fields, *id);
+            put_u16(&mut fields, *step);
+        }
+        Request::Unload { id } | Request::Resume { id } | Request::Abort { id } => {
+            put_u16(&mut fields, *id);
+        }
+        Request::Communicate { id, words } => {
+            put_u16(&mut fields, *id);
+            put_u8(&mut fields, words.as_slice().len() as u8);
+            put_words(&mut fields, words.as_slice());
+        }
+        Request::Status => {}
+    }
+    fields
+}
+
+/// The octets that a request lends.
+fn lent<'a>(request: &Request<'a>) -> &'a [u8]
+    ensures { result.now ≡ lent_octets request.now }
+{
+    match request {
+        Request::Load { code, .. } => code.octets(),
+        Request::Activate { arguments, .. } => arguments.octets(),
+        _ => &[],
+    }
+}
+
+/// Appends the service data of a request (ECSS-E-ST-70-41C, 8.18).
+pub fn write_request<A: Allocator>(
+    request: &Request,
+    out: &mut Vec<u8, A>,
+) -> Result<(), AllocError>
+    ensures written { OnOk result (out.new.items ≡ out.old.items ++ request_data request.now) }
+    ensures laid_out { IsRequestData 18 (subtype_of request.now) (request_data request.now) request.now }
+    // Memory is refused only where the vector had to grow, and then nothing is appended.
+    ensures memory { OnErr result (vec_capacity out.old < vec_len out.old + length (request_data request.now)) }
+    ensures err { OnErr result (out.new.items ≡ out.old.items) }
+{
+    let fields = request_fields(request);
+    let octets = lent(request);
+    out.reserve(fields.len() + octets.len())?;
+    out.extend_from_slice(fields.as_slice()).unwrap();
+    out.extend_from_slice(octets).unwrap();
+    Ok(())
+}
+
+/// The fields of a failure: its code, and the data of code 18.
+fn put_fault(fields: &mut Fields, fault: &StartFault)
+    requires { length fields.old.items ≡ 4 }
+    ensures octets { fields.new.items ≡ fields.old.items ++ fault_data fault.now }
+    ensures in_range { IsStartFault fault.now }
+{
+    match fault {
+        StartFault::BadCode { fault, slot } => {
+            put_u16(fields, BAD_CODE);
+            put_u8(fields, *fault);
+            put_u16(fields, *slot);
+        }
+        StartFault::Plain(code) => put_u16(fields, code.code()),
+    }
+}
+
+/// The fields of a report.
+fn report_fields(report: &Report) -> Fields
+    ensures octets { result.items ≡ report_data report.now }
+    ensures in_range { IsReport report.now }
+{
+    let mut fields = ArrayVec::new();
+    match report {
+        Report::Accepted { request }
+        | Report::Started { request }
+        | Report::Completed { request } => {
+            put_octets(&mut fields, request);
+        }
+        Report::NotAccepted { request, code } | Report::NotCompleted { request, code } => {
+            put_octets(&mut fields, request);
+            put_u16(&mut fields, *code);
+        }
+        Report::NotStarted { request, fault } => {
+            put_octets(&mut fields, request);
+            put_fault(&mut fields, fault);
+        }
+        Report::Status { rows } => {
+            put_u8(&mut fields, rows.as_slice().len() as u8);
+            put_rows(&mut fields, rows.as_slice());
+        }
+    }
+    fields
+}
+
+/// Appends the service data of a report (ECSS-E-ST-70-41C, 8.1 and 8.18).
+pub fn write_report<A: Allocator>(report: &Report, out: &mut Vec<u8, A>) -> Result<(), AllocError>
+    ensures written { OnOk result (out.new.items ≡ out.old.items ++ report_data report.now) }
+    ensures laid_out { IsReportData (service_of report.now) (kind_of report.now) (report_data report.now) report.now }
+    // Memory is refused only where the vector had to grow, and then nothing is appended.
+    ensures memory { OnErr result (vec_capacity out.old < vec_len out.old + length (report_data report.now)) }
+    ensures err { OnErr result (out.new.items ≡ out.old.items) }
+{
+    out.extend_from_slice(report_fields(report).as_slice())
+}
