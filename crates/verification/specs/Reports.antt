@@ -1,0 +1,31 @@
+-- The reports that one request gives (ECSS-E-ST-70-41C, 6.1).
+use Rattle.std.specs.Prelude.{Bool, ◌/◌, ◌%◌, ◌==◌, if◌then◌else◌, List, [], ◌∷◌, ◌++◌}
+use Rattle.pus_fields.specs.Acknowledgement.{flags_of}
+use Rattle.pus_fields.specs.declared.ack.Ack.{Ack}
+use Rattle.verification.specs.declared.outcome.Outcome.{Outcome}
+use Rattle.verification.specs.declared.outcome.Outcome.TheVariants as O
+use Rattle.verification.specs.declared.notice.Notice.{Notice}
+use Rattle.verification.specs.declared.notice.Notice.TheVariants.{Accepted, NotAccepted, Started, NotStarted, Answer, Completed}
+
+-- which reports of success are asked for: the acknowledgement flags are one number (1 acceptance,
+-- 2 start, 4 progress, 8 completion)
+abbrev pub wants_acceptance : Ack → Bool
+wants_acceptance ack = flags_of ack % 2 == 1
+
+abbrev pub wants_start : Ack → Bool
+wants_start ack = flags_of ack / 2 % 2 == 1
+
+abbrev pub wants_completion : Ack → Bool
+wants_completion ack = flags_of ack / 8 % 2 == 1
+
+-- a report of success, where it is asked for
+abbrev pub asked : Bool → Notice → List Notice
+asked wanted notice = if wanted then notice ∷ [] else []
+
+-- acceptance, start, the answer's place and completion; a failed acceptance or start is sent whatever
+-- the flags are, and ends the list
+abbrev pub reports_of_outcome : Ack → Outcome → List Notice
+reports_of_outcome ack (O.Refused failure) = NotAccepted failure ∷ []
+reports_of_outcome ack (O.NotStarted failure) = asked (wants_acceptance ack) Accepted ++ NotStarted failure ∷ []
+reports_of_outcome ack O.Done =
+    asked (wants_acceptance ack) Accepted ++ asked (wants_start ack) Started ++ Answer ∷ asked (wants_completion ack) Completed

@@ -1,0 +1,56 @@
+//! Which reports an outcome gives.
+
+ghost use Rattle.std.specs.Prelude.{◌≡◌};
+ghost use Rattle.verification.specs.Reports.{reports_of_outcome, wants_acceptance, wants_completion, wants_start};
+
+use crate::notice::{Notice, NoticeList};
+use crate::outcome::Outcome;
+use bitflags::Flags;
+use pus_fields::Ack;
+
+/// Whether a report of successful acceptance is asked for.
+fn is_acceptance_asked(ack: Ack) -> bool
+    ensures { result ≡ wants_acceptance ack }
+{
+    ack.contains(Ack::ACCEPTANCE)
+}
+
+/// Whether a report of successful start is asked for.
+#[tactic(auto, using(crate::proofs::Wanted::mask_two))]
+fn is_start_asked(ack: Ack) -> bool
+    ensures { result ≡ wants_start ack }
+{
+    ack.contains(Ack::START)
+}
+
+/// Whether a report of successful completion is asked for.
+#[tactic(auto, using(crate::proofs::Wanted::mask_eight))]
+fn is_completion_asked(ack: Ack) -> bool
+    ensures { result ≡ wants_completion ack }
+{
+    ack.contains(Ack::COMPLETION)
+}
+
+/// The reports of a request, in the order in which they are sent: acceptance, start, the place of the
+/// answer report, completion. A report of success is sent where its acknowledgement flag is set. A
+/// failed acceptance or start is sent whatever the flags are, and ends the list. The progress flag has
+/// no effect (ECSS-E-ST-70-41C, 6.1).
+pub fn notices(ack: Ack, outcome: &Outcome) -> NoticeList
+    ensures { result ≡ reports_of_outcome ack outcome.now }
+{
+    let mut list = NoticeList::new();
+    match outcome {
+        Outcome::Refused(failure) => list.add(Notice::NotAccepted(*failure)),
+        Outcome::NotStarted(failure) => {
+            list.add_if(is_acceptance_asked(ack), Notice::Accepted);
+            list.add(Notice::NotStarted(*failure));
+        }
+        Outcome::Done => {
+            list.add_if(is_acceptance_asked(ack), Notice::Accepted);
+            list.add_if(is_start_asked(ack), Notice::Started);
+            list.add(Notice::Answer);
+            list.add_if(is_completion_asked(ack), Notice::Completed);
+        }
+    }
+    list
+}

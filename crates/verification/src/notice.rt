@@ -1,0 +1,78 @@
+//! A list of reports to send.
+
+ghost use Rattle.std.specs.Prelude.{◌≡◌, ◌<◌, ◌≤◌, [], ◌∷◌, ◌++◌, length};
+
+use crate::outcome::{AcceptanceFailure, StartFailure};
+use arrayvec::ArrayVec;
+use std::marker::Model;
+
+/// A report to send, or the place of one.
+#[derive(Clone, Copy, Debug, PartialEq, Eq, Default)]
+pub enum Notice {
+    /// Successful acceptance: service 1, subtype 1.
+    Accepted,
+    /// Failed acceptance: subtype 2.
+    NotAccepted(AcceptanceFailure),
+    /// Successful start: subtype 3.
+    Started,
+    /// Failed start: subtype 4.
+    NotStarted(StartFailure),
+    /// The place of the report that answers the request, where it has one.
+    #[default]
+    Answer,
+    /// Successful completion: subtype 7.
+    Completed,
+}
+
+/// The reports of one request: at most three and the place of the answer report, in their order.
+#[derive(Drop)]
+pub struct NoticeList {
+    notices: ArrayVec<Notice, 4>,
+}
+
+impl Model for NoticeList {
+    ghost use Rattle.std.specs.Prelude.{List};
+    ghost use Rattle.verification.specs.declared.notice.Notice.{Notice as Item};
+
+    ghost Value = { List Item };
+
+    ghost view = { λ list. list.notices.items };
+}
+
+impl NoticeList {
+    ghost use Rattle.verification.specs.Reports.{asked};
+
+    pub(crate) fn new() -> NoticeList
+        ensures { result ≡ [] }
+    {
+        NoticeList {
+            notices: ArrayVec::new(),
+        }
+    }
+
+    /// Adds a notice at the end.
+    pub(crate) fn add(&mut self, notice: Notice)
+        requires { length self.old < 4 }
+        ensures { self.new ≡ self.old ++ notice ∷ [] }
+    {
+        self.notices.push(notice);
+    }
+
+    /// Adds a notice at the end, where it is wanted.
+    pub(crate) fn add_if(&mut self, wanted: bool, notice: Notice)
+        requires { length self.old < 4 }
+        ensures { self.new ≡ self.old ++ asked wanted notice }
+    {
+        if wanted {
+            self.add(notice);
+        }
+    }
+
+    /// The notices, in the order of their reports.
+    pub fn as_slice(&self) -> &[Notice]
+        ensures value { result.now ≡ self.now }
+        ensures bound { length self.now ≤ 4 }
+    {
+        self.notices.as_slice()
+    }
+}
