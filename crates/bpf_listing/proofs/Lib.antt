@@ -1,0 +1,7 @@
+pub mod Numbers
+pub mod Words
+pub mod Shown
+pub mod Unique
+pub mod Texts
+pub mod Listings
+pub mod Images

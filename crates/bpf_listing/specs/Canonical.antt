@@ -1,0 +1,141 @@
+-- The canonical text of an instruction, without a newline: its mnemonic, which ends in 32 or 64 where the instruction
+-- has a class, one space, and its operands, parted by a comma and a space.
+use Rattle.std.specs.Prelude.{ℕ, ◌/◌, ◌%◌, zero, suc, ℤ, pos, negsuc, List, [], ◌∷◌, ◌++◌, codes, false}
+use Rattle.std.specs.Fmt.{decimal, signed_decimal, digit_glyph}
+use Rattle.bpf_types.specs.declared.line.Line.{Line}
+use Rattle.bpf_types.specs.declared.line.Line.TheVariants as line
+use Rattle.bpf_types.specs.declared.line.Operand.{Operand}
+use Rattle.bpf_types.specs.declared.line.Operand.TheVariants.{Immediate, Register}
+use Rattle.bpf_types.specs.declared.line.Operation.{Operation}
+use Rattle.bpf_types.specs.declared.line.Operation.TheVariants as op
+use Rattle.bpf_types.specs.declared.line.Test.{Test}
+use Rattle.bpf_types.specs.declared.line.Test.TheVariants as test
+use Rattle.bpf_types.specs.declared.line.Extension.{Extension}
+use Rattle.bpf_types.specs.declared.line.Extension.TheVariants as extension
+use Rattle.bpf_types.specs.declared.line.Order.{Order}
+use Rattle.bpf_types.specs.declared.line.Order.TheVariants as order
+use Rattle.bpf_types.specs.declared.line.Size.{Size}
+use Rattle.bpf_types.specs.declared.line.Size.TheVariants as size
+use Rattle.bpf_types.specs.declared.line.Narrow.{Narrow}
+use Rattle.bpf_types.specs.declared.line.Narrow.TheVariants as narrow
+use Rattle.bpf_types.specs.declared.line.Width.{Width}
+use Rattle.bpf_types.specs.declared.line.Width.TheVariants.{W32, W64}
+use Rattle.bpf_types.specs.Line.{swapped_bits}
+
+-- the arithmetic operations (RFC 9669, section 4.1)
+abbrev pub operation_name : Operation → List ℕ
+operation_name op.Add = codes "add"
+operation_name op.Sub = codes "sub"
+operation_name op.Mul = codes "mul"
+operation_name op.Div = codes "div"
+operation_name op.SignedDiv = codes "sdiv"
+operation_name op.Or = codes "or"
+operation_name op.And = codes "and"
+operation_name op.Lsh = codes "lsh"
+operation_name op.Rsh = codes "rsh"
+operation_name op.Mod = codes "mod"
+operation_name op.SignedMod = codes "smod"
+operation_name op.Xor = codes "xor"
+operation_name op.Mov = codes "mov"
+operation_name op.Arsh = codes "arsh"
+
+-- the conditional jumps (RFC 9669, section 4.3)
+abbrev pub test_name : Test → List ℕ
+test_name test.Equal = codes "jeq"
+test_name test.Greater = codes "jgt"
+test_name test.GreaterOrEqual = codes "jge"
+test_name test.Set = codes "jset"
+test_name test.NotEqual = codes "jne"
+test_name test.SignedGreater = codes "jsgt"
+test_name test.SignedGreaterOrEqual = codes "jsge"
+test_name test.Less = codes "jlt"
+test_name test.LessOrEqual = codes "jle"
+test_name test.SignedLess = codes "jslt"
+test_name test.SignedLessOrEqual = codes "jsle"
+
+-- the byte order instructions (RFC 9669, section 4.2)
+abbrev pub order_name : Order → List ℕ
+order_name order.Little = codes "le"
+order_name order.Big = codes "be"
+order_name order.Swap = codes "swap"
+
+-- the sizes of a load or a store (RFC 9669, section 5)
+abbrev pub size_name : Size → List ℕ
+size_name size.Word = codes "w"
+size_name size.Half = codes "h"
+size_name size.Byte = codes "b"
+size_name size.Double = codes "dw"
+
+-- the sizes of a load that extends the sign (RFC 9669, section 5.2)
+abbrev pub narrow_name : Narrow → List ℕ
+narrow_name narrow.Word = codes "w"
+narrow_name narrow.Half = codes "h"
+narrow_name narrow.Byte = codes "b"
+
+-- the class, by how many bits it works on
+abbrev pub width_name : Width → List ℕ
+width_name W32 = codes "32"
+width_name W64 = codes "64"
+
+-- a register
+abbrev pub register : ℕ → List ℕ
+register n = codes "r" ++ decimal n
+
+-- a decimal number that always has its sign; zero is +0
+abbrev pub with_sign : ℤ → List ℕ
+with_sign (pos n) = codes "+" ++ decimal n
+with_sign (negsuc n) = codes "-" ++ decimal (suc n)
+
+-- the second operand: a decimal number with a sign where it is negative, or a register
+abbrev pub operand_text : Operand → List ℕ
+operand_text (Immediate imm) = signed_decimal imm
+operand_text (Register src) = register src
+
+-- a place in memory: a register and an offset
+abbrev pub place_text : ℕ → ℤ → List ℕ
+place_text base offset = codes "[" ++ register base ++ with_sign offset ++ codes "]"
+
+-- the class of a move that extends the sign
+abbrev pub extension_width : Extension → Width
+extension_width extension.From8To32 = W32
+extension_width extension.From16To32 = W32
+extension_width _ = W64
+
+-- from how many bits such a move extends
+abbrev pub extension_bits : Extension → ℕ
+extension_bits extension.From8To32 = 8
+extension_bits extension.From16To32 = 16
+extension_bits extension.From8To64 = 8
+extension_bits extension.From16To64 = 16
+extension_bits extension.From32To64 = 32
+
+-- the last `count` hexadecimal digits of a number, in lower case
+abbrev pub hex_digits : ℕ → ℕ → List ℕ
+hex_digits zero n = []
+hex_digits (suc count) n = hex_digits count (n / 16) ++ digit_glyph false (n % 16) ∷ []
+
+-- the text of an instruction
+abbrev pub canonical : Line → List ℕ
+canonical (line.Arithmetic width operation dst operand) = operation_name operation ++ width_name width ++ codes " " ++ register dst ++ codes ", " ++ operand_text operand
+canonical (line.Negate width dst) = codes "neg" ++ width_name width ++ codes " " ++ register dst
+canonical (line.MoveExtended extension dst src) = codes "movsx" ++ width_name (extension_width extension) ++ codes " " ++ register dst ++ codes ", " ++ register src ++ codes ", " ++ decimal (extension_bits extension)
+canonical (line.ByteOrder order swapped dst) = order_name order ++ codes " " ++ register dst ++ codes ", " ++ decimal (swapped_bits swapped)
+canonical (line.LoadWide dst value) = codes "lddw " ++ register dst ++ codes ", 0x" ++ hex_digits 16 value
+canonical (line.Load size dst base offset) = codes "ldx" ++ size_name size ++ codes " " ++ register dst ++ codes ", " ++ place_text base offset
+canonical (line.LoadExtended size dst base offset) = codes "ldxs" ++ narrow_name size ++ codes " " ++ register dst ++ codes ", " ++ place_text base offset
+canonical (line.Store size base offset src) = codes "stx" ++ size_name size ++ codes " " ++ place_text base offset ++ codes ", " ++ register src
+canonical (line.StoreImmediate size base offset value) = codes "st" ++ size_name size ++ codes " " ++ place_text base offset ++ codes ", " ++ signed_decimal value
+canonical (line.JumpIf width test dst operand distance) = test_name test ++ width_name width ++ codes " " ++ register dst ++ codes ", " ++ operand_text operand ++ codes ", " ++ with_sign distance
+canonical (line.Jump distance) = codes "ja " ++ with_sign distance
+canonical (line.LongJump distance) = codes "ja32 " ++ with_sign distance
+canonical (line.Call number) = codes "call " ++ signed_decimal number
+canonical (line.CallLocal distance) = codes "call local " ++ with_sign distance
+canonical line.Exit = codes "exit"
+
+-- a load or a store at a place in memory
+abbrev pub IsAccess : Line → Type 0
+IsAccess (line.Load size dst base offset) = Unit {0}
+IsAccess (line.LoadExtended size dst base offset) = Unit {0}
+IsAccess (line.Store size base offset src) = Unit {0}
+IsAccess (line.StoreImmediate size base offset value) = Unit {0}
+IsAccess _ = ⊥

@@ -1,0 +1,5 @@
+pub mod Canonical
+pub mod Listing
+pub mod Mnemonics
+pub mod Octets
+pub mod Reading

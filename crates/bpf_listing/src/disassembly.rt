@@ -1,0 +1,111 @@
+//! The listing of an image.
+ghost use Rattle.std.specs.Prelude.{◌≡◌, ◌≢◌, ◌≤◌, ◌<◌, ◌+◌, ◌*◌, ◌%◌, ◌++◌, ◌↔◌, codes, length, take, drop, IfOk, IfErr, OnOk, OnErr, vec_capacity, List, ℕ, MatchResult};
+ghost use Rattle.std.specs.Result.{IsErrOf};
+ghost use Rattle.bpf_types.specs.declared.line.Line.{Line};
+ghost use Rattle.bpf_types.specs.Line.{spelling, IsLine, WritesFramePointer};
+ghost use Rattle.bpf_decode.specs.Decoding.{BeginsWith};
+ghost use Rattle.bpf_decode.specs.Faults.{IsFirst};
+ghost use Rattle.bpf_listing.specs.Canonical.{canonical};
+ghost use Rattle.bpf_listing.specs.Listing.{IsListed, IsImageOf, NoneWritesFramePointer, IsFaultOf, IsNextFault, NeedsMore, listing};
+
+use crate::writing::text_of;
+use bpf_decode::{DecodeFault, decode_at, instructions_are_unique};
+use bpf_types::Line;
+use std::alloc::Allocator;
+
+/// Why an image has no listing, in the order in which the refusals are asked.
+#[derive(Clone, Copy, PartialEq, Eq, Debug)]
+pub enum DisassembleFault {
+    /// The length is no multiple of 8.
+    Ragged,
+    /// The octets from this slot on begin with no instruction that may be loaded. A slot has 8 octets, and the first is slot 0.
+    Decode(DecodeFault, usize),
+    /// Memory for the text was refused.
+    Memory,
+}
+
+/// How many slots an instruction has.
+fn slots_of(line: Line) -> usize
+    ensures exact { 8 * result ≡ length (spelling line) }
+    ensures some { 1 ≤ result }
+    ensures few { result ≤ 2 }
+{
+    match line {
+        Line::LoadWide { .. } => 2,
+        _ => 1,
+    }
+}
+
+/// Appends the line of the instruction at a slot, and gives how many slots it has.
+fn write_next<A: Allocator>(
+    code: &[u8],
+    slot: usize,
+    out: &mut Vec<u8, A>,
+) -> Result<usize, DisassembleFault>
+    requires { 8 * slot + 8 ≤ length code.now }
+    ensures ok { IfOk result (λ slots. (line : Line) × BeginsWith (drop (8 * slot) code.now) line × (¬ WritesFramePointer line) × (8 * slots ≡ length (spelling line))
+        × (out.new.items ≡ out.old.items ++ (canonical line ++ codes "\n"))) }
+    ensures few { IfOk result (λ slots. (1 ≤ slots) × (slots ≤ 2)) }
+    ensures err { OnErr result (out.new.items ≡ out.old.items) }
+    ensures decode { IfErr result (IsNextFault slot (drop (8 * slot) code.now)) }
+    ensures memory { IsErrOf result DisassembleFault.Memory → NeedsMore (drop (8 * slot) code.now) (vec_capacity out.old) (length out.old.items) }
+    ensures capacity { vec_capacity out.old ≤ vec_capacity out.new }
+{
+    let line = match decode_at(code, slot) {
+        Ok(line) => line,
+        Err(fault) => return Err(DisassembleFault::Decode(fault, slot)),
+    };
+    let copied = line;
+    let mut text = text_of(copied);
+    text.push_all(b"\n");
+    match out.extend_from_slice(text.as_slice()) {
+        Ok(()) => Ok(slots_of(line)),
+        Err(_) => Err(DisassembleFault::Memory),
+    }
+}
+
+/// Appends the lines of an image.
+fn write_lines<A: Allocator>(code: &[u8], out: &mut Vec<u8, A>) -> Result<(), DisassembleFault>
+    requires { length code.now % 8 ≡ 0 }
+    ensures ok { OnOk result (IsListed code.now out.old.items out.new.items) }
+    ensures front { take (length out.old.items) out.new.items ≡ out.old.items }
+    ensures fault { IfErr result (λ e. (e ≢ DisassembleFault.Ragged) × IsFaultOf code.now e) }
+    ensures memory { IsErrOf result DisassembleFault.Memory → (lines : List Line) → IsImageOf code.now lines →
+        vec_capacity out.old < length (out.old.items ++ listing lines) }
+{
+    instructions_are_unique();
+    let slots = code.len() / 8;
+    let mut slot = 0;
+    while slot < slots {
+        slot += write_next(code, slot, out)?;
+    }
+    Ok(())
+}
+
+/// Appends the listing of an image to `out`: the canonical text of each instruction, with a newline. The empty image has
+/// the empty listing.
+///
+/// Refused with `Ragged` where the length of `code` is no multiple of 8, then with `Decode` and the first fault and its
+/// slot, and with `Memory`, only where the listing does not fit into the capacity that `out` has. A refusal leaves the
+/// octets of `out` as they were. The time is linear in the image.
+pub fn disassemble<A: Allocator>(code: &[u8], out: &mut Vec<u8, A>) -> Result<(), DisassembleFault>
+    ensures ok { OnOk result (IsListed code.now out.old.items out.new.items) }
+    ensures only { (lines : List Line) → IsImageOf code.now lines → NoneWritesFramePointer lines →
+        MatchResult result (λ _. out.new.items ≡ out.old.items ++ listing lines) (λ e. e ≡ DisassembleFault.Memory) }
+    ensures ragged { IsErrOf result DisassembleFault.Ragged ↔ (length code.now % 8 ≢ 0) }
+    ensures fault { IfErr result (IsFaultOf code.now) }
+    ensures memory { IsErrOf result DisassembleFault.Memory → (lines : List Line) → IsImageOf code.now lines →
+        vec_capacity out.old < length (out.old.items ++ listing lines) }
+    ensures err { OnErr result (out.new.items ≡ out.old.items) }
+{
+    instructions_are_unique();
+    if code.len() % 8 != 0 {
+        return Err(DisassembleFault::Ragged);
+    }
+    let start = out.len();
+    let result = write_lines(code, out);
+    if result.is_err() {
+        out.truncate(start);
+    }
+    result
+}

@@ -1,0 +1,29 @@
+//! Laws of canonical texts and listings.
+ghost use Rattle.std.specs.Prelude.{◌≡◌, IsTrue, ◌==◌, List, ℕ, length};
+ghost use Rattle.std.specs.List.{All, list_all, count_by};
+ghost use Rattle.bpf_types.specs.declared.line.Line.{Line};
+ghost use Rattle.bpf_types.specs.Line.{IsLine};
+ghost use Rattle.bpf_listing.specs.Canonical.{canonical};
+ghost use Rattle.bpf_listing.specs.Listing.{IsImageOf, listing};
+ghost use Rattle.bpf_listing.specs.Octets.{is_text_octet};
+
+use bpf_decode::instructions_are_unique;
+
+/// A text is the canonical one of one instruction at most.
+pub fn canonical_texts_are_unique()
+    ensures { (a b : Line) → IsLine a → IsLine b → canonical a ≡ canonical b → a ≡ b }
+{}
+
+/// A canonical text is of digits, lower-case letters, spaces and the signs `+ , - [ ]`; so it has no newline, and a listing
+/// has one for each instruction.
+pub fn listings_have_a_line_for_each_instruction()
+    ensures octets { (line : Line) → IsLine line → IsTrue (list_all is_text_octet (canonical line)) }
+    ensures newlines { (lines : List Line) → All IsLine lines → count_by (λ octet. octet == 10) (listing lines) ≡ length lines }
+{}
+
+/// An image is that of one list of instructions at most.
+pub fn images_are_unique()
+    ensures { (image : List ℕ) (a b : List Line) → IsImageOf image a → IsImageOf image b → a ≡ b }
+{
+    instructions_are_unique();
+}

@@ -1,0 +1,21 @@
+//! The canonical text of instructions, written and read.
+#![tactic(auto)]
+
+mod disassembly;
+mod laws;
+mod mnemonic;
+mod names;
+mod reading;
+mod scan;
+#[cfg(test)]
+mod tests;
+mod text;
+mod writing;
+
+pub use disassembly::{DisassembleFault, disassemble};
+pub use laws::{
+    canonical_texts_are_unique, images_are_unique, listings_have_a_line_for_each_instruction,
+};
+pub use mnemonic::{Access, Jump, Mnemonic, mnemonic_of};
+pub use reading::read_line;
+pub use writing::line_text;

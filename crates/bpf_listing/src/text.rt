@@ -1,0 +1,119 @@
+//! A text on the stack, and the parts of a line that it takes.
+ghost use Rattle.std.specs.Prelude.{◌≡◌, ◌≤◌, ◌+◌, ◌<◌, ◌^◌, ◌++◌, ◌∷◌, [], List, ℕ, length};
+ghost use Rattle.std.specs.Fmt.{decimal, signed_decimal, digit_glyph};
+ghost use Rattle.bpf_listing.specs.Canonical.{hex_digits, with_sign, register};
+
+use arrayvec::ArrayVec;
+use bpf_types::Reg;
+use itoa::Buffer;
+use std::marker::Model;
+
+/// The text of one instruction with its newline, which is at most 49 octets long.
+#[derive(Drop)]
+pub struct Text {
+    octets: ArrayVec<u8, 64>,
+}
+
+impl Model for Text {
+    ghost Value = { List ℕ };
+
+    ghost view = { λ t. t.octets.items };
+}
+
+impl Text {
+    /// The empty text.
+    pub fn new() -> Self
+        ensures { result ≡ [] }
+    {
+        Text {
+            octets: ArrayVec::new(),
+        }
+    }
+
+    /// A text that begins with this piece.
+    pub fn from_piece(piece: &[u8]) -> Self
+        requires { length piece.now ≤ 64 }
+        ensures { result ≡ piece.now }
+    {
+        let mut text = Self::new();
+        text.push_all(piece);
+        text
+    }
+
+    /// The text's octets.
+
+    pub fn as_slice(&self) -> &[u8]
+        ensures { result.now ≡ self.now }
+    {
+        self.octets.as_slice()
+    }
+
+    /// Appends a piece of text.
+    pub fn push_all(&mut self, piece: &[u8])
+        requires { length self.old + length piece.now ≤ 64 }
+        ensures items { self.new ≡ self.old ++ piece.now }
+        ensures len { length self.new ≡ length self.old + length piece.now }
+    {
+        let _fits = self.octets.try_extend_from_slice(piece);
+    }
+}
+
+impl Text {
+    /// Appends a number in decimal digits.
+    pub fn push_number(&mut self, number: u32)
+        requires { length self.old + 10 ≤ 64 }
+        ensures items { self.new ≡ self.old ++ decimal number }
+        ensures len { length self.new ≤ length self.old + 10 }
+    {
+        let mut buffer = Buffer::new();
+        self.push_all(buffer.format(number).as_bytes());
+    }
+
+    /// Appends a number in decimal digits, with a sign where it is negative.
+    pub fn push_signed(&mut self, number: i32)
+        requires { length self.old + 11 ≤ 64 }
+        ensures items { self.new ≡ self.old ++ signed_decimal number }
+        ensures len { length self.new ≤ length self.old + 11 }
+    {
+        let mut buffer = Buffer::new();
+        self.push_all(buffer.format(number).as_bytes());
+    }
+
+    /// Appends a number in decimal digits, always with its sign.
+    pub fn push_with_sign(&mut self, number: i32)
+        requires { length self.old + 11 ≤ 64 }
+        ensures items { self.new ≡ self.old ++ with_sign number }
+        ensures len { length self.new ≤ length self.old + 11 }
+    {
+        self.push_all(if number < 0 { b"-" } else { b"+" });
+        self.push_number(number.unsigned_abs());
+    }
+
+    /// Appends a register.
+    pub fn push_register(&mut self, reg: Reg)
+        requires { length self.old + 11 ≤ 64 }
+        ensures items { self.new ≡ self.old ++ register reg }
+        ensures len { length self.new ≤ length self.old + 11 }
+    {
+        self.push_all(b"r");
+        self.push_number(u32::from(reg.number()));
+    }
+
+    /// Appends the last `count` hexadecimal digits of a number, in lower case.
+    pub fn push_hex(&mut self, count: u8, number: u64)
+        requires { length self.old + count ≤ 64 }
+        ensures items { self.new ≡ self.old ++ hex_digits count number }
+        ensures len { length self.new ≡ length self.old + count }
+    {
+        if count == 0 {
+            return;
+        }
+        self.push_hex(count - 1, number / 16);
+        let digit = (number % 16) as u8;
+        self.push_all(&[if digit < 10 {
+            b'0' + digit
+        } else {
+            b'a' - 10 + digit
+        }]);
+    }
+}
