@@ -1,0 +1,10 @@
+pub mod Stays
+pub mod Laid
+pub mod Stay
+pub mod Octets
+pub mod Sound
+pub mod Admit
+pub mod Complete
+pub mod First
+pub mod Line
+pub mod Listed

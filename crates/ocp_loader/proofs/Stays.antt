@@ -1,0 +1,33 @@
+-- A fault that was found stays the first one.
+use Rattle.std.proofs.Common.{◌≡◌, ℕ, zero, suc, ◌+◌, ◌-◌, ◌≤◌, ◌<◌, List, Option, Some, None, Ok, Err, refl, ap, ◌∙◌, arith, false, Bool}
+use Rattle.bpf_types.specs.declared.line.Line.{Line}
+use Rattle.ocp_loader.specs.declared.fault.LoadFault.{LoadFault}
+use Rattle.ocp_loader.specs.Image.{line_in}
+use Rattle.ocp_loader.specs.Reading.{slot_read, slots_read}
+use Rattle.ocp_loader.specs.Judging.{first_astray, or_at, is_aimed, lines_judged}
+
+more : (image : List ℕ) (k d : ℕ) (fault : LoadFault) → slots_read image k ≡ Err fault → slots_read image (k + d) ≡ Err fault
+more image k zero fault h = let e : k + zero ≡ k = omega arith in rw e h
+more image k (suc d) fault h = let e : k + suc d ≡ suc (k + d) = omega arith in rw e (ap (slot_read image (k + d)) (more image k d fault h))
+
+pub stays : (image : List ℕ) (k n : ℕ) (fault : LoadFault) → slots_read image k ≡ Err fault → k ≤ n → slots_read image n ≡ Err fault
+stays image k n fault h l = let e : n ≡ k + (n - k) = omega arith in rw e (more image k (n - k) fault h)
+
+-- the loop's return with a fault of the slot k
+pub judged_err : (image : List ℕ) (k n : ℕ) (lines : List (Option Line)) (second : Bool) (fault : LoadFault) →
+    slots_read image k ≡ Ok (record { lines = lines; second = second }) → slot_read image k (Ok (record { lines = lines; second = second })) ≡ Err fault → k < n → lines_judged (slots_read image n) ≡ Err fault
+judged_err image k n lines second fault so_far h l =
+    let now : slots_read image (suc k) ≡ Err fault = ap (slot_read image k) so_far ∙ h in
+    let later : slots_read image n ≡ Err fault = stays image (suc k) n fault now (omega arith) in
+    ap lines_judged later
+
+astray_more : (lines : List (Option Line)) (k d s : ℕ) → first_astray lines k ≡ Some s → first_astray lines (k + d) ≡ Some s
+astray_more lines k zero s h = let e : k + zero ≡ k = omega arith in rw e h
+astray_more lines k (suc d) s h = let e : k + suc d ≡ suc (k + d) = omega arith in rw e (ap (λ o. or_at o (is_aimed lines (k + d) (line_in lines (k + d))) (k + d)) (astray_more lines k d s h))
+
+-- the first slot that leads astray
+pub astray_first : (lines : List (Option Line)) (k n : ℕ) → first_astray lines k ≡ None → is_aimed lines k (line_in lines k) ≡ false → k < n → first_astray lines n ≡ Some k
+astray_first lines k n h astray l =
+    let e : n ≡ suc k + (n - suc k) = omega arith in
+    let now : first_astray lines (suc k) ≡ Some k = rw (h, astray) refl in
+    rw e (astray_more lines (suc k) (n - suc k) k now)

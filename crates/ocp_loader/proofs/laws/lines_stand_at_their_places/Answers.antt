@@ -1,0 +1,5 @@
+use Rattle.ocp_loader.proofs.Line.{line_is_at}
+use Rattle.ocp_loader.proofs.laws.lines_stand_at_their_places.Goals as goal
+
+pub returns : goal.returns
+returns c = line_is_at

@@ -1,0 +1,5 @@
+use Rattle.ocp_loader.proofs.Line.{continues}
+use Rattle.ocp_loader.proofs.laws.places_lead_to_places.Goals as goal
+
+pub returns-clause-lines : goal.returns-clause-lines
+returns-clause-lines c = continues

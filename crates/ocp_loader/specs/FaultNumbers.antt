@@ -1,0 +1,28 @@
+-- The number and the slot that a load fault is reported with.
+use Rattle.std.specs.Prelude.{ℕ}
+use Rattle.bpf_decode.specs.declared.fault.DecodeFault.TheVariants.{CutWide, UnknownOpcode, BadRegister, ReservedField, WritesFramePointer}
+use Rattle.ocp_loader.specs.declared.fault.LoadFault.{LoadFault}
+use Rattle.ocp_loader.specs.declared.fault.LoadFault.TheVariants.{EmptyCode, RaggedCode, TooLong, Decode, BadCall, BadTarget, FallsOffEnd, Memory}
+
+-- 1 to 11 in the order in which faults are looked for; want of memory has none
+abbrev pub number_of : LoadFault → ℕ
+number_of EmptyCode = 1
+number_of RaggedCode = 2
+number_of TooLong = 3
+number_of (Decode CutWide slot) = 4
+number_of (Decode UnknownOpcode slot) = 5
+number_of (Decode BadRegister slot) = 6
+number_of (Decode ReservedField slot) = 7
+number_of (Decode WritesFramePointer slot) = 8
+number_of (BadCall slot) = 9
+number_of (BadTarget slot) = 10
+number_of (FallsOffEnd slot) = 11
+number_of Memory = 0
+
+-- the first slot of the instruction at fault, 0 where there is none
+abbrev pub slot_of : LoadFault → ℕ
+slot_of (Decode fault slot) = slot
+slot_of (BadCall slot) = slot
+slot_of (BadTarget slot) = slot
+slot_of (FallsOffEnd slot) = slot
+slot_of _ = 0

@@ -1,0 +1,73 @@
+-- The first fault of an image that may not be run, in words of its lines.
+use Rattle.std.specs.Prelude.{◌≡◌, ◌≢◌, ℕ, ◌*◌, ◌/◌, ◌%◌, ◌<◌, ℤ, false, List, length, take, drop}
+use Rattle.std.specs.List.{All}
+use Rattle.bpf_types.specs.declared.line.Line.{Line}
+use Rattle.bpf_types.specs.declared.line.Line.TheVariants as line
+use Rattle.bpf_decode.specs.Decoding.{BeginsWith}
+use Rattle.bpf_decode.specs.Faults.{IsFirst}
+use Rattle.ocp_loader.specs.declared.fault.LoadFault.{LoadFault}
+use Rattle.ocp_loader.specs.declared.fault.LoadFault.TheVariants.{EmptyCode, RaggedCode, TooLong, Decode, BadCall, BadTarget, FallsOffEnd, Memory}
+use Rattle.bpf_listing.specs.Listing.{IsImageOf}
+use Rattle.ocp_loader.specs.Image.{is_engine_call, is_last}
+use Rattle.ocp_loader.specs.Places.{IsAt, IsLast, IsAimed, AllAimed}
+use Rattle.ocp_loader.specs.Admitted.{IsLawful, HasSlots}
+
+-- lines that may stand in an image fill the slots in front of this one
+pub record IsFront (image : List ℕ) (slot : ℕ) : Type 0 where
+  pub lines : List Line
+  pub whole : IsImageOf (take (8 * slot) image) lines
+  pub lawful : All IsLawful lines
+  pub within : 8 * slot < length image
+
+-- the octets begin with a call of a number that no engine call has
+pub record CallsBadly (octets : List ℕ) : Type 0 where
+  pub number : ℤ
+  pub call : BeginsWith octets (line.Call number)
+  pub unknown : is_engine_call number ≡ false
+
+-- the lines of the image, each of which may stand in one
+pub record IsLawfulImage (image : List ℕ) (lines : List Line) : Type 0 where
+  pub whole : IsImageOf image lines
+  pub lawful : All IsLawful lines
+
+-- the first line that jumps or calls to no line stands at the slot
+pub record HasFirstAstray (image : List ℕ) (slot : ℕ) : Type 0 where
+  pub lines : List Line
+  pub lawful : IsLawfulImage image lines
+  pub line : Line
+  pub stands : IsAt lines slot line
+  pub astray : ¬ IsAimed lines slot line
+  pub earlier : (place : ℕ) (l : Line) → place < slot → IsAt lines place l → IsAimed lines place l
+
+-- the last line stands at the slot, and is neither EXIT nor JA
+pub record FallsOff (image : List ℕ) (slot : ℕ) : Type 0 where
+  pub lines : List Line
+  pub lawful : IsLawfulImage image lines
+  pub aimed : AllAimed lines
+  pub line : Line
+  pub last : IsLast lines slot line
+  pub falls : is_last line ≡ false
+
+-- the first fault that the image has
+abbrev pub IsFirstFault : List ℕ → LoadFault → Type 0
+IsFirstFault image EmptyCode = length image ≡ 0
+IsFirstFault image RaggedCode = length image % 8 ≢ 0
+IsFirstFault image TooLong = (length image % 8 ≡ 0) × (2048 < length image / 8)
+IsFirstFault image (Decode fault slot) = HasSlots image × IsFront image slot × IsFirst fault (drop (8 * slot) image)
+IsFirstFault image (BadCall slot) = HasSlots image × IsFront image slot × CallsBadly (drop (8 * slot) image)
+IsFirstFault image (BadTarget slot) = HasSlots image × HasFirstAstray image slot
+IsFirstFault image (FallsOffEnd slot) = HasSlots image × FallsOff image slot
+IsFirstFault image Memory = Unit {0}
+
+-- the fault that the octets of one slot have
+abbrev pub HasFaultThere : List ℕ → ℕ → LoadFault → Type 0
+HasFaultThere octets here (Decode fault slot) = (slot ≡ here) × IsFirst fault octets
+HasFaultThere octets here (BadCall slot) = (slot ≡ here) × CallsBadly octets
+HasFaultThere octets here fault = ⊥
+
+-- the lines were read up to a slot, and there is the fault
+pub record StopsAt (image : List ℕ) (slots : ℕ) (fault : LoadFault) : Type 0 where
+  pub slot : ℕ
+  pub below : slot < slots
+  pub front : IsFront image slot
+  pub there : HasFaultThere (drop (8 * slot) image) slot fault

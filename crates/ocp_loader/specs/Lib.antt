@@ -1,0 +1,8 @@
+pub mod Image
+pub mod Places
+pub mod Admitted
+pub mod Faults
+pub mod FaultNumbers
+pub mod Reading
+pub mod Judging
+pub mod Listing

@@ -1,0 +1,120 @@
+//! Where the lines of an image lead to.
+ghost use Rattle.std.specs.Prelude.{◌≡◌, ◌≤◌, ◌<◌, ◌-◌, length, pos, ◌+ℤ◌, Some, None, option_copied};
+ghost use Rattle.ocp_loader.specs.Image.{line_in, target_of, is_last};
+ghost use Rattle.ocp_loader.specs.Judging.{is_place, is_aimed, first_astray, end_fault, lines_fault};
+
+use crate::fault::LoadFault;
+use bpf_types::Line;
+
+/// The line whose first slot this is.
+pub fn line_in(lines: &[Option<Line>], slot: usize) -> Option<Line>
+    ensures { result ≡ line_in lines.now slot }
+{
+    if slot < lines.len() {
+        lines[slot]
+    } else {
+        None
+    }
+}
+
+/// Lends the line whose first slot this is.
+#[inline(always)]
+pub fn line_ref_in(lines: &[Option<Line>], slot: usize) -> Option<&Line>
+    ensures { option_copied result ≡ line_in lines.now slot }
+{
+    if slot < lines.len() {
+        lines[slot].as_ref()
+    } else {
+        None
+    }
+}
+
+/// Whether a line has its first slot there.
+fn is_place(lines: &[Option<Line>], place: i64) -> bool
+    ensures { result ≡ is_place lines.now place }
+{
+    if place < 0 {
+        false
+    } else {
+        line_in(lines, place as usize).is_some()
+    }
+}
+
+/// Where a jump or a local call at the slot leads to, counted in slots.
+fn target_of(slot: u16, line: Line) -> Option<i64>
+    ensures { result ≡ target_of slot line }
+{
+    let next = i64::from(slot) + 1;
+    match line {
+        Line::Jump { distance } => Some(next + i64::from(distance)),
+        Line::LongJump { distance } => Some(next + i64::from(distance)),
+        Line::JumpIf { distance, .. } => Some(next + i64::from(distance)),
+        Line::CallLocal { distance } => Some(next + i64::from(distance)),
+        _ => None,
+    }
+}
+
+/// Whether the line at the slot leads to a line, if it leads anywhere.
+fn is_aimed(lines: &[Option<Line>], slot: u16, line: Option<Line>) -> bool
+    ensures { result ≡ is_aimed lines.now slot line }
+{
+    match line {
+        Some(line) => match target_of(slot, line) {
+            Some(place) => is_place(lines, place),
+            None => true,
+        },
+        None => true,
+    }
+}
+
+/// The first slot whose line leads to no line.
+#[tactic(auto, using(crate::proofs::Stays::astray_first))]
+fn first_astray(lines: &[Option<Line>]) -> Option<u16>
+    requires { length lines.now ≤ 2048 }
+    ensures { result ≡ first_astray lines.now (length lines.now) }
+{
+    let slots = lines.len() as u16;
+    for slot in 0..slots {
+        if !is_aimed(lines, slot, line_in(lines, usize::from(slot))) {
+            return Some(slot);
+        }
+    }
+    None
+}
+
+/// Whether nothing falls through the line.
+fn is_last(line: Line) -> bool
+    ensures { result ≡ is_last line }
+{
+    matches!(line, Line::Jump { .. } | Line::LongJump { .. } | Line::Exit)
+}
+
+/// The fault of the last line, which is in the last slot or, where none is there, in the two last ones.
+fn end_fault(slots: u16, line: Option<Line>) -> Option<LoadFault>
+    ensures { result ≡ end_fault slots line }
+{
+    match line {
+        Some(line) => {
+            if is_last(line) {
+                None
+            } else {
+                Some(LoadFault::FallsOffEnd(slots.saturating_sub(1)))
+            }
+        }
+        None => Some(LoadFault::FallsOffEnd(slots.saturating_sub(2))),
+    }
+}
+
+/// The first fault of lines that were read.
+pub fn lines_fault(lines: &[Option<Line>]) -> Option<LoadFault>
+    requires { length lines.now ≤ 2048 }
+    ensures { result ≡ lines_fault lines.now (first_astray lines.now (length lines.now)) }
+{
+    match first_astray(lines) {
+        Some(slot) => Some(LoadFault::BadTarget(slot)),
+        None => end_fault(
+            lines.len() as u16,
+            line_in(lines, lines.len().saturating_sub(1)),
+        ),
+    }
+}

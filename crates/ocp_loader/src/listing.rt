@@ -1,0 +1,35 @@
+//! The listing of a program.
+ghost use Rattle.std.specs.Prelude.{◌≡◌, ◌++◌, length, take, OnOk};
+ghost use Rattle.std.specs.List.{flat_map};
+ghost use Rattle.ocp_loader.specs.Listing.{slot_text};
+
+use bpf_listing::line_text;
+use bpf_types::Line;
+use std::alloc::{AllocError, Allocator};
+
+/// Appends the text of a line with its newline, if the slot has a line. A refusal may leave the text without the newline.
+fn write_slot<A: Allocator>(slot: Option<Line>, out: &mut Vec<u8, A>) -> Result<(), AllocError>
+    ensures ok { OnOk result (out.new.items ≡ out.old.items ++ slot_text slot) }
+    ensures front { take (length out.old.items) out.new.items ≡ out.old.items }
+{
+    if let Some(line) = slot {
+        line_text(line, out)?;
+        out.extend_from_slice(b"\n")?;
+    }
+    Ok(())
+}
+
+/// Appends the texts of the lines at these slots. A refusal may leave some of them.
+#[tactic(auto, using(crate::proofs::Listed::slot_written, crate::proofs::Listed::front_kept))]
+pub fn write_slots<A: Allocator>(
+    slots: &[Option<Line>],
+    out: &mut Vec<u8, A>,
+) -> Result<(), AllocError>
+    ensures ok { OnOk result (out.new.items ≡ out.old.items ++ flat_map slot_text slots.now) }
+    ensures front { take (length out.old.items) out.new.items ≡ out.old.items }
+{
+    for slot in slots {
+        write_slot(*slot, out)?;
+    }
+    Ok(())
+}
