@@ -1,8 +1,8 @@
 -- The division, from the highest coefficient down.
-use Rattle.std.proofs.Common.{◌≡◌, ℕ, zero, suc, ◌+◌, Bool, true, false, List, [], ◌∷◌, ◌++◌, length, take, drop, map, refl, sym, ap, ◌∙◌, arith, append_assoc, length-append}
-use Rattle.pus_fields.specs.ErrorControl.{plus, sum_of, zeros, scaled, low, generator, product, inverted, IsRemainder, octet_bits, message, bits}
+use Rattle.std.proofs.Common.{◌≡◌, ℕ, zero, suc, ◌+◌, Bool, true, false, List, [], ◌∷◌, ◌++◌, length, take, drop, refl, sym, ap, ◌∙◌, arith, append_assoc, length-append}
+use Rattle.pus_fields.specs.ErrorControl.{sum_of, zeros, scaled, low, generator, product, inverted, IsRemainder, octet_bits, message, bits}
 use Rattle.pus_fields.specs.Register.{dividend, shifted_bits}
-use Rattle.pus_fields.proofs.Polynomials.{plus-assoc, plus-comm, plus-false, plus-self, sum-assoc, sum-comm, length-zeros, zeros-sum, sum-self, sum-zeros_zeros, length-sum, sum-append, length-scaled, sum-cancel}
+use Rattle.pus_fields.proofs.Polynomials.{plus-comm, plus-false, sum-assoc, sum-comm, length-zeros, zeros-sum, sum-self, sum-zeros_zeros, length-sum, sum-append, length-scaled, sum-cancel}
 
 scaled_generator : (b : Bool) → scaled b generator ≡ b ∷ scaled b low
 scaled_generator false = refl

@@ -2,7 +2,6 @@
 use Rattle.std.proofs.Common.{◌≡◌, ℕ, zero, suc, ◌+◌, ◌*◌, ◌/◌, ◌%◌, ◌^◌, ◌<◌, Bool, true, false, eqb, if◌then◌else◌, List, [], ◌∷◌, ◌++◌, length, refl, sym, ap, subst, ◌∙◌, arith, length-append}
 use Rattle.std.proofs.Math.Nat.{add-mod_left, div-eq_of_lt, div-eq_of_lt-le, mod-eq_of_lt}
 use Rattle.pus_fields.specs.ErrorControl.{IsErrorControl, IsRemainder, bits, divided, error_control, message, number_of_bits, octet_bits, scaled, low, sum_of, zeros}
-use Rattle.pus_fields.specs.Register.{dividend}
 use Rattle.pus_fields.proofs.Bits.{bits-cut, length-bits, one_number}
 use Rattle.pus_fields.proofs.Division.{one_remainder, short, start, step}
 use Rattle.pus_fields.proofs.Polynomials.{length-scaled, length-sum, length-zeros}

@@ -1,5 +1,5 @@
 -- What is read as a telecommand.
-use Rattle.std.proofs.Common.{◌≡◌, ◌<◌, ◌≤◌, ℕ, ◌+◌, ◌-◌, ◌*◌, ◌/◌, ◌%◌, ◌^◌, Bool, true, false, eqb, List, [], ◌∷◌, ◌++◌, length, take, drop, get_or, slice_index, refl, sym, ap, subst, ◌∙◌, arith, length-append, length-drop, Option, Some, None, Result, Ok, Err, eq-eqb}
+use Rattle.std.proofs.Common.{◌≡◌, ◌<◌, ◌≤◌, ℕ, ◌+◌, ◌-◌, ◌*◌, ◌/◌, ◌%◌, ◌^◌, true, false, eqb, List, [], ◌∷◌, ◌++◌, length, take, drop, slice_index, refl, sym, ap, subst, ◌∙◌, arith, length-append, length-drop, Option, Some, None, Ok, Err, eq-eqb}
 use Rattle.std.proofs.lemmas.Bool.{le-ltb}
 use Rattle.std.proofs.lemmas.List.{drop-drop}
 use Rattle.byteorder.specs.Endian.{big_bytes, big_number}
@@ -8,12 +8,11 @@ use Rattle.space_packet.specs.declared.fault.PacketFault.{PacketFault}
 use Rattle.space_packet.specs.Packet.{IsPacket, packet_in}
 use Rattle.pus_fields.specs.declared.fault.Discard.TheVariants.{NotTelecommand, OtherApid}
 use Rattle.pus_fields.specs.declared.fault.Rejection.{Rejection}
-use Rattle.pus_fields.specs.declared.fault.TcFault.{TcFault}
 use Rattle.pus_fields.specs.declared.fault.TcFault.TheVariants.{Discarded, Rejected}
 use Rattle.pus_fields.specs.Acknowledgement.{flags, flags_of}
 use Rattle.pus_fields.specs.ErrorControl.{IsErrorControl, error_control}
 use Rattle.pus_fields.specs.Rejections.{IsSound, covered, last_two, rejection_of}
-use Rattle.pus_fields.specs.Telecommand.{IsTelecommand, IsTelecommandInRange, Telecommand, telecommand_header, telecommand_secondary}
+use Rattle.pus_fields.specs.Telecommand.{IsTelecommand, Telecommand, telecommand_header, telecommand_secondary}
 use Rattle.pus_fields.specs.TelecommandFaults.{discard_of, telecommand_answer, telecommand_in, telecommand_of, unless_rejected}
 use Rattle.pus_fields.proofs.Function.{same_control}
 use Rattle.pus_fields.proofs.Fields.{AreOctets, between-is, last_two-is, last_two-lt, octets-drop, tail_split}

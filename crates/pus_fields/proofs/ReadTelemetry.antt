@@ -1,5 +1,5 @@
 -- What is read as telemetry.
-use Rattle.std.proofs.Common.{◌≡◌, ◌≢◌, ◌<◌, ◌≤◌, ◌⊎◌, ◌&&◌, inl, inr, ℕ, ◌+◌, ◌-◌, ◌*◌, ◌/◌, ◌%◌, ◌^◌, Bool, true, false, eqb, List, [], ◌∷◌, ◌++◌, length, take, drop, get_or, slice_index, refl, sym, ap, subst, ◌∙◌, arith, length-append, length-drop, Option, Some, None, Result, Ok, Err, eq-eqb, eqb-true}
+use Rattle.std.proofs.Common.{◌≡◌, ◌≢◌, ◌<◌, ◌≤◌, ◌⊎◌, ◌&&◌, inl, inr, ℕ, ◌+◌, ◌-◌, ◌*◌, ◌/◌, ◌%◌, ◌^◌, Bool, true, false, eqb, List, [], ◌∷◌, ◌++◌, length, take, drop, slice_index, refl, sym, ap, subst, ◌∙◌, arith, length-append, length-drop, Option, Some, None, Ok, Err, eq-eqb, eqb-true}
 use Rattle.std.proofs.lemmas.Bool.{le-ltb}
 use Rattle.std.proofs.lemmas.List.{drop-drop}
 use Rattle.byteorder.specs.Endian.{big_bytes, big_number}
@@ -7,11 +7,10 @@ use Rattle.space_packet.specs.declared.primary.Primary.{Primary}
 use Rattle.space_packet.specs.declared.fault.PacketFault.{PacketFault}
 use Rattle.space_packet.specs.Packet.{IsPacket, packet_in}
 use Rattle.pus_fields.specs.declared.fault.Rejection.{Rejection}
-use Rattle.pus_fields.specs.declared.fault.TmFault.{TmFault}
 use Rattle.pus_fields.specs.declared.fault.TmFault.TheVariants.{NotProfile, NotTelemetry}
 use Rattle.pus_fields.specs.ErrorControl.{IsErrorControl, error_control}
 use Rattle.pus_fields.specs.Rejections.{IsSound, covered, last_two, rejection_of}
-use Rattle.pus_fields.specs.Telemetry.{IsTelemetry, IsTelemetryInRange, Telemetry, telemetry_header, telemetry_secondary}
+use Rattle.pus_fields.specs.Telemetry.{IsTelemetry, Telemetry, telemetry_header, telemetry_secondary}
 use Rattle.pus_fields.specs.TelemetryFaults.{IsOtherProfile, fault_of, fault_of_packet, in_profile, telemetry_answer, telemetry_in, telemetry_of, unless_rejected}
 use Rattle.pus_fields.proofs.Function.{same_control}
 use Rattle.pus_fields.proofs.Fields.{AreOctets, between-is, last_two-is, last_two-lt, octets-drop, tail_split}

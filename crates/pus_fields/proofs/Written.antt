@@ -1,9 +1,8 @@
 -- What is written is a telecommand, or telemetry.
-use Rattle.std.proofs.Common.{◌≡◌, ◌<◌, ◌≤◌, ℕ, ◌+◌, ◌-◌, ◌*◌, ◌/◌, ◌%◌, ◌^◌, true, false, List, [], ◌∷◌, ◌++◌, length, take, drop, refl, sym, ap, subst, ◌∙◌, arith, length-append, append_assoc}
+use Rattle.std.proofs.Common.{◌≡◌, ◌<◌, ◌≤◌, ℕ, ◌+◌, ◌-◌, ◌*◌, ◌/◌, ◌%◌, ◌^◌, List, [], ◌∷◌, ◌++◌, length, take, drop, refl, sym, ap, subst, ◌∙◌, arith, length-append, append_assoc}
 use Rattle.std.proofs.Math.Seq.{drop-append_seam, take-append_seam}
 use Rattle.byteorder.specs.Endian.{big_bytes}
 use Rattle.space_packet.specs.declared.primary.Primary.{Primary}
-use Rattle.space_packet.specs.declared.primary.SequenceFlags.TheVariants.{Unsegmented}
 use Rattle.space_packet.specs.Packet.{IsHeader, IsPacket, packet_octets}
 use Rattle.pus_fields.specs.ErrorControl.{IsErrorControl, error_control}
 use Rattle.pus_fields.specs.Telecommand.{request_id, IsTelecommand, IsTelecommandInRange, Telecommand, telecommand_covered, telecommand_header, telecommand_octets, telecommand_secondary}

@@ -1,5 +1,5 @@
 -- Telecommand packets (CCSDS 133.0-B, 4.1; ECSS-E-ST-70-41C, 7.4.4).
-use Rattle.std.specs.Prelude.{◌≡◌, ◌<◌, ℕ, ◌+◌, ◌-◌, ◌*◌, ◌^◌, true, List, ◌++◌, length, take}
+use Rattle.std.specs.Prelude.{◌<◌, ℕ, ◌+◌, ◌-◌, ◌*◌, ◌^◌, true, List, ◌++◌, length, take}
 use Rattle.byteorder.specs.Endian.{big_bytes}
 use Rattle.space_packet.specs.declared.primary.Primary.{Primary}
 use Rattle.space_packet.specs.declared.primary.SequenceFlags.TheVariants.{Unsegmented}

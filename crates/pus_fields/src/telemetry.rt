@@ -106,11 +106,7 @@ impl<'a> Tm<'a> {
         ensures { IsTelemetryInRange self.now }
     {
         let _header = (self.apid().number(), self.count().number());
-        let _secondary = (
-            self.service(),
-            self.subtype(),
-            self.destination(),
-            self.time(),
-        );
+        let _message = (self.service(), self.subtype());
+        let _secondary = (self.destination(), self.time());
     }
 }

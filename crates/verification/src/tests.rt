@@ -33,9 +33,17 @@ fn notices_of_each_acknowledgement(rt: HostRuntime) {
         assert_eq!(rt; list.as_slice(), done, "done, at {number}");
         let list = notices(ack, &Outcome::NotStarted(failure));
         if accepted {
-            assert_eq!(rt; list.as_slice(), [Accepted, failed].as_slice(), "not started, at {number}");
+            assert_eq!(rt;
+                list.as_slice(),
+                [Accepted, failed].as_slice(),
+                "not started, at {number}"
+            );
         } else {
-            assert_eq!(rt; list.as_slice(), [failed].as_slice(), "not started, at {number}");
+            assert_eq!(rt;
+                list.as_slice(),
+                [failed].as_slice(),
+                "not started, at {number}"
+            );
         }
         let list = notices(ack, &Outcome::Refused(AcceptanceFailure::Pec));
         let refused = [Notice::NotAccepted(AcceptanceFailure::Pec)];
@@ -45,10 +53,12 @@ fn notices_of_each_acknowledgement(rt: HostRuntime) {
 
 #[test]
 fn failure_codes(rt: HostRuntime) {
-    use AcceptanceFailure::{Layout, NoRoom, NoSecondary, Pec, PusVersion, Segmented, Service, Subtype};
+    use AcceptanceFailure::{
+        Layout, NoRoom, NoSecondary, Pec, PusVersion, Segmented, Service, Subtype,
+    };
     use StartFailure::{
-        AlreadyLoaded, BadCode, MailboxFull, NotActive, NotHeld, NotInactive, NotLoaded, NotRunning, StopPending,
-        TableFull,
+        AlreadyLoaded, BadCode, MailboxFull, NotActive, NotHeld, NotInactive, NotLoaded,
+        NotRunning, StopPending, TableFull,
     };
     let acceptance = [
         (Segmented, 1),

@@ -1,7 +1,6 @@
-use Rattle.std.proofs.Common.{◌≡◌, ℕ, suc, ◌+◌, List, Bool, drop, arith, sym, subst, add-one, get_or}
+use Rattle.std.proofs.Common.{List, Bool, arith, sym, subst, add-one}
 use Rattle.std.proofs.Math.ListN.{drop_of_length-le}
-use Rattle.pus_fields.specs.ErrorControl.{IsErrorControl, IsRemainder, bits, octet_bits}
-use Rattle.pus_fields.specs.Register.{dividend}
+use Rattle.pus_fields.specs.ErrorControl.{IsErrorControl, IsRemainder}
 use Rattle.pus_fields.proofs.Division.{start, one_remainder}
 use Rattle.pus_fields.proofs.Bits.{one_number}
 use Rattle.pus_fields.proofs.Function.{same_control}

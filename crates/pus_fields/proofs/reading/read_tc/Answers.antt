@@ -1,4 +1,4 @@
-use Rattle.std.proofs.Common.{◌≡◌, ◌≤◌, ◌∙◌, ap, sym, length, take, get_or, eqb, [], ◌∷◌, true, arith, Err, Ok, eqb-true}
+use Rattle.std.proofs.Common.{◌≡◌, ◌≤◌, ◌∙◌, ap, sym, length, arith, Err, Ok, eqb-true}
 use Rattle.pus_fields.specs.Telecommand.{telecommand_header}
 use Rattle.pus_fields.proofs.Fields.{four, not-false, not-true, packet-length}
 use Rattle.pus_fields.proofs.ReadTelecommand.{sound_is, tc_accepted, tc_is_read, tc_no_packet, tc_not_telecommand, tc_other, tc_rejected}

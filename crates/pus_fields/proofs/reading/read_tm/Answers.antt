@@ -1,4 +1,4 @@
-use Rattle.std.proofs.Common.{◌≡◌, ◌∙◌, ap, sym, arith, Err, Ok}
+use Rattle.std.proofs.Common.{◌∙◌, ap, sym, arith, Err, Ok}
 use Rattle.pus_fields.specs.Telemetry.{telemetry_header}
 use Rattle.pus_fields.proofs.ReadTelemetry.{profile_fields, sound_tm_is, tm_accepted, tm_is_read, tm_no_packet, tm_not_profile, tm_not_telemetry, tm_rejected}
 use Rattle.pus_fields.proofs.reading.read_tm.Goals as goal
