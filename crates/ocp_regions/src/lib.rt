@@ -1,0 +1,17 @@
+//! The memory of a machine: 5,376 octets in three regions.
+//!
+//! | Region | First address | Octets | Use |
+//! |---|---|---|---|
+//! | stack | 0x10000000 | 4,096 | 8 frames of 512, open to each frame |
+//! | arguments | 0x20000000 | 256 | read only |
+//! | work | 0x30000000 | 1,024 | read and write |
+#![tactic(auto)]
+
+mod access;
+pub mod fault;
+pub mod regions;
+#[cfg(test)]
+mod tests;
+
+pub use fault::AccessFault;
+pub use regions::Regions;
