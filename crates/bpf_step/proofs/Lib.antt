@@ -1,0 +1,5 @@
+pub mod Exchanged
+pub mod Found
+pub mod Framed
+pub mod Keeps
+pub mod Same
