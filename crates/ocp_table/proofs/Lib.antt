@@ -1,0 +1,3 @@
+pub mod ContentsLemmas
+pub mod Tables
+pub mod Rows

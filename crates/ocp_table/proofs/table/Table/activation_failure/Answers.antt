@@ -1,0 +1,11 @@
+use Rattle.std.proofs.Common.{sym, ap, ◌∙◌}
+use Rattle.std.specs.FinMap as map
+use Rattle.ocp_table.specs.Shown.{id_of, shown, activation_failure}
+use Rattle.ocp_table.proofs.ContentsLemmas.{get-absent, get-held}
+use Rattle.ocp_table.proofs.table.Table.activation_failure.Goals as goal
+
+pub returns-in_default : goal.returns-in_default
+returns-in_default g c = ap activation_failure (sym (ap (λ m. map.get m c.args.id) (sym c.self.view_is) ∙ get-absent id_of shown c.self.inside.records _ c.in_default.ensures.absent))
+
+pub returns : goal.returns
+returns g c = c.activation_failure.ensures ∙ ap activation_failure (sym (ap (λ m. map.get m c.args.id) (sym c.self.view_is) ∙ get-held id_of shown c.self.inside.records _ _ _ c.self.invariant.distinct c.in-Some.ensures.found c.index-record.ensures))

@@ -1,0 +1,92 @@
+use crate::Made;
+use bpf_step::{Local, Machine, Need};
+use ocp_loader::Program;
+use std::alloc::Allocator;
+use std::marker::Model;
+
+/// A program and the machine that runs it. The machine always stands at an instruction of the program.
+#[derive(Drop)]
+pub struct Execution<A: Allocator> {
+    program: Program<A>,
+    machine: Machine<A>,
+}
+
+impl<A: Allocator> Model for Execution<A> {
+    ghost use Rattle.ocp_table.specs.Rec.{Execution as Executed};
+
+    ghost Value = { Executed };
+
+    ghost use Rattle.ocp_table.specs.Codes.{execution_code};
+
+    ghost coded = { execution_code };
+
+    ghost use Rattle.ocp_loader.specs.Judging.{IsPlace};
+    ghost use Rattle.bpf_step.specs.Step.{StandsIn};
+
+    ghost view = { λ e. record { image = e.program; machine = e.machine } };
+
+    ghost invariant = { λ e. IsPlace e.program 0 × StandsIn e.program e.machine };
+}
+
+impl<A: Allocator> Execution<A> {
+    ghost use Rattle.std.specs.Prelude.{◌≡◌, ◌≤◌, [], length};
+    ghost use Rattle.ocp_loader.specs.Judging.{IsPlace};
+    ghost use Rattle.bpf_step.specs.Machine.{started};
+    ghost use Rattle.bpf_step.specs.Step.{one_step};
+    ghost use Rattle.ocp_table.specs.Did.{machine_after};
+    ghost use Rattle.ocp_table.specs.Deciding.{made_by};
+
+    /// A new machine at a program's first instruction.
+    pub(crate) fn new(program: Program<A>, machine: Machine<A>) -> Self
+        requires place { IsPlace program 0 }
+        requires machine { machine ≡ started [] }
+        ensures image { result.image ≡ program }
+        ensures machine { result.machine ≡ started [] }
+    {
+        Execution { program, machine }
+    }
+
+    /// Starts the machine anew with at most 256 octets of arguments.
+    pub(crate) fn start(&mut self, arguments: &[u8])
+        requires { length arguments.now ≤ 256 }
+        ensures image { self.new.image ≡ self.old.image }
+        ensures machine { self.new.machine ≡ started arguments.now }
+    {
+        self.machine.start(arguments);
+    }
+
+    /// Does one instruction.
+    pub(crate) fn step(&mut self) -> Made
+        ensures made { result ≡ made_by (one_step self.old.image self.old.machine) }
+        ensures image { self.new.image ≡ self.old.image }
+        ensures machine { self.new.machine ≡ machine_after (one_step self.old.image self.old.machine) self.old.machine }
+    {
+        match self.machine.local_step(&self.program) {
+            Local::Stepped => Made::Ran,
+            Local::NeedsEngine(Need::LastExit) => Made::Ended,
+            Local::NeedsEngine(Need::Fault(fault)) => Made::Faulted(fault.number()),
+            Local::NeedsEngine(Need::Call(_)) => unreachable!(),
+        }
+    }
+
+    /// The slot of the next instruction.
+    pub fn place(&self) -> u16
+        ensures { result ≡ self.now.machine.place }
+    {
+        self.machine.place()
+    }
+
+    /// How many local calls have not returned.
+    pub fn depth(&self) -> usize
+        ensures { result ≡ length self.now.machine.frames }
+    {
+        self.machine.depth()
+    }
+
+    /// R0 to R10.
+    pub fn registers(&self) -> [u64; 11]
+        ensures { result ≡ self.now.machine.registers }
+    {
+        self.machine.registers()
+    }
+}
