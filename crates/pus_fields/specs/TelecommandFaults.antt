@@ -38,11 +38,13 @@ telecommand_in apid count field = record {
   payload = slice_range field 5 (length field - 2);
 }
 
+-- octets that are no packet are discarded for the same reason
 abbrev pub discard_of : PacketFault → Discard
 discard_of packet.Short = Short
 discard_of packet.Version = Version
 discard_of packet.Length = Length
 
+-- a rejection carries the request identifier, the first four octets
 abbrev pub unless_rejected : List ℕ → Option Rejection → Telecommand → Result Telecommand TcFault
 unless_rejected octets (Some why) tc = Err (Rejected why (take 4 octets))
 unless_rejected octets None tc = Ok tc

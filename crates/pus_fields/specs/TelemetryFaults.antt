@@ -47,11 +47,13 @@ telemetry_in apid count field = record {
   payload = slice_range field 11 (length field - 2);
 }
 
+-- octets that are no packet are no telemetry for the same reason
 abbrev pub fault_of_packet : PacketFault → TmFault
 fault_of_packet packet.Short = Short
 fault_of_packet packet.Version = Version
 fault_of_packet packet.Length = Length
 
+-- a rejection as a fault of telemetry
 abbrev pub fault_of : Rejection → TmFault
 fault_of reason.Segmented = Segmented
 fault_of reason.NoSecondary = NoSecondary
@@ -63,6 +65,7 @@ fault_of reason.PusVersion = PusVersion
 abbrev pub in_profile : List ℕ → Telemetry → Result Telemetry TmFault
 in_profile field tm = if (slice_index field 0 % 2 ^ 4 == 0) && (big_number 2 (drop 3 field) == 0) then Ok tm else Err NotProfile
 
+-- the answer to a packet by its first rejection, if any
 abbrev pub unless_rejected : List ℕ → Option Rejection → Telemetry → Result Telemetry TmFault
 unless_rejected field (Some why) tm = Err (fault_of why)
 unless_rejected field None tm = in_profile field tm
