@@ -1,0 +1,55 @@
+-- A slice of the state, against steps of the world.
+use Rattle.std.proofs.Common.{◌≡◌, ℕ, ◌+◌, ◌-◌, ◌<◌, Bool, true, false, replicate, cond, sym, ap, subst, ◌∙◌}
+use Rattle.std.specs.FinMap.{get}
+use Rattle.ocp_core.specs.World.{Stepped}
+use Rattle.ocp_core.specs.declared.answers.StepOutcome.{StepOutcome}
+use Rattle.ocp_core.specs.declared.answers.StepOutcome.TheVariants.{Ran}
+use Rattle.ocp_core.specs.World.{World, Step, after, replay_from}
+use Rattle.ocp_core.specs.Slice.{goes_on, is_on, is_running, outcome_in, slice_count, slice_last}
+use Rattle.ocp_core.proofs.Replays.{replay_from-steps}
+use Rattle.ocp_core.proofs.Slices.{count_more, count_end, last_more, last_end}
+use Rattle.ocp_core.specs.State.{IsWorld}
+use Rattle.ocp_core.specs.declared.state.State.{State}
+
+module _ {A : Type 0} where
+  -- n steps of a slice are made
+  pub record IsSliced (old now : State A) (id budget n : ℕ) (last : StepOutcome) : Type 0 where
+    pub world : (w : World) (by : ℕ) → IsWorld w old → IsWorld (replay_from w (replicate n (Step by id))) now
+    pub count : (w : World) (by : ℕ) → IsWorld w old → slice_count w by id budget ≡ n + slice_count (replay_from w (replicate n (Step by id))) by id (budget - n)
+    pub outcome : (w : World) (by : ℕ) → IsWorld w old → slice_last w by id Ran budget ≡ slice_last (replay_from w (replicate n (Step by id))) by id last (budget - n)
+
+  -- one more step, as the calls ensure it
+  pub record IsOneMore (now next : State A) (id : ℕ) (o : StepOutcome) (on : Bool) : Type 0 where
+    pub world : (w : World) (by : ℕ) → IsWorld w now → IsWorld (after w (Step by id)).world next
+    pub answer : (w : World) (by : ℕ) → IsWorld w now → Stepped o ≡ (after w (Step by id)).answer
+    pub goes : (w : World) → IsWorld w next → on ≡ cond (is_on o) (is_running (get w.records id)) false
+
+  module _ (old now next : State A) (id budget n : ℕ) (last o : StepOutcome) (on : Bool) (within : n < budget) (so_far : IsSliced old now id budget n last) (more : IsOneMore now next id o on) where
+    module _ (w : World) (by : ℕ) (stands : IsWorld w old) where
+      abbrev here : World
+      here = replay_from w (replicate n (Step by id))
+
+      outcome_here : o ≡ outcome_in (after here (Step by id)).answer
+      outcome_here = ap outcome_in (more.answer here by (so_far.world w by stands))
+
+      next_here : IsWorld (after here (Step by id)).world next
+      next_here = more.world here by (so_far.world w by stands)
+
+      tested : goes_on (after here (Step by id)) id ≡ on
+      tested = ap (λ x. cond (is_on x) (is_running (get (after here (Step by id)).world.records id)) false) (sym outcome_here) ∙ sym (more.goes (after here (Step by id)).world next_here)
+
+      pub sliced_world : IsWorld (replay_from w (replicate (n + 1) (Step by id))) next
+      sliced_world = subst (λ v. IsWorld v next) (sym (replay_from-steps w by id n)) next_here
+
+      pub sliced_count : on ≡ false → n + 1 ≡ slice_count w by id budget
+      sliced_count off = count_end w by id n budget within (tested ∙ off) (so_far.count w by stands)
+
+      pub sliced_last : on ≡ false → o ≡ slice_last w by id Ran budget
+      sliced_last off = last_end w by id n budget within Ran last (so_far.outcome w by stands) (tested ∙ off) o outcome_here
+
+    pub IsSliced-more : on ≡ true → IsSliced old next id budget (n + 1) o
+    IsSliced-more still = record {
+      world = λ w by stands. sliced_world w by stands;
+      count = λ w by stands. count_more w by id n budget within (tested w by stands ∙ still) (so_far.count w by stands);
+      outcome = λ w by stands. last_more w by id n budget within Ran last (so_far.outcome w by stands) (tested w by stands ∙ still) o (outcome_here w by stands);
+    }

@@ -1,0 +1,22 @@
+use Rattle.std.proofs.Common.{sym, ◌∙◌}
+use Rattle.ocp_core.proofs.Keeping.{IsWorld-noted}
+use Rattle.ocp_core.proofs.Journaling.{refused_slice, refused_slice_log, full_slice, done_slice, done_slice_log}
+use Rattle.ocp_core.proofs.engine.Engine.slice.Goals as goal
+
+pub invariant_of-self : goal.invariant_of-self
+invariant_of-self g c = IsWorld-noted _ _ _ _ c.push.ensures (c.slice-slice.ensures.world _ c.args.by c.self.invariant)
+
+pub returns-in-Some-clause-slice : goal.returns-in-Some-clause-slice
+returns-in-Some-clause-slice g c = let why = c.in-Some.ensures _ c.args.by c.self.invariant in refused_slice c.self.inside.journal c.args.self.now c.self.view_is c.args.by c.args.id c.args.budget _ why.0 why.1
+
+pub returns-in-Some-clause-journal : goal.returns-in-Some-clause-journal
+returns-in-Some-clause-journal g c = let why = c.in-Some.ensures _ c.args.by c.self.invariant in refused_slice_log c.self.inside.journal c.args.self.now c.self.view_is c.args.by c.args.id c.args.budget why.0
+
+pub returns-then-is_full-clause-slice : goal.returns-then-is_full-clause-slice
+returns-then-is_full-clause-slice g c = full_slice c.self.inside.journal c.args.self.now c.self.view_is c.args.by c.args.id c.args.budget (c.in_default.ensures _ c.args.by c.self.invariant) (sym c.is_full.ensures ∙ c.if-is_full.true)
+
+pub returns-clause-slice : goal.returns-clause-slice
+returns-clause-slice g c = done_slice c.self.inside.journal c.args.self.now c.self.view_is c.args.by c.args.id c.args.budget _ (c.in_default.ensures _ c.args.by c.self.invariant) (sym c.is_full.ensures ∙ c.if-is_full.false) (c.slice-slice.ensures.count _ c.args.by c.self.invariant) (c.slice-slice.ensures.last _ c.args.by c.self.invariant)
+
+pub returns-clause-journal : goal.returns-clause-journal
+returns-clause-journal g c = done_slice_log c.self.inside.journal c.args.self.now c.self.view_is c.args.by c.args.id c.args.budget _ _ (c.in_default.ensures _ c.args.by c.self.invariant) (sym c.is_full.ensures ∙ c.if-is_full.false) (c.slice-slice.ensures.count _ c.args.by c.self.invariant) c.push.ensures

@@ -1,0 +1,31 @@
+-- How a journal is stored, for the models whose value it is.
+use Rattle.std.specs.Prelude.{◌≡◌, ℕ, List, ◌⊎◌, refl}
+use Rattle.std.proofs.Common.{inl, inr}
+use Rattle.std.specs.Coded.{Coded, code_by, coded×, coded⊎, coded_ℕ, coded_list}
+use Rattle.ocp_core.specs.Log.{Entry, Asked, Steps, Log}
+
+abbrev pub stored : Entry → (ℕ × (ℕ × List ℕ)) ⊎ (ℕ × (ℕ × ℕ))
+stored (Asked by time octets) = inl (by, (time, octets))
+stored (Steps by id count) = inr (by, (id, count))
+
+abbrev pub read_back : (ℕ × (ℕ × List ℕ)) ⊎ (ℕ × (ℕ × ℕ)) → Entry
+read_back (inl e) = Asked e.0 e.1.0 e.1.1
+read_back (inr e) = Steps e.0 e.1.0 e.1.1
+
+abbrev pub stored_ok : (e : Entry) → read_back (stored e) ≡ e
+stored_ok (Asked by time octets) = refl
+stored_ok (Steps by id count) = refl
+
+abbrev pub entry_code : Coded Entry
+entry_code =
+    code_by ((ℕ × (ℕ × List ℕ)) ⊎ (ℕ × (ℕ × ℕ)))
+    (coded⊎ (coded× coded_ℕ (coded× coded_ℕ (coded_list coded_ℕ))) (coded× coded_ℕ (coded× coded_ℕ coded_ℕ)))
+    stored read_back stored_ok
+
+abbrev pub log_code : Coded Log
+log_code =
+    code_by (ℕ × (ℕ × (ℕ × List Entry)))
+    (coded× coded_ℕ (coded× coded_ℕ (coded× coded_ℕ (coded_list entry_code))))
+    (λ l. (l.apid, (l.words, (l.capacity, l.entries))))
+    (λ p. record { apid = p.0; words = p.1.0; capacity = p.1.1.0; entries = p.1.1.1 })
+    (λ _. refl)

@@ -1,0 +1,17 @@
+-- What a journal keeps of its entries.
+use Rattle.std.specs.Prelude.{◌≡◌, ◌≤◌, ◌<◌, ◌*◌, ◌^◌, map, length, vec_len, vec_capacity}
+use Rattle.ocp_core.specs.Log.{Log, expand}
+use Rattle.ocp_core.specs.Journal.{entry_of}
+use Rattle.ocp_core.specs.declared.journal.Journal.TheInside.{Inside}
+
+module _ {A : Type 0} where
+  abbrev pub log_of : Inside A → Log
+  log_of j = record { apid = j.apid; words = j.words; capacity = j.capacity; entries = map entry_of j.entries.items }
+
+  pub record IsKept (j : Inside A) : Type 0 where
+    pub named : j.apid < 2047
+    pub few : vec_len j.entries ≤ j.capacity
+    pub room : j.capacity ≤ vec_capacity j.entries
+    pub limit : j.capacity ≤ 1000000
+    pub counted : j.events ≡ length (expand (map entry_of j.entries.items))
+    pub bounded : j.events ≤ 2 ^ 32 * vec_len j.entries

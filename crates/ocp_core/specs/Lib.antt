@@ -1,0 +1,9 @@
+pub mod World
+pub mod Log
+pub mod Slice
+pub mod Journal
+pub mod State
+pub mod Answering
+pub mod Running
+pub mod Codes
+pub mod Kept

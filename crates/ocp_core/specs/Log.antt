@@ -1,0 +1,56 @@
+-- What a contract sees of an engine: its journal and its parameters. The engine's world is the journal's replay.
+use Rattle.std.specs.Prelude.{ℕ, List, [], ◌∷◌, ◌++◌, ◌==◌, Bool, if◌then◌else◌, length, replicate, Err}
+use Rattle.std.specs.List.{flat_map}
+use Rattle.ocp_core.specs.declared.answers.EngineFault.TheVariants as engine
+use Rattle.ocp_core.specs.declared.answers.StepOutcome.TheVariants as S
+use Rattle.ocp_core.specs.World.{World, Event, Request, Step, Answer, Requested, Stepped, after, replay, is_accepted}
+
+-- a request with its seat and time, or so many instructions of one procedure with their seat
+pub data Entry : Type 0 where
+  Asked : ℕ → ℕ → List ℕ → Entry
+  Steps : ℕ → ℕ → ℕ → Entry
+
+abbrev pub events_of : Entry → List Event
+events_of (Asked by time octets) = Request by time octets ∷ []
+events_of (Steps by id count) = replicate count (Step by id)
+
+-- the single events of a journal
+abbrev pub expand : List Entry → List Event
+expand entries = flat_map events_of entries
+
+-- the application process identifier, the number of pool words, the number of entries at most, and the entries
+pub record Log : Type 0 where
+  pub apid : ℕ
+  pub words : ℕ
+  pub capacity : ℕ
+  pub entries : List Entry
+
+-- a journal without entries
+abbrev pub opened : ℕ → ℕ → ℕ → Log
+opened apid words capacity = record { apid = apid; words = words; capacity = capacity; entries = [] }
+
+unfoldable pub world_of : Log → World
+world_of log = replay log.apid (expand log.entries)
+
+abbrev pub is_full : Log → Bool
+is_full log = length log.entries == log.capacity
+
+abbrev pub noted : Log → Entry → Log
+noted log entry = record log { entries = log.entries ++ entry ∷ [] }
+
+-- the entry of an accepted event
+abbrev pub entry_for : Event → Entry
+entry_for (Request by time octets) = Asked by time octets
+entry_for (Step by id) = Steps by id 1
+
+abbrev pub full_answer : Event → Answer
+full_answer (Request by time octets) = Requested (Err engine.JournalFull)
+full_answer (Step by id) = Stepped S.JournalFull
+
+-- an event that would be accepted is refused where the journal is full
+abbrev pub answer_in : Log → Event → Answer
+answer_in log e = let answer = (after (world_of log) e).answer in if is_accepted answer then (if is_full log then full_answer e else answer) else answer
+
+-- an accepted event leaves one entry, and a refused one none
+abbrev pub log_after : Log → Event → Log
+log_after log e = if is_accepted (after (world_of log) e).answer then (if is_full log then log else noted log (entry_for e)) else log

@@ -1,0 +1,174 @@
+//! The engine.
+
+ghost use Rattle.std.specs.Prelude.{◌≡◌, ◌≤◌, ◌<◌, ◌-◌, ◌^◌, IfOk, OnOk, OnErr, length};
+ghost use Rattle.std.specs.FinMap.{get};
+ghost use Rattle.ocp_table.specs.Shown.{shown_at};
+ghost use Rattle.ocp_core.specs.World as world;
+ghost use Rattle.ocp_core.specs.Log.{opened, expand, world_of, answer_in, log_after};
+ghost use Rattle.ocp_core.specs.Slice.{slice_in, slice_log};
+ghost use Rattle.ocp_core.specs.Answering.{Answers};
+
+use crate::state::State;
+use crate::translating::discard_of;
+use crate::{EngineFault, Entry, Journal, Octets, Reports, Slice, StepOutcome};
+use ocp_table::View;
+use pus_fields::read_tc;
+use space_packet::Apid;
+use std::alloc::{AllocError, Allocator, Global};
+use std::marker::Model;
+
+/// The engine, seen as its journal. Its state is the replay of the journal.
+#[derive(Drop)]
+pub struct Engine<A: Allocator = Global> {
+    state: State<A>,
+    journal: Journal<A>,
+}
+
+impl<A: Allocator> Model for Engine<A> {
+    ghost use Rattle.ocp_core.specs.Log.{Log, world_of};
+
+    ghost Value = { Log };
+
+    ghost use Rattle.ocp_core.specs.Codes.{log_code};
+
+    ghost coded = { log_code };
+
+    ghost use Rattle.ocp_core.specs.State.{IsWorld};
+
+    ghost view = { λ e. e.journal };
+
+    ghost invariant = { λ e. IsWorld (world_of e.journal) e.state };
+}
+
+impl<A: Allocator> Engine<A> {
+    /// An engine without procedures, for the application process 0 to 2,046, with 1 to 256 pool words and room for 1 to
+    /// 1,000,000 journal entries, all of it reserved here.
+    pub fn new(alloc: A, apid: u16, words: u16, capacity: u32) -> Result<Self, AllocError>
+    where
+        A: Copy,
+        requires apid { apid < 2047 }
+        requires words_from { 1 ≤ words }
+        requires words_to { words ≤ 256 }
+        requires capacity_from { 1 ≤ capacity }
+        requires capacity_to { capacity ≤ 1000000 }
+        ensures { IfOk result (λ engine. engine ≡ opened apid words capacity) }
+    {
+        let apid = Apid::new(apid).unwrap();
+        let state = State::new(alloc, apid)?;
+        let journal = Journal::new(alloc, apid, words, capacity)?;
+        Ok(Engine { state, journal })
+    }
+
+    /// Takes the octets of a telecommand packet, which a seat hands in at a time in whole seconds, and answers its
+    /// reports. Refused, in this order, where the octets are discarded, where the journal is full, and where there is no
+    /// memory; then nothing is changed.
+    pub fn request(
+        &mut self,
+        alloc: A,
+        by: u16,
+        time: u32,
+        octets: &[u8],
+    ) -> Result<Reports<A>, EngineFault>
+    where
+        A: Copy,
+        ensures answer { Answers result (answer_in self.old (world.Request by time octets.now)) }
+        ensures journal { OnOk result (self.new ≡ log_after self.old (world.Request by time octets.now)) }
+        ensures err { OnErr result (self.new ≡ self.old) }
+    {
+        let read = read_tc(self.journal.apid(), octets);
+        if let Some(cause) = discard_of(&read) {
+            return Err(EngineFault::Discarded(cause));
+        }
+        if self.journal.is_full() {
+            return Err(EngineFault::JournalFull);
+        }
+        let Ok(copy) = Octets::copy_of(alloc, octets) else {
+            return Err(EngineFault::Memory);
+        };
+        match self.state.receive(alloc, time, read) {
+            Ok(reports) => {
+                self.journal.push(Entry::Request {
+                    by,
+                    time,
+                    octets: copy,
+                });
+                Ok(reports)
+            }
+            Err(fault) => Err(fault),
+        }
+    }
+
+    /// Does one instruction of a running procedure. Refused, in this order, where the procedure is not loaded, where it
+    /// is not running, and where the journal is full; then nothing is changed.
+    pub fn step(&mut self, by: u16, id: u16) -> StepOutcome
+        ensures answer { world.Stepped result ≡ answer_in self.old (world.Step by id) }
+        ensures journal { self.new ≡ log_after self.old (world.Step by id) }
+    {
+        if let Some(refused) = self.state.refusal(id) {
+            return refused;
+        }
+        if self.journal.is_full() {
+            return StepOutcome::JournalFull;
+        }
+        let outcome = self.state.step(id);
+        self.journal.push(Entry::Steps { by, id, count: 1 });
+        outcome
+    }
+
+    /// Does instructions of one procedure, at least one, until the budget is used, the procedure no longer runs, or an
+    /// instruction is refused, ends it or faults. They are one journal entry, or none where none was done.
+    pub fn slice(&mut self, by: u16, id: u16, budget: u32) -> Slice
+        requires { 1 ≤ budget }
+        ensures slice { result ≡ slice_in self.old by id budget }
+        ensures journal { self.new ≡ slice_log self.old by id budget }
+    {
+        if let Some(refused) = self.state.refusal(id) {
+            return Slice {
+                count: 0,
+                last: refused,
+            };
+        }
+        if self.journal.is_full() {
+            return Slice {
+                count: 0,
+                last: StepOutcome::JournalFull,
+            };
+        }
+        let slice = self.state.slice(id, budget);
+        self.journal.push(Entry::Steps {
+            by,
+            id,
+            count: slice.count,
+        });
+        slice
+    }
+
+    /// What is shown of a procedure, where it is loaded.
+    pub fn view(&self, id: u16) -> Option<View>
+        ensures { result ≡ shown_at (get (world_of self.now).records id) }
+    {
+        self.state.view(id)
+    }
+
+    /// The journal.
+    pub fn journal(&self) -> &Journal<A>
+        ensures { result.now ≡ self.now }
+    {
+        &self.journal
+    }
+
+    /// How many events there were: a request is one, and each instruction is one.
+    pub fn events(&self) -> u64
+        ensures value { result ≡ length (expand self.now.entries) }
+        ensures bound { result < 2 ^ 52 }
+    {
+        self.journal.events()
+    }
+
+    /// How many journal entries are still free.
+    pub fn room(&self) -> usize
+        ensures { result ≡ self.now.capacity - length self.now.entries }
+    {
+        self.journal.capacity() as usize - self.journal.len()
+    }
+}

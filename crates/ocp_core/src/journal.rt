@@ -1,0 +1,116 @@
+//! The journal.
+
+ghost use Rattle.std.specs.Prelude.{◌≡◌, ◌≤◌, ◌<◌, ◌^◌, map, length, IfOk, false};
+ghost use Rattle.ocp_core.specs.Log.{opened, is_full, noted, expand};
+
+use crate::Entry;
+use space_packet::Apid;
+use std::alloc::{AllocError, Allocator, Global};
+use std::marker::Model;
+
+/// The entries of all accepted events and slices, in order, with the engine's parameters. All room is reserved when it
+/// is made.
+#[derive(Drop)]
+pub struct Journal<A: Allocator = Global> {
+    apid: Apid,
+    words: u16,
+    capacity: u32,
+    entries: Vec<Entry<A>, A>,
+    // How many single events the entries are.
+    events: u64,
+}
+
+impl<A: Allocator> Model for Journal<A> {
+    ghost use Rattle.ocp_core.specs.Log.{Log};
+
+    ghost Value = { Log };
+
+    ghost use Rattle.ocp_core.specs.Codes.{log_code};
+
+    ghost coded = { log_code };
+
+    ghost use Rattle.ocp_core.specs.Kept.{log_of, IsKept};
+
+    ghost view = { log_of };
+
+    ghost invariant = { IsKept };
+}
+
+impl<A: Allocator> Journal<A> {
+    ghost use Rattle.ocp_core.specs.Journal.{entry_of};
+
+    /// A journal without entries, with room for so many.
+    pub fn new(alloc: A, apid: Apid, words: u16, capacity: u32) -> Result<Self, AllocError>
+        requires apid { apid < 2047 }
+        requires capacity { capacity ≤ 1000000 }
+        ensures { IfOk result (λ journal. journal ≡ opened apid words capacity) }
+    {
+        Ok(Journal {
+            apid,
+            words,
+            capacity,
+            entries: Vec::with_capacity(alloc, capacity as usize)?,
+            events: 0,
+        })
+    }
+
+    /// The engine's application process identifier.
+    pub fn apid(&self) -> Apid
+        ensures value { result ≡ self.now.apid }
+        ensures in_range { result < 2047 }
+    {
+        self.apid
+    }
+
+    /// The number of the engine's pool words.
+    pub fn words(&self) -> u16
+        ensures { result ≡ self.now.words }
+    {
+        self.words
+    }
+
+    /// How many entries there may be.
+    pub fn capacity(&self) -> u32
+        ensures { result ≡ self.now.capacity }
+    {
+        self.capacity
+    }
+
+    /// How many entries there are.
+    pub fn len(&self) -> usize
+        ensures value { result ≡ length self.now.entries }
+        ensures within { result ≤ self.now.capacity }
+    {
+        self.entries.len()
+    }
+
+    pub fn is_full(&self) -> bool
+        ensures { result ≡ is_full self.now }
+    {
+        self.entries.len() == self.capacity as usize
+    }
+
+    /// The entries, oldest first.
+    pub fn entries(&self) -> &[Entry<A>]
+        ensures { map entry_of result.now ≡ self.now.entries }
+    {
+        self.entries.as_slice()
+    }
+
+    /// How many single events the entries are, below 2^52.
+    pub fn events(&self) -> u64
+        ensures value { result ≡ length (expand self.now.entries) }
+        ensures bound { result < 2 ^ 52 }
+    {
+        self.events
+    }
+
+    /// Adds an entry.
+    pub(crate) fn push(&mut self, entry: Entry<A>)
+        requires { is_full self.old ≡ false }
+        ensures { self.new ≡ noted self.old (entry_of entry) }
+    {
+        self.events += entry.events();
+        self.entries.push_reserved(entry);
+    }
+}

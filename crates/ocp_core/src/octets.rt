@@ -1,0 +1,95 @@
+//! Octets that are kept or handed out.
+
+ghost use Rattle.std.specs.Prelude.{◌≡◌, [], ◌∷◌, ◌++◌, ◌==◌, IfOk, OnOk, OnErr, length};
+
+use std::alloc::{AllocError, Allocator, Global};
+use std::marker::Model;
+
+/// Octets of its own, seen as their list.
+#[derive(Drop)]
+pub struct Octets<A: Allocator = Global> {
+    octets: Vec<u8, A>,
+}
+
+impl<A: Allocator> Model for Octets<A> {
+    ghost use Rattle.std.specs.Prelude.{ℕ, List};
+
+    ghost Value = { List ℕ };
+
+    ghost view = { λ o. o.octets.items };
+}
+
+impl<A: Allocator> Octets<A> {
+    pub fn new(octets: Vec<u8, A>) -> Self
+        ensures { result ≡ octets.items }
+    {
+        Octets { octets }
+    }
+
+    /// A copy of lent octets.
+    pub fn copy_of(alloc: A, octets: &[u8]) -> Result<Self, AllocError>
+        ensures { IfOk result (λ copy. copy ≡ octets.now) }
+    {
+        Ok(Octets {
+            octets: Vec::from_slice(alloc, octets)?,
+        })
+    }
+
+    pub fn as_slice(&self) -> &[u8]
+        ensures { result.now ≡ self.now }
+    {
+        self.octets.as_slice()
+    }
+}
+
+/// The reports of one request, each a whole telemetry packet, in the order in which they are sent.
+#[derive(Drop)]
+pub struct Reports<A: Allocator = Global> {
+    packets: Vec<Octets<A>, A>,
+}
+
+impl<A: Allocator> Model for Reports<A> {
+    ghost use Rattle.std.specs.Prelude.{ℕ, List};
+
+    ghost Value = { List (List ℕ) };
+
+    ghost view = { λ r. r.packets.items };
+}
+
+impl<A: Allocator> Reports<A> {
+    pub(crate) fn new(alloc: A) -> Self
+        ensures { result ≡ [] }
+    {
+        Reports {
+            packets: Vec::new(alloc),
+        }
+    }
+
+    /// Adds a packet. Where there is no memory, nothing changes.
+    pub(crate) fn push(&mut self, packet: Octets<A>) -> Result<(), AllocError>
+        ensures ok { OnOk result (self.new ≡ self.old ++ packet ∷ []) }
+        ensures err { OnErr result (self.new ≡ self.old) }
+    {
+        self.packets.push(packet)?;
+        Ok(())
+    }
+
+    /// How many packets there are.
+    pub fn len(&self) -> usize
+        ensures { result ≡ length self.now }
+    {
+        self.packets.len()
+    }
+
+    pub fn is_empty(&self) -> bool
+        ensures { result ≡ (length self.now == 0) }
+    {
+        self.packets.is_empty()
+    }
+
+    pub fn packets(&self) -> &[Octets<A>]
+        ensures { result.now ≡ self.now }
+    {
+        self.packets.as_slice()
+    }
+}

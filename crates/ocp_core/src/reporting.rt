@@ -1,0 +1,164 @@
+//! The reports of a request as telemetry packets.
+
+ghost use Rattle.std.specs.Prelude.{◌≡◌, ◌≤◌, ◌+◌, ◌%◌, ◌++◌, ◌∷◌, [], List, length, IfOk, OnOk, MatchOption};
+ghost use Rattle.std.specs.Option.{option_to_list};
+ghost use Rattle.obcp_messages.specs.declared.report.Report.{Report as Sent};
+ghost use Rattle.pus_fields.specs.Telemetry.{telemetry_octets};
+ghost use Rattle.ocp_core.specs.World.{packets, report_of, reports_of, telemetry_of_report, start_fault};
+
+use crate::{Octets, Reports};
+use obcp_messages::{PlainCode, Report, StartFault, write_report};
+use pus_fields::{Ack, Tm, WriteFault, write_tm};
+use space_packet::{Apid, SequenceCount};
+use std::alloc::{AllocError, Allocator};
+use verification::{Notice, Outcome, StartFailure, notices};
+
+/// What a request's reports repeat of it: its first four octets, its acknowledgement flags, the destination of the
+/// reports and the time at which it came.
+#[derive(Clone, Copy)]
+pub struct Origin {
+    pub request: [u8; 4],
+    pub ack: Ack,
+    pub destination: u16,
+    pub time: u32,
+}
+
+/// The application process that sends reports, and the sequence count of its next one.
+#[derive(Clone, Copy)]
+pub struct Sender {
+    pub apid: Apid,
+    pub count: SequenceCount,
+}
+
+/// A sequence count after so many more packets.
+pub fn count_after(count: SequenceCount, packets: usize) -> SequenceCount
+    requires { packets ≤ 17 }
+    ensures { result ≡ (count + packets) % 16384 }
+{
+    match SequenceCount::new((count.number() + packets as u16) % 16384) {
+        Some(count) => count,
+        None => unreachable!(),
+    }
+}
+
+// A failure code, with the data that code 18 has.
+fn start_fault(failure: StartFailure) -> StartFault
+    ensures { result ≡ start_fault failure }
+{
+    match failure {
+        StartFailure::BadCode { fault, slot } => StartFault::BadCode { fault, slot },
+        _ => match PlainCode::new(failure.code()) {
+            Some(code) => StartFault::Plain(code),
+            None => unreachable!(),
+        },
+    }
+}
+
+// The verification report of a notice, where it is not the place of the answer report.
+fn verification_report(request: [u8; 4], notice: Notice) -> Option<Report>
+    ensures { (answer : List Sent) → MatchOption result (notice ≡ Notice.Answer) (λ r. report_of request answer notice ≡ r ∷ []) }
+{
+    match notice {
+        Notice::Accepted => Some(Report::Accepted { request }),
+        Notice::NotAccepted(failure) => Some(Report::NotAccepted {
+            request,
+            code: failure.code(),
+        }),
+        Notice::Started => Some(Report::Started { request }),
+        Notice::NotStarted(failure) => Some(Report::NotStarted {
+            request,
+            fault: start_fault(failure),
+        }),
+        Notice::Answer => None,
+        Notice::Completed => Some(Report::Completed { request }),
+    }
+}
+
+impl Sender {
+    // The packet of a report that so many others of the same request stand before.
+    fn packet<A: Allocator + Copy>(
+        &self,
+        alloc: A,
+        origin: Origin,
+        before: usize,
+        report: &Report,
+    ) -> Result<Octets<A>, AllocError>
+        requires { before ≤ 16 }
+        ensures { IfOk result (λ p. p ≡ telemetry_octets (telemetry_of_report self.now.apid (self.now.count + before) origin.destination origin.time report.now)) }
+    {
+        let mut data = Vec::new(alloc);
+        write_report(report, &mut data)?;
+        let telemetry = Tm::new(
+            self.apid,
+            count_after(self.count, before),
+            report.service(),
+            report.subtype(),
+            origin.destination,
+            origin.time,
+            data.as_slice(),
+        );
+        let mut octets = Vec::new(alloc);
+        match write_tm(&telemetry, &mut octets) {
+            Ok(()) => Ok(Octets::new(octets)),
+            Err(WriteFault::Memory) => Err(AllocError),
+            Err(WriteFault::TooLong) => unreachable!(),
+        }
+    }
+
+    // Adds the packet of a report.
+    fn add<A: Allocator + Copy>(
+        &self,
+        alloc: A,
+        origin: Origin,
+        report: &Report,
+        reports: &mut Reports<A>,
+    ) -> Result<(), AllocError>
+        requires { length reports.old ≤ 16 }
+        ensures ok { OnOk result (reports.new ≡ reports.old ++ packets self.now.apid (self.now.count + length reports.old) origin.destination origin.time (report.now ∷ [])) }
+        ensures one { length reports.new ≤ length reports.old + 1 }
+    {
+        let packet = self.packet(alloc, origin, reports.len(), report)?;
+        reports.push(packet)
+    }
+
+    // Adds the packet of a notice, if it has one.
+    fn send<A: Allocator + Copy>(
+        &self,
+        alloc: A,
+        origin: Origin,
+        notice: Notice,
+        answer: &Option<Report>,
+        reports: &mut Reports<A>,
+    ) -> Result<(), AllocError>
+        requires { length reports.old ≤ 16 }
+        ensures ok { OnOk result (reports.new ≡ reports.old ++ packets self.now.apid (self.now.count + length reports.old) origin.destination origin.time (report_of origin.request (option_to_list answer.now) notice)) }
+        ensures one { length reports.new ≤ length reports.old + 1 }
+    {
+        if let Some(report) = verification_report(origin.request, notice) {
+            return self.add(alloc, origin, &report, reports);
+        }
+        match answer {
+            Some(report) => self.add(alloc, origin, report, reports),
+            None => Ok(()),
+        }
+    }
+
+    /// The packets of the reports of a request.
+    pub fn reports<A: Allocator + Copy>(
+        &self,
+        alloc: A,
+        origin: Origin,
+        outcome: Outcome,
+        answer: &Option<Report>,
+    ) -> Result<Reports<A>, AllocError>
+        ensures { IfOk result (λ r. r ≡ packets self.now.apid self.now.count origin.destination origin.time (reports_of origin outcome (option_to_list answer.now))) }
+    {
+        let mut reports = Reports::new(alloc);
+        let list = notices(origin.ack, &outcome);
+        let all = list.as_slice();
+        for notice in all {
+            self.send(alloc, origin, *notice, answer, &mut reports)?;
+        }
+        Ok(reports)
+    }
+}

@@ -1,0 +1,68 @@
+//! Lists of events.
+
+ghost use Rattle.std.specs.Prelude.{◌≡◌, IfOk, IfErr, OnOk, map, take, slice_get};
+ghost use Rattle.ocp_core.specs.World.{answers, replay_from};
+ghost use Rattle.ocp_core.specs.Log.{world_of};
+ghost use Rattle.ocp_core.specs.Journal.{event_of, answer_of};
+ghost use Rattle.ocp_core.specs.Running.{Applies, StopsAt};
+
+use crate::{Answer, Engine, EngineFault, Event, RunFault, RunRefusal, StepOutcome};
+use std::alloc::Allocator;
+
+impl<A: Allocator> Engine<A> {
+    // Does an event.
+    fn apply(&mut self, alloc: A, event: Event<'_>) -> Result<Answer<A>, RunRefusal>
+    where
+        A: Copy,
+        ensures { Applies self.old self.new (event_of event.entry) result }
+    {
+        match event {
+            Event::Request { by, time, octets } => match self.request(alloc, by, time, octets) {
+                Ok(reports) => Ok(Answer::Requested(Ok(reports))),
+                Err(EngineFault::Discarded(cause)) => {
+                    Ok(Answer::Requested(Err(EngineFault::Discarded(cause))))
+                }
+                Err(EngineFault::JournalFull) => Err(RunRefusal::JournalFull),
+                Err(EngineFault::Memory) => Err(RunRefusal::Memory),
+            },
+            Event::Step { by, id } => match self.step(by, id) {
+                StepOutcome::JournalFull => Err(RunRefusal::JournalFull),
+                outcome => Ok(Answer::Stepped(outcome)),
+            },
+        }
+    }
+
+    /// Does events in order, and answers each. It ends before the first event that is refused because the journal is
+    /// full or there is no memory, with that refusal, the event's index and the answers of the events before it, which
+    /// stand. Room for all answers is taken first: where there is none, the index is 0.
+    pub fn run(&mut self, alloc: A, events: &[Event<'_>]) -> Result<Vec<Answer<A>, A>, RunFault<A>>
+    where
+        A: Copy,
+        ensures answers { IfOk result (λ v. map answer_of v.items ≡ answers (world_of self.old) (map event_of events.now)) }
+        ensures world { OnOk result (world_of self.new ≡ replay_from (world_of self.old) (map event_of events.now)) }
+        ensures answers_before { IfErr result (λ fault. map answer_of fault.answers.items ≡ answers (world_of self.old) (map event_of (take fault.index events.now))) }
+        ensures world_before { IfErr result (λ fault. world_of self.new ≡ replay_from (world_of self.old) (map event_of (take fault.index events.now))) }
+        ensures refused { IfErr result (λ fault. StopsAt self.new fault.refusal (slice_get (map event_of events.now) fault.index)) }
+    {
+        let Ok(mut answers) = Vec::with_capacity(alloc, events.len()) else {
+            return Err(RunFault {
+                refusal: RunRefusal::Memory,
+                index: 0,
+                answers: Vec::new(alloc),
+            });
+        };
+        for (index, event) in events.iter().enumerate() {
+            match self.apply(alloc, *event) {
+                Ok(answer) => answers.push_reserved(answer),
+                Err(refusal) => {
+                    return Err(RunFault {
+                        refusal,
+                        index,
+                        answers,
+                    });
+                }
+            }
+        }
+        Ok(answers)
+    }
+}

@@ -1,0 +1,296 @@
+//! What the engine keeps of its world.
+
+ghost use Rattle.std.specs.Prelude.{◌≡◌, ◌≤◌, ℕ, IfOk, length};
+ghost use Rattle.std.specs.Option.{option_to_list};
+ghost use Rattle.std.specs.FinMap.{get};
+ghost use Rattle.obcp_messages.specs.declared.request.Request.TheVariants as command;
+ghost use Rattle.ocp_table.specs.Did.{Kept, Unasked, Failed};
+ghost use Rattle.ocp_table.specs.Deciding.{did_in};
+ghost use Rattle.ocp_table.specs.Deciding as deed;
+ghost use Rattle.ocp_table.specs.Shown.{shown_at, statuses_of};
+ghost use Rattle.ocp_core.specs.World.{World, opening, after, sends, received, served, refused, done, origin_of, command_of, start_failure, request_failure, rejection_failure, outcome_of, status_report, reported_status};
+ghost use Rattle.ocp_core.specs.World as world;
+
+use crate::reporting::{Origin, Sender, count_after};
+use crate::translating::{
+    command_of, origin_of, rejection_failure, request_failure, start_failure, status_report, unread,
+};
+use crate::{EngineFault, Reports, Slice, StepOutcome};
+use obcp_messages::{Report, Request};
+use ocp_table::{Failure, LoadFailure, Made, Refusal, Status, Table, View};
+use pus_fields::{Tc, TcFault};
+use space_packet::{Apid, SequenceCount};
+use std::alloc::{AllocError, Allocator};
+use verification::{AcceptanceFailure, Outcome};
+
+/// The procedures, the application process identifier, and the sequence count of the next report.
+#[derive(Drop)]
+pub struct State<A: Allocator> {
+    pub(crate) apid: Apid,
+    pub(crate) table: Table<A>,
+    pub(crate) count: SequenceCount,
+}
+
+impl<A: Allocator> State<A> {
+    ghost use Rattle.ocp_core.specs.State.{IsWorld, Does};
+    ghost use Rattle.ocp_core.specs.Answering.{IsRefusal};
+
+    /// The state in which no procedure is loaded.
+    pub fn new(alloc: A, apid: Apid) -> Result<Self, AllocError>
+        ensures { IfOk result (IsWorld (opening apid)) }
+    {
+        Ok(State {
+            apid,
+            table: Table::new(alloc)?,
+            count: first_count(),
+        })
+    }
+
+    /// What is shown of a procedure.
+    pub fn view(&self, id: u16) -> Option<View>
+        ensures { (w : World) → IsWorld w self.now → result ≡ shown_at (get w.records id) }
+    {
+        self.table.view(id)
+    }
+
+    /// Why an instruction event is refused, where it is.
+    pub fn refusal(&self, id: u16) -> Option<StepOutcome>
+        ensures { (w : World) (by : ℕ) → IsWorld w self.now → IsRefusal w (world.Step by id) result }
+    {
+        match self.table.refusal(id) {
+            Some(Refusal::NotLoaded) => Some(StepOutcome::NotLoaded),
+            Some(Refusal::NotRunning) => Some(StepOutcome::NotRunning),
+            None => None,
+        }
+    }
+
+    /// Does one instruction of a procedure.
+    pub fn step(&mut self, id: u16) -> StepOutcome
+        ensures world { (w : World) (by : ℕ) → IsWorld w self.old → IsWorld (after w (world.Step by id)).world self.new }
+        ensures answer { (w : World) (by : ℕ) → IsWorld w self.old → world.Stepped result ≡ (after w (world.Step by id)).answer }
+    {
+        outcome_of(self.table.instruction(id))
+    }
+
+    // Sends the reports of a request that changes no procedure.
+    fn reply(
+        &mut self,
+        alloc: A,
+        origin: Origin,
+        outcome: Outcome,
+        answer: &Option<Report>,
+    ) -> Result<Reports<A>, EngineFault>
+    where
+        A: Copy,
+        ensures does { Does self.old self.new result (λ m. record { deed = Kept Unasked; reply = sends origin outcome (option_to_list answer.now) }) }
+        ensures table { self.new.table ≡ self.old.table }
+    {
+        let sender = Sender {
+            apid: self.apid,
+            count: self.count,
+        };
+        let reports = sender.reports(alloc, origin, outcome, answer)?;
+        self.count = count_after(self.count, reports.len());
+        Ok(reports)
+    }
+
+    // Sends the report of a failed acceptance.
+    fn refuse(
+        &mut self,
+        alloc: A,
+        origin: Origin,
+        failure: AcceptanceFailure,
+    ) -> Result<Reports<A>, EngineFault>
+    where
+        A: Copy,
+        ensures { Does self.old self.new result (λ m. refused origin failure) }
+    {
+        self.reply(alloc, origin, Outcome::Refused(failure), &None)
+    }
+
+    // Sends the reports of a failed start.
+    fn fail(
+        &mut self,
+        alloc: A,
+        origin: Origin,
+        failure: Failure,
+    ) -> Result<Reports<A>, EngineFault>
+    where
+        A: Copy,
+        ensures { Does self.old self.new result (λ m. done origin (Kept (Failed failure))) }
+    {
+        self.reply(
+            alloc,
+            origin,
+            Outcome::NotStarted(start_failure(failure)),
+            &None,
+        )
+    }
+
+    // Loads a procedure.
+    fn load(
+        &mut self,
+        alloc: A,
+        origin: Origin,
+        id: u16,
+        code: &[u8],
+    ) -> Result<Reports<A>, EngineFault>
+    where
+        A: Copy,
+        ensures { Does self.old self.new result (λ m. done origin (did_in (deed.Load code.now) id m)) }
+    {
+        match self.table.prepare(alloc, id, code) {
+            Ok(loading) => {
+                let reports = self.reply(alloc, origin, Outcome::Done, &None)?;
+                self.table.put(loading);
+                Ok(reports)
+            }
+            Err(LoadFailure::Failed(failure)) => self.fail(alloc, origin, failure),
+            Err(LoadFailure::Memory) => Err(EngineFault::Memory),
+        }
+    }
+
+    // Activates a procedure.
+    fn activate(
+        &mut self,
+        alloc: A,
+        origin: Origin,
+        id: u16,
+        arguments: &[u8],
+    ) -> Result<Reports<A>, EngineFault>
+    where
+        A: Copy,
+        requires { length arguments.now ≤ 256 }
+        ensures { Does self.old self.new result (λ m. done origin (did_in (deed.Activate arguments.now) id m)) }
+    {
+        if let Some(failure) = self.table.activation_failure(id) {
+            return self.fail(alloc, origin, failure);
+        }
+        let reports = self.reply(alloc, origin, Outcome::Done, &None)?;
+        self.table.activate(id, arguments).unwrap();
+        Ok(reports)
+    }
+
+    // Reports the status of all procedures.
+    fn report_status(&mut self, alloc: A, origin: Origin) -> Result<Reports<A>, EngineFault>
+    where
+        A: Copy,
+        ensures { Does self.old self.new result (served command.Status origin) }
+    {
+        let report = status_report(&self.table);
+        self.reply(alloc, origin, Outcome::Done, &Some(report))
+    }
+
+    // Serves a request.
+    fn serve(
+        &mut self,
+        alloc: A,
+        origin: Origin,
+        request: Request<'_>,
+    ) -> Result<Reports<A>, EngineFault>
+    where
+        A: Copy,
+        ensures { Does self.old self.new result (served request.entry origin) }
+    {
+        match request {
+            Request::Load { id, code } => self.load(alloc, origin, id, code.octets()),
+            Request::Activate { id, arguments } => self.activate(
+                alloc,
+                origin,
+                id,
+                arguments.octets(),
+            ),
+            Request::Status => self.report_status(alloc, origin),
+            _ => self.refuse(alloc, origin, AcceptanceFailure::Subtype),
+        }
+    }
+
+    /// Does what a telecommand asks for, as it was read at this time, and sends its reports.
+    pub fn receive(
+        &mut self,
+        alloc: A,
+        time: u32,
+        read: Result<Tc<'_>, TcFault>,
+    ) -> Result<Reports<A>, EngineFault>
+    where
+        A: Copy,
+        ensures { Does self.old self.new result (received read.entry time) }
+    {
+        match read {
+            Ok(telecommand) => {
+                let origin = origin_of(&telecommand, time);
+                match command_of(&telecommand) {
+                    Ok(request) => self.serve(alloc, origin, request),
+                    Err(fault) => self.refuse(alloc, origin, request_failure(fault)),
+                }
+            }
+            Err(TcFault::Rejected(rejection, request)) => {
+                self.refuse(alloc, unread(request, time), rejection_failure(rejection))
+            }
+            Err(TcFault::Discarded(cause)) => Err(EngineFault::Discarded(cause)),
+        }
+    }
+}
+
+// The sequence count of the first report.
+fn first_count() -> SequenceCount
+    ensures { result ≡ 0 }
+{
+    match SequenceCount::new(0) {
+        Some(count) => count,
+        None => unreachable!(),
+    }
+}
+
+// The outcome of an instruction event.
+fn outcome_of(turn: Result<Made, Refusal>) -> StepOutcome
+    ensures { result ≡ outcome_of turn }
+{
+    match turn {
+        Ok(Made::Ran) => StepOutcome::Ran,
+        Ok(Made::Ended) => StepOutcome::Ended,
+        Ok(Made::Faulted(number)) => StepOutcome::Faulted(number),
+        Err(Refusal::NotLoaded) => StepOutcome::NotLoaded,
+        Err(Refusal::NotRunning) => StepOutcome::NotRunning,
+    }
+}
+
+impl<A: Allocator> State<A> {
+    ghost use Rattle.std.specs.Prelude.{if◌then◌else◌, false, replicate};
+    ghost use Rattle.ocp_core.specs.State.{IsWorld};
+    ghost use Rattle.ocp_core.specs.World.{replay_from};
+    ghost use Rattle.ocp_core.specs.Slice.{is_on, is_running, slice_count, slice_last};
+
+    // Whether a slice goes on after this outcome.
+    fn goes_on(&self, id: u16, outcome: StepOutcome) -> bool
+        ensures { (w : World) → IsWorld w self.now → result ≡ (if is_on outcome then is_running (get w.records id) else false) }
+    {
+        if outcome != StepOutcome::Ran {
+            return false;
+        }
+        self.table.refusal(id).is_none()
+    }
+
+    /// Does instructions of one procedure until the budget is used or it no longer goes on.
+    pub fn slice(&mut self, id: u16, budget: u32) -> Slice
+        requires { 1 ≤ budget }
+        ensures world { (w : World) (by : ℕ) → IsWorld w self.old → IsWorld (replay_from w (replicate result.count (world.Step by id))) self.new }
+        ensures count { (w : World) (by : ℕ) → IsWorld w self.old → result.count ≡ slice_count w by id budget }
+        ensures last { (w : World) (by : ℕ) → IsWorld w self.old → result.last ≡ slice_last w by id StepOutcome.Ran budget }
+    {
+        let mut last = StepOutcome::Ran;
+        for count in 0..budget {
+            last = self.step(id);
+            if !self.goes_on(id, last) {
+                return Slice {
+                    count: count + 1,
+                    last,
+                };
+            }
+        }
+        Slice {
+            count: budget,
+            last,
+        }
+    }
+}
