@@ -1,4 +1,4 @@
-// What the instructions do.
+//! The machine that runs procedure code: what each instruction does, one step at a time.
 #![tactic(auto)]
 
 pub mod answer;

@@ -42,6 +42,7 @@ impl<'a> Code<'a> {
         Some(Code { code: octets })
     }
 
+    /// The octets of the code.
     pub fn octets(&self) -> &'a [u8]
         ensures value { result.now ≡ self.now }
         ensures bound { length self.now ≤ 65535 }
@@ -78,6 +79,7 @@ impl<'a> Arguments<'a> {
         Some(Arguments { arguments: octets })
     }
 
+    /// The octets of the arguments.
     pub fn octets(&self) -> &'a [u8]
         ensures value { result.now ≡ self.now }
         ensures bound { length self.now ≤ 256 }
@@ -114,6 +116,7 @@ impl Words {
         Some(Words { words })
     }
 
+    /// The words, in their order.
     pub fn as_slice(&self) -> &[u64]
         ensures value { result.now ≡ self.now }
         ensures some { 1 ≤ length self.now }

@@ -39,7 +39,7 @@ fn id_and_step(octets: &[u8]) -> Result<(u16, u16), RequestFault>
 }
 
 /// The octets behind an identifier and their number, where they are that many.
-fn counted<'a>(octets: &'a [u8]) -> Result<&'a [u8], RequestFault>
+fn counted(octets: &[u8]) -> Result<&[u8], RequestFault>
     ensures { MatchResult result (λ rest. IsTrue (is_counted octets.now) × (rest.now ≡ drop 4 octets.now))
         (λ fault. (fault ≡ Layout) × IsFalse (is_counted octets.now)) }
 {
@@ -53,7 +53,7 @@ fn counted<'a>(octets: &'a [u8]) -> Result<&'a [u8], RequestFault>
     Ok(rest)
 }
 
-fn load<'a>(octets: &'a [u8]) -> Result<Request<'a>, RequestFault>
+fn load(octets: &[u8]) -> Result<Request<'_>, RequestFault>
     ensures { result ≡ with_octets 65535 Request.Load octets.now }
 {
     let code = Code::new(counted(octets)?).ok_or(RequestFault::Layout)?;
@@ -61,7 +61,7 @@ fn load<'a>(octets: &'a [u8]) -> Result<Request<'a>, RequestFault>
     Ok(Request::Load { id, code })
 }
 
-fn activate<'a>(octets: &'a [u8]) -> Result<Request<'a>, RequestFault>
+fn activate(octets: &[u8]) -> Result<Request<'_>, RequestFault>
     ensures { result ≡ with_octets 256 Request.Activate octets.now }
 {
     let arguments = Arguments::new(counted(octets)?).ok_or(RequestFault::Layout)?;
@@ -82,7 +82,7 @@ fn words_in(octets: &[u8], count: usize) -> ArrayVec<u64, 8>
     words
 }
 
-fn communicate<'a>(octets: &'a [u8]) -> Result<Request<'a>, RequestFault>
+fn communicate(octets: &[u8]) -> Result<Request<'_>, RequestFault>
     ensures { result ≡ with_words octets.now }
 {
     if octets.len() < 3 {
@@ -99,7 +99,7 @@ fn communicate<'a>(octets: &'a [u8]) -> Result<Request<'a>, RequestFault>
 }
 
 /// The request of this subtype that the data are.
-fn request_in<'a>(subtype: u8, octets: &'a [u8]) -> Result<Request<'a>, RequestFault>
+fn request_in(subtype: u8, octets: &[u8]) -> Result<Request<'_>, RequestFault>
     ensures { result ≡ request_in subtype octets.now }
 {
     match subtype {
@@ -129,6 +129,16 @@ fn request_in<'a>(subtype: u8, octets: &'a [u8]) -> Result<Request<'a>, RequestF
     }
 }
 
+/// The request of this service and subtype that the data are.
+fn request_of_service(service: u8, subtype: u8, octets: &[u8]) -> Result<Request<'_>, RequestFault>
+    ensures { result ≡ request_of service subtype octets.now }
+{
+    if service != SERVICE {
+        return Err(RequestFault::Service);
+    }
+    request_in(subtype, octets)
+}
+
 /// The request that a telecommand carries. Refused as `Service` where the service is not 18, else as
 /// `Subtype` where the subtype is no request's, else as `Layout` where the data have another length
 /// than the request's fields, or a number is out of its range (ECSS-E-ST-70-41C, 8.18).
@@ -140,9 +150,6 @@ pub fn read_request<'a>(tc: &Tc<'a>) -> Result<Request<'a>, RequestFault>
     // The same as a function, for definitions that speak of requests by their octets.
     ensures reads { result ≡ request_of tc.now.service tc.now.subtype tc.now.payload }
 {
-    if tc.service() != SERVICE {
-        return Err(RequestFault::Service);
-    }
     let octets = tc.payload();
-    request_in(tc.subtype(), octets)
+    request_of_service(tc.service(), tc.subtype(), octets)
 }

@@ -45,6 +45,7 @@ impl PlainCode {
         Some(PlainCode { code })
     }
 
+    /// The number of the code.
     pub fn code(self) -> u16
         ensures value { result ≡ self }
         ensures plain { self ≢ 18 }

@@ -6,7 +6,7 @@ ghost use Rattle.obcp_messages.specs.Rows.{IsRising};
 use crate::rows::StatusRow;
 
 /// Whether each identifier is below the next.
-pub fn is_rising(rows: &[StatusRow]) -> bool
+pub(crate) fn is_rising(rows: &[StatusRow]) -> bool
     ensures { IsTrue result ↔ IsRising rows.now }
 {
     for i in 1..rows.len() {

@@ -54,6 +54,7 @@ impl StatusRows {
         Some(StatusRows { rows })
     }
 
+    /// The rows, by rising identifier.
     pub fn as_slice(&self) -> &[StatusRow]
         ensures value { result.now ≡ self.now }
         ensures rising { IsRising self.now }

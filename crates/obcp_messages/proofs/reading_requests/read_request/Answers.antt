@@ -1,7 +1,7 @@
 use Rattle.std.proofs.Common.{◌≡◌, ℕ, List, Result, sym, ap, ◌∙◌, subst, rules}
 use Rattle.std.specs.Prelude.{IfOk, IfErr}
 use Rattle.obcp_messages.specs.Request.{IsRequestData, HasRequestFault}
-use Rattle.obcp_messages.specs.Reading.{request_in, request_of}
+use Rattle.obcp_messages.specs.Reading.{request_of}
 use Rattle.obcp_messages.specs.declared.request.Request.{Request}
 use Rattle.obcp_messages.specs.declared.fault.RequestFault.{RequestFault}
 use Rattle.obcp_messages.proofs.Octets.{AreOctets}
@@ -10,14 +10,14 @@ use Rattle.obcp_messages.proofs.Faults.{request_fault}
 use Rattle.obcp_messages.proofs.reading_requests.read_request.Goals as goal
 
 -- the answer is that of the definition
-answer : (service subtype : ℕ) (octets : List ℕ) (s t : ℕ) (o : List ℕ) (r : Result Request RequestFault) →
-    s ≡ 18 → s ≡ service → t ≡ subtype → o ≡ octets → r ≡ request_in t o → r ≡ request_of service subtype octets
-answer service subtype octets s t o r h e f g is =
-    is ∙ ap (λ n. request_in n o) f ∙ ap (request_in subtype) g ∙ sym (ap (λ n. request_of n subtype octets) (sym e ∙ h))
+answer : {s service t subtype : ℕ} {o octets : List ℕ} (r : Result Request RequestFault) → s ≡ service → t ≡ subtype → o ≡ octets →
+    r ≡ request_of s t o → r ≡ request_of service subtype octets
+answer {s} {service} {t} {subtype} {o} {octets} r e f g is =
+    is ∙ ap (λ n. request_of n t o) e ∙ ap (λ n. request_of service n o) f ∙ ap (request_of service subtype) g
 
 pub returns-clause-found : goal.returns-clause-found
 returns-clause-found c =
-    let is = answer c.args.tc.now.service c.args.tc.now.subtype c.args.tc.now.payload _ _ _ _ c.if-service-ne-SERVICE.false c.service.ensures c.subtype.ensures c.payload-octets.ensures c.request_in.ensures in
+    let is = answer c.request_of_service.result c.service.ensures c.subtype.ensures c.payload-octets.ensures c.request_of_service.ensures in
     let fits : AreOctets c.payload-octets.result.now = search rules in
     let octets : AreOctets c.args.tc.now.payload = subst (λ (o : List ℕ). AreOctets o) c.payload-octets.ensures fits in
     subst (λ (r : Result Request RequestFault). IfOk r (IsRequestData c.args.tc.now.service c.args.tc.now.subtype c.args.tc.now.payload)) (sym is)
@@ -25,11 +25,11 @@ returns-clause-found c =
 
 pub returns-clause-only : goal.returns-clause-only
 returns-clause-only c = λ request p.
-    answer c.args.tc.now.service c.args.tc.now.subtype c.args.tc.now.payload _ _ _ _ c.if-service-ne-SERVICE.false c.service.ensures c.subtype.ensures c.payload-octets.ensures c.request_in.ensures
+    answer c.request_of_service.result c.service.ensures c.subtype.ensures c.payload-octets.ensures c.request_of_service.ensures
     ∙ only_request c.args.tc.now.service c.args.tc.now.subtype c.args.tc.now.payload request p
 
 pub returns-clause-fault : goal.returns-clause-fault
 returns-clause-fault c =
-    let is = answer c.args.tc.now.service c.args.tc.now.subtype c.args.tc.now.payload _ _ _ _ c.if-service-ne-SERVICE.false c.service.ensures c.subtype.ensures c.payload-octets.ensures c.request_in.ensures in
+    let is = answer c.request_of_service.result c.service.ensures c.subtype.ensures c.payload-octets.ensures c.request_of_service.ensures in
     subst (λ (r : Result Request RequestFault). IfErr r (HasRequestFault c.args.tc.now.service c.args.tc.now.subtype c.args.tc.now.payload)) (sym is)
     (request_fault c.args.tc.now.service c.args.tc.now.subtype c.args.tc.now.payload)
