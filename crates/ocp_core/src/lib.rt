@@ -17,3 +17,6 @@ pub use engine::Engine;
 pub use event::{Entry, Event};
 pub use journal::Journal;
 pub use octets::{Octets, Reports};
+
+#[cfg(test)]
+mod tests;
