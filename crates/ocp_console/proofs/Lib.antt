@@ -1,0 +1,5 @@
+pub mod Sent
+pub mod Cutting
+pub mod Runs
+pub mod Scripts
+pub mod TextLemmas

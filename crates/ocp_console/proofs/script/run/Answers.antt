@@ -1,0 +1,32 @@
+use Rattle.std.proofs.Common.{◌≡◌, ◌++◌, ◌∷◌, ◌+◌, ◌-◌, List, [], ℕ, length, take, drop, arith, ◌∙◌, sym, subst, ap, append_assoc, refl}
+use Rattle.std.proofs.lemmas.Result.{err_from_is_err_and}
+use Rattle.ocp_console.specs.Session.{rest_of, taken}
+use Rattle.ocp_console.specs.Lines.{Open, lines_of}
+use Rattle.ocp_console.specs.Script.{run_of, transcript}
+use Rattle.ocp_console.specs.Answering.{state_of, respond}
+use Rattle.ocp_console.proofs.Scripts.{not_begun, piece_answered, piece_failed, script_ended}
+use Rattle.ocp_console.proofs.script.run.Goals as goal
+
+pub returns-then-count-eq0-clause-transcript : goal.returns-then-count-eq0-clause-transcript
+returns-then-count-eq0-clause-transcript g c = script_ended _ _ _ _ _ _ (transcript c.args.settings) (rest_of c.loop-count.session) _ _ c.loop-count.invariant.answered c.in-Some.ensures.octets.0 (ap (λ (n : ℕ). take n c.read.new.buffer) c.if-count-eq0.true) (c.in-Some.ensures.octets.1 c.if-count-eq0.true (omega (arith, c.read.auto.buffer, c.loop-count.invariant.room))) c.finish.ensures.run
+
+pub loop-count-preserved : goal.loop-count-preserved
+loop-count-preserved g c = record {
+  room = c.read.auto.buffer ∙ c.loop-count.invariant.room;
+  answered = piece_answered _ _ _ _ _ _ (transcript c.args.settings) (rest_of c.loop-count.session) _ _ c.loop-count.invariant.answered c.in-Some.ensures.octets.0 c.in_ok-feed_all.ensures.run;
+  reads = c.in-Some.ensures.count ∙ c.loop-count.invariant.reads;
+  writes = c.in_ok-feed_all.ensures.count ∙ c.loop-count.invariant.writes;
+}
+
+pub returns-in_err-feed_all-clause-transcript : goal.returns-in_err-feed_all-clause-transcript
+returns-in_err-feed_all-clause-transcript g c =
+    let p = err_from_is_err_and c.from_residual-in_err-feed_all.result c.from_residual-in_err-feed_all.ensures.1 in
+    rw (p.1, p.2) (piece_failed _ _ _ _ _ _ (transcript c.args.settings) (rest_of c.loop-count.session) (rest_of c.loop-count.session) _ _ c.loop-count.invariant.answered c.in-Some.ensures.octets.0 c.in_err-feed_all.ensures.run)
+
+pub loop-count-init : goal.loop-count-init
+loop-count-init g c = record {
+  room = refl;
+  answered = not_begun (g.R.Source.remaining c.args.reader.now) (g.W.Sink.contents c.args.writer.now) (transcript c.args.settings) (rest_of c.new-session.result) (λ more. rw (c.new-session.ensures.console, c.new-session.ensures.before, c.new-session.ensures.line, c.in_ok-console.ensures) refl);
+  reads = refl;
+  writes = refl;
+}

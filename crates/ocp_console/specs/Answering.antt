@@ -1,0 +1,97 @@
+-- What a line does, and what it prints.
+use Rattle.std.specs.Prelude.{ℕ, ◌+◌, ◌%◌, List, [], ◌∷◌, ◌++◌, length, Option, Some, None, Result, Ok, Err, codes}
+use Rattle.std.specs.List.{flat_map}
+use Rattle.std.specs.FinMap.{get}
+use Rattle.pus_fields.specs.Acknowledgement.{flags}
+use Rattle.pus_fields.specs.Telecommand.{telecommand_octets}
+use Rattle.obcp_messages.specs.declared.request.Request.{Request}
+use Rattle.obcp_messages.specs.Request.{subtype_of, request_data}
+use Rattle.ocp_table.specs.Shown.{shown_at}
+use Rattle.ocp_core.specs.declared.answers.EngineFault.{EngineFault}
+use Rattle.ocp_core.specs.declared.answers.EngineFault.TheVariants as fault
+use Rattle.ocp_core.specs.World.{Answer, Requested, Stepped}
+use Rattle.ocp_core.specs.World as event
+use Rattle.ocp_core.specs.Log.{Log, opened, expand, world_of, answer_in, log_after}
+use Rattle.ocp_core.specs.Slice.{slice_in, slice_log}
+use Rattle.ocp_lines.specs.Grammar.{Said, Nothing, Up, Send, Time, Step, View, Journal, command_of}
+use Rattle.ocp_console.specs.declared.settings.Settings.{Settings}
+use Rattle.ocp_console.specs.declared.console.Console.{Console}
+use Rattle.ocp_console.specs.Texts.{report_line, discard_line, step_line, view_lines, journal_line}
+
+-- What a console keeps from line to line: the engine, which is its journal; the application process identifier of the ground's
+-- telecommands; the time of the next requests; the ground count, which is the sequence count of the next telecommand.
+pub record State : Type 0 where
+  pub engine : Log
+  pub apid : ℕ
+  pub time : ℕ
+  pub count : ℕ
+
+abbrev pub state_of : {A : Type 0} → Console A → State
+state_of c = record { engine = c.engine; apid = c.apid; time = c.time; count = c.count }
+
+-- the state before the first line
+abbrev pub opening : Settings → State
+opening settings = record { engine = opened settings.apid settings.pool_words settings.capacity; apid = settings.apid; time = 0; count = 0 }
+
+-- ---- requests
+
+-- what is printed of a request
+abbrev pub answer_text : Answer → List ℕ
+answer_text (Requested (Ok reports)) = flat_map report_line reports
+answer_text (Requested (Err (fault.Discarded why))) = discard_line why
+answer_text (Requested (Err fault.JournalFull)) = codes "refused JournalFull\n"
+answer_text (Requested (Err fault.Memory)) = []
+answer_text (Stepped outcome) = []
+
+-- the event that these octets reach the engine, by the console's seat 0
+abbrev pub arrival : State → List ℕ → event.Event
+arrival state octets = event.Request 0 state.time octets
+
+-- the journal after an answer: a refused request leaves no entry
+abbrev pub kept : Answer → Log → Log → Log
+kept (Requested (Ok reports)) old new = new
+kept (Requested (Err fault)) old new = old
+kept (Stepped outcome) old new = old
+
+-- these octets reach the engine
+abbrev pub received : State → List ℕ → State × List ℕ
+received state octets =
+    let answer = answer_in state.engine (arrival state octets) in
+    (record state { engine = kept answer state.engine (log_after state.engine (arrival state octets)) }, answer_text answer)
+
+-- the telecommand of a request of service 18, from source 0
+abbrev pub telecommand : State → ℕ → Request → List ℕ
+telecommand state ack request = telecommand_octets (record { apid = state.apid; count = state.count; ack = flags ack; service = 18; subtype = subtype_of request; source = 0; payload = request_data request })
+
+-- the ground count rises with each telecommand
+abbrev pub counted : State → State
+counted state = record state { count = (state.count + 1) % 16384 }
+
+-- a telecommand of this request reaches the engine
+abbrev pub asked : State → ℕ → Request → State × List ℕ
+asked state ack request = received (counted state) (telecommand state ack request)
+
+-- ---- the other lines
+
+abbrev pub stepped : State → ℕ → ℕ → State × List ℕ
+stepped state id budget = let slice = slice_in state.engine 0 id budget in (record state { engine = slice_log state.engine 0 id budget }, step_line id slice.count slice.last)
+
+-- ---- each line
+
+-- the next state, and what is printed
+abbrev pub done : State → Said → State × List ℕ
+done state Nothing = (state, [])
+done state (Up octets) = received state octets
+done state (Send ack request) = asked state ack request
+done state (Time time) = (record state { time = time }, [])
+done state (Step id budget) = stepped state id budget
+done state (View id) = (state, view_lines id (shown_at (get (world_of state.engine).records id)))
+done state Journal = (state, journal_line (length (expand state.engine.entries)))
+
+abbrev pub response : State → Option Said → Option (State × List ℕ)
+response state None = None
+response state (Some said) = Some (done state said)
+
+-- the next state, and what is printed; none where the line is no command
+unfoldable pub respond : State → List ℕ → Option (State × List ℕ)
+respond state line = response state (command_of line)

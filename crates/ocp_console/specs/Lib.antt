@@ -1,0 +1,6 @@
+pub mod Ports
+pub mod Lines
+pub mod Texts
+pub mod Answering
+pub mod Script
+pub mod Session

@@ -1,0 +1,138 @@
+//! What a console keeps from line to line, and what each line does to it.
+
+ghost use Rattle.std.specs.Prelude.{◌≡◌, ◌<◌, IfOk, string_bytes, Some};
+ghost use Rattle.pus_fields.specs.Telecommand.{telecommand_octets};
+ghost use Rattle.obcp_messages.specs.Request.{subtype_of, request_data};
+ghost use Rattle.pus_fields.specs.Acknowledgement.{flags_of};
+
+use crate::settings::Settings;
+use crate::texts::{discard_text, journal_text, reports_text, step_text, view_text};
+use bitflags::Flags as _;
+use obcp_messages::{Arguments, Code, Request, SERVICE, Words, write_request};
+use ocp_core::{Engine, EngineFault};
+use ocp_lines::{Command, Flags, Verb};
+use pus_fields::{Ack, Tc, write_tc};
+use space_packet::{Apid, SequenceCount};
+use std::alloc::{AllocError, Allocator};
+
+/// The octets of the telecommand of a request, from source 0.
+fn telecommand<A: Allocator + Copy>(
+    alloc: A,
+    apid: Apid,
+    count: SequenceCount,
+    flags: Flags,
+    request: &Request,
+) -> Result<Vec<u8, A>, AllocError>
+    requires { apid < 2047 }
+    ensures { IfOk result (λ packet. packet.items ≡ telecommand_octets (record { apid = apid; count = count; ack = record { 0 = flags.number }; service = 18; subtype = subtype_of request.now; source = 0; payload = request_data request.now })) }
+{
+    let mut payload = Vec::new(alloc);
+    write_request(request, &mut payload)?;
+    let ack = Ack::from_bits_retain(flags.number);
+    let tc = Tc::new(apid, count, ack, SERVICE, request.subtype(), 0, &payload).unwrap();
+    let mut packet = Vec::new(alloc);
+    match write_tc(&tc, &mut packet) {
+        Ok(()) => Ok(packet),
+        // The code of a request is short enough for a packet, so that only memory is refused.
+        Err(_) => Err(AllocError),
+    }
+}
+
+/// What a console keeps from line to line.
+#[derive(Drop)]
+pub(crate) struct Console<A: Allocator> {
+    pub engine: Engine<A>,
+    /// The application process identifier of the ground's telecommands.
+    pub apid: Apid,
+    /// The time of the next requests, in whole seconds.
+    pub time: u32,
+    /// The ground count: the sequence count of the next telecommand.
+    pub count: SequenceCount,
+    pub ghost apid_in_range: { apid < 2047 },
+}
+
+impl<A: Allocator + Copy> Console<A> {
+    ghost use Rattle.ocp_lines.specs.Grammar.{said_by, request_of};
+    ghost use Rattle.ocp_console.specs.Answering.{state_of, opening, received, counted, asked, done};
+
+    /// A console on a new engine.
+    pub fn new(alloc: A, settings: Settings) -> Result<Console<A>, AllocError>
+        ensures { IfOk result (λ console. state_of console ≡ opening settings) }
+    {
+        let engine = Engine::new(alloc, settings.apid, settings.pool_words, settings.capacity)?;
+        Ok(Console {
+            engine,
+            apid: Apid::new(settings.apid).unwrap(),
+            time: 0,
+            count: SequenceCount::new(0).unwrap(),
+        })
+    }
+
+    /// These octets reach the engine.
+    fn receive(&mut self, alloc: A, octets: &[u8]) -> Result<String<A>, AllocError>
+        ensures { IfOk result (λ text. (state_of self.new, string_bytes text) ≡ received (state_of self.old) octets.now) }
+    {
+        match self.engine.request(alloc, 0, self.time, octets) {
+            Ok(reports) => reports_text(alloc, &reports),
+            Err(EngineFault::Discarded(why)) => discard_text(alloc, why),
+            Err(EngineFault::JournalFull) => String::from_str(alloc, "refused JournalFull\n"),
+            Err(EngineFault::Memory) => Err(AllocError),
+        }
+    }
+
+    /// A telecommand of this request reaches the engine.
+    fn ask(&mut self, alloc: A, flags: Flags, request: &Request) -> Result<String<A>, AllocError>
+        ensures { IfOk result (λ text. (state_of self.new, string_bytes text) ≡ asked (state_of self.old) flags.number request.now) }
+    {
+        let packet = telecommand(alloc, self.apid, self.count, flags, request)?;
+        self.count = self.count.next();
+        self.receive(alloc, packet.as_slice())
+    }
+
+    /// What a `send` line does.
+    fn send(&mut self, alloc: A, flags: Flags, verb: Verb<A>) -> Result<String<A>, AllocError>
+        ensures { IfOk result (λ text. (state_of self.new, string_bytes text) ≡ asked (state_of self.old) flags.number (request_of verb)) }
+    {
+        match verb {
+            Verb::Load { id, code } => {
+                let code = Code::new(code.as_slice()).unwrap();
+                self.ask(alloc, flags, &Request::Load { id, code })
+            }
+            Verb::Unload { id } => self.ask(alloc, flags, &Request::Unload { id }),
+            Verb::Activate { id, arguments } => {
+                let arguments = Arguments::new(arguments.as_slice()).unwrap();
+                self.ask(alloc, flags, &Request::Activate { id, arguments })
+            }
+            Verb::Stop { id, step } => self.ask(alloc, flags, &Request::Stop { id, step }),
+            Verb::Suspend { id, step } => self.ask(alloc, flags, &Request::Suspend { id, step }),
+            Verb::Resume { id } => self.ask(alloc, flags, &Request::Resume { id }),
+            Verb::Abort { id } => self.ask(alloc, flags, &Request::Abort { id }),
+            Verb::Communicate { id, parameters } => {
+                let words = Words::new(parameters.into_numbers()).unwrap();
+                self.ask(alloc, flags, &Request::Communicate { id, words })
+            }
+            Verb::Status => self.ask(alloc, flags, &Request::Status),
+        }
+    }
+
+    /// Does what a line says, and gives what it prints.
+    pub fn obey(&mut self, alloc: A, command: Command<A>) -> Result<String<A>, AllocError>
+        ensures { IfOk result (λ text. (state_of self.new, string_bytes text) ≡ done (state_of self.old) (said_by command)) }
+    {
+        match command {
+            Command::Nothing => Ok(String::new(alloc)),
+            Command::Up(octets) => self.receive(alloc, octets.as_slice()),
+            Command::Send { flags, verb } => self.send(alloc, flags, verb),
+            Command::Time(time) => {
+                self.time = time;
+                Ok(String::new(alloc))
+            }
+            Command::Step { id, steps } => {
+                let slice = self.engine.slice(0, id, steps.number);
+                step_text(alloc, id, slice)
+            }
+            Command::View(id) => view_text(alloc, id, self.engine.view(id)),
+            Command::Journal => journal_text(alloc, self.engine.events()),
+        }
+    }
+}

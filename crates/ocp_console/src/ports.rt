@@ -1,0 +1,36 @@
+//! Where a run reads and writes.
+
+ghost use Rattle.std.specs.Prelude.{◌≡◌, ◌<◌, ◌≤◌, ◌+◌, ◌-◌, ◌^◌, ℕ, List, Option, None, IfSome, is_some, length, if◌then◌else◌};
+ghost use Rattle.ocp_console.specs.Ports.{Takes, Puts};
+
+pub trait Source {
+    // The octets that are left, where they are known.
+    ghost remaining: { Self → Option (List ℕ) } = { λ _. None };
+
+    // How many reads failed.
+    ghost failed_reads: { Self → ℕ };
+
+    /// Reads some octets to the front of the buffer, or fails. It gives none only at the end.
+    fn read(&mut self, buffer: &mut [u8]) -> Option<usize>
+        requires { failed_reads self.old < 2 ^ 64 - 1 }
+        ensures bound { IfSome result (λ count. count ≤ length buffer.new) }
+        ensures octets { Takes (remaining self.old) (remaining self.new) result buffer.new }
+        ensures count { failed_reads self.new ≡ (if is_some result then failed_reads self.old else failed_reads self.old + 1) };
+}
+
+pub trait Sink {
+    // The octets that were written, where they are known.
+    ghost contents: { Self → Option (List ℕ) } = { λ _. None };
+
+    // How many writes failed.
+    ghost failed_writes: { Self → ℕ };
+
+    /// Writes some octets of the front, at least one, or fails.
+    fn write(&mut self, octets: &[u8]) -> Option<usize>
+        requires room { failed_writes self.old < 2 ^ 64 - 1 }
+        requires some { 0 < length octets.now }
+        ensures bound { IfSome result (λ count. count ≤ length octets.now) }
+        ensures moves { IfSome result (λ count. 0 < count) }
+        ensures octets { Puts (contents self.old) (contents self.new) result octets.now }
+        ensures count { failed_writes self.new ≡ (if is_some result then failed_writes self.old else failed_writes self.old + 1) };
+}

@@ -1,0 +1,63 @@
+-- The first word of a text.
+use Rattle.std.proofs.Common.{◌≡◌, ◌++◌, ◌<◌, ◌≤◌, ◌-◌, List, [], ◌∷◌, ℕ, zero, suc, Bool, true, false, eqb, not, ◌&&◌, length, refl, sym, ap, ◌∙◌, arith, take, drop, get_or, append-nil, take-append-drop, length-drop}
+use Rattle.std.proofs.lemmas.Grind.{common_steps}
+use Rattle.std.specs.List.{list_all}
+use Rattle.ocp_lines.specs.Words.{Word, is_solid, onto, pieces, words_of}
+
+-- a word before the first piece
+joined : List ℕ → List Word → List Word
+joined word [] = word ∷ []
+joined word (piece ∷ pieces) = (word ++ piece) ∷ pieces
+
+solid-cons : (octet : ℕ) (word : List ℕ) → list_all is_solid (octet ∷ word) ≡ true → (eqb octet 32 ≡ false) × (list_all is_solid word ≡ true)
+solid-cons octet word e = split (eqb octet 32) refl e
+  where
+    split : (b : Bool) → eqb octet 32 ≡ b → (not b && list_all is_solid word) ≡ true → (eqb octet 32 ≡ false) × (list_all is_solid word ≡ true)
+    split true h g = absurd cc
+    split false h g = (h, g)
+
+onto-joined : (octet : ℕ) (ps : List Word) → onto octet ps ≡ joined (octet ∷ []) ps
+unfolding joined
+onto-joined octet [] = refl
+onto-joined octet (p ∷ ps) = refl
+
+onto-joined_more : (octet : ℕ) (word : List ℕ) (ps : List Word) → onto octet (joined word ps) ≡ joined (octet ∷ word) ps
+unfolding joined
+onto-joined_more octet word [] = refl
+onto-joined_more octet word (p ∷ ps) = refl
+
+joined-pieces : (octet : ℕ) (word rest : List ℕ) → list_all is_solid (octet ∷ word) ≡ true → pieces ((octet ∷ word) ++ rest) ≡ joined (octet ∷ word) (pieces rest)
+joined-pieces octet [] rest e = let s = solid-cons octet [] e in rw s.0 (onto-joined octet (pieces rest))
+joined-pieces octet (next ∷ word) rest e = let s = solid-cons octet (next ∷ word) e in rw (s.0, joined-pieces next word rest s.1) (onto-joined_more octet (next ∷ word) (pieces rest))
+
+-- the text ends, or a space comes
+abbrev pub Stops : List ℕ → Type 0
+Stops [] = Unit {0}
+Stops (octet ∷ octets) = octet ≡ 32
+
+pub first_word : (octet : ℕ) (word rest : List ℕ) → list_all is_solid (octet ∷ word) ≡ true → Stops rest → words_of ((octet ∷ word) ++ rest) ≡ (octet ∷ word) ∷ words_of rest
+unfolding joined
+first_word octet word [] e h = rw (joined-pieces octet word [] e, append-nil word) refl
+first_word octet word (space ∷ rest) e h = rw h (rw (joined-pieces octet word (32 ∷ rest) e, append-nil word) refl)
+
+pub stops_at : (text : List ℕ) (n : ℕ) → (n < length text → get_or text n 0 ≡ 32) → Stops (drop n text)
+stops_at [] n h = at_end n
+  where
+    at_end : (n : ℕ) → Stops (drop n [])
+    at_end zero = tt
+    at_end (suc n) = tt
+stops_at (a ∷ text) zero h = h (omega arith)
+stops_at (a ∷ text) (suc n) h = stops_at text n (λ lt. h (omega (arith, lt)))
+
+pub word_split : (text : List ℕ) (n : ℕ) → 0 < n → n ≤ length text → list_all is_solid (take n text) ≡ true → (n < length text → get_or text n 0 ≡ 32)
+    → words_of text ≡ take n text ∷ words_of (drop n text)
+word_split [] n lt le e h = absurd (omega arith)
+word_split (a ∷ text) zero lt le e h = absurd (omega arith)
+word_split (a ∷ text) (suc n) lt le e h =
+    ap (λ t. words_of (a ∷ t)) (sym (take-append-drop n text)) ∙ first_word a (take n text) (drop n text) e (stops_at (a ∷ text) (suc n) h)
+
+pub found_word : (all text : List ℕ) (n : ℕ) → words_of all ≡ words_of text → (n ≡ 0 → ⊥) → n ≤ length text → list_all is_solid (take n text) ≡ true → (n < length text → get_or text n 0 ≡ 32)
+    → words_of all ≡ take n text ∷ words_of (take (length text - n) (drop n text))
+found_word all text n same some le e h =
+    let rest : take (length text - n) (drop n text) ≡ drop n text = grind (arith, common_steps, length-drop n text) in
+    same ∙ word_split text n (omega (arith, some)) le e h ∙ ap (λ (t : List ℕ). take n text ∷ words_of t) (sym rest)

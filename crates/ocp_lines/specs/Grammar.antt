@@ -1,0 +1,190 @@
+-- The lines of a console script, and what each says.
+use Rattle.std.specs.Prelude.{ℕ, ◌-◌, ◌^◌, ◌&&◌, nat_le, nat_eq, if◌then◌else◌, List, [], ◌∷◌, length, Option, Some, None, codes}
+use Rattle.std.specs.List.{starts_with}
+use Rattle.std.specs.Str.{bytes_eq}
+use Rattle.std.specs.Option.{option_map}
+use Rattle.ocp_lines.specs.Words.{Word, words_of, number_up_to, octets_up_to}
+use Rattle.obcp_messages.specs.declared.request.Request.{Request}
+use Rattle.obcp_messages.specs.declared.request.Request.TheVariants.{Load, Unload, Activate, Stop, Suspend, Resume, Abort, Communicate, Status}
+use Rattle.ocp_lines.specs.declared.command.Command.{Command}
+use Rattle.ocp_lines.specs.declared.command.Command.TheVariants as command
+use Rattle.ocp_lines.specs.declared.command.Verb.{Verb}
+use Rattle.ocp_lines.specs.declared.command.Verb.TheVariants as verb
+
+-- ---- what a line can say
+
+-- nothing, a packet's octets, a request with its acknowledgement flags, a time, some steps of a procedure, a view of one,
+-- the number of events
+pub data Said : Type 0 where
+  Nothing : Said
+  Up : List ℕ → Said
+  Send : ℕ → Request → Said
+  Time : ℕ → Said
+  Step : ℕ → ℕ → Said
+  View : ℕ → Said
+  Journal : Said
+
+abbrev pub request_of : {A : Type 0} → Verb A → Request
+request_of (verb.Load id code) = Load id code
+request_of (verb.Unload id) = Unload id
+request_of (verb.Activate id arguments) = Activate id arguments
+request_of (verb.Stop id step) = Stop id step
+request_of (verb.Suspend id step) = Suspend id step
+request_of (verb.Resume id) = Resume id
+request_of (verb.Abort id) = Abort id
+request_of (verb.Communicate id parameters) = Communicate id parameters
+request_of verb.Status = Status
+
+abbrev pub said_by : {A : Type 0} → Command A → Said
+said_by command.Nothing = Nothing
+said_by (command.Up octets) = Up octets
+said_by (command.Send flags verb) = Send flags.number (request_of verb)
+said_by (command.Time time) = Time time
+said_by (command.Step id steps) = Step id steps.number
+said_by (command.View id) = View id
+said_by command.Journal = Journal
+
+-- ---- how many words there are
+
+abbrev pub no_word : {X : Type 0} → X → List Word → Option X
+no_word x [] = Some x
+no_word x (word ∷ words) = None
+
+abbrev pub one_word : {X : Type 0} → (Word → Option X) → List Word → Option X
+one_word f [] = None
+one_word f (word ∷ []) = f word
+one_word f (word ∷ next ∷ words) = None
+
+abbrev pub two_words : {X : Type 0} → (Word → Word → Option X) → List Word → Option X
+two_words f [] = None
+two_words f (word ∷ []) = None
+two_words f (word ∷ next ∷ []) = f word next
+two_words f (word ∷ next ∷ other ∷ words) = None
+
+-- a first word, and those behind it
+abbrev pub first_word : {X : Type 0} → (Word → List Word → Option X) → List Word → Option X
+first_word f [] = None
+first_word f (word ∷ words) = f word words
+
+-- a word that may be missing: it is then taken as empty
+abbrev pub word_or_none : {X : Type 0} → (Word → Option X) → List Word → Option X
+word_or_none f [] = f []
+word_or_none f (word ∷ []) = f word
+word_or_none f (word ∷ next ∷ words) = None
+
+abbrev pub both : {X Y Z : Type 0} → Option X → Option Y → (X → Y → Z) → Option Z
+both None b f = None
+both (Some x) None f = None
+both (Some x) (Some y) f = Some (f x y)
+
+-- ---- what the words say
+
+-- an identifier, a place or a step
+abbrev pub short : Word → Option ℕ
+short word = number_up_to 65535 word
+
+abbrev pub numbers : List Word → Option (List ℕ)
+numbers [] = Some []
+numbers (word ∷ words) = both (number_up_to (2 ^ 64 - 1) word) (numbers words) (λ n ns. n ∷ ns)
+
+abbrev pub one_to_eight : Option (List ℕ) → Option (List ℕ)
+one_to_eight None = None
+one_to_eight (Some ns) = if nat_le 1 (length ns) && nat_le (length ns) 8 then Some ns else None
+
+-- 1 to 8 numbers
+abbrev pub parameters_in : List Word → Option (List ℕ)
+parameters_in words = one_to_eight (numbers words)
+
+abbrev pub from_one : Option ℕ → Option ℕ
+from_one None = None
+from_one (Some n) = if nat_le 1 n then Some n else None
+
+-- a number of steps, 1 to 1,000,000
+abbrev pub steps : Word → Option ℕ
+steps word = from_one (number_up_to 1000000 word)
+
+-- ---- the verbs of `send`
+
+-- `load <id> [<hex>]`
+abbrev pub load_in : List Word → Option Request
+load_in words = first_word (λ id rest. both (short id) (word_or_none (octets_up_to 65525) rest) Load) words
+
+-- `activate <id> [<hex>]`
+abbrev pub activate_in : List Word → Option Request
+activate_in words = first_word (λ id rest. both (short id) (word_or_none (octets_up_to 256) rest) Activate) words
+
+-- the identifier of `unload <id>`, `resume <id>` and `abort <id>`
+abbrev pub id_in : List Word → Option ℕ
+id_in words = one_word short words
+
+-- the identifier and the step of `stop <id> <step>` and `suspend <id> <step>`
+abbrev pub step_in : List Word → Option (ℕ × ℕ)
+step_in words = two_words (λ id step. both (short id) (short step) (λ i s. (i, s))) words
+
+-- `communicate <id>` with 1 to 8 numbers
+abbrev pub communicate_in : List Word → Option Request
+communicate_in words = first_word (λ id rest. both (short id) (parameters_in rest) Communicate) words
+
+-- the verbs without octets
+abbrev pub plain_verb_in : Word → List Word → Option Request
+plain_verb_in name words =
+    if bytes_eq name (codes "unload") then option_map (λ id. Unload id) (id_in words)
+    else if bytes_eq name (codes "stop") then option_map (λ p. Stop p.0 p.1) (step_in words)
+    else if bytes_eq name (codes "suspend") then option_map (λ p. Suspend p.0 p.1) (step_in words)
+    else if bytes_eq name (codes "resume") then option_map (λ id. Resume id) (id_in words)
+    else if bytes_eq name (codes "abort") then option_map (λ id. Abort id) (id_in words)
+    else if bytes_eq name (codes "communicate") then communicate_in words
+    else if bytes_eq name (codes "status") then no_word Status words
+    else None
+
+abbrev pub verb_in : Word → List Word → Option Request
+verb_in name words =
+    if bytes_eq name (codes "load") then load_in words
+    else if bytes_eq name (codes "activate") then activate_in words
+    else plain_verb_in name words
+
+-- ---- the lines
+
+-- `up [<hex>]`
+abbrev pub up_in : List Word → Option Said
+up_in words = word_or_none (λ word. option_map Up (octets_up_to 65525 word)) words
+
+-- `send <ack 0 to 15> <verb> ..`
+abbrev pub send_in : List Word → Option Said
+send_in words = first_word (λ ack rest. first_word (λ name arguments. both (number_up_to 15 ack) (verb_in name arguments) Send) rest) words
+
+-- the number of `time <u32>`
+abbrev pub time_in : List Word → Option ℕ
+time_in words = one_word (number_up_to (2 ^ 32 - 1)) words
+
+-- the identifier and the number of `step <id> <n>`
+abbrev pub count_in : List Word → Option (ℕ × ℕ)
+count_in words = two_words (λ id count. both (short id) (steps count) (λ i n. (i, n))) words
+
+-- the identifier of `view <id>`
+abbrev pub view_in : List Word → Option ℕ
+view_in words = one_word short words
+
+-- the lines without octets
+abbrev pub plain_command_in : Word → List Word → Option Said
+plain_command_in name words =
+    if bytes_eq name (codes "time") then option_map (λ time. Time time) (time_in words)
+    else if bytes_eq name (codes "step") then option_map (λ p. Step p.0 p.1) (count_in words)
+    else if bytes_eq name (codes "view") then option_map (λ id. View id) (view_in words)
+    else if bytes_eq name (codes "journal") then no_word Journal words
+    else None
+
+abbrev pub command_in : Word → List Word → Option Said
+command_in name words =
+    if bytes_eq name (codes "up") then up_in words
+    else if bytes_eq name (codes "send") then send_in words
+    else plain_command_in name words
+
+-- the command of the words of a line: a line with no words is blank
+abbrev pub words_say : List Word → Option Said
+words_say [] = Some Nothing
+words_say (name ∷ words) = command_in name words
+
+-- The command that a line says, or none where its form is no other's. A line whose first octet is `#` is a comment.
+unfoldable pub command_of : List ℕ → Option Said
+command_of line = if starts_with nat_eq line (codes "#") then Some Nothing else words_say (words_of line)

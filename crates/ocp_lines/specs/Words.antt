@@ -1,0 +1,52 @@
+-- The words of a line.
+use Rattle.std.specs.Prelude.{ℕ, ◌+◌, ◌*◌, ◌-◌, ◌==◌, ◌&&◌, nat_le, Bool, true, false, not, if◌then◌else◌, List, [], ◌∷◌, length, Option, Some, None, filter, fold}
+use Rattle.std.specs.List.{list_all}
+use Rattle.std.specs.Result.{result_ok}
+use Rattle.hex.specs.Hex.{decode_of}
+
+abbrev pub Word : Type 0
+Word = List ℕ
+
+abbrev pub is_empty : Word → Bool
+is_empty [] = true
+is_empty (octet ∷ octets) = false
+
+-- an octet before the first piece
+abbrev pub onto : ℕ → List Word → List Word
+onto octet [] = (octet ∷ []) ∷ []
+onto octet (piece ∷ pieces) = (octet ∷ piece) ∷ pieces
+
+-- a text cut at each space
+abbrev pub pieces : List ℕ → List Word
+pieces [] = [] ∷ []
+pieces (octet ∷ octets) = if octet == 32 then [] ∷ pieces octets else onto octet (pieces octets)
+
+-- an octet of a word
+abbrev pub is_solid : ℕ → Bool
+is_solid octet = not (octet == 32)
+
+-- the words of a text, which are parted by spaces
+abbrev pub words_of : List ℕ → List Word
+words_of text = filter (λ piece. not (is_empty piece)) (pieces text)
+
+-- ---- what a word says
+
+abbrev pub is_digit : ℕ → Bool
+is_digit octet = nat_le 48 octet && nat_le octet 57
+
+-- the number that decimal digits say
+abbrev pub value_of : List ℕ → ℕ
+value_of digits = fold (λ value digit. value * 10 + (digit - 48)) 0 digits
+
+-- decimal digits, at least one: a number up to the most
+abbrev pub number_up_to : ℕ → Word → Option ℕ
+number_up_to most word =
+    if not (is_empty word) && list_all is_digit word && nat_le (value_of word) most then Some (value_of word) else None
+
+abbrev pub at_most : ℕ → Option (List ℕ) → Option (List ℕ)
+at_most most None = None
+at_most most (Some octets) = if nat_le (length octets) most then Some octets else None
+
+-- hexadecimal digits of both cases, an even number of them: at most so many octets
+abbrev pub octets_up_to : ℕ → Word → Option (List ℕ)
+octets_up_to most word = at_most most (result_ok (decode_of word))

@@ -1,0 +1,55 @@
+//! What a line says.
+
+ghost use Rattle.std.specs.Prelude.{◌<◌, ◌≤◌};
+
+use crate::octets::{Arguments, Octets};
+use crate::parameters::Parameters;
+use std::alloc::{Allocator, Global};
+
+/// What a `send` line asks of the engine.
+#[derive(Drop)]
+pub enum Verb<A: Allocator = Global> {
+    Load { id: u16, code: Octets<A> },
+    Unload { id: u16 },
+    Activate { id: u16, arguments: Arguments<A> },
+    Stop { id: u16, step: u16 },
+    Suspend { id: u16, step: u16 },
+    Resume { id: u16 },
+    Abort { id: u16 },
+    Communicate { id: u16, parameters: Parameters },
+    Status,
+}
+
+/// Acknowledgement flags as one number: 1 acceptance, 2 start, 4 progress, 8 completion.
+#[derive(Clone, Copy)]
+pub struct Flags {
+    pub number: u8,
+    pub ghost in_range: { number < 16 },
+}
+
+/// How many instructions a `step` line asks for.
+#[derive(Clone, Copy)]
+pub struct Steps {
+    pub number: u32,
+    pub ghost some: { 1 ≤ number },
+    pub ghost in_range: { number ≤ 1000000 },
+}
+
+/// What a line says.
+#[derive(Drop)]
+pub enum Command<A: Allocator = Global> {
+    /// A blank line or a comment: nothing.
+    Nothing,
+    /// `up [<hex>]`: these octets reach the engine.
+    Up(Octets<A>),
+    /// `send <ack> <verb> ..`: a telecommand with these acknowledgement flags.
+    Send { flags: Flags, verb: Verb<A> },
+    /// `time <u32>`: the time of later requests.
+    Time(u32),
+    /// `step <id> <n>`: up to so many instructions of a procedure.
+    Step { id: u16, steps: Steps },
+    /// `view <id>`: a procedure's registers and status.
+    View(u16),
+    /// `journal`: how many events there were.
+    Journal,
+}

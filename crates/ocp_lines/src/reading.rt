@@ -1,0 +1,129 @@
+//! Reading a line.
+
+ghost use Rattle.std.specs.Prelude.{◌≡◌, IfOk};
+ghost use Rattle.std.specs.Option.{option_map};
+ghost use Rattle.ocp_lines.specs.Words.{words_of};
+ghost use Rattle.ocp_lines.specs.Grammar.{said_by, up_in, send_in, time_in, count_in, view_in, command_in, plain_command_in, command_of};
+
+use crate::command::{Command, Flags, Steps};
+use crate::verbs::verb;
+use crate::words::{next_word, no_word, number, octets, one_word, short, two_words, word_or_none};
+use std::alloc::{AllocError, Allocator};
+
+/// The most steps of one line.
+const MOST_STEPS: u64 = 1_000_000;
+
+fn up<A: Allocator>(alloc: A, arguments: &[u8]) -> Result<Option<Command<A>>, AllocError>
+    ensures { IfOk result (λ command. option_map said_by command ≡ up_in (words_of arguments.now)) }
+{
+    let Some(word) = word_or_none(arguments) else {
+        return Ok(None);
+    };
+    match octets(alloc, word)? {
+        Some(packet) => Ok(Some(Command::Up(packet))),
+        None => Ok(None),
+    }
+}
+
+fn send<A: Allocator>(alloc: A, arguments: &[u8]) -> Result<Option<Command<A>>, AllocError>
+    ensures { IfOk result (λ command. option_map said_by command ≡ send_in (words_of arguments.now)) }
+{
+    let Some((flags, rest)) = next_word(arguments) else {
+        return Ok(None);
+    };
+    let (Some(flags), Some((name, rest))) = (number(flags, 15), next_word(rest)) else {
+        return Ok(None);
+    };
+    match verb(alloc, name, rest)? {
+        Some(verb) => Ok(Some(Command::Send {
+            flags: Flags {
+                number: flags as u8,
+            },
+            verb,
+        })),
+        None => Ok(None),
+    }
+}
+
+fn time(arguments: &[u8]) -> Option<u32>
+    ensures { result ≡ time_in (words_of arguments.now) }
+{
+    let time = number(one_word(arguments)?, 0xffff_ffff)?;
+    Some(time as u32)
+}
+
+/// The identifier and the number of a `step` line.
+fn steps(arguments: &[u8]) -> Option<(u16, Steps)>
+    ensures { option_map (λ found. (found.0, found.1.number)) result ≡ count_in (words_of arguments.now) }
+{
+    let (id, count) = two_words(arguments)?;
+    let id = short(id)?;
+    let count = number(count, MOST_STEPS)?;
+    if count == 0 {
+        return None;
+    }
+    Some((
+        id,
+        Steps {
+            number: count as u32,
+        },
+    ))
+}
+
+fn view(arguments: &[u8]) -> Option<u16>
+    ensures { result ≡ view_in (words_of arguments.now) }
+{
+    short(one_word(arguments)?)
+}
+
+/// The command of this name with these arguments, which are no octets.
+fn plain_command<A: Allocator>(name: &[u8], arguments: &[u8]) -> Option<Command<A>>
+    ensures { option_map said_by result ≡ plain_command_in name.now (words_of arguments.now) }
+{
+    if name == b"time".as_slice() {
+        Some(Command::Time(time(arguments)?))
+    } else if name == b"step".as_slice() {
+        let (id, steps) = steps(arguments)?;
+        Some(Command::Step { id, steps })
+    } else if name == b"view".as_slice() {
+        Some(Command::View(view(arguments)?))
+    } else if name == b"journal".as_slice() && no_word(arguments) {
+        Some(Command::Journal)
+    } else {
+        None
+    }
+}
+
+/// The command of this name with these arguments.
+fn command<A: Allocator>(
+    alloc: A,
+    name: &[u8],
+    arguments: &[u8],
+) -> Result<Option<Command<A>>, AllocError>
+    ensures { IfOk result (λ command. option_map said_by command ≡ command_in name.now (words_of arguments.now)) }
+{
+    if name == b"up".as_slice() {
+        up(alloc, arguments)
+    } else if name == b"send".as_slice() {
+        send(alloc, arguments)
+    } else {
+        Ok(plain_command(name, arguments))
+    }
+}
+
+/// The command that a line says, without its newline, or none where it is no command. A line of
+/// spaces alone is blank, and one whose first octet is `#` a comment: both say nothing. Words are
+/// parted by spaces, numbers are decimal digits, and octets pairs of hexadecimal digits of both
+/// cases. Only memory is refused.
+#[tactic(auto, unfolding(crate::specs::Grammar::command_of))]
+pub fn read_command<A: Allocator>(alloc: A, line: &[u8]) -> Result<Option<Command<A>>, AllocError>
+    ensures { IfOk result (λ command. option_map said_by command ≡ command_of line.now) }
+{
+    if line.starts_with(b"#") {
+        return Ok(Some(Command::Nothing));
+    }
+    match next_word(line) {
+        None => Ok(Some(Command::Nothing)),
+        Some((name, arguments)) => command(alloc, name, arguments),
+    }
+}

@@ -1,0 +1,130 @@
+//! The words of a line, and what they say.
+
+ghost use Rattle.std.specs.Prelude.{◌≡◌, ◌<◌, ◌≤◌, ◌∷◌, [], length, true, false, take, drop, slice_index, IfOk, IfSome, IfNone, MatchOption, IsTrue, ◌↔◌, ◌≢◌, ◌⊎◌};
+ghost use Rattle.std.specs.List.{list_all};
+ghost use Rattle.ocp_lines.specs.Words.{words_of, is_solid, number_up_to, octets_up_to, value_of};
+
+use crate::octets::{Arguments, Octets};
+use hex::FromHexError;
+use std::alloc::{AllocError, Allocator};
+
+/// How many octets stand before the first space.
+fn word_length(text: &[u8]) -> usize
+    ensures bound { result ≤ length text.now }
+    ensures word { list_all is_solid (take result text.now) ≡ true }
+    ensures space { result < length text.now → slice_index text.now result ≡ 32 }
+{
+    for (index, octet) in text.iter().enumerate() {
+        if *octet == b' ' {
+            return index;
+        }
+    }
+    text.len()
+}
+
+/// The first word, and what stands behind it.
+pub(crate) fn next_word(text: &[u8]) -> Option<(&[u8], &[u8])>
+    ensures { MatchOption result (words_of text.now ≡ []) (λ found. words_of text.now ≡ found.0.now ∷ words_of found.1.now) }
+{
+    let mut rest = text;
+    while let [b' ', behind @ ..] = rest {
+        rest = behind;
+    }
+    let length = word_length(rest);
+    if length == 0 {
+        return None;
+    }
+    Some((&rest[..length], &rest[length..]))
+}
+
+/// The text has no word.
+pub(crate) fn no_word(text: &[u8]) -> bool
+    ensures { IsTrue result ↔ (words_of text.now ≡ []) }
+{
+    next_word(text).is_none()
+}
+
+/// The one word of a text.
+pub(crate) fn one_word(text: &[u8]) -> Option<&[u8]>
+    ensures some { IfSome result (λ word. words_of text.now ≡ word.now ∷ []) }
+    ensures none { IfNone result (length (words_of text.now) ≢ 1) }
+{
+    let (word, rest) = next_word(text)?;
+    if no_word(rest) { Some(word) } else { None }
+}
+
+/// The two words of a text.
+pub(crate) fn two_words(text: &[u8]) -> Option<(&[u8], &[u8])>
+    ensures some { IfSome result (λ found. words_of text.now ≡ found.0.now ∷ found.1.now ∷ []) }
+    ensures none { IfNone result (length (words_of text.now) ≢ 2) }
+{
+    let (word, rest) = next_word(text)?;
+    let next = one_word(rest)?;
+    Some((word, next))
+}
+
+/// The one word of a text, or the empty word where there is none.
+pub(crate) fn word_or_none(text: &[u8]) -> Option<&[u8]>
+    ensures some { IfSome result (λ word. (words_of text.now ≡ word.now ∷ []) ⊎ ((words_of text.now ≡ []) × (word.now ≡ []))) }
+    ensures none { IfNone result (1 < length (words_of text.now)) }
+{
+    match next_word(text) {
+        None => Some(&[]),
+        Some((word, rest)) => { if no_word(rest) { Some(word) } else { None } }
+    }
+}
+
+/// The number that a word says, if it is at most so much.
+pub(crate) fn number(word: &[u8], most: u64) -> Option<u64>
+    ensures value { result ≡ number_up_to most word.now }
+    ensures bound { IfSome result (λ value. value ≤ most) }
+{
+    if word.is_empty() {
+        return None;
+    }
+    let mut value = 0u64;
+    for octet in word {
+        if !octet.is_ascii_digit() {
+            return None;
+        }
+        let digit = u64::from(*octet - b'0');
+        value = value.checked_mul(10)?.checked_add(digit)?;
+        if value > most {
+            return None;
+        }
+    }
+    Some(value)
+}
+
+/// The number that a word says, if it has at most 16 bits.
+pub(crate) fn short(word: &[u8]) -> Option<u16>
+    ensures { result ≡ number_up_to 65535 word.now }
+{
+    let value = number(word, 65535)?;
+    Some(value as u16)
+}
+
+/// The octets that a hexadecimal word says, if they are at most 65,525.
+pub(crate) fn octets<A: Allocator>(alloc: A, word: &[u8]) -> Result<Option<Octets<A>>, AllocError>
+    ensures { IfOk result (λ octets. octets ≡ octets_up_to 65525 word.now) }
+{
+    match hex::decode(alloc, word) {
+        Ok(items) => Ok(Octets::new(items)),
+        Err(FromHexError::OutOfMemory) => Err(AllocError),
+        Err(_) => Ok(None),
+    }
+}
+
+/// The octets that a hexadecimal word says, if they are at most 256.
+pub(crate) fn argument_octets<A: Allocator>(
+    alloc: A,
+    word: &[u8],
+) -> Result<Option<Arguments<A>>, AllocError>
+    ensures { IfOk result (λ octets. octets ≡ octets_up_to 256 word.now) }
+{
+    match hex::decode(alloc, word) {
+        Ok(items) => Ok(Arguments::new(items)),
+        Err(FromHexError::OutOfMemory) => Err(AllocError),
+        Err(_) => Ok(None),
+    }
+}

@@ -1,0 +1,30 @@
+-- The job that words ask for.
+use Rattle.std.specs.Prelude.{◌≡◌, ℕ, Option, Some, None, Ok, List, codes}
+use Rattle.std.specs.Str.Parse.{ParsesUnsigned}
+use Rattle.clap.specs.Words.{Row, Text, one_of}
+use Rattle.ocp_words.specs.declared.job.Job.{Job}
+use Rattle.ocp_words.specs.declared.job.Job.TheVariants.{Assemble, List as Listing, Run}
+use Rattle.ocp_words.specs.declared.job.Settings.{Settings}
+
+-- the option's text is this number, which has so many bits
+abbrev pub HasNumber : ℕ → Text → List Row → ℕ → Type 0
+HasNumber bits id rows n = (text : Text) × (one_of id rows ≡ Some text) × ParsesUnsigned {E = Unit {0}} bits 10 text (Ok n)
+
+-- the settings are the numbers that stand in these rows
+pub record HasSettings (rows : List Row) (s : Settings) : Type 0 where
+  pub apid : HasNumber 16 (codes "apid") rows s.apid
+  pub pool : HasNumber 16 (codes "pool") rows s.pool
+  pub journal : HasNumber 32 (codes "journal") rows s.journal
+
+-- a run with the defaults
+abbrev pub HasDefaults : Job → Type 0
+HasDefaults (Run s) = (s.apid ≡ 291) × (s.pool ≡ 16) × (s.journal ≡ 100000)
+HasDefaults Assemble = ⊥
+HasDefaults Listing = ⊥
+
+-- the job of a subcommand and what was found for its options
+abbrev pub IsJob : Option (Text × List Row) → Job → Type 0
+IsJob None job = HasDefaults job
+IsJob (Some found) Assemble = found.0 ≡ codes "asm"
+IsJob (Some found) Listing = found.0 ≡ codes "list"
+IsJob (Some found) (Run s) = (found.0 ≡ codes "run") × HasSettings found.1 s

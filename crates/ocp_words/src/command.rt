@@ -1,0 +1,117 @@
+//! The commands that there are.
+
+ghost use Rattle.std.specs.Prelude.{◌≡◌, ℕ, IfOk, codes, pos, false};
+ghost use Rattle.clap.specs.Words.{app_of, rule_of, new_app};
+ghost use Rattle.clap.specs.declared.builder.command.Command.TheViews.{out-Command};
+ghost use Rattle.clap.specs.declared.builder.value_parser.ValueParser.TheVariants.{Signed};
+ghost use Rattle.ocp_words.specs.Words.{ocp, run, number_option};
+
+use clap::builder::ValueParser;
+use clap::{Arg, Command, value_parser};
+use std::alloc::{AllocError, Global};
+
+const ASM: &str = "Reads assembly text, and writes its image as one line of hexadecimal digits";
+
+const ASM_EXAMPLE: &str = "Example: `echo exit | ocp asm` writes 9500000000000000";
+
+const LIST: &str = "Reads an image in hexadecimal digits, and writes its listing";
+
+const LIST_EXAMPLE: &str = "Example: `echo 9500000000000000 | ocp list` writes exit";
+
+const RUN: &str = "Reads a script of console lines, and writes its transcript";
+
+const RUN_EXAMPLE: &str = "Example: `echo journal | ocp run --pool 8` writes journal 0";
+
+const OCP: &str = "On-board control procedures: engine, assembler and ground console";
+
+const OCP_EXAMPLE: &str = "Each command reads standard input and writes standard output. \
+    With no command, ocp does what run does with its defaults.";
+
+/// A command with no options, and what help says of it.
+fn described<'a>(alloc: Global, name: &'a str, about: &'a str, example: &'a str) -> Command<'a>
+    ensures app { app_of result ≡ new_app name.entry.now }
+    ensures global { (out-Command result).has_globals ≡ false }
+{
+    Command::new(alloc, name).about(about).after_help(example)
+}
+
+/// An option that takes a number, with a default.
+fn option<'a>(
+    alloc: Global,
+    name: &'a str,
+    default: &'a str,
+    parser: ValueParser<'a>,
+    help: &'a str,
+) -> Arg<'a>
+    ensures rule { (low high : ℕ) → parser.entry ≡ Signed (pos low) (pos high) → rule_of result ≡ number_option name.entry.now default.entry.now low high }
+    ensures global { result.global ≡ false }
+{
+    Arg::new(alloc, name)
+        .long(name)
+        .value_parser(parser)
+        .default_value(default)
+        .help(help)
+}
+
+fn apid_option<'a>(alloc: Global) -> Arg<'a>
+    ensures rule { rule_of result ≡ number_option (codes "apid") (codes "291") 0 2046 }
+    ensures global { result.global ≡ false }
+{
+    let help = "The engine's application process identifier, 0 to 2046";
+    option(
+        alloc,
+        "apid",
+        "291",
+        value_parser!(u16).range(0..=2046),
+        help,
+    )
+}
+
+fn pool_option<'a>(alloc: Global) -> Arg<'a>
+    ensures rule { rule_of result ≡ number_option (codes "pool") (codes "16") 1 256 }
+    ensures global { result.global ≡ false }
+{
+    let help = "Words of the pool, 1 to 256";
+    option(alloc, "pool", "16", value_parser!(u16).range(1..=256), help)
+}
+
+fn journal_option<'a>(alloc: Global) -> Arg<'a>
+    ensures rule { rule_of result ≡ number_option (codes "journal") (codes "100000") 1 1000000 }
+    ensures global { result.global ≡ false }
+{
+    let help = "Entries that the journal takes, 1 to 1000000";
+    option(
+        alloc,
+        "journal",
+        "100000",
+        value_parser!(u32).range(1..=1_000_000),
+        help,
+    )
+}
+
+/// The command `run` and its options.
+fn run_command<'a>(alloc: Global) -> Result<Command<'a>, AllocError>
+    ensures app { IfOk result (λ c. app_of c ≡ run) }
+    ensures global { IfOk result (λ c. (out-Command c).has_globals ≡ false) }
+{
+    let run = described(alloc, "run", RUN, RUN_EXAMPLE)
+        .arg(apid_option(alloc))?
+        .arg(pool_option(alloc))?
+        .arg(journal_option(alloc))?;
+    Ok(run)
+}
+
+/// The program's commands and their options.
+pub(crate) fn ocp_command<'a>(alloc: Global) -> Result<Command<'a>, AllocError>
+    ensures { IfOk result (λ c. app_of c ≡ ocp) }
+{
+    let run = run_command(alloc)?;
+    let asm = described(alloc, "asm", ASM, ASM_EXAMPLE);
+    let list = described(alloc, "list", LIST, LIST_EXAMPLE);
+    let ocp = described(alloc, "ocp", OCP, OCP_EXAMPLE)
+        .no_binary_name(true)
+        .subcommand(asm)?
+        .subcommand(list)?
+        .subcommand(run)?;
+    Ok(ocp)
+}

@@ -1,0 +1,67 @@
+//! Reading the words of a command line.
+
+ghost use Rattle.std.specs.Prelude.{◌≡◌, IfOk, IfSome, IsOk, [], map, ◌≢◌};
+ghost use Rattle.clap.specs.Words.{subcommand_of, rows_of, found_of};
+ghost use Rattle.ocp_words.specs.Words.{ocp};
+ghost use Rattle.ocp_words.specs.Jobs.{HasSettings, HasDefaults, IsJob};
+
+use crate::command::ocp_command;
+use crate::job::{Job, Settings, WordsFault};
+use clap::ArgMatches;
+use clap::error::ErrorKind;
+use std::alloc::Global;
+
+const DEFAULTS: Settings = Settings {
+    apid: 291,
+    pool: 16,
+    journal: 100_000,
+};
+
+/// The settings in the matches of `run`, if they are there and each in its range.
+fn settings_of(matches: &ArgMatches<'_>) -> Option<Settings>
+    ensures { IfSome result (HasSettings (rows_of (found_of matches.now))) }
+{
+    let apid = matches.get_one::<u16>("apid")?;
+    let pool = matches.get_one::<u16>("pool")?;
+    let journal = matches.get_one::<u32>("journal")?;
+    Settings::new(apid, pool, journal)
+}
+
+/// The job that the words after the program's name ask for: the subcommand and the numbers that
+/// `clap` finds in them, defaults included. With no words it is `run` with the defaults. A number
+/// outside its range is `Usage`, as is all that `clap` refuses, and a call for help.
+pub fn read_words<'a>(alloc: Global, words: &'a [&'a str]) -> Result<Job, WordsFault>
+    ensures job { IfOk result (λ job. words.entry.now ≢ [] → IsJob (subcommand_of ocp (map (λ word. word.now) words.entry.now)) job) }
+    ensures none { words.entry.now ≡ [] → IfOk result HasDefaults }
+    ensures no_fault { words.entry.now ≡ [] → IsOk result }
+{
+    if words.is_empty() {
+        return Ok(Job::Run(DEFAULTS));
+    }
+    let mut command = ocp_command(alloc)?;
+    let matches = match command.try_get_matches_from_mut(words) {
+        Ok(matches) => matches,
+        Err(error) => {
+            return Err(match error.kind() {
+                ErrorKind::OutOfMemory => WordsFault::Memory,
+                _ => WordsFault::Usage(error),
+            });
+        }
+    };
+    match matches.subcommand() {
+        None => Ok(Job::Run(DEFAULTS)),
+        Some(("asm", _)) => Ok(Job::Assemble),
+        Some(("list", _)) => Ok(Job::List),
+        Some(("run", inner)) => match settings_of(inner) {
+            Some(settings) => Ok(Job::Run(settings)),
+            None => Err(WordsFault::Usage(command.error(
+                ErrorKind::ValueValidation,
+                "a number is missing",
+            )?)),
+        },
+        Some(_) => Err(WordsFault::Usage(command.error(
+            ErrorKind::InvalidSubcommand,
+            "no such command",
+        )?)),
+    }
+}
