@@ -1,48 +1,37 @@
 use super::*;
+use std::alloc::Global;
 use std::test::*;
 
+/// What the words ask for: the three numbers of `run`, or the name of another answer.
+fn asked<'a>(alloc: Global, words: &'a [&'a str]) -> Result<(u16, u16, u32), &'static str> {
+    match read_words(alloc, words) {
+        Ok(Job::Run(settings)) => Ok((settings.apid, settings.pool, settings.journal)),
+        Ok(Job::Assemble) => Err("asm"),
+        Ok(Job::List) => Err("list"),
+        Err(WordsFault::Usage(_)) => Err("usage"),
+        Err(WordsFault::Memory) => Err("memory"),
+    }
+}
+
 #[test]
-fn words_of_run_give_their_numbers(rt: HostRuntime) -> Result<(), Fail> {
+fn numbers_of_run_and_its_defaults(rt: HostRuntime) {
     let words = ["run", "--apid", "5", "--pool", "2", "--journal", "9"];
-    let Ok(Job::Run(settings)) = read_words(rt.alloc(), &words) else {
-        return Err(Fail::from("no run"));
-    };
-    assert_eq!(rt; settings.apid, 5);
-    assert_eq!(rt; settings.pool, 2);
-    assert_eq!(rt; settings.journal, 9);
-    Ok(())
+    assert_eq!(rt; asked(rt.alloc(), &words), Ok((5, 2, 9)));
+    assert_eq!(rt; asked(rt.alloc(), &["run"]), Ok((291, 16, 100_000)));
+    assert_eq!(rt; asked(rt.alloc(), &[]), Ok((291, 16, 100_000)));
 }
 
 #[test]
-fn no_words_and_run_alone_give_the_defaults(rt: HostRuntime) -> Result<(), Fail> {
-    let alone = ["run"];
-    for words in [alone[..0].as_slice(), alone.as_slice()] {
-        let Ok(Job::Run(settings)) = read_words(rt.alloc(), words) else {
-            return Err(Fail::from("no run"));
-        };
-        assert_eq!(rt; settings.apid, 291);
-        assert_eq!(rt; settings.pool, 16);
-        assert_eq!(rt; settings.journal, 100_000);
-    }
-    Ok(())
-}
-
-#[test]
-fn asm_and_list_are_jobs(rt: HostRuntime) {
-    assert!(rt; matches!(read_words(rt.alloc(), &["asm"]), Ok(Job::Assemble)));
-    assert!(rt; matches!(read_words(rt.alloc(), &["list"]), Ok(Job::List)));
-}
-
-#[test]
-fn a_number_outside_its_range_is_usage(rt: HostRuntime) {
-    for (option, number) in [
-        ("--apid", "2047"),
-        ("--pool", "0"),
-        ("--pool", "257"),
-        ("--journal", "0"),
-        ("--journal", "1000001"),
-    ] {
-        let words = ["run", option, number];
-        assert!(rt; matches!(read_words(rt.alloc(), &words), Err(WordsFault::Usage(_))));
-    }
+fn other_jobs_and_numbers_outside_their_ranges(rt: HostRuntime) {
+    assert_eq!(rt; asked(rt.alloc(), &["asm"]), Err("asm"));
+    assert_eq!(rt; asked(rt.alloc(), &["list"]), Err("list"));
+    assert_eq!(rt; asked(rt.alloc(), &["run", "--apid", "2047"]), Err("usage"));
+    assert_eq!(rt; asked(rt.alloc(), &["run", "--pool", "0"]), Err("usage"));
+    assert_eq!(rt; asked(rt.alloc(), &["run", "--pool", "257"]), Err("usage"));
+    assert_eq!(rt; asked(rt.alloc(), &["run", "--journal", "0"]), Err("usage"));
+    assert_eq!(rt;
+        asked(rt.alloc(), &["run", "--journal", "1000001"]),
+        Err("usage")
+    );
+    assert_eq!(rt; asked(rt.alloc(), &["bogus"]), Err("usage"));
 }
