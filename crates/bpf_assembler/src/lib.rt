@@ -1,0 +1,16 @@
+//! The assembler: what one line of assembly text says, its label and its instruction.
+#![tactic(auto)]
+
+mod fields;
+mod forms;
+mod line;
+mod number;
+mod reading;
+mod statements;
+#[cfg(test)]
+mod tests;
+mod token;
+mod tokens;
+
+pub use line::{LineFault, Parsed, Source};
+pub use reading::read_line;
