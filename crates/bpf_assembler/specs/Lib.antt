@@ -5,3 +5,5 @@ pub mod Fields
 pub mod Gives
 pub mod Lines
 pub mod Judged
+pub mod Text
+pub mod Faults

@@ -1,6 +1,7 @@
 //! The assembler: what one line of assembly text says, its label and its instruction.
 #![tactic(auto)]
 
+mod fault;
 mod fields;
 mod forms;
 mod line;
@@ -12,5 +13,6 @@ mod tests;
 mod token;
 mod tokens;
 
+pub use fault::{AsmFault, Why};
 pub use line::{LineFault, Parsed, Source};
 pub use reading::read_line;

@@ -1,0 +1,96 @@
+-- The fault of an assembly text.
+use Rattle.std.specs.Prelude.{◌≡◌, ◌<◌, ◌≤◌, ◌+◌, ℕ, nat_le, List, [], ◌∷◌, ◌++◌, length, Option, Some, None, Err, Bool, true, false, ◌⊎◌}
+use Rattle.std.specs.List.{All}
+use Rattle.bpf_types.specs.declared.line.Line.{Line}
+use Rattle.bpf_types.specs.Line.{IsLine}
+use Rattle.bpf_listing.specs.Listing.{image_of}
+use Rattle.ocp_loader.specs.declared.fault.LoadFault.{LoadFault}
+use Rattle.ocp_loader.specs.FaultNumbers.{number_of, slot_of}
+use Rattle.ocp_loader.specs.Judging.{judged}
+use Rattle.bpf_assembler.specs.Lines.{Written, Writes, InRange, Statement}
+use Rattle.bpf_assembler.specs.Text.{lines_of, EachWritten, label_place, IsNew, AreDistinct, Entry, entries_of, aimed_at, AreInstructions, IsWritten}
+use Rattle.bpf_assembler.specs.declared.fault.Why.{Why}
+use Rattle.bpf_assembler.specs.declared.fault.Why.TheVariants as why
+
+-- ---- faults of a line by itself, and by the labels before it
+
+-- the fault of a line behind others
+abbrev pub HasFault : List Written → List ℕ → Why → Type 0
+HasFault before line why.Syntax = (w : Written) → ¬ Writes line w
+HasFault before line why.Range = (w : Written) × Writes line w × ¬ InRange w.body
+HasFault before line why.DuplicateLabel = (w : Written) × Writes line w × InRange w.body × ¬ IsNew w.label before
+HasFault before line why.UnknownLabel = ⊥
+HasFault before line (why.Load fault) = ⊥
+
+-- the first line of the text that has such a fault has this number
+pub record HasLineFault (text : List ℕ) (number : ℕ) (y : Why) : Type 0 where
+  pub before : List (List ℕ)
+  pub line : List ℕ
+  pub after : List (List ℕ)
+  pub lines : List Written
+  pub order : lines_of text ≡ before ++ line ∷ after
+  pub counted : number ≡ length before + 1
+  pub each : EachWritten before lines
+  pub distinct : AreDistinct [] lines
+  pub fault : HasFault lines line y
+
+-- ---- faults of the names in instructions, where no line has one of those
+
+-- the instruction names a label that is none, or one that is too far
+abbrev pub MissesLabel : List Written → ℕ → Line → Option (List ℕ) → Why → Type 0
+MissesLabel all place given (Some name) why.UnknownLabel = label_place name 0 all ≡ None
+MissesLabel all place given (Some name) why.Range = (to : ℕ) × (label_place name 0 all ≡ Some to) × ¬ IsLine (aimed_at given place to)
+MissesLabel all place given name y = ⊥
+
+-- the first of these instructions that misses its label is of the line of this number
+pub record IsFirstMiss (all : List Written) (entries : List Entry) (number : ℕ) (y : Why) : Type 0 where
+  pub before : List Entry
+  pub entry : Entry
+  pub after : List Entry
+  pub earlier : List Line
+  pub order : entries ≡ before ++ entry ∷ after
+  pub instructions : AreInstructions all before earlier
+  pub counted : number ≡ entry.number
+  pub miss : MissesLabel all entry.place entry.statement.line entry.statement.name y
+
+pub record HasNameFault (text : List ℕ) (number : ℕ) (y : Why) : Type 0 where
+  pub lines : List Written
+  pub written : IsWritten text lines
+  pub first : IsFirstMiss lines (entries_of 1 0 lines) number y
+
+-- ---- faults of the image, where the text means instructions
+
+-- the line of this number has the last of these instructions whose place is no greater than the slot
+pub record IsLineOfSlot (entries : List Entry) (slot number : ℕ) : Type 0 where
+  pub before : List Entry
+  pub entry : Entry
+  pub after : List Entry
+  pub order : entries ≡ before ++ entry ∷ after
+  pub counted : number ≡ entry.number
+  pub reached : entry.place ≤ slot
+  pub behind : All (λ e. slot < e.place) after
+
+-- line 0, or the line of the instruction at the slot
+abbrev pub IsLineOf : Bool → List Entry → ℕ → ℕ → Type 0
+IsLineOf true entries slot number = number ≡ 0
+IsLineOf false entries slot number = IsLineOfSlot entries slot number
+
+-- the image of the instructions may not be run; faults 1 to 3, those of its length, have line 0
+pub record HasLoadFault (text : List ℕ) (number : ℕ) (fault : LoadFault) : Type 0 where
+  pub lines : List Written
+  pub instructions : List Line
+  pub written : IsWritten text lines
+  pub meant : AreInstructions lines (entries_of 1 0 lines) instructions
+  pub refused : judged (image_of instructions) ≡ Err fault
+  pub counted : IsLineOf (nat_le (number_of fault) 3) (entries_of 1 0 lines) (slot_of fault) number
+
+abbrev pub IsLoadFault : List ℕ → ℕ → Why → Type 0
+IsLoadFault text number (why.Load fault) = HasLoadFault text number fault
+IsLoadFault text number y = ⊥
+
+-- ---- the fault of a text
+
+-- The first line that has a fault by itself and by the labels before it; where no line has one, the first instruction that
+-- misses its label; where none does, the fault of the image.
+abbrev pub IsFault : List ℕ → ℕ → Why → Type 0
+IsFault text number y = HasLineFault text number y ⊎ HasNameFault text number y ⊎ IsLoadFault text number y
