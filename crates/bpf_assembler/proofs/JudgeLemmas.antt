@@ -158,7 +158,7 @@ order_err o tokens Range f h =
     odd_swapped o tokens h.0.0 h.0.1 h.1 (λ s same. h.2 (a, subst (λ (n : ℕ). n < 2 ^ 64) same (swapped_small s)))
 
 -- the word local is no number
-no_local : (t : List ℕ) (z : ℤ) → t ≡ 108 ∷ 111 ∷ 99 ∷ 97 ∷ 108 ∷ [] → IsImmediate t z → ⊥
+pub no_local : (t : List ℕ) (z : ℤ) → t ≡ 108 ∷ 111 ∷ 99 ∷ 97 ∷ 108 ∷ [] → IsImmediate t z → ⊥
 no_local t z e (y, inl h, is) = letter_no_numeral 108 (111 ∷ 99 ∷ 97 ∷ 108 ∷ []) h.0 (omega arith) (subst (λ (u : List ℕ). IsNumeral u h.0) e h.1)
 no_local t z e (y, inr h, is) = let q = h.2 in absurd (omega (arith, ap (λ (u : List ℕ). get_or u 0 0) (sym e ∙ q)))
 

@@ -6,3 +6,6 @@ pub mod Runs
 pub mod FormLemmas
 pub mod JudgeLemmas
 pub mod ReadingLemmas
+pub mod UniqueFields
+pub mod UniqueForms
+pub mod UniqueLines

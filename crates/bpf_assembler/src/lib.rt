@@ -4,6 +4,7 @@
 mod fault;
 mod fields;
 mod forms;
+pub mod laws;
 mod line;
 mod number;
 mod reading;
