@@ -9,3 +9,4 @@ pub mod ReadingLemmas
 pub mod UniqueFields
 pub mod UniqueForms
 pub mod UniqueLines
+pub mod UniqueTexts
