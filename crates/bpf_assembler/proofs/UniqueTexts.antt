@@ -1,18 +1,18 @@
 -- A text means one list of instructions, or has one fault.
-use Rattle.std.proofs.Common.{Bool, true, false, ◌⊎◌, ◌≡◌, ◌≢◌, ◌<◌, ◌≤◌, ◌+◌, ℕ, suc, pos, ◌-ℤ◌, List, [], ◌∷◌, ◌++◌, length, Option, Some, None, Result, Ok, Err, refl, sym, ap, ◌∙◌, subst, arith, inl, inr, append_assoc, append-nil}
+use Rattle.std.proofs.Common.{Bool, true, false, ◌⊎◌, ◌≡◌, ◌<◌, ◌≤◌, ◌+◌, ℕ, suc, List, [], ◌∷◌, ◌++◌, length, Option, Some, None, Err, refl, sym, ap, ◌∙◌, subst, arith, inl, inr, append_assoc, append-nil}
 use Rattle.std.specs.Prelude.{nat_le}
 use Rattle.std.specs.List.{All}
 use Rattle.std.proofs.lemmas.List.Elements.{All-head, All-tail}
 use Rattle.bpf_types.specs.declared.line.Line.{Line}
 use Rattle.bpf_types.specs.Line.{IsLine}
-use Rattle.bpf_listing.specs.Listing.{IsImageOf, image_of}
+use Rattle.bpf_listing.specs.Listing.{image_of}
 use Rattle.ocp_loader.specs.declared.fault.LoadFault.{LoadFault}
 use Rattle.ocp_loader.specs.FaultNumbers.{number_of, slot_of}
 use Rattle.ocp_loader.specs.Judging.{judged}
 use Rattle.ocp_loader.specs.Admitted.{IsAdmitted}
 use Rattle.ocp_loader.proofs.Complete.{not_admitted}
 use Rattle.bpf_assembler.specs.Lines.{Written, Writes, InRange}
-use Rattle.bpf_assembler.specs.Text.{lines_of, EachWritten, label_place, IsNew, AreDistinct, Entry, entries_of, aimed_at, IsInstruction, AreInstructions, IsWritten, Means}
+use Rattle.bpf_assembler.specs.Text.{lines_of, EachWritten, IsNew, AreDistinct, Entry, entries_of, aimed_at, IsInstruction, AreInstructions, IsWritten, Means}
 use Rattle.bpf_assembler.specs.Faults.{HasFault, HasLineFault, MissesLabel, IsFirstMiss, HasNameFault, IsLineOfSlot, IsLineOf, HasLoadFault, IsLoadFault, IsFault}
 use Rattle.bpf_assembler.specs.declared.fault.Why.{Why}
 use Rattle.bpf_assembler.specs.declared.fault.Why.TheVariants as why
@@ -229,9 +229,11 @@ one_load_fault text m n f g h k =
     let also = load_fault_of text h.lines h.instructions n g h.written h.meant k in
     let is = h.refused in
     let same : g ≡ f = cc in
-    let lines = one_list text k.lines h.lines k.written h.written in
-    (one_line_of (nat_le (number_of f) 3) (entries_of 1 0 h.lines) (slot_of f) m n h.counted
-    (subst (λ (x : List Written). IsLineOf (nat_le (number_of f) 3) (entries_of 1 0 x) (slot_of f) n) lines (subst (λ (x : LoadFault). IsLineOf (nat_le (number_of x) 3) (entries_of 1 0 k.lines) (slot_of x) n) same k.counted)), sym same)
+    let lines = one_list text k.lines h.lines k.written h.written in (
+      one_line_of (nat_le (number_of f) 3) (entries_of 1 0 h.lines) (slot_of f) m n h.counted
+          (subst (λ (x : List Written). IsLineOf (nat_le (number_of f) 3) (entries_of 1 0 x) (slot_of f) n) lines (subst (λ (x : LoadFault). IsLineOf (nat_le (number_of x) 3) (entries_of 1 0 k.lines) (slot_of x) n) same k.counted)),
+      sym same,
+    )
 
 -- ---- the fault of a text
 
