@@ -1,13 +1,14 @@
 -- The events of a run: what each leaves, one more of them.
-use Rattle.std.proofs.Common.{◌≡◌, ℕ, ◌+◌, ◌<◌, Bool, true, false, cond, List, [], ◌∷◌, ◌++◌, Option, Some, None, map, take, length, get_or, refl, sym, ap, subst, ◌∙◌}
-use Rattle.std.specs.Prelude.{Result, Ok, Err}
+use Rattle.std.proofs.Common.{◌≡◌, ℕ, zero, suc, ◌+◌, ◌<◌, Bool, true, false, cond, List, [], ◌∷◌, ◌++◌, Some, map, take, length, get_or, refl, sym, ap, subst, ◌∙◌}
+use Rattle.std.specs.Prelude.{Result, Ok, Err, slice_get}
+use Rattle.std.specs.Option.{option_map}
 use Rattle.std.specs.FinMap.{get}
 use Rattle.std.proofs.lemmas.List.{take_more, map-append}
+use Rattle.std.proofs.lemmas.Option.{slice_get-get_or, slice_get-map}
 use Rattle.pus_fields.specs.declared.fault.TcFault.{TcFault}
 use Rattle.pus_fields.specs.declared.fault.TcFault.TheVariants.{Discarded, Rejected}
 use Rattle.pus_fields.specs.Telecommand.{Telecommand}
 use Rattle.pus_fields.specs.TelecommandFaults.{telecommand_of}
-use Rattle.ocp_table.specs.Rec.{Records}
 use Rattle.ocp_table.specs.Deciding.{turn}
 use Rattle.ocp_table.specs.declared.answers.Made.{Made}
 use Rattle.ocp_table.specs.declared.answers.Made.TheVariants as made
@@ -18,7 +19,9 @@ use Rattle.ocp_core.specs.declared.answers.StepOutcome.{StepOutcome}
 use Rattle.ocp_core.specs.declared.answers.StepOutcome.TheVariants as S
 use Rattle.ocp_core.specs.World.{World, Event, Request, Step, Answer, Requested, Stepped, after, enacted, answer_by, is_accepted, received, stepped, answers, replay_from}
 use Rattle.ocp_core.specs.Log.{Log, world_of, is_full, noted, entry_for, full_answer, answer_in, log_after}
-use Rattle.ocp_core.specs.Answering.{discard_of}
+use Rattle.ocp_core.specs.declared.answers.RunRefusal.{RunRefusal}
+use Rattle.ocp_core.specs.declared.answers.RunRefusal.TheVariants as run
+use Rattle.ocp_core.specs.Running.{log_after_all, finds_full, HasRoom, IsRefusedBy, StopsAt}
 use Rattle.ocp_core.proofs.Replays.{world_of-noted, replay_from-append, answers-append}
 use Rattle.ocp_core.proofs.Journaling.{accepted_octets}
 
@@ -60,6 +63,27 @@ is_full_answer-full : (e : Event) → is_full_answer (full_answer e) ≡ true
 is_full_answer-full (Request by time octets) = refl
 is_full_answer-full (Step by id) = refl
 
+-- what happens in a world is not refused for want of room
+never_full_octets : (r : Result Telecommand TcFault) (time : ℕ) (w : World) → is_accepted (answer_by (received r time w.records).reply w) ≡ false → is_full_answer (answer_by (received r time w.records).reply w) ≡ false
+never_full_octets (Ok telecommand) time w h = absurd (true_false (sym (accepted_octets (Ok telecommand) time w.records w refl) ∙ h))
+never_full_octets (Err (Rejected rejection request)) time w h = refl
+never_full_octets (Err (Discarded cause)) time w h = refl
+
+never_full_turn : (id : ℕ) (t : Result Made Refusal) (w : World) → is_full_answer (answer_by (stepped id t).reply w) ≡ false
+never_full_turn id (Ok made.Ran) w = refl
+never_full_turn id (Ok made.Ended) w = refl
+never_full_turn id (Ok (made.Faulted number)) w = refl
+never_full_turn id (Err refusal.NotLoaded) w = refl
+never_full_turn id (Err refusal.NotRunning) w = refl
+
+never_full : (w : World) (e : Event) → is_accepted (after w e).answer ≡ false → is_full_answer (after w e).answer ≡ false
+never_full w (Request by time octets) h = never_full_octets (telecommand_of w.apid octets) time w h
+never_full w (Step by id) h = never_full_turn id (turn (get w.records id)) w
+
+is_accepted-full : (e : Event) → is_accepted (full_answer e) ≡ false
+is_accepted-full (Request by time octets) = refl
+is_accepted-full (Step by id) = refl
+
 world_after : (log : Log) (e : Event) → world_of (noted log (entry_for e)) ≡ (after (world_of log) e).world
 world_after log (Request by time octets) = world_of-noted log (entry_for (Request by time octets))
 world_after log (Step by id) = world_of-noted log (entry_for (Step by id))
@@ -68,41 +92,94 @@ module _ (log : Log) (e : Event) where
   abbrev answer : Answer
   answer = (after (world_of log) e).answer
 
-  pub done_event : (x : Answer) (new : Log) → x ≡ answer_in log e → new ≡ log_after log e → is_full_answer x ≡ false → (x ≡ answer) × (world_of new ≡ (after (world_of log) e).world)
-  done_event x new is is_new roomy =
-      elim (is_accepted answer) as (λ b. is_accepted answer ≡ b → x ≡ cond b (cond (is_full log) (full_answer e) answer) answer → new ≡ cond b (cond (is_full log) log (noted log (entry_for e))) log → (x ≡ answer) × (world_of new ≡ (after (world_of log) e).world)) [
-        | true ↦ λ taken a l. elim (is_full log) as (λ f. x ≡ cond f (full_answer e) answer → new ≡ cond f log (noted log (entry_for e)) → (x ≡ answer) × (world_of new ≡ (after (world_of log) e).world)) [
-          | true ↦ λ a' l'. absurd (true_false (sym (is_full_answer-full e) ∙ ap is_full_answer (sym a') ∙ roomy))
-          | false ↦ λ a' l'. (a', ap world_of l' ∙ world_after log e)
-        ] a l
-        | false ↦ λ taken a l. (a, ap world_of l ∙ sym (refused_keeps (world_of log) e taken))
-      ] refl is is_new
+  abbrev left : Bool → Bool → Log
+  left b f = cond b (cond f log (noted log (entry_for e))) log
 
-  -- a refused one leaves the journal too
-  pub refused_event : (x : Answer) → x ≡ answer_in log e → is_full_answer x ≡ false → is_accepted x ≡ false → (x ≡ answer) × (world_of log ≡ (after (world_of log) e).world)
-  refused_event x is roomy not_taken =
-      let done = done_event x (log_after log e) is refl roomy in
-      (done.0, sym (refused_keeps (world_of log) e (ap is_accepted (sym done.0) ∙ not_taken)))
+  -- an event that is not answered with a full journal has its own answer
+  pub done_event : (x : Answer) → x ≡ answer_in log e → is_full_answer x ≡ false → (x ≡ answer) × (finds_full log e ≡ false)
+  done_event x is roomy =
+      elim (is_accepted answer) as (λ b. x ≡ cond b (cond (is_full log) (full_answer e) answer) answer → (x ≡ answer) × (cond b (is_full log) false ≡ false)) [
+        | true ↦ elim (is_full log) as (λ f. x ≡ cond f (full_answer e) answer → (x ≡ answer) × (f ≡ false)) [
+          | true ↦ λ a. absurd (true_false (sym (is_full_answer-full e) ∙ ap is_full_answer (sym a) ∙ roomy))
+          | false ↦ λ a. (a, refl)
+        ]
+        | false ↦ λ a. (a, refl)
+      ] is
+
+  -- one that is answered with a full journal would be accepted
+  pub full_event : full_answer e ≡ answer_in log e → finds_full log e ≡ true
+  full_event is =
+      elim (is_accepted answer) as (λ b. is_accepted answer ≡ b → full_answer e ≡ cond b (cond (is_full log) (full_answer e) answer) answer → cond b (is_full log) false ≡ true) [
+        | true ↦ λ taken. elim (is_full log) as (λ f. full_answer e ≡ cond f (full_answer e) answer → f ≡ true) [
+          | true ↦ λ a. refl
+          | false ↦ λ a. absurd (true_false (sym taken ∙ ap is_accepted (sym a) ∙ is_accepted-full e))
+        ]
+        | false ↦ λ taken a. absurd (true_false (sym (is_full_answer-full e) ∙ ap is_full_answer a ∙ never_full (world_of log) e taken))
+      ] refl is
+
+  -- the journal that it leaves has the event's world
+  pub world_left : finds_full log e ≡ false → world_of (log_after log e) ≡ (after (world_of log) e).world
+  world_left =
+      elim (is_accepted answer) as (λ b. is_accepted answer ≡ b → cond b (is_full log) false ≡ false → world_of (left b (is_full log)) ≡ (after (world_of log) e).world) [
+        | true ↦ λ taken. elim (is_full log) as (λ f. f ≡ false → world_of (left true f) ≡ (after (world_of log) e).world) [
+          | true ↦ λ full. absurd (true_false full)
+          | false ↦ λ free. world_after log e
+        ]
+        | false ↦ λ taken free. sym (refused_keeps (world_of log) e taken)
+      ] refl
+
+-- ---- journals after events, one after another
+
+log_after_all-append : (log : Log) (xs ys : List Event) → log_after_all log (xs ++ ys) ≡ log_after_all (log_after_all log xs) ys
+log_after_all-append log [] ys = refl
+log_after_all-append log (x ∷ xs) ys = log_after_all-append (log_after log x) xs ys
+
+HasRoom-append : (log : Log) (xs ys : List Event) → HasRoom log xs → HasRoom (log_after_all log xs) ys → HasRoom log (xs ++ ys)
+HasRoom-append log [] ys before more = more
+HasRoom-append log (x ∷ xs) ys before more = (before.0, HasRoom-append (log_after log x) xs ys before.1 more)
 
 -- ---- one more event
 
-module _ {E : Type 0} (event_of : E → Event) (start : World) (events : List E) (i : ℕ) (d : E) (within : i < length events) where
+module _ {E : Type 0} (event_of : E → Event) (start : Log) (events : List E) (i : ℕ) (d : E) (within : i < length events) where
   abbrev next : Event
   next = event_of (get_or events i d)
 
-  longer : map event_of (take (i + 1) events) ≡ map event_of (take i events) ++ next ∷ []
+  abbrev before : List Event
+  before = map event_of (take i events)
+
+  longer : map event_of (take (i + 1) events) ≡ before ++ next ∷ []
   longer = ap (map event_of) (take_more events i d within) ∙ map-append event_of (take i events) (get_or events i d ∷ [])
 
-  module _ (log new : Log) (here : world_of log ≡ replay_from start (map event_of (take i events))) where
-    pub world_more : world_of new ≡ (after (world_of log) next).world → world_of new ≡ replay_from start (map event_of (take (i + 1) events))
-    world_more is = is ∙ ap (λ w. (after w next).world) here ∙ sym (replay_from-append start (map event_of (take i events)) (next ∷ [])) ∙ ap (replay_from start) (sym longer)
+  pub next_at : slice_get (map event_of events) i ≡ Some next
+  next_at = slice_get-map event_of events i ∙ ap (option_map event_of) (slice_get-get_or events i d within)
 
-    pub told_more : {X : Type 0} (answer_of : X → Answer) (a : X) (told : List X) → answer_of a ≡ (after (world_of log) next).answer → map answer_of told ≡ answers start (map event_of (take i events)) → map answer_of (told ++ a ∷ []) ≡ answers start (map event_of (take (i + 1) events))
+  module _ (log : Log) (here : log ≡ log_after_all start before) where
+    pub log_more : (new : Log) → new ≡ log_after log next → new ≡ log_after_all start (map event_of (take (i + 1) events))
+    log_more new is = is ∙ ap (λ l. log_after l next) here ∙ sym (log_after_all-append start before (next ∷ [])) ∙ ap (log_after_all start) (sym longer)
+
+    pub room_more : HasRoom start before → finds_full log next ≡ false → HasRoom start (map event_of (take (i + 1) events))
+    room_more so_far free = subst (HasRoom start) (sym longer) (HasRoom-append start before (next ∷ []) so_far (ap (λ l. finds_full l next) (sym here) ∙ free, tt))
+
+  module _ (log : Log) (here : world_of log ≡ replay_from (world_of start) before) where
+    pub world_more : (new : Log) → new ≡ log_after log next → finds_full log next ≡ false → world_of new ≡ replay_from (world_of start) (map event_of (take (i + 1) events))
+    world_more new is free = ap world_of is ∙ world_left log next free ∙ ap (λ w. (after w next).world) here ∙ sym (replay_from-append (world_of start) before (next ∷ [])) ∙ ap (replay_from (world_of start)) (sym longer)
+
+    pub told_more : {X : Type 0} (answer_of : X → Answer) (a : X) (told : List X) → answer_of a ≡ (after (world_of log) next).answer → map answer_of told ≡ answers (world_of start) before → map answer_of (told ++ a ∷ []) ≡ answers (world_of start) (map event_of (take (i + 1) events))
     told_more answer_of a told is so_far =
         map-append answer_of told (a ∷ [])
         ∙ (λ k. so_far k ++ (is ∙ ap (λ w. (after w next).answer) here) k ∷ [])
-        ∙ sym (answers-append start (map event_of (take i events)) (next ∷ []))
-        ∙ ap (answers start) (sym longer)
+        ∙ sym (answers-append (world_of start) before (next ∷ []))
+        ∙ ap (answers (world_of start)) (sym longer)
+
+  -- a run that ends before this event
+  pub stopped : (log new : Log) (refusal : RunRefusal) → IsRefusedBy log next refusal × (new ≡ log) → StopsAt new refusal i (slice_get (map event_of events) i)
+  stopped log new refusal why = subst (StopsAt new refusal i) (sym next_at) (stops new refusal i next (subst (λ l. IsRefusedBy l next refusal) (sym why.1) why.0))
+    where
+      stops : (l : Log) (r : RunRefusal) (index : ℕ) (e : Event) → IsRefusedBy l e r → StopsAt l r index (Some e)
+      stops l run.Memory zero e h = tt
+      stops l run.Memory (suc index) e h = h
+      stops l run.JournalFull zero e h = h
+      stops l run.JournalFull (suc index) e h = h
 
 pub not_full : (o : StepOutcome) → (o ≡ S.JournalFull → ⊥) → is_full_answer (Stepped o) ≡ false
 not_full S.Ran h = refl

@@ -1,24 +1,45 @@
 -- What an event of a run does, and where a run ends.
-use Rattle.std.specs.Prelude.{◌≡◌, true, Option, Some, None, Result, Ok, Err}
+use Rattle.std.specs.Prelude.{◌≡◌, ℕ, zero, Bool, true, false, if◌then◌else◌, List, [], ◌∷◌, Option, Some, None, Result, Ok, Err}
 use Rattle.ocp_core.specs.declared.answers.Answer as G
 use Rattle.ocp_core.specs.declared.answers.RunRefusal.{RunRefusal}
 use Rattle.ocp_core.specs.declared.answers.RunRefusal.TheVariants.{JournalFull, Memory}
-use Rattle.ocp_core.specs.World.{Event, after, is_accepted}
-use Rattle.ocp_core.specs.Log.{Log, world_of, full_answer, answer_in}
+use Rattle.ocp_core.specs.World.{Event, Request, Step, after, is_accepted}
+use Rattle.ocp_core.specs.Log.{Log, world_of, is_full, answer_in, log_after}
 use Rattle.ocp_core.specs.Journal.{answer_of}
 
--- the event is one that is refused so
-abbrev pub IsRefusedBy : Log → Event → RunRefusal → Type 0
-IsRefusedBy log e JournalFull = answer_in log e ≡ full_answer e
-IsRefusedBy log e Memory = is_accepted (answer_in log e) ≡ true
+-- the journal after events, each of which leaves its own entry or none
+abbrev pub log_after_all : Log → List Event → Log
+log_after_all log [] = log
+log_after_all log (e ∷ es) = log_after_all (log_after log e) es
 
--- the answer and the world left are those of the event, or it is refused and nothing is changed
+-- an event that would be accepted finds the journal full
+abbrev pub finds_full : Log → Event → Bool
+finds_full log e = if is_accepted (after (world_of log) e).answer then is_full log else false
+
+-- none of the events finds the journal full
+abbrev pub HasRoom : Log → List Event → Type 0
+HasRoom log [] = Unit {0}
+HasRoom log (e ∷ es) = (finds_full log e ≡ false) × HasRoom (log_after log e) es
+
+-- memory is taken for a request that is accepted; an instruction takes none
+abbrev pub TakesMemory : Log → Event → Type 0
+TakesMemory log (Request by time octets) = is_accepted (answer_in log (Request by time octets)) ≡ true
+TakesMemory log (Step by id) = ⊥
+
+-- the event is refused so
+abbrev pub IsRefusedBy : Log → Event → RunRefusal → Type 0
+IsRefusedBy log e JournalFull = finds_full log e ≡ true
+IsRefusedBy log e Memory = TakesMemory log e
+
+-- the answer and the journal left are those of the event, which does not find the journal full; or it is refused and
+-- nothing is changed
 abbrev pub Applies : {A : Type 0} → Log → Log → Event → Result (G.Answer A) RunRefusal → Type 0
-Applies old new e (Ok answer) = (answer_of answer ≡ (after (world_of old) e).answer) × (world_of new ≡ (after (world_of old) e).world)
+Applies old new e (Ok answer) = (answer_of answer ≡ (after (world_of old) e).answer) × (new ≡ log_after old e) × (finds_full old e ≡ false)
 Applies old new e (Err refusal) = IsRefusedBy old e refusal × (new ≡ old)
 
--- a run ends because the journal is full only before an event that is so refused
-abbrev pub StopsAt : Log → RunRefusal → Option Event → Type 0
-StopsAt log JournalFull (Some e) = IsRefusedBy log e JournalFull
-StopsAt log JournalFull None = ⊥
-StopsAt log Memory e = Unit {0}
+-- a run ends, with this journal, before the event of this index, which is refused so; for want of memory it may also end
+-- before the first event, since room for all answers is taken there
+abbrev pub StopsAt : Log → RunRefusal → ℕ → Option Event → Type 0
+StopsAt log Memory zero e = Unit {0}
+StopsAt log refusal index (Some e) = IsRefusedBy log e refusal
+StopsAt log refusal index None = ⊥

@@ -4,7 +4,7 @@ ghost use Rattle.std.specs.Prelude.{◌≡◌, IfOk, IfErr, OnOk, map, take, sli
 ghost use Rattle.ocp_core.specs.World.{answers, replay_from};
 ghost use Rattle.ocp_core.specs.Log.{world_of};
 ghost use Rattle.ocp_core.specs.Journal.{event_of, answer_of};
-ghost use Rattle.ocp_core.specs.Running.{Applies, StopsAt};
+ghost use Rattle.ocp_core.specs.Running.{Applies, HasRoom, StopsAt, log_after_all};
 
 use crate::{Answer, Engine, EngineFault, Event, RunFault, RunRefusal, StepOutcome};
 use std::alloc::Allocator;
@@ -32,17 +32,22 @@ impl<A: Allocator> Engine<A> {
         }
     }
 
-    /// Does events in order, and answers each. It ends before the first event that is refused because the journal is
-    /// full or there is no memory, with that refusal, the event's index and the answers of the events before it, which
-    /// stand. Room for all answers is taken first: where there is none, the index is 0.
+    /// Does events in order, and answers each; an accepted one leaves its entry in the journal. It ends before the first
+    /// event that is refused because the journal is full or there is no memory, with that refusal, the event's index and
+    /// the answers of the events before it, which stand. Room for all answers is taken first: where there is none, the
+    /// index is 0. A later instruction takes no memory.
     pub fn run(&mut self, alloc: A, events: &[Event<'_>]) -> Result<Vec<Answer<A>, A>, RunFault<A>>
     where
         A: Copy,
         ensures answers { IfOk result (λ v. map answer_of v.items ≡ answers (world_of self.old) (map event_of events.now)) }
         ensures world { OnOk result (world_of self.new ≡ replay_from (world_of self.old) (map event_of events.now)) }
+        ensures journal { OnOk result (self.new ≡ log_after_all self.old (map event_of events.now)) }
+        ensures room { OnOk result (HasRoom self.old (map event_of events.now)) }
         ensures answers_before { IfErr result (λ fault. map answer_of fault.answers.items ≡ answers (world_of self.old) (map event_of (take fault.index events.now))) }
         ensures world_before { IfErr result (λ fault. world_of self.new ≡ replay_from (world_of self.old) (map event_of (take fault.index events.now))) }
-        ensures refused { IfErr result (λ fault. StopsAt self.new fault.refusal (slice_get (map event_of events.now) fault.index)) }
+        ensures journal_before { IfErr result (λ fault. self.new ≡ log_after_all self.old (map event_of (take fault.index events.now))) }
+        ensures room_before { IfErr result (λ fault. HasRoom self.old (map event_of (take fault.index events.now))) }
+        ensures refused { IfErr result (λ fault. StopsAt self.new fault.refusal fault.index (slice_get (map event_of events.now) fault.index)) }
     {
         let Ok(mut answers) = Vec::with_capacity(alloc, events.len()) else {
             return Err(RunFault {

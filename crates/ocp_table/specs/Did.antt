@@ -1,5 +1,5 @@
 -- What an event did to the records, with all values that it wrote. Each part of a record follows from it by cases.
-use Rattle.std.specs.Prelude.{ℕ, List, [], Option, Some, None, ◌==◌, if◌then◌else◌}
+use Rattle.std.specs.Prelude.{ℕ, List, [], Option, Some, None}
 use Rattle.std.specs.FinMap.{get, insert}
 use Rattle.bpf_step.specs.Machine.{State, Outcome, Next, Needs, Lost}
 use Rattle.bpf_step.specs.Machine.{started}
@@ -81,13 +81,3 @@ abbrev pub records_by : Did → Records → Records
 records_by (Loaded id image) m = insert m id (loaded image)
 records_by (Changed id change) m = put_changed (get m id) id change m
 records_by (Kept why) m = m
-
--- the record of one procedure after what an event did
-abbrev pub changed_if_there : Change → Option Rec → Option Rec
-changed_if_there change None = None
-changed_if_there change (Some r) = Some (changed change r)
-
-abbrev pub own_by : ℕ → Did → Option Rec → Option Rec
-own_by q (Loaded id image) o = if q == id then Some (loaded image) else o
-own_by q (Changed id change) o = if q == id then changed_if_there change o else o
-own_by q (Kept why) o = o

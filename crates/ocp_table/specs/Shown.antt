@@ -75,14 +75,6 @@ started_by (Kept Unasked) = Ok tt
 started_by (Kept (Failed failure)) = Err failure
 started_by (Kept (Refused why)) = Ok tt
 
--- the number of a failure, and the data that a report of it has
-abbrev pub code_of : Failure → ℕ
-code_of failure.AlreadyLoaded = 16
-code_of failure.TableFull = 17
-code_of (failure.BadCode number slot) = 18
-code_of failure.NotLoaded = 19
-code_of failure.NotInactive = 20
-
 -- a record that a load of this image under this id makes
 pub record IsLoading {A : Type 0} (r : Record A) (id : ℕ) (image : List ℕ) : Type 0 where
   pub named : id_of r ≡ id

@@ -1,7 +1,6 @@
-use Rattle.std.proofs.Common.{◌≡◌, ◌+◌, ◌<◌, ◌≤◌, length, map, ap, ◌∙◌, arith}
-use Rattle.ocp_core.specs.Log.{world_of}
+use Rattle.std.proofs.Common.{◌<◌, length, map, ap, ◌∙◌, arith}
 use Rattle.ocp_core.specs.Journal.{event_of, answer_of}
-use Rattle.ocp_core.proofs.Runs.{told_more, world_more}
+use Rattle.ocp_core.proofs.Runs.{told_more, world_more, log_more, room_more}
 use Rattle.ocp_core.proofs.engine.Engine.run.Goals as goal
 
 pub push_reserved-requires : goal.push_reserved-requires
@@ -13,9 +12,15 @@ pub loop-index-preserved : goal.loop-index-preserved
 loop-index-preserved g c =
     let within : c.loop-index.index < length c.args.events.now = omega arith in
     let inv = c.loop-index.invariant in
+    let applied = c.in-Ok-apply.ensures in
+    let start = c.args.self.now in
+    let events = c.args.events.now in
+    let i = c.loop-index.index in
     record {
-      told = ap (map answer_of) c.push_reserved.ensures.items ∙ told_more event_of (world_of c.args.self.now) c.args.events.now c.loop-index.index _ within c.loop-index.self c.apply.new.self inv.world answer_of _ _ c.in-Ok-apply.ensures.0 inv.told;
-      world = world_more event_of (world_of c.args.self.now) c.args.events.now c.loop-index.index _ within c.loop-index.self c.apply.new.self inv.world c.in-Ok-apply.ensures.1;
+      told = ap (map answer_of) c.push_reserved.ensures.items ∙ told_more event_of start events i _ within c.loop-index.self inv.world answer_of _ _ applied.0 inv.told;
+      world = world_more event_of start events i _ within c.loop-index.self inv.world c.apply.new.self applied.1 applied.2;
+      journal = log_more event_of start events i _ within c.loop-index.self inv.journal c.apply.new.self applied.1;
+      roomy = room_more event_of start events i _ within c.loop-index.self inv.journal inv.roomy applied.2;
       room = omega (arith, inv.room, c.push_reserved.ensures.capacity);
       count = omega (arith, inv.count, c.push_reserved.ensures.len);
     }
