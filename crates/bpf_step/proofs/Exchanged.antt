@@ -1,7 +1,7 @@
 -- Byte order instructions read the low octets of a number in their order.
-use Rattle.std.proofs.Common.{◌≡◌, ℕ, ◌+◌, ◌*◌, ◌/◌, ◌%◌, ◌^◌, ◌<◌, ◌≤◌, ◌∙◌, ap, arith, List, [], ◌∷◌}
+use Rattle.std.proofs.Common.{◌≡◌, ℕ, ◌%◌, ◌^◌, ◌<◌, ◌∙◌, ap, arith, [], ◌∷◌}
 use Rattle.std.specs.Prelude.{reverse}
-use Rattle.std.specs.Int.{w16, w32, w64, from_be_bytes, to_le_bytes, swap_bytes}
+use Rattle.std.specs.Int.{w16, w32, w64, from_be_bytes, swap_bytes}
 use Rattle.bpf_types.specs.declared.line.Order.{Order}
 use Rattle.bpf_types.specs.declared.line.Order.TheVariants.{Little, Big, Swap}
 use Rattle.bpf_types.specs.declared.line.Swapped.{Swapped}

@@ -1,0 +1,42 @@
+//! What is read of a machine.
+ghost use Rattle.std.specs.Prelude.{◌≡◌, ◌≤◌, length, IfErr, OnOk, OnErr, Some, None};
+ghost use Rattle.ocp_regions.specs.Memory.{octets_at};
+ghost use Rattle.ocp_regions.specs.declared.fault.AccessFault.TheVariants.{AccessOutside};
+
+use crate::machine::Machine;
+use ocp_regions::AccessFault;
+use std::alloc::Allocator;
+
+impl<A: Allocator> Machine<A> {
+    /// R0 to R10.
+    pub fn registers(&self) -> [u64; 11]
+        ensures { result ≡ self.now.registers }
+    {
+        self.registers
+    }
+
+    /// Reads octets of the memory from an address on, one into each of the slice. It refuses with AccessOutside
+    /// where one of them is not there, and the slice keeps its octets.
+    pub fn octets(&self, address: u64, octets: &mut [u8]) -> Result<(), AccessFault>
+        ensures ok { OnOk result (octets_at self.now.memory address (length octets.old) ≡ Some octets.new) }
+        ensures err { IfErr result (λ fault. (fault ≡ AccessOutside) × (octets_at self.now.memory address (length octets.old) ≡ None)) }
+        ensures kept { OnErr result (octets.new ≡ octets.old) }
+    {
+        self.memory.octets(address, octets)
+    }
+
+    /// The slot of the next instruction.
+    pub fn place(&self) -> u16
+        ensures { result ≡ self.now.place }
+    {
+        self.place
+    }
+
+    /// How many local calls are open, at most 7.
+    pub fn depth(&self) -> usize
+        ensures value { result ≡ length self.now.frames }
+        ensures bound { result ≤ 7 }
+    {
+        self.frames.len()
+    }
+}
