@@ -10,3 +10,7 @@ pub mod UniqueFields
 pub mod UniqueForms
 pub mod UniqueLines
 pub mod UniqueTexts
+pub mod CanonicalNumbers
+pub mod CanonicalTokens
+pub mod CanonicalWords
+pub mod CanonicalLines

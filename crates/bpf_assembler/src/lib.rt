@@ -6,6 +6,7 @@ mod fields;
 mod forms;
 pub mod laws;
 mod line;
+pub mod listings;
 mod number;
 mod reading;
 mod statements;
