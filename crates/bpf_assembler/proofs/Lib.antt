@@ -14,3 +14,4 @@ pub mod CanonicalNumbers
 pub mod CanonicalTokens
 pub mod CanonicalWords
 pub mod CanonicalLines
+pub mod CanonicalListings

@@ -7,3 +7,4 @@ pub mod Lines
 pub mod Judged
 pub mod Text
 pub mod Faults
+pub mod Listings

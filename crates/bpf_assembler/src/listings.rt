@@ -1,13 +1,43 @@
 //! Laws of canonical texts and listings, which are assembly text. The functions do nothing when they run: their contracts
 //! are the laws.
 
-ghost use Rattle.std.specs.Prelude.{Some, None};
+ghost use Rattle.std.specs.Prelude.{◌≡◌, ℕ, List, Result, MatchResult};
+ghost use Rattle.std.specs.List.{All};
 ghost use Rattle.bpf_types.specs.declared.line.Line.{Line};
 ghost use Rattle.bpf_types.specs.Line.{IsLine};
 ghost use Rattle.bpf_listing.specs.Canonical.{canonical};
+ghost use Rattle.bpf_listing.specs.Listing.{listing, IsImageOf};
+ghost use Rattle.ocp_loader.specs.Admitted.{IsAdmitted, IsAdmittedAs};
 ghost use Rattle.bpf_assembler.specs.Lines.{Writes};
+ghost use Rattle.bpf_assembler.specs.Listings.{alone};
+ghost use Rattle.bpf_assembler.specs.Judged.{JudgesLine, written};
+ghost use Rattle.bpf_assembler.specs.Text.{Means};
+ghost use Rattle.bpf_assembler.specs.declared.line.Parsed.{Parsed};
+ghost use Rattle.bpf_assembler.specs.declared.line.LineFault.{LineFault};
 
-/// The canonical text of an instruction is a line of assembly text with that instruction, and with no label.
+use bpf_listing::{images_are_unique, listings_have_a_line_for_each_instruction};
+
+/// The canonical text of an instruction is a line of assembly text with that instruction, and with no label; `read_line`
+/// answers that instruction.
 pub fn canonical_texts_are_read_back()
-    ensures { (line : Line) → IsLine line → Writes (canonical line) (record { label = None; body = Some (record { line = line; name = None; odd = None }) }) }
+    ensures writes { (line : Line) → IsLine line → Writes (canonical line) (alone line) }
+    ensures reads { (line : Line) (result : Result Parsed LineFault) → IsLine line → JudgesLine (canonical line) result → MatchResult result (λ p. written p ≡ alone line) (λ fault. ⊥) }
 {}
+
+/// A listing means the instructions that it lists.
+pub fn listings_mean_their_instructions()
+    ensures { (lines : List Line) → All IsLine lines → Means (listing lines) lines }
+{
+    listings_have_a_line_for_each_instruction();
+}
+
+/// The listing of an image that may be run means the instructions of the image, and no others. And where an image that may
+/// be run is that of the instructions that a text means, these are the instructions that are listed of it.
+pub fn admitted_images_are_meant_by_their_listings()
+    ensures means { (image : List ℕ) (lines : List Line) → IsAdmittedAs image lines → Means (listing lines) lines }
+    ensures only { (image : List ℕ) (lines others : List Line) → IsAdmittedAs image lines → Means (listing lines) others → others ≡ lines }
+    ensures listed { (image : List ℕ) (lines : List Line) → IsAdmitted image → IsImageOf image lines → IsAdmittedAs image lines }
+{
+    listings_have_a_line_for_each_instruction();
+    images_are_unique();
+}

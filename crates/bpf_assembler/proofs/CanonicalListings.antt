@@ -1,0 +1,111 @@
+-- A listing means its lines.
+use Rattle.std.proofs.Common.{◌≡◌, ◌+◌, ◌-◌, ℕ, zero, suc, List, [], ◌∷◌, ◌++◌, Bool, true, false, refl, sym, ap, ◌∙◌, subst, arith, append_assoc, map, length, IsTrue, Result, Ok, Err}
+use Rattle.std.specs.Prelude.{codes, ◌&&◌, ◌==◌, slice_index, MatchResult}
+use Rattle.std.specs.List.{All, list_all}
+use Rattle.std.specs.Str.Lines.{strip_carriage_return}
+use Rattle.std.proofs.lemmas.Bool.Decides.{nat_tests}
+use Rattle.bpf_types.specs.declared.line.Line.{Line}
+use Rattle.bpf_types.specs.Line.{IsLine, is_wide}
+use Rattle.ocp_loader.specs.Image.{slots_in}
+use Rattle.bpf_listing.specs.Canonical.{canonical}
+use Rattle.bpf_listing.specs.Listing.{listing, IsImageOf}
+use Rattle.bpf_listing.specs.Octets.{is_text_octet}
+use Rattle.bpf_assembler.specs.Lines.{Written, InRange}
+use Rattle.bpf_assembler.specs.Listings.{alone}
+use Rattle.bpf_assembler.specs.Text.{Ended, onto, pieces_of, line_of_piece, lines_of, EachWritten, AreDistinct, entries_of, AreInstructions, Means}
+use Rattle.bpf_assembler.specs.Judged.{JudgesLine, written}
+use Rattle.bpf_assembler.specs.declared.line.Parsed.{Parsed}
+use Rattle.bpf_assembler.specs.declared.line.LineFault.{LineFault}
+use Rattle.bpf_assembler.specs.declared.line.LineFault.TheVariants.{Syntax, Range}
+use Rattle.ocp_loader.specs.Admitted.{IsAdmitted, IsAdmittedAs}
+use Rattle.bpf_assembler.proofs.CanonicalLines.{canonical_written}
+use Rattle.bpf_assembler.proofs.UniqueLines.{one_written}
+use Rattle.bpf_assembler.proofs.UniqueTexts.{one_meaning}
+
+-- the elements of a list have the property
+first_of : (l : Line) (ls : List Line) → All IsLine (l ∷ ls) → IsLine l
+first_of l ls h = h 0 l (omega arith)
+
+rest_of : (l : Line) (ls : List Line) → All IsLine (l ∷ ls) → All IsLine ls
+rest_of l ls h = λ k d lt. h (suc k) d (omega arith)
+
+-- what the law of bpf_listing says of canonical texts
+abbrev pub AreTexts : Type 0
+AreTexts = (l : Line) → IsLine l → IsTrue (list_all is_text_octet (canonical l))
+
+both_of : (a b : Bool) → (a && b) ≡ true → (a ≡ true) × (b ≡ true)
+both_of true b h = (refl, h)
+both_of false b h = absurd cc
+
+no_newline : (o : ℕ) → is_text_octet o ≡ true → (o == 10) ≡ false
+no_newline o h = grind (arith, nat_tests)
+
+no_return : (o : ℕ) → is_text_octet o ≡ true → (o == 13) ≡ false
+no_return o h = grind (arith, nat_tests)
+
+-- the text up to a newline is a line
+first_piece : (text rest : List ℕ) → list_all is_text_octet text ≡ true → pieces_of (text ++ 10 ∷ rest) ≡ Ended text ∷ pieces_of rest
+first_piece [] rest h = refl
+first_piece (o ∷ os) rest h =
+    let p = both_of (is_text_octet o) (list_all is_text_octet os) h in
+    rw (no_newline o p.0) (ap (onto o) (first_piece os rest p.1))
+
+octet_at : (text : List ℕ) (k : ℕ) → list_all is_text_octet text ≡ true → (slice_index text k == 13) ≡ false
+octet_at [] k h = refl
+octet_at (o ∷ os) zero h = no_return o (both_of (is_text_octet o) (list_all is_text_octet os) h).0
+octet_at (o ∷ os) (suc k) h = octet_at os k (both_of (is_text_octet o) (list_all is_text_octet os) h).1
+
+stays_whole : (text : List ℕ) → list_all is_text_octet text ≡ true → strip_carriage_return text ≡ text
+stays_whole text h = rw (octet_at text (length text - 1) h) refl
+
+pub first_line : (text rest : List ℕ) → list_all is_text_octet text ≡ true → lines_of (text ++ 10 ∷ rest) ≡ text ∷ lines_of rest
+first_line text rest h = ap (map line_of_piece) (first_piece text rest h) ∙ ap (λ (t : List ℕ). t ∷ lines_of rest) (stays_whole text h)
+
+-- the lines of a listing are the canonical texts
+lines_of_listing : AreTexts → (ls : List Line) → All IsLine ls → lines_of (listing ls) ≡ map canonical ls
+lines_of_listing texts [] h = refl
+lines_of_listing texts (l ∷ ls) h =
+    ap lines_of (append_assoc (canonical l) (codes "\n") (listing ls))
+    ∙ first_line (canonical l) (listing ls) (texts l (first_of l ls h))
+    ∙ ap (λ (t : List (List ℕ)). canonical l ∷ t) (lines_of_listing texts ls (rest_of l ls h))
+
+each_alone : (ls : List Line) → All IsLine ls → EachWritten (map canonical ls) (map alone ls)
+each_alone [] h = tt
+each_alone (l ∷ ls) h = (canonical_written l (first_of l ls h), (first_of l ls h, refl), each_alone ls (rest_of l ls h))
+
+none_twice : (before : List Written) (ls : List Line) → AreDistinct before (map alone ls)
+none_twice before [] = tt
+none_twice before (l ∷ ls) = (tt, none_twice (before ++ alone l ∷ []) ls)
+
+each_itself : (all : List Written) (number place : ℕ) (ls : List Line) → AreInstructions all (entries_of number place (map alone ls)) ls
+each_itself all number place [] = tt
+each_itself all number place (l ∷ ls) = (refl, each_itself all (number + 1) (place + slots_in (is_wide l)) ls)
+
+pub listing_means : AreTexts → (ls : List Line) → All IsLine ls → Means (listing ls) ls
+listing_means texts ls h = record {
+  lines = map alone ls;
+  written = record {
+    each = subst (λ (t : List (List ℕ)). EachWritten t (map alone ls)) (sym (lines_of_listing texts ls h)) (each_alone ls h);
+    distinct = none_twice [] ls;
+  };
+  instructions = each_itself (map alone ls) 1 0 ls;
+}
+
+-- the reader of a line answers the instruction of its canonical text
+pub reads_canonical : (l : Line) → IsLine l → (r : Result Parsed LineFault) → JudgesLine (canonical l) r → MatchResult r (λ p. written p ≡ alone l) (λ fault. ⊥)
+reads_canonical l h (Ok p) k = one_written (canonical l) (written p) (alone l) k.0 k.1 (canonical_written l h)
+reads_canonical l h (Err Syntax) k = k (alone l) (canonical_written l h)
+reads_canonical l h (Err Range) (w, writes, out) =
+    let same : alone l ≡ w = one_written (canonical l) (alone l) w (canonical_written l h) (h, refl) writes in
+    out (subst (λ (v : Written). InRange v.body) same (h, refl))
+
+-- an image that may be run, of these lines, may be run as these lines
+pub admitted_as : ((image : List ℕ) (a b : List Line) → IsImageOf image a → IsImageOf image b → a ≡ b) → (image : List ℕ) (lines : List Line) → IsAdmitted image → IsImageOf image lines → IsAdmittedAs image lines
+admitted_as one image lines h k = subst (IsAdmittedAs image) (one image h.lines lines h.admitted.whole k) h.admitted
+
+-- the listing of an image that may be run means its instructions and no others
+pub listing_means_image : AreTexts → (image : List ℕ) (lines : List Line) → IsAdmittedAs image lines → Means (listing lines) lines
+listing_means_image texts image lines h = listing_means texts lines h.whole.ranges
+
+pub listing_means_no_other : AreTexts → (image : List ℕ) (lines ls : List Line) → IsAdmittedAs image lines → Means (listing lines) ls → ls ≡ lines
+listing_means_no_other texts image lines ls h k = one_meaning (listing lines) ls lines k (listing_means_image texts image lines h)
