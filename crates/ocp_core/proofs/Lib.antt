@@ -6,3 +6,4 @@ pub mod Slicing
 pub mod Keeping
 pub mod Journaling
 pub mod Runs
+pub mod Lawful

@@ -41,7 +41,7 @@ kept_turn id (Ok made.Ended) w h = absurd (true_false h)
 kept_turn id (Ok (made.Faulted number)) w h = absurd (true_false h)
 kept_turn id (Err why) w h = refl
 
-refused_keeps : (w : World) (e : Event) → is_accepted (after w e).answer ≡ false → (after w e).world ≡ w
+pub refused_keeps : (w : World) (e : Event) → is_accepted (after w e).answer ≡ false → (after w e).world ≡ w
 refused_keeps w (Request by time octets) h = kept_octets (telecommand_of w.apid octets) time w h
 refused_keeps w (Step by id) h = kept_turn id (turn (get w.records id)) w h
 

@@ -7,3 +7,4 @@ pub mod Answering
 pub mod Running
 pub mod Codes
 pub mod Kept
+pub mod Laws

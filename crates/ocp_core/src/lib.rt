@@ -6,6 +6,7 @@ mod answers;
 mod engine;
 mod event;
 mod journal;
+pub mod laws;
 mod octets;
 mod reporting;
 mod run;
