@@ -15,3 +15,4 @@ pub mod CanonicalTokens
 pub mod CanonicalWords
 pub mod CanonicalLines
 pub mod CanonicalListings
+pub mod LabelLemmas

@@ -8,3 +8,4 @@ pub mod Judged
 pub mod Text
 pub mod Faults
 pub mod Listings
+pub mod Labels

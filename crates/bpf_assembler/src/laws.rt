@@ -1,16 +1,18 @@
 //! Laws of assembly text.
 
-ghost use Rattle.std.specs.Prelude.{◌≡◌, List, ℕ, Err};
+ghost use Rattle.std.specs.Prelude.{◌≡◌, ◌↔◌, ◌∷◌, ◌++◌, List, ℕ, Some, Err, length};
 ghost use Rattle.bpf_types.specs.declared.line.Line.{Line};
 ghost use Rattle.bpf_listing.specs.Listing.{image_of};
 ghost use Rattle.ocp_loader.specs.declared.fault.LoadFault.{LoadFault};
 ghost use Rattle.ocp_loader.specs.Admitted.{IsAdmitted};
 ghost use Rattle.ocp_loader.specs.Judging.{judged};
-ghost use Rattle.bpf_assembler.specs.Text.{Means};
+ghost use Rattle.ocp_loader.specs.Places.{place_of};
+ghost use Rattle.bpf_assembler.specs.Text.{Means, IsWritten, AreInstructions, entries_of, label_place};
 ghost use Rattle.bpf_assembler.specs.Faults.{IsFault};
+ghost use Rattle.bpf_assembler.specs.Labels.{statements, IsLabelAt, IsMeantBy};
 ghost use Rattle.bpf_assembler.specs.declared.fault.Why.{Why};
 ghost use Rattle.bpf_assembler.specs.declared.fault.Why.TheVariants.{Load};
-ghost use Rattle.bpf_assembler.specs.Lines.{Written, Writes, InRange};
+ghost use Rattle.bpf_assembler.specs.Lines.{Written, Writes, InRange, Statement};
 
 /// A line of text whose numbers are in their ranges is read in one way: it says one label and one instruction.
 pub fn readings_are_unique()
@@ -31,4 +33,11 @@ pub fn faults_are_unique()
 pub fn meanings_exclude_faults()
     ensures image { (text : List ℕ) (lines : List Line) (number : ℕ) (y : Why) → Means text lines → IsFault text number y → (fault : LoadFault) × (y ≡ Load fault) × (judged (image_of lines) ≡ Err fault) }
     ensures admitted { (text : List ℕ) (lines : List Line) (number : ℕ) (y : Why) → Means text lines → IsAdmitted (image_of lines) → ¬ IsFault text number y }
+{}
+
+/// Of a text that means instructions: a label has the place in the image of the next instruction, or at the end of the text
+/// the slot after the last one; and an instruction that names a label leads there, as the loader reads its distance.
+pub fn named_jumps_lead_to_their_labels()
+    ensures labels { (text : List ℕ) (ws : List Written) (ls : List Line) (name : List ℕ) (place : ℕ) → IsWritten text ws → AreInstructions ws (entries_of 1 0 ws) ls → (label_place name 0 ws ≡ Some place) ↔ IsLabelAt name ws ls place }
+    ensures jumps { (text : List ℕ) (ws : List Written) (ls : List Line) (a b : List Statement) (s : Statement) (c d : List Line) (l : Line) → IsWritten text ws → AreInstructions ws (entries_of 1 0 ws) ls → statements ws ≡ a ++ s ∷ b → ls ≡ c ++ l ∷ d → length a ≡ length c → IsMeantBy ws ls (place_of c) s.line s.name l }
 {}

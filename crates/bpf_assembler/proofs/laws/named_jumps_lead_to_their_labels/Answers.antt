@@ -1,0 +1,8 @@
+use Rattle.bpf_assembler.proofs.LabelLemmas.{label_at, meant_by}
+use Rattle.bpf_assembler.proofs.laws.named_jumps_lead_to_their_labels.Goals as goal
+
+pub returns-clause-labels : goal.returns-clause-labels
+returns-clause-labels c = label_at
+
+pub returns-clause-jumps : goal.returns-clause-jumps
+returns-clause-jumps c = meant_by
