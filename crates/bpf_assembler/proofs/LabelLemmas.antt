@@ -1,6 +1,5 @@
 -- Labels and the jumps that name them.
-use Rattle.std.proofs.Common.{◌≡◌, ◌+◌, ℕ, ℤ, zero, suc, pos, ◌-ℤ◌, ◌+ℤ◌, List, [], ◌∷◌, ◌++◌, length, take, Option, Some, None, Bool, true, false, cond, ◌↔◌, refl, sym, ap, ◌∙◌, subst, arith, append_assoc, append-nil, length-append}
-use Rattle.std.specs.Str.{bytes_eq}
+use Rattle.std.proofs.Common.{◌≡◌, ◌+◌, ℕ, ℤ, suc, pos, ◌-ℤ◌, ◌+ℤ◌, List, [], ◌∷◌, ◌++◌, length, take, Option, Some, None, Bool, true, false, cond, ◌↔◌, refl, sym, ap, ◌∙◌, subst, arith, append_assoc, append-nil, length-append}
 use Rattle.std.proofs.Math.IntN.{+ℤ_comm, -ℤ-+ℤ_cancel}
 use Rattle.std.proofs.lemmas.Slice.Eq.{bytes_eq-Decides}
 use Rattle.bpf_types.specs.declared.line.Line.{Line}
@@ -53,6 +52,7 @@ found_at name p to (w ∷ ws) h = by_test (has_label name w.label) refl (found_a
     named : (a : Option (List ℕ)) → has_label name a ≡ true → a ≡ Some name
     named None e = absurd cc
     named (Some label) e = ap Some ((bytes_eq-Decides label name).0 e)
+
     by_test : (b : Bool) → has_label name w.label ≡ b → (label_place name (p + slots w.body) ws ≡ Some to → (before : List Written) × (v : Written) × (after : List Written) × (ws ≡ before ++ v ∷ after) × (v.label ≡ Some name) × (to ≡ end_of (p + slots w.body) before))
         → cond b (Some p) (label_place name (p + slots w.body) ws) ≡ Some to → (before : List Written) × (v : Written) × (after : List Written) × (w ∷ ws ≡ before ++ v ∷ after) × (v.label ≡ Some name) × (to ≡ end_of p before)
     by_test true e ih h = ([], w, ws, refl, named w.label e, (let q : to ≡ p = cc in q))
@@ -87,9 +87,9 @@ pub label_at : (text : List ℕ) (ws : List Written) (ls : List Line) (name : Li
 label_at text ws ls name place h is = (
   λ e. let q = found_at name 0 place ws e in record { before = q.0; line = q.1; after = q.2; order = q.3; label = q.4; slots = q.5 ∙ end_place ws q.0 q.2 q.1 ls q.3 is },
   λ k.
-    let new = new_at [] k.before k.after k.line (subst (AreDistinct []) k.order h.distinct) in
-    let none : label_place name 0 k.before ≡ None = subst (λ (a : Option (List ℕ)). IsNew a k.before) k.label new in
-    ap (label_place name 0) k.order ∙ first_at name 0 k.before k.after k.line none k.label ∙ ap (λ (x : ℕ). Some x) (end_place ws k.before k.after k.line ls k.order is ∙ sym k.slots),
+      let new = new_at [] k.before k.after k.line (subst (AreDistinct []) k.order h.distinct) in
+      let none : label_place name 0 k.before ≡ None = subst (λ (a : Option (List ℕ)). IsNew a k.before) k.label new in
+      ap (label_place name 0) k.order ∙ first_at name 0 k.before k.after k.line none k.label ∙ ap (λ (x : ℕ). Some x) (end_place ws k.before k.after k.line ls k.order is ∙ sym k.slots),
 )
 
 -- ---- jumps
