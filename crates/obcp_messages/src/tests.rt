@@ -100,6 +100,18 @@ fn request_values_are_those_of_the_octets(rt: HostRuntime) -> Result<(), Fail> {
 }
 
 #[test]
+fn the_longest_code_and_one_octet_more(rt: HostRuntime) -> Result<(), Fail> {
+    let zeros = vec![in rt.alloc(); 0u8; 65536]?;
+    assert!(rt; Code::new(&zeros).is_none());
+    let code = Code::new(&zeros[1..]).ok_or("code")?;
+    let out = request_written(rt.alloc(), &Request::Load { id: 7, code })?;
+    assert_eq!(rt; out.len(), 65539);
+    let tc = telecommand(18, 1, &out).ok_or("a telecommand")?;
+    assert!(rt; matches!(read_request(&tc), Ok(Request::Load { id: 7, .. })));
+    Ok(())
+}
+
+#[test]
 fn request_faults_come_in_order(rt: HostRuntime) -> Result<(), Fail> {
     let nine_words = {
         let mut octets = [0; 75];
@@ -160,7 +172,15 @@ fn request_faults_come_in_order(rt: HostRuntime) -> Result<(), Fail> {
 /// The data of the reports of the worked runs: what is read is written again as the same octets.
 #[test]
 fn reports_are_read_and_written(rt: HostRuntime) -> Result<(), Fail> {
-    let table: [(u8, u8, &[u8]); 13] = [
+    let sixteen_rows = {
+        let mut octets = [0; 49];
+        octets[0] = 16;
+        for i in 0..16 {
+            octets[3 * i + 2] = i as u8;
+        }
+        octets
+    };
+    let table: [(u8, u8, &[u8]); 14] = [
         (1, 1, &[0x19, 0x23, 0xc0, 0x00]),
         (1, 2, &[0x19, 0x23, 0xc0, 0x05, 0, 4]),
         (1, 2, &[0x11, 0x23, 0xc0, 0x05, 0, 18]),
@@ -174,6 +194,7 @@ fn reports_are_read_and_written(rt: HostRuntime) -> Result<(), Fail> {
         (18, 9, &[0]),
         (18, 9, &[1, 0, 1, 2]),
         (18, 9, &[3, 0, 0, 0, 0, 1, 1, 0xff, 0xff, 2]),
+        (18, 9, &sixteen_rows),
     ];
     for (service, subtype, octets) in table {
         let report = read_report(service, subtype, octets)
