@@ -1,7 +1,7 @@
 //! `ocp`: an engine for on-board control procedures on its ground console.
 #![tactic(auto)]
 
-use ocp_console::{ConsoleFault, Device, Settings, run};
+use ocp_console::{ConsoleFault, Device, Settings, list, run};
 use ocp_words::{Job, WordsFault, read_words};
 use std::process::ExitCode;
 use std::{env, io};
@@ -18,8 +18,19 @@ fn failed(rt: &HostRuntime, name: &str) -> io::Result<ExitCode> {
     Ok(ExitCode::from(MACHINE_FAULT))
 }
 
-/// Runs the script on standard input, and writes its transcript to standard output.
-fn run_script(rt: &HostRuntime, settings: Settings) -> io::Result<ExitCode> {
+/// The exit status of a command that ended so: whether it did what it was asked for, or what failed in the machine.
+fn ended(rt: &HostRuntime, answer: Result<bool, ConsoleFault>) -> io::Result<ExitCode> {
+    match answer {
+        Ok(true) => Ok(ExitCode::SUCCESS),
+        Err(ConsoleFault::Read) => failed(rt, "Read"),
+        Err(ConsoleFault::Write) => failed(rt, "Write"),
+        Err(ConsoleFault::Memory) => failed(rt, "Memory"),
+        Ok(false) | Err(_) => Ok(ExitCode::from(INPUT_FAULT)),
+    }
+}
+
+/// Does a job from standard input to standard output.
+fn perform(rt: &HostRuntime, job: Job) -> io::Result<ExitCode> {
     let mut reader = Device {
         inner: rt.stdin(),
         failed: 0,
@@ -28,13 +39,19 @@ fn run_script(rt: &HostRuntime, settings: Settings) -> io::Result<ExitCode> {
         inner: rt.stdout(),
         failed: 0,
     };
-    match run(rt.alloc(), settings, &mut reader, &mut writer) {
-        Ok(()) => Ok(ExitCode::SUCCESS),
-        Err(ConsoleFault::Read) => failed(rt, "Read"),
-        Err(ConsoleFault::Write) => failed(rt, "Write"),
-        Err(ConsoleFault::Memory) => failed(rt, "Memory"),
-        Err(_) => Ok(ExitCode::from(INPUT_FAULT)),
-    }
+    let answer = match job {
+        Job::Assemble => return failed(rt, "NotServed"),
+        Job::List => list(rt.alloc(), &mut reader, &mut writer),
+        Job::Run(settings) => {
+            let settings = Settings {
+                apid: settings.apid,
+                pool_words: settings.pool,
+                capacity: settings.journal,
+            };
+            run(rt.alloc(), settings, &mut reader, &mut writer).map(|()| true)
+        }
+    };
+    ended(rt, answer)
 }
 
 fn main(rt: HostRuntime) -> io::Result<ExitCode> {
@@ -45,15 +62,7 @@ fn main(rt: HostRuntime) -> io::Result<ExitCode> {
         words.push(word.as_str())?;
     }
     match read_words(alloc, words.as_slice()) {
-        Ok(Job::Run(settings)) => run_script(
-            &rt,
-            Settings {
-                apid: settings.apid,
-                pool_words: settings.pool,
-                capacity: settings.journal,
-            },
-        ),
-        Ok(Job::Assemble | Job::List) => failed(&rt, "NotServed"),
+        Ok(job) => perform(&rt, job),
         Err(WordsFault::Usage(error)) => {
             error.print(&rt)?;
             Ok(ExitCode::from(error.exit_code() as u8))

@@ -1,5 +1,5 @@
 -- A text that is cut into lines.
-use Rattle.std.proofs.Common.{◌≡◌, ◌++◌, ◌<◌, ◌≤◌, ◌+◌, List, [], ◌∷◌, ℕ, suc, Bool, true, false, eqb, cond, length, refl, sym, ap, subst, ◌∙◌, arith}
+use Rattle.std.proofs.Common.{◌≡◌, ◌++◌, ◌≤◌, List, [], ◌∷◌, ℕ, suc, Bool, true, false, eqb, cond, length, refl, arith}
 use Rattle.ocp_console.specs.Lines.{Line, Ended, Open, onto, lines_of, octets_of, is_one_line}
 
 -- the first octet of a line is none that ends it

@@ -3,3 +3,4 @@ pub mod Cutting
 pub mod Runs
 pub mod Scripts
 pub mod TextLemmas
+pub mod Inputs

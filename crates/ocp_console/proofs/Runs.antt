@@ -6,7 +6,7 @@ use Rattle.std.specs.Prelude.{codes}
 use Rattle.std.specs.Option.{option_map_or}
 use Rattle.std.specs.Io.KnownBytes.{Appends}
 use Rattle.std.proofs.KnownBytes.{Appends-trans, Appends-nil}
-use Rattle.std.proofs.lemmas.Bool.{le-leb, lt-leb, lt-ltb, le-ltb}
+use Rattle.std.proofs.lemmas.Bool.{lt-leb, lt-ltb, le-ltb}
 use Rattle.ocp_console.specs.declared.fault.ConsoleFault.{ConsoleFault}
 use Rattle.ocp_console.specs.declared.fault.ConsoleFault.TheVariants as faults
 use Rattle.ocp_console.specs.Lines.{Line, Ended, Open, is_one_line, octets_of, text_of, lines_of}

@@ -1,9 +1,8 @@
 -- A whole script, piece by piece.
-use Rattle.std.proofs.Common.{◌≡◌, ◌++◌, ◌<◌, ◌≤◌, ◌+◌, List, [], ◌∷◌, ℕ, length, take, drop, Option, Some, None, Result, Ok, Err, IfSome, refl, sym, ap, subst, ◌∙◌, arith, append_assoc, append-nil}
-use Rattle.std.specs.Io.KnownBytes.{Appends, Consumes, Keeps, IsAtEnd}
-use Rattle.std.proofs.KnownBytes.{Appends-trans, Appends-nil, Consumes-trans, Consumes-nil, Consumes-whole, Consumes-kept}
+use Rattle.std.proofs.Common.{◌≡◌, ◌++◌, List, [], ℕ, Option, Some, None, Result, Ok, Err, IfSome, sym, ap, subst, ◌∙◌, append_assoc, append-nil}
+use Rattle.std.specs.Io.KnownBytes.{Appends, Consumes, IsAtEnd}
+use Rattle.std.proofs.KnownBytes.{Appends-trans, Appends-nil, Consumes-trans, Consumes-nil, Consumes-whole}
 use Rattle.ocp_console.specs.declared.fault.ConsoleFault.{ConsoleFault}
-use Rattle.ocp_console.specs.declared.fault.ConsoleFault.TheVariants as faults
 use Rattle.ocp_console.specs.Script.{Run, with_front, Prints, PrintsFront, Answers}
 use Rattle.ocp_console.proofs.Runs.{prints_of, then_prints, with_front-append}
 

@@ -1,5 +1,5 @@
 -- What a line does, and what it prints.
-use Rattle.std.specs.Prelude.{ℕ, ◌+◌, ◌%◌, List, [], ◌∷◌, ◌++◌, length, Option, Some, None, Result, Ok, Err, codes}
+use Rattle.std.specs.Prelude.{ℕ, ◌+◌, ◌%◌, List, [], length, Option, Some, None, Ok, Err, codes}
 use Rattle.std.specs.List.{flat_map}
 use Rattle.std.specs.FinMap.{get}
 use Rattle.pus_fields.specs.Acknowledgement.{flags}
@@ -7,7 +7,6 @@ use Rattle.pus_fields.specs.Telecommand.{telecommand_octets}
 use Rattle.obcp_messages.specs.declared.request.Request.{Request}
 use Rattle.obcp_messages.specs.Request.{subtype_of, request_data}
 use Rattle.ocp_table.specs.Shown.{shown_at}
-use Rattle.ocp_core.specs.declared.answers.EngineFault.{EngineFault}
 use Rattle.ocp_core.specs.declared.answers.EngineFault.TheVariants as fault
 use Rattle.ocp_core.specs.World.{Answer, Requested, Stepped}
 use Rattle.ocp_core.specs.World as event

@@ -4,3 +4,5 @@ pub mod Texts
 pub mod Answering
 pub mod Script
 pub mod Session
+pub mod Commands
+pub mod Listings

@@ -1,12 +1,16 @@
-//! The console: a script of lines in, its transcript out.
+//! The console: a script of lines in, its transcript out; and the commands of the ground tools.
 #![tactic(auto)]
 
 mod answering;
 mod console;
 mod device;
 mod fault;
+mod input;
+mod listing;
+mod output;
 mod ports;
 mod script;
+mod sending;
 mod session;
 mod settings;
 mod steps;
@@ -14,6 +18,7 @@ mod texts;
 
 pub use device::Device;
 pub use fault::ConsoleFault;
+pub use listing::list;
 pub use ports::{Sink, Source};
 pub use script::run;
 pub use settings::Settings;

@@ -12,29 +12,13 @@ use crate::answering::answer;
 use crate::console::Console;
 use crate::fault::ConsoleFault;
 use crate::ports::Sink;
+use crate::sending::send;
 use crate::session::Session;
 use std::alloc::Allocator;
 
 const MAX_LINES: u32 = 100_000;
 
 const MAX_LINE: usize = 40_000;
-
-/// Writes all of the octets, or says that a write failed.
-pub(crate) fn send<W: Sink>(writer: &mut W, octets: &[u8]) -> bool
-    requires { W.failed_writes writer.old < 2 ^ 64 - 1 }
-    ensures octets { MatchBool result (Appends (W.contents writer.old) (W.contents writer.new) octets.now)
-        (PrintsFront (W.contents writer.old) (W.contents writer.new) octets.now) }
-    ensures count { W.failed_writes writer.new ≡ (if result then W.failed_writes writer.old else W.failed_writes writer.old + 1) }
-{
-    let mut rest = octets;
-    while !rest.is_empty() {
-        match writer.write(rest) {
-            Some(count) => rest = &rest[count..],
-            None => return false,
-        }
-    }
-    true
-}
 
 /// The line without a carriage return at its end.
 fn stripped(line: &[u8]) -> &[u8]

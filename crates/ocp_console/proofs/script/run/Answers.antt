@@ -1,9 +1,7 @@
-use Rattle.std.proofs.Common.{◌≡◌, ◌++◌, ◌∷◌, ◌+◌, ◌-◌, List, [], ℕ, length, take, drop, arith, ◌∙◌, sym, subst, ap, append_assoc, refl}
+use Rattle.std.proofs.Common.{ℕ, take, arith, ◌∙◌, ap, refl}
 use Rattle.std.proofs.lemmas.Result.{err_from_is_err_and}
-use Rattle.ocp_console.specs.Session.{rest_of, taken}
-use Rattle.ocp_console.specs.Lines.{Open, lines_of}
-use Rattle.ocp_console.specs.Script.{run_of, transcript}
-use Rattle.ocp_console.specs.Answering.{state_of, respond}
+use Rattle.ocp_console.specs.Session.{rest_of}
+use Rattle.ocp_console.specs.Script.{transcript}
 use Rattle.ocp_console.proofs.Scripts.{not_begun, piece_answered, piece_failed, script_ended}
 use Rattle.ocp_console.proofs.script.run.Goals as goal
 

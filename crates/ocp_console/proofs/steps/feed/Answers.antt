@@ -1,9 +1,7 @@
-use Rattle.std.proofs.Common.{◌≡◌, ◌++◌, ◌∷◌, ◌+◌, List, [], ℕ, length, arith, ◌∙◌, sym, subst, ap, append_assoc, Option, Some, None, eqb}
-use Rattle.std.specs.Io.KnownBytes.{Appends}
+use Rattle.std.proofs.Common.{◌≡◌, ◌++◌, ◌∷◌, arith, ◌∙◌, sym, ap}
 use Rattle.std.proofs.lemmas.Result.{err_from_is_err_and}
 use Rattle.ocp_console.specs.Lines.{Ended, lines_of}
-use Rattle.ocp_console.specs.Script.{PrintsFront, Run, run_of}
-use Rattle.ocp_console.specs.Answering.{state_of, respond}
+use Rattle.ocp_console.specs.Answering.{state_of}
 use Rattle.ocp_console.proofs.Cutting.{some_line}
 use Rattle.ocp_console.proofs.Runs.{too_many, too_long, prints_of, newline_run, newline_done, full_line, pushed_line}
 use Rattle.std.specs.Str.Lines.{strip_carriage_return}

@@ -1,7 +1,7 @@
-use Rattle.std.proofs.Common.{◌≡◌, ◌++◌, ◌∷◌, ◌+◌, List, [], ℕ, length, arith, ◌∙◌, sym, subst, ap, append_assoc}
+use Rattle.std.proofs.Common.{arith, ◌∙◌}
 use Rattle.std.proofs.lemmas.Result.{err_from_is_err_and}
-use Rattle.ocp_console.specs.Session.{rest_of, taken}
-use Rattle.ocp_console.proofs.Runs.{more_answered, ended_at, all_answered}
+use Rattle.ocp_console.specs.Session.{rest_of}
+use Rattle.ocp_console.proofs.Runs.{more_answered, ended_at}
 use Rattle.ocp_console.proofs.steps.feed_all.Goals as goal
 
 pub returns-in_err-feed-clause-run : goal.returns-in_err-feed-clause-run

@@ -1,9 +1,8 @@
-use Rattle.std.proofs.Common.{◌≡◌, ◌++◌, ◌+◌, List, ℕ, length, arith, ◌∙◌, sym, subst, ap, append_assoc, Option, Some, None}
+use Rattle.std.proofs.Common.{◌≡◌, ◌+◌, ◌∙◌, sym, subst, ap, Some, None}
 use Rattle.std.specs.Prelude.{string_bytes}
-use Rattle.std.specs.Io.KnownBytes.{Appends}
-use Rattle.ocp_console.specs.Script.{error_line, PrintsFront, Run, run_of}
+use Rattle.ocp_console.specs.Script.{PrintsFront, Run, run_of}
 use Rattle.ocp_console.specs.Answering.{state_of, respond}
-use Rattle.ocp_console.proofs.Runs.{no_command, command_run, prints_of, front_of}
+use Rattle.ocp_console.proofs.Runs.{no_command, command_run, front_of}
 use Rattle.ocp_console.proofs.steps.line_answer.Goals as goal
 
 pub returns-in-None-clause-answers : goal.returns-in-None-clause-answers

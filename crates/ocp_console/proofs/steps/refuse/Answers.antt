@@ -1,5 +1,4 @@
-use Rattle.std.proofs.Common.{◌≡◌, ◌++◌, List, ℕ, length, arith, ◌∙◌, sym, subst, ap, append_assoc}
-use Rattle.std.specs.Prelude.{string_bytes}
+use Rattle.std.proofs.Common.{◌≡◌, ◌∙◌, subst, append_assoc}
 use Rattle.std.specs.Io.KnownBytes.{Appends}
 use Rattle.ocp_console.specs.Script.{error_line}
 use Rattle.ocp_console.proofs.Runs.{all_printed}

@@ -1,4 +1,4 @@
-use Rattle.std.proofs.Common.{◌≡◌, ◌++◌, ◌∷◌, List, ℕ, ◌∙◌, sym, ap, append_assoc}
+use Rattle.std.proofs.Common.{◌≡◌, ◌∙◌, ap, append_assoc}
 use Rattle.std.specs.Prelude.{string_bytes}
 use Rattle.ocp_console.specs.Texts.{telemetry_line, line_of}
 use Rattle.ocp_console.proofs.texts.report_text.Goals as goal

@@ -1,4 +1,4 @@
-use Rattle.std.proofs.Common.{◌≡◌, ◌++◌, ◌<◌, List, ℕ, length, arith, ◌∙◌, sym, ap}
+use Rattle.std.proofs.Common.{◌++◌, List, ℕ, arith, ◌∙◌, ap}
 use Rattle.std.specs.Prelude.{string_bytes}
 use Rattle.ocp_console.proofs.TextLemmas.{line_added}
 use Rattle.ocp_console.proofs.texts.view_text.Goals as goal

@@ -1,6 +1,6 @@
-use Rattle.std.proofs.Common.{◌≡◌, ◌++◌, List, ℕ, length, arith, ◌∙◌}
+use Rattle.std.proofs.Common.{◌∙◌}
 use Rattle.ocp_console.proofs.Sent.{part_sent}
-use Rattle.ocp_console.proofs.steps.send.Goals as goal
+use Rattle.ocp_console.proofs.sending.send.Goals as goal
 
 pub loop-rest-preserved : goal.loop-rest-preserved
 loop-rest-preserved g c = record {
