@@ -16,3 +16,8 @@ pub mod CanonicalWords
 pub mod CanonicalLines
 pub mod CanonicalListings
 pub mod LabelLemmas
+pub mod Cutting
+pub mod Places
+pub mod FirstPass
+pub mod SecondPass
+pub mod Assembled

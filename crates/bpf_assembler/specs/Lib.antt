@@ -9,3 +9,5 @@ pub mod Text
 pub mod Faults
 pub mod Listings
 pub mod Labels
+pub mod Tables
+pub mod Passes

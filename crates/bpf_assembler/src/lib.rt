@@ -1,6 +1,9 @@
-//! The assembler: what one line of assembly text says, its label and its instruction.
+//! The assembler: assembly text to the image of the instructions that it means.
 #![tactic(auto)]
 
+mod assembling;
+mod collecting;
+mod cut;
 mod fault;
 mod fields;
 mod forms;
@@ -9,12 +12,15 @@ mod line;
 pub mod listings;
 mod number;
 mod reading;
+mod resolving;
 mod statements;
+mod table;
 #[cfg(test)]
 mod tests;
 mod token;
 mod tokens;
 
+pub use assembling::{Image, assemble};
 pub use fault::{AsmFault, Why};
 pub use line::{LineFault, Parsed, Source};
 pub use reading::read_line;

@@ -1,5 +1,6 @@
-use crate::{LineFault, read_line};
+use crate::{AsmFault, LineFault, Why, assemble, read_line};
 use bpf_decode::encode;
+use std::alloc::Global;
 use std::test::*;
 
 /// Whether the line has an instruction with these octets.
@@ -66,4 +67,31 @@ fn lines_that_are_none_or_out_of_range(rt: HostRuntime) {
             b"abcdefghijklmnopqrstuvwxyzabcdef"
         )
     );
+}
+
+/// Whether the text means this image.
+fn gives(alloc: Global, text: &[u8], octets: &[u8]) -> bool {
+    match assemble(alloc, text) {
+        Ok(image) => image.octets() == octets,
+        Err(_) => false,
+    }
+}
+
+/// Whether the text has this fault at this line.
+fn faults(alloc: Global, text: &[u8], line: u64, why: Why) -> bool {
+    match assemble(alloc, text) {
+        Ok(_) => false,
+        Err(fault) => fault == AsmFault::At { line, why },
+    }
+}
+
+const LOOP: [u8; 32] = [
+    0xb7, 1, 0, 0, 3, 0, 0, 0, 0x17, 1, 0, 0, 1, 0, 0, 0, 0x55, 1, 0xfe, 0xff, 0, 0, 0, 0, 0x95, 0,
+    0, 0, 0, 0, 0, 0,
+];
+
+#[test]
+fn a_loop_is_assembled(rt: HostRuntime) {
+    let text = b"start: mov64 r1, 3 ; count\nagain: sub64 r1, 0x1\n jne64 r1, 0, again\n exit\n";
+    assert!(rt; gives(rt.alloc(), text, &LOOP));
 }

@@ -1,0 +1,39 @@
+use Rattle.std.proofs.Common.{arith}
+use Rattle.std.proofs.lemmas.Result.{err_from_is_err_and}
+use Rattle.bpf_assembler.proofs.FirstPass.{none_taken, one_taken, fault_taken}
+use Rattle.bpf_assembler.proofs.collecting.collect.Goals as goal
+
+pub loop-rest-init : goal.loop-rest-init
+loop-rest-init g c =
+    let t = c.args.table.now in
+    let n = c.requires.empty.count in
+    let p = c.requires.empty.place in
+    record {
+      taken = none_taken c.args.text.now t.labels t.rows.items t.lines t.place c.requires.empty;
+      count = omega arith;
+      place = omega arith;
+    }
+
+pub returns-in_err-add : goal.returns-in_err-add
+returns-in_err-add g c =
+    let p = err_from_is_err_and c.from_residual.result c.from_residual.ensures.1 in
+    let t = c.loop-rest.table in
+    let u = c.add.new.table in
+    rw (p.1, p.2) (fault_taken c.args.text.now c.loop-rest.rest.now c.cut.result.0.now c.cut.result.1.now t.labels u.labels t.rows.items u.rows.items t.lines u.lines t.place u.place _
+    c.loop-rest.invariant.taken c.cut.ensures.lines c.in_err-add.ensures.lines)
+
+pub loop-rest-preserved : goal.loop-rest-preserved
+loop-rest-preserved g c =
+    let t = c.loop-rest.table in
+    let u = c.add.new.table in
+    let shorter = c.cut.ensures.shorter in
+    let n = c.in_ok-add.ensures.count in
+    let p = c.in_ok-add.ensures.place in
+    let i = c.loop-rest.invariant.count in
+    let j = c.loop-rest.invariant.place in
+    record {
+      taken = one_taken c.args.text.now c.loop-rest.rest.now c.cut.result.0.now c.cut.result.1.now t.labels u.labels t.rows.items u.rows.items t.lines u.lines t.place u.place c.in_ok-add.field-0
+          c.loop-rest.invariant.taken c.cut.ensures.lines c.in_ok-add.ensures.lines;
+      count = omega (arith, shorter, n, i);
+      place = omega (arith, n, p, j);
+    }

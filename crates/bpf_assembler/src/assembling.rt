@@ -1,0 +1,80 @@
+//! Both passes, and the loader's judgement.
+
+ghost use Rattle.std.specs.Prelude.{◌≡◌, map, IfOk, IfErr};
+ghost use Rattle.ocp_loader.specs.Admitted.{IsAdmitted};
+ghost use Rattle.bpf_assembler.specs.Passes.{IsImageOfText, IsFaultOf, IsReported, entry};
+
+use crate::collecting::collect;
+use crate::fault::{AsmFault, Why};
+use crate::resolving::{line_up_to, resolve_all};
+use crate::table::{Row, Table};
+use bpf_listing::images_are_unique;
+use ocp_loader::{LoadFault, load};
+use std::alloc::{Allocator, Global};
+use std::collections::BTreeMap;
+use std::marker::Model;
+
+/// An image that may be run. Contracts see the list of its octets.
+#[derive(Drop)]
+pub struct Image<A: Allocator = Global> {
+    octets: Vec<u8, A>,
+}
+
+impl<A: Allocator> Model for Image<A> {
+    ghost use Rattle.std.specs.Prelude.{ℕ, List};
+    ghost use Rattle.ocp_loader.specs.Admitted.{IsAdmitted};
+
+    ghost Value = { List ℕ };
+
+    ghost view = { λ i. i.octets.items };
+
+    ghost invariant = { λ i. IsAdmitted i.octets.items };
+}
+
+impl<A: Allocator> Image<A> {
+    /// The octets of the image.
+    pub fn octets(&self) -> &[u8]
+        ensures value { result.now ≡ self.now }
+        ensures admitted { IsAdmitted result.now }
+    {
+        &self.octets
+    }
+}
+
+/// The fault of an image, at the line of the instruction at its slot, or at line 0 where it is one of the image's length.
+fn reported(rows: &[Row<'_>], fault: LoadFault) -> AsmFault
+    ensures { IsReported (map entry rows.now) fault result }
+{
+    let line = match fault {
+        LoadFault::Memory => return AsmFault::Memory,
+        LoadFault::EmptyCode | LoadFault::RaggedCode | LoadFault::TooLong => 0,
+        LoadFault::Decode(_, slot)
+        | LoadFault::BadCall(slot)
+        | LoadFault::BadTarget(slot)
+        | LoadFault::FallsOffEnd(slot) => line_up_to(rows, slot),
+    };
+    AsmFault::At {
+        line,
+        why: Why::Load(fault),
+    }
+}
+
+/// The image of the instructions that a text means.
+pub fn assemble<A: Allocator + Copy>(alloc: A, text: &[u8]) -> Result<Image<A>, AsmFault>
+    ensures means { IfOk result (IsImageOfText text.now) }
+    ensures fault { IfErr result (IsFaultOf text.now) }
+{
+    images_are_unique();
+    let mut table = Table {
+        labels: BTreeMap::new(alloc),
+        rows: Vec::new(alloc),
+        lines: 0,
+        place: 0,
+    };
+    collect(&mut table, text)?;
+    let octets = resolve_all(alloc, &table.labels, &table.rows)?;
+    match load(alloc, &octets) {
+        Ok(_) => Ok(Image { octets }),
+        Err(fault) => Err(reported(&table.rows, fault)),
+    }
+}

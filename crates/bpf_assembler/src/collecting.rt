@@ -1,0 +1,124 @@
+//! The first pass: the lines, their labels and their instructions.
+
+ghost use Rattle.std.specs.Prelude.{◌≡◌, ◌<◌, ◌≤◌, ◌+◌, ◌*◌, ◌++◌, ◌^◌, List, [], map, OnOk, IfOk, IfErr};
+ghost use Rattle.bpf_types.specs.Line.{is_wide};
+ghost use Rattle.ocp_loader.specs.Image.{slots_in};
+ghost use Rattle.bpf_assembler.specs.Lines.{Written};
+ghost use Rattle.bpf_assembler.specs.Judged.{text_of, statement_of};
+ghost use Rattle.bpf_assembler.specs.Text.{end_of, slots, entry_of};
+ghost use Rattle.bpf_assembler.specs.Passes.{AreLabels, PutsLabel, Knows, Adds, Collects, entry};
+
+use crate::cut::cut;
+use crate::fault::{AsmFault, Why};
+use crate::line::{LineFault, Source};
+use crate::reading::read_line;
+use crate::table::{Row, Table, has, put};
+use bpf_types::Line;
+use std::alloc::Allocator;
+use std::collections::BTreeMap;
+
+/// Notes a line's label, unless it stands already.
+fn put_label<'a, A: Allocator + Clone>(
+    labels: &mut BTreeMap<&'a [u8], u64, A>,
+    label: Option<&'a [u8]>,
+    place: u64,
+) -> Result<bool, AsmFault>
+    ensures { (ws : List Written) → AreLabels labels.old ws → place ≡ end_of 0 ws → PutsLabel (text_of label.entry) labels.new ws result }
+{
+    let Some(name) = label else {
+        return Ok(true);
+    };
+    if has(labels, name) {
+        return Ok(false);
+    }
+    put(labels, name, place)?;
+    Ok(true)
+}
+
+/// How many slots the instruction has.
+fn slots_at(line: &Line) -> u64
+    ensures same { result ≡ slots_in (is_wide line.now) }
+    ensures few { result ≤ 2 }
+{
+    match line {
+        Line::LoadWide { .. } => 2,
+        _ => 1,
+    }
+}
+
+/// Notes a line's instruction, and gives the place after it.
+fn put_row<'a, A: Allocator>(
+    rows: &mut Vec<Row<'a>, A>,
+    number: u64,
+    place: u64,
+    body: &Option<Source<'a>>,
+) -> Result<u64, AsmFault>
+    requires { place + 2 < 2 ^ 64 }
+    ensures rows { OnOk result (map entry rows.new.items ≡ map entry rows.old.items ++ entry_of number place (statement_of body.now)) }
+    ensures place { IfOk result (λ next. (next ≡ place + slots (statement_of body.now)) × (next ≤ place + 2)) }
+    ensures err { IfErr result (λ e. e ≡ AsmFault.Memory) }
+{
+    match body {
+        None => Ok(place),
+        Some(source) => {
+            let row = Row {
+                number,
+                place,
+                line: source.line,
+                name: source.name,
+            };
+            rows.extend_from_slice(&[row])?;
+            Ok(place + slots_at(&source.line))
+        }
+    }
+}
+
+/// Takes one more line.
+fn add<'a, A: Allocator + Clone>(table: &mut Table<'a, A>, text: &'a [u8]) -> Result<(), AsmFault>
+    requires few { table.old.lines + 1 < 2 ^ 63 }
+    requires room { table.old.place ≤ 2 * table.old.lines }
+    ensures lines { (ws : List Written) → Knows table.old.labels table.old.rows.items table.old.lines table.old.place ws
+        → Adds text.now table.new.labels table.new.rows.items table.new.lines table.new.place ws result }
+    ensures count { OnOk result (table.new.lines ≡ table.old.lines + 1) }
+    ensures place { OnOk result (table.new.place ≤ table.old.place + 2) }
+{
+    let number = table.lines + 1;
+    match read_line(text) {
+        Err(LineFault::Syntax) => Err(AsmFault::At {
+            line: number,
+            why: Why::Syntax,
+        }),
+        Err(LineFault::Range) => Err(AsmFault::At {
+            line: number,
+            why: Why::Range,
+        }),
+        Ok(parsed) => {
+            if !put_label(&mut table.labels, parsed.label, table.place)? {
+                return Err(AsmFault::At {
+                    line: number,
+                    why: Why::DuplicateLabel,
+                });
+            }
+            table.place = put_row(&mut table.rows, number, table.place, &parsed.body)?;
+            table.lines = number;
+            Ok(())
+        }
+    }
+}
+
+/// Takes all lines of a text.
+pub fn collect<'a, A: Allocator + Clone>(
+    table: &mut Table<'a, A>,
+    text: &'a [u8],
+) -> Result<(), AsmFault>
+    requires empty { Knows table.old.labels table.old.rows.items table.old.lines table.old.place [] }
+    ensures { Collects text.now table.new.labels table.new.rows.items result }
+{
+    let mut rest = text;
+    while !rest.is_empty() {
+        let (line, after) = cut(rest);
+        add(table, line)?;
+        rest = after;
+    }
+    Ok(())
+}

@@ -1,0 +1,134 @@
+//! The second pass: the octets of the instructions, with the distances of the labels that they name.
+
+ghost use Rattle.std.specs.Prelude.{◌≡◌, ℕ, ℤ, ◌+◌, ◌-ℤ◌, pos, List, map, MatchOption};
+ghost use Rattle.std.specs.Int.{w16, w32};
+ghost use Rattle.std.specs.Prelude.{FitsSigned};
+ghost use Rattle.bpf_types.specs.Line.{IsLine};
+ghost use Rattle.bpf_assembler.specs.Lines.{Written};
+ghost use Rattle.bpf_assembler.specs.Text.{with_distance, aimed_at};
+ghost use Rattle.bpf_assembler.specs.Passes.{AreLabels, Resolves, ResolvesAll, IsLineUpTo, entry};
+
+use crate::fault::{AsmFault, Why};
+use crate::table::{Row, place_at};
+use bpf_decode::encode;
+use bpf_types::{Line, lines_are_in_range};
+use std::alloc::Allocator;
+use std::collections::BTreeMap;
+
+/// The distance, where it fits 16 bits.
+fn short(distance: i128) -> Option<i16>
+    ensures { MatchOption result (¬ FitsSigned w16 distance) (λ d. (d ≡ distance) × FitsSigned w16 distance) }
+{
+    if -0x8000 <= distance && distance < 0x8000 {
+        Some(distance as i16)
+    } else {
+        None
+    }
+}
+
+/// The distance, where it fits 32 bits.
+fn long(distance: i128) -> Option<i32>
+    ensures { MatchOption result (¬ FitsSigned w32 distance) (λ d. (d ≡ distance) × FitsSigned w32 distance) }
+{
+    if -0x8000_0000 <= distance && distance < 0x8000_0000 {
+        Some(distance as i32)
+    } else {
+        None
+    }
+}
+
+/// The jump or the local call with the distance, where it is in range.
+fn with_distance(line: Line, distance: i128) -> Option<Line>
+    ensures { MatchOption result (¬ IsLine (with_distance line distance)) (λ l. (l ≡ with_distance line distance) × IsLine l) }
+{
+    let copied = line;
+    lines_are_in_range(copied);
+    match line {
+        Line::Jump { .. } => match short(distance) {
+            Some(distance) => Some(Line::Jump { distance }),
+            None => None,
+        },
+        Line::LongJump { .. } => match long(distance) {
+            Some(distance) => Some(Line::LongJump { distance }),
+            None => None,
+        },
+        Line::JumpIf {
+            width,
+            test,
+            dst,
+            operand,
+            ..
+        } => match short(distance) {
+            Some(distance) => Some(Line::JumpIf {
+                width,
+                test,
+                dst,
+                operand,
+                distance,
+            }),
+            None => None,
+        },
+        Line::CallLocal { .. } => match long(distance) {
+            Some(distance) => Some(Line::CallLocal { distance }),
+            None => None,
+        },
+        _ => Some(line),
+    }
+}
+
+/// The instruction of a row.
+fn resolve<A: Allocator>(labels: &BTreeMap<&[u8], u64, A>, row: &Row<'_>) -> Result<Line, AsmFault>
+    ensures { (ws : List Written) → AreLabels labels.now ws → Resolves ws (entry row.now) result }
+{
+    match row.name {
+        None => Ok(row.line),
+        Some(name) => match place_at(labels, name) {
+            None => Err(AsmFault::At {
+                line: row.number,
+                why: Why::UnknownLabel,
+            }),
+            Some(to) => {
+                let distance = i128::from(to) - (i128::from(row.place) + 1);
+                match with_distance(row.line, distance) {
+                    Some(line) => Ok(line),
+                    None => Err(AsmFault::At {
+                        line: row.number,
+                        why: Why::Range,
+                    }),
+                }
+            }
+        },
+    }
+}
+
+/// The octets of the instructions of all rows.
+pub fn resolve_all<A: Allocator, B: Allocator>(
+    alloc: B,
+    labels: &BTreeMap<&[u8], u64, A>,
+    rows: &[Row<'_>],
+) -> Result<Vec<u8, B>, AsmFault>
+    ensures { (ws : List Written) → AreLabels labels.now ws → ResolvesAll ws (map entry rows.now) (λ v. v.items) result }
+{
+    let mut octets = Vec::new(alloc);
+    for row in rows {
+        let line = resolve(labels, row)?;
+        let copied = line;
+        lines_are_in_range(copied);
+        let slots = encode(line);
+        octets.extend_from_slice(slots.as_slice())?;
+    }
+    Ok(octets)
+}
+
+/// The number of the line of the last instruction whose place is no greater than the slot.
+pub fn line_up_to(rows: &[Row<'_>], slot: u16) -> u64
+    ensures { IsLineUpTo (map entry rows.now) slot result }
+{
+    let mut number = 0;
+    for row in rows {
+        if row.place <= u64::from(slot) {
+            number = row.number;
+        }
+    }
+    number
+}

@@ -1,0 +1,53 @@
+//! The labels and the instructions of a text.
+
+ghost use Rattle.std.specs.Prelude.{◌≡◌, ℕ, List, Some, if◌then◌else◌, OnOk, is_some};
+ghost use Rattle.std.specs.Str.{bytes_eq};
+ghost use Rattle.bpf_assembler.specs.Tables.{label_at};
+
+use bpf_types::Line;
+use std::alloc::{AllocError, Allocator};
+use std::collections::BTreeMap;
+
+/// Whether the name is a label already.
+pub fn has<A: Allocator>(labels: &BTreeMap<&[u8], u64, A>, name: &[u8]) -> bool
+    ensures { result ≡ is_some (label_at labels.now name.now) }
+{
+    labels.contains_key(name)
+}
+
+/// The place of the label.
+pub fn place_at<A: Allocator>(labels: &BTreeMap<&[u8], u64, A>, name: &[u8]) -> Option<u64>
+    ensures { result ≡ label_at labels.now name.now }
+{
+    labels.get(name).copied()
+}
+
+/// A new label.
+pub fn put<'a, A: Allocator + Clone>(
+    labels: &mut BTreeMap<&'a [u8], u64, A>,
+    name: &'a [u8],
+    place: u64,
+) -> Result<(), AllocError>
+    ensures { OnOk result ((q : List ℕ) → label_at labels.new q ≡ (if bytes_eq name.now q then Some place else label_at labels.old q)) }
+{
+    labels.insert(name, place)?;
+    Ok(())
+}
+
+/// An instruction with the number of its line and its place, and the label's name that stands in place of its distance.
+#[derive(Clone, Copy)]
+pub struct Row<'a> {
+    pub number: u64,
+    pub place: u64,
+    pub line: Line,
+    pub name: Option<&'a [u8]>,
+}
+
+/// The labels and the instructions of the lines so far, how many lines those are, and the slot after them.
+#[derive(Drop)]
+pub struct Table<'a, A: Allocator> {
+    pub labels: BTreeMap<&'a [u8], u64, A>,
+    pub rows: Vec<Row<'a>, A>,
+    pub lines: u64,
+    pub place: u64,
+}
