@@ -21,3 +21,4 @@ pub mod Places
 pub mod FirstPass
 pub mod SecondPass
 pub mod Assembled
+pub mod Only

@@ -1,8 +1,11 @@
 //! Both passes, and the loader's judgement.
 
-ghost use Rattle.std.specs.Prelude.{◌≡◌, map, IfOk, IfErr};
+ghost use Rattle.std.specs.Prelude.{◌≡◌, ◌⊎◌, ℕ, List, Ok, Err, map, IfOk, IfErr};
 ghost use Rattle.ocp_loader.specs.Admitted.{IsAdmitted};
+ghost use Rattle.bpf_assembler.specs.Faults.{IsFault};
 ghost use Rattle.bpf_assembler.specs.Passes.{IsImageOfText, IsFaultOf, IsReported, entry};
+ghost use Rattle.bpf_assembler.specs.declared.fault.Why.{Why};
+ghost use Rattle.bpf_assembler.specs.declared.fault.AsmFault.TheVariants.{Memory, At};
 
 use crate::collecting::collect;
 use crate::fault::{AsmFault, Why};
@@ -60,7 +63,7 @@ fn reported(rows: &[Row<'_>], fault: LoadFault) -> AsmFault
 }
 
 /// The image of the instructions that a text means.
-pub fn assemble<A: Allocator + Copy>(alloc: A, text: &[u8]) -> Result<Image<A>, AsmFault>
+fn image_of<A: Allocator + Copy>(alloc: A, text: &[u8]) -> Result<Image<A>, AsmFault>
     ensures means { IfOk result (IsImageOfText text.now) }
     ensures fault { IfErr result (IsFaultOf text.now) }
 {
@@ -77,4 +80,19 @@ pub fn assemble<A: Allocator + Copy>(alloc: A, text: &[u8]) -> Result<Image<A>, 
         Ok(_) => Ok(Image { octets }),
         Err(fault) => Err(reported(&table.rows, fault)),
     }
+}
+
+/// The image of the instructions that a text means, where it may be run.
+///
+/// Else refused: line by line with Syntax, Range or DuplicateLabel; then in line order with UnknownLabel, or Range of the
+/// distance of a label; then with the fault of the image (`load`), at the line of the instruction at its slot, or at line 0
+/// where the image is empty or too long. Memory may stand in place of any other answer. The time is linear in the text, but
+/// for a logarithm of the number of labels for each label and each name.
+pub fn assemble<A: Allocator + Copy>(alloc: A, text: &[u8]) -> Result<Image<A>, AsmFault>
+    ensures means { IfOk result (IsImageOfText text.now) }
+    ensures fault { IfErr result (IsFaultOf text.now) }
+    ensures only { (image : List ℕ) → IsImageOfText text.now image → (result ≡ Err Memory) ⊎ (result ≡ Ok image) }
+    ensures only_fault { (line : ℕ) (why : Why) → IsFault text.now line why → (result ≡ Err Memory) ⊎ (result ≡ Err (At line why)) }
+{
+    image_of(alloc, text)
 }

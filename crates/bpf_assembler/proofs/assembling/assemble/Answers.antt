@@ -1,29 +1,8 @@
-use Rattle.std.proofs.Common.{◌≡◌, ◌⊎◌, ℕ, List, map, Err, subst}
-use Rattle.ocp_loader.specs.Admitted.{IsAdmitted}
-use Rattle.ocp_loader.specs.Faults.{IsFirstFault}
-use Rattle.ocp_loader.specs.Judging.{judged}
-use Rattle.ocp_loader.specs.declared.fault.LoadFault.TheVariants as load
-use Rattle.bpf_assembler.specs.Passes.{AreResolved, IsReported, entry}
-use Rattle.bpf_assembler.specs.declared.table.Row.{Row}
-use Rattle.bpf_assembler.proofs.Assembled.{assembled, reported_fault}
+use Rattle.bpf_assembler.proofs.Only.{only_image, only_fault}
 use Rattle.bpf_assembler.proofs.assembling.assemble.Goals as goal
 
-pub returns-in-Ok-clause-means : goal.returns-in-Ok-clause-means
-returns-in-Ok-clause-means g c =
-    let t = c.in_ok-collect.ensures in
-    let u = c.collect.new.table in
-    let resolved = subst (λ (rs : List Row). AreResolved t.lines (map entry rs) c.in_ok-octets.octets.items) c.deref.ensures.value (c.in_ok-octets.ensures t.lines t.labels) in
-    let admitted = subst IsAdmitted c.deref-2.ensures.value c.in-Ok.ensures.admitted in
-    assembled c.images_are_unique.ensures c.args.text.now u.labels u.rows.items c.in_ok-octets.octets.items t resolved admitted
+pub returns-clause-only : goal.returns-clause-only
+returns-clause-only g c = only_image c.args.text.now c.image_of.result c.image_of.ensures.means c.image_of.ensures.fault
 
-pub returns : goal.returns
-returns g c =
-    let t = c.in_ok-collect.ensures in
-    let u = c.collect.new.table in
-    let resolved = subst (λ (rs : List Row). AreResolved t.lines (map entry rs) c.in_ok-octets.octets.items) c.deref.ensures.value (c.in_ok-octets.ensures t.lines t.labels) in
-    let octets = c.in_ok-octets.octets.items in
-    let fault = c.in-Err.fault in
-    let refused = subst (λ (code : List ℕ). (fault ≡ load.Memory) ⊎ (judged code ≡ Err fault)) c.deref-2.ensures.value c.in-Err.ensures.err in
-    let first = subst (λ (code : List ℕ). IsFirstFault code fault) c.deref-2.ensures.value c.in-Err.ensures.first in
-    let reported = subst (λ (rs : List Row). IsReported (map entry rs) fault c.reported.result) c.deref-in-Err.ensures.value c.reported.ensures in
-    record { means = tt; fault = reported_fault c.args.text.now u.labels u.rows.items octets fault c.reported.result t resolved refused first reported }
+pub returns-clause-only_fault : goal.returns-clause-only_fault
+returns-clause-only_fault g c = only_fault c.args.text.now c.image_of.result c.image_of.ensures.means c.image_of.ensures.fault

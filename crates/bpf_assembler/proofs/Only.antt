@@ -1,0 +1,30 @@
+-- What a text means or has as its fault is answered.
+use Rattle.std.proofs.Common.{◌≡◌, ◌⊎◌, inl, inr, ℕ, List, Result, Ok, Err, refl, sym, ap, ◌∙◌, subst}
+use Rattle.std.specs.Prelude.{IfOk, IfErr}
+use Rattle.bpf_listing.specs.Listing.{image_of}
+use Rattle.ocp_loader.specs.Admitted.{IsAdmitted}
+use Rattle.bpf_assembler.specs.Faults.{IsFault}
+use Rattle.bpf_assembler.specs.Passes.{IsImageOfText, IsFaultOf}
+use Rattle.bpf_assembler.specs.declared.fault.Why.{Why}
+use Rattle.bpf_assembler.specs.declared.fault.AsmFault.{AsmFault}
+use Rattle.bpf_assembler.specs.declared.fault.AsmFault.TheVariants.{Memory, At}
+use Rattle.bpf_assembler.proofs.UniqueTexts.{one_meaning, one_fault, meaning_or_fault}
+
+one_image : (text a b : List ℕ) → IsImageOfText text a → IsImageOfText text b → a ≡ b
+one_image text a b h k = h.admitted.whole.octets ∙ ap image_of (one_meaning text h.lines k.lines h.means k.means) ∙ sym k.admitted.whole.octets
+
+image_or_fault : (text image : List ℕ) (number : ℕ) (y : Why) → IsImageOfText text image → IsFault text number y → ⊥
+image_or_fault text image number y h k =
+    meaning_or_fault text h.lines number y h.means (subst IsAdmitted h.admitted.whole.octets (record { lines = h.lines; admitted = h.admitted })) k
+
+-- where a text has an image, that is the answer
+pub only_image : (text : List ℕ) (r : Result (List ℕ) AsmFault) → IfOk r (IsImageOfText text) → IfErr r (IsFaultOf text) → (image : List ℕ) → IsImageOfText text image → (r ≡ Err Memory) ⊎ (r ≡ Ok image)
+only_image text (Ok v) m f image h = inr (ap Ok (one_image text v image m h))
+only_image text (Err Memory) m f image h = inl refl
+only_image text (Err (At number y)) m f image h = absurd (image_or_fault text image number y h f)
+
+-- where it has a fault, that is
+pub only_fault : (text : List ℕ) (r : Result (List ℕ) AsmFault) → IfOk r (IsImageOfText text) → IfErr r (IsFaultOf text) → (line : ℕ) (why : Why) → IsFault text line why → (r ≡ Err Memory) ⊎ (r ≡ Err (At line why))
+only_fault text (Ok v) m f line why h = absurd (image_or_fault text v line why m h)
+only_fault text (Err Memory) m f line why h = inl refl
+only_fault text (Err (At number y)) m f line why h = let p = one_fault text number line y why f h in inr (λ i. Err (At (p.0 i) (p.1 i)))
