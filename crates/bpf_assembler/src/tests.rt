@@ -1,6 +1,6 @@
 use crate::{AsmFault, LineFault, Why, assemble, read_line};
 use bpf_decode::encode;
-use std::alloc::Global;
+use std::alloc::{AllocError, Global};
 use std::test::*;
 
 /// Whether the line has an instruction with these octets.
@@ -85,6 +85,20 @@ fn faults(alloc: Global, text: &[u8], line: u64, why: Why) -> bool {
     }
 }
 
+/// Whether the text has a fault of its image at this line.
+fn refuses(alloc: Global, text: &[u8], line: u64, number: u8) -> bool {
+    match assemble(alloc, text) {
+        Err(
+            AsmFault::At {
+                line: at,
+                why: Why::Load(fault),
+            },
+        ) => at == line && fault.number() == number,
+        _ => false,
+    }
+}
+
+/// `mov64 r1, 3`, `sub64 r1, 1`, `jne64 r1, 0, -2`, `exit`.
 const LOOP: [u8; 32] = [
     0xb7, 1, 0, 0, 3, 0, 0, 0, 0x17, 1, 0, 0, 1, 0, 0, 0, 0x55, 1, 0xfe, 0xff, 0, 0, 0, 0, 0x95, 0,
     0, 0, 0, 0, 0, 0,
@@ -94,4 +108,130 @@ const LOOP: [u8; 32] = [
 fn a_loop_is_assembled(rt: HostRuntime) {
     let text = b"start: mov64 r1, 3 ; count\nagain: sub64 r1, 0x1\n jne64 r1, 0, again\n exit\n";
     assert!(rt; gives(rt.alloc(), text, &LOOP));
+    let other =
+        b"; a loop\r\n\tmov64\tr1,3\r\n\r\nagain:;again\nsub64 r1 ,1\njne64 r1, -0, -2\n  exit";
+    assert!(rt; gives(rt.alloc(), other, &LOOP));
+}
+
+#[test]
+fn labels_are_places_in_slots(rt: HostRuntime) {
+    let over = [
+        0x05, 0, 2, 0, 0, 0, 0, 0, 0x18, 1, 0, 0, 0x89, 0x67, 0x45, 0x23, 0, 0, 0, 0, 0x01, 0xef,
+        0xcd, 0xab, 0x95, 0, 0, 0, 0, 0, 0, 0,
+    ];
+    assert!(rt;
+        gives(
+            rt.alloc(),
+            b"ja end\nlddw r1, 0xabCDef0123456789\nend: exit",
+            &over
+        )
+    );
+    let long = [
+        0x85, 0x10, 0, 0, 1, 0, 0, 0, 0x06, 0, 0, 0, 0xff, 0xff, 0xff, 0xff, 0x61, 0x20, 0, 0, 0,
+        0, 0, 0, 0x95, 0, 0, 0, 0, 0, 0, 0,
+    ];
+    assert!(rt;
+        gives(
+            rt.alloc(),
+            b"call local f\nhere: ja32 here\nf: ldxw r0, [r2]\nexit\nend:",
+            &long
+        )
+    );
+}
+
+#[test]
+fn faults_of_lines_have_their_line(rt: HostRuntime) {
+    let alloc = rt.alloc();
+    assert!(rt; faults(alloc, b"exit\nmov64 r11, 4294967296\n", 2, Why::Syntax));
+    assert!(rt; faults(alloc, b"\n\nmov64 r1, 4294967296\nexit", 3, Why::Range));
+    assert!(rt;
+        faults(
+            alloc,
+            b"ja abcdefghijklmnopqrstuvwxyzabcdefg\nexit",
+            1,
+            Why::Syntax
+        )
+    );
+    assert!(rt; faults(alloc, b"exit\nlddw r1, -1", 2, Why::Syntax));
+    assert!(rt; faults(alloc, b"mov64 r1, +1\nexit", 1, Why::Syntax));
+    assert!(rt; faults(alloc, b"le r1, 24\na: b: exit", 1, Why::Range));
+    assert!(rt;
+        faults(
+            alloc,
+            b"ja nowhere\na: exit\n\na: exit",
+            4,
+            Why::DuplicateLabel
+        )
+    );
+    assert!(rt; faults(alloc, b"ja nowhere\nexit\nmov64", 3, Why::Syntax));
+    assert!(rt; faults(alloc, b"exit\nja nowhere\nja nobody", 2, Why::UnknownLabel));
+    assert!(rt; faults(alloc, b"exit \r", 1, Why::Syntax));
+}
+
+#[test]
+fn faults_of_images_have_their_line(rt: HostRuntime) {
+    let alloc = rt.alloc();
+    assert!(rt; refuses(alloc, b"mov64 r10, 1\nexit", 1, 8));
+    assert!(rt; refuses(alloc, b"lddw r1, 1\nlabel:\n\ncall 9\nexit", 4, 9));
+    assert!(rt; refuses(alloc, b"ja end\nend:", 1, 10));
+    assert!(rt; refuses(alloc, b"exit\nlddw r0, 1\n; done\n", 2, 11));
+    assert!(rt; refuses(alloc, b"; nothing\nend:\n", 0, 1));
+}
+
+/// A jump to a label behind so many instructions.
+fn far(alloc: Global, count: u32) -> Result<Vec<u8>, AllocError> {
+    let mut text = Vec::from_slice(alloc, b"ja far\n")?;
+    for _ in 0..count {
+        text.extend_from_slice(b"exit\n")?;
+    }
+    text.extend_from_slice(b"far:")?;
+    Ok(text)
+}
+
+#[test]
+fn a_label_may_be_too_far(rt: HostRuntime) {
+    match far(rt.alloc(), 32767) {
+        Ok(text) => assert!(rt; refuses(rt.alloc(), &text, 0, 3)),
+        Err(_) => assert!(rt; false),
+    }
+    match far(rt.alloc(), 32768) {
+        Ok(text) => assert!(rt; faults(rt.alloc(), &text, 1, Why::Range)),
+        Err(_) => assert!(rt; false),
+    }
+}
+
+/// 1,048,576 octets of labels.
+fn labels(alloc: Global) -> Result<Vec<u8>, AllocError> {
+    let mut text = Vec::new(alloc);
+    for i in 0..131_072_u32 {
+        let mut rest = i;
+        for _ in 0..6 {
+            text.push(b'a' + (rest % 16) as u8)?;
+            rest /= 16;
+        }
+        text.extend_from_slice(b":\n")?;
+    }
+    Ok(text)
+}
+
+/// As many octets of instructions.
+fn instructions(alloc: Global) -> Result<Vec<u8>, AllocError> {
+    let mut text = Vec::new(alloc);
+    for _ in 0..209_715 {
+        text.extend_from_slice(b"exit\n")?;
+    }
+    text.push(b'\n')?;
+    Ok(text)
+}
+
+#[test]
+fn a_long_text_is_assembled_soon(rt: HostRuntime) {
+    match labels(rt.alloc()) {
+        Ok(text) => assert!(rt; text.len() == 1_048_576 && refuses(rt.alloc(), &text, 0, 1)),
+        Err(_) => assert!(rt; false),
+    }
+    match instructions(rt.alloc()) {
+        Ok(text) => assert!(rt; text.len() == 1_048_576 && refuses(rt.alloc(), &text, 0, 3)),
+        Err(_) => assert!(rt; false),
+    }
 }
