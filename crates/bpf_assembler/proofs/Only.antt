@@ -1,8 +1,10 @@
 -- What a text means or has as its fault is answered.
 use Rattle.std.proofs.Common.{◌≡◌, ◌⊎◌, inl, inr, ℕ, List, Result, Ok, Err, refl, sym, ap, ◌∙◌, subst}
 use Rattle.std.specs.Prelude.{IfOk, IfErr}
+use Rattle.bpf_types.specs.declared.line.Line.{Line}
 use Rattle.bpf_listing.specs.Listing.{image_of}
-use Rattle.ocp_loader.specs.Admitted.{IsAdmitted}
+use Rattle.ocp_loader.specs.Admitted.{IsAdmitted, IsAdmittedAs}
+use Rattle.bpf_assembler.specs.Text.{Means}
 use Rattle.bpf_assembler.specs.Faults.{IsFault}
 use Rattle.bpf_assembler.specs.Passes.{IsImageOfText, IsFaultOf}
 use Rattle.bpf_assembler.specs.declared.fault.Why.{Why}
@@ -16,6 +18,11 @@ one_image text a b h k = h.admitted.whole.octets ∙ ap image_of (one_meaning te
 image_or_fault : (text image : List ℕ) (number : ℕ) (y : Why) → IsImageOfText text image → IsFault text number y → ⊥
 image_or_fault text image number y h k =
     meaning_or_fault text h.lines number y h.means (subst IsAdmitted h.admitted.whole.octets (record { lines = h.lines; admitted = h.admitted })) k
+
+-- the image of a text is that of the instructions that the text means
+pub lines_meant : (text : List ℕ) (r : Result (List ℕ) AsmFault) → IfOk r (IsImageOfText text) → (lines : List Line) → Means text lines → IfOk r (λ (image : List ℕ). IsAdmittedAs image lines)
+lines_meant text (Ok v) m lines h = subst (IsAdmittedAs v) (one_meaning text m.lines lines m.means h) m.admitted
+lines_meant text (Err f) m lines h = tt
 
 -- where a text has an image, that is the answer
 pub only_image : (text : List ℕ) (r : Result (List ℕ) AsmFault) → IfOk r (IsImageOfText text) → IfErr r (IsFaultOf text) → (image : List ℕ) → IsImageOfText text image → (r ≡ Err Memory) ⊎ (r ≡ Ok image)

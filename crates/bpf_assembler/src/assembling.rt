@@ -1,7 +1,9 @@
 //! Both passes, and the loader's judgement.
 
 ghost use Rattle.std.specs.Prelude.{◌≡◌, ◌⊎◌, ℕ, List, Ok, Err, map, IfOk, IfErr};
-ghost use Rattle.ocp_loader.specs.Admitted.{IsAdmitted};
+ghost use Rattle.bpf_types.specs.declared.line.Line.{Line};
+ghost use Rattle.ocp_loader.specs.Admitted.{IsAdmitted, IsAdmittedAs};
+ghost use Rattle.bpf_assembler.specs.Text.{Means};
 ghost use Rattle.bpf_assembler.specs.Faults.{IsFault};
 ghost use Rattle.bpf_assembler.specs.Passes.{IsImageOfText, IsFaultOf, IsReported, entry};
 ghost use Rattle.bpf_assembler.specs.declared.fault.Why.{Why};
@@ -91,6 +93,7 @@ fn image_of<A: Allocator + Copy>(alloc: A, text: &[u8]) -> Result<Image<A>, AsmF
 pub fn assemble<A: Allocator + Copy>(alloc: A, text: &[u8]) -> Result<Image<A>, AsmFault>
     ensures means { IfOk result (IsImageOfText text.now) }
     ensures fault { IfErr result (IsFaultOf text.now) }
+    ensures lines { (lines : List Line) → Means text.now lines → IfOk result (λ image. IsAdmittedAs image lines) }
     ensures only { (image : List ℕ) → IsImageOfText text.now image → (result ≡ Err Memory) ⊎ (result ≡ Ok image) }
     ensures only_fault { (line : ℕ) (why : Why) → IsFault text.now line why → (result ≡ Err Memory) ⊎ (result ≡ Err (At line why)) }
 {
