@@ -1,5 +1,5 @@
 -- A listing means its lines.
-use Rattle.std.proofs.Common.{◌≡◌, ◌+◌, ◌-◌, ℕ, zero, suc, List, [], ◌∷◌, ◌++◌, Bool, true, false, refl, sym, ap, ◌∙◌, subst, arith, append_assoc, map, length, IsTrue, Result, Ok, Err}
+use Rattle.std.proofs.Common.{◌≡◌, ◌+◌, ◌-◌, ℕ, zero, suc, List, [], ◌∷◌, ◌++◌, Bool, true, false, refl, sym, ap, ◌∙◌, subst, arith, append_assoc, map, length, IsTrue, inl, inr, ◌⊎◌, Result, Ok, Err}
 use Rattle.std.specs.Prelude.{codes, ◌&&◌, ◌==◌, slice_index, MatchResult}
 use Rattle.std.specs.List.{All, list_all}
 use Rattle.std.specs.Str.Lines.{strip_carriage_return}
@@ -109,3 +109,8 @@ listing_means_image texts image lines h = listing_means texts lines h.whole.rang
 
 pub listing_means_no_other : AreTexts → (image : List ℕ) (lines ls : List Line) → IsAdmittedAs image lines → Means (listing lines) ls → ls ≡ lines
 listing_means_no_other texts image lines ls h k = one_meaning (listing lines) ls lines k (listing_means_image texts image lines h)
+
+-- what is refused where an image would do is memory
+pub memory_alone : {V E : Type 0} (m fault : E) (image : V) (result : Result V E) → result ≡ Err fault → (result ≡ Err m) ⊎ (result ≡ Ok image) → fault ≡ m
+memory_alone m fault image result is (inl e) = cc
+memory_alone m fault image result is (inr e) = absurd cc

@@ -2,6 +2,7 @@
 
 ghost use Rattle.std.specs.Prelude.{◌≡◌, ◌⊎◌, ℕ, List, Ok, Err, map, IfOk, IfErr};
 ghost use Rattle.bpf_types.specs.declared.line.Line.{Line};
+ghost use Rattle.bpf_listing.specs.Listing.{listing};
 ghost use Rattle.ocp_loader.specs.Admitted.{IsAdmitted, IsAdmittedAs};
 ghost use Rattle.bpf_assembler.specs.Text.{Means};
 ghost use Rattle.bpf_assembler.specs.Faults.{IsFault};
@@ -11,6 +12,7 @@ ghost use Rattle.bpf_assembler.specs.declared.fault.AsmFault.TheVariants.{Memory
 
 use crate::collecting::collect;
 use crate::fault::{AsmFault, Why};
+use crate::listings::admitted_images_are_meant_by_their_listings;
 use crate::resolving::{line_up_to, resolve_all};
 use crate::table::{Row, Table};
 use bpf_listing::images_are_unique;
@@ -86,6 +88,8 @@ fn image_of<A: Allocator + Copy>(alloc: A, text: &[u8]) -> Result<Image<A>, AsmF
 
 /// The image of the instructions that a text means, where it may be run.
 ///
+/// The listing of an image that may be run means its instructions, so it gives that image.
+///
 /// Else refused: line by line with Syntax, Range or DuplicateLabel; then in line order with UnknownLabel, or Range of the
 /// distance of a label; then with the fault of the image (`load`), at the line of the instruction at its slot, or at line 0
 /// where the image is empty or too long. Memory may stand in place of any other answer. The time is linear in the text, but
@@ -96,6 +100,8 @@ pub fn assemble<A: Allocator + Copy>(alloc: A, text: &[u8]) -> Result<Image<A>, 
     ensures lines { (lines : List Line) → Means text.now lines → IfOk result (λ image. IsAdmittedAs image lines) }
     ensures only { (image : List ℕ) → IsImageOfText text.now image → (result ≡ Err Memory) ⊎ (result ≡ Ok image) }
     ensures only_fault { (line : ℕ) (why : Why) → IsFault text.now line why → (result ≡ Err Memory) ⊎ (result ≡ Err (At line why)) }
+    ensures listed { (image : List ℕ) (lines : List Line) → IsAdmittedAs image lines → text.now ≡ listing lines → (result ≡ Err Memory) ⊎ (result ≡ Ok image) }
 {
+    admitted_images_are_meant_by_their_listings();
     image_of(alloc, text)
 }

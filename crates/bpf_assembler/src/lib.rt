@@ -2,6 +2,9 @@
 #![tactic(auto)]
 
 mod assembling;
+pub mod canonical;
+#[cfg(test)]
+mod canonical_tests;
 mod collecting;
 mod cut;
 mod fault;

@@ -1,3 +1,5 @@
+use Rattle.std.proofs.Common.{◌≡◌, List, ℕ, subst, sym}
+use Rattle.bpf_assembler.specs.Text.{Means}
 use Rattle.bpf_assembler.proofs.Only.{lines_meant, only_image, only_fault}
 use Rattle.bpf_assembler.proofs.assembling.assemble.Goals as goal
 
@@ -9,3 +11,8 @@ returns-clause-only g c = only_image c.args.text.now c.image_of.result c.image_o
 
 pub returns-clause-only_fault : goal.returns-clause-only_fault
 returns-clause-only_fault g c = only_fault c.args.text.now c.image_of.result c.image_of.ensures.means c.image_of.ensures.fault
+
+pub returns-clause-listed : goal.returns-clause-listed
+returns-clause-listed g c = λ image lines h e.
+    let means = subst (λ (t : List ℕ). Means t lines) (sym e) (c.admitted_images_are_meant_by_their_listings.ensures.means image lines h) in
+    only_image c.args.text.now c.image_of.result c.image_of.ensures.means c.image_of.ensures.fault image (record { lines = lines; means = means; admitted = h })
