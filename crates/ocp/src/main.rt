@@ -1,7 +1,7 @@
 //! `ocp`: an engine for on-board control procedures on its ground console.
 #![tactic(auto)]
 
-use ocp_console::{ConsoleFault, Device, Settings, list, run};
+use ocp_console::{ConsoleFault, Device, Settings, asm, list, run};
 use ocp_words::{Job, WordsFault, read_words};
 use std::process::ExitCode;
 use std::{env, io};
@@ -40,7 +40,7 @@ fn perform(rt: &HostRuntime, job: Job) -> io::Result<ExitCode> {
         failed: 0,
     };
     let answer = match job {
-        Job::Assemble => return failed(rt, "NotServed"),
+        Job::Assemble => asm(rt.alloc(), &mut reader, &mut writer),
         Job::List => list(rt.alloc(), &mut reader, &mut writer),
         Job::Run(settings) => {
             let settings = Settings {

@@ -6,3 +6,4 @@ pub mod Script
 pub mod Session
 pub mod Commands
 pub mod Listings
+pub mod Assembly

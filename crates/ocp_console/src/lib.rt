@@ -2,6 +2,7 @@
 #![tactic(auto)]
 
 mod answering;
+mod assembling;
 mod console;
 mod device;
 mod fault;
@@ -16,6 +17,7 @@ mod settings;
 mod steps;
 mod texts;
 
+pub use assembling::asm;
 pub use device::Device;
 pub use fault::ConsoleFault;
 pub use listing::list;

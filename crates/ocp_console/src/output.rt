@@ -55,7 +55,7 @@ pub(crate) fn write_output<W: Sink, A: Allocator>(
 /// The line of a fault of the input.
 pub(crate) fn error_text<A: Allocator>(
     alloc: A,
-    number: usize,
+    number: u64,
     name: &str,
 ) -> Result<String<A>, AllocError>
     ensures { IfOk result (λ line. string_bytes line ≡ error_line number name.now) }

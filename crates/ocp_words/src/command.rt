@@ -110,6 +110,7 @@ pub(crate) fn ocp_command<'a>(alloc: Global) -> Result<Command<'a>, AllocError>
     let list = described(alloc, "list", LIST, LIST_EXAMPLE);
     let ocp = described(alloc, "ocp", OCP, OCP_EXAMPLE)
         .no_binary_name(true)
+        .bin_name("ocp")?
         .subcommand(asm)?
         .subcommand(list)?
         .subcommand(run)?;
