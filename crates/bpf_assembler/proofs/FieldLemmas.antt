@@ -1,11 +1,11 @@
 -- Fields of an instruction's text.
-use Rattle.std.proofs.Common.{◌≡◌, ◌<◌, ◌≤◌, ◌+◌, ◌-◌, ℕ, List, [], ◌∷◌, length, get_or, take, drop, Option, Some, None, Result, Ok, Err, true, false, IsTrue, FitsSigned, refl, sym, ap, ◌∙◌, subst, arith, inl, inr, ◌⊎◌, ℤ, pos, ◌-ℤ◌}
+use Rattle.std.proofs.Common.{◌≡◌, ◌<◌, ◌≤◌, ◌+◌, ◌-◌, ℕ, List, [], ◌∷◌, length, get_or, take, drop, Option, Some, None, Result, Ok, Err, FitsSigned, refl, sym, ap, ◌∙◌, subst, arith, inl, inr, ◌⊎◌, ℤ, pos, ◌-ℤ◌}
 use Rattle.bpf_assembler.proofs.Scanning.{whole_drop}
 use Rattle.bpf_assembler.specs.Number.{digit, IsNumeral}
-use Rattle.std.specs.Int.{w16, w32, Width}
+use Rattle.std.specs.Int.{w32}
 use Rattle.bpf_types.specs.declared.line.Operand.{Operand}
 use Rattle.bpf_types.specs.declared.line.Operand.TheVariants.{Immediate, Register}
-use Rattle.bpf_types.specs.Line.{IsReg, IsOperand}
+use Rattle.bpf_types.specs.Line.{IsOperand}
 use Rattle.bpf_assembler.specs.Fields.{IsRegister, IsInteger, IsImmediate, IsDistance, IsOffset, IsSecond, IsTarget, IsName, as_signed}
 use Rattle.bpf_assembler.specs.Gives.{Gives, Narrows}
 use Rattle.bpf_assembler.specs.declared.line.LineFault.{LineFault}

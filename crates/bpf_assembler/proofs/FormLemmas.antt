@@ -1,9 +1,9 @@
 -- Operands from their tokens.
 use Rattle.std.proofs.Common.{◌≡◌, ◌≢◌, ℕ, ℤ, List, [], ◌∷◌, Option, Some, None, Result, Ok, Err, Bool, true, eqb, length, Bor, refl, sym, ap, ◌∙◌, subst, arith, FitsSigned}
 use Rattle.std.proofs.lemmas.Bool.{eqb-true}
-use Rattle.std.specs.Int.{w16, w32}
+use Rattle.std.specs.Int.{w16}
 use Rattle.bpf_types.specs.Line.{IsReg}
-use Rattle.bpf_assembler.specs.Fields.{IsRegister, IsDistance, IsOffset}
+use Rattle.bpf_assembler.specs.Fields.{IsRegister, IsOffset}
 use Rattle.bpf_assembler.specs.Judged.{texts}
 use Rattle.bpf_assembler.specs.Gives.{Gives, both_of}
 use Rattle.bpf_assembler.specs.Lines.{AreOne, AreTwo, AreThree, AreLoad, AreStore, bracketed}

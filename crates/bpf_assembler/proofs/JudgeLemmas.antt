@@ -1,5 +1,5 @@
 -- Instructions of each mnemonic.
-use Rattle.std.proofs.Common.{◌≡◌, ◌≢◌, ◌<◌, ◌≤◌, ◌^◌, ℕ, ℤ, pos, ◌-ℤ◌, List, [], ◌∷◌, get_or, Option, Some, None, Result, Ok, Err, refl, sym, ap, ◌∙◌, subst, arith, inl, inr, FitsSigned}
+use Rattle.std.proofs.Common.{◌≡◌, ◌≢◌, ◌<◌, ◌^◌, ℕ, ℤ, List, [], ◌∷◌, get_or, Option, Some, None, Result, Ok, Err, refl, sym, ap, ◌∙◌, subst, arith, inl, inr, FitsSigned}
 use Rattle.std.specs.Int.{w16, w32}
 use Rattle.bpf_types.specs.Line.{IsLine, IsReg, IsOperand, swapped_bits}
 use Rattle.bpf_types.specs.declared.line.Line.{Line}
@@ -22,11 +22,11 @@ use Rattle.bpf_listing.specs.declared.mnemonic.Jump.TheVariants as leap
 use Rattle.bpf_listing.specs.declared.mnemonic.Access.TheVariants as access
 use Rattle.bpf_listing.specs.Canonical.{extension_width, extension_bits}
 use Rattle.bpf_listing.specs.Mnemonics.{mnemonic_name}
-use Rattle.bpf_assembler.specs.Number.{IsNumeral, digit}
-use Rattle.bpf_assembler.specs.Fields.{IsRegister, IsImmediate, IsInteger, IsSecond, IsTarget}
+use Rattle.bpf_assembler.specs.Number.{IsNumeral}
+use Rattle.bpf_assembler.specs.Fields.{IsRegister, IsImmediate, IsSecond, IsTarget}
 use Rattle.bpf_assembler.specs.Gives.{Gives}
-use Rattle.bpf_assembler.specs.Lines.{IsOperands, IsForm, mnemonic_of, AreOne, AreTwo, AreThree, AreLoad, AreStore}
-use Rattle.bpf_assembler.specs.Judged.{Judges, JudgesForm, text_of}
+use Rattle.bpf_assembler.specs.Lines.{IsOperands, mnemonic_of, AreOne, AreTwo, AreThree, AreLoad, AreStore}
+use Rattle.bpf_assembler.specs.Judged.{Judges, JudgesForm}
 use Rattle.bpf_assembler.specs.declared.line.Source.{Source}
 use Rattle.bpf_assembler.specs.declared.line.LineFault.{LineFault}
 use Rattle.bpf_assembler.specs.declared.line.LineFault.TheVariants.{Syntax, Range}

@@ -1,5 +1,5 @@
 -- Longest runs.
-use Rattle.std.proofs.Common.{◌≡◌, ◌<◌, ◌≤◌, ◌↔◌, ◌++◌, ℕ, zero, suc, List, [], ◌∷◌, length, take, drop, true, false, IsTrue, eqb, refl, sym, ap, ◌∙◌, subst, arith, eq-eqb, take-append-drop, append-nil, inl, inr}
+use Rattle.std.proofs.Common.{◌≡◌, ◌<◌, ◌≤◌, ◌↔◌, ◌++◌, ℕ, zero, suc, List, [], ◌∷◌, length, take, drop, true, false, IsTrue, eqb, sym, ap, ◌∙◌, subst, arith, eq-eqb, take-append-drop, append-nil, inl, inr}
 use Rattle.std.proofs.lemmas.Bool.{eqb-true, cases_lt}
 use Rattle.std.proofs.Math.ListN.{drop_of_length-le}
 use Rattle.bpf_assembler.specs.Tokens.{AllWord, NoWord}

@@ -1,5 +1,5 @@
 -- The second pass, row by row.
-use Rattle.std.proofs.Common.{◌≡◌, ◌<◌, ◌≤◌, ◌+◌, ◌++◌, ℕ, zero, suc, List, [], ◌∷◌, length, take, drop, get_or, map, Result, Ok, Err, refl, sym, ap, ◌∙◌, subst, take-append-drop, drop-cons, append-nil, arith}
+use Rattle.std.proofs.Common.{◌≡◌, ◌<◌, ◌≤◌, ◌+◌, ◌++◌, ℕ, zero, suc, List, [], ◌∷◌, length, take, drop, get_or, map, Ok, Err, refl, sym, ap, ◌∙◌, subst, take-append-drop, drop-cons, append-nil, arith}
 use Rattle.std.proofs.Math.ListN.{drop_of_length-le}
 use Rattle.std.proofs.lemmas.List.{take_more, map-append}
 use Rattle.std.proofs.lemmas.List.Elements.{All-append, All-nil}
@@ -7,7 +7,7 @@ use Rattle.std.proofs.lemmas.Grind.{flat_map-append}
 use Rattle.std.specs.List.{All}
 use Rattle.bpf_types.specs.declared.line.Line.{Line}
 use Rattle.bpf_types.specs.Line.{spelling, IsLine}
-use Rattle.bpf_listing.specs.Listing.{image_of, IsImageOf}
+use Rattle.bpf_listing.specs.Listing.{image_of}
 use Rattle.bpf_assembler.specs.Lines.{Written}
 use Rattle.bpf_assembler.specs.Text.{Entry, IsInstruction, AreInstructions}
 use Rattle.bpf_assembler.specs.Passes.{Resolves, ResolvesAll, AreResolved, entry}

@@ -4,7 +4,6 @@ use Rattle.std.specs.List.{All}
 use Rattle.std.specs.BTreeMap.{BTreeMap}
 use denote.Ref.{Bor}
 use Rattle.bpf_types.specs.declared.line.Line.{Line}
-use Rattle.bpf_types.specs.Line.{IsLine}
 use Rattle.bpf_listing.specs.Listing.{IsImageOf}
 use Rattle.ocp_loader.specs.Admitted.{IsAdmittedAs}
 use Rattle.ocp_loader.specs.declared.fault.LoadFault.{LoadFault}
@@ -13,7 +12,7 @@ use Rattle.ocp_loader.specs.FaultNumbers.{slot_of}
 use Rattle.bpf_assembler.specs.Tables.{label_at}
 use Rattle.bpf_assembler.specs.Lines.{Written, Writes, InRange, Statement}
 use Rattle.bpf_assembler.specs.Judged.{text_of}
-use Rattle.bpf_assembler.specs.Text.{label_place, end_of, entries_of, Entry, IsNew, AreDistinct, aimed_at, IsInstruction, AreInstructions, IsWritten, Means}
+use Rattle.bpf_assembler.specs.Text.{label_place, end_of, entries_of, Entry, IsNew, AreDistinct, IsInstruction, AreInstructions, IsWritten, Means}
 use Rattle.bpf_assembler.specs.Faults.{HasFault, HasLineFault, MissesLabel, IsFirstMiss, IsLineOfSlot, IsFault}
 use Rattle.bpf_assembler.specs.declared.table.Row.{Row}
 use Rattle.bpf_assembler.specs.declared.fault.Why.TheVariants as why

@@ -1,4 +1,4 @@
-use Rattle.std.proofs.Common.{◌≡◌, List, ℕ, subst, sym}
+use Rattle.std.proofs.Common.{List, ℕ, subst, sym}
 use Rattle.bpf_assembler.specs.Text.{Means}
 use Rattle.bpf_assembler.proofs.Only.{lines_meant, only_image, only_fault}
 use Rattle.bpf_assembler.proofs.assembling.assemble.Goals as goal
