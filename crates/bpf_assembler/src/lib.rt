@@ -3,8 +3,6 @@
 
 mod assembling;
 pub mod canonical;
-#[cfg(test)]
-mod canonical_tests;
 mod collecting;
 mod cut;
 mod fault;

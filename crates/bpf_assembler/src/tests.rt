@@ -1,3 +1,4 @@
+use crate::canonical::write_canonical;
 use crate::{AsmFault, LineFault, Why, assemble, read_line};
 use bpf_decode::encode;
 use std::alloc::{AllocError, Global};
@@ -234,4 +235,21 @@ fn a_long_text_is_assembled_soon(rt: HostRuntime) {
         Ok(text) => assert!(rt; text.len() == 1_048_576 && refuses(rt.alloc(), &text, 0, 3)),
         Err(_) => assert!(rt; false),
     }
+}
+
+/// Whether the canonical form of the text is this one.
+fn becomes(alloc: Global, text: &[u8], form: &[u8]) -> bool {
+    let mut out = Vec::new(alloc);
+    match write_canonical(alloc, text, &mut out) {
+        Ok(()) => out.as_slice() == form,
+        Err(_) => false,
+    }
+}
+
+#[test]
+fn a_loop_has_a_canonical_form(rt: HostRuntime) {
+    let text = b"start: mov64 r1, 3 ; count\nagain: sub64 r1, 0x1\n jne64 r1, 0, again\n exit";
+    let form = b"mov64 r1, 3\nsub64 r1, 1\njne64 r1, 0, -2\nexit\n";
+    assert!(rt; becomes(rt.alloc(), text, form));
+    assert!(rt; becomes(rt.alloc(), form, form));
 }
