@@ -1,5 +1,7 @@
 -- A text's first line.
-use Rattle.std.proofs.Common.{◌≡◌, ◌≢◌, ◌<◌, ℕ, zero, suc, List, [], ◌∷◌, length, take, drop, get_or, map, false, eqb, refl, ap, arith}
+use Rattle.std.proofs.Common.{◌≡◌, ◌≢◌, ◌<◌, ◌⊎◌, inl, inr, ℕ, zero, suc, List, [], ◌∷◌, ◌++◌, length, take, drop, get_or, map, true, false, eqb, refl, ap, arith}
+use Rattle.std.proofs.lemmas.Bool.Decides.{eqb_tells}
+use Rattle.std.specs.List.{All}
 use Rattle.std.specs.Str.Lines.{strip_carriage_return}
 use Rattle.bpf_assembler.specs.Text.{Ended, Open, onto, pieces_of, line_of_piece, lines_of}
 
@@ -23,3 +25,24 @@ ended_line text i lt is all = ap (map line_of_piece) (ended_piece text i lt is a
 
 pub open_line : (text : List ℕ) → text ≢ [] → ((k : ℕ) → k < length text → eqb (get_or text k 0) 10 ≡ false) → lines_of text ≡ text ∷ []
 open_line text some all = ap (map line_of_piece) (open_piece text some all)
+
+unlike : (o : ℕ) → o ≢ 10 → eqb o 10 ≡ false
+unlike o h = by (eqb_tells o 10)
+  where
+    by : ((eqb o 10 ≡ true) × (o ≡ 10)) ⊎ ((eqb o 10 ≡ false) × (o ≢ 10)) → eqb o 10 ≡ false
+    by (inl k) = absurd (h k.1)
+    by (inr k) = k.0
+
+cut_piece : (line rest : List ℕ) → All (λ octet. octet ≢ 10) line → pieces_of (line ++ 10 ∷ rest) ≡ Ended line ∷ pieces_of rest
+cut_piece [] rest h = refl
+cut_piece (o ∷ line) rest h =
+    let first : o ≢ 10 = h 0 o (omega arith) in
+    rw (unlike o first) (ap (onto o) (cut_piece line rest (λ k d lt. h (suc k) d (omega arith))))
+
+-- what stands in front of a newline is a line
+pub cut_line : (line rest : List ℕ) → All (λ octet. octet ≢ 10) line → lines_of (line ++ 10 ∷ rest) ≡ strip_carriage_return line ∷ lines_of rest
+cut_line line rest h = ap (map line_of_piece) (cut_piece line rest h)
+
+-- octets with no newline behind them are a line
+pub last_line : (line : List ℕ) → All (λ octet. octet ≢ 10) line → line ≢ [] → lines_of line ≡ line ∷ []
+last_line line h some = open_line line some (λ k lt. unlike (get_or line k 0) (h k 0 lt))

@@ -1,13 +1,15 @@
 //! Laws of assembly text.
 
-ghost use Rattle.std.specs.Prelude.{◌≡◌, ◌↔◌, ◌∷◌, ◌++◌, List, ℕ, Some, Err, length};
+ghost use Rattle.std.specs.Prelude.{◌≡◌, ◌≢◌, ◌↔◌, [], ◌∷◌, ◌++◌, List, ℕ, Some, Err, length};
+ghost use Rattle.std.specs.List.{All};
+ghost use Rattle.std.specs.Str.Lines.{strip_carriage_return};
 ghost use Rattle.bpf_types.specs.declared.line.Line.{Line};
 ghost use Rattle.bpf_listing.specs.Listing.{image_of};
 ghost use Rattle.ocp_loader.specs.declared.fault.LoadFault.{LoadFault};
 ghost use Rattle.ocp_loader.specs.Admitted.{IsAdmitted};
 ghost use Rattle.ocp_loader.specs.Judging.{judged};
 ghost use Rattle.ocp_loader.specs.Places.{place_of};
-ghost use Rattle.bpf_assembler.specs.Text.{Means, IsWritten, AreInstructions, entries_of, label_place};
+ghost use Rattle.bpf_assembler.specs.Text.{lines_of, Means, IsWritten, AreInstructions, entries_of, label_place};
 ghost use Rattle.bpf_assembler.specs.Faults.{IsFault};
 ghost use Rattle.bpf_assembler.specs.Labels.{statements, IsLabelAt, IsMeantBy};
 ghost use Rattle.bpf_assembler.specs.declared.fault.Why.{Why};
@@ -40,4 +42,12 @@ pub fn meanings_exclude_faults()
 pub fn named_jumps_lead_to_their_labels()
     ensures labels { (text : List ℕ) (ws : List Written) (ls : List Line) (name : List ℕ) (place : ℕ) → IsWritten text ws → AreInstructions ws (entries_of 1 0 ws) ls → (label_place name 0 ws ≡ Some place) ↔ IsLabelAt name ws ls place }
     ensures jumps { (text : List ℕ) (ws : List Written) (ls : List Line) (a b : List Statement) (s : Statement) (c d : List Line) (l : Line) → IsWritten text ws → AreInstructions ws (entries_of 1 0 ws) ls → statements ws ≡ a ++ s ∷ b → ls ≡ c ++ l ∷ d → length a ≡ length c → IsMeantBy ws ls (place_of c) s.line s.name l }
+{}
+
+/// A text is cut at its newlines: a line is what stands in front of one, without a carriage return directly before it; and
+/// what stands behind the last one, unless that is nothing.
+pub fn texts_are_cut_at_newlines()
+    ensures nothing { lines_of [] ≡ [] }
+    ensures ended { (line rest : List ℕ) → All (λ octet. octet ≢ 10) line → lines_of (line ++ 10 ∷ rest) ≡ strip_carriage_return line ∷ lines_of rest }
+    ensures open { (line : List ℕ) → All (λ octet. octet ≢ 10) line → line ≢ [] → lines_of line ≡ line ∷ [] }
 {}

@@ -4,3 +4,4 @@ pub mod Runs
 pub mod Scripts
 pub mod TextLemmas
 pub mod Inputs
+pub mod Requests

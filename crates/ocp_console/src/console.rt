@@ -1,6 +1,6 @@
 //! What a console keeps from line to line, and what each line does to it.
 
-ghost use Rattle.std.specs.Prelude.{◌≡◌, ◌<◌, IfOk, string_bytes, Some};
+ghost use Rattle.std.specs.Prelude.{◌≡◌, ◌<◌, ◌≤◌, length, IfOk, string_bytes, Some};
 ghost use Rattle.pus_fields.specs.Telecommand.{telecommand_octets};
 ghost use Rattle.obcp_messages.specs.Request.{subtype_of, request_data};
 ghost use Rattle.pus_fields.specs.Acknowledgement.{flags_of};
@@ -11,7 +11,7 @@ use bitflags::Flags as _;
 use obcp_messages::{Arguments, Code, Request, SERVICE, Words, write_request};
 use ocp_core::{Engine, EngineFault};
 use ocp_lines::{Command, Flags, Verb};
-use pus_fields::{Ack, Tc, write_tc};
+use pus_fields::{Ack, Tc, WriteFault, write_tc};
 use space_packet::{Apid, SequenceCount};
 use std::alloc::{AllocError, Allocator};
 
@@ -23,7 +23,8 @@ fn telecommand<A: Allocator + Copy>(
     flags: Flags,
     request: &Request,
 ) -> Result<Vec<u8, A>, AllocError>
-    requires { apid < 2047 }
+    requires apid { apid < 2047 }
+    requires short { length (request_data request.now) ≤ 65529 }
     ensures { IfOk result (λ packet. packet.items ≡ telecommand_octets (record { apid = apid; count = count; ack = record { 0 = flags.number }; service = 18; subtype = subtype_of request.now; source = 0; payload = request_data request.now })) }
 {
     let mut payload = Vec::new(alloc);
@@ -33,8 +34,8 @@ fn telecommand<A: Allocator + Copy>(
     let mut packet = Vec::new(alloc);
     match write_tc(&tc, &mut packet) {
         Ok(()) => Ok(packet),
-        // The code of a request is short enough for a packet, so that only memory is refused.
-        Err(_) => Err(AllocError),
+        Err(WriteFault::Memory) => Err(AllocError),
+        Err(WriteFault::TooLong) => unreachable!(),
     }
 }
 
@@ -82,6 +83,7 @@ impl<A: Allocator + Copy> Console<A> {
 
     /// A telecommand of this request reaches the engine.
     fn ask(&mut self, alloc: A, flags: Flags, request: &Request) -> Result<String<A>, AllocError>
+        requires { length (request_data request.now) ≤ 65529 }
         ensures { IfOk result (λ text. (state_of self.new, string_bytes text) ≡ asked (state_of self.old) flags.number request.now) }
     {
         let packet = telecommand(alloc, self.apid, self.count, flags, request)?;

@@ -184,3 +184,246 @@ fn a_run_answers_each_event(rt: HostRuntime) -> Result<(), Fail> {
     }
     Ok(())
 }
+
+// The load of `exit` as procedure 1, with another id and the error control that it then has.
+fn load_exit(id: u8, error_control: [u8; 2]) -> [u8; 25] {
+    let mut octets = LOAD_ONE;
+    octets[12] = id;
+    octets[23] = error_control[0];
+    octets[24] = error_control[1];
+    octets
+}
+
+// The error controls of the loads of `exit` as procedures 1 to 16.
+const ERROR_CONTROLS: [[u8; 2]; 16] = [
+    [0xe0, 0xb1],
+    [0x98, 0x4b],
+    [0x40, 0x02],
+    [0x69, 0xbf],
+    [0xb1, 0xf6],
+    [0xc9, 0x0c],
+    [0x11, 0x45],
+    [0x9a, 0x76],
+    [0x42, 0x3f],
+    [0x3a, 0xc5],
+    [0xe2, 0x8c],
+    [0xcb, 0x31],
+    [0x13, 0x78],
+    [0x6b, 0x82],
+    [0xb3, 0xcb],
+    [0x6d, 0xc5],
+];
+
+#[test]
+fn a_seventeenth_procedure_and_one_that_is_loaded_fail_to_start(
+    rt: HostRuntime,
+) -> Result<(), Fail> {
+    let mut engine = Engine::new(rt.alloc(), 0x123, 16, 18)?;
+    for id in 1..17 {
+        let octets = load_exit(id, ERROR_CONTROLS[usize::from(id) - 1]);
+        let reports = engine.request(rt.alloc(), 0, 0, &octets)?;
+        assert_eq!(rt; reports.len(), 1);
+    }
+    let reports = engine.request(rt.alloc(), 0, 0, &load_exit(17, [0xb5, 0x8c]))?;
+    assert_eq!(rt; reports.len(), 2);
+    assert!(rt;
+        is_packet(
+            &reports,
+            0,
+            &[
+                0x09, 0x23, 0xc0, 0x10, 0x00, 0x10, 0x20, 0x01, 0x01, 0x00, 0x00, 0x00, 0x00, 0x00,
+                0x00, 0x00, 0x00, 0x19, 0x23, 0xc0, 0x00, 0xa5, 0x66,
+            ]
+        )
+    );
+    assert!(rt;
+        is_packet(
+            &reports,
+            1,
+            &[
+                0x09, 0x23, 0xc0, 0x11, 0x00, 0x12, 0x20, 0x01, 0x04, 0x00, 0x00, 0x00, 0x00, 0x00,
+                0x00, 0x00, 0x00, 0x19, 0x23, 0xc0, 0x00, 0x00, 0x11, 0x1c, 0x45,
+            ]
+        )
+    );
+    let reports = engine.request(rt.alloc(), 0, 0, &LOAD_ONE)?;
+    assert_eq!(rt; reports.len(), 2);
+    assert!(rt;
+        is_packet(
+            &reports,
+            1,
+            &[
+                0x09, 0x23, 0xc0, 0x13, 0x00, 0x12, 0x20, 0x01, 0x04, 0x00, 0x00, 0x00, 0x00, 0x00,
+                0x00, 0x00, 0x00, 0x19, 0x23, 0xc0, 0x00, 0x00, 0x10, 0x67, 0x02,
+            ]
+        )
+    );
+    assert_eq!(rt; (engine.events(), engine.room()), (18, 0));
+    Ok(())
+}
+
+// A load of `mov64 r0, 1`, `ldxdw r0, [r2 + 0]`, `exit` as procedure 9, and its activation, without flags.
+const LOAD_NINE: [u8; 41] = [
+    0x19, 0x23, 0xc0, 0x00, 0x00, 0x22, 0x20, 0x12, 0x01, 0x00, 0x00, 0x00, 0x09, 0x00, 0x18, 0xb7,
+    0x00, 0x00, 0x00, 0x01, 0x00, 0x00, 0x00, 0x79, 0x20, 0x00, 0x00, 0x00, 0x00, 0x00, 0x00, 0x95,
+    0x00, 0x00, 0x00, 0x00, 0x00, 0x00, 0x00, 0xbd, 0x85,
+];
+
+const ACTIVATE_NINE: [u8; 17] = [
+    0x19, 0x23, 0xc0, 0x01, 0x00, 0x0a, 0x20, 0x12, 0x03, 0x00, 0x00, 0x00, 0x09, 0x00, 0x00, 0xb2,
+    0xa5,
+];
+
+#[test]
+fn a_fault_ends_a_procedure_where_it_stands(rt: HostRuntime) -> Result<(), Fail> {
+    let mut engine = Engine::new(rt.alloc(), 0x123, 16, 10)?;
+    assert_eq!(rt; engine.request(rt.alloc(), 0, 0, &LOAD_NINE)?.len(), 0);
+    assert_eq!(rt; engine.step(0, 9), StepOutcome::NotRunning);
+    assert_eq!(rt; engine.request(rt.alloc(), 0, 0, &ACTIVATE_NINE)?.len(), 0);
+    assert_eq!(rt; engine.step(0, 9), StepOutcome::Ran);
+    assert_eq!(rt; engine.step(0, 9), StepOutcome::Faulted(1));
+    assert_eq!(rt; engine.step(0, 9), StepOutcome::NotRunning);
+    let view = engine.view(9).ok_or("loaded")?;
+    assert_eq!(rt;
+        (view.status, view.cause, view.place),
+        (Status::Inactive, Cause::Fault(1), 1)
+    );
+    assert_eq!(rt;
+        view.registers,
+        [1, 0x2000_0000, 0, 0, 0, 0, 0, 0, 0, 0, 0x1000_1000]
+    );
+    assert_eq!(rt; engine.events(), 4);
+    Ok(())
+}
+
+// Requests of source 7 that are not accepted: a status report with another error control, one of service 17, an unload,
+// which is not served, and an activation without its arguments' count.
+const OTHER_ERROR_CONTROL: [u8; 13] = [
+    0x19, 0x23, 0xc0, 0x00, 0x00, 0x06, 0x29, 0x12, 0x08, 0x00, 0x07, 0x91, 0xfd,
+];
+
+const OTHER_SERVICE: [u8; 13] = [
+    0x19, 0x23, 0xc0, 0x01, 0x00, 0x06, 0x29, 0x11, 0x08, 0x00, 0x07, 0x4d, 0xf3,
+];
+
+const UNLOAD: [u8; 15] = [
+    0x19, 0x23, 0xc0, 0x02, 0x00, 0x08, 0x29, 0x12, 0x02, 0x00, 0x07, 0x00, 0x01, 0x13, 0x5d,
+];
+
+const SHORT_ACTIVATE: [u8; 15] = [
+    0x19, 0x23, 0xc0, 0x03, 0x00, 0x08, 0x29, 0x12, 0x03, 0x00, 0x07, 0x00, 0x01, 0xd6, 0x49,
+];
+
+// Whether the only report of a request, handed in at time 0x01020304, has these octets.
+fn answers_with(
+    rt: &HostRuntime,
+    engine: &mut Engine,
+    octets: &[u8],
+    wanted: &[u8],
+) -> Result<bool, EngineFault> {
+    let reports = engine.request(rt.alloc(), 0, 0x0102_0304, octets)?;
+    Ok(reports.len() == 1 && is_packet(&reports, 0, wanted))
+}
+
+#[test]
+fn failed_acceptances_are_reported(rt: HostRuntime) -> Result<(), Fail> {
+    let mut engine = Engine::new(rt.alloc(), 0x123, 16, 4)?;
+    assert!(rt;
+        answers_with(
+            &rt,
+            &mut engine,
+            &OTHER_ERROR_CONTROL,
+            &[
+                0x09, 0x23, 0xc0, 0x00, 0x00, 0x12, 0x20, 0x01, 0x02, 0x00, 0x00, 0x00, 0x00, 0x01,
+                0x02, 0x03, 0x04, 0x19, 0x23, 0xc0, 0x00, 0x00, 0x04, 0x76, 0xcb,
+            ]
+        )?
+    );
+    assert!(rt;
+        answers_with(
+            &rt,
+            &mut engine,
+            &OTHER_SERVICE,
+            &[
+                0x09, 0x23, 0xc0, 0x01, 0x00, 0x12, 0x20, 0x01, 0x02, 0x00, 0x00, 0x00, 0x07, 0x01,
+                0x02, 0x03, 0x04, 0x19, 0x23, 0xc0, 0x01, 0x00, 0x06, 0x7d, 0xb7,
+            ]
+        )?
+    );
+    assert!(rt;
+        answers_with(
+            &rt,
+            &mut engine,
+            &UNLOAD,
+            &[
+                0x09, 0x23, 0xc0, 0x02, 0x00, 0x12, 0x20, 0x01, 0x02, 0x00, 0x00, 0x00, 0x07, 0x01,
+                0x02, 0x03, 0x04, 0x19, 0x23, 0xc0, 0x02, 0x00, 0x07, 0x6a, 0x13,
+            ]
+        )?
+    );
+    assert!(rt;
+        answers_with(
+            &rt,
+            &mut engine,
+            &SHORT_ACTIVATE,
+            &[
+                0x09, 0x23, 0xc0, 0x03, 0x00, 0x12, 0x20, 0x01, 0x02, 0x00, 0x00, 0x00, 0x07, 0x01,
+                0x02, 0x03, 0x04, 0x19, 0x23, 0xc0, 0x03, 0x00, 0x08, 0x99, 0x7f,
+            ]
+        )?
+    );
+    assert_eq!(rt; engine.room(), 0);
+    Ok(())
+}
+
+// The seat and the time of a request's entry.
+fn handed_in(entry: &Entry) -> Option<(u16, u32)> {
+    match entry {
+        Entry::Request { by, time, .. } => Some((*by, *time)),
+        Entry::Steps { .. } => None,
+    }
+}
+
+// The outcome that an instruction event was answered.
+fn outcome_of(answer: &Answer) -> Option<StepOutcome> {
+    match answer {
+        Answer::Stepped(outcome) => Some(*outcome),
+        Answer::Requested(_) => None,
+    }
+}
+
+#[test]
+fn a_run_ends_at_a_full_journal(rt: HostRuntime) -> Result<(), Fail> {
+    let mut engine = Engine::new(rt.alloc(), 0x123, 16, 2)?;
+    let events = [
+        Event::Request {
+            by: 1,
+            time: 5,
+            octets: &LOAD_ONE,
+        },
+        Event::Step { by: 2, id: 1 },
+        Event::Request {
+            by: 3,
+            time: 6,
+            octets: &ACTIVATE_ONE,
+        },
+        Event::Step { by: 4, id: 1 },
+        Event::Step { by: 5, id: 1 },
+    ];
+    let Err(fault) = engine.run(rt.alloc(), &events) else {
+        return Err("no room for the instruction".into());
+    };
+    assert_eq!(rt; (fault.refusal, fault.index), (RunRefusal::JournalFull, 3));
+    assert_eq!(rt; fault.answers.len(), 3);
+    assert_eq!(rt;
+        outcome_of(&fault.answers[1]),
+        Some(StepOutcome::NotRunning)
+    );
+    let entries = engine.journal().entries();
+    assert_eq!(rt; entries.len(), 2);
+    assert_eq!(rt; handed_in(&entries[0]), Some((1, 5)));
+    assert_eq!(rt; handed_in(&entries[1]), Some((3, 6)));
+    let view = engine.view(1).ok_or("loaded")?;
+    assert_eq!(rt; (view.status, view.place), (Status::Running, 0));
+    Ok(())
+}

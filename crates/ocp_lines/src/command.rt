@@ -2,7 +2,8 @@
 
 ghost use Rattle.std.specs.Prelude.{◌<◌, ◌≤◌};
 
-use crate::octets::{Arguments, Octets};
+use crate::arguments::Arguments;
+use crate::octets::Octets;
 use crate::parameters::Parameters;
 use std::alloc::{Allocator, Global};
 

@@ -37,6 +37,7 @@ impl Parameters {
     pub fn into_numbers(self) -> ArrayVec<u64, 8>
         ensures value { result.items ≡ self }
         ensures some { 1 ≤ length self }
+        ensures few { length self ≤ 8 }
     {
         let Parameters { numbers } = self;
         numbers

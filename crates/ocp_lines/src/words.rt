@@ -4,7 +4,8 @@ ghost use Rattle.std.specs.Prelude.{◌≡◌, ◌<◌, ◌≤◌, ◌∷◌, []
 ghost use Rattle.std.specs.List.{list_all};
 ghost use Rattle.ocp_lines.specs.Words.{words_of, is_solid, number_up_to, octets_up_to, value_of};
 
-use crate::octets::{Arguments, Octets};
+use crate::arguments::Arguments;
+use crate::octets::Octets;
 use hex::FromHexError;
 use std::alloc::{AllocError, Allocator};
 
