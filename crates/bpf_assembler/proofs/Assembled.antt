@@ -11,7 +11,7 @@ use Rattle.ocp_loader.specs.FaultNumbers.{number_of, slot_of}
 use Rattle.ocp_loader.specs.Faults.{IsFirstFault}
 use Rattle.ocp_loader.specs.Judging.{judged}
 use Rattle.ocp_loader.specs.Admitted.{IsAdmitted, IsAdmittedAs, HasSlots}
-use Rattle.bpf_assembler.specs.Lines.{Written, Statement}
+use Rattle.bpf_text.specs.Lines.{Written, Statement}
 use Rattle.bpf_assembler.specs.Text.{Entry, entries_of, entry_of, AreInstructions, slots}
 use Rattle.bpf_assembler.specs.Faults.{IsFirstMiss, IsLineOfSlot, IsLineOf, IsFault}
 use Rattle.bpf_assembler.specs.Passes.{IsCollected, AreResolved, ResolvesAll, IsLineUpTo, IsReported, IsImageOfText, IsFaultOf, entry}

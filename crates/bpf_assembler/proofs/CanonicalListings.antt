@@ -1,6 +1,6 @@
 -- A listing means its lines.
 use Rattle.std.proofs.Common.{◌≡◌, ◌+◌, ◌-◌, ℕ, zero, suc, List, [], ◌∷◌, ◌++◌, Bool, true, false, refl, sym, ap, ◌∙◌, subst, arith, append_assoc, map, length, IsTrue, inl, inr, ◌⊎◌, Result, Ok, Err}
-use Rattle.std.specs.Prelude.{codes, ◌&&◌, ◌==◌, slice_index, MatchResult}
+use Rattle.std.specs.Prelude.{codes, ◌&&◌, ◌==◌, slice_index}
 use Rattle.std.specs.List.{All, list_all}
 use Rattle.std.specs.Str.Lines.{strip_carriage_return}
 use Rattle.std.proofs.lemmas.Bool.Decides.{nat_tests}
@@ -10,16 +10,11 @@ use Rattle.ocp_loader.specs.Image.{slots_in}
 use Rattle.bpf_listing.specs.Canonical.{canonical}
 use Rattle.bpf_listing.specs.Listing.{listing, IsImageOf}
 use Rattle.bpf_listing.specs.Octets.{is_text_octet}
-use Rattle.bpf_assembler.specs.Lines.{Written, InRange}
-use Rattle.bpf_assembler.specs.Listings.{alone}
+use Rattle.bpf_text.specs.Lines.{Written}
+use Rattle.bpf_text.specs.Listings.{alone}
 use Rattle.bpf_assembler.specs.Text.{Ended, onto, pieces_of, line_of_piece, lines_of, EachWritten, AreDistinct, entries_of, AreInstructions, Means}
-use Rattle.bpf_assembler.specs.Judged.{JudgesLine, written}
-use Rattle.bpf_assembler.specs.declared.line.Parsed.{Parsed}
-use Rattle.bpf_assembler.specs.declared.line.LineFault.{LineFault}
-use Rattle.bpf_assembler.specs.declared.line.LineFault.TheVariants.{Syntax, Range}
 use Rattle.ocp_loader.specs.Admitted.{IsAdmitted, IsAdmittedAs}
-use Rattle.bpf_assembler.proofs.CanonicalLines.{canonical_written}
-use Rattle.bpf_assembler.proofs.UniqueLines.{one_written}
+use Rattle.bpf_text.proofs.CanonicalLines.{canonical_written}
 use Rattle.bpf_assembler.proofs.UniqueTexts.{one_meaning}
 
 -- the elements of a list have the property
@@ -90,14 +85,6 @@ listing_means texts ls h = record {
   };
   instructions = each_itself (map alone ls) 1 0 ls;
 }
-
--- the reader of a line answers the instruction of its canonical text
-pub reads_canonical : (l : Line) → IsLine l → (r : Result Parsed LineFault) → JudgesLine (canonical l) r → MatchResult r (λ p. written p ≡ alone l) (λ fault. ⊥)
-reads_canonical l h (Ok p) k = one_written (canonical l) (written p) (alone l) k.0 k.1 (canonical_written l h)
-reads_canonical l h (Err Syntax) k = k (alone l) (canonical_written l h)
-reads_canonical l h (Err Range) (w, writes, out) =
-    let same : alone l ≡ w = one_written (canonical l) (alone l) w (canonical_written l h) (h, refl) writes in
-    out (subst (λ (v : Written). InRange v.body) same (h, refl))
 
 -- an image that may be run, of these lines, may be run as these lines
 pub admitted_as : ((image : List ℕ) (a b : List Line) → IsImageOf image a → IsImageOf image b → a ≡ b) → (image : List ℕ) (lines : List Line) → IsAdmitted image → IsImageOf image lines → IsAdmittedAs image lines

@@ -2,7 +2,7 @@
 use Rattle.std.proofs.Common.{◌≡◌, ◌++◌, ℕ, suc, List, [], ◌∷◌, length, Ok, Err, refl, sym, ap, ◌∙◌, subst, arith, append_assoc, append-nil}
 use Rattle.std.specs.BTreeMap.{BTreeMap}
 use Rattle.std.proofs.Common.{Bor}
-use Rattle.bpf_assembler.specs.Lines.{Written}
+use Rattle.bpf_text.specs.Lines.{Written}
 use Rattle.bpf_assembler.specs.Text.{lines_of, EachWritten}
 use Rattle.bpf_assembler.specs.Passes.{Knows, Adds, Collects}
 use Rattle.bpf_assembler.specs.declared.table.Row.{Row}

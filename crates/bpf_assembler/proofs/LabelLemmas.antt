@@ -8,7 +8,7 @@ use Rattle.bpf_types.specs.Line.{is_wide}
 use Rattle.ocp_loader.specs.Image.{second_of, slots_of, slots_in, by_slot, target_of}
 use Rattle.ocp_loader.specs.Places.{place_of}
 use Rattle.ocp_loader.proofs.Octets.{place_by_slot}
-use Rattle.bpf_assembler.specs.Lines.{Written, Writes, HasLabel, Statement, IsOperands, IsForm}
+use Rattle.bpf_text.specs.Lines.{Written, Writes, HasLabel, Statement, IsOperands, IsForm}
 use Rattle.bpf_assembler.specs.Text.{lines_of, EachWritten, label_place, has_label, slots, end_of, IsNew, AreDistinct, entry_of, entries_of, with_distance, aimed_at, IsInstruction, AreInstructions, IsWritten}
 use Rattle.bpf_assembler.specs.Labels.{and_then, statements, IsLabelAt, IsMeantBy}
 

@@ -4,7 +4,7 @@ use Rattle.std.specs.BTreeMap.{BTreeMap}
 use Rattle.std.specs.Str.{bytes_eq}
 use Rattle.std.proofs.lemmas.Slice.Eq.{bytes_eq-Decides}
 use Rattle.std.proofs.Common.{Bor}
-use Rattle.bpf_assembler.specs.Lines.{Written, Statement, Writes, InRange}
+use Rattle.bpf_text.specs.Lines.{Written, Statement, Writes, InRange}
 use Rattle.bpf_assembler.specs.Tables.{label_at}
 use Rattle.bpf_assembler.specs.Text.{label_place, end_of, entries_of, entry_of, Entry, has_label, slots, IsNew, AreDistinct, EachWritten}
 use Rattle.bpf_assembler.specs.Passes.{AreLabels, Knows, entry}

@@ -11,12 +11,12 @@ use Rattle.ocp_loader.specs.FaultNumbers.{number_of, slot_of}
 use Rattle.ocp_loader.specs.Judging.{judged}
 use Rattle.ocp_loader.specs.Admitted.{IsAdmitted}
 use Rattle.ocp_loader.proofs.Complete.{not_admitted}
-use Rattle.bpf_assembler.specs.Lines.{Written, Writes, InRange}
+use Rattle.bpf_text.specs.Lines.{Written, Writes, InRange}
 use Rattle.bpf_assembler.specs.Text.{lines_of, EachWritten, IsNew, AreDistinct, Entry, entries_of, aimed_at, IsInstruction, AreInstructions, IsWritten, Means}
 use Rattle.bpf_assembler.specs.Faults.{HasFault, HasLineFault, MissesLabel, IsFirstMiss, HasNameFault, IsLineOfSlot, IsLineOf, HasLoadFault, IsLoadFault, IsFault}
 use Rattle.bpf_assembler.specs.declared.fault.Why.{Why}
 use Rattle.bpf_assembler.specs.declared.fault.Why.TheVariants as why
-use Rattle.bpf_assembler.proofs.UniqueLines.{one_written}
+use Rattle.bpf_text.proofs.UniqueLines.{one_written}
 
 -- ---- the lines of a text
 

@@ -7,7 +7,7 @@ use Rattle.bpf_listing.specs.Listing.{image_of}
 use Rattle.ocp_loader.specs.declared.fault.LoadFault.{LoadFault}
 use Rattle.ocp_loader.specs.FaultNumbers.{number_of, slot_of}
 use Rattle.ocp_loader.specs.Judging.{judged}
-use Rattle.bpf_assembler.specs.Lines.{Written, Writes, InRange}
+use Rattle.bpf_text.specs.Lines.{Written, Writes, InRange}
 use Rattle.bpf_assembler.specs.Text.{lines_of, EachWritten, label_place, IsNew, AreDistinct, Entry, entries_of, aimed_at, AreInstructions, IsWritten}
 use Rattle.bpf_assembler.specs.declared.fault.Why.{Why}
 use Rattle.bpf_assembler.specs.declared.fault.Why.TheVariants as why

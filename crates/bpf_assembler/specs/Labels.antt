@@ -3,7 +3,7 @@ use Rattle.std.specs.Prelude.{◌≡◌, ◌+◌, ℕ, pos, ◌-ℤ◌, List, []
 use Rattle.bpf_types.specs.declared.line.Line.{Line}
 use Rattle.ocp_loader.specs.Image.{target_of}
 use Rattle.ocp_loader.specs.Places.{place_of}
-use Rattle.bpf_assembler.specs.Lines.{Written, Statement}
+use Rattle.bpf_text.specs.Lines.{Written, Statement}
 use Rattle.bpf_assembler.specs.Text.{with_distance}
 
 -- the instruction of a line, in front of others

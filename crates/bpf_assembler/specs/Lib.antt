@@ -1,13 +1,5 @@
-pub mod Number
-pub mod Tokens
-pub mod Scans
-pub mod Fields
-pub mod Gives
-pub mod Lines
-pub mod Judged
 pub mod Text
 pub mod Faults
-pub mod Listings
 pub mod Labels
 pub mod Tables
 pub mod Passes

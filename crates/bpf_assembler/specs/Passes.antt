@@ -10,8 +10,8 @@ use Rattle.ocp_loader.specs.declared.fault.LoadFault.{LoadFault}
 use Rattle.ocp_loader.specs.declared.fault.LoadFault.TheVariants as load
 use Rattle.ocp_loader.specs.FaultNumbers.{slot_of}
 use Rattle.bpf_assembler.specs.Tables.{label_at}
-use Rattle.bpf_assembler.specs.Lines.{Written, Writes, InRange, Statement}
-use Rattle.bpf_assembler.specs.Judged.{text_of}
+use Rattle.bpf_text.specs.Lines.{Written, Writes, InRange, Statement}
+use Rattle.bpf_text.specs.Judged.{text_of}
 use Rattle.bpf_assembler.specs.Text.{label_place, end_of, entries_of, Entry, IsNew, AreDistinct, IsInstruction, AreInstructions, IsWritten, Means}
 use Rattle.bpf_assembler.specs.Faults.{HasFault, HasLineFault, MissesLabel, IsFirstMiss, IsLineOfSlot, IsFault}
 use Rattle.bpf_assembler.specs.declared.table.Row.{Row}

@@ -6,7 +6,7 @@ use Rattle.bpf_types.specs.declared.line.Line.{Line}
 use Rattle.bpf_types.specs.declared.line.Line.TheVariants as line
 use Rattle.bpf_types.specs.Line.{IsLine, is_wide}
 use Rattle.ocp_loader.specs.Image.{slots_in}
-use Rattle.bpf_assembler.specs.Lines.{Written, Writes, InRange, Statement}
+use Rattle.bpf_text.specs.Lines.{Written, Writes, InRange, Statement}
 
 -- ---- the text, cut at newlines
 

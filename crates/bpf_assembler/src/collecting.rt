@@ -3,16 +3,15 @@
 ghost use Rattle.std.specs.Prelude.{◌≡◌, ◌<◌, ◌≤◌, ◌+◌, ◌*◌, ◌++◌, ◌^◌, List, [], map, OnOk, IfOk, IfErr};
 ghost use Rattle.bpf_types.specs.Line.{is_wide};
 ghost use Rattle.ocp_loader.specs.Image.{slots_in};
-ghost use Rattle.bpf_assembler.specs.Lines.{Written};
-ghost use Rattle.bpf_assembler.specs.Judged.{text_of, statement_of};
+ghost use Rattle.bpf_text.specs.Lines.{Written};
+ghost use Rattle.bpf_text.specs.Judged.{text_of, statement_of};
 ghost use Rattle.bpf_assembler.specs.Text.{end_of, slots, entry_of};
 ghost use Rattle.bpf_assembler.specs.Passes.{AreLabels, PutsLabel, Knows, Adds, Collects, entry};
 
 use crate::cut::cut;
 use crate::fault::{AsmFault, Why};
-use crate::line::{LineFault, Source};
-use crate::reading::read_line;
 use crate::table::{Row, Table, has, put};
+use bpf_text::{LineFault, Source, read_line};
 use bpf_types::Line;
 use std::alloc::Allocator;
 use std::collections::BTreeMap;

@@ -14,12 +14,7 @@ ghost use Rattle.bpf_assembler.specs.Faults.{IsFault};
 ghost use Rattle.bpf_assembler.specs.Labels.{statements, IsLabelAt, IsMeantBy};
 ghost use Rattle.bpf_assembler.specs.declared.fault.Why.{Why};
 ghost use Rattle.bpf_assembler.specs.declared.fault.Why.TheVariants.{Load};
-ghost use Rattle.bpf_assembler.specs.Lines.{Written, Writes, InRange, Statement};
-
-/// A line of text whose numbers are in their ranges is read in one way: it says one label and one instruction.
-pub fn readings_are_unique()
-    ensures { (text : List ℕ) (w v : Written) → Writes text w → InRange w.body → Writes text v → w ≡ v }
-{}
+ghost use Rattle.bpf_text.specs.Lines.{Written, Statement};
 
 /// A text means at most one list of instructions.
 pub fn meanings_are_unique()

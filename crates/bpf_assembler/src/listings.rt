@@ -1,28 +1,16 @@
 //! Laws of canonical texts and listings, which are assembly text. The functions do nothing when they run: their contracts
 //! are the laws.
 
-ghost use Rattle.std.specs.Prelude.{◌≡◌, ℕ, List, Result, MatchResult};
+ghost use Rattle.std.specs.Prelude.{◌≡◌, ℕ, List};
 ghost use Rattle.std.specs.List.{All};
 ghost use Rattle.bpf_types.specs.declared.line.Line.{Line};
 ghost use Rattle.bpf_types.specs.Line.{IsLine};
 ghost use Rattle.bpf_listing.specs.Canonical.{canonical};
 ghost use Rattle.bpf_listing.specs.Listing.{listing, IsImageOf};
 ghost use Rattle.ocp_loader.specs.Admitted.{IsAdmitted, IsAdmittedAs};
-ghost use Rattle.bpf_assembler.specs.Lines.{Writes};
-ghost use Rattle.bpf_assembler.specs.Listings.{alone};
-ghost use Rattle.bpf_assembler.specs.Judged.{JudgesLine, written};
 ghost use Rattle.bpf_assembler.specs.Text.{Means};
-ghost use Rattle.bpf_assembler.specs.declared.line.Parsed.{Parsed};
-ghost use Rattle.bpf_assembler.specs.declared.line.LineFault.{LineFault};
 
 use bpf_listing::{images_are_unique, listings_have_a_line_for_each_instruction};
-
-/// The canonical text of an instruction is a line of assembly text with that instruction, and with no label; `read_line`
-/// answers that instruction.
-pub fn canonical_texts_are_read_back()
-    ensures writes { (line : Line) → IsLine line → Writes (canonical line) (alone line) }
-    ensures reads { (line : Line) (result : Result Parsed LineFault) → IsLine line → JudgesLine (canonical line) result → MatchResult result (λ p. written p ≡ alone line) (λ fault. ⊥) }
-{}
 
 /// A listing means the instructions that it lists.
 pub fn listings_mean_their_instructions()

@@ -1,11 +1,10 @@
 //! The second pass: the octets of the instructions, with the distances of the labels that they name.
 
-ghost use Rattle.std.specs.Prelude.{◌≡◌, ℕ, ℤ, ◌+◌, ◌-ℤ◌, pos, List, map, MatchOption};
+ghost use Rattle.std.specs.Prelude.{◌≡◌, List, map, MatchOption, FitsSigned};
 ghost use Rattle.std.specs.Int.{w16, w32};
-ghost use Rattle.std.specs.Prelude.{FitsSigned};
 ghost use Rattle.bpf_types.specs.Line.{IsLine};
-ghost use Rattle.bpf_assembler.specs.Lines.{Written};
-ghost use Rattle.bpf_assembler.specs.Text.{with_distance, aimed_at};
+ghost use Rattle.bpf_text.specs.Lines.{Written};
+ghost use Rattle.bpf_assembler.specs.Text.{with_distance};
 ghost use Rattle.bpf_assembler.specs.Passes.{AreLabels, Resolves, ResolvesAll, IsLineUpTo, entry};
 
 use crate::fault::{AsmFault, Why};

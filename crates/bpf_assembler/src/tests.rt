@@ -1,6 +1,7 @@
 use crate::canonical::write_canonical;
-use crate::{AsmFault, LineFault, Why, assemble, read_line};
+use crate::{AsmFault, Why, assemble};
 use bpf_decode::encode;
+use bpf_text::{LineFault, read_line};
 use std::alloc::{AllocError, Global};
 use std::test::*;
 

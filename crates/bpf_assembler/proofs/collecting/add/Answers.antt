@@ -1,5 +1,5 @@
 use Rattle.std.proofs.Common.{◌+◌, ℕ, ap, refl}
-use Rattle.bpf_assembler.specs.Judged.{written}
+use Rattle.bpf_text.specs.Judged.{written}
 use Rattle.bpf_assembler.proofs.Places.{known_after}
 use Rattle.bpf_assembler.proofs.collecting.add.Goals as goal
 

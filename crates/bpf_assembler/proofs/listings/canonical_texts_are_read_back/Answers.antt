@@ -1,9 +1,0 @@
-use Rattle.bpf_assembler.proofs.CanonicalLines.{canonical_written}
-use Rattle.bpf_assembler.proofs.CanonicalListings.{reads_canonical}
-use Rattle.bpf_assembler.proofs.listings.canonical_texts_are_read_back.Goals as goal
-
-pub returns-clause-writes : goal.returns-clause-writes
-returns-clause-writes c = canonical_written
-
-pub returns-clause-reads : goal.returns-clause-reads
-returns-clause-reads c = λ l r h k. reads_canonical l h r k

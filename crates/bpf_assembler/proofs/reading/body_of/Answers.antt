@@ -1,6 +1,0 @@
-use Rattle.bpf_assembler.specs.Judged.{texts}
-use Rattle.bpf_assembler.proofs.ReadingLemmas.{body_err, some_texts}
-use Rattle.bpf_assembler.proofs.reading.body_of.Goals as goal
-
-pub returns-in-Err : goal.returns-in-Err
-returns-in-Err c = body_err (texts c.args.tokens.now) c.in-Err.fault (some_texts c.args.tokens.now c.is_empty.result c.is_empty.ensures c.if-is_empty.false) c.in-Err.ensures

@@ -1,8 +1,0 @@
-use Rattle.std.proofs.Common.{ℕ}
-use Rattle.bpf_types.specs.declared.line.Operand.{Operand}
-use Rattle.bpf_assembler.specs.Judged.{texts}
-use Rattle.bpf_assembler.proofs.JudgeLemmas.{arithmetic_err}
-use Rattle.bpf_assembler.proofs.statements.arithmetic.Goals as goal
-
-pub returns-in-Err : goal.returns-in-Err
-returns-in-Err c = arithmetic_err c.args.width c.args.operation (texts c.args.operands.now) c.in-Err.fault (λ (p : ℕ × Operand). p) c.in-Err.ensures

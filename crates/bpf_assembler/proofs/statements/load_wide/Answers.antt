@@ -1,7 +1,0 @@
-use Rattle.std.proofs.Common.{ℕ}
-use Rattle.bpf_assembler.specs.Judged.{texts}
-use Rattle.bpf_assembler.proofs.JudgeLemmas.{load_wide_err}
-use Rattle.bpf_assembler.proofs.statements.load_wide.Goals as goal
-
-pub returns-in-Err : goal.returns-in-Err
-returns-in-Err c = load_wide_err (texts c.args.operands.now) c.in-Err.fault (λ (p : ℕ × ℕ). p) c.in-Err.ensures

@@ -1,6 +1,0 @@
-use Rattle.bpf_assembler.specs.Judged.{texts, target_of}
-use Rattle.bpf_assembler.proofs.JudgeLemmas.{long_jump_err}
-use Rattle.bpf_assembler.proofs.statements.long_jump.Goals as goal
-
-pub returns-in-Err : goal.returns-in-Err
-returns-in-Err c = long_jump_err (texts c.args.operands.now) c.in-Err.fault target_of c.in-Err.ensures

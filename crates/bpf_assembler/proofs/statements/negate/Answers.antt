@@ -1,7 +1,0 @@
-use Rattle.std.proofs.Common.{ℕ}
-use Rattle.bpf_assembler.specs.Judged.{texts}
-use Rattle.bpf_assembler.proofs.JudgeLemmas.{negate_err}
-use Rattle.bpf_assembler.proofs.statements.negate.Goals as goal
-
-pub returns-in-Err : goal.returns-in-Err
-returns-in-Err c = negate_err c.args.width (texts c.args.operands.now) c.in-Err.fault (λ (p : ℕ). p) c.in-Err.ensures

@@ -1,6 +1,0 @@
-use Rattle.bpf_assembler.specs.Judged.{texts, target_of}
-use Rattle.bpf_assembler.proofs.JudgeLemmas.{short_jump_err}
-use Rattle.bpf_assembler.proofs.statements.short_jump.Goals as goal
-
-pub returns-in-Err : goal.returns-in-Err
-returns-in-Err c = short_jump_err (texts c.args.operands.now) c.in-Err.fault target_of c.in-Err.ensures

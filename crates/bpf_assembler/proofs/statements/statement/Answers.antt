@@ -1,6 +1,0 @@
-use Rattle.bpf_assembler.specs.Judged.{texts}
-use Rattle.bpf_assembler.proofs.JudgeLemmas.{form_judged}
-use Rattle.bpf_assembler.proofs.statements.statement.Goals as goal
-
-pub returns-in-Some-mnemonic_of : goal.returns-in-Some-mnemonic_of
-returns-in-Some-mnemonic_of c = form_judged (texts c.args.tokens.now) c.in-Some.word.now (texts c.in-Some.operands.now) c.in-Some-mnemonic_of.mnemonic c.operands_read.result c.in-Some.ensures.some c.in-Some-mnemonic_of.ensures.some (λ m e. c.in-Some-mnemonic_of.ensures.only m e) c.operands_read.ensures

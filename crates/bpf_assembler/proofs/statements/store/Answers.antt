@@ -1,7 +1,0 @@
-use Rattle.std.proofs.Common.{ℕ, ℤ}
-use Rattle.bpf_assembler.specs.Judged.{texts}
-use Rattle.bpf_assembler.proofs.JudgeLemmas.{store_err}
-use Rattle.bpf_assembler.proofs.statements.store.Goals as goal
-
-pub returns-in-Err : goal.returns-in-Err
-returns-in-Err c = store_err c.args.size (texts c.args.operands.now) c.in-Err.fault (λ (p : (ℕ × ℤ) × ℕ). p) c.in-Err.ensures

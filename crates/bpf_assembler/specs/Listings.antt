@@ -1,8 +1,0 @@
--- Canonical texts and listings as assembly text.
-use Rattle.std.specs.Prelude.{Some, None}
-use Rattle.bpf_types.specs.declared.line.Line.{Line}
-use Rattle.bpf_assembler.specs.Lines.{Written}
-
--- a line of text with this instruction, and with no label
-abbrev pub alone : Line → Written
-alone l = record { label = None; body = Some (record { line = l; name = None; odd = None }) }

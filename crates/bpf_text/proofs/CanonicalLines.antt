@@ -1,0 +1,168 @@
+-- The canonical text of an instruction is written as that instruction.
+use Rattle.std.proofs.Common.{◌≡◌, ◌<◌, ◌^◌, ℕ, ℤ, pos, negsuc, List, [], ◌∷◌, ◌++◌, Some, None, refl, sym, ◌∙◌, subst, arith, append_assoc, w16, w32, rules}
+use Rattle.std.specs.Prelude.{codes, FitsSigned}
+use Rattle.std.specs.Fmt.{decimal, signed_decimal}
+use Rattle.std.proofs.lemmas.Int.{ints}
+use Rattle.bpf_types.specs.declared.line.Line.{Line}
+use Rattle.bpf_types.specs.declared.line.Line.TheVariants as line
+use Rattle.bpf_types.specs.declared.line.Extension.{Extension}
+use Rattle.bpf_types.specs.declared.line.Extension.TheVariants as extension
+use Rattle.bpf_types.specs.declared.line.Swapped.{Swapped}
+use Rattle.bpf_types.specs.declared.line.Swapped.TheVariants as swapped
+use Rattle.bpf_types.specs.Line.{IsLine, swapped_bits}
+use Rattle.bpf_listing.specs.Canonical.{canonical, register, with_sign, operand_text, extension_bits, hex_digits}
+use Rattle.bpf_listing.specs.Mnemonics.{mnemonic_name}
+use Rattle.bpf_text.specs.Tokens.{NoWord, HasTokens}
+use Rattle.bpf_text.specs.Lines.{mnemonic_of, IsForm, Writes}
+use Rattle.bpf_text.proofs.CanonicalNumbers.{IsRun, decimal_run, numeral_read, register_run, register_read, integer_run, immediate_read, operand_run, operand_read, distance_run, distance_read, value_run, value_read}
+use Rattle.bpf_text.proofs.CanonicalWords.{mnemonic_run, local_run}
+use Rattle.bpf_text.proofs.CanonicalTokens.{run_then, blank_then, run_last, word_and_one, word_and_two, word_and_three, word_and_load, word_and_store}
+
+wide_enough : (z : ℤ) → FitsSigned w16 z → FitsSigned w32 z
+wide_enough z h = search (rules, ints)
+
+sign_stops : (z : ℤ) (rest : List ℕ) → NoWord (with_sign z ++ rest)
+sign_stops (pos n) rest = refl
+sign_stops (negsuc n) rest = refl
+
+few_bits : (e : Extension) → extension_bits e < 2 ^ 64
+few_bits extension.From8To32 = omega arith
+few_bits _ = omega arith
+
+few_kept : (s : Swapped) → swapped_bits s < 2 ^ 64
+few_kept swapped.Bits16 = omega arith
+few_kept _ = omega arith
+
+-- the tokens of the canonical text, as the table of forms wants them
+abbrev pub FormOf : Line → Type 0
+FormOf l = (tokens : List (List ℕ)) × HasTokens (canonical l) tokens × IsForm l None None tokens
+
+word_of : (l : Line) → IsRun (mnemonic_name (mnemonic_of l))
+word_of l = mnemonic_run (mnemonic_of l)
+
+-- 0x stands in front of the digits, and not behind the comma
+with_prefix : (front digits : List ℕ) → front ++ codes ", " ++ (codes "0x" ++ digits) ≡ front ++ codes ", 0x" ++ digits
+with_prefix front digits = append_assoc front (codes ", ") (codes "0x" ++ digits) ∙ sym (append_assoc front (codes ", 0x") digits)
+
+pub canonical_form : (l : Line) → IsLine l → FormOf l
+canonical_form (line.Arithmetic width operation dst operand) h =
+    let a = register dst in let b = operand_text operand in let m = mnemonic_name (mnemonic_of (line.Arithmetic width operation dst operand)) in (
+      m ∷ a ∷ codes "," ∷ b ∷ [],
+      word_and_two m a b (word_of (line.Arithmetic width operation dst operand)) (register_run dst h.0) (operand_run operand h.1),
+      (a ∷ codes "," ∷ b ∷ [], refl, (refl, refl, (a, b, refl, register_read dst h.0, operand_read operand h.1))),
+    )
+canonical_form (line.Negate width dst) h =
+    let a = register dst in let m = mnemonic_name (mnemonic_of (line.Negate width dst)) in (
+      m ∷ a ∷ [],
+      word_and_one m a (word_of (line.Negate width dst)) (register_run dst h),
+      (a ∷ [], refl, (refl, refl, (a, refl, register_read dst h))),
+    )
+canonical_form (line.MoveExtended extension dst src) h =
+    let a = register dst in let b = register src in let c = decimal (extension_bits extension) in let m = mnemonic_name (mnemonic_of (line.MoveExtended extension dst src)) in (
+      m ∷ a ∷ codes "," ∷ b ∷ codes "," ∷ c ∷ [],
+      word_and_three m a b c (word_of (line.MoveExtended extension dst src)) (register_run dst h.0) (register_run src h.1) (decimal_run (extension_bits extension) (few_bits extension)),
+      (
+        a ∷ codes "," ∷ b ∷ codes "," ∷ c ∷ [],
+        refl,
+        (refl, extension_bits extension, refl, (a, b, c, refl, register_read dst h.0, register_read src h.1, numeral_read (extension_bits extension) (few_bits extension))),
+      ),
+    )
+canonical_form (line.ByteOrder order swapped dst) h =
+    let a = register dst in let b = decimal (swapped_bits swapped) in let m = mnemonic_name (mnemonic_of (line.ByteOrder order swapped dst)) in (
+      m ∷ a ∷ codes "," ∷ b ∷ [],
+      word_and_two m a b (word_of (line.ByteOrder order swapped dst)) (register_run dst h) (decimal_run (swapped_bits swapped) (few_kept swapped)),
+      (
+        a ∷ codes "," ∷ b ∷ [],
+        refl,
+        (refl, swapped_bits swapped, refl, (a, b, refl, register_read dst h, numeral_read (swapped_bits swapped) (few_kept swapped))),
+      ),
+    )
+canonical_form (line.Jump distance) h =
+    let a = with_sign distance in (
+      codes "ja" ∷ a ∷ [],
+      word_and_one (codes "ja") a (word_of (line.Jump distance)) (distance_run distance (wide_enough distance h)),
+      (a ∷ [], refl, (refl, (a, refl, distance_read distance (wide_enough distance h)))),
+    )
+canonical_form (line.LongJump distance) h =
+    let a = with_sign distance in (
+      codes "ja32" ∷ a ∷ [],
+      word_and_one (codes "ja32") a (word_of (line.LongJump distance)) (distance_run distance h),
+      (a ∷ [], refl, (refl, (a, refl, distance_read distance h))),
+    )
+canonical_form (line.JumpIf width test dst operand distance) h =
+    let a = register dst in let b = operand_text operand in let c = with_sign distance in let m = mnemonic_name (mnemonic_of (line.JumpIf width test dst operand distance)) in (
+      m ∷ a ∷ codes "," ∷ b ∷ codes "," ∷ c ∷ [],
+      word_and_three m a b c (word_of (line.JumpIf width test dst operand distance)) (register_run dst h.0) (operand_run operand h.1) (distance_run distance (wide_enough distance h.2)),
+      (
+        a ∷ codes "," ∷ b ∷ codes "," ∷ c ∷ [],
+        refl,
+        (refl, (a, b, c, refl, register_read dst h.0, operand_read operand h.1, distance_read distance (wide_enough distance h.2))),
+      ),
+    )
+canonical_form (line.Call number) h =
+    let a = signed_decimal number in (
+      codes "call" ∷ a ∷ [],
+      word_and_one (codes "call") a (word_of (line.Call number)) (integer_run number h),
+      (a ∷ [], refl, (refl, refl, (a, refl, immediate_read number h))),
+    )
+canonical_form (line.CallLocal distance) h =
+    let a = with_sign distance in (
+      codes "call" ∷ codes "local" ∷ a ∷ [],
+      run_then (codes "call") (codes " local " ++ a) (codes "local" ∷ a ∷ []) (word_of (line.CallLocal distance)) refl
+          (blank_then (codes "local " ++ a) (codes "local" ∷ a ∷ [])
+          (word_and_one (codes "local") a local_run (distance_run distance h))),
+      (codes "local" ∷ a ∷ [], refl, (refl, a ∷ [], refl, (a, refl, distance_read distance h))),
+    )
+canonical_form line.Exit h =
+    (codes "exit" ∷ [], run_last (codes "exit") (word_of line.Exit), ([], refl, (refl, refl, refl)))
+canonical_form (line.LoadWide dst value) h =
+    let a = register dst in let b = codes "0x" ++ hex_digits 16 value in (
+      codes "lddw" ∷ a ∷ codes "," ∷ b ∷ [],
+      subst (λ (t : List ℕ). HasTokens t (codes "lddw" ∷ a ∷ codes "," ∷ b ∷ [])) (with_prefix (codes "lddw " ++ a) (hex_digits 16 value))
+          (word_and_two (codes "lddw") a b (word_of (line.LoadWide dst value)) (register_run dst h.0) (value_run value)),
+      (a ∷ codes "," ∷ b ∷ [], refl, (refl, refl, (a, b, refl, register_read dst h.0, value_read value h.1))),
+    )
+canonical_form (line.Load size dst base offset) h =
+    let a = register dst in let b = register base in let o = with_sign offset in let m = mnemonic_name (mnemonic_of (line.Load size dst base offset)) in (
+      m ∷ a ∷ codes "," ∷ codes "[" ∷ b ∷ o ∷ codes "]" ∷ [],
+      word_and_load m a b o (word_of (line.Load size dst base offset)) (register_run dst h.0) (register_run base h.1) (distance_run offset (wide_enough offset h.2)) (sign_stops offset),
+      (
+        a ∷ codes "," ∷ codes "[" ∷ b ∷ o ∷ codes "]" ∷ [],
+        refl,
+        (refl, refl, (a, b, Some o, refl, register_read dst h.0, register_read base h.1, distance_read offset (wide_enough offset h.2))),
+      ),
+    )
+canonical_form (line.LoadExtended size dst base offset) h =
+    let a = register dst in let b = register base in let o = with_sign offset in let m = mnemonic_name (mnemonic_of (line.LoadExtended size dst base offset)) in (
+      m ∷ a ∷ codes "," ∷ codes "[" ∷ b ∷ o ∷ codes "]" ∷ [],
+      word_and_load m a b o (word_of (line.LoadExtended size dst base offset)) (register_run dst h.0) (register_run base h.1) (distance_run offset (wide_enough offset h.2)) (sign_stops offset),
+      (
+        a ∷ codes "," ∷ codes "[" ∷ b ∷ o ∷ codes "]" ∷ [],
+        refl,
+        (refl, refl, (a, b, Some o, refl, register_read dst h.0, register_read base h.1, distance_read offset (wide_enough offset h.2))),
+      ),
+    )
+canonical_form (line.StoreImmediate size base offset value) h =
+    let b = register base in let o = with_sign offset in let a = signed_decimal value in let m = mnemonic_name (mnemonic_of (line.StoreImmediate size base offset value)) in (
+      m ∷ codes "[" ∷ b ∷ o ∷ codes "]" ∷ codes "," ∷ a ∷ [],
+      word_and_store m b o a (word_of (line.StoreImmediate size base offset value)) (register_run base h.0) (distance_run offset (wide_enough offset h.1)) (integer_run value h.2) (sign_stops offset),
+      (
+        codes "[" ∷ b ∷ o ∷ codes "]" ∷ codes "," ∷ a ∷ [],
+        refl,
+        (refl, refl, (b, Some o, a, refl, register_read base h.0, distance_read offset (wide_enough offset h.1), immediate_read value h.2)),
+      ),
+    )
+canonical_form (line.Store size base offset src) h =
+    let b = register base in let o = with_sign offset in let a = register src in let m = mnemonic_name (mnemonic_of (line.Store size base offset src)) in (
+      m ∷ codes "[" ∷ b ∷ o ∷ codes "]" ∷ codes "," ∷ a ∷ [],
+      word_and_store m b o a (word_of (line.Store size base offset src)) (register_run base h.0) (distance_run offset (wide_enough offset h.1)) (register_run src h.2) (sign_stops offset),
+      (
+        codes "[" ∷ b ∷ o ∷ codes "]" ∷ codes "," ∷ a ∷ [],
+        refl,
+        (refl, refl, (b, Some o, a, refl, register_read base h.0, distance_read offset (wide_enough offset h.1), register_read src h.2)),
+      ),
+    )
+
+-- a line with an instruction alone
+pub canonical_written : (l : Line) → IsLine l → Writes (canonical l) (record { label = None; body = Some (record { line = l; name = None; odd = None }) })
+canonical_written l h = canonical_form l h

@@ -1,0 +1,22 @@
+-- The reader of a line at a canonical text.
+use Rattle.std.proofs.Common.{◌≡◌, refl, subst, Result, Ok, Err}
+use Rattle.std.specs.Prelude.{MatchResult}
+use Rattle.bpf_types.specs.declared.line.Line.{Line}
+use Rattle.bpf_types.specs.Line.{IsLine}
+use Rattle.bpf_listing.specs.Canonical.{canonical}
+use Rattle.bpf_text.specs.Lines.{Written, InRange}
+use Rattle.bpf_text.specs.Listings.{alone}
+use Rattle.bpf_text.specs.Judged.{JudgesLine, written}
+use Rattle.bpf_text.specs.declared.line.Parsed.{Parsed}
+use Rattle.bpf_text.specs.declared.line.LineFault.{LineFault}
+use Rattle.bpf_text.specs.declared.line.LineFault.TheVariants.{Syntax, Range}
+use Rattle.bpf_text.proofs.CanonicalLines.{canonical_written}
+use Rattle.bpf_text.proofs.UniqueLines.{one_written}
+
+-- the reader of a line answers the instruction of its canonical text
+pub reads_canonical : (l : Line) → IsLine l → (r : Result Parsed LineFault) → JudgesLine (canonical l) r → MatchResult r (λ p. written p ≡ alone l) (λ fault. ⊥)
+reads_canonical l h (Ok p) k = one_written (canonical l) (written p) (alone l) k.0 k.1 (canonical_written l h)
+reads_canonical l h (Err Syntax) k = k (alone l) (canonical_written l h)
+reads_canonical l h (Err Range) (w, writes, out) =
+    let same : alone l ≡ w = one_written (canonical l) (alone l) w (canonical_written l h) (h, refl) writes in
+    out (subst (λ (v : Written). InRange v.body) same (h, refl))

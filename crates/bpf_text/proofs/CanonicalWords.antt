@@ -1,0 +1,99 @@
+-- The words that instructions begin with are words of assembly text.
+use Rattle.std.proofs.Common.{◌≡◌, ℕ, List, [], ◌∷◌, ◌++◌, Bool, true, false, refl, inl}
+use Rattle.std.specs.Prelude.{codes, ◌&&◌}
+use Rattle.bpf_types.specs.declared.line.Operation.{Operation}
+use Rattle.bpf_types.specs.declared.line.Operation.TheVariants as op
+use Rattle.bpf_types.specs.declared.line.Test.{Test}
+use Rattle.bpf_types.specs.declared.line.Test.TheVariants as test
+use Rattle.bpf_types.specs.declared.line.Order.{Order}
+use Rattle.bpf_types.specs.declared.line.Order.TheVariants as order
+use Rattle.bpf_types.specs.declared.line.Size.{Size}
+use Rattle.bpf_types.specs.declared.line.Size.TheVariants as size
+use Rattle.bpf_types.specs.declared.line.Narrow.{Narrow}
+use Rattle.bpf_types.specs.declared.line.Narrow.TheVariants as narrow
+use Rattle.bpf_types.specs.declared.line.Width.{Width}
+use Rattle.bpf_types.specs.declared.line.Width.TheVariants.{W32, W64}
+use Rattle.bpf_listing.specs.declared.mnemonic.Mnemonic.{Mnemonic}
+use Rattle.bpf_listing.specs.declared.mnemonic.Mnemonic.TheVariants as word
+use Rattle.bpf_listing.specs.declared.mnemonic.Jump.{Jump}
+use Rattle.bpf_listing.specs.declared.mnemonic.Jump.TheVariants as leap
+use Rattle.bpf_listing.specs.declared.mnemonic.Access.{Access}
+use Rattle.bpf_listing.specs.declared.mnemonic.Access.TheVariants as access
+use Rattle.bpf_listing.specs.Canonical.{operation_name, test_name, order_name, size_name, narrow_name, width_name}
+use Rattle.bpf_listing.specs.Mnemonics.{mnemonic_name, jump_name, access_name}
+use Rattle.bpf_text.specs.Tokens.{is_word, AllWord}
+use Rattle.bpf_text.proofs.CanonicalNumbers.{IsRun, word_join}
+
+abbrev all_word : List ℕ → Bool
+all_word [] = true
+all_word (o ∷ os) = is_word o && all_word os
+
+both_of : (a b : Bool) → (a && b) ≡ true → (a ≡ true) × (b ≡ true)
+both_of true b h = (refl, h)
+both_of false b h = absurd cc
+
+word_by : (os : List ℕ) → all_word os ≡ true → AllWord os
+word_by [] h = tt
+word_by (o ∷ os) h = let p = both_of (is_word o) (all_word os) h in (p.0, word_by os p.1)
+
+abbrev is_plain : List ℕ → Bool
+is_plain [] = false
+is_plain (o ∷ os) = all_word (o ∷ os)
+
+plain_run : (w : List ℕ) → is_plain w ≡ true → IsRun w
+plain_run [] h = absurd cc
+plain_run (o ∷ os) h = inl (word_by (o ∷ os) h)
+
+run_join : (a b : List ℕ) → is_plain a ≡ true → all_word b ≡ true → IsRun (a ++ b)
+run_join [] b ha hb = absurd cc
+run_join (o ∷ os) b ha hb = inl (word_join (o ∷ os) b (word_by (o ∷ os) ha) (word_by b hb))
+
+operation_plain : (o : Operation) → is_plain (operation_name o) ≡ true
+operation_plain op.Add = refl
+operation_plain _ = refl
+
+test_plain : (t : Test) → is_plain (test_name t) ≡ true
+test_plain test.Equal = refl
+test_plain _ = refl
+
+order_plain : (o : Order) → is_plain (order_name o) ≡ true
+order_plain order.Little = refl
+order_plain _ = refl
+
+width_word : (w : Width) → all_word (width_name w) ≡ true
+width_word W32 = refl
+width_word W64 = refl
+
+size_word : (s : Size) → all_word (size_name s) ≡ true
+size_word size.Word = refl
+size_word _ = refl
+
+narrow_word : (s : Narrow) → all_word (narrow_name s) ≡ true
+narrow_word narrow.Word = refl
+narrow_word _ = refl
+
+jump_run : (j : Jump) → IsRun (jump_name j)
+jump_run (leap.If width test) = run_join (test_name test) (width_name width) (test_plain test) (width_word width)
+jump_run leap.Short = plain_run (codes "ja") refl
+jump_run leap.Long = plain_run (codes "ja32") refl
+jump_run leap.Call = plain_run (codes "call") refl
+jump_run leap.Exit = plain_run (codes "exit") refl
+
+access_run : (a : Access) → IsRun (access_name a)
+access_run (access.Load size) = run_join (codes "ldx") (size_name size) refl (size_word size)
+access_run (access.LoadExtended size) = run_join (codes "ldxs") (narrow_name size) refl (narrow_word size)
+access_run (access.Store size) = run_join (codes "stx") (size_name size) refl (size_word size)
+access_run (access.StoreImmediate size) = run_join (codes "st") (size_name size) refl (size_word size)
+
+-- each mnemonic is one word
+pub mnemonic_run : (m : Mnemonic) → IsRun (mnemonic_name m)
+mnemonic_run (word.Arithmetic width operation) = run_join (operation_name operation) (width_name width) (operation_plain operation) (width_word width)
+mnemonic_run (word.Negate width) = run_join (codes "neg") (width_name width) refl (width_word width)
+mnemonic_run (word.MoveExtended width) = run_join (codes "movsx") (width_name width) refl (width_word width)
+mnemonic_run (word.ByteOrder order) = plain_run (order_name order) (order_plain order)
+mnemonic_run word.LoadWide = plain_run (codes "lddw") refl
+mnemonic_run (word.Jump jump) = jump_run jump
+mnemonic_run (word.Access access) = access_run access
+
+pub local_run : IsRun (codes "local")
+local_run = plain_run (codes "local") refl

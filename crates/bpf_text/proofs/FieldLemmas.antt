@@ -1,0 +1,113 @@
+-- Fields of an instruction's text.
+use Rattle.std.proofs.Common.{◌≡◌, ◌<◌, ◌≤◌, ◌+◌, ◌-◌, ℕ, List, [], ◌∷◌, length, get_or, take, drop, Option, Some, None, Result, Ok, Err, FitsSigned, refl, sym, ap, ◌∙◌, subst, arith, inl, inr, ◌⊎◌, ℤ, pos, ◌-ℤ◌}
+use Rattle.bpf_text.proofs.Scanning.{whole_drop}
+use Rattle.bpf_text.specs.Number.{digit, IsNumeral}
+use Rattle.std.specs.Int.{w32}
+use Rattle.bpf_types.specs.declared.line.Operand.{Operand}
+use Rattle.bpf_types.specs.declared.line.Operand.TheVariants.{Immediate, Register}
+use Rattle.bpf_types.specs.Line.{IsOperand}
+use Rattle.bpf_text.specs.Fields.{IsRegister, IsInteger, IsImmediate, IsDistance, IsOffset, IsSecond, IsTarget, IsName, as_signed}
+use Rattle.bpf_text.specs.Gives.{Gives, Narrows}
+use Rattle.bpf_text.specs.declared.line.LineFault.{LineFault}
+use Rattle.bpf_text.specs.declared.line.LineFault.TheVariants.{Syntax, Range}
+
+pub register_text : (token : List ℕ) (n : ℕ) → IsRegister token n
+    → ((length token ≡ 2) × (get_or token 0 0 ≡ 114) × (get_or token 1 0 ≡ 48 + n) × (n < 10)) ⊎ ((length token ≡ 3) × (get_or token 0 0 ≡ 114) × (get_or token 1 0 ≡ 49) × (get_or token 2 0 ≡ 48) × (n ≡ 10))
+register_text token n (inl h) = inl (ap length h.1, ap (λ (t : List ℕ). get_or t 0 0) h.1, ap (λ (t : List ℕ). get_or t 1 0) h.1, h.0)
+register_text token n (inr h) = inr (ap length h.1, ap (λ (t : List ℕ). get_or t 0 0) h.1, ap (λ (t : List ℕ). get_or t 1 0) h.1, ap (λ (t : List ℕ). get_or t 2 0) h.1, h.0)
+
+pub two_octets : (t : List ℕ) (a : ℕ) → length t ≡ 2 → get_or t 0 0 ≡ a → t ≡ a ∷ get_or t 1 0 ∷ []
+two_octets [] a le e = absurd (omega arith)
+two_octets (x ∷ []) a le e = absurd (omega arith)
+two_octets (x ∷ y ∷ []) a le e = ap (λ (o : ℕ). o ∷ y ∷ []) e
+two_octets (x ∷ y ∷ z ∷ t) a le e = absurd (omega arith)
+
+pub front_octet : (t : List ℕ) (a : ℕ) → 1 ≤ length t → get_or t 0 0 ≡ a → t ≡ a ∷ drop 1 t
+front_octet [] a le e = absurd (omega arith)
+front_octet (x ∷ t) a le e = ap (λ (o : ℕ). o ∷ t) e
+
+pub gives_read : {V : Type 0} (Is Fits : V → Type 0) (r : Result V LineFault) (w : V) → Is w → Narrows Fits w r → Gives (λ (v : V). v) Is Fits r
+gives_read Is Fits (Ok v) w is h = (subst Is (sym h.0) is, h.1)
+gives_read Is Fits (Err Syntax) w is h = absurd h
+gives_read Is Fits (Err Range) w is h = (w, is, h)
+
+-- a letter begins no numeral, and neither does a sign
+pub letter_no_numeral : (o : ℕ) (digits : List ℕ) (n : ℕ) → 10 ≤ digit o → IsNumeral (o ∷ digits) n → ⊥
+letter_no_numeral o digits n le (inl h) = omega (arith, h.1 0 (omega arith))
+letter_no_numeral o digits n le (inr h) = let same : o ≡ 48 = cc in let d : digit o ≡ 0 = ap digit same in omega arith
+
+pub sign_no_numeral : (o : ℕ) (digits : List ℕ) (n : ℕ) → 36 ≤ digit o → IsNumeral (o ∷ digits) n → ⊥
+sign_no_numeral o digits n le (inl h) = omega (arith, h.1 0 (omega arith))
+sign_no_numeral o digits n le (inr h) = let same : o ≡ 48 = cc in let d : digit o ≡ 0 = ap digit same in omega arith
+
+pub minus_integer : (token digits : List ℕ) (z : ℤ) → token ≡ 45 ∷ digits → IsInteger token z → (n : ℕ) × IsNumeral digits n × (z ≡ pos 0 -ℤ pos n)
+minus_integer token digits z e (inl h) = absurd (sign_no_numeral 45 digits h.0 (omega arith) (subst (λ (t : List ℕ). IsNumeral t h.0) e h.1))
+minus_integer token digits z e (inr h) = let same : h.0 ≡ digits = cc in (h.1, subst (λ (t : List ℕ). IsNumeral t h.1) same h.3, h.4)
+
+pub plain_integer : (token : List ℕ) (z : ℤ) → (get_or token 0 0 ≡ 45 → ⊥) → IsInteger token z → (n : ℕ) × IsNumeral token n × (z ≡ pos n)
+plain_integer token z other (inl h) = h
+plain_integer token z other (inr h) = absurd (other (ap (λ (t : List ℕ). get_or t 0 0) h.2))
+
+pub no_minus : (token digits : List ℕ) → token ≡ 45 ∷ digits → ((n : ℕ) → IsNumeral digits n → ⊥) → (z : ℤ) → IsImmediate token z → ⊥
+no_minus token digits e none z h = let p = minus_integer token digits h.0 e h.1 in none p.0 p.1
+
+pub no_plain : (token : List ℕ) → (get_or token 0 0 ≡ 45 → ⊥) → ((n : ℕ) → IsNumeral token n → ⊥) → (z : ℤ) → IsImmediate token z → ⊥
+no_plain token other none z h = let p = plain_integer token h.0 other h.1 in none p.0 p.1
+
+pub front_rest : (t : List ℕ) (a : ℕ) → 1 ≤ length t → get_or t 0 0 ≡ a → t ≡ a ∷ take (length t - 1) (drop 1 t)
+front_rest t a le e = front_octet t a le e ∙ ap (λ (r : List ℕ). a ∷ r) (sym (whole_drop t 1))
+
+pub minus_read : (token digits : List ℕ) (n : ℕ) → token ≡ 45 ∷ digits → IsNumeral digits n → IsImmediate token (as_signed (pos 0 -ℤ pos n))
+minus_read token digits n e h = (pos 0 -ℤ pos n, inr (digits, n, e, h, refl), refl)
+
+pub plus_distance : (token digits : List ℕ) (n : ℕ) → token ≡ 43 ∷ digits → IsNumeral digits n → IsDistance token (pos n)
+plus_distance token digits n e h = (digits, n, h, inl (e, refl))
+
+pub minus_distance : (token digits : List ℕ) (n : ℕ) → token ≡ 45 ∷ digits → IsNumeral digits n → IsDistance token (pos 0 -ℤ pos n)
+minus_distance token digits n e h = (digits, n, h, inr (e, refl))
+
+pub no_distance : (token digits : List ℕ) (o : ℕ) → token ≡ o ∷ digits → ((n : ℕ) → IsNumeral digits n → ⊥) → (z : ℤ) → IsDistance token z → ⊥
+no_distance token digits o e none z h = none h.1 (subst (λ (t : List ℕ). IsNumeral t h.1) (same h.3) h.2)
+  where
+    same : ((token ≡ 43 ∷ h.0) × (z ≡ pos h.1)) ⊎ ((token ≡ 45 ∷ h.0) × (z ≡ pos 0 -ℤ pos h.1)) → h.0 ≡ digits
+    same (inl p) = let q = p.0 in cc
+    same (inr p) = let q = p.0 in cc
+
+pub no_immediate : (t : List ℕ) → length t < 1 → (z : ℤ) → IsImmediate t z → ⊥
+no_immediate [] lt z (y, inl h, e) = elim h.1 [ inl k ↦ k.0 refl | inr k ↦ let q = k.1 in absurd cc ]
+no_immediate [] lt z (y, inr h, e) = let q = h.2 in absurd cc
+no_immediate (x ∷ t) lt z h = absurd (omega arith)
+
+pub register_in_range : (token : List ℕ) (n : ℕ) → IsRegister token n → n ≤ 10
+register_in_range token n (inl h) = let lt = h.0 in omega arith
+register_in_range token n (inr h) = let e = h.0 in omega arith
+
+pub second_err : (token : List ℕ) (fault : LineFault) → ((n : ℕ) → IsRegister token n → ⊥) → {V : Type 0} → (f : V → ℤ) → Gives f (IsImmediate token) (FitsSigned w32) (Err fault) → {U : Type 0} → (g : U → Operand) → Gives g (IsSecond token) IsOperand (Err fault)
+second_err token Syntax none f h g = by
+  where
+    by : (o : Operand) → ¬ IsSecond token o
+    by (Immediate z) k = h z k
+    by (Register n) k = none n k
+second_err token Range none f h g = (Immediate h.0, h.1, h.2)
+
+pub target_err : (token : List ℕ) (Fits : ℤ → Type 0) (fault : LineFault) → ¬ IsName token → {V : Type 0} → (f : V → ℤ) → Gives f (IsDistance token) Fits (Err fault)
+    → {U : Type 0} → (g : U → ℤ × Option (List ℕ)) → Gives g (IsTarget token) (λ w. Fits w.0) (Err fault)
+target_err token Fits Syntax none f h g = by
+  where
+    by : (w : ℤ × Option (List ℕ)) → ¬ IsTarget token w
+    by (z, None) k = h z k
+    by (z, Some name) k = none k.0
+target_err token Fits Range none f h g = ((h.0, None), h.1, h.2)
+
+-- a bracket is no offset
+pub no_closing : (t : List ℕ) (z : ℤ) → t ≡ 93 ∷ [] → IsDistance t z → ⊥
+no_closing t z e h = by h.3
+  where
+    by : ((t ≡ 43 ∷ h.0) × (z ≡ pos h.1)) ⊎ ((t ≡ 45 ∷ h.0) × (z ≡ pos 0 -ℤ pos h.1)) → ⊥
+    by (inl k) = let p = k.0 in absurd (omega (arith, ap (λ (u : List ℕ). get_or u 0 0) (sym e ∙ p)))
+    by (inr k) = let p = k.0 in absurd (omega (arith, ap (λ (u : List ℕ). get_or u 0 0) (sym e ∙ p)))
+
+pub offset_read : (token : List ℕ) (Fits : ℤ → Type 0) (r : Result ℤ LineFault) → Gives (λ (z : ℤ). z) (IsDistance token) Fits r → Gives (λ (z : ℤ). z) (IsOffset (Some token)) Fits r
+offset_read token Fits (Ok z) h = h
+offset_read token Fits (Err Syntax) h = h
+offset_read token Fits (Err Range) h = h

@@ -1,0 +1,16 @@
+pub mod Numbers
+pub mod Scanning
+pub mod FieldLemmas
+pub mod TokenLists
+pub mod Runs
+pub mod FormLemmas
+pub mod JudgeLemmas
+pub mod ReadingLemmas
+pub mod UniqueFields
+pub mod UniqueForms
+pub mod UniqueLines
+pub mod CanonicalNumbers
+pub mod CanonicalTokens
+pub mod CanonicalWords
+pub mod CanonicalLines
+pub mod CanonicalReadings

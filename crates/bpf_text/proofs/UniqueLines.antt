@@ -1,0 +1,242 @@
+-- A line is read in one way.
+use Rattle.std.proofs.Common.{◌≡◌, ℕ, ℤ, List, [], ◌∷◌, Option, Some, None, refl, sym, ap, ◌∙◌, subst}
+use Rattle.std.specs.Prelude.{◌==◌, if◌then◌else◌}
+use Rattle.bpf_types.specs.Line.{swapped_bits}
+use Rattle.bpf_types.specs.declared.line.Line.{Line}
+use Rattle.bpf_types.specs.declared.line.Line.TheVariants as line
+use Rattle.bpf_types.specs.declared.line.Operand.{Operand}
+use Rattle.bpf_types.specs.declared.line.Operation.{Operation}
+use Rattle.bpf_types.specs.declared.line.Test.{Test}
+use Rattle.bpf_types.specs.declared.line.Size.{Size}
+use Rattle.bpf_types.specs.declared.line.Narrow.{Narrow}
+use Rattle.bpf_types.specs.declared.line.Order.{Order}
+use Rattle.bpf_types.specs.declared.line.Width.{Width}
+use Rattle.bpf_types.specs.declared.line.Width.TheVariants.{W32, W64}
+use Rattle.bpf_types.specs.declared.line.Extension.{Extension}
+use Rattle.bpf_types.specs.declared.line.Extension.TheVariants as extension
+use Rattle.bpf_types.specs.declared.line.Swapped.{Swapped}
+use Rattle.bpf_types.specs.declared.line.Swapped.TheVariants as swapped
+use Rattle.bpf_listing.specs.Canonical.{extension_width, extension_bits}
+use Rattle.bpf_listing.specs.Mnemonics.{mnemonic_name}
+use Rattle.bpf_listing.proofs.Unique.{one_mnemonic}
+use Rattle.bpf_text.specs.Number.{IsNumeral}
+use Rattle.bpf_text.specs.Fields.{IsRegister, IsImmediate, IsSecond, IsTarget}
+use Rattle.bpf_text.specs.Lines.{IsOperands, IsForm, IsExtended, IsSwapped, IsBody, HasLabel, Statement, Written, Writes, InRange, mnemonic_of, AreOne}
+use Rattle.bpf_text.proofs.Scanning.{one_tokens}
+use Rattle.bpf_text.proofs.JudgeLemmas.{no_local}
+use Rattle.bpf_text.proofs.ReadingLemmas.{no_colon}
+use Rattle.bpf_text.proofs.UniqueFields.{one_numeral, one_register, one_immediate, one_second, one_target}
+use Rattle.bpf_text.proofs.UniqueForms.{one_alone, one_pair, one_triple, one_load, one_store}
+
+abbrev extension_from : Width → ℕ → Extension
+extension_from W32 n = if n == 8 then extension.From8To32 else extension.From16To32
+extension_from W64 n = if n == 8 then extension.From8To64 else if n == 16 then extension.From16To64 else extension.From32To64
+
+extension_back : (e : Extension) → extension_from (extension_width e) (extension_bits e) ≡ e
+extension_back extension.From8To32 = refl
+extension_back _ = refl
+
+one_extension : (e f : Extension) → extension_width e ≡ extension_width f → extension_bits e ≡ extension_bits f → e ≡ f
+one_extension e f w b = let p = extension_back e in let q = extension_back f in cc
+
+abbrev swapped_from : ℕ → Swapped
+swapped_from n = if n == 16 then swapped.Bits16 else if n == 32 then swapped.Bits32 else swapped.Bits64
+
+swapped_back : (s : Swapped) → swapped_from (swapped_bits s) ≡ s
+swapped_back swapped.Bits16 = refl
+swapped_back _ = refl
+
+one_swapped : (s t : Swapped) → swapped_bits s ≡ swapped_bits t → s ≡ t
+one_swapped s t b = let p = swapped_back s in let q = swapped_back t in cc
+
+-- the same instruction, the same name, and no odd width
+abbrev Same : Line → Option (List ℕ) → Line → Option (List ℕ) → Option ℕ → Type 0
+Same l a k b odd = (l ≡ k) × (a ≡ b) × (odd ≡ None)
+
+-- each other line that begins with the mnemonic of this one, and has its operands, is this one
+abbrev IsOne : Line → Type 0
+IsOne l = (k : Line) (a b : Option (List ℕ)) (odd : Option ℕ) (tokens : List (List ℕ)) → mnemonic_of l ≡ mnemonic_of k → IsOperands l a None tokens → IsOperands k b odd tokens → Same l a k b odd
+
+one_arithmetic : (w : Width) (o : Operation) (dst : ℕ) (x : Operand) → IsOne (line.Arithmetic w o dst x)
+one_arithmetic w o dst x (line.Arithmetic w' o' dst' x') a b odd tokens m h k =
+    let same = one_pair IsRegister IsSecond one_register one_second tokens (dst, x) (dst', x') h.2 k.2 in
+    let p : dst ≡ dst' = λ i. (same i).0 in
+    let q : x ≡ x' = λ i. (same i).1 in
+    (cc, h.0 ∙ sym k.0, k.1)
+one_arithmetic w o dst x _ a b odd tokens m h k = absurd cc
+
+one_negate : (w : Width) (dst : ℕ) → IsOne (line.Negate w dst)
+one_negate w dst (line.Negate w' dst') a b odd tokens m h k =
+    let p = one_alone IsRegister one_register tokens dst dst' h.2 k.2 in
+    (cc, h.0 ∙ sym k.0, k.1)
+one_negate w dst _ a b odd tokens m h k = absurd cc
+
+one_load_wide : (dst n : ℕ) → IsOne (line.LoadWide dst n)
+one_load_wide dst n (line.LoadWide dst' n') a b odd tokens m h k =
+    let same = one_pair IsRegister IsNumeral one_register one_numeral tokens (dst, n) (dst', n') h.2 k.2 in
+    let p : dst ≡ dst' = λ i. (same i).0 in
+    let q : n ≡ n' = λ i. (same i).1 in
+    (cc, h.0 ∙ sym k.0, k.1)
+one_load_wide dst n _ a b odd tokens m h k = absurd cc
+
+one_jump : (z : ℤ) → IsOne (line.Jump z)
+one_jump z (line.Jump z') a b odd tokens m h k =
+    let same = one_alone IsTarget one_target tokens (z, a) (z', b) h.1 k.1 in
+    (λ i. line.Jump (same i).0, λ i. (same i).1, k.0)
+one_jump z _ a b odd tokens m h k = absurd cc
+
+one_long_jump : (z : ℤ) → IsOne (line.LongJump z)
+one_long_jump z (line.LongJump z') a b odd tokens m h k =
+    let same = one_alone IsTarget one_target tokens (z, a) (z', b) h.1 k.1 in
+    (λ i. line.LongJump (same i).0, λ i. (same i).1, k.0)
+one_long_jump z _ a b odd tokens m h k = absurd cc
+
+one_jump_if : (w : Width) (t : Test) (dst : ℕ) (x : Operand) (z : ℤ) → IsOne (line.JumpIf w t dst x z)
+one_jump_if w t dst x z (line.JumpIf w' t' dst' x' z') a b odd tokens m h k =
+    let same = one_triple IsRegister IsSecond IsTarget one_register one_second one_target tokens ((dst, x), (z, a)) ((dst', x'), (z', b)) h.1 k.1 in
+    let p : dst ≡ dst' = λ i. (same i).0.0 in
+    let q : x ≡ x' = λ i. (same i).0.1 in
+    let r : z ≡ z' = λ i. (same i).1.0 in
+    (cc, λ i. (same i).1.1, k.0)
+one_jump_if w t dst x z _ a b odd tokens m h k = absurd cc
+
+one_call : (z : ℤ) → IsOne (line.Call z)
+one_call z (line.Call z') a b odd tokens m h k =
+    let p = one_alone IsImmediate one_immediate tokens z z' h.2 k.2 in
+    (ap line.Call p, h.0 ∙ sym k.0, k.1)
+one_call z (line.CallLocal z') a b odd tokens m h k =
+    let e = h.2.1 in
+    let f = k.2 in
+    let same : h.2.0 ≡ 108 ∷ 111 ∷ 99 ∷ 97 ∷ 108 ∷ [] = cc in
+    absurd (no_local h.2.0 z same h.2.2)
+one_call z _ a b odd tokens m h k = absurd cc
+
+one_call_local : (z : ℤ) → IsOne (line.CallLocal z)
+one_call_local z (line.Call z') a b odd tokens m h k =
+    let e = k.2.1 in
+    let f = h.2 in
+    let same : k.2.0 ≡ 108 ∷ 111 ∷ 99 ∷ 97 ∷ 108 ∷ [] = cc in
+    absurd (no_local k.2.0 z' same k.2.2)
+one_call_local z (line.CallLocal z') a b odd tokens m h k =
+    let e = h.2 in
+    let f = k.2 in
+    let others : k.1 ≡ h.1 = cc in
+    let same = one_alone IsTarget one_target h.1 (z, a) (z', b) h.3 (subst (λ (t : List (List ℕ)). AreOne IsTarget t (z', b)) others k.3) in
+    (λ i. line.CallLocal (same i).0, λ i. (same i).1, k.0)
+one_call_local z _ a b odd tokens m h k = absurd cc
+
+one_exit : IsOne line.Exit
+one_exit line.Exit a b odd tokens m h k = (refl, h.0 ∙ sym k.0, k.1)
+one_exit _ a b odd tokens m h k = absurd cc
+
+one_load_plain : (s : Size) (dst base : ℕ) (z : ℤ) → IsOne (line.Load s dst base z)
+one_load_plain s dst base z (line.Load s' dst' base' z') a b odd tokens m h k =
+    let same = one_load tokens (dst, (base, z)) (dst', (base', z')) h.2 k.2 in
+    let p : dst ≡ dst' = λ i. (same i).0 in
+    let q : base ≡ base' = λ i. (same i).1.0 in
+    let r : z ≡ z' = λ i. (same i).1.1 in
+    (cc, h.0 ∙ sym k.0, k.1)
+one_load_plain s dst base z _ a b odd tokens m h k = absurd cc
+
+one_load_extended : (s : Narrow) (dst base : ℕ) (z : ℤ) → IsOne (line.LoadExtended s dst base z)
+one_load_extended s dst base z (line.LoadExtended s' dst' base' z') a b odd tokens m h k =
+    let same = one_load tokens (dst, (base, z)) (dst', (base', z')) h.2 k.2 in
+    let p : dst ≡ dst' = λ i. (same i).0 in
+    let q : base ≡ base' = λ i. (same i).1.0 in
+    let r : z ≡ z' = λ i. (same i).1.1 in
+    (cc, h.0 ∙ sym k.0, k.1)
+one_load_extended s dst base z _ a b odd tokens m h k = absurd cc
+
+one_store_plain : (s : Size) (base : ℕ) (z : ℤ) (src : ℕ) → IsOne (line.Store s base z src)
+one_store_plain s base z src (line.Store s' base' z' src') a b odd tokens m h k =
+    let same = one_store IsRegister one_register tokens ((base, z), src) ((base', z'), src') h.2 k.2 in
+    let p : base ≡ base' = λ i. (same i).0.0 in
+    let q : z ≡ z' = λ i. (same i).0.1 in
+    let r : src ≡ src' = λ i. (same i).1 in
+    (cc, h.0 ∙ sym k.0, k.1)
+one_store_plain s base z src _ a b odd tokens m h k = absurd cc
+
+one_store_immediate : (s : Size) (base : ℕ) (z y : ℤ) → IsOne (line.StoreImmediate s base z y)
+one_store_immediate s base z y (line.StoreImmediate s' base' z' y') a b odd tokens m h k =
+    let same = one_store IsImmediate one_immediate tokens ((base, z), y) ((base', z'), y') h.2 k.2 in
+    let p : base ≡ base' = λ i. (same i).0.0 in
+    let q : z ≡ z' = λ i. (same i).0.1 in
+    let r : y ≡ y' = λ i. (same i).1 in
+    (cc, h.0 ∙ sym k.0, k.1)
+one_store_immediate s base z y _ a b odd tokens m h k = absurd cc
+
+-- a number that is the width of an extension is the odd width of none
+one_width : (e f : Extension) (odd : Option ℕ) (m n : ℕ) → extension_width e ≡ extension_width f → m ≡ n → IsExtended e None m → IsExtended f odd n → (e ≡ f) × (odd ≡ None)
+one_width e f None m n w same h k = (one_extension e f w (sym h ∙ same ∙ k), refl)
+one_width e f (Some odd) m n w same h k = absurd (k.1 e w (sym h ∙ same))
+
+one_swap : (s t : Swapped) (odd : Option ℕ) (m n : ℕ) → m ≡ n → IsSwapped s None m → IsSwapped t odd n → (s ≡ t) × (odd ≡ None)
+one_swap s t None m n same h k = (one_swapped s t (sym h ∙ same ∙ k), refl)
+one_swap s t (Some odd) m n same h k = absurd (k.1 s (sym h ∙ same))
+
+one_move_extended : (e : Extension) (dst src : ℕ) → IsOne (line.MoveExtended e dst src)
+one_move_extended e dst src (line.MoveExtended e' dst' src') a b odd tokens m h k =
+    let same = one_triple IsRegister IsRegister IsNumeral one_register one_register one_numeral tokens ((dst, src), h.1) ((dst', src'), k.1) h.3 k.3 in
+    let p : dst ≡ dst' = λ i. (same i).0.0 in
+    let q : src ≡ src' = λ i. (same i).0.1 in
+    let w : extension_width e ≡ extension_width e' = cc in
+    let r = one_width e e' odd h.1 k.1 w (λ i. (same i).1) h.2 k.2 in
+    let f = r.0 in
+    (cc, h.0 ∙ sym k.0, r.1)
+one_move_extended e dst src _ a b odd tokens m h k = absurd cc
+
+one_byte_order : (o : Order) (s : Swapped) (dst : ℕ) → IsOne (line.ByteOrder o s dst)
+one_byte_order o s dst (line.ByteOrder o' s' dst') a b odd tokens m h k =
+    let same = one_pair IsRegister IsNumeral one_register one_numeral tokens (dst, h.1) (dst', k.1) h.3 k.3 in
+    let p : dst ≡ dst' = λ i. (same i).0 in
+    let r = one_swap s s' odd h.1 k.1 (λ i. (same i).1) h.2 k.2 in
+    let f = r.0 in
+    (cc, h.0 ∙ sym k.0, r.1)
+one_byte_order o s dst _ a b odd tokens m h k = absurd cc
+
+one_operands : (l : Line) → IsOne l
+one_operands (line.Arithmetic w o dst x) = one_arithmetic w o dst x
+one_operands (line.Negate w dst) = one_negate w dst
+one_operands (line.MoveExtended e dst src) = one_move_extended e dst src
+one_operands (line.ByteOrder o s dst) = one_byte_order o s dst
+one_operands (line.Jump z) = one_jump z
+one_operands (line.LongJump z) = one_long_jump z
+one_operands (line.JumpIf w t dst x z) = one_jump_if w t dst x z
+one_operands (line.Call z) = one_call z
+one_operands (line.CallLocal z) = one_call_local z
+one_operands line.Exit = one_exit
+one_operands (line.LoadWide dst n) = one_load_wide dst n
+one_operands (line.Load s dst base z) = one_load_plain s dst base z
+one_operands (line.LoadExtended s dst base z) = one_load_extended s dst base z
+one_operands (line.StoreImmediate s base z y) = one_store_immediate s base z y
+one_operands (line.Store s base z src) = one_store_plain s base z src
+
+pub one_form : (l k : Line) (a b : Option (List ℕ)) (odd : Option ℕ) (tokens : List (List ℕ)) → IsForm l a None tokens → IsForm k b odd tokens → Same l a k b odd
+one_form l k a b odd tokens (x, e, h) (y, f, j) =
+    let words : mnemonic_name (mnemonic_of l) ≡ mnemonic_name (mnemonic_of k) = cc in
+    let others : y ≡ x = cc in
+    one_operands l k a b odd x (one_mnemonic (mnemonic_of l) (mnemonic_of k) words) h (subst (IsOperands k b odd) others j)
+
+pub one_body : (s u : Option Statement) (tokens : List (List ℕ)) → IsBody s tokens → InRange s → IsBody u tokens → s ≡ u
+one_body None None tokens h r k = refl
+one_body None (Some u) tokens h r (x, e, k) = absurd cc
+one_body (Some s) None tokens (x, e, h) r k = absurd cc
+one_body (Some s) (Some u) tokens h r k =
+    let same = one_form s.line u.line s.name u.name u.odd tokens (subst (λ (o : Option ℕ). IsForm s.line s.name o tokens) r.1 h) k in
+    let odd = r.1 ∙ sym same.2 in
+    ap Some (λ i. record { line = same.0 i; name = same.1 i; odd = odd i })
+
+pub one_label : (a b : Option (List ℕ)) (s u : Option Statement) (tokens : List (List ℕ)) → HasLabel a s tokens → InRange s → HasLabel b u tokens → (a ≡ b) × (s ≡ u)
+one_label None None s u tokens h r k = (refl, one_body s u tokens h r k)
+one_label None (Some b) s u tokens h r (x, e, n, k) = absurd (no_colon s b x tokens e h)
+one_label (Some a) None s u tokens (x, e, n, h) r k = absurd (no_colon u a x tokens e k)
+one_label (Some a) (Some b) s u tokens (x, e, n, h) r (y, f, m, k) =
+    let names : a ≡ b = cc in
+    let others : y ≡ x = cc in
+    (ap Some names, one_body s u x h r (subst (IsBody u) others k))
+
+-- a line whose numbers are in range is written in one way
+pub one_written : (text : List ℕ) (w v : Written) → Writes text w → InRange w.body → Writes text v → w ≡ v
+one_written text w v h r k =
+    let both = one_label w.label v.label w.body v.body h.0 h.2 r (subst (HasLabel v.label v.body) (one_tokens text k.0 h.0 k.1 h.1) k.2) in
+    λ i. record { label = both.0 i; body = both.1 i }

@@ -1,0 +1,10 @@
+use Rattle.std.proofs.Common.{ℤ, List, Option, ℕ, FitsSigned}
+use Rattle.std.specs.Int.{w16}
+use Rattle.bpf_text.specs.Fields.{IsTarget}
+use Rattle.bpf_text.specs.Judged.{target_of}
+use Rattle.bpf_text.specs.Judged.{texts}
+use Rattle.bpf_text.proofs.FormLemmas.{one_gives}
+use Rattle.bpf_text.proofs.forms.one_short_target.Goals as goal
+
+pub returns-in-Some : goal.returns-in-Some
+returns-in-Some c = one_gives target_of IsTarget (λ (w : ℤ × Option (List ℕ)). FitsSigned w16 w.0) (texts c.args.operands.now) c.in-Some.a.now c.short_target.result c.in-Some.ensures.some c.short_target.ensures

@@ -1,0 +1,5 @@
+use Rattle.bpf_text.proofs.UniqueLines.{one_written}
+use Rattle.bpf_text.proofs.laws.readings_are_unique.Goals as goal
+
+pub returns : goal.returns
+returns c = one_written

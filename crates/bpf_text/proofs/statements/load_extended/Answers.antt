@@ -1,0 +1,7 @@
+use Rattle.std.proofs.Common.{ℕ, ℤ}
+use Rattle.bpf_text.specs.Judged.{texts}
+use Rattle.bpf_text.proofs.JudgeLemmas.{load_extended_err}
+use Rattle.bpf_text.proofs.statements.load_extended.Goals as goal
+
+pub returns-in-Err : goal.returns-in-Err
+returns-in-Err c = load_extended_err c.args.size (texts c.args.operands.now) c.in-Err.fault (λ (p : ℕ × (ℕ × ℤ)). p) c.in-Err.ensures

@@ -1,0 +1,72 @@
+//! A line by itself.
+
+ghost use Rattle.std.specs.Prelude.{◌≡◌, ◌≢◌, ◌∷◌, List, ℕ, IfSome, IfNone, codes};
+ghost use Rattle.bpf_text.specs.Judged.{texts, JudgesBody, JudgesTokens, JudgesLine};
+
+use crate::fields::is_name;
+use crate::line::{LineFault, Parsed, Source};
+use crate::statements::statement;
+use crate::tokens::tokens;
+
+/// The instruction of these tokens, if there are any.
+fn body_of<'a>(tokens: &[&'a [u8]]) -> Result<Option<Source<'a>>, LineFault>
+    ensures { JudgesBody (texts tokens.now) result }
+{
+    if tokens.is_empty() {
+        return Ok(None);
+    }
+    match statement(tokens) {
+        Ok(source) => Ok(Some(source)),
+        Err(fault) => Err(fault),
+    }
+}
+
+/// The octets before a colon, and the tokens after it.
+fn label_of<'b, 'a>(tokens: &'b [&'a [u8]]) -> Option<(&'a [u8], &'b [&'a [u8]])>
+    ensures some { IfSome result (λ p. texts tokens.now ≡ p.0.now ∷ codes ":" ∷ texts p.1.now) }
+    ensures none { IfNone result ((name : List ℕ) (others : List (List ℕ)) → texts tokens.now ≢ name ∷ codes ":" ∷ others) }
+{
+    match tokens {
+        [name, b":", rest @ ..] => Some((*name, rest)),
+        _ => None,
+    }
+}
+
+/// The label and the instruction of these tokens.
+fn parts_of<'a>(tokens: &[&'a [u8]]) -> Result<Parsed<'a>, LineFault>
+    ensures { JudgesTokens (texts tokens.now) result }
+{
+    match label_of(tokens) {
+        Some((name, rest)) => {
+            if !is_name(name) {
+                return Err(LineFault::Syntax);
+            }
+            match body_of(rest) {
+                Ok(body) => Ok(Parsed {
+                    label: Some(name),
+                    body,
+                }),
+                Err(fault) => Err(fault),
+            }
+        }
+        None => match body_of(tokens) {
+            Ok(body) => Ok(Parsed { label: None, body }),
+            Err(fault) => Err(fault),
+        },
+    }
+}
+
+/// The label and the instruction of a line, which has no newline: tokens with spaces and tabs between them, and a comment
+/// from `;` on. The numbers are as the line says; where a label's name stands in place of a distance, the instruction has
+/// distance 0 and the name stands beside it.
+///
+/// Refused with Syntax where the line has not the form of one, and then with Range where a number, or the number of a width,
+/// is out of its range. The time is linear in the line.
+pub fn read_line<'a>(text: &'a [u8]) -> Result<Parsed<'a>, LineFault>
+    ensures { JudgesLine text.now result }
+{
+    match tokens(text) {
+        Some(found) => parts_of(found.as_slice()),
+        None => Err(LineFault::Syntax),
+    }
+}

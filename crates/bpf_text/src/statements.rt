@@ -1,0 +1,345 @@
+//! Instructions, from their tokens.
+
+ghost use Rattle.std.specs.Prelude.{◌≡◌, ◌≢◌, ◌∷◌, List, ℕ, IfSome, IfNone, codes};
+ghost use Rattle.bpf_types.specs.Line.{swapped_bits};
+ghost use Rattle.bpf_types.specs.declared.line.Extension.{Extension};
+ghost use Rattle.bpf_types.specs.declared.line.Swapped.{Swapped};
+ghost use Rattle.bpf_listing.specs.Canonical.{extension_width, extension_bits};
+ghost use Rattle.bpf_listing.specs.declared.mnemonic.Mnemonic.TheVariants as word;
+ghost use Rattle.bpf_listing.specs.declared.mnemonic.Jump.TheVariants as leap;
+ghost use Rattle.bpf_listing.specs.declared.mnemonic.Access.TheVariants as access;
+ghost use Rattle.bpf_text.specs.Judged.{texts, Judges, JudgesForm};
+
+use crate::forms::{
+    jump_operands, load_operands, one_immediate, one_long_target, one_register, one_short_target,
+    register_and_number, register_and_second, registers_and_number, store_immediate_operands,
+    store_operands,
+};
+use crate::line::{LineFault, Source};
+use bpf_listing::{Access, Jump, Mnemonic, mnemonic_of};
+use bpf_types::{Extension, Line, Narrow, Operation, Order, Size, Swapped, Test, Width};
+
+/// The operands of arithmetic.
+fn arithmetic<'a>(
+    width: Width,
+    operation: Operation,
+    operands: &[&'a [u8]],
+) -> Result<Source<'a>, LineFault>
+    ensures { Judges (word.Arithmetic width operation) (texts operands.now) result }
+{
+    match register_and_second(operands) {
+        Ok((dst, operand)) => Ok(Source {
+            line: Line::Arithmetic {
+                width,
+                operation,
+                dst,
+                operand,
+            },
+            name: None,
+        }),
+        Err(fault) => Err(fault),
+    }
+}
+
+/// The operand of a negation.
+fn negate<'a>(width: Width, operands: &[&'a [u8]]) -> Result<Source<'a>, LineFault>
+    ensures { Judges (word.Negate width) (texts operands.now) result }
+{
+    match one_register(operands) {
+        Ok(dst) => Ok(Source {
+            line: Line::Negate { width, dst },
+            name: None,
+        }),
+        Err(fault) => Err(fault),
+    }
+}
+
+/// The extension from so many bits to the class.
+fn extension_of(width: Width, bits: u64) -> Option<Extension>
+    ensures some { IfSome result (λ e. (extension_width e ≡ width) × (extension_bits e ≡ bits)) }
+    ensures none { IfNone result ((e : Extension) → extension_width e ≡ width → extension_bits e ≢ bits) }
+{
+    match (width, bits) {
+        (Width::W32, 8) => Some(Extension::From8To32),
+        (Width::W32, 16) => Some(Extension::From16To32),
+        (Width::W64, 8) => Some(Extension::From8To64),
+        (Width::W64, 16) => Some(Extension::From16To64),
+        (Width::W64, 32) => Some(Extension::From32To64),
+        _ => None,
+    }
+}
+
+/// The operands of a move that extends the sign.
+fn move_extended<'a>(width: Width, operands: &[&'a [u8]]) -> Result<Source<'a>, LineFault>
+    ensures { Judges (word.MoveExtended width) (texts operands.now) result }
+{
+    match registers_and_number(operands) {
+        Ok(found) => match extension_of(width, found.1) {
+            Some(extension) => Ok(Source {
+                line: Line::MoveExtended {
+                    extension,
+                    dst: found.0.0,
+                    src: found.0.1,
+                },
+                name: None,
+            }),
+            None => Err(LineFault::Range),
+        },
+        Err(fault) => Err(fault),
+    }
+}
+
+/// How many bits a byte order instruction keeps.
+fn swapped_of(bits: u64) -> Option<Swapped>
+    ensures some { IfSome result (λ s. swapped_bits s ≡ bits) }
+    ensures none { IfNone result ((s : Swapped) → swapped_bits s ≢ bits) }
+{
+    match bits {
+        16 => Some(Swapped::Bits16),
+        32 => Some(Swapped::Bits32),
+        64 => Some(Swapped::Bits64),
+        _ => None,
+    }
+}
+
+/// The operands of a byte order instruction.
+fn byte_order<'a>(order: Order, operands: &[&'a [u8]]) -> Result<Source<'a>, LineFault>
+    ensures { Judges (word.ByteOrder order) (texts operands.now) result }
+{
+    match register_and_number(operands) {
+        Ok(found) => match swapped_of(found.1) {
+            Some(swapped) => Ok(Source {
+                line: Line::ByteOrder {
+                    order,
+                    swapped,
+                    dst: found.0,
+                },
+                name: None,
+            }),
+            None => Err(LineFault::Range),
+        },
+        Err(fault) => Err(fault),
+    }
+}
+
+/// The operands of a wide load.
+fn load_wide<'a>(operands: &[&'a [u8]]) -> Result<Source<'a>, LineFault>
+    ensures { Judges word.LoadWide (texts operands.now) result }
+{
+    match register_and_number(operands) {
+        Ok((dst, value)) => Ok(Source {
+            line: Line::LoadWide { dst, value },
+            name: None,
+        }),
+        Err(fault) => Err(fault),
+    }
+}
+
+/// The operand of a jump by the offset field.
+fn short_jump<'a>(operands: &[&'a [u8]]) -> Result<Source<'a>, LineFault>
+    ensures { Judges (word.Jump leap.Short) (texts operands.now) result }
+{
+    match one_short_target(operands) {
+        Ok((distance, name)) => Ok(Source {
+            line: Line::Jump { distance },
+            name,
+        }),
+        Err(fault) => Err(fault),
+    }
+}
+
+/// The operand of a jump by the imm field.
+fn long_jump<'a>(operands: &[&'a [u8]]) -> Result<Source<'a>, LineFault>
+    ensures { Judges (word.Jump leap.Long) (texts operands.now) result }
+{
+    match one_long_target(operands) {
+        Ok((distance, name)) => Ok(Source {
+            line: Line::LongJump { distance },
+            name,
+        }),
+        Err(fault) => Err(fault),
+    }
+}
+
+/// The operands of a jump that tests.
+fn jump_if<'a>(width: Width, test: Test, operands: &[&'a [u8]]) -> Result<Source<'a>, LineFault>
+    ensures { Judges (word.Jump (leap.If width test)) (texts operands.now) result }
+{
+    match jump_operands(operands) {
+        Ok(found) => Ok(Source {
+            line: Line::JumpIf {
+                width,
+                test,
+                dst: found.0.0,
+                operand: found.0.1,
+                distance: found.1.0,
+            },
+            name: found.1.1,
+        }),
+        Err(fault) => Err(fault),
+    }
+}
+
+/// The tokens behind the word `local`.
+fn local<'b, 'a>(operands: &'b [&'a [u8]]) -> Option<&'b [&'a [u8]]>
+    ensures some { IfSome result (λ p. texts operands.now ≡ codes "local" ∷ texts p.now) }
+    ensures none { IfNone result ((others : List (List ℕ)) → texts operands.now ≢ codes "local" ∷ others) }
+{
+    match operands {
+        [b"local", rest @ ..] => Some(rest),
+        _ => None,
+    }
+}
+
+/// The operand of a call of the engine, or of a local call.
+fn call<'a>(operands: &[&'a [u8]]) -> Result<Source<'a>, LineFault>
+    ensures { Judges (word.Jump leap.Call) (texts operands.now) result }
+{
+    match local(operands) {
+        Some(others) => match one_long_target(others) {
+            Ok((distance, name)) => Ok(Source {
+                line: Line::CallLocal { distance },
+                name,
+            }),
+            Err(fault) => Err(fault),
+        },
+        None => match one_immediate(operands) {
+            Ok(number) => Ok(Source {
+                line: Line::Call { number },
+                name: None,
+            }),
+            Err(fault) => Err(fault),
+        },
+    }
+}
+
+/// An exit has no operands.
+fn exit<'a>(operands: &[&'a [u8]]) -> Result<Source<'a>, LineFault>
+    ensures { Judges (word.Jump leap.Exit) (texts operands.now) result }
+{
+    match operands {
+        [] => Ok(Source {
+            line: Line::Exit,
+            name: None,
+        }),
+        _ => Err(LineFault::Syntax),
+    }
+}
+
+/// The operands of a load.
+fn load<'a>(size: Size, operands: &[&'a [u8]]) -> Result<Source<'a>, LineFault>
+    ensures { Judges (word.Access (access.Load size)) (texts operands.now) result }
+{
+    match load_operands(operands) {
+        Ok((dst, (base, offset))) => Ok(Source {
+            line: Line::Load {
+                size,
+                dst,
+                base,
+                offset,
+            },
+            name: None,
+        }),
+        Err(fault) => Err(fault),
+    }
+}
+
+/// The operands of a load that extends the sign.
+fn load_extended<'a>(size: Narrow, operands: &[&'a [u8]]) -> Result<Source<'a>, LineFault>
+    ensures { Judges (word.Access (access.LoadExtended size)) (texts operands.now) result }
+{
+    match load_operands(operands) {
+        Ok((dst, (base, offset))) => Ok(Source {
+            line: Line::LoadExtended {
+                size,
+                dst,
+                base,
+                offset,
+            },
+            name: None,
+        }),
+        Err(fault) => Err(fault),
+    }
+}
+
+/// The operands of a store of a register.
+fn store<'a>(size: Size, operands: &[&'a [u8]]) -> Result<Source<'a>, LineFault>
+    ensures { Judges (word.Access (access.Store size)) (texts operands.now) result }
+{
+    match store_operands(operands) {
+        Ok(((base, offset), src)) => Ok(Source {
+            line: Line::Store {
+                size,
+                base,
+                offset,
+                src,
+            },
+            name: None,
+        }),
+        Err(fault) => Err(fault),
+    }
+}
+
+/// The operands of a store of a constant.
+fn store_immediate<'a>(size: Size, operands: &[&'a [u8]]) -> Result<Source<'a>, LineFault>
+    ensures { Judges (word.Access (access.StoreImmediate size)) (texts operands.now) result }
+{
+    match store_immediate_operands(operands) {
+        Ok(((base, offset), value)) => Ok(Source {
+            line: Line::StoreImmediate {
+                size,
+                base,
+                offset,
+                value,
+            },
+            name: None,
+        }),
+        Err(fault) => Err(fault),
+    }
+}
+
+/// The instruction of a mnemonic and its operands.
+fn operands_read<'a>(mnemonic: Mnemonic, operands: &[&'a [u8]]) -> Result<Source<'a>, LineFault>
+    ensures { Judges mnemonic (texts operands.now) result }
+{
+    match mnemonic {
+        Mnemonic::Arithmetic(width, operation) => arithmetic(width, operation, operands),
+        Mnemonic::Negate(width) => negate(width, operands),
+        Mnemonic::MoveExtended(width) => move_extended(width, operands),
+        Mnemonic::ByteOrder(order) => byte_order(order, operands),
+        Mnemonic::LoadWide => load_wide(operands),
+        Mnemonic::Jump(Jump::If(width, test)) => jump_if(width, test, operands),
+        Mnemonic::Jump(Jump::Short) => short_jump(operands),
+        Mnemonic::Jump(Jump::Long) => long_jump(operands),
+        Mnemonic::Jump(Jump::Call) => call(operands),
+        Mnemonic::Jump(Jump::Exit) => exit(operands),
+        Mnemonic::Access(Access::Load(size)) => load(size, operands),
+        Mnemonic::Access(Access::LoadExtended(size)) => load_extended(size, operands),
+        Mnemonic::Access(Access::Store(size)) => store(size, operands),
+        Mnemonic::Access(Access::StoreImmediate(size)) => store_immediate(size, operands),
+    }
+}
+
+/// The word that an instruction begins with, and its operands.
+fn parts<'b, 'a>(tokens: &'b [&'a [u8]]) -> Option<(&'a [u8], &'b [&'a [u8]])>
+    ensures some { IfSome result (λ p. texts tokens.now ≡ p.0.now ∷ texts p.1.now) }
+    ensures none { IfNone result ((a : List ℕ) (rest : List (List ℕ)) → texts tokens.now ≢ a ∷ rest) }
+{
+    match tokens {
+        [word, operands @ ..] => Some((*word, operands)),
+        [] => None,
+    }
+}
+
+/// The instruction of these tokens.
+pub fn statement<'a>(tokens: &[&'a [u8]]) -> Result<Source<'a>, LineFault>
+    ensures { JudgesForm (texts tokens.now) result }
+{
+    let Some((word, operands)) = parts(tokens) else {
+        return Err(LineFault::Syntax);
+    };
+    match mnemonic_of(word) {
+        Some(mnemonic) => operands_read(mnemonic, operands),
+        None => Err(LineFault::Syntax),
+    }
+}

@@ -1,0 +1,32 @@
+//! All tokens of a line.
+
+ghost use Rattle.std.specs.Prelude.{◌<◌, List, length, map, ℕ, IfSome, IfNone};
+ghost use Rattle.bpf_text.specs.Tokens.{HasTokens};
+
+use crate::token::{Scan, next_token};
+use arrayvec::ArrayVec;
+
+/// No line of the grammar has more tokens.
+pub const MOST: usize = 9;
+
+/// The tokens of a line, unless it has none or too many.
+pub fn tokens(line: &[u8]) -> Option<ArrayVec<&[u8], MOST>>
+    ensures some { IfSome result (λ found. HasTokens line.now (map (λ token. token.now) found.items)) }
+    ensures none { IfNone result ((ts : List (List ℕ)) → HasTokens line.now ts → 9 < length ts) }
+{
+    let mut found: ArrayVec<&[u8], MOST> = ArrayVec::new();
+    let mut rest = line;
+    loop {
+        match next_token(rest) {
+            Scan::End => return Some(found),
+            Scan::Bad => return None,
+            Scan::Found(token, after) => {
+                if found.is_full() {
+                    return None;
+                }
+                found.push(token);
+                rest = after;
+            }
+        }
+    }
+}
