@@ -7,6 +7,7 @@ mod console;
 mod device;
 mod fault;
 mod input;
+pub mod laws;
 mod listing;
 mod output;
 mod ports;

@@ -1,4 +1,4 @@
-use Rattle.std.proofs.Common.{◌∙◌, sym, ap, length, arith}
+use Rattle.std.proofs.Common.{ap, length, arith}
 use Rattle.ocp_console.proofs.Requests.{few_octets}
 use Rattle.ocp_console.proofs.console.Console.send.Goals as goal
 
