@@ -10,12 +10,11 @@ use Rattle.ocp_loader.specs.Image.{slots_in}
 use Rattle.bpf_listing.specs.Canonical.{canonical}
 use Rattle.bpf_listing.specs.Listing.{listing, IsImageOf}
 use Rattle.bpf_listing.specs.Octets.{is_text_octet}
-use Rattle.bpf_text.specs.Lines.{Written}
+use Rattle.bpf_text.specs.Lines.{Written, Writes}
 use Rattle.bpf_text.specs.Listings.{alone}
 use Rattle.bpf_assembler.specs.Text.{Ended, onto, pieces_of, line_of_piece, lines_of, EachWritten, AreDistinct, entries_of, AreInstructions, Means}
 use Rattle.ocp_loader.specs.Admitted.{IsAdmitted, IsAdmittedAs}
-use Rattle.bpf_text.proofs.CanonicalLines.{canonical_written}
-use Rattle.bpf_assembler.proofs.UniqueTexts.{one_meaning}
+use Rattle.bpf_assembler.proofs.Only.{AreMeantOnce}
 
 -- the elements of a list have the property
 first_of : (l : Line) (ls : List Line) → All IsLine (l ∷ ls) → IsLine l
@@ -27,6 +26,10 @@ rest_of l ls h = λ k d lt. h (suc k) d (omega arith)
 -- what the law of bpf_listing says of canonical texts
 abbrev pub AreTexts : Type 0
 AreTexts = (l : Line) → IsLine l → IsTrue (list_all is_text_octet (canonical l))
+
+-- and what that of bpf_text says of them
+abbrev pub AreWritten : Type 0
+AreWritten = (l : Line) → IsLine l → Writes (canonical l) (alone l)
 
 both_of : (a b : Bool) → (a && b) ≡ true → (a ≡ true) × (b ≡ true)
 both_of true b h = (refl, h)
@@ -64,9 +67,9 @@ lines_of_listing texts (l ∷ ls) h =
     ∙ first_line (canonical l) (listing ls) (texts l (first_of l ls h))
     ∙ ap (λ (t : List (List ℕ)). canonical l ∷ t) (lines_of_listing texts ls (rest_of l ls h))
 
-each_alone : (ls : List Line) → All IsLine ls → EachWritten (map canonical ls) (map alone ls)
-each_alone [] h = tt
-each_alone (l ∷ ls) h = (canonical_written l (first_of l ls h), (first_of l ls h, refl), each_alone ls (rest_of l ls h))
+each_alone : AreWritten → (ls : List Line) → All IsLine ls → EachWritten (map canonical ls) (map alone ls)
+each_alone writes [] h = tt
+each_alone writes (l ∷ ls) h = (writes l (first_of l ls h), (first_of l ls h, refl), each_alone writes ls (rest_of l ls h))
 
 none_twice : (before : List Written) (ls : List Line) → AreDistinct before (map alone ls)
 none_twice before [] = tt
@@ -76,11 +79,11 @@ each_itself : (all : List Written) (number place : ℕ) (ls : List Line) → Are
 each_itself all number place [] = tt
 each_itself all number place (l ∷ ls) = (refl, each_itself all (number + 1) (place + slots_in (is_wide l)) ls)
 
-pub listing_means : AreTexts → (ls : List Line) → All IsLine ls → Means (listing ls) ls
-listing_means texts ls h = record {
+pub listing_means : AreTexts → AreWritten → (ls : List Line) → All IsLine ls → Means (listing ls) ls
+listing_means texts writes ls h = record {
   lines = map alone ls;
   written = record {
-    each = subst (λ (t : List (List ℕ)). EachWritten t (map alone ls)) (sym (lines_of_listing texts ls h)) (each_alone ls h);
+    each = subst (λ (t : List (List ℕ)). EachWritten t (map alone ls)) (sym (lines_of_listing texts ls h)) (each_alone writes ls h);
     distinct = none_twice [] ls;
   };
   instructions = each_itself (map alone ls) 1 0 ls;
@@ -91,11 +94,11 @@ pub admitted_as : ((image : List ℕ) (a b : List Line) → IsImageOf image a �
 admitted_as one image lines h k = subst (IsAdmittedAs image) (one image h.lines lines h.admitted.whole k) h.admitted
 
 -- the listing of an image that may be run means its instructions and no others
-pub listing_means_image : AreTexts → (image : List ℕ) (lines : List Line) → IsAdmittedAs image lines → Means (listing lines) lines
-listing_means_image texts image lines h = listing_means texts lines h.whole.ranges
+pub listing_means_image : AreTexts → AreWritten → (image : List ℕ) (lines : List Line) → IsAdmittedAs image lines → Means (listing lines) lines
+listing_means_image texts writes image lines h = listing_means texts writes lines h.whole.ranges
 
-pub listing_means_no_other : AreTexts → (image : List ℕ) (lines ls : List Line) → IsAdmittedAs image lines → Means (listing lines) ls → ls ≡ lines
-listing_means_no_other texts image lines ls h k = one_meaning (listing lines) ls lines k (listing_means_image texts image lines h)
+pub listing_means_no_other : AreTexts → AreWritten → AreMeantOnce → (image : List ℕ) (lines ls : List Line) → IsAdmittedAs image lines → Means (listing lines) ls → ls ≡ lines
+listing_means_no_other texts writes meaning image lines ls h k = meaning (listing lines) ls lines k (listing_means_image texts writes image lines h)
 
 -- what is refused where an image would do is memory
 pub memory_alone : {V E : Type 0} (m fault : E) (image : V) (result : Result V E) → result ≡ Err fault → (result ≡ Err m) ⊎ (result ≡ Ok image) → fault ≡ m

@@ -1,9 +1,17 @@
 -- A text's first line.
-use Rattle.std.proofs.Common.{◌≡◌, ◌≢◌, ◌<◌, ◌⊎◌, inl, inr, ℕ, zero, suc, List, [], ◌∷◌, ◌++◌, length, take, drop, get_or, map, true, false, eqb, refl, ap, arith}
+use Rattle.std.proofs.Common.{◌≡◌, ◌≢◌, ◌<◌, ◌-◌, ◌⊎◌, inl, inr, ℕ, zero, suc, List, [], ◌∷◌, ◌++◌, length, take, drop, get_or, map, true, false, eqb, refl, ap, arith, length-drop}
 use Rattle.std.proofs.lemmas.Bool.Decides.{eqb_tells}
+use Rattle.std.proofs.lemmas.Grind.{common_steps}
 use Rattle.std.specs.List.{All}
 use Rattle.std.specs.Str.Lines.{strip_carriage_return}
 use Rattle.bpf_assembler.specs.Text.{Ended, Open, onto, pieces_of, line_of_piece, lines_of}
+
+-- what is left of a text behind an octet, and behind all of them
+pub whole_drop : (text : List ℕ) (i : ℕ) → take (length text - i) (drop i text) ≡ drop i text
+whole_drop text i = grind (arith, common_steps, length-drop i text)
+
+pub none_left : (text : List ℕ) → take (length text - length text) (drop (length text) text) ≡ []
+none_left text = grind (arith, common_steps, length-drop (length text) text)
 
 pub ended_piece : (text : List ℕ) (i : ℕ) → i < length text → get_or text i 0 ≡ 10 → ((k : ℕ) → k < i → eqb (get_or text k 0) 10 ≡ false) → pieces_of text ≡ Ended (take i text) ∷ pieces_of (drop (suc i) text)
 ended_piece [] i lt is all = absurd (omega arith)

@@ -7,10 +7,13 @@ use Rattle.bpf_types.specs.declared.line.Line.TheVariants as line
 use Rattle.bpf_types.specs.Line.{is_wide}
 use Rattle.ocp_loader.specs.Image.{second_of, slots_of, slots_in, by_slot, target_of}
 use Rattle.ocp_loader.specs.Places.{place_of}
-use Rattle.ocp_loader.proofs.Octets.{place_by_slot}
 use Rattle.bpf_text.specs.Lines.{Written, Writes, HasLabel, Statement, IsOperands, IsForm}
 use Rattle.bpf_assembler.specs.Text.{lines_of, EachWritten, label_place, has_label, slots, end_of, IsNew, AreDistinct, entry_of, entries_of, with_distance, aimed_at, IsInstruction, AreInstructions, IsWritten}
 use Rattle.bpf_assembler.specs.Labels.{and_then, statements, IsLabelAt, IsMeantBy}
+
+-- what the law of the loader says of places
+abbrev pub AreCounted : Type 0
+AreCounted = (before : List Line) → place_of before ≡ length (by_slot before)
 
 -- ---- slots
 
@@ -77,19 +80,19 @@ first_at name p (v ∷ before) after w none is = by (has_label name v.label) (λ
     by true ih e = absurd cc
     by false ih e = ih e
 
-end_place : (ws before after : List Written) (w : Written) (ls : List Line) → ws ≡ before ++ w ∷ after → AreInstructions ws (entries_of 1 0 ws) ls → end_of 0 before ≡ place_of (take (length (statements before)) ls)
-end_place ws before after w ls e is =
+end_place : AreCounted → (ws before after : List Written) (w : Written) (ls : List Line) → ws ≡ before ++ w ∷ after → AreInstructions ws (entries_of 1 0 ws) ls → end_of 0 before ≡ place_of (take (length (statements before)) ls)
+end_place counted ws before after w ls e is =
     end_slots ws 1 0 before (w ∷ after) ls (subst (λ (vs : List Written). AreInstructions ws (entries_of 1 0 vs) ls) e is)
     ∙ (let none : 0 + length (by_slot (take (length (statements before)) ls)) ≡ length (by_slot (take (length (statements before)) ls)) = omega arith in none)
-    ∙ sym (place_by_slot (take (length (statements before)) ls))
+    ∙ sym (counted (take (length (statements before)) ls))
 
-pub label_at : (text : List ℕ) (ws : List Written) (ls : List Line) (name : List ℕ) (place : ℕ) → IsWritten text ws → AreInstructions ws (entries_of 1 0 ws) ls → (label_place name 0 ws ≡ Some place) ↔ IsLabelAt name ws ls place
-label_at text ws ls name place h is = (
-  λ e. let q = found_at name 0 place ws e in record { before = q.0; line = q.1; after = q.2; order = q.3; label = q.4; slots = q.5 ∙ end_place ws q.0 q.2 q.1 ls q.3 is },
+pub label_at : AreCounted → (text : List ℕ) (ws : List Written) (ls : List Line) (name : List ℕ) (place : ℕ) → IsWritten text ws → AreInstructions ws (entries_of 1 0 ws) ls → (label_place name 0 ws ≡ Some place) ↔ IsLabelAt name ws ls place
+label_at counted text ws ls name place h is = (
+  λ e. let q = found_at name 0 place ws e in record { before = q.0; line = q.1; after = q.2; order = q.3; label = q.4; slots = q.5 ∙ end_place counted ws q.0 q.2 q.1 ls q.3 is },
   λ k.
       let new = new_at [] k.before k.after k.line (subst (AreDistinct []) k.order h.distinct) in
       let none : label_place name 0 k.before ≡ None = subst (λ (a : Option (List ℕ)). IsNew a k.before) k.label new in
-      ap (label_place name 0) k.order ∙ first_at name 0 k.before k.after k.line none k.label ∙ ap (λ (x : ℕ). Some x) (end_place ws k.before k.after k.line ls k.order is ∙ sym k.slots),
+      ap (label_place name 0) k.order ∙ first_at name 0 k.before k.after k.line none k.label ∙ ap (λ (x : ℕ). Some x) (end_place counted ws k.before k.after k.line ls k.order is ∙ sym k.slots),
 )
 
 -- ---- jumps
@@ -156,13 +159,13 @@ formed_at (t ∷ ls) (w ∷ ws) a b s h e = by w.body refl a (λ a. formed_at ls
     by (Some x) is [] ih e = let same : x ≡ s = cc in formed_body t w s (is ∙ ap Some same) h.0
     by (Some x) is (y ∷ a) ih e = ih a (cc)
 
-pub meant_by : (text : List ℕ) (ws : List Written) (ls : List Line) (a b : List Statement) (s : Statement) (c d : List Line) (l : Line) → IsWritten text ws → AreInstructions ws (entries_of 1 0 ws) ls → statements ws ≡ a ++ s ∷ b → ls ≡ c ++ l ∷ d → length a ≡ length c
+pub meant_by : AreCounted → (text : List ℕ) (ws : List Written) (ls : List Line) (a b : List Statement) (s : Statement) (c d : List Line) (l : Line) → IsWritten text ws → AreInstructions ws (entries_of 1 0 ws) ls → statements ws ≡ a ++ s ∷ b → ls ≡ c ++ l ∷ d → length a ≡ length c
     → IsMeantBy ws ls (place_of c) s.line s.name l
-meant_by text ws ls a b s c d l h is e f same =
+meant_by counted text ws ls a b s c d l h is e f same =
     let at = meant_at ws 1 0 ws a b s c d l e (subst (AreInstructions ws (entries_of 1 0 ws)) f is) same in
     let form = formed_at (lines_of text) ws a b s h.each e in
-    by s.name (subst (λ (p : ℕ). IsInstruction ws p s.line s.name l) (let none : 0 + length (by_slot c) ≡ length (by_slot c) = omega arith in none ∙ sym (place_by_slot c)) at) form.1.0 form.1.2
+    by s.name (subst (λ (p : ℕ). IsInstruction ws p s.line s.name l) (let none : 0 + length (by_slot c) ≡ length (by_slot c) = omega arith in none ∙ sym (counted c)) at) form.1.0 form.1.2
   where
     by : (name : Option (List ℕ)) → IsInstruction ws (place_of c) s.line name l → (operands : List (List ℕ)) → IsOperands s.line name s.odd operands → IsMeantBy ws ls (place_of c) s.line name l
     by None k operands o = k
-    by (Some name) k operands o = (k.0, (label_at text ws ls name k.0 h is).0 k.1, k.3, ap (target_of (place_of c)) k.3 ∙ named_target s.line name s.odd operands (place_of c) k.0 o)
+    by (Some name) k operands o = (k.0, (label_at counted text ws ls name k.0 h is).0 k.1, k.3, ap (target_of (place_of c)) k.3 ∙ named_target s.line name s.odd operands (place_of c) k.0 o)

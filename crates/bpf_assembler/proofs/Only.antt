@@ -10,28 +10,37 @@ use Rattle.bpf_assembler.specs.Passes.{IsImageOfText, IsFaultOf}
 use Rattle.bpf_assembler.specs.declared.fault.Why.{Why}
 use Rattle.bpf_assembler.specs.declared.fault.AsmFault.{AsmFault}
 use Rattle.bpf_assembler.specs.declared.fault.AsmFault.TheVariants.{Memory, At}
-use Rattle.bpf_assembler.proofs.UniqueTexts.{one_meaning, one_fault, meaning_or_fault}
 
-one_image : (text a b : List ℕ) → IsImageOfText text a → IsImageOfText text b → a ≡ b
-one_image text a b h k = h.admitted.whole.octets ∙ ap image_of (one_meaning text h.lines k.lines h.means k.means) ∙ sym k.admitted.whole.octets
+-- what the laws say of meanings and faults
+abbrev pub AreMeantOnce : Type 0
+AreMeantOnce = (text : List ℕ) (a b : List Line) → Means text a → Means text b → a ≡ b
 
-image_or_fault : (text image : List ℕ) (number : ℕ) (y : Why) → IsImageOfText text image → IsFault text number y → ⊥
-image_or_fault text image number y h k =
-    meaning_or_fault text h.lines number y h.means (subst IsAdmitted h.admitted.whole.octets (record { lines = h.lines; admitted = h.admitted })) k
+abbrev pub AreFaultyOnce : Type 0
+AreFaultyOnce = (text : List ℕ) (m n : ℕ) (y z : Why) → IsFault text m y → IsFault text n z → (m ≡ n) × (y ≡ z)
+
+abbrev pub AreSound : Type 0
+AreSound = (text : List ℕ) (lines : List Line) (number : ℕ) (y : Why) → Means text lines → IsAdmitted (image_of lines) → ¬ IsFault text number y
+
+one_image : AreMeantOnce → (text a b : List ℕ) → IsImageOfText text a → IsImageOfText text b → a ≡ b
+one_image meaning text a b h k = h.admitted.whole.octets ∙ ap image_of (meaning text h.lines k.lines h.means k.means) ∙ sym k.admitted.whole.octets
+
+image_or_fault : AreSound → (text image : List ℕ) (number : ℕ) (y : Why) → IsImageOfText text image → IsFault text number y → ⊥
+image_or_fault sound text image number y h k =
+    sound text h.lines number y h.means (subst IsAdmitted h.admitted.whole.octets (record { lines = h.lines; admitted = h.admitted })) k
 
 -- the image of a text is that of the instructions that the text means
-pub lines_meant : (text : List ℕ) (r : Result (List ℕ) AsmFault) → IfOk r (IsImageOfText text) → (lines : List Line) → Means text lines → IfOk r (λ (image : List ℕ). IsAdmittedAs image lines)
-lines_meant text (Ok v) m lines h = subst (IsAdmittedAs v) (one_meaning text m.lines lines m.means h) m.admitted
-lines_meant text (Err f) m lines h = tt
+pub lines_meant : AreMeantOnce → (text : List ℕ) (r : Result (List ℕ) AsmFault) → IfOk r (IsImageOfText text) → (lines : List Line) → Means text lines → IfOk r (λ (image : List ℕ). IsAdmittedAs image lines)
+lines_meant meaning text (Ok v) m lines h = subst (IsAdmittedAs v) (meaning text m.lines lines m.means h) m.admitted
+lines_meant meaning text (Err f) m lines h = tt
 
 -- where a text has an image, that is the answer
-pub only_image : (text : List ℕ) (r : Result (List ℕ) AsmFault) → IfOk r (IsImageOfText text) → IfErr r (IsFaultOf text) → (image : List ℕ) → IsImageOfText text image → (r ≡ Err Memory) ⊎ (r ≡ Ok image)
-only_image text (Ok v) m f image h = inr (ap Ok (one_image text v image m h))
-only_image text (Err Memory) m f image h = inl refl
-only_image text (Err (At number y)) m f image h = absurd (image_or_fault text image number y h f)
+pub only_image : AreMeantOnce → AreSound → (text : List ℕ) (r : Result (List ℕ) AsmFault) → IfOk r (IsImageOfText text) → IfErr r (IsFaultOf text) → (image : List ℕ) → IsImageOfText text image → (r ≡ Err Memory) ⊎ (r ≡ Ok image)
+only_image meaning sound text (Ok v) m f image h = inr (ap Ok (one_image meaning text v image m h))
+only_image meaning sound text (Err Memory) m f image h = inl refl
+only_image meaning sound text (Err (At number y)) m f image h = absurd (image_or_fault sound text image number y h f)
 
 -- where it has a fault, that is
-pub only_fault : (text : List ℕ) (r : Result (List ℕ) AsmFault) → IfOk r (IsImageOfText text) → IfErr r (IsFaultOf text) → (line : ℕ) (why : Why) → IsFault text line why → (r ≡ Err Memory) ⊎ (r ≡ Err (At line why))
-only_fault text (Ok v) m f line why h = absurd (image_or_fault text v line why m h)
-only_fault text (Err Memory) m f line why h = inl refl
-only_fault text (Err (At number y)) m f line why h = let p = one_fault text number line y why f h in inr (λ i. Err (At (p.0 i) (p.1 i)))
+pub only_fault : AreFaultyOnce → AreSound → (text : List ℕ) (r : Result (List ℕ) AsmFault) → IfOk r (IsImageOfText text) → IfErr r (IsFaultOf text) → (line : ℕ) (why : Why) → IsFault text line why → (r ≡ Err Memory) ⊎ (r ≡ Err (At line why))
+only_fault fault sound text (Ok v) m f line why h = absurd (image_or_fault sound text v line why m h)
+only_fault fault sound text (Err Memory) m f line why h = inl refl
+only_fault fault sound text (Err (At number y)) m f line why h = let p = fault text number line y why f h in inr (λ i. Err (At (p.0 i) (p.1 i)))

@@ -10,27 +10,29 @@ use Rattle.ocp_loader.specs.declared.fault.LoadFault.{LoadFault}
 use Rattle.ocp_loader.specs.FaultNumbers.{number_of, slot_of}
 use Rattle.ocp_loader.specs.Judging.{judged}
 use Rattle.ocp_loader.specs.Admitted.{IsAdmitted}
-use Rattle.ocp_loader.proofs.Complete.{not_admitted}
 use Rattle.bpf_text.specs.Lines.{Written, Writes, InRange}
 use Rattle.bpf_assembler.specs.Text.{lines_of, EachWritten, IsNew, AreDistinct, Entry, entries_of, aimed_at, IsInstruction, AreInstructions, IsWritten, Means}
 use Rattle.bpf_assembler.specs.Faults.{HasFault, HasLineFault, MissesLabel, IsFirstMiss, HasNameFault, IsLineOfSlot, IsLineOf, HasLoadFault, IsLoadFault, IsFault}
 use Rattle.bpf_assembler.specs.declared.fault.Why.{Why}
 use Rattle.bpf_assembler.specs.declared.fault.Why.TheVariants as why
-use Rattle.bpf_text.proofs.UniqueLines.{one_written}
+
+-- what the law of bpf_text says of lines of text
+abbrev pub AreReadOnce : Type 0
+AreReadOnce = (text : List ℕ) (w v : Written) → Writes text w → InRange w.body → Writes text v → w ≡ v
 
 -- ---- the lines of a text
 
 -- lines are written in one way
-pub one_each : (ls : List (List ℕ)) (ws vs : List Written) → EachWritten ls ws → EachWritten ls vs → ws ≡ vs
-one_each [] [] [] h k = refl
-one_each [] [] (v ∷ vs) h k = absurd k
-one_each [] (w ∷ ws) vs h k = absurd h
-one_each (l ∷ ls) [] vs h k = absurd h
-one_each (l ∷ ls) (w ∷ ws) [] h k = absurd k
-one_each (l ∷ ls) (w ∷ ws) (v ∷ vs) h k = let first = one_written l w v h.0 h.1 k.0 in let others = one_each ls ws vs h.2 k.2 in cc
+pub one_each : AreReadOnce → (ls : List (List ℕ)) (ws vs : List Written) → EachWritten ls ws → EachWritten ls vs → ws ≡ vs
+one_each once [] [] [] h k = refl
+one_each once [] [] (v ∷ vs) h k = absurd k
+one_each once [] (w ∷ ws) vs h k = absurd h
+one_each once (l ∷ ls) [] vs h k = absurd h
+one_each once (l ∷ ls) (w ∷ ws) [] h k = absurd k
+one_each once (l ∷ ls) (w ∷ ws) (v ∷ vs) h k = let first = once l w v h.0 h.1 k.0 in let others = one_each once ls ws vs h.2 k.2 in cc
 
-pub one_list : (text : List ℕ) (ws vs : List Written) → IsWritten text ws → IsWritten text vs → ws ≡ vs
-one_list text ws vs h k = one_each (lines_of text) ws vs h.each k.each
+pub one_list : AreReadOnce → (text : List ℕ) (ws vs : List Written) → IsWritten text ws → IsWritten text vs → ws ≡ vs
+one_list once text ws vs h k = one_each once (lines_of text) ws vs h.each k.each
 
 -- ---- instructions
 
@@ -52,87 +54,87 @@ one_instructions all (e ∷ es) (l ∷ ls) (x ∷ ks) h k =
     cc
 
 -- the same lines mean the same instructions
-meant_by : (ws vs : List Written) (ls ks : List Line) → ws ≡ vs → AreInstructions ws (entries_of 1 0 ws) ls → AreInstructions vs (entries_of 1 0 vs) ks → ls ≡ ks
-meant_by ws vs ls ks same h k = one_instructions ws (entries_of 1 0 ws) ls ks h (subst (λ (x : List Written). AreInstructions x (entries_of 1 0 x) ks) (sym same) k)
+meant_by : AreReadOnce → (ws vs : List Written) (ls ks : List Line) → ws ≡ vs → AreInstructions ws (entries_of 1 0 ws) ls → AreInstructions vs (entries_of 1 0 vs) ks → ls ≡ ks
+meant_by once ws vs ls ks same h k = one_instructions ws (entries_of 1 0 ws) ls ks h (subst (λ (x : List Written). AreInstructions x (entries_of 1 0 x) ks) (sym same) k)
 
-pub one_meaning : (text : List ℕ) (ls ks : List Line) → Means text ls → Means text ks → ls ≡ ks
-one_meaning text ls ks h k = meant_by h.lines k.lines ls ks (one_list text h.lines k.lines h.written k.written) h.instructions k.instructions
+pub one_meaning : AreReadOnce → (text : List ℕ) (ls ks : List Line) → Means text ls → Means text ks → ls ≡ ks
+one_meaning once text ls ks h k = meant_by once h.lines k.lines ls ks (one_list once text h.lines k.lines h.written k.written) h.instructions k.instructions
 
 -- ---- faults of lines
 
 -- a line that is written in range, with a new label, has no fault
-fine : (before : List Written) (line : List ℕ) (w : Written) (y : Why) → Writes line w → InRange w.body → IsNew w.label before → HasFault before line y → ⊥
-fine before line w why.Syntax h r new k = k w h
-fine before line w why.Range h r new k = let same = one_written line w k.0 h r k.1 in k.2 (subst (λ (v : Written). InRange v.body) same r)
-fine before line w why.DuplicateLabel h r new k = let same = one_written line w k.0 h r k.1 in k.3 (subst (λ (v : Written). IsNew v.label before) same new)
-fine before line w why.UnknownLabel h r new k = k
-fine before line w (why.Load fault) h r new k = k
+fine : AreReadOnce → (before : List Written) (line : List ℕ) (w : Written) (y : Why) → Writes line w → InRange w.body → IsNew w.label before → HasFault before line y → ⊥
+fine once before line w why.Syntax h r new k = k w h
+fine once before line w why.Range h r new k = let same = once line w k.0 h r k.1 in k.2 (subst (λ (v : Written). InRange v.body) same r)
+fine once before line w why.DuplicateLabel h r new k = let same = once line w k.0 h r k.1 in k.3 (subst (λ (v : Written). IsNew v.label before) same new)
+fine once before line w why.UnknownLabel h r new k = k
+fine once before line w (why.Load fault) h r new k = k
 
 -- a line has one fault
-one_kind : (before : List Written) (line : List ℕ) (y z : Why) → HasFault before line y → HasFault before line z → y ≡ z
-one_kind before line why.Syntax why.Syntax h k = refl
-one_kind before line why.Syntax why.Range h k = absurd (h k.0 k.1)
-one_kind before line why.Syntax why.DuplicateLabel h k = absurd (h k.0 k.1)
-one_kind before line why.Syntax why.UnknownLabel h k = absurd k
-one_kind before line why.Syntax (why.Load fault) h k = absurd k
-one_kind before line why.Range why.Syntax h k = absurd (k h.0 h.1)
-one_kind before line why.Range why.Range h k = refl
-one_kind before line why.Range why.DuplicateLabel h k = let same = one_written line k.0 h.0 k.1 k.2 h.1 in absurd (h.2 (subst (λ (v : Written). InRange v.body) same k.2))
-one_kind before line why.Range why.UnknownLabel h k = absurd k
-one_kind before line why.Range (why.Load fault) h k = absurd k
-one_kind before line why.DuplicateLabel why.Syntax h k = absurd (k h.0 h.1)
-one_kind before line why.DuplicateLabel why.Range h k = let same = one_written line h.0 k.0 h.1 h.2 k.1 in absurd (k.2 (subst (λ (v : Written). InRange v.body) same h.2))
-one_kind before line why.DuplicateLabel why.DuplicateLabel h k = refl
-one_kind before line why.DuplicateLabel why.UnknownLabel h k = absurd k
-one_kind before line why.DuplicateLabel (why.Load fault) h k = absurd k
-one_kind before line why.UnknownLabel z h k = absurd h
-one_kind before line (why.Load fault) z h k = absurd h
+one_kind : AreReadOnce → (before : List Written) (line : List ℕ) (y z : Why) → HasFault before line y → HasFault before line z → y ≡ z
+one_kind once before line why.Syntax why.Syntax h k = refl
+one_kind once before line why.Syntax why.Range h k = absurd (h k.0 k.1)
+one_kind once before line why.Syntax why.DuplicateLabel h k = absurd (h k.0 k.1)
+one_kind once before line why.Syntax why.UnknownLabel h k = absurd k
+one_kind once before line why.Syntax (why.Load fault) h k = absurd k
+one_kind once before line why.Range why.Syntax h k = absurd (k h.0 h.1)
+one_kind once before line why.Range why.Range h k = refl
+one_kind once before line why.Range why.DuplicateLabel h k = let same = once line k.0 h.0 k.1 k.2 h.1 in absurd (h.2 (subst (λ (v : Written). InRange v.body) same k.2))
+one_kind once before line why.Range why.UnknownLabel h k = absurd k
+one_kind once before line why.Range (why.Load fault) h k = absurd k
+one_kind once before line why.DuplicateLabel why.Syntax h k = absurd (k h.0 h.1)
+one_kind once before line why.DuplicateLabel why.Range h k = let same = once line h.0 k.0 h.1 h.2 k.1 in absurd (k.2 (subst (λ (v : Written). InRange v.body) same h.2))
+one_kind once before line why.DuplicateLabel why.DuplicateLabel h k = refl
+one_kind once before line why.DuplicateLabel why.UnknownLabel h k = absurd k
+one_kind once before line why.DuplicateLabel (why.Load fault) h k = absurd k
+one_kind once before line why.UnknownLabel z h k = absurd h
+one_kind once before line (why.Load fault) z h k = absurd h
 
 -- lines that are written in range, with distinct labels, have no fault
-none_faulty : (done : List Written) (before after : List (List ℕ)) (line : List ℕ) (ws vs : List Written) (y : Why)
+none_faulty : AreReadOnce → (done : List Written) (before after : List (List ℕ)) (line : List ℕ) (ws vs : List Written) (y : Why)
     → EachWritten (before ++ line ∷ after) ws → AreDistinct done ws → EachWritten before vs → HasFault (done ++ vs) line y → ⊥
-none_faulty done [] after line [] vs y h d e k = h
-none_faulty done [] after line (w ∷ ws) [] y h d e k = fine done line w y h.0 h.1 d.0 (subst (λ (x : List Written). HasFault x line y) (append-nil done) k)
-none_faulty done [] after line (w ∷ ws) (v ∷ vs) y h d e k = e
-none_faulty done (b ∷ before) after line [] vs y h d e k = h
-none_faulty done (b ∷ before) after line (w ∷ ws) [] y h d e k = e
-none_faulty done (b ∷ before) after line (w ∷ ws) (v ∷ vs) y h d e k =
-    let same = one_written b v w e.0 e.1 h.0 in
-    none_faulty (done ++ w ∷ []) before after line ws vs y h.2 d.1 e.2
+none_faulty once done [] after line [] vs y h d e k = h
+none_faulty once done [] after line (w ∷ ws) [] y h d e k = fine once done line w y h.0 h.1 d.0 (subst (λ (x : List Written). HasFault x line y) (append-nil done) k)
+none_faulty once done [] after line (w ∷ ws) (v ∷ vs) y h d e k = e
+none_faulty once done (b ∷ before) after line [] vs y h d e k = h
+none_faulty once done (b ∷ before) after line (w ∷ ws) [] y h d e k = e
+none_faulty once done (b ∷ before) after line (w ∷ ws) (v ∷ vs) y h d e k =
+    let same = once b v w e.0 e.1 h.0 in
+    none_faulty once (done ++ w ∷ []) before after line ws vs y h.2 d.1 e.2
     (subst (λ (x : List Written). HasFault x line y) (ap (λ (x : Written). done ++ x ∷ vs) same ∙ sym (append_assoc done (w ∷ []) vs)) k)
 
-pub written_no_fault : (text : List ℕ) (ws : List Written) (number : ℕ) (y : Why) → IsWritten text ws → HasLineFault text number y → ⊥
-written_no_fault text ws number y h k = none_faulty [] k.before k.after k.line ws k.lines y (subst (λ (ls : List (List ℕ)). EachWritten ls ws) k.order h.each) h.distinct k.each k.fault
+pub written_no_fault : AreReadOnce → (text : List ℕ) (ws : List Written) (number : ℕ) (y : Why) → IsWritten text ws → HasLineFault text number y → ⊥
+written_no_fault once text ws number y h k = none_faulty once [] k.before k.after k.line ws k.lines y (subst (λ (ls : List (List ℕ)). EachWritten ls ws) k.order h.each) h.distinct k.each k.fault
 
 -- the first line with a fault is one
-one_first : (done : List Written) (a b after rest : List (List ℕ)) (line other : List ℕ) (ws vs : List Written) (y z : Why) → a ++ line ∷ after ≡ b ++ other ∷ rest
+one_first : AreReadOnce → (done : List Written) (a b after rest : List (List ℕ)) (line other : List ℕ) (ws vs : List Written) (y z : Why) → a ++ line ∷ after ≡ b ++ other ∷ rest
     → EachWritten a ws → EachWritten b vs → AreDistinct done ws → AreDistinct done vs → HasFault (done ++ ws) line y → HasFault (done ++ vs) other z → (length a ≡ length b) × (y ≡ z)
-one_first done [] [] after rest line other [] [] y z e h k d c f g = let same : other ≡ line = cc in (refl, one_kind (done ++ []) line y z f (subst (λ (x : List ℕ). HasFault (done ++ []) x z) same g))
-one_first done [] [] after rest line other [] (v ∷ vs) y z e h k d c f g = absurd k
-one_first done [] [] after rest line other (w ∷ ws) vs y z e h k d c f g = absurd h
-one_first done [] (x ∷ b) after rest line other [] [] y z e h k d c f g = absurd k
-one_first done [] (x ∷ b) after rest line other [] (v ∷ vs) y z e h k d c f g =
+one_first once done [] [] after rest line other [] [] y z e h k d c f g = let same : other ≡ line = cc in (refl, one_kind once (done ++ []) line y z f (subst (λ (x : List ℕ). HasFault (done ++ []) x z) same g))
+one_first once done [] [] after rest line other [] (v ∷ vs) y z e h k d c f g = absurd k
+one_first once done [] [] after rest line other (w ∷ ws) vs y z e h k d c f g = absurd h
+one_first once done [] (x ∷ b) after rest line other [] [] y z e h k d c f g = absurd k
+one_first once done [] (x ∷ b) after rest line other [] (v ∷ vs) y z e h k d c f g =
     let same : x ≡ line = cc in
-    absurd (fine done line v y (subst (λ (t : List ℕ). Writes t v) same k.0) k.1 c.0 (subst (λ (t : List Written). HasFault t line y) (append-nil done) f))
-one_first done [] (x ∷ b) after rest line other (w ∷ ws) vs y z e h k d c f g = absurd h
-one_first done (x ∷ a) [] after rest line other [] vs y z e h k d c f g = absurd h
-one_first done (x ∷ a) [] after rest line other (w ∷ ws) [] y z e h k d c f g =
+    absurd (fine once done line v y (subst (λ (t : List ℕ). Writes t v) same k.0) k.1 c.0 (subst (λ (t : List Written). HasFault t line y) (append-nil done) f))
+one_first once done [] (x ∷ b) after rest line other (w ∷ ws) vs y z e h k d c f g = absurd h
+one_first once done (x ∷ a) [] after rest line other [] vs y z e h k d c f g = absurd h
+one_first once done (x ∷ a) [] after rest line other (w ∷ ws) [] y z e h k d c f g =
     let same : x ≡ other = cc in
-    absurd (fine done other w z (subst (λ (t : List ℕ). Writes t w) same h.0) h.1 d.0 (subst (λ (t : List Written). HasFault t other z) (append-nil done) g))
-one_first done (x ∷ a) [] after rest line other (w ∷ ws) (v ∷ vs) y z e h k d c f g = absurd k
-one_first done (x ∷ a) (t ∷ b) after rest line other [] vs y z e h k d c f g = absurd h
-one_first done (x ∷ a) (t ∷ b) after rest line other (w ∷ ws) [] y z e h k d c f g = absurd k
-one_first done (x ∷ a) (t ∷ b) after rest line other (w ∷ ws) (v ∷ vs) y z e h k d c f g =
+    absurd (fine once done other w z (subst (λ (t : List ℕ). Writes t w) same h.0) h.1 d.0 (subst (λ (t : List Written). HasFault t other z) (append-nil done) g))
+one_first once done (x ∷ a) [] after rest line other (w ∷ ws) (v ∷ vs) y z e h k d c f g = absurd k
+one_first once done (x ∷ a) (t ∷ b) after rest line other [] vs y z e h k d c f g = absurd h
+one_first once done (x ∷ a) (t ∷ b) after rest line other (w ∷ ws) [] y z e h k d c f g = absurd k
+one_first once done (x ∷ a) (t ∷ b) after rest line other (w ∷ ws) (v ∷ vs) y z e h k d c f g =
     let same : t ≡ x = cc in
-    let like : v ≡ w = sym (one_written x w v h.0 h.1 (subst (λ (o : List ℕ). Writes o v) same k.0)) in
-    let p = one_first (done ++ w ∷ []) a b after rest line other ws vs y z (cc) h.2 k.2 d.1 (subst (λ (o : Written). AreDistinct (done ++ o ∷ []) vs) like c.1)
+    let like : v ≡ w = sym (once x w v h.0 h.1 (subst (λ (o : List ℕ). Writes o v) same k.0)) in
+    let p = one_first once (done ++ w ∷ []) a b after rest line other ws vs y z (cc) h.2 k.2 d.1 (subst (λ (o : Written). AreDistinct (done ++ o ∷ []) vs) like c.1)
     (subst (λ (o : List Written). HasFault o line y) (sym (append_assoc done (w ∷ []) ws)) f)
     (subst (λ (o : List Written). HasFault o other z) (ap (λ (o : Written). done ++ o ∷ vs) like ∙ sym (append_assoc done (w ∷ []) vs)) g) in
     (ap suc p.0, p.1)
 
-one_line_fault : (text : List ℕ) (m n : ℕ) (y z : Why) → HasLineFault text m y → HasLineFault text n z → (m ≡ n) × (y ≡ z)
-one_line_fault text m n y z h k =
-    let p = one_first [] h.before k.before h.after k.after h.line k.line h.lines k.lines y z (sym h.order ∙ k.order) h.each k.each h.distinct k.distinct h.fault k.fault in
+one_line_fault : AreReadOnce → (text : List ℕ) (m n : ℕ) (y z : Why) → HasLineFault text m y → HasLineFault text n z → (m ≡ n) × (y ≡ z)
+one_line_fault once text m n y z h k =
+    let p = one_first once [] h.before k.before h.after k.after h.line k.line h.lines k.lines y z (sym h.order ∙ k.order) h.each k.each h.distinct k.distinct h.fault k.fault in
     (h.counted ∙ ap (λ (x : ℕ). x + 1) p.0 ∙ sym k.counted, p.1)
 
 -- ---- faults of names
@@ -186,14 +188,14 @@ one_miss_of all es m n y z h k =
     let p = one_first_miss all h.before k.before h.after k.after h.entry k.entry h.earlier k.earlier y z (sym h.order ∙ k.order) h.instructions k.instructions h.miss k.miss in
     (h.counted ∙ ap (λ (e : Entry). e.number) p.0 ∙ sym k.counted, p.1)
 
-one_name_fault : (text : List ℕ) (m n : ℕ) (y z : Why) → HasNameFault text m y → HasNameFault text n z → (m ≡ n) × (y ≡ z)
-one_name_fault text m n y z h k =
-    let same = one_list text k.lines h.lines k.written h.written in
+one_name_fault : AreReadOnce → (text : List ℕ) (m n : ℕ) (y z : Why) → HasNameFault text m y → HasNameFault text n z → (m ≡ n) × (y ≡ z)
+one_name_fault once text m n y z h k =
+    let same = one_list once text k.lines h.lines k.written h.written in
     one_miss_of h.lines (entries_of 1 0 h.lines) m n y z h.first (subst (λ (x : List Written). IsFirstMiss x (entries_of 1 0 x) n z) same k.first)
 
-pub meant_no_miss : (text : List ℕ) (ws : List Written) (ls : List Line) (number : ℕ) (y : Why) → IsWritten text ws → AreInstructions ws (entries_of 1 0 ws) ls → HasNameFault text number y → ⊥
-meant_no_miss text ws ls number y h is k =
-    let same = one_list text k.lines ws k.written h in
+pub meant_no_miss : AreReadOnce → (text : List ℕ) (ws : List Written) (ls : List Line) (number : ℕ) (y : Why) → IsWritten text ws → AreInstructions ws (entries_of 1 0 ws) ls → HasNameFault text number y → ⊥
+meant_no_miss once text ws ls number y h is k =
+    let same = one_list once text k.lines ws k.written h in
     let first = subst (λ (x : List Written). IsFirstMiss x (entries_of 1 0 x) number y) same k.first in
     none_misses ws first.before first.after first.entry ls y (subst (λ (es : List Entry). AreInstructions ws es ls) first.order is) first.miss
 
@@ -219,17 +221,17 @@ one_line_of true es slot m n h k = h ∙ sym k
 one_line_of false es slot m n h k = one_line_of_slot es slot m n h k
 
 -- the instructions of a text are those whose image has the fault
-pub load_fault_of : (text : List ℕ) (ws : List Written) (ls : List Line) (number : ℕ) (fault : LoadFault) → IsWritten text ws → AreInstructions ws (entries_of 1 0 ws) ls → HasLoadFault text number fault → judged (image_of ls) ≡ Err fault
-load_fault_of text ws ls number fault h is k =
-    let same = meant_by k.lines ws k.instructions ls (one_list text k.lines ws k.written h) k.meant is in
+pub load_fault_of : AreReadOnce → (text : List ℕ) (ws : List Written) (ls : List Line) (number : ℕ) (fault : LoadFault) → IsWritten text ws → AreInstructions ws (entries_of 1 0 ws) ls → HasLoadFault text number fault → judged (image_of ls) ≡ Err fault
+load_fault_of once text ws ls number fault h is k =
+    let same = meant_by once k.lines ws k.instructions ls (one_list once text k.lines ws k.written h) k.meant is in
     subst (λ (x : List Line). judged (image_of x) ≡ Err fault) same k.refused
 
-one_load_fault : (text : List ℕ) (m n : ℕ) (f g : LoadFault) → HasLoadFault text m f → HasLoadFault text n g → (m ≡ n) × (f ≡ g)
-one_load_fault text m n f g h k =
-    let also = load_fault_of text h.lines h.instructions n g h.written h.meant k in
+one_load_fault : AreReadOnce → (text : List ℕ) (m n : ℕ) (f g : LoadFault) → HasLoadFault text m f → HasLoadFault text n g → (m ≡ n) × (f ≡ g)
+one_load_fault once text m n f g h k =
+    let also = load_fault_of once text h.lines h.instructions n g h.written h.meant k in
     let is = h.refused in
     let same : g ≡ f = cc in
-    let lines = one_list text k.lines h.lines k.written h.written in (
+    let lines = one_list once text k.lines h.lines k.written h.written in (
       one_line_of (nat_le (number_of f) 3) (entries_of 1 0 h.lines) (slot_of f) m n h.counted
           (subst (λ (x : List Written). IsLineOf (nat_le (number_of f) 3) (entries_of 1 0 x) (slot_of f) n) lines (subst (λ (x : LoadFault). IsLineOf (nat_le (number_of x) 3) (entries_of 1 0 k.lines) (slot_of x) n) same k.counted)),
       sym same,
@@ -237,50 +239,50 @@ one_load_fault text m n f g h k =
 
 -- ---- the fault of a text
 
-loads : (text : List ℕ) (m n : ℕ) (y z : Why) → IsLoadFault text m y → IsLoadFault text n z → (m ≡ n) × (y ≡ z)
-loads text m n (why.Load f) (why.Load g) h k = let p = one_load_fault text m n f g h k in (p.0, ap why.Load p.1)
-loads text m n (why.Load f) why.Syntax h k = absurd k
-loads text m n (why.Load f) why.Range h k = absurd k
-loads text m n (why.Load f) why.DuplicateLabel h k = absurd k
-loads text m n (why.Load f) why.UnknownLabel h k = absurd k
-loads text m n why.Syntax z h k = absurd h
-loads text m n why.Range z h k = absurd h
-loads text m n why.DuplicateLabel z h k = absurd h
-loads text m n why.UnknownLabel z h k = absurd h
+loads : AreReadOnce → (text : List ℕ) (m n : ℕ) (y z : Why) → IsLoadFault text m y → IsLoadFault text n z → (m ≡ n) × (y ≡ z)
+loads once text m n (why.Load f) (why.Load g) h k = let p = one_load_fault once text m n f g h k in (p.0, ap why.Load p.1)
+loads once text m n (why.Load f) why.Syntax h k = absurd k
+loads once text m n (why.Load f) why.Range h k = absurd k
+loads once text m n (why.Load f) why.DuplicateLabel h k = absurd k
+loads once text m n (why.Load f) why.UnknownLabel h k = absurd k
+loads once text m n why.Syntax z h k = absurd h
+loads once text m n why.Range z h k = absurd h
+loads once text m n why.DuplicateLabel z h k = absurd h
+loads once text m n why.UnknownLabel z h k = absurd h
 
 -- a text whose image has a fault has none of the earlier ones
-load_alone : (text : List ℕ) (m n : ℕ) (y z : Why) → IsLoadFault text m y → HasLineFault text n z ⊎ HasNameFault text n z → ⊥
-load_alone text m n (why.Load f) z h (inl k) = written_no_fault text h.lines n z h.written k
-load_alone text m n (why.Load f) z h (inr k) = meant_no_miss text h.lines h.instructions n z h.written h.meant k
-load_alone text m n why.Syntax z h k = h
-load_alone text m n why.Range z h k = h
-load_alone text m n why.DuplicateLabel z h k = h
-load_alone text m n why.UnknownLabel z h k = h
+load_alone : AreReadOnce → (text : List ℕ) (m n : ℕ) (y z : Why) → IsLoadFault text m y → HasLineFault text n z ⊎ HasNameFault text n z → ⊥
+load_alone once text m n (why.Load f) z h (inl k) = written_no_fault once text h.lines n z h.written k
+load_alone once text m n (why.Load f) z h (inr k) = meant_no_miss once text h.lines h.instructions n z h.written h.meant k
+load_alone once text m n why.Syntax z h k = h
+load_alone once text m n why.Range z h k = h
+load_alone once text m n why.DuplicateLabel z h k = h
+load_alone once text m n why.UnknownLabel z h k = h
 
-pub one_fault : (text : List ℕ) (m n : ℕ) (y z : Why) → IsFault text m y → IsFault text n z → (m ≡ n) × (y ≡ z)
-one_fault text m n y z (inl h) (inl k) = one_line_fault text m n y z h k
-one_fault text m n y z (inl h) (inr (inl k)) = absurd (written_no_fault text k.lines m y k.written h)
-one_fault text m n y z (inl h) (inr (inr k)) = absurd (load_alone text n m z y k (inl h))
-one_fault text m n y z (inr (inl h)) (inl k) = absurd (written_no_fault text h.lines n z h.written k)
-one_fault text m n y z (inr (inl h)) (inr (inl k)) = one_name_fault text m n y z h k
-one_fault text m n y z (inr (inl h)) (inr (inr k)) = absurd (load_alone text n m z y k (inr h))
-one_fault text m n y z (inr (inr h)) (inl k) = absurd (load_alone text m n y z h (inl k))
-one_fault text m n y z (inr (inr h)) (inr (inl k)) = absurd (load_alone text m n y z h (inr k))
-one_fault text m n y z (inr (inr h)) (inr (inr k)) = loads text m n y z h k
+pub one_fault : AreReadOnce → (text : List ℕ) (m n : ℕ) (y z : Why) → IsFault text m y → IsFault text n z → (m ≡ n) × (y ≡ z)
+one_fault once text m n y z (inl h) (inl k) = one_line_fault once text m n y z h k
+one_fault once text m n y z (inl h) (inr (inl k)) = absurd (written_no_fault once text k.lines m y k.written h)
+one_fault once text m n y z (inl h) (inr (inr k)) = absurd (load_alone once text n m z y k (inl h))
+one_fault once text m n y z (inr (inl h)) (inl k) = absurd (written_no_fault once text h.lines n z h.written k)
+one_fault once text m n y z (inr (inl h)) (inr (inl k)) = one_name_fault once text m n y z h k
+one_fault once text m n y z (inr (inl h)) (inr (inr k)) = absurd (load_alone once text n m z y k (inr h))
+one_fault once text m n y z (inr (inr h)) (inl k) = absurd (load_alone once text m n y z h (inl k))
+one_fault once text m n y z (inr (inr h)) (inr (inl k)) = absurd (load_alone once text m n y z h (inr k))
+one_fault once text m n y z (inr (inr h)) (inr (inr k)) = loads once text m n y z h k
 
 -- the fault of a text that means instructions is that of their image
-loaded : (text : List ℕ) (ls : List Line) (number : ℕ) (y : Why) → Means text ls → IsLoadFault text number y → (fault : LoadFault) × (y ≡ why.Load fault) × (judged (image_of ls) ≡ Err fault)
-loaded text ls number (why.Load fault) h k = (fault, refl, load_fault_of text h.lines ls number fault h.written h.instructions k)
-loaded text ls number why.Syntax h k = absurd k
-loaded text ls number why.Range h k = absurd k
-loaded text ls number why.DuplicateLabel h k = absurd k
-loaded text ls number why.UnknownLabel h k = absurd k
+loaded : AreReadOnce → (text : List ℕ) (ls : List Line) (number : ℕ) (y : Why) → Means text ls → IsLoadFault text number y → (fault : LoadFault) × (y ≡ why.Load fault) × (judged (image_of ls) ≡ Err fault)
+loaded once text ls number (why.Load fault) h k = (fault, refl, load_fault_of once text h.lines ls number fault h.written h.instructions k)
+loaded once text ls number why.Syntax h k = absurd k
+loaded once text ls number why.Range h k = absurd k
+loaded once text ls number why.DuplicateLabel h k = absurd k
+loaded once text ls number why.UnknownLabel h k = absurd k
 
-pub fault_of_meaning : (text : List ℕ) (ls : List Line) (number : ℕ) (y : Why) → Means text ls → IsFault text number y → (fault : LoadFault) × (y ≡ why.Load fault) × (judged (image_of ls) ≡ Err fault)
-fault_of_meaning text ls number y h (inl k) = absurd (written_no_fault text h.lines number y h.written k)
-fault_of_meaning text ls number y h (inr (inl k)) = absurd (meant_no_miss text h.lines ls number y h.written h.instructions k)
-fault_of_meaning text ls number y h (inr (inr k)) = loaded text ls number y h k
+pub fault_of_meaning : AreReadOnce → (text : List ℕ) (ls : List Line) (number : ℕ) (y : Why) → Means text ls → IsFault text number y → (fault : LoadFault) × (y ≡ why.Load fault) × (judged (image_of ls) ≡ Err fault)
+fault_of_meaning once text ls number y h (inl k) = absurd (written_no_fault once text h.lines number y h.written k)
+fault_of_meaning once text ls number y h (inr (inl k)) = absurd (meant_no_miss once text h.lines ls number y h.written h.instructions k)
+fault_of_meaning once text ls number y h (inr (inr k)) = loaded once text ls number y h k
 
 -- a text that means the instructions of an admitted image has no fault
-pub meaning_or_fault : (text : List ℕ) (ls : List Line) (number : ℕ) (y : Why) → Means text ls → IsAdmitted (image_of ls) → IsFault text number y → ⊥
-meaning_or_fault text ls number y h a k = let p = fault_of_meaning text ls number y h k in not_admitted (image_of ls) p.0 p.2 a
+pub meaning_or_fault : AreReadOnce → ((image : List ℕ) (fault : LoadFault) → judged image ≡ Err fault → ¬ IsAdmitted image) → (text : List ℕ) (ls : List Line) (number : ℕ) (y : Why) → Means text ls → IsAdmitted (image_of ls) → IsFault text number y → ⊥
+meaning_or_fault once refused text ls number y h a k = let p = fault_of_meaning once text ls number y h k in refused (image_of ls) p.0 p.2 a

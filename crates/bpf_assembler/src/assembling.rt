@@ -12,6 +12,7 @@ ghost use Rattle.bpf_assembler.specs.declared.fault.AsmFault.TheVariants.{Memory
 
 use crate::collecting::collect;
 use crate::fault::{AsmFault, Why};
+use crate::laws::{faults_are_unique, meanings_are_unique, meanings_exclude_faults};
 use crate::listings::admitted_images_are_meant_by_their_listings;
 use crate::resolving::{line_up_to, resolve_all};
 use crate::table::{Row, Table};
@@ -102,6 +103,9 @@ pub fn assemble<A: Allocator + Copy>(alloc: A, text: &[u8]) -> Result<Image<A>, 
     ensures only_fault { (line : ℕ) (why : Why) → IsFault text.now line why → (result ≡ Err Memory) ⊎ (result ≡ Err (At line why)) }
     ensures listed { (image : List ℕ) (lines : List Line) → IsAdmittedAs image lines → text.now ≡ listing lines → (result ≡ Err Memory) ⊎ (result ≡ Ok image) }
 {
+    meanings_are_unique();
+    faults_are_unique();
+    meanings_exclude_faults();
     admitted_images_are_meant_by_their_listings();
     image_of(alloc, text)
 }

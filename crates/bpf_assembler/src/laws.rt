@@ -16,28 +16,40 @@ ghost use Rattle.bpf_assembler.specs.declared.fault.Why.{Why};
 ghost use Rattle.bpf_assembler.specs.declared.fault.Why.TheVariants.{Load};
 ghost use Rattle.bpf_text.specs.Lines.{Written, Statement};
 
+use bpf_text::laws::readings_are_unique;
+use ocp_loader::{faults_are_of_images_that_may_not_be_run, places_are_counted_in_slots};
+
 /// A text means at most one list of instructions.
 pub fn meanings_are_unique()
     ensures { (text : List ℕ) (a b : List Line) → Means text a → Means text b → a ≡ b }
-{}
+{
+    readings_are_unique();
+}
 
 /// A text has at most one fault, of one line.
 pub fn faults_are_unique()
     ensures { (text : List ℕ) (m n : ℕ) (y z : Why) → IsFault text m y → IsFault text n z → (m ≡ n) × (y ≡ z) }
-{}
+{
+    readings_are_unique();
+}
 
 /// A text that means instructions has no fault but that of their image; so it has none where their image may be run.
 pub fn meanings_exclude_faults()
     ensures image { (text : List ℕ) (lines : List Line) (number : ℕ) (y : Why) → Means text lines → IsFault text number y → (fault : LoadFault) × (y ≡ Load fault) × (judged (image_of lines) ≡ Err fault) }
     ensures admitted { (text : List ℕ) (lines : List Line) (number : ℕ) (y : Why) → Means text lines → IsAdmitted (image_of lines) → ¬ IsFault text number y }
-{}
+{
+    readings_are_unique();
+    faults_are_of_images_that_may_not_be_run();
+}
 
 /// Of a text that means instructions: a label has the place in the image of the next instruction, or at the end of the text
 /// the slot after the last one; and an instruction that names a label leads there, as the loader reads its distance.
 pub fn named_jumps_lead_to_their_labels()
     ensures labels { (text : List ℕ) (ws : List Written) (ls : List Line) (name : List ℕ) (place : ℕ) → IsWritten text ws → AreInstructions ws (entries_of 1 0 ws) ls → (label_place name 0 ws ≡ Some place) ↔ IsLabelAt name ws ls place }
     ensures jumps { (text : List ℕ) (ws : List Written) (ls : List Line) (a b : List Statement) (s : Statement) (c d : List Line) (l : Line) → IsWritten text ws → AreInstructions ws (entries_of 1 0 ws) ls → statements ws ≡ a ++ s ∷ b → ls ≡ c ++ l ∷ d → length a ≡ length c → IsMeantBy ws ls (place_of c) s.line s.name l }
-{}
+{
+    places_are_counted_in_slots();
+}
 
 /// A text is cut at its newlines: a line is what stands in front of one, without a carriage return directly before it; and
 /// what stands behind the last one, unless that is nothing.

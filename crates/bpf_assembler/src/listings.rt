@@ -10,12 +10,15 @@ ghost use Rattle.bpf_listing.specs.Listing.{listing, IsImageOf};
 ghost use Rattle.ocp_loader.specs.Admitted.{IsAdmitted, IsAdmittedAs};
 ghost use Rattle.bpf_assembler.specs.Text.{Means};
 
+use crate::laws::meanings_are_unique;
 use bpf_listing::{images_are_unique, listings_have_a_line_for_each_instruction};
+use bpf_text::laws::canonical_texts_are_read_back;
 
 /// A listing means the instructions that it lists.
 pub fn listings_mean_their_instructions()
     ensures { (lines : List Line) → All IsLine lines → Means (listing lines) lines }
 {
+    canonical_texts_are_read_back();
     listings_have_a_line_for_each_instruction();
 }
 
@@ -27,5 +30,7 @@ pub fn admitted_images_are_meant_by_their_listings()
     ensures listed { (image : List ℕ) (lines : List Line) → IsAdmitted image → IsImageOf image lines → IsAdmittedAs image lines }
 {
     listings_have_a_line_for_each_instruction();
+    canonical_texts_are_read_back();
     images_are_unique();
+    meanings_are_unique();
 }

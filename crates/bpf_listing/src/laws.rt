@@ -4,10 +4,17 @@ ghost use Rattle.std.specs.List.{All, list_all, count_by};
 ghost use Rattle.bpf_types.specs.declared.line.Line.{Line};
 ghost use Rattle.bpf_types.specs.Line.{IsLine};
 ghost use Rattle.bpf_listing.specs.Canonical.{canonical};
+ghost use Rattle.bpf_listing.specs.declared.mnemonic.Mnemonic.{Mnemonic};
 ghost use Rattle.bpf_listing.specs.Listing.{IsImageOf, listing};
+ghost use Rattle.bpf_listing.specs.Mnemonics.{mnemonic_name};
 ghost use Rattle.bpf_listing.specs.Octets.{is_text_octet};
 
 use bpf_decode::instructions_are_unique;
+
+/// A word is the name of one mnemonic at most.
+pub fn mnemonics_are_unique()
+    ensures { (a b : Mnemonic) → mnemonic_name a ≡ mnemonic_name b → a ≡ b }
+{}
 
 /// A text is the canonical one of one instruction at most.
 pub fn canonical_texts_are_unique()

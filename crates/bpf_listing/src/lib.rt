@@ -15,6 +15,7 @@ mod writing;
 pub use disassembly::{DisassembleFault, disassemble};
 pub use laws::{
     canonical_texts_are_unique, images_are_unique, listings_have_a_line_for_each_instruction,
+    mnemonics_are_unique,
 };
 pub use mnemonic::{Access, Jump, Mnemonic, mnemonic_of};
 pub use reading::read_line;

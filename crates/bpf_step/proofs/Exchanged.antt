@@ -1,14 +1,30 @@
 -- Byte order instructions read the low octets of a number in their order.
-use Rattle.std.proofs.Common.{◌≡◌, ℕ, ◌%◌, ◌^◌, ◌<◌, ◌∙◌, ap, arith, [], ◌∷◌}
+use Rattle.std.proofs.Common.{◌≡◌, ℕ, ◌%◌, ◌^◌, ◌<◌, ◌∙◌, refl, ap, arith, List, [], ◌∷◌}
 use Rattle.std.specs.Prelude.{reverse}
-use Rattle.std.specs.Int.{w16, w32, w64, from_be_bytes, swap_bytes}
+use Rattle.std.specs.Int.{w16, w32, w64, from_be_bytes, to_le_bytes, swap_bytes}
 use Rattle.bpf_types.specs.declared.line.Order.{Order}
 use Rattle.bpf_types.specs.declared.line.Order.TheVariants.{Little, Big, Swap}
 use Rattle.bpf_types.specs.declared.line.Swapped.{Swapped}
 use Rattle.bpf_types.specs.declared.line.Swapped.TheVariants.{Bits16, Bits32, Bits64}
 use Rattle.ocp_regions.specs.Memory.{number_of, low_octets}
-use Rattle.ocp_regions.proofs.Numbers.{octets_2, octets_4, octets_8}
 use Rattle.bpf_step.specs.Value.{ordered, octets_kept, read_in}
+
+-- the octets of a number, each by its own division
+two : (a b a' b' : ℕ) → a ≡ a' → b ≡ b' → a ∷ b ∷ [] ≡ a' ∷ b' ∷ []
+two a b a' b' e f = cc
+
+four : (a b c d a' b' c' d' : ℕ) (r r' : List ℕ) → a ≡ a' → b ≡ b' → c ≡ c' → d ≡ d' → r ≡ r' → a ∷ b ∷ c ∷ d ∷ r ≡ a' ∷ b' ∷ c' ∷ d' ∷ r'
+four a b c d a' b' c' d' r r' e f g h k = cc
+
+octets_2 : (a : ℕ) → to_le_bytes w16 (a % 2 ^ 16) ≡ low_octets 2 a
+octets_2 a = two _ _ _ _ (omega arith) (omega arith)
+
+octets_4 : (a : ℕ) → to_le_bytes w32 (a % 2 ^ 32) ≡ low_octets 4 a
+octets_4 a = four _ _ _ _ _ _ _ _ _ _ (omega arith) (omega arith) (omega arith) (omega arith) refl
+
+octets_8 : (a : ℕ) → to_le_bytes w64 a ≡ low_octets 8 a
+octets_8 a = four _ _ _ _ _ _ _ _ _ _ (omega arith) (omega arith) (omega arith) (omega arith)
+    (four _ _ _ _ _ _ _ _ _ _ (omega arith) (omega arith) (omega arith) (omega arith) refl)
 
 backward_2 : (a b : ℕ) → from_be_bytes w16 (a ∷ b ∷ []) ≡ number_of (reverse (a ∷ b ∷ []))
 backward_2 a b = omega arith

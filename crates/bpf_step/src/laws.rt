@@ -12,6 +12,10 @@ ghost use Rattle.bpf_step.specs.Step.{one_step, step};
 ghost use Rattle.bpf_step.specs.Reach.{Reaches, IsFound, IsFramed};
 ghost use Rattle.bpf_step.specs.Value.{modulus, signed, unsigned, ordered, octets_kept, read_in};
 
+use ocp_loader::{
+    images_begin_with_an_instruction, lines_stand_at_their_places, places_lead_to_places,
+};
+
 /// Signed numbers are in two's complement: below half of the modulus a number stands for itself, from there on for
 /// itself less the modulus.
 pub fn signed_numbers_are_in_twos_complement()
@@ -28,19 +32,25 @@ pub fn byte_order_instructions_read_octets_in_order()
 {}
 
 /// The step of an admitted image is that of the line whose octets stand at the place.
-#[tactic(auto, using(crate::proofs::Found::step_of_line))]
 pub fn steps_are_those_of_the_lines()
     ensures { (image : List ℕ) (lines : List Line) (s : State) (l : Line) → IsAdmittedAs image lines → IsAt lines s.place l → one_step image s ≡ step l s }
-{}
+{
+    lines_stand_at_their_places();
+}
 
 /// The machine of an admitted image never meets an undefined opcode, a place outside the code or the second half of a
 /// wide load, whatever it runs and whatever the engine answers.
 pub fn instructions_are_always_found()
     ensures { (image : List ℕ) (s : State) → IsAdmitted image → Reaches image s → IsFound image s }
-{}
+{
+    images_begin_with_an_instruction();
+    places_lead_to_places();
+}
 
 /// R10 of such a machine is 0x10001000 less 512 for each open local call, of which there are at most seven, and so is
 /// each saved one.
 pub fn r10_is_the_frame_pointer_of_the_depth()
     ensures { (image : List ℕ) (s : State) → IsAdmitted image → Reaches image s → IsFramed s }
-{}
+{
+    lines_stand_at_their_places();
+}

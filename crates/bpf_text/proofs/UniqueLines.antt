@@ -18,7 +18,7 @@ use Rattle.bpf_types.specs.declared.line.Swapped.{Swapped}
 use Rattle.bpf_types.specs.declared.line.Swapped.TheVariants as swapped
 use Rattle.bpf_listing.specs.Canonical.{extension_width, extension_bits}
 use Rattle.bpf_listing.specs.Mnemonics.{mnemonic_name}
-use Rattle.bpf_listing.proofs.Unique.{one_mnemonic}
+use Rattle.bpf_listing.specs.declared.mnemonic.Mnemonic.{Mnemonic}
 use Rattle.bpf_text.specs.Number.{IsNumeral}
 use Rattle.bpf_text.specs.Fields.{IsRegister, IsImmediate, IsSecond, IsTarget}
 use Rattle.bpf_text.specs.Lines.{IsOperands, IsForm, IsExtended, IsSwapped, IsBody, HasLabel, Statement, Written, Writes, InRange, mnemonic_of, AreOne}
@@ -27,6 +27,14 @@ use Rattle.bpf_text.proofs.JudgeLemmas.{no_local}
 use Rattle.bpf_text.proofs.ReadingLemmas.{no_colon}
 use Rattle.bpf_text.proofs.UniqueFields.{one_numeral, one_register, one_immediate, one_second, one_target}
 use Rattle.bpf_text.proofs.UniqueForms.{one_alone, one_pair, one_triple, one_load, one_store}
+
+-- what the law of bpf_listing says of mnemonics
+abbrev pub AreNamed : Type 0
+AreNamed = (m n : Mnemonic) → mnemonic_name m ≡ mnemonic_name n → m ≡ n
+
+-- what the law says of lines of text
+abbrev pub AreReadOnce : Type 0
+AreReadOnce = (text : List ℕ) (w v : Written) → Writes text w → InRange w.body → Writes text v → w ≡ v
 
 abbrev extension_from : Width → ℕ → Extension
 extension_from W32 n = if n == 8 then extension.From8To32 else extension.From16To32
@@ -211,32 +219,32 @@ one_operands (line.LoadExtended s dst base z) = one_load_extended s dst base z
 one_operands (line.StoreImmediate s base z y) = one_store_immediate s base z y
 one_operands (line.Store s base z src) = one_store_plain s base z src
 
-pub one_form : (l k : Line) (a b : Option (List ℕ)) (odd : Option ℕ) (tokens : List (List ℕ)) → IsForm l a None tokens → IsForm k b odd tokens → Same l a k b odd
-one_form l k a b odd tokens (x, e, h) (y, f, j) =
+pub one_form : AreNamed → (l k : Line) (a b : Option (List ℕ)) (odd : Option ℕ) (tokens : List (List ℕ)) → IsForm l a None tokens → IsForm k b odd tokens → Same l a k b odd
+one_form named l k a b odd tokens (x, e, h) (y, f, j) =
     let words : mnemonic_name (mnemonic_of l) ≡ mnemonic_name (mnemonic_of k) = cc in
     let others : y ≡ x = cc in
-    one_operands l k a b odd x (one_mnemonic (mnemonic_of l) (mnemonic_of k) words) h (subst (IsOperands k b odd) others j)
+    one_operands l k a b odd x (named (mnemonic_of l) (mnemonic_of k) words) h (subst (IsOperands k b odd) others j)
 
-pub one_body : (s u : Option Statement) (tokens : List (List ℕ)) → IsBody s tokens → InRange s → IsBody u tokens → s ≡ u
-one_body None None tokens h r k = refl
-one_body None (Some u) tokens h r (x, e, k) = absurd cc
-one_body (Some s) None tokens (x, e, h) r k = absurd cc
-one_body (Some s) (Some u) tokens h r k =
-    let same = one_form s.line u.line s.name u.name u.odd tokens (subst (λ (o : Option ℕ). IsForm s.line s.name o tokens) r.1 h) k in
+pub one_body : AreNamed → (s u : Option Statement) (tokens : List (List ℕ)) → IsBody s tokens → InRange s → IsBody u tokens → s ≡ u
+one_body named None None tokens h r k = refl
+one_body named None (Some u) tokens h r (x, e, k) = absurd cc
+one_body named (Some s) None tokens (x, e, h) r k = absurd cc
+one_body named (Some s) (Some u) tokens h r k =
+    let same = one_form named s.line u.line s.name u.name u.odd tokens (subst (λ (o : Option ℕ). IsForm s.line s.name o tokens) r.1 h) k in
     let odd = r.1 ∙ sym same.2 in
     ap Some (λ i. record { line = same.0 i; name = same.1 i; odd = odd i })
 
-pub one_label : (a b : Option (List ℕ)) (s u : Option Statement) (tokens : List (List ℕ)) → HasLabel a s tokens → InRange s → HasLabel b u tokens → (a ≡ b) × (s ≡ u)
-one_label None None s u tokens h r k = (refl, one_body s u tokens h r k)
-one_label None (Some b) s u tokens h r (x, e, n, k) = absurd (no_colon s b x tokens e h)
-one_label (Some a) None s u tokens (x, e, n, h) r k = absurd (no_colon u a x tokens e k)
-one_label (Some a) (Some b) s u tokens (x, e, n, h) r (y, f, m, k) =
+pub one_label : AreNamed → (a b : Option (List ℕ)) (s u : Option Statement) (tokens : List (List ℕ)) → HasLabel a s tokens → InRange s → HasLabel b u tokens → (a ≡ b) × (s ≡ u)
+one_label named None None s u tokens h r k = (refl, one_body named s u tokens h r k)
+one_label named None (Some b) s u tokens h r (x, e, n, k) = absurd (no_colon s b x tokens e h)
+one_label named (Some a) None s u tokens (x, e, n, h) r k = absurd (no_colon u a x tokens e k)
+one_label named (Some a) (Some b) s u tokens (x, e, n, h) r (y, f, m, k) =
     let names : a ≡ b = cc in
     let others : y ≡ x = cc in
-    (ap Some names, one_body s u x h r (subst (IsBody u) others k))
+    (ap Some names, one_body named s u x h r (subst (IsBody u) others k))
 
 -- a line whose numbers are in range is written in one way
-pub one_written : (text : List ℕ) (w v : Written) → Writes text w → InRange w.body → Writes text v → w ≡ v
-one_written text w v h r k =
-    let both = one_label w.label v.label w.body v.body h.0 h.2 r (subst (HasLabel v.label v.body) (one_tokens text k.0 h.0 k.1 h.1) k.2) in
+pub one_written : AreNamed → AreReadOnce
+one_written named text w v h r k =
+    let both = one_label named w.label v.label w.body v.body h.0 h.2 r (subst (HasLabel v.label v.body) (one_tokens text k.0 h.0 k.1 h.1) k.2) in
     λ i. record { label = both.0 i; body = both.1 i }

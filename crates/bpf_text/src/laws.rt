@@ -10,14 +10,20 @@ ghost use Rattle.bpf_text.specs.Judged.{JudgesLine, written};
 ghost use Rattle.bpf_text.specs.declared.line.Parsed.{Parsed};
 ghost use Rattle.bpf_text.specs.declared.line.LineFault.{LineFault};
 
+use bpf_listing::mnemonics_are_unique;
+
 /// A line of text whose numbers are in their ranges is read in one way: it says one label and one instruction.
 pub fn readings_are_unique()
     ensures { (text : List ℕ) (w v : Written) → Writes text w → InRange w.body → Writes text v → w ≡ v }
-{}
+{
+    mnemonics_are_unique();
+}
 
 /// The canonical text of an instruction is a line of assembly text with that instruction, and with no label; `read_line`
 /// answers that instruction.
 pub fn canonical_texts_are_read_back()
     ensures writes { (line : Line) → IsLine line → Writes (canonical line) (alone line) }
     ensures reads { (line : Line) (result : Result Parsed LineFault) → IsLine line → JudgesLine (canonical line) result → MatchResult result (λ p. written p ≡ alone line) (λ fault. ⊥) }
-{}
+{
+    readings_are_unique();
+}

@@ -5,9 +5,8 @@ use Rattle.std.specs.List.{All}
 use Rattle.std.proofs.lemmas.Bool.Decides.{nat_tests}
 use Rattle.std.proofs.lemmas.List.Elements.{All-head, All-tail}
 use Rattle.bpf_types.specs.declared.line.Line.{Line}
-use Rattle.bpf_types.specs.Line.{is_wide, spelling}
-use Rattle.bpf_decode.specs.Decoding.{decoded}
-use Rattle.bpf_decode.proofs.Decoded.{decoded_of}
+use Rattle.bpf_types.specs.Line.{is_wide, spelling, WritesFramePointer}
+use Rattle.bpf_decode.specs.Decoding.{BeginsWith, decoded}
 use Rattle.ocp_loader.specs.declared.fault.LoadFault.{LoadFault}
 use Rattle.ocp_loader.specs.declared.fault.LoadFault.TheVariants.{EmptyCode, RaggedCode, TooLong, BadCall, FallsOffEnd, Memory}
 use Rattle.bpf_listing.specs.Listing.{image_of}
@@ -21,6 +20,14 @@ use Rattle.ocp_loader.proofs.Sound.{IsSound, sound_of}
 use Rattle.ocp_loader.proofs.Laid.{by_slot-append}
 use Rattle.ocp_loader.proofs.Stay.{last_at}
 use Rattle.ocp_loader.proofs.Admit.{narrow}
+
+-- what the law of bpf_decode says of octets
+abbrev pub AreDecoded : Type 0
+AreDecoded = (octets : List ℕ) (l : Line) → BeginsWith octets l → ¬ WritesFramePointer l → decoded octets ≡ Ok l
+
+-- what the law says of images that may be run
+abbrev pub AreJudged : Type 0
+AreJudged = (image : List ℕ) (lines : List Line) → IsAdmittedAs image lines → judged image ≡ Ok (by_slot lines)
 
 line_step : (image : List ℕ) (n : ℕ) (lines : List (Option Line)) (l : Line) (b : Bool) → is_wide l ≡ b → slots_read image n ≡ Ok (record { lines = lines; second = false }) →
     decoded (drop (8 * n) image) ≡ Ok l → calls_well l ≡ true → slots_read image (suc n) ≡ Ok (record { lines = lines ++ Some l ∷ []; second = b })
@@ -36,24 +43,24 @@ slots_step image n lines l true w so_far d c =
     rw e (ap (slot_read image (suc n)) (line_step image n lines l true w so_far d c)
     ∙ ap (λ x. Ok (record { lines = x; second = false })) (append_assoc lines (Some l ∷ []) (None ∷ [])))
 
-reads : (image : List ℕ) (before after : List Line) → image ≡ image_of (before ++ after) → All IsPlain after →
+reads : AreDecoded → (image : List ℕ) (before after : List Line) → image ≡ image_of (before ++ after) → All IsPlain after →
     slots_read image (length (by_slot before)) ≡ Ok (record { lines = by_slot before; second = false }) →
     slots_read image (length (by_slot (before ++ after))) ≡ Ok (record { lines = by_slot (before ++ after); second = false })
-reads image before [] e plain so_far = subst (λ ls. slots_read image (length (by_slot ls)) ≡ Ok (record { lines = by_slot ls; second = false })) (sym (append_nil before)) so_far
-reads image before (l ∷ after) e plain so_far =
+reads decodes image before [] e plain so_far = subst (λ ls. slots_read image (length (by_slot ls)) ≡ Ok (record { lines = by_slot ls; second = false })) (sym (append_nil before)) so_far
+reads decodes image before (l ∷ after) e plain so_far =
     let p : IsPlain l = All-head IsPlain l after plain in
     let n = length (by_slot before) in
     let again : (before ++ l ∷ []) ++ after ≡ before ++ l ∷ after = append_assoc before (l ∷ []) after in
     let parts : image ≡ image_of before ++ (spelling l ++ image_of after) = e ∙ image_of-append before (l ∷ after) in
     let here : drop (8 * n) image ≡ spelling l ++ image_of after = ap (λ k. drop k image) (sym (length_image before)) ∙ ap (λ xs. drop (length (image_of before)) xs) parts ∙ drop_front (image_of before) (spelling l ++ image_of after) in
-    let read : decoded (drop (8 * n) image) ≡ Ok l = decoded_of (drop (8 * n) image) l (p.0, image_of after, here) p.1 in
+    let read : decoded (drop (8 * n) image) ≡ Ok l = decodes (drop (8 * n) image) l (p.0, image_of after, here) p.1 in
     let next = slots_step image n (by_slot before) l (is_wide l) refl so_far read p.2 in
     let slots : by_slot (before ++ l ∷ []) ≡ by_slot before ++ slots_of l = by_slot-append before (l ∷ []) ∙ ap (λ xs. by_slot before ++ xs) (append_nil (slots_of l)) in
     let count : length (by_slot (before ++ l ∷ [])) ≡ n + length (slots_of l) = ap length slots ∙ length-append (by_slot before) (slots_of l) in
     let done : slots_read image (length (by_slot (before ++ l ∷ []))) ≡ Ok (record { lines = by_slot (before ++ l ∷ []); second = false }) =
     ap (slots_read image) count ∙ next ∙ ap (λ x. Ok (record { lines = x; second = false })) (sym slots) in
     subst (λ ls. slots_read image (length (by_slot ls)) ≡ Ok (record { lines = by_slot ls; second = false })) again
-    (reads image (before ++ l ∷ []) after (e ∙ ap image_of (sym again)) (All-tail IsPlain l after plain) done)
+    (reads decodes image (before ++ l ∷ []) after (e ∙ ap image_of (sym again)) (All-tail IsPlain l after plain) done)
 
 none_astray : (lines : List (Option Line)) (n : ℕ) → ((p : ℕ) → is_aimed lines p (line_in lines p) ≡ true) → first_astray lines n ≡ None
 none_astray lines zero a = refl
@@ -73,28 +80,28 @@ by_tests false true false q ms x y z h = h
 tests : (n k : ℕ) → n ≡ 8 * k → 0 < k → k ≤ 2048 → ((n == 0) ≡ false) × ((n % 8 == 0) ≡ true) × (nat_lt 16384 n ≡ false) × (n / 8 ≡ k)
 tests n k e p l = (grind (arith, nat_tests), grind (arith, nat_tests), grind (arith, nat_tests), omega (arith, e))
 
-complete_by_slot : (image : List ℕ) (lines : List Line) → IsSound image lines → judged image ≡ Ok (by_slot lines)
+complete_by_slot : AreDecoded → (image : List ℕ) (lines : List Line) → IsSound image lines → judged image ≡ Ok (by_slot lines)
 unfolding judged
-complete_by_slot image lines a =
+complete_by_slot decodes image lines a =
     let n = length (by_slot lines) in
     let ends = a.ends in
     let wide : is_wide ends.1 ≡ false = narrow ends.1 (is_wide ends.1) refl ends.3 in
     let shape : by_slot ends.0 ++ Some ends.1 ∷ [] ≡ by_slot lines = sym (ap by_slot ends.2 ∙ by_slot-append ends.0 (ends.1 ∷ []) ∙ ap (λ b. by_slot ends.0 ++ ((Some ends.1 ∷ second_of b) ++ [])) wide) in
     let some : 0 < n = omega (arith, sym (ap length shape) ∙ length-append (by_slot ends.0) (Some ends.1 ∷ [])) in
     let t = tests (length image) n (ap length a.whole.1 ∙ length_image lines) some a.short in
-    let read : slots_read image (length image / 8) ≡ Ok (record { lines = by_slot lines; second = false }) = ap (slots_read image) t.3 ∙ reads image [] lines a.whole.1 a.whole.0 refl in
+    let read : slots_read image (length image / 8) ≡ Ok (record { lines = by_slot lines; second = false }) = ap (slots_read image) t.3 ∙ reads decodes image [] lines a.whole.1 a.whole.0 refl in
     let astray : first_astray (by_slot lines) n ≡ None = none_astray (by_slot lines) n (λ p. aimed_by (by_slot lines) p (line_in (by_slot lines) p) refl (a.aimed p)) in
     let end : end_fault n (line_in (by_slot lines) (n - 1)) ≡ None = ap (end_fault n) (last_at (by_slot ends.0) (Some ends.1) (by_slot lines) shape) ∙ ap (λ b. if b then None else Some (FallsOffEnd (n - 1))) ends.3 in
     by_tests _ _ _ (lines_judged (slots_read image (length image / 8))) (by_slot lines) t.0 t.1 t.2
     (ap lines_judged read ∙ ap (λ o. unless (lines_fault (by_slot lines) o) (by_slot lines)) astray ∙ ap (λ f. unless f (by_slot lines)) end)
 
-pub complete : (image : List ℕ) (lines : List Line) → IsAdmittedAs image lines → judged image ≡ Ok (by_slot lines)
-complete image lines a = complete_by_slot image lines (sound_of image lines a)
+pub complete : AreDecoded → AreJudged
+complete decodes image lines a = complete_by_slot decodes image lines (sound_of image lines a)
 
 -- an image with a fault is not admitted
-pub not_admitted : (image : List ℕ) (fault : LoadFault) → judged image ≡ Err fault → IsAdmitted image → ⊥
-not_admitted image fault h a = let ok : judged image ≡ Ok (by_slot a.lines) = complete image a.lines a.admitted in absurd cc
+pub not_admitted : AreDecoded → (image : List ℕ) (fault : LoadFault) → judged image ≡ Err fault → IsAdmitted image → ⊥
+not_admitted decodes image fault h a = let ok : judged image ≡ Ok (by_slot a.lines) = complete decodes image a.lines a.admitted in absurd cc
 
-pub refused : (image : List ℕ) (fault : LoadFault) → (fault ≡ Memory) ⊎ (judged image ≡ Err fault) → (fault ≡ Memory) ⊎ ¬ IsAdmitted image
-refused image fault (inl e) = inl e
-refused image fault (inr e) = inr (not_admitted image fault e)
+pub refused : (image : List ℕ) (fault : LoadFault) → (judged image ≡ Err fault → ¬ IsAdmitted image) → (fault ≡ Memory) ⊎ (judged image ≡ Err fault) → (fault ≡ Memory) ⊎ ¬ IsAdmitted image
+refused image fault never (inl e) = inl e
+refused image fault never (inr e) = inr (never e)

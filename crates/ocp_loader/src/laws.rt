@@ -1,20 +1,46 @@
 //! Laws on images and their lines. The functions do nothing when they run: their contracts are the laws.
-ghost use Rattle.std.specs.Prelude.{◌≡◌, ℕ, ◌↔◌, List, Some};
+ghost use Rattle.std.specs.Prelude.{◌≡◌, ℕ, ◌↔◌, List, length, Some, Ok, Err};
 ghost use Rattle.bpf_types.specs.declared.line.Line.{Line};
-ghost use Rattle.ocp_loader.specs.Places.{IsAt, Continues};
-ghost use Rattle.ocp_loader.specs.Admitted.{IsAdmittedAs};
-ghost use Rattle.ocp_loader.specs.Judging.{line_of, StaysIn};
+ghost use Rattle.ocp_loader.specs.declared.fault.LoadFault.{LoadFault};
+ghost use Rattle.ocp_loader.specs.Image.{by_slot};
+ghost use Rattle.ocp_loader.specs.Places.{IsAt, Continues, place_of};
+ghost use Rattle.ocp_loader.specs.Admitted.{IsAdmitted, IsAdmittedAs};
+ghost use Rattle.ocp_loader.specs.Judging.{judged, line_of, IsPlace, Stands};
+
+use bpf_decode::instructions_are_decoded;
+
+/// An image that may be run is judged to be its lines by slot; so an image that has a fault may not be run.
+pub fn faults_are_of_images_that_may_not_be_run()
+    ensures admitted { (image : List ℕ) (lines : List Line) → IsAdmittedAs image lines → judged image ≡ Ok (by_slot lines) }
+    ensures refused { (image : List ℕ) (fault : LoadFault) → judged image ≡ Err fault → ¬ IsAdmitted image }
+{
+    instructions_are_decoded();
+}
+
+/// The place of a line is the number of slots of the lines before it: a wide load has two, each other line has one.
+#[tactic(auto, using(crate::proofs::Octets::place_by_slot))]
+pub fn places_are_counted_in_slots()
+    ensures { (before : List Line) → place_of before ≡ length (by_slot before) }
+{}
+
+/// An image that may be run begins with an instruction: a line has its first slot at slot 0.
+pub fn images_begin_with_an_instruction()
+    ensures { (image : List ℕ) → IsAdmitted image → IsPlace image 0 }
+{
+    faults_are_of_images_that_may_not_be_run();
+}
 
 /// Of an image that may be run: from the place of a line, every place that follows is the place of a line, be it the
 /// next one or the target of a jump or a local call. So no undefined opcode, no place outside the code and no second
 /// half of a wide load is met.
-#[tactic(auto, using(crate::proofs::Stay::stays_in))]
 pub fn places_lead_to_places()
     ensures lines { (image : List ℕ) (lines : List Line) (slot : ℕ) (l : Line) → IsAdmittedAs image lines → IsAt lines slot l → Continues lines slot l }
-    ensures slots { (image : List ℕ) (slot : ℕ) (l : Line) → line_of image slot ≡ Some l → StaysIn image slot l }
+    ensures slots { (image : List ℕ) (slot : ℕ) (l : Line) → line_of image slot ≡ Some l → Stands image slot l }
 {}
 
 /// Of an image that may be run: the line at a slot is the one that has that place.
 pub fn lines_stand_at_their_places()
     ensures { (image : List ℕ) (lines : List Line) (slot : ℕ) (l : Line) → IsAdmittedAs image lines → (line_of image slot ≡ Some l) ↔ IsAt lines slot l }
-{}
+{
+    faults_are_of_images_that_may_not_be_run();
+}

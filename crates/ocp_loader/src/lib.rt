@@ -12,5 +12,8 @@ mod tests;
 
 pub use bpf_listing::images_are_unique;
 pub use fault::LoadFault;
-pub use laws::{lines_stand_at_their_places, places_lead_to_places};
+pub use laws::{
+    faults_are_of_images_that_may_not_be_run, images_begin_with_an_instruction,
+    lines_stand_at_their_places, places_are_counted_in_slots, places_lead_to_places,
+};
 pub use program::{Program, load};

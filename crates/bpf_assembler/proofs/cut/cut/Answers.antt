@@ -1,7 +1,6 @@
 use Rattle.std.proofs.Common.{◌≡◌, ◌∙◌, ◌+◌, ◌-◌, suc, length, take, drop, ap, arith, add-one}
 use Rattle.std.specs.Str.Lines.{strip_carriage_return}
-use Rattle.bpf_text.proofs.Scanning.{whole_drop, none_left}
-use Rattle.bpf_assembler.proofs.Cutting.{ended_line, open_line}
+use Rattle.bpf_assembler.proofs.Cutting.{ended_line, open_line, whole_drop, none_left}
 use Rattle.bpf_assembler.proofs.cut.cut.Goals as goal
 
 pub returns-then-octet-eq10-clause-lines : goal.returns-then-octet-eq10-clause-lines

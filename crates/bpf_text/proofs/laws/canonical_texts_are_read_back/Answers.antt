@@ -6,4 +6,4 @@ pub returns-clause-writes : goal.returns-clause-writes
 returns-clause-writes c = canonical_written
 
 pub returns-clause-reads : goal.returns-clause-reads
-returns-clause-reads c = λ l r h k. reads_canonical l h r k
+returns-clause-reads c = λ l r h k. reads_canonical c.readings_are_unique.ensures l h r k
