@@ -8,3 +8,4 @@ pub mod Requests
 pub mod Faulty
 pub mod OneOutput
 pub mod OneImage
+pub mod Taking

@@ -4,6 +4,7 @@ pub mod Texts
 pub mod Answering
 pub mod Script
 pub mod Session
+pub mod Reading
 pub mod Commands
 pub mod Listings
 pub mod Assembly

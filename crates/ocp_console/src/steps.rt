@@ -6,6 +6,7 @@ ghost use Rattle.std.specs.Str.Lines.{strip_carriage_return};
 ghost use Rattle.ocp_console.specs.Answering.{state_of};
 ghost use Rattle.ocp_console.specs.Lines.{Line, text_of, octets_of};
 ghost use Rattle.ocp_console.specs.Script.{PrintsFront, Prints, Answers, run_of, error_line};
+ghost use Rattle.ocp_console.specs.Reading.{Took};
 ghost use Rattle.ocp_console.specs.Session.{rest_of, taken};
 
 use crate::answering::answer;
@@ -99,6 +100,7 @@ pub(crate) fn feed<W: Sink, A: Allocator + Copy>(
     requires { W.failed_writes writer.old < 2 ^ 64 - 1 }
     ensures run { Answers (W.contents writer.old) (W.contents writer.new) (λ more. rest_of session.old (octet ∷ more)) (λ more. rest_of session.new more) result }
     ensures taken { OnOk result (taken session.old < taken session.new) }
+    ensures took { (octets : List ℕ) → Took session.old.before session.old.line.items octets → OnOk result (Took session.new.before session.new.line.items (octets ++ octet ∷ [])) }
     ensures count { MatchResult result (λ _. W.failed_writes writer.new ≡ W.failed_writes writer.old) (λ e. e ≡ ConsoleFault.Write → W.failed_writes writer.old < W.failed_writes writer.new) }
     ensures no_read { IsErrOf result ConsoleFault.Read → ⊥ }
 {
@@ -141,6 +143,7 @@ pub(crate) fn feed_all<W: Sink, A: Allocator + Copy>(
     requires { W.failed_writes writer.old < 2 ^ 64 - 1 }
     ensures run { Answers (W.contents writer.old) (W.contents writer.new) (λ more. rest_of session.old (octets.now ++ more)) (λ more. rest_of session.new more) result }
     ensures taken { OnOk result (taken session.old + length octets.now ≤ taken session.new) }
+    ensures took { (front : List ℕ) → Took session.old.before session.old.line.items front → OnOk result (Took session.new.before session.new.line.items (front ++ octets.now)) }
     ensures count { MatchResult result (λ _. W.failed_writes writer.new ≡ W.failed_writes writer.old) (λ e. e ≡ ConsoleFault.Write → W.failed_writes writer.old < W.failed_writes writer.new) }
     ensures no_read { IsErrOf result ConsoleFault.Read → ⊥ }
 {

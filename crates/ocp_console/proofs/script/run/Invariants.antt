@@ -1,4 +1,6 @@
-use Rattle.std.proofs.Common.{◌≡◌, ◌-◌, length}
+use Rattle.std.proofs.Common.{◌≡◌, ◌-◌, ℕ, List, length}
+use Rattle.std.specs.Io.KnownBytes.{Consumes}
+use Rattle.ocp_console.specs.Reading.{Took}
 use Rattle.ocp_console.specs.Session.{rest_of, taken}
 use Rattle.ocp_console.specs.Script.{transcript}
 use Rattle.ocp_console.proofs.Scripts.{Answered}
@@ -8,6 +10,7 @@ abbrev pub invariant-loop-count : goal.invariant-loop-count
 invariant-loop-count g l = record {
   room : length l.chunk ≡ 4096;
   answered : Answered (g.R.Source.remaining l.initial.reader) (g.R.Source.remaining l.reader) (g.W.Sink.contents l.initial.writer) (g.W.Sink.contents l.writer) (transcript l.fn.settings) (rest_of l.session);
+  took : (front : List ℕ) × Consumes (g.R.Source.remaining l.initial.reader) (g.R.Source.remaining l.reader) front × Took l.session.before l.session.line.items front;
   reads : g.R.Source.failed_reads l.reader ≡ g.R.Source.failed_reads l.initial.reader;
   writes : g.W.Sink.failed_writes l.writer ≡ g.W.Sink.failed_writes l.initial.writer;
 }

@@ -6,6 +6,7 @@ use Rattle.ocp_console.proofs.Cutting.{some_line}
 use Rattle.ocp_console.proofs.Runs.{too_many, too_long, prints_of, newline_run, newline_done, full_line, pushed_line}
 use Rattle.std.specs.Str.Lines.{strip_carriage_return}
 use Rattle.std.proofs.lemmas.Grind.{common_steps}
+use Rattle.ocp_console.proofs.Taking.{newline_taken}
 use Rattle.ocp_console.proofs.steps.feed.Goals as goal
 
 pub returns-then-session-eq-MAX_LINES-clause-run : goal.returns-then-session-eq-MAX_LINES-clause-run
@@ -40,3 +41,8 @@ returns-in_ok-line_answer-clause-run g c =
     let same : c.stripped-text.result.now ≡ strip_carriage_return s.line.items = c.stripped-text.ensures ∙ ap strip_carriage_return c.deref.ensures.value in
     let h = c.in_ok-line_answer.ensures.answers (Ended s.line.items) (sym same) (omega (arith, s.short, s.line.ok.0)) in
     (h.0, h.1, λ more. newline_done (state_of s.console) (state_of c.line_answer.new.console) s.before s.line.items c.args.octet h.0 c.clear.new.self.items more s.one_line c.if-octet-eq10.true c.clear.ensures.items (h.2 (lines_of more)))
+
+pub returns-in_ok-line_answer-clause-took : goal.returns-in_ok-line_answer-clause-took
+returns-in_ok-line_answer-clause-took g c octets took =
+    let s = c.args.session.now in
+    newline_taken s.before s.line.items c.clear.new.self.items octets c.args.octet s.one_line (omega (arith, s.short, s.line.ok.0)) c.if-octet-eq10.true c.clear.ensures.items took
