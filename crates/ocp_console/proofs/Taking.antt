@@ -2,7 +2,7 @@
 use Rattle.std.proofs.Common.{◌≡◌, ◌≢◌, ◌<◌, ◌≤◌, ◌+◌, ℕ, List, [], ◌∷◌, ◌++◌, true, Option, Some, None, IfSome, refl, sym, ap, ◌∙◌, subst, arith, length, length-append, take, drop, get_or, append_assoc, append-nil, take-append-drop}
 use Rattle.std.proofs.lemmas.List.{take_more, take_all}
 use Rattle.std.specs.Io.KnownBytes.{Consumes, Keeps}
-use Rattle.std.proofs.KnownBytes.{Keeps-refl, Consumes-nil, Consumes-kept, Consumes-trans}
+use Rattle.std.proofs.KnownBytes.{Consumes-nil, Consumes-kept}
 use Rattle.ocp_console.specs.Lines.{Line, Ended, Open, lines_of, is_one_line, octets_of}
 use Rattle.ocp_console.specs.Reading.{AreShort, IsWithin, Took, ReadsWithin}
 use Rattle.ocp_console.proofs.Cutting.{ended_line, open_line}

@@ -1,4 +1,4 @@
-use Rattle.std.proofs.Common.{ℕ, [], ◌++◌, length, take, arith, ◌∙◌, ap, refl}
+use Rattle.std.proofs.Common.{ℕ, [], ◌++◌, take, arith, ◌∙◌, ap, refl}
 use Rattle.std.proofs.lemmas.Result.{err_from_is_err_and}
 use Rattle.ocp_console.specs.Session.{rest_of}
 use Rattle.ocp_console.specs.Script.{transcript}
