@@ -5,3 +5,4 @@ pub mod Unique
 pub mod Texts
 pub mod Listings
 pub mod Images
+pub mod Faulty

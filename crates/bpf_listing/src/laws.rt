@@ -1,15 +1,16 @@
 //! Laws of canonical texts and listings.
-ghost use Rattle.std.specs.Prelude.{◌≡◌, IsTrue, ◌==◌, List, ℕ, length};
+ghost use Rattle.std.specs.Prelude.{◌≡◌, IsTrue, ◌==◌, ◌%◌, List, [], ℕ, length};
 ghost use Rattle.std.specs.List.{All, list_all, count_by};
 ghost use Rattle.bpf_types.specs.declared.line.Line.{Line};
 ghost use Rattle.bpf_types.specs.Line.{IsLine};
+ghost use Rattle.bpf_decode.specs.declared.fault.DecodeFault.{DecodeFault};
 ghost use Rattle.bpf_listing.specs.Canonical.{canonical};
 ghost use Rattle.bpf_listing.specs.declared.mnemonic.Mnemonic.{Mnemonic};
-ghost use Rattle.bpf_listing.specs.Listing.{IsImageOf, listing};
+ghost use Rattle.bpf_listing.specs.Listing.{IsImageOf, IsListed, HasFaultAt, listing};
 ghost use Rattle.bpf_listing.specs.Mnemonics.{mnemonic_name};
 ghost use Rattle.bpf_listing.specs.Octets.{is_text_octet};
 
-use bpf_decode::instructions_are_unique;
+use bpf_decode::{faults_are_unique, instructions_are_unique};
 
 /// A word is the name of one mnemonic at most.
 pub fn mnemonics_are_unique()
@@ -33,4 +34,16 @@ pub fn images_are_unique()
     ensures { (image : List ℕ) (a b : List Line) → IsImageOf image a → IsImageOf image b → a ≡ b }
 {
     instructions_are_unique();
+}
+
+/// Octets have one listing at most, and then they are whole slots and have no fault; or they have one first fault at one
+/// slot.
+pub fn listings_and_faults_are_unique()
+    ensures listing { (image a b : List ℕ) → IsListed image [] a → IsListed image [] b → a ≡ b }
+    ensures slots { (image a : List ℕ) → IsListed image [] a → length image % 8 ≡ 0 }
+    ensures sound { (image a : List ℕ) (slot : ℕ) (fault : DecodeFault) → IsListed image [] a → ¬ HasFaultAt image slot fault }
+    ensures fault { (image : List ℕ) (s t : ℕ) (f g : DecodeFault) → HasFaultAt image s f → HasFaultAt image t g → (f ≡ g) × (s ≡ t) }
+{
+    instructions_are_unique();
+    faults_are_unique();
 }

@@ -5,7 +5,6 @@ pub mod Scripts
 pub mod TextLemmas
 pub mod Inputs
 pub mod Requests
-pub mod Faulty
 pub mod OneOutput
 pub mod OneImage
 pub mod Taking

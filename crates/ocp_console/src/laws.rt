@@ -5,14 +5,13 @@ ghost use Rattle.ocp_console.specs.Assembly.{Assembles};
 ghost use Rattle.ocp_console.specs.Listings.{Lists};
 
 use bpf_assembler::laws as texts;
-use bpf_decode::{faults_are_unique, instructions_are_unique};
+use bpf_listing::listings_and_faults_are_unique;
 
 /// An input of `list` has one output and one answer at most: it is a function of the input.
 pub fn listings_are_unique()
     ensures { (input a b : List ℕ) (x y : Bool) → Lists input a x → Lists input b y → (a ≡ b) × (x ≡ y) }
 {
-    instructions_are_unique();
-    faults_are_unique();
+    listings_and_faults_are_unique();
 }
 
 /// An input of `asm` has one output and one answer at most: it is a function of the input.

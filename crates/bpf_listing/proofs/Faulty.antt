@@ -1,5 +1,5 @@
 -- An image has one listing, or one fault at one slot.
-use Rattle.std.proofs.Common.{◌≡◌, ◌*◌, ◌<◌, ℕ, suc, List, [], ◌∷◌, ◌++◌, sym, ap, ◌∙◌, subst, arith, length, length-append, length-drop, take, drop, append_assoc, take-append-drop}
+use Rattle.std.proofs.Common.{◌≡◌, ◌*◌, ◌%◌, ◌<◌, ℕ, suc, List, [], ◌∷◌, ◌++◌, sym, ap, ◌∙◌, subst, arith, length, length-append, length-drop, take, drop, append_assoc, take-append-drop}
 use Rattle.std.specs.List.{All}
 use Rattle.std.proofs.lemmas.List.{take-append-le, drop-append-le}
 use Rattle.bpf_types.specs.declared.line.Line.{Line}
@@ -7,7 +7,7 @@ use Rattle.bpf_types.specs.Line.{spelling, IsLine, WritesFramePointer}
 use Rattle.bpf_decode.specs.declared.fault.DecodeFault.{DecodeFault}
 use Rattle.bpf_decode.specs.Faults.{IsFirst}
 use Rattle.bpf_listing.specs.Listing.{IsListed, HasFaultAt, NoneWritesFramePointer, image_of, listing}
-use Rattle.bpf_listing.proofs.Images.{OneLine, NoFault, continues, one_image, no_lines}
+use Rattle.bpf_listing.proofs.Images.{OneLine, NoFault, continues, one_image, no_lines, whole_slots}
 
 abbrev pub OneFault : Type 0
 OneFault = (octets : List ℕ) (a b : DecodeFault) → IsFirst a octets → IsFirst b octets → a ≡ b
@@ -48,3 +48,6 @@ one_listing one image a b h k = h.text ∙ ap listing (one_image one image h.lin
 
 pub not_both : OneLine → NoFault → (image a : List ℕ) (s : ℕ) (f : DecodeFault) → IsListed image [] a → HasFaultAt image s f → ⊥
 not_both one none image a s f h k = no_lines one none image s f h.lines k h.whole h.permitted
+
+pub listed_slots : (image a : List ℕ) → IsListed image [] a → length image % 8 ≡ 0
+listed_slots image a h = ap (λ (o : List ℕ). length o % 8) h.whole.octets ∙ whole_slots h.lines
