@@ -87,7 +87,7 @@ impl<A: Allocator> Journal<A> {
     pub fn is_full(&self) -> bool
         ensures { result ≡ is_full self.now }
     {
-        self.entries.len() == self.capacity as usize
+        self.len() == self.capacity as usize
     }
 
     /// The entries, oldest first.
