@@ -9,7 +9,7 @@ use Rattle.ocp_loader.specs.declared.fault.LoadFault.{LoadFault}
 use Rattle.ocp_loader.specs.declared.fault.LoadFault.TheVariants as load
 use Rattle.ocp_loader.specs.FaultNumbers.{number_of, slot_of}
 use Rattle.ocp_loader.specs.Faults.{IsFirstFault}
-use Rattle.ocp_loader.specs.Judging.{judged}
+use Rattle.ocp_loader.specs.LoadResult.{load_result}
 use Rattle.ocp_loader.specs.Admitted.{IsAdmitted, IsAdmittedAs, HasSlots}
 use Rattle.bpf_text.specs.Lines.{Written, Statement}
 use Rattle.bpf_assembler.specs.Text.{Entry, entries_of, entry_of, AreInstructions, slots}
@@ -49,16 +49,16 @@ line_found number ws (e ∷ es) slot n is some (inl h) = let zero : e.place ≡ 
 
 -- the image may not be run, for this fault
 abbrev IsRefused : List ℕ → LoadFault → Type 0
-IsRefused octets fault = ((fault ≡ load.Memory) ⊎ (judged octets ≡ Err fault)) × IsFirstFault octets fault
+IsRefused octets fault = ((fault ≡ load.Memory) ⊎ (load_result octets ≡ Err fault)) × IsFirstFault octets fault
 
 refused : (text : List ℕ) (m : BTreeMap (Bor (List ℕ)) ℕ) (rows : List Row) (octets : List ℕ) (fault : LoadFault) (n : ℕ) (t : IsCollected text m rows) → AreResolved t.lines (map entry rows) octets
-    → judged octets ≡ Err fault → IsLineOf (nat_le (number_of fault) 3) (map entry rows) (slot_of fault) n → IsFault text n (why.Load fault)
+    → load_result octets ≡ Err fault → IsLineOf (nat_le (number_of fault) 3) (map entry rows) (slot_of fault) n → IsFault text n (why.Load fault)
 refused text m rows octets fault n t r e counted = inr (inr (record {
   lines = t.lines;
   instructions = r.lines;
   written = t.written;
   meant = subst (λ (es : List Entry). AreInstructions t.lines es r.lines) t.rows r.instructions;
-  refused = ap judged (sym r.image.octets) ∙ e;
+  refused = ap load_result (sym r.image.octets) ∙ e;
   counted = subst (λ (es : List Entry). IsLineOf (nat_le (number_of fault) 3) es (slot_of fault) n) t.rows counted;
 }))
 
@@ -78,7 +78,7 @@ of_slot text m rows octets fault f t r high other slots (inr e, first) (n, is, u
     subst (IsFaultOf text) (sym is) (refused text m rows octets fault n t r e (subst (λ (b : Bool). IsLineOf b (map entry rows) (slot_of fault) n) (sym high) found))
 
 pub reported_fault : (text : List ℕ) (m : BTreeMap (Bor (List ℕ)) ℕ) (rows : List Row) (octets : List ℕ) (fault : LoadFault) (f : AsmFault) (t : IsCollected text m rows) → AreResolved t.lines (map entry rows) octets
-    → (fault ≡ load.Memory) ⊎ (judged octets ≡ Err fault) → IsFirstFault octets fault → IsReported (map entry rows) fault f → IsFaultOf text f
+    → (fault ≡ load.Memory) ⊎ (load_result octets ≡ Err fault) → IsFirstFault octets fault → IsReported (map entry rows) fault f → IsFaultOf text f
 reported_fault text m rows octets load.Memory f t r e first is = subst (IsFaultOf text) (sym is) tt
 reported_fault text m rows octets load.EmptyCode f t r e first is = of_length text m rows octets load.EmptyCode f t r refl (λ x. cc) (e, first) is
 reported_fault text m rows octets load.RaggedCode f t r e first is = of_length text m rows octets load.RaggedCode f t r refl (λ x. cc) (e, first) is

@@ -8,7 +8,7 @@ use Rattle.bpf_types.specs.Line.{IsLine}
 use Rattle.bpf_listing.specs.Listing.{image_of}
 use Rattle.ocp_loader.specs.declared.fault.LoadFault.{LoadFault}
 use Rattle.ocp_loader.specs.FaultNumbers.{number_of, slot_of}
-use Rattle.ocp_loader.specs.Judging.{judged}
+use Rattle.ocp_loader.specs.LoadResult.{load_result}
 use Rattle.ocp_loader.specs.Admitted.{IsAdmitted}
 use Rattle.bpf_text.specs.Lines.{Written, Writes, InRange}
 use Rattle.bpf_assembler.specs.Text.{lines_of, EachWritten, IsNew, AreDistinct, Entry, entries_of, aimed_at, IsInstruction, AreInstructions, IsWritten, Means}
@@ -221,10 +221,10 @@ one_line_of true es slot m n h k = h ∙ sym k
 one_line_of false es slot m n h k = one_line_of_slot es slot m n h k
 
 -- the instructions of a text are those whose image has the fault
-pub load_fault_of : AreReadOnce → (text : List ℕ) (ws : List Written) (ls : List Line) (number : ℕ) (fault : LoadFault) → IsWritten text ws → AreInstructions ws (entries_of 1 0 ws) ls → HasLoadFault text number fault → judged (image_of ls) ≡ Err fault
+pub load_fault_of : AreReadOnce → (text : List ℕ) (ws : List Written) (ls : List Line) (number : ℕ) (fault : LoadFault) → IsWritten text ws → AreInstructions ws (entries_of 1 0 ws) ls → HasLoadFault text number fault → load_result (image_of ls) ≡ Err fault
 load_fault_of once text ws ls number fault h is k =
     let same = meant_by once k.lines ws k.instructions ls (one_list once text k.lines ws k.written h) k.meant is in
-    subst (λ (x : List Line). judged (image_of x) ≡ Err fault) same k.refused
+    subst (λ (x : List Line). load_result (image_of x) ≡ Err fault) same k.refused
 
 one_load_fault : AreReadOnce → (text : List ℕ) (m n : ℕ) (f g : LoadFault) → HasLoadFault text m f → HasLoadFault text n g → (m ≡ n) × (f ≡ g)
 one_load_fault once text m n f g h k =
@@ -271,18 +271,18 @@ one_fault once text m n y z (inr (inr h)) (inr (inl k)) = absurd (load_alone onc
 one_fault once text m n y z (inr (inr h)) (inr (inr k)) = loads once text m n y z h k
 
 -- the fault of a text that means instructions is that of their image
-loaded : AreReadOnce → (text : List ℕ) (ls : List Line) (number : ℕ) (y : Why) → Means text ls → IsLoadFault text number y → (fault : LoadFault) × (y ≡ why.Load fault) × (judged (image_of ls) ≡ Err fault)
+loaded : AreReadOnce → (text : List ℕ) (ls : List Line) (number : ℕ) (y : Why) → Means text ls → IsLoadFault text number y → (fault : LoadFault) × (y ≡ why.Load fault) × (load_result (image_of ls) ≡ Err fault)
 loaded once text ls number (why.Load fault) h k = (fault, refl, load_fault_of once text h.lines ls number fault h.written h.instructions k)
 loaded once text ls number why.Syntax h k = absurd k
 loaded once text ls number why.Range h k = absurd k
 loaded once text ls number why.DuplicateLabel h k = absurd k
 loaded once text ls number why.UnknownLabel h k = absurd k
 
-pub fault_of_meaning : AreReadOnce → (text : List ℕ) (ls : List Line) (number : ℕ) (y : Why) → Means text ls → IsFault text number y → (fault : LoadFault) × (y ≡ why.Load fault) × (judged (image_of ls) ≡ Err fault)
+pub fault_of_meaning : AreReadOnce → (text : List ℕ) (ls : List Line) (number : ℕ) (y : Why) → Means text ls → IsFault text number y → (fault : LoadFault) × (y ≡ why.Load fault) × (load_result (image_of ls) ≡ Err fault)
 fault_of_meaning once text ls number y h (inl k) = absurd (written_no_fault once text h.lines number y h.written k)
 fault_of_meaning once text ls number y h (inr (inl k)) = absurd (meant_no_miss once text h.lines ls number y h.written h.instructions k)
 fault_of_meaning once text ls number y h (inr (inr k)) = loaded once text ls number y h k
 
 -- a text that means the instructions of an admitted image has no fault
-pub meaning_or_fault : AreReadOnce → ((image : List ℕ) (fault : LoadFault) → judged image ≡ Err fault → ¬ IsAdmitted image) → (text : List ℕ) (ls : List Line) (number : ℕ) (y : Why) → Means text ls → IsAdmitted (image_of ls) → IsFault text number y → ⊥
+pub meaning_or_fault : AreReadOnce → ((image : List ℕ) (fault : LoadFault) → load_result image ≡ Err fault → ¬ IsAdmitted image) → (text : List ℕ) (ls : List Line) (number : ℕ) (y : Why) → Means text ls → IsAdmitted (image_of ls) → IsFault text number y → ⊥
 meaning_or_fault once refused text ls number y h a k = let p = fault_of_meaning once text ls number y h k in refused (image_of ls) p.0 p.2 a

@@ -6,7 +6,7 @@ use Rattle.bpf_types.specs.Line.{IsLine}
 use Rattle.bpf_listing.specs.Listing.{image_of}
 use Rattle.ocp_loader.specs.declared.fault.LoadFault.{LoadFault}
 use Rattle.ocp_loader.specs.FaultNumbers.{number_of, slot_of}
-use Rattle.ocp_loader.specs.Judging.{judged}
+use Rattle.ocp_loader.specs.LoadResult.{load_result}
 use Rattle.bpf_text.specs.Lines.{Written, Writes, InRange}
 use Rattle.bpf_assembler.specs.Text.{lines_of, EachWritten, label_place, IsNew, AreDistinct, Entry, entries_of, aimed_at, AreInstructions, IsWritten}
 use Rattle.bpf_assembler.specs.declared.fault.Why.{Why}
@@ -81,7 +81,7 @@ pub record HasLoadFault (text : List ℕ) (number : ℕ) (fault : LoadFault) : T
   pub instructions : List Line
   pub written : IsWritten text lines
   pub meant : AreInstructions lines (entries_of 1 0 lines) instructions
-  pub refused : judged (image_of instructions) ≡ Err fault
+  pub refused : load_result (image_of instructions) ≡ Err fault
   pub counted : IsLineOf (nat_le (number_of fault) 3) (entries_of 1 0 lines) (slot_of fault) number
 
 abbrev pub IsLoadFault : List ℕ → ℕ → Why → Type 0

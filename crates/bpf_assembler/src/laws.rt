@@ -7,7 +7,7 @@ ghost use Rattle.bpf_types.specs.declared.line.Line.{Line};
 ghost use Rattle.bpf_listing.specs.Listing.{image_of};
 ghost use Rattle.ocp_loader.specs.declared.fault.LoadFault.{LoadFault};
 ghost use Rattle.ocp_loader.specs.Admitted.{IsAdmitted};
-ghost use Rattle.ocp_loader.specs.Judging.{judged};
+ghost use Rattle.ocp_loader.specs.LoadResult.{load_result};
 ghost use Rattle.ocp_loader.specs.Places.{place_of};
 ghost use Rattle.bpf_assembler.specs.Text.{lines_of, Means, IsWritten, AreInstructions, entries_of, label_place};
 ghost use Rattle.bpf_assembler.specs.Faults.{IsFault};
@@ -35,7 +35,7 @@ pub fn faults_are_unique()
 
 /// A text that means instructions has no fault but that of their image; so it has none where their image may be run.
 pub fn meanings_exclude_faults()
-    ensures image { (text : List ℕ) (lines : List Line) (number : ℕ) (y : Why) → Means text lines → IsFault text number y → (fault : LoadFault) × (y ≡ Load fault) × (judged (image_of lines) ≡ Err fault) }
+    ensures image { (text : List ℕ) (lines : List Line) (number : ℕ) (y : Why) → Means text lines → IsFault text number y → (fault : LoadFault) × (y ≡ Load fault) × (load_result (image_of lines) ≡ Err fault) }
     ensures admitted { (text : List ℕ) (lines : List Line) (number : ℕ) (y : Why) → Means text lines → IsAdmitted (image_of lines) → ¬ IsFault text number y }
 {
     readings_are_unique();

@@ -1,10 +1,10 @@
 // Instructions as octets.
 ghost use Rattle.std.specs.Prelude.{◌≡◌, ◌*◌, ◌+◌, ◌≤◌, ℕ, List, [], length, take, IfSome, IfNone, pos};
 ghost use Rattle.bpf_types.specs.declared.line.Line.TheVariants as Variants;
-ghost use Rattle.bpf_types.specs.Line.{first_slot, second_slot, spelling, Spells, slot_octets, code_of, offset_of, arithmetic_class, jump_class, test_code, extension_opcode, extension_offset, order_opcode, swapped_bits, size_code, narrow_code};
+ghost use Rattle.bpf_types.specs.Line.{first_slot, second_slot, spelling, Spells, slot_octets, code_of, offset_of, arithmetic_class, jump_class, comparison_code, extension_opcode, extension_offset, order_opcode, swapped_bits, size_code, signed_size_code};
 
 use bpf_types::{
-    Extension, Fields, Line, Narrow, Operand, Operation, Order, Reg, Size, Swapped, Test, Width,
+    Extension, Fields, Line, SignedSize, Operand, Operation, Order, Reg, Size, Swapped, Comparison, Width,
 };
 use std::marker::Model;
 
@@ -137,21 +137,21 @@ fn jump_class_of(width: Width) -> u8
 }
 
 /// The code of a test, the high four bits of its opcodes.
-fn test_number(test: Test) -> u8
-    ensures { result ≡ test_code test }
+fn comparison_number(test: Comparison) -> u8
+    ensures { result ≡ comparison_code test }
 {
     match test {
-        Test::Equal => 1,
-        Test::Greater => 2,
-        Test::GreaterOrEqual => 3,
-        Test::Set => 4,
-        Test::NotEqual => 5,
-        Test::SignedGreater => 6,
-        Test::SignedGreaterOrEqual => 7,
-        Test::Less => 10,
-        Test::LessOrEqual => 11,
-        Test::SignedLess => 12,
-        Test::SignedLessOrEqual => 13,
+        Comparison::Equal => 1,
+        Comparison::Greater => 2,
+        Comparison::GreaterOrEqual => 3,
+        Comparison::Set => 4,
+        Comparison::NotEqual => 5,
+        Comparison::SignedGreater => 6,
+        Comparison::SignedGreaterOrEqual => 7,
+        Comparison::Less => 10,
+        Comparison::LessOrEqual => 11,
+        Comparison::SignedLess => 12,
+        Comparison::SignedLessOrEqual => 13,
     }
 }
 
@@ -168,21 +168,21 @@ fn size_number(size: Size) -> u8
 }
 
 /// The size bits of a load that extends the sign.
-fn narrow_number(size: Narrow) -> u8
-    ensures { result ≡ narrow_code size }
+fn signed_size_number(size: SignedSize) -> u8
+    ensures { result ≡ signed_size_code size }
 {
     match size {
-        Narrow::Word => 0,
-        Narrow::Half => 1,
-        Narrow::Byte => 2,
+        SignedSize::Word => 0,
+        SignedSize::Half => 1,
+        SignedSize::Byte => 2,
     }
 }
 
 /// The fields of a jump that tests.
-fn jump_fields(width: Width, test: Test, dst: Reg, operand: Operand, distance: i16) -> Fields
+fn jump_fields(width: Width, test: Comparison, dst: Reg, operand: Operand, distance: i16) -> Fields
     ensures { result ≡ first_slot (Line.JumpIf width test dst operand distance) }
 {
-    let opcode = test_number(test) * 16 + jump_class_of(width);
+    let opcode = comparison_number(test) * 16 + jump_class_of(width);
     match operand {
         Operand::Immediate(imm) => Fields {
             dst,
@@ -314,7 +314,7 @@ fn first_fields(line: Line) -> Fields
             dst,
             src: base,
             offset,
-            ..blank(narrow_number(size) * 8 + 0x81)
+            ..blank(signed_size_number(size) * 8 + 0x81)
         },
         Line::StoreImmediate {
             size,

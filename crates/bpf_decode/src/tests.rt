@@ -3,7 +3,7 @@ ghost use Rattle.std.specs.Prelude.{◌≡◌, ◌≤◌};
 
 use crate::{DecodeFault, decode_at, encode};
 use bpf_types::{
-    Extension, Line, Narrow, Operand, Operation, Order, Reg, Size, Swapped, Test, Width,
+    Extension, Line, SignedSize, Operand, Operation, Order, Reg, Size, Swapped, Comparison, Width,
 };
 use std::process::Abort;
 
@@ -48,7 +48,7 @@ fn ordered(order: Order, swapped: Swapped) -> Line {
     }
 }
 
-fn jump_if(width: Width, test: Test, operand: Operand) -> Line {
+fn jump_if(width: Width, test: Comparison, operand: Operand) -> Line {
     Line::JumpIf {
         width,
         test,
@@ -67,7 +67,7 @@ fn load(size: Size) -> Line {
     }
 }
 
-fn load_extended(size: Narrow) -> Line {
+fn load_extended(size: SignedSize) -> Line {
     Line::LoadExtended {
         size,
         dst: reg(1),
@@ -105,7 +105,7 @@ fn is_operation(rt: &impl Abort, operation: Operation, octets: [u8; 8]) {
     is_spelled(rt, by_constant(Width::W64, operation, -2), octets);
 }
 
-fn is_test(rt: &impl Abort, test: Test, octets: [u8; 8]) {
+fn is_test(rt: &impl Abort, test: Comparison, octets: [u8; 8]) {
     is_spelled(
         rt,
         jump_if(Width::W64, test, Operand::Register(reg(10))),
@@ -145,31 +145,31 @@ fn each_operation_has_its_opcode(rt: HostRuntime) {
 
 #[test]
 fn each_test_has_its_opcode(rt: HostRuntime) {
-    is_test(&rt, Test::Equal, [0x1d, 0xa1, 0xfe, 0xff, 0, 0, 0, 0]);
-    is_test(&rt, Test::Greater, [0x2d, 0xa1, 0xfe, 0xff, 0, 0, 0, 0]);
+    is_test(&rt, Comparison::Equal, [0x1d, 0xa1, 0xfe, 0xff, 0, 0, 0, 0]);
+    is_test(&rt, Comparison::Greater, [0x2d, 0xa1, 0xfe, 0xff, 0, 0, 0, 0]);
     is_test(
         &rt,
-        Test::GreaterOrEqual,
+        Comparison::GreaterOrEqual,
         [0x3d, 0xa1, 0xfe, 0xff, 0, 0, 0, 0],
     );
-    is_test(&rt, Test::Set, [0x4d, 0xa1, 0xfe, 0xff, 0, 0, 0, 0]);
-    is_test(&rt, Test::NotEqual, [0x5d, 0xa1, 0xfe, 0xff, 0, 0, 0, 0]);
+    is_test(&rt, Comparison::Set, [0x4d, 0xa1, 0xfe, 0xff, 0, 0, 0, 0]);
+    is_test(&rt, Comparison::NotEqual, [0x5d, 0xa1, 0xfe, 0xff, 0, 0, 0, 0]);
     is_test(
         &rt,
-        Test::SignedGreater,
+        Comparison::SignedGreater,
         [0x6d, 0xa1, 0xfe, 0xff, 0, 0, 0, 0],
     );
     is_test(
         &rt,
-        Test::SignedGreaterOrEqual,
+        Comparison::SignedGreaterOrEqual,
         [0x7d, 0xa1, 0xfe, 0xff, 0, 0, 0, 0],
     );
-    is_test(&rt, Test::Less, [0xad, 0xa1, 0xfe, 0xff, 0, 0, 0, 0]);
-    is_test(&rt, Test::LessOrEqual, [0xbd, 0xa1, 0xfe, 0xff, 0, 0, 0, 0]);
-    is_test(&rt, Test::SignedLess, [0xcd, 0xa1, 0xfe, 0xff, 0, 0, 0, 0]);
+    is_test(&rt, Comparison::Less, [0xad, 0xa1, 0xfe, 0xff, 0, 0, 0, 0]);
+    is_test(&rt, Comparison::LessOrEqual, [0xbd, 0xa1, 0xfe, 0xff, 0, 0, 0, 0]);
+    is_test(&rt, Comparison::SignedLess, [0xcd, 0xa1, 0xfe, 0xff, 0, 0, 0, 0]);
     is_test(
         &rt,
-        Test::SignedLessOrEqual,
+        Comparison::SignedLessOrEqual,
         [0xdd, 0xa1, 0xfe, 0xff, 0, 0, 0, 0],
     );
 }
@@ -250,9 +250,9 @@ fn moves_that_extend_are_spelled_by_their_rows(rt: HostRuntime) {
 
 #[test]
 fn jumps_and_calls_are_spelled_by_their_rows(rt: HostRuntime) {
-    let equal = jump_if(Width::W64, Test::Equal, Operand::Immediate(7));
-    let less = jump_if(Width::W32, Test::SignedLess, Operand::Immediate(7));
-    let set = jump_if(Width::W32, Test::Set, Operand::Register(reg(2)));
+    let equal = jump_if(Width::W64, Comparison::Equal, Operand::Immediate(7));
+    let less = jump_if(Width::W32, Comparison::SignedLess, Operand::Immediate(7));
+    let set = jump_if(Width::W32, Comparison::Set, Operand::Register(reg(2)));
     is_spelled(
         &rt,
         Line::Jump { distance: 258 },
@@ -284,17 +284,17 @@ fn loads_are_spelled_by_their_rows(rt: HostRuntime) {
     );
     is_spelled(
         &rt,
-        load_extended(Narrow::Word),
+        load_extended(SignedSize::Word),
         [0x81, 0xa1, 0xf8, 0xff, 0, 0, 0, 0],
     );
     is_spelled(
         &rt,
-        load_extended(Narrow::Half),
+        load_extended(SignedSize::Half),
         [0x89, 0xa1, 0xf8, 0xff, 0, 0, 0, 0],
     );
     is_spelled(
         &rt,
-        load_extended(Narrow::Byte),
+        load_extended(SignedSize::Byte),
         [0x91, 0xa1, 0xf8, 0xff, 0, 0, 0, 0],
     );
 }

@@ -18,7 +18,7 @@ use Rattle.bpf_listing.specs.declared.mnemonic.Jump.TheVariants as jump
 use Rattle.bpf_listing.specs.declared.mnemonic.Access.TheVariants as access
 use Rattle.bpf_listing.specs.declared.scan.Field.{Field}
 use Rattle.bpf_listing.specs.declared.scan.Scan.{Scan}
-use Rattle.bpf_listing.specs.Canonical.{canonical, hex_digits, operation_name, test_name, width_name, order_name, size_name, narrow_name, extension_width, extension_bits, register, with_sign, operand_text}
+use Rattle.bpf_listing.specs.Canonical.{canonical, hex_digits, operation_name, comparison_name, width_name, order_name, size_name, signed_size_name, extension_width, extension_bits, register, with_sign, operand_text}
 use Rattle.bpf_listing.specs.Mnemonics.{mnemonic_name}
 use Rattle.bpf_listing.specs.Reading.{word_length, hex_on, fields_in, no_field, closed, start, scanned, minus_or, number_field, signed_field, operand_field, Shows}
 use Rattle.bpf_listing.proofs.Numbers.{scan_number, scan_last, scan_signed, scan_signed_last, scan_with_sign, scan_with_sign_last, ◌⧺◌, field, numbered, regroup, regroup_load, regroup_store, no_letter, keeps_first, hex_length, hex_whole, last_16, wide_enough}
@@ -160,7 +160,7 @@ canonical_is_read (line.ByteOrder o s dst) h =
 canonical_is_read (line.LoadWide dst value) h = wide_read dst value (hex_digits 16 value) h.0 (hex_length 16 value) (hex_whole value h.1)
 canonical_is_read (line.JumpIf width t dst operand z) h =
     let os = register dst ⧺ codes ", " ⧺ operand_text operand ⧺ codes ", " ⧺ with_sign z in
-    read_by (line.JumpIf width t dst operand z) (canonical (line.JumpIf width t dst operand z)) (test_name t ⧺ width_name width ⧺ codes " " ⧺ os) os (word.Jump (jump.If width t)) (field 114 dst) (operand_field operand) (signed_field z)
+    read_by (line.JumpIf width t dst operand z) (canonical (line.JumpIf width t dst operand z)) (comparison_name t ⧺ width_name width ⧺ codes " " ⧺ os) os (word.Jump (jump.If width t)) (field 114 dst) (operand_field operand) (signed_field z)
     (simp append_assoc) (jump_word width t os) (jump_fields dst operand z h.0 h.1 h.2) (refl, refl, refl, refl)
 canonical_is_read (line.Jump z) h =
     read_by (line.Jump z) (canonical (line.Jump z)) (codes "ja " ⧺ with_sign z) (with_sign z) (word.Jump jump.Short) (signed_field z) no_field no_field
@@ -182,8 +182,8 @@ canonical_is_read (line.Load s dst base z) h =
     (regroup_load (codes "ldx") (size_name s) (codes " ") (register dst) (codes ", ") (codes "[") (register base) (with_sign z) (codes "]")) (load_word s os) (load_fields dst base z h.0 h.1 h.2) (refl, refl, refl, refl)
 canonical_is_read (line.LoadExtended s dst base z) h =
     let os = register dst ⧺ codes ", [" ⧺ register base ⧺ with_sign z ⧺ codes "]" in
-    read_by (line.LoadExtended s dst base z) (canonical (line.LoadExtended s dst base z)) (codes "ldxs" ⧺ narrow_name s ⧺ codes " " ⧺ os) os (word.Access (access.LoadExtended s)) (field 114 dst) (field 114 base) (signed_field z)
-    (regroup_load (codes "ldxs") (narrow_name s) (codes " ") (register dst) (codes ", ") (codes "[") (register base) (with_sign z) (codes "]")) (load_extended_word s os) (load_fields dst base z h.0 h.1 h.2) (refl, refl, refl, refl)
+    read_by (line.LoadExtended s dst base z) (canonical (line.LoadExtended s dst base z)) (codes "ldxs" ⧺ signed_size_name s ⧺ codes " " ⧺ os) os (word.Access (access.LoadExtended s)) (field 114 dst) (field 114 base) (signed_field z)
+    (regroup_load (codes "ldxs") (signed_size_name s) (codes " ") (register dst) (codes ", ") (codes "[") (register base) (with_sign z) (codes "]")) (load_extended_word s os) (load_fields dst base z h.0 h.1 h.2) (refl, refl, refl, refl)
 canonical_is_read (line.StoreImmediate s base z y) h =
     let os = codes "[" ⧺ register base ⧺ with_sign z ⧺ codes "], " ⧺ signed_decimal y in
     read_by (line.StoreImmediate s base z y) (canonical (line.StoreImmediate s base z y)) (codes "st" ⧺ size_name s ⧺ codes " " ⧺ os) os (word.Access (access.StoreImmediate s)) (field 114 base) (signed_field z) (number_field y)

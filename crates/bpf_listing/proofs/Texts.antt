@@ -14,8 +14,8 @@ use Rattle.bpf_types.specs.declared.line.Operand.{Operand}
 use Rattle.bpf_types.specs.declared.line.Operand.TheVariants.{Immediate, Register}
 use Rattle.bpf_types.specs.declared.line.Operation.{Operation}
 use Rattle.bpf_types.specs.declared.line.Operation.TheVariants as op
-use Rattle.bpf_types.specs.declared.line.Test.{Test}
-use Rattle.bpf_types.specs.declared.line.Test.TheVariants as test
+use Rattle.bpf_types.specs.declared.line.Comparison.{Comparison}
+use Rattle.bpf_types.specs.declared.line.Comparison.TheVariants as test
 use Rattle.bpf_types.specs.declared.line.Extension.{Extension}
 use Rattle.bpf_types.specs.declared.line.Extension.TheVariants as extension
 use Rattle.bpf_types.specs.declared.line.Order.{Order}
@@ -24,12 +24,12 @@ use Rattle.bpf_types.specs.declared.line.Swapped.{Swapped}
 use Rattle.bpf_types.specs.declared.line.Swapped.TheVariants as swapped
 use Rattle.bpf_types.specs.declared.line.Size.{Size}
 use Rattle.bpf_types.specs.declared.line.Size.TheVariants as size
-use Rattle.bpf_types.specs.declared.line.Narrow.{Narrow}
-use Rattle.bpf_types.specs.declared.line.Narrow.TheVariants as narrow
+use Rattle.bpf_types.specs.declared.line.SignedSize.{SignedSize}
+use Rattle.bpf_types.specs.declared.line.SignedSize.TheVariants as narrow
 use Rattle.bpf_types.specs.declared.line.Width.{Width}
 use Rattle.bpf_types.specs.declared.line.Width.TheVariants.{W32, W64}
 use Rattle.bpf_types.specs.Line.{swapped_bits, IsLine, IsOperand}
-use Rattle.bpf_listing.specs.Canonical.{canonical, operation_name, test_name, order_name, size_name, narrow_name, width_name, register, with_sign, operand_text, extension_width, extension_bits, hex_digits}
+use Rattle.bpf_listing.specs.Canonical.{canonical, operation_name, comparison_name, order_name, size_name, signed_size_name, width_name, register, with_sign, operand_text, extension_width, extension_bits, hex_digits}
 use Rattle.bpf_listing.specs.Listing.{listing}
 use Rattle.bpf_listing.specs.Octets.{is_text_octet}
 use Rattle.bpf_listing.proofs.Numbers.{fits_in, wide_enough}
@@ -77,7 +77,7 @@ operation_text : (o : Operation) → IsText (operation_name o)
 operation_text op.Add = refl
 operation_text _ = refl
 
-test_text : (t : Test) → IsText (test_name t)
+test_text : (t : Comparison) → IsText (comparison_name t)
 test_text test.Equal = refl
 test_text _ = refl
 
@@ -89,7 +89,7 @@ size_text : (s : Size) → IsText (size_name s)
 size_text size.Word = refl
 size_text _ = refl
 
-narrow_text : (s : Narrow) → IsText (narrow_name s)
+narrow_text : (s : SignedSize) → IsText (signed_size_name s)
 narrow_text narrow.Word = refl
 narrow_text _ = refl
 

@@ -9,8 +9,8 @@ use Rattle.bpf_types.specs.declared.line.Operand.{Operand}
 use Rattle.bpf_types.specs.declared.line.Operand.TheVariants.{Immediate, Register}
 use Rattle.bpf_types.specs.declared.line.Operation.{Operation}
 use Rattle.bpf_types.specs.declared.line.Operation.TheVariants as op
-use Rattle.bpf_types.specs.declared.line.Test.{Test}
-use Rattle.bpf_types.specs.declared.line.Test.TheVariants as test
+use Rattle.bpf_types.specs.declared.line.Comparison.{Comparison}
+use Rattle.bpf_types.specs.declared.line.Comparison.TheVariants as test
 use Rattle.bpf_types.specs.declared.line.Extension.{Extension}
 use Rattle.bpf_types.specs.declared.line.Extension.TheVariants as extension
 use Rattle.bpf_types.specs.declared.line.Swapped.{Swapped}
@@ -18,7 +18,7 @@ use Rattle.bpf_types.specs.declared.line.Swapped.TheVariants as swapped
 use Rattle.bpf_types.specs.declared.line.Order.TheVariants as order
 use Rattle.bpf_types.specs.declared.line.Size.{Size}
 use Rattle.bpf_types.specs.declared.line.Size.TheVariants as size
-use Rattle.bpf_types.specs.declared.line.Narrow.TheVariants as narrow
+use Rattle.bpf_types.specs.declared.line.SignedSize.TheVariants as narrow
 use Rattle.bpf_types.specs.declared.line.Width.{Width}
 use Rattle.bpf_types.specs.declared.line.Width.TheVariants.{W32, W64}
 use Rattle.bpf_types.specs.Line.{swapped_bits, IsLine}
@@ -35,7 +35,7 @@ use Rattle.bpf_listing.proofs.Shown.{IsRead, text_is_read, field_at}
 abbrev operations : List Operation
 operations = op.Add ∷ op.Sub ∷ op.Mul ∷ op.Div ∷ op.SignedDiv ∷ op.Or ∷ op.And ∷ op.Lsh ∷ op.Rsh ∷ op.Mod ∷ op.SignedMod ∷ op.Xor ∷ op.Mov ∷ op.Arsh ∷ []
 
-abbrev tests : List Test
+abbrev tests : List Comparison
 tests = test.Equal ∷ test.Greater ∷ test.GreaterOrEqual ∷ test.Set ∷ test.NotEqual ∷ test.SignedGreater ∷ test.SignedGreaterOrEqual ∷ test.Less ∷ test.LessOrEqual ∷ test.SignedLess ∷ test.SignedLessOrEqual ∷ []
 
 abbrev sizes : List Size

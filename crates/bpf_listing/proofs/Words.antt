@@ -4,23 +4,23 @@ use Rattle.std.specs.Prelude.{codes, ◌-◌, ◌++◌, ◌&&◌, ◌||◌, not}
 use Rattle.std.specs.Str.{bytes_eq}
 use Rattle.bpf_types.specs.declared.line.Operation.{Operation}
 use Rattle.bpf_types.specs.declared.line.Operation.TheVariants as op
-use Rattle.bpf_types.specs.declared.line.Test.{Test}
-use Rattle.bpf_types.specs.declared.line.Test.TheVariants as test
+use Rattle.bpf_types.specs.declared.line.Comparison.{Comparison}
+use Rattle.bpf_types.specs.declared.line.Comparison.TheVariants as test
 use Rattle.bpf_types.specs.declared.line.Width.{Width}
 use Rattle.bpf_types.specs.declared.line.Width.TheVariants.{W32, W64}
 use Rattle.bpf_types.specs.declared.line.Order.{Order}
 use Rattle.bpf_types.specs.declared.line.Order.TheVariants as order
 use Rattle.bpf_types.specs.declared.line.Size.{Size}
 use Rattle.bpf_types.specs.declared.line.Size.TheVariants as size
-use Rattle.bpf_types.specs.declared.line.Narrow.{Narrow}
-use Rattle.bpf_types.specs.declared.line.Narrow.TheVariants as narrow
+use Rattle.bpf_types.specs.declared.line.SignedSize.{SignedSize}
+use Rattle.bpf_types.specs.declared.line.SignedSize.TheVariants as narrow
 use Rattle.bpf_listing.specs.declared.mnemonic.Mnemonic.{Mnemonic}
 use Rattle.bpf_listing.specs.declared.mnemonic.Mnemonic.TheVariants as word
 use Rattle.bpf_listing.specs.declared.mnemonic.Jump.TheVariants as jump
 use Rattle.bpf_listing.specs.declared.mnemonic.Access.TheVariants as access
 use Rattle.bpf_listing.specs.declared.mnemonic.Stem.{Stem}
 use Rattle.bpf_listing.specs.declared.mnemonic.Stem.TheVariants as stem
-use Rattle.bpf_listing.specs.Canonical.{operation_name, test_name, width_name, order_name, size_name, narrow_name}
+use Rattle.bpf_listing.specs.Canonical.{operation_name, comparison_name, width_name, order_name, size_name, signed_size_name}
 use Rattle.bpf_listing.specs.Mnemonics.{mnemonic_name}
 use Rattle.bpf_listing.specs.Reading.{word_length, stem_name, classed, IsPlain}
 use Rattle.bpf_listing.proofs.Numbers.{◌⧺◌}
@@ -36,7 +36,7 @@ arithmetic_word W32 _ rest = record { word = refl; others = refl }
 arithmetic_word W64 op.Add rest = record { word = refl; others = refl }
 arithmetic_word W64 _ rest = record { word = refl; others = refl }
 
-pub jump_word : (w : Width) (o : Test) (rest : List ℕ) → Begins (test_name o ⧺ width_name w ⧺ codes " " ⧺ rest) (word.Jump (jump.If w o)) rest
+pub jump_word : (w : Width) (o : Comparison) (rest : List ℕ) → Begins (comparison_name o ⧺ width_name w ⧺ codes " " ⧺ rest) (word.Jump (jump.If w o)) rest
 jump_word W32 test.Equal rest = record { word = refl; others = refl }
 jump_word W32 _ rest = record { word = refl; others = refl }
 jump_word W64 test.Equal rest = record { word = refl; others = refl }
@@ -58,7 +58,7 @@ pub load_word : (o : Size) (rest : List ℕ) → Begins (codes "ldx" ⧺ size_na
 load_word size.Word rest = record { word = refl; others = refl }
 load_word _ rest = record { word = refl; others = refl }
 
-pub load_extended_word : (o : Narrow) (rest : List ℕ) → Begins (codes "ldxs" ⧺ narrow_name o ⧺ codes " " ⧺ rest) (word.Access (access.LoadExtended o)) rest
+pub load_extended_word : (o : SignedSize) (rest : List ℕ) → Begins (codes "ldxs" ⧺ signed_size_name o ⧺ codes " " ⧺ rest) (word.Access (access.LoadExtended o)) rest
 load_extended_word narrow.Word rest = record { word = refl; others = refl }
 load_extended_word _ rest = record { word = refl; others = refl }
 

@@ -8,16 +8,16 @@ use Rattle.bpf_types.specs.declared.line.Operand.{Operand}
 use Rattle.bpf_types.specs.declared.line.Operand.TheVariants.{Immediate, Register}
 use Rattle.bpf_types.specs.declared.line.Operation.{Operation}
 use Rattle.bpf_types.specs.declared.line.Operation.TheVariants as op
-use Rattle.bpf_types.specs.declared.line.Test.{Test}
-use Rattle.bpf_types.specs.declared.line.Test.TheVariants as test
+use Rattle.bpf_types.specs.declared.line.Comparison.{Comparison}
+use Rattle.bpf_types.specs.declared.line.Comparison.TheVariants as test
 use Rattle.bpf_types.specs.declared.line.Extension.{Extension}
 use Rattle.bpf_types.specs.declared.line.Extension.TheVariants as extension
 use Rattle.bpf_types.specs.declared.line.Order.{Order}
 use Rattle.bpf_types.specs.declared.line.Order.TheVariants as order
 use Rattle.bpf_types.specs.declared.line.Size.{Size}
 use Rattle.bpf_types.specs.declared.line.Size.TheVariants as size
-use Rattle.bpf_types.specs.declared.line.Narrow.{Narrow}
-use Rattle.bpf_types.specs.declared.line.Narrow.TheVariants as narrow
+use Rattle.bpf_types.specs.declared.line.SignedSize.{SignedSize}
+use Rattle.bpf_types.specs.declared.line.SignedSize.TheVariants as narrow
 use Rattle.bpf_types.specs.declared.line.Width.{Width}
 use Rattle.bpf_types.specs.declared.line.Width.TheVariants.{W32, W64}
 use Rattle.bpf_types.specs.Line.{swapped_bits}
@@ -40,18 +40,18 @@ operation_name op.Mov = codes "mov"
 operation_name op.Arsh = codes "arsh"
 
 -- the conditional jumps (RFC 9669, section 4.3)
-abbrev pub test_name : Test → List ℕ
-test_name test.Equal = codes "jeq"
-test_name test.Greater = codes "jgt"
-test_name test.GreaterOrEqual = codes "jge"
-test_name test.Set = codes "jset"
-test_name test.NotEqual = codes "jne"
-test_name test.SignedGreater = codes "jsgt"
-test_name test.SignedGreaterOrEqual = codes "jsge"
-test_name test.Less = codes "jlt"
-test_name test.LessOrEqual = codes "jle"
-test_name test.SignedLess = codes "jslt"
-test_name test.SignedLessOrEqual = codes "jsle"
+abbrev pub comparison_name : Comparison → List ℕ
+comparison_name test.Equal = codes "jeq"
+comparison_name test.Greater = codes "jgt"
+comparison_name test.GreaterOrEqual = codes "jge"
+comparison_name test.Set = codes "jset"
+comparison_name test.NotEqual = codes "jne"
+comparison_name test.SignedGreater = codes "jsgt"
+comparison_name test.SignedGreaterOrEqual = codes "jsge"
+comparison_name test.Less = codes "jlt"
+comparison_name test.LessOrEqual = codes "jle"
+comparison_name test.SignedLess = codes "jslt"
+comparison_name test.SignedLessOrEqual = codes "jsle"
 
 -- the byte order instructions (RFC 9669, section 4.2)
 abbrev pub order_name : Order → List ℕ
@@ -67,10 +67,10 @@ size_name size.Byte = codes "b"
 size_name size.Double = codes "dw"
 
 -- the sizes of a load that extends the sign (RFC 9669, section 5.2)
-abbrev pub narrow_name : Narrow → List ℕ
-narrow_name narrow.Word = codes "w"
-narrow_name narrow.Half = codes "h"
-narrow_name narrow.Byte = codes "b"
+abbrev pub signed_size_name : SignedSize → List ℕ
+signed_size_name narrow.Word = codes "w"
+signed_size_name narrow.Half = codes "h"
+signed_size_name narrow.Byte = codes "b"
 
 -- the class, by how many bits it works on
 abbrev pub width_name : Width → List ℕ
@@ -122,10 +122,10 @@ canonical (line.MoveExtended extension dst src) = codes "movsx" ++ width_name (e
 canonical (line.ByteOrder order swapped dst) = order_name order ++ codes " " ++ register dst ++ codes ", " ++ decimal (swapped_bits swapped)
 canonical (line.LoadWide dst value) = codes "lddw " ++ register dst ++ codes ", 0x" ++ hex_digits 16 value
 canonical (line.Load size dst base offset) = codes "ldx" ++ size_name size ++ codes " " ++ register dst ++ codes ", " ++ place_text base offset
-canonical (line.LoadExtended size dst base offset) = codes "ldxs" ++ narrow_name size ++ codes " " ++ register dst ++ codes ", " ++ place_text base offset
+canonical (line.LoadExtended size dst base offset) = codes "ldxs" ++ signed_size_name size ++ codes " " ++ register dst ++ codes ", " ++ place_text base offset
 canonical (line.Store size base offset src) = codes "stx" ++ size_name size ++ codes " " ++ place_text base offset ++ codes ", " ++ register src
 canonical (line.StoreImmediate size base offset value) = codes "st" ++ size_name size ++ codes " " ++ place_text base offset ++ codes ", " ++ signed_decimal value
-canonical (line.JumpIf width test dst operand distance) = test_name test ++ width_name width ++ codes " " ++ register dst ++ codes ", " ++ operand_text operand ++ codes ", " ++ with_sign distance
+canonical (line.JumpIf width test dst operand distance) = comparison_name test ++ width_name width ++ codes " " ++ register dst ++ codes ", " ++ operand_text operand ++ codes ", " ++ with_sign distance
 canonical (line.Jump distance) = codes "ja " ++ with_sign distance
 canonical (line.LongJump distance) = codes "ja32 " ++ with_sign distance
 canonical (line.Call number) = codes "call " ++ signed_decimal number

@@ -6,11 +6,11 @@ use Rattle.bpf_listing.specs.declared.mnemonic.Jump.{Jump}
 use Rattle.bpf_listing.specs.declared.mnemonic.Jump.TheVariants as jump
 use Rattle.bpf_listing.specs.declared.mnemonic.Access.{Access}
 use Rattle.bpf_listing.specs.declared.mnemonic.Access.TheVariants as access
-use Rattle.bpf_listing.specs.Canonical.{operation_name, test_name, width_name, order_name, size_name, narrow_name}
+use Rattle.bpf_listing.specs.Canonical.{operation_name, comparison_name, width_name, order_name, size_name, signed_size_name}
 
 -- the words of jumps, calls and the exit (RFC 9669, section 4.3)
 abbrev pub jump_name : Jump → List ℕ
-jump_name (jump.If width test) = test_name test ++ width_name width
+jump_name (jump.If width test) = comparison_name test ++ width_name width
 jump_name jump.Short = codes "ja"
 jump_name jump.Long = codes "ja32"
 jump_name jump.Call = codes "call"
@@ -19,7 +19,7 @@ jump_name jump.Exit = codes "exit"
 -- the words of loads and stores at a place in memory (RFC 9669, section 5)
 abbrev pub access_name : Access → List ℕ
 access_name (access.Load size) = codes "ldx" ++ size_name size
-access_name (access.LoadExtended size) = codes "ldxs" ++ narrow_name size
+access_name (access.LoadExtended size) = codes "ldxs" ++ signed_size_name size
 access_name (access.Store size) = codes "stx" ++ size_name size
 access_name (access.StoreImmediate size) = codes "st" ++ size_name size
 

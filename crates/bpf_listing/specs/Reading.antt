@@ -15,12 +15,12 @@ use Rattle.bpf_listing.specs.declared.mnemonic.Stem.{Stem}
 use Rattle.bpf_listing.specs.declared.mnemonic.Stem.TheVariants as stem
 use Rattle.bpf_listing.specs.declared.scan.Field.{Field}
 use Rattle.bpf_listing.specs.declared.scan.Scan.{Scan}
-use Rattle.bpf_listing.specs.Canonical.{operation_name, test_name, extension_width, extension_bits}
+use Rattle.bpf_listing.specs.Canonical.{operation_name, comparison_name, extension_width, extension_bits}
 
 -- a mnemonic without its class
 abbrev pub stem_name : Stem → List ℕ
 stem_name (stem.Arithmetic operation) = operation_name operation
-stem_name (stem.JumpIf test) = test_name test
+stem_name (stem.JumpIf test) = comparison_name test
 stem_name stem.Negate = codes "neg"
 stem_name stem.MoveExtended = codes "movsx"
 

@@ -8,7 +8,7 @@ ghost use Rattle.bpf_listing.specs.Mnemonics.{mnemonic_name};
 ghost use Rattle.bpf_listing.specs.Reading.{stem_name, IsPlain};
 ghost use Rattle.bpf_listing.specs.Reading as words;
 
-use bpf_types::{Narrow, Operation, Order, Size, Test, Width};
+use bpf_types::{SignedSize, Operation, Order, Size, Comparison, Width};
 
 /// What the first word of an instruction's text says: `canonical` begins with it.
 #[derive(Clone, Copy)]
@@ -31,7 +31,7 @@ pub enum Mnemonic {
 #[derive(Clone, Copy)]
 pub enum Jump {
     /// `jeq32`, .. `jsle64`.
-    If(Width, Test),
+    If(Width, Comparison),
     /// `ja`.
     Short,
     /// `ja32`.
@@ -48,7 +48,7 @@ pub enum Access {
     /// `ldxw`, `ldxh`, `ldxb`, `ldxdw`.
     Load(Size),
     /// `ldxsw`, `ldxsh`, `ldxsb`.
-    LoadExtended(Narrow),
+    LoadExtended(SignedSize),
     /// `stxw`, `stxh`, `stxb`, `stxdw`.
     Store(Size),
     /// `stw`, `sth`, `stb`, `stdw`.
@@ -59,7 +59,7 @@ pub enum Access {
 #[derive(Clone, Copy)]
 enum Stem {
     Arithmetic(Operation),
-    JumpIf(Test),
+    JumpIf(Comparison),
     Negate,
     MoveExtended,
 }
@@ -86,17 +86,17 @@ fn stem_of(word: &[u8]) -> Option<Stem>
         b"arsh" => Stem::Arithmetic(Operation::Arsh),
         b"neg" => Stem::Negate,
         b"movsx" => Stem::MoveExtended,
-        b"jeq" => Stem::JumpIf(Test::Equal),
-        b"jgt" => Stem::JumpIf(Test::Greater),
-        b"jge" => Stem::JumpIf(Test::GreaterOrEqual),
-        b"jset" => Stem::JumpIf(Test::Set),
-        b"jne" => Stem::JumpIf(Test::NotEqual),
-        b"jsgt" => Stem::JumpIf(Test::SignedGreater),
-        b"jsge" => Stem::JumpIf(Test::SignedGreaterOrEqual),
-        b"jlt" => Stem::JumpIf(Test::Less),
-        b"jle" => Stem::JumpIf(Test::LessOrEqual),
-        b"jslt" => Stem::JumpIf(Test::SignedLess),
-        b"jsle" => Stem::JumpIf(Test::SignedLessOrEqual),
+        b"jeq" => Stem::JumpIf(Comparison::Equal),
+        b"jgt" => Stem::JumpIf(Comparison::Greater),
+        b"jge" => Stem::JumpIf(Comparison::GreaterOrEqual),
+        b"jset" => Stem::JumpIf(Comparison::Set),
+        b"jne" => Stem::JumpIf(Comparison::NotEqual),
+        b"jsgt" => Stem::JumpIf(Comparison::SignedGreater),
+        b"jsge" => Stem::JumpIf(Comparison::SignedGreaterOrEqual),
+        b"jlt" => Stem::JumpIf(Comparison::Less),
+        b"jle" => Stem::JumpIf(Comparison::LessOrEqual),
+        b"jslt" => Stem::JumpIf(Comparison::SignedLess),
+        b"jsle" => Stem::JumpIf(Comparison::SignedLessOrEqual),
         _ => return None,
     })
 }
@@ -146,9 +146,9 @@ fn plain_of(word: &[u8]) -> Option<Mnemonic>
         b"ldxh" => Mnemonic::Access(Access::Load(Size::Half)),
         b"ldxb" => Mnemonic::Access(Access::Load(Size::Byte)),
         b"ldxdw" => Mnemonic::Access(Access::Load(Size::Double)),
-        b"ldxsw" => Mnemonic::Access(Access::LoadExtended(Narrow::Word)),
-        b"ldxsh" => Mnemonic::Access(Access::LoadExtended(Narrow::Half)),
-        b"ldxsb" => Mnemonic::Access(Access::LoadExtended(Narrow::Byte)),
+        b"ldxsw" => Mnemonic::Access(Access::LoadExtended(SignedSize::Word)),
+        b"ldxsh" => Mnemonic::Access(Access::LoadExtended(SignedSize::Half)),
+        b"ldxsb" => Mnemonic::Access(Access::LoadExtended(SignedSize::Byte)),
         b"stxw" => Mnemonic::Access(Access::Store(Size::Word)),
         b"stxh" => Mnemonic::Access(Access::Store(Size::Half)),
         b"stxb" => Mnemonic::Access(Access::Store(Size::Byte)),

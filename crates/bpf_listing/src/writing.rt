@@ -5,9 +5,9 @@ ghost use Rattle.bpf_types.specs.Line.{swapped_bits};
 ghost use Rattle.bpf_listing.specs.Canonical.{canonical, IsAccess, operand_text, place_text, extension_bits, with_sign};
 ghost use Rattle.bpf_listing.specs.Canonical as words;
 
-use crate::names::{narrow_name, operation_name, order_name, size_name, test_name, width_name};
+use crate::names::{signed_size_name, operation_name, order_name, size_name, comparison_name, width_name};
 use crate::text::Text;
-use bpf_types::{Extension, Line, Operand, Operation, Order, Reg, Swapped, Test, Width};
+use bpf_types::{Extension, Line, Operand, Operation, Order, Reg, Swapped, Comparison, Width};
 use std::alloc::{AllocError, Allocator};
 
 /// The class of a move that extends the sign.
@@ -90,11 +90,11 @@ fn arithmetic_text(width: Width, operation: Operation, dst: Reg, operand: Operan
     text
 }
 
-fn jump_if_text(width: Width, test: Test, dst: Reg, operand: Operand, distance: i16) -> Text
+fn jump_if_text(width: Width, test: Comparison, dst: Reg, operand: Operand, distance: i16) -> Text
     ensures items { result ≡ canonical (Line.JumpIf width test dst operand distance) }
     ensures len { length result ≤ 48 }
 {
-    let mut text = mnemonic(test_name(test), width_name(width));
+    let mut text = mnemonic(comparison_name(test), width_name(width));
     text.push_register(dst);
     text.push_all(b", ");
     push_operand(&mut text, operand);
@@ -213,7 +213,7 @@ fn access_text(line: Line) -> Text
             dst,
             base,
             offset,
-        } => load_text(b"ldxs", narrow_name(size), dst, base, offset),
+        } => load_text(b"ldxs", signed_size_name(size), dst, base, offset),
         Line::StoreImmediate {
             size,
             base,

@@ -2,7 +2,7 @@
 ghost use Rattle.std.specs.Prelude.{◌≡◌, ◌<◌, ◌%◌, ◌^◌, int_div, int_rem};
 ghost use Rattle.std.specs.Int.{w8, w16, cast_signed};
 ghost use Rattle.bpf_types.specs.declared.line.Width.TheVariants.{W32, W64};
-ghost use Rattle.bpf_step.specs.Value.{signed, unsigned, operated, value, negated, extended, ordered};
+ghost use Rattle.bpf_step.specs.Value.{signed, unsigned, alu_result, value, negated, extended, ordered};
 
 use bpf_types::{Extension, Operation, Order, Swapped, Width};
 
@@ -55,7 +55,7 @@ fn signed_remainder32(low_dst: u32, low_src: u32) -> u32
 /// An operation on 64 bits.
 #[inline(always)]
 fn operate64(operation: Operation, dst: u64, src: u64) -> u64
-    ensures { result ≡ operated W64 operation dst src }
+    ensures { result ≡ alu_result W64 operation dst src }
 {
     match operation {
         Operation::Add => dst.wrapping_add(src),
@@ -80,7 +80,7 @@ fn operate64(operation: Operation, dst: u64, src: u64) -> u64
 /// An operation on 32 bits.
 #[inline(always)]
 fn operate32(operation: Operation, low_dst: u32, low_src: u32) -> u32
-    ensures { result ≡ operated W32 operation low_dst low_src }
+    ensures { result ≡ alu_result W32 operation low_dst low_src }
 {
     match operation {
         Operation::Add => low_dst.wrapping_add(low_src),

@@ -4,53 +4,53 @@ ghost use Rattle.bpf_types.specs.declared.line.Width.TheVariants.{W32, W64};
 ghost use Rattle.bpf_step.specs.Value.{passes, taken, Holds, IsTaken};
 
 use crate::arithmetic::low;
-use bpf_types::{Test, Width};
+use bpf_types::{Comparison, Width};
 
 /// Whether a test on 64 bits holds.
 #[inline(always)]
-fn passes64(test: Test, dst: u64, src: u64) -> bool
+fn passes64(test: Comparison, dst: u64, src: u64) -> bool
     ensures value { result ≡ passes W64 test dst src }
     ensures meaning { IsTrue result ↔ Holds W64 test dst src }
 {
     match test {
-        Test::Equal => dst == src,
-        Test::Greater => dst > src,
-        Test::GreaterOrEqual => dst >= src,
-        Test::Set => dst & src != 0,
-        Test::NotEqual => dst != src,
-        Test::SignedGreater => dst.cast_signed() > src.cast_signed(),
-        Test::SignedGreaterOrEqual => dst.cast_signed() >= src.cast_signed(),
-        Test::Less => dst < src,
-        Test::LessOrEqual => dst <= src,
-        Test::SignedLess => dst.cast_signed() < src.cast_signed(),
-        Test::SignedLessOrEqual => dst.cast_signed() <= src.cast_signed(),
+        Comparison::Equal => dst == src,
+        Comparison::Greater => dst > src,
+        Comparison::GreaterOrEqual => dst >= src,
+        Comparison::Set => dst & src != 0,
+        Comparison::NotEqual => dst != src,
+        Comparison::SignedGreater => dst.cast_signed() > src.cast_signed(),
+        Comparison::SignedGreaterOrEqual => dst.cast_signed() >= src.cast_signed(),
+        Comparison::Less => dst < src,
+        Comparison::LessOrEqual => dst <= src,
+        Comparison::SignedLess => dst.cast_signed() < src.cast_signed(),
+        Comparison::SignedLessOrEqual => dst.cast_signed() <= src.cast_signed(),
     }
 }
 
 /// Whether a test on 32 bits holds.
 #[inline(always)]
-fn passes32(test: Test, low_dst: u32, low_src: u32) -> bool
+fn passes32(test: Comparison, low_dst: u32, low_src: u32) -> bool
     ensures value { result ≡ passes W32 test low_dst low_src }
     ensures meaning { IsTrue result ↔ Holds W32 test low_dst low_src }
 {
     match test {
-        Test::Equal => low_dst == low_src,
-        Test::Greater => low_dst > low_src,
-        Test::GreaterOrEqual => low_dst >= low_src,
-        Test::Set => low_dst & low_src != 0,
-        Test::NotEqual => low_dst != low_src,
-        Test::SignedGreater => low_dst.cast_signed() > low_src.cast_signed(),
-        Test::SignedGreaterOrEqual => low_dst.cast_signed() >= low_src.cast_signed(),
-        Test::Less => low_dst < low_src,
-        Test::LessOrEqual => low_dst <= low_src,
-        Test::SignedLess => low_dst.cast_signed() < low_src.cast_signed(),
-        Test::SignedLessOrEqual => low_dst.cast_signed() <= low_src.cast_signed(),
+        Comparison::Equal => low_dst == low_src,
+        Comparison::Greater => low_dst > low_src,
+        Comparison::GreaterOrEqual => low_dst >= low_src,
+        Comparison::Set => low_dst & low_src != 0,
+        Comparison::NotEqual => low_dst != low_src,
+        Comparison::SignedGreater => low_dst.cast_signed() > low_src.cast_signed(),
+        Comparison::SignedGreaterOrEqual => low_dst.cast_signed() >= low_src.cast_signed(),
+        Comparison::Less => low_dst < low_src,
+        Comparison::LessOrEqual => low_dst <= low_src,
+        Comparison::SignedLess => low_dst.cast_signed() < low_src.cast_signed(),
+        Comparison::SignedLessOrEqual => low_dst.cast_signed() <= low_src.cast_signed(),
     }
 }
 
 /// Whether a jump of this width is taken. One of 32 bits compares the low halves.
 #[inline(always)]
-pub fn is_taken(width: Width, test: Test, dst: u64, src: u64) -> bool
+pub fn is_taken(width: Width, test: Comparison, dst: u64, src: u64) -> bool
     ensures value { result ≡ taken width test dst src }
     ensures meaning { IsTrue result ↔ IsTaken width test dst src }
 {

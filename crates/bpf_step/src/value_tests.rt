@@ -1,7 +1,7 @@
 //! Values of operations, worked out from the text of RFC 9669, section 4, by a script of its own over whole numbers.
 use crate::arithmetic::{extend, negate, order, value};
 use crate::jump::is_taken;
-use bpf_types::{Extension, Operation, Order, Swapped, Test, Width};
+use bpf_types::{Extension, Operation, Order, Swapped, Comparison, Width};
 
 /// Operands: 0, 1, -1, the least and the greatest number, 2^31, 2^32, shift amounts about 64, -13 by 3.
 const PAIRS: [(u64, u64); 15] = [
@@ -319,18 +319,18 @@ const COMPARED: [(u64, u64); 9] = [
 ];
 
 /// For each test the compared pairs that pass it, on 64 and on 32 bits, one digit a pair, the first pair in front.
-const PASSED: [(Test, &[u8; 9], &[u8; 9]); 11] = [
-    (Test::Equal, b"100000000", b"100000010"),
-    (Test::Greater, b"001101110", b"001100100"),
-    (Test::GreaterOrEqual, b"101101110", b"101100110"),
-    (Test::Set, b"000110010", b"000110010"),
-    (Test::NotEqual, b"011111111", b"011111101"),
-    (Test::SignedGreater, b"001010110", b"001011000"),
-    (Test::SignedGreaterOrEqual, b"101010110", b"101011010"),
-    (Test::Less, b"010010001", b"010011001"),
-    (Test::LessOrEqual, b"110010001", b"110011011"),
-    (Test::SignedLess, b"010101001", b"010100101"),
-    (Test::SignedLessOrEqual, b"110101001", b"110100111"),
+const PASSED: [(Comparison, &[u8; 9], &[u8; 9]); 11] = [
+    (Comparison::Equal, b"100000000", b"100000010"),
+    (Comparison::Greater, b"001101110", b"001100100"),
+    (Comparison::GreaterOrEqual, b"101101110", b"101100110"),
+    (Comparison::Set, b"000110010", b"000110010"),
+    (Comparison::NotEqual, b"011111111", b"011111101"),
+    (Comparison::SignedGreater, b"001010110", b"001011000"),
+    (Comparison::SignedGreaterOrEqual, b"101010110", b"101011010"),
+    (Comparison::Less, b"010010001", b"010011001"),
+    (Comparison::LessOrEqual, b"110010001", b"110011011"),
+    (Comparison::SignedLess, b"010101001", b"010100101"),
+    (Comparison::SignedLessOrEqual, b"110101001", b"110100111"),
 ];
 
 const EXTENDED: [(Extension, u64, u64); 10] = [
@@ -387,7 +387,7 @@ fn first_wrong(operation: Operation, wanted: &[(u64, u64); 15]) -> Option<usize>
 }
 
 /// The index of the first pair on which the test does not tell what is wanted.
-fn first_mistaken(test: Test, width: Width, wanted: &[u8]) -> Option<usize> {
+fn first_mistaken(test: Comparison, width: Width, wanted: &[u8]) -> Option<usize> {
     for (i, ((dst, src), digit)) in COMPARED.iter().zip(wanted).enumerate() {
         if is_taken(width, test, *dst, *src) != (*digit == b'1') {
             return Some(i);

@@ -6,9 +6,9 @@ use Rattle.bpf_types.specs.declared.line.Line.{Line}
 use Rattle.bpf_types.specs.declared.line.Line.TheVariants as line
 use Rattle.bpf_types.specs.declared.line.Operand.{Operand}
 use Rattle.bpf_types.specs.declared.line.Operation.{Operation}
-use Rattle.bpf_types.specs.declared.line.Test.{Test}
+use Rattle.bpf_types.specs.declared.line.Comparison.{Comparison}
 use Rattle.bpf_types.specs.declared.line.Size.{Size}
-use Rattle.bpf_types.specs.declared.line.Narrow.{Narrow}
+use Rattle.bpf_types.specs.declared.line.SignedSize.{SignedSize}
 use Rattle.bpf_types.specs.declared.line.Order.{Order}
 use Rattle.bpf_types.specs.declared.line.Width.{Width}
 use Rattle.bpf_types.specs.declared.line.Width.TheVariants.{W32, W64}
@@ -72,7 +72,7 @@ long_jump_err tokens Syntax f h = by
     by _ name odd m k = absurd cc
 long_jump_err tokens Range f h = (line.LongJump h.0.0, h.0.1, None, refl, (refl, h.1), λ m. h.2 m.0)
 
-pub jump_if_err : (w : Width) (t : Test) (tokens : List (List ℕ)) (fault : LineFault) {V : Type 0} (f : V → (ℕ × Operand) × (ℤ × Option (List ℕ))) → Gives f (AreThree IsRegister IsSecond IsTarget tokens) (λ v. (IsReg v.0.0 × IsOperand v.0.1) × FitsSigned w16 v.1.0) (Err fault) → Judges (word.Jump (leap.If w t)) tokens (Err fault)
+pub jump_if_err : (w : Width) (t : Comparison) (tokens : List (List ℕ)) (fault : LineFault) {V : Type 0} (f : V → (ℕ × Operand) × (ℤ × Option (List ℕ))) → Gives f (AreThree IsRegister IsSecond IsTarget tokens) (λ v. (IsReg v.0.0 × IsOperand v.0.1) × FitsSigned w16 v.1.0) (Err fault) → Judges (word.Jump (leap.If w t)) tokens (Err fault)
 jump_if_err w t tokens Syntax f h = by
   where
     by : (l : Line) → (name : Option (List ℕ)) → (odd : Option ℕ) → mnemonic_of l ≡ (word.Jump (leap.If w t)) → ¬ IsOperands l name odd tokens
@@ -88,7 +88,7 @@ load_err s tokens Syntax f h = by
     by _ name odd m k = absurd cc
 load_err s tokens Range f h = (line.Load s h.0.0 h.0.1.0 h.0.1.1, None, None, refl, (refl, refl, h.1), λ m. h.2 (m.0.0, (m.0.1, m.0.2)))
 
-pub load_extended_err : (s : Narrow) (tokens : List (List ℕ)) (fault : LineFault) {V : Type 0} (f : V → ℕ × (ℕ × ℤ)) → Gives f (AreLoad tokens) (λ v. IsReg v.0 × (IsReg v.1.0 × FitsSigned w16 v.1.1)) (Err fault) → Judges (word.Access (access.LoadExtended s)) tokens (Err fault)
+pub load_extended_err : (s : SignedSize) (tokens : List (List ℕ)) (fault : LineFault) {V : Type 0} (f : V → ℕ × (ℕ × ℤ)) → Gives f (AreLoad tokens) (λ v. IsReg v.0 × (IsReg v.1.0 × FitsSigned w16 v.1.1)) (Err fault) → Judges (word.Access (access.LoadExtended s)) tokens (Err fault)
 load_extended_err s tokens Syntax f h = by
   where
     by : (l : Line) → (name : Option (List ℕ)) → (odd : Option ℕ) → mnemonic_of l ≡ (word.Access (access.LoadExtended s)) → ¬ IsOperands l name odd tokens
@@ -112,7 +112,7 @@ store_immediate_err s tokens Syntax f h = by
     by _ name odd m k = absurd cc
 store_immediate_err s tokens Range f h = (line.StoreImmediate s h.0.0.0 h.0.0.1 h.0.1, None, None, refl, (refl, refl, h.1), λ m. h.2 ((m.0.0, m.0.1), m.0.2))
 
-pub jump_if_ok : (w : Width) (t : Test) (tokens : List (List ℕ)) (dst : ℕ) (operand : Operand) (z y : ℤ) (name : Option (List ℕ)) → y ≡ z → AreThree IsRegister IsSecond IsTarget tokens ((dst, operand), (z, name)) → IsReg dst × IsOperand operand → FitsSigned w16 z
+pub jump_if_ok : (w : Width) (t : Comparison) (tokens : List (List ℕ)) (dst : ℕ) (operand : Operand) (z y : ℤ) (name : Option (List ℕ)) → y ≡ z → AreThree IsRegister IsSecond IsTarget tokens ((dst, operand), (z, name)) → IsReg dst × IsOperand operand → FitsSigned w16 z
     → (word.Jump (leap.If w t) ≡ word.Jump (leap.If w t)) × IsOperands (line.JumpIf w t dst operand y) name None tokens × IsLine (line.JumpIf w t dst operand y)
 jump_if_ok w t tokens dst operand z y name e h k f = (refl, (refl, subst (λ (x : ℤ). AreThree IsRegister IsSecond IsTarget tokens ((dst, operand), (x, name))) (sym e) h), (k.0, k.1, subst (FitsSigned w16) (sym e) f))
 

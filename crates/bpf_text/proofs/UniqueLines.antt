@@ -6,9 +6,9 @@ use Rattle.bpf_types.specs.declared.line.Line.{Line}
 use Rattle.bpf_types.specs.declared.line.Line.TheVariants as line
 use Rattle.bpf_types.specs.declared.line.Operand.{Operand}
 use Rattle.bpf_types.specs.declared.line.Operation.{Operation}
-use Rattle.bpf_types.specs.declared.line.Test.{Test}
+use Rattle.bpf_types.specs.declared.line.Comparison.{Comparison}
 use Rattle.bpf_types.specs.declared.line.Size.{Size}
-use Rattle.bpf_types.specs.declared.line.Narrow.{Narrow}
+use Rattle.bpf_types.specs.declared.line.SignedSize.{SignedSize}
 use Rattle.bpf_types.specs.declared.line.Order.{Order}
 use Rattle.bpf_types.specs.declared.line.Width.{Width}
 use Rattle.bpf_types.specs.declared.line.Width.TheVariants.{W32, W64}
@@ -99,7 +99,7 @@ one_long_jump z (line.LongJump z') a b odd tokens m h k =
     (λ i. line.LongJump (same i).0, λ i. (same i).1, k.0)
 one_long_jump z _ a b odd tokens m h k = absurd cc
 
-one_jump_if : (w : Width) (t : Test) (dst : ℕ) (x : Operand) (z : ℤ) → IsOne (line.JumpIf w t dst x z)
+one_jump_if : (w : Width) (t : Comparison) (dst : ℕ) (x : Operand) (z : ℤ) → IsOne (line.JumpIf w t dst x z)
 one_jump_if w t dst x z (line.JumpIf w' t' dst' x' z') a b odd tokens m h k =
     let same = one_triple IsRegister IsSecond IsTarget one_register one_second one_target tokens ((dst, x), (z, a)) ((dst', x'), (z', b)) h.1 k.1 in
     let p : dst ≡ dst' = λ i. (same i).0.0 in
@@ -146,7 +146,7 @@ one_load_plain s dst base z (line.Load s' dst' base' z') a b odd tokens m h k =
     (cc, h.0 ∙ sym k.0, k.1)
 one_load_plain s dst base z _ a b odd tokens m h k = absurd cc
 
-one_load_extended : (s : Narrow) (dst base : ℕ) (z : ℤ) → IsOne (line.LoadExtended s dst base z)
+one_load_extended : (s : SignedSize) (dst base : ℕ) (z : ℤ) → IsOne (line.LoadExtended s dst base z)
 one_load_extended s dst base z (line.LoadExtended s' dst' base' z') a b odd tokens m h k =
     let same = one_load tokens (dst, (base, z)) (dst', (base', z')) h.2 k.2 in
     let p : dst ≡ dst' = λ i. (same i).0 in

@@ -17,7 +17,7 @@ use crate::forms::{
 };
 use crate::line::{LineFault, Source};
 use bpf_listing::{Access, Jump, Mnemonic, mnemonic_of};
-use bpf_types::{Extension, Line, Narrow, Operation, Order, Size, Swapped, Test, Width};
+use bpf_types::{Extension, Line, SignedSize, Operation, Order, Size, Swapped, Comparison, Width};
 
 /// The operands of arithmetic.
 fn arithmetic<'a>(
@@ -162,7 +162,7 @@ fn long_jump<'a>(operands: &[&'a [u8]]) -> Result<Source<'a>, LineFault>
 }
 
 /// The operands of a jump that tests.
-fn jump_if<'a>(width: Width, test: Test, operands: &[&'a [u8]]) -> Result<Source<'a>, LineFault>
+fn jump_if<'a>(width: Width, test: Comparison, operands: &[&'a [u8]]) -> Result<Source<'a>, LineFault>
     ensures { Judges (word.Jump (leap.If width test)) (texts operands.now) result }
 {
     match jump_operands(operands) {
@@ -245,7 +245,7 @@ fn load<'a>(size: Size, operands: &[&'a [u8]]) -> Result<Source<'a>, LineFault>
 }
 
 /// The operands of a load that extends the sign.
-fn load_extended<'a>(size: Narrow, operands: &[&'a [u8]]) -> Result<Source<'a>, LineFault>
+fn load_extended<'a>(size: SignedSize, operands: &[&'a [u8]]) -> Result<Source<'a>, LineFault>
     ensures { Judges (word.Access (access.LoadExtended size)) (texts operands.now) result }
 {
     match load_operands(operands) {

@@ -5,7 +5,7 @@ pub mod line;
 pub mod reg;
 
 pub use line::{
-    Extension, Fields, Line, Narrow, Operand, Operation, Order, Size, Swapped, Test, Width,
+    Extension, Fields, Line, SignedSize, Operand, Operation, Order, Size, Swapped, Comparison, Width,
     lines_are_in_range,
 };
 pub use reg::Reg;

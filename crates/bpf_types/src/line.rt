@@ -67,7 +67,7 @@ pub enum Swapped {
 
 /// What a jump tests of its two operands (RFC 9669, section 4.3). `Set` asks whether they have a bit in common.
 #[derive(Clone, Copy, PartialEq, Eq, Debug)]
-pub enum Test {
+pub enum Comparison {
     Equal,
     Greater,
     GreaterOrEqual,
@@ -92,7 +92,7 @@ pub enum Size {
 
 /// How many octets a load that extends the sign reads: 4, 2 or 1 (RFC 9669, section 5.2).
 #[derive(Clone, Copy, PartialEq, Eq, Debug)]
-pub enum Narrow {
+pub enum SignedSize {
     Word,
     Half,
     Byte,
@@ -137,7 +137,7 @@ pub enum Line {
     /// A jump that is taken where the test of dst and operand holds.
     JumpIf {
         width: Width,
-        test: Test,
+        test: Comparison,
         dst: Reg,
         operand: Operand,
         distance: i16,
@@ -166,7 +166,7 @@ pub enum Line {
     },
     /// A load that extends the sign, from `base + offset`.
     LoadExtended {
-        size: Narrow,
+        size: SignedSize,
         dst: Reg,
         base: Reg,
         offset: i16,

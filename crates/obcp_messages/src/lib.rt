@@ -5,7 +5,7 @@
 mod fault;
 mod fields;
 mod laws;
-mod lent;
+mod payload;
 mod reading_reports;
 mod reading_requests;
 mod report;
@@ -19,7 +19,7 @@ pub use laws::{
     read_reports_are_laid_out, read_requests_are_laid_out, reports_are_read_back,
     requests_are_read_back,
 };
-pub use lent::{Arguments, Code, MOST_ARGUMENTS, MOST_CODE, MOST_WORDS, Words};
+pub use payload::{Arguments, Code, MOST_ARGUMENTS, MOST_CODE, MOST_WORDS, Words};
 pub use reading_reports::read_report;
 pub use reading_requests::read_request;
 pub use report::{BAD_CODE, PlainCode, Report, STATUS_REPORT, StartFault, VERIFICATION};

@@ -9,7 +9,7 @@ ghost use Rattle.obcp_messages.specs.declared.request.Request.{Request};
 ghost use Rattle.obcp_messages.specs.declared.fault.RequestFault.TheVariants.{Layout};
 
 use crate::fault::RequestFault;
-use crate::lent::{Arguments, Code, Words};
+use crate::payload::{Arguments, Code, Words};
 use crate::request::{Request, SERVICE};
 use arrayvec::ArrayVec;
 use byteorder::{BigEndian, ByteOrder};

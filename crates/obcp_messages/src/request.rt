@@ -2,7 +2,7 @@
 
 ghost use Rattle.std.specs.Prelude.{◌≡◌};
 
-use crate::lent::{Arguments, Code, Words};
+use crate::payload::{Arguments, Code, Words};
 
 /// The service type of on-board control procedures.
 pub const SERVICE: u8 = 18;

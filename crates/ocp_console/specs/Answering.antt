@@ -10,7 +10,7 @@ use Rattle.ocp_table.specs.Shown.{shown_at}
 use Rattle.ocp_core.specs.declared.answers.EngineFault.TheVariants as fault
 use Rattle.ocp_core.specs.World.{Answer, Requested, Stepped}
 use Rattle.ocp_core.specs.World as event
-use Rattle.ocp_core.specs.Log.{Log, opened, expand, world_of, answer_in, log_after}
+use Rattle.ocp_core.specs.Log.{Log, empty_log, expand, world_of, answer_in, log_after}
 use Rattle.ocp_core.specs.Slice.{slice_in, slice_log}
 use Rattle.ocp_lines.specs.Grammar.{Said, Nothing, Up, Send, Time, Step, View, Journal, command_of}
 use Rattle.ocp_console.specs.declared.settings.Settings.{Settings}
@@ -30,7 +30,7 @@ state_of c = record { engine = c.engine; apid = c.apid; time = c.time; count = c
 
 -- the state before the first line
 abbrev pub opening : Settings → State
-opening settings = record { engine = opened settings.apid settings.pool_words settings.capacity; apid = settings.apid; time = 0; count = 0 }
+opening settings = record { engine = empty_log settings.apid settings.pool_words settings.capacity; apid = settings.apid; time = 0; count = 0 }
 
 -- ---- requests
 

@@ -17,7 +17,7 @@ use Rattle.ocp_core.specs.declared.answers.Slice.{Slice}
 use Rattle.ocp_core.specs.declared.answers.StepOutcome.{StepOutcome}
 use Rattle.ocp_core.specs.declared.answers.StepOutcome.TheVariants as S
 use Rattle.ocp_core.specs.World.{World, Event, Request, Step, Answer, Requested, Stepped, after, answer_by, is_accepted, served, accepted, received, command_of, origin_of, replay_from}
-use Rattle.ocp_core.specs.Log.{Log, Steps, world_of, is_full, noted, entry_for, full_answer, answer_in, log_after, expand}
+use Rattle.ocp_core.specs.Log.{Log, Steps, world_of, is_full, with_entry, entry_for, full_answer, answer_in, log_after, expand}
 use Rattle.ocp_core.specs.Slice.{outcome_in, slice_in, slice_log, slice_count, slice_last}
 use Rattle.ocp_core.specs.Answering.{Answers, discard_of}
 
@@ -34,19 +34,19 @@ module _ (log now : Log) (same : log ≡ now) (e : Event) where
   refused_answer a not_taken is = at (λ l. answer_in l e) a (is ∙ ap (λ b. cond b (cond (is_full log) (full_answer e) answer) answer) (sym not_taken))
 
   pub refused_log : is_accepted answer ≡ false → now ≡ log_after now e
-  refused_log not_taken = at (λ l. log_after l e) now (sym same ∙ ap (λ b. cond b (cond (is_full log) log (noted log (entry_for e))) log) (sym not_taken))
+  refused_log not_taken = at (λ l. log_after l e) now (sym same ∙ ap (λ b. cond b (cond (is_full log) log (with_entry log (entry_for e))) log) (sym not_taken))
 
   pub full_answered : is_accepted answer ≡ true → is_full log ≡ true → full_answer e ≡ answer_in now e
   full_answered taken full = at (λ l. answer_in l e) (full_answer e) (ap (λ b. cond b (full_answer e) answer) (sym full) ∙ ap (λ b. cond b (cond (is_full log) (full_answer e) answer) answer) (sym taken))
 
   pub full_log : is_accepted answer ≡ true → is_full log ≡ true → now ≡ log_after now e
-  full_log taken full = at (λ l. log_after l e) now (sym same ∙ ap (λ b. cond b log (noted log (entry_for e))) (sym full) ∙ ap (λ b. cond b (cond (is_full log) log (noted log (entry_for e))) log) (sym taken))
+  full_log taken full = at (λ l. log_after l e) now (sym same ∙ ap (λ b. cond b log (with_entry log (entry_for e))) (sym full) ∙ ap (λ b. cond b (cond (is_full log) log (with_entry log (entry_for e))) log) (sym taken))
 
   pub done_answer : (a : Answer) → is_accepted answer ≡ true → is_full log ≡ false → a ≡ answer → a ≡ answer_in now e
   done_answer a taken free is = at (λ l. answer_in l e) a (is ∙ ap (λ b. cond b (full_answer e) answer) (sym free) ∙ ap (λ b. cond b (cond (is_full log) (full_answer e) answer) answer) (sym taken))
 
-  pub done_log : (new : Log) → is_accepted answer ≡ true → is_full log ≡ false → new ≡ noted log (entry_for e) → new ≡ log_after now e
-  done_log new taken free is = at (λ l. log_after l e) new (is ∙ ap (λ b. cond b log (noted log (entry_for e))) (sym free) ∙ ap (λ b. cond b (cond (is_full log) log (noted log (entry_for e))) log) (sym taken))
+  pub done_log : (new : Log) → is_accepted answer ≡ true → is_full log ≡ false → new ≡ with_entry log (entry_for e) → new ≡ log_after now e
+  done_log new taken free is = at (λ l. log_after l e) new (is ∙ ap (λ b. cond b log (with_entry log (entry_for e))) (sym free) ∙ ap (λ b. cond b (cond (is_full log) log (with_entry log (entry_for e))) log) (sym taken))
 
   -- the answer of an accepted event, where there is room
   pub answered : (r : Result (List (List ℕ)) EngineFault) → is_accepted answer ≡ true → is_full log ≡ false → Answers r answer → Answers r (answer_in now e)
@@ -65,7 +65,7 @@ module _ (log now : Log) (same : log ≡ now) (by id budget : ℕ) where
   none o = record { count = 0; last = o }
 
   abbrev entered : Log
-  entered = noted log (Steps by id (slice_count (world_of log) by id budget))
+  entered = with_entry log (Steps by id (slice_count (world_of log) by id budget))
 
   in_now : (x : Slice) → x ≡ slice_in log by id budget → x ≡ slice_in now by id budget
   in_now x is = is ∙ ap (λ l. slice_in l by id budget) same
@@ -88,8 +88,8 @@ module _ (log now : Log) (same : log ≡ now) (by id budget : ℕ) where
   pub done_slice : (s : Slice) → is_accepted first ≡ true → is_full log ≡ false → s.count ≡ slice_count (world_of log) by id budget → s.last ≡ slice_last (world_of log) by id S.Ran budget → s ≡ slice_in now by id budget
   done_slice s taken free count last = in_now s ((λ i. record { count = count i; last = last i }) ∙ ap (λ b. cond b (none S.JournalFull) whole) (sym free) ∙ ap (λ b. cond b (cond (is_full log) (none S.JournalFull) whole) (none (outcome_in first))) (sym taken))
 
-  pub done_slice_log : (new : Log) (n : ℕ) → is_accepted first ≡ true → is_full log ≡ false → n ≡ slice_count (world_of log) by id budget → new ≡ noted log (Steps by id n) → new ≡ slice_log now by id budget
-  done_slice_log new n taken free count is = log_now new (is ∙ ap (λ k. noted log (Steps by id k)) count ∙ ap (λ b. cond b log entered) (sym free) ∙ ap (λ b. cond b (cond (is_full log) log entered) log) (sym taken))
+  pub done_slice_log : (new : Log) (n : ℕ) → is_accepted first ≡ true → is_full log ≡ false → n ≡ slice_count (world_of log) by id budget → new ≡ with_entry log (Steps by id n) → new ≡ slice_log now by id budget
+  done_slice_log new n taken free count is = log_now new (is ∙ ap (λ k. with_entry log (Steps by id k)) count ∙ ap (λ b. cond b log entered) (sym free) ∙ ap (λ b. cond b (cond (is_full log) log entered) log) (sym taken))
 
 -- ---- a request
 

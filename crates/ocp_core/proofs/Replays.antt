@@ -3,7 +3,7 @@ use Rattle.std.proofs.Common.{◌≡◌, ℕ, zero, suc, ◌+◌, List, [], ◌�
 use Rattle.std.proofs.lemmas.List.{append-nil}
 use Rattle.std.proofs.lemmas.Grind.{flat_map-append}
 use Rattle.ocp_core.specs.World.{World, Event, Step, after, replay_from, replay, answers}
-use Rattle.ocp_core.specs.Log.{Log, Entry, events_of, expand, noted, world_of}
+use Rattle.ocp_core.specs.Log.{Log, Entry, events_of, expand, with_entry, world_of}
 
 pub replay_from-append : (w : World) (xs ys : List Event) → replay_from w (xs ++ ys) ≡ replay_from (replay_from w xs) ys
 replay_from-append w [] ys = refl
@@ -13,16 +13,16 @@ pub answers-append : (w : World) (xs ys : List Event) → answers w (xs ++ ys) �
 answers-append w [] ys = refl
 answers-append w (x ∷ xs) ys = ap (λ rest. (after w x).answer ∷ rest) (answers-append (after w x).world xs ys)
 
-pub expand-noted : (entries : List Entry) (e : Entry) → expand (entries ++ e ∷ []) ≡ expand entries ++ events_of e
-expand-noted entries e = flat_map-append events_of entries (e ∷ []) ∙ ap (λ es. expand entries ++ es) (append-nil (events_of e))
+pub expand-with_entry : (entries : List Entry) (e : Entry) → expand (entries ++ e ∷ []) ≡ expand entries ++ events_of e
+expand-with_entry entries e = flat_map-append events_of entries (e ∷ []) ∙ ap (λ es. expand entries ++ es) (append-nil (events_of e))
 
-pub length-expand-noted : (entries : List Entry) (e : Entry) → length (expand (entries ++ e ∷ [])) ≡ length (expand entries) + length (events_of e)
-length-expand-noted entries e = ap length (expand-noted entries e) ∙ length-append (expand entries) (events_of e)
+pub length-expand-with_entry : (entries : List Entry) (e : Entry) → length (expand (entries ++ e ∷ [])) ≡ length (expand entries) + length (events_of e)
+length-expand-with_entry entries e = ap length (expand-with_entry entries e) ∙ length-append (expand entries) (events_of e)
 
 -- a journal with one more entry is replayed by that entry's events
-pub world_of-noted : (log : Log) (e : Entry) → world_of (noted log e) ≡ replay_from (world_of log) (events_of e)
+pub world_of-with_entry : (log : Log) (e : Entry) → world_of (with_entry log e) ≡ replay_from (world_of log) (events_of e)
 unfolding world_of
-world_of-noted log e = ap (replay log.apid) (expand-noted log.entries e) ∙ replay_from-append _ (expand log.entries) (events_of e)
+world_of-with_entry log e = ap (replay log.apid) (expand-with_entry log.entries e) ∙ replay_from-append _ (expand log.entries) (events_of e)
 
 -- one more step at the end
 steps-suc : (w : World) (by id n : ℕ) → replay_from w (replicate (suc n) (Step by id)) ≡ (after (replay_from w (replicate n (Step by id))) (Step by id)).world

@@ -10,19 +10,19 @@ use Rattle.pus_fields.specs.declared.fault.TcFault.TheVariants.{Discarded, Rejec
 use Rattle.pus_fields.specs.Telecommand.{Telecommand}
 use Rattle.pus_fields.specs.TelecommandFaults.{telecommand_of}
 use Rattle.ocp_table.specs.Deciding.{turn}
-use Rattle.ocp_table.specs.declared.answers.Made.{Made}
-use Rattle.ocp_table.specs.declared.answers.Made.TheVariants as made
+use Rattle.ocp_table.specs.declared.answers.InstructionOutcome.{InstructionOutcome}
+use Rattle.ocp_table.specs.declared.answers.InstructionOutcome.TheVariants as made
 use Rattle.ocp_table.specs.declared.answers.Refusal.{Refusal}
 use Rattle.ocp_table.specs.declared.answers.Refusal.TheVariants as refusal
 use Rattle.ocp_core.specs.declared.answers.EngineFault.TheVariants as engine
 use Rattle.ocp_core.specs.declared.answers.StepOutcome.{StepOutcome}
 use Rattle.ocp_core.specs.declared.answers.StepOutcome.TheVariants as S
-use Rattle.ocp_core.specs.World.{World, Event, Request, Step, Answer, Requested, Stepped, after, enacted, answer_by, is_accepted, received, stepped, answers, replay_from}
-use Rattle.ocp_core.specs.Log.{Log, world_of, is_full, noted, entry_for, full_answer, answer_in, log_after}
+use Rattle.ocp_core.specs.World.{World, Event, Request, Step, Answer, Requested, Stepped, after, world_after, answer_by, is_accepted, received, stepped, answers, replay_from}
+use Rattle.ocp_core.specs.Log.{Log, world_of, is_full, with_entry, entry_for, full_answer, answer_in, log_after}
 use Rattle.ocp_core.specs.declared.answers.RunRefusal.{RunRefusal}
 use Rattle.ocp_core.specs.declared.answers.RunRefusal.TheVariants as run
 use Rattle.ocp_core.specs.Running.{log_after_all, finds_full, HasRoom, IsRefusedBy, StopsAt}
-use Rattle.ocp_core.proofs.Replays.{world_of-noted, replay_from-append, answers-append}
+use Rattle.ocp_core.proofs.Replays.{world_of-with_entry, replay_from-append, answers-append}
 use Rattle.ocp_core.proofs.Journaling.{accepted_octets}
 
 -- ---- a refused event leaves the world
@@ -30,12 +30,12 @@ use Rattle.ocp_core.proofs.Journaling.{accepted_octets}
 true_false : true ≡ false → ⊥
 true_false e = cc
 
-kept_octets : (r : Result Telecommand TcFault) (time : ℕ) (w : World) → is_accepted (answer_by (received r time w.records).reply w) ≡ false → enacted (received r time w.records) w ≡ w
+kept_octets : (r : Result Telecommand TcFault) (time : ℕ) (w : World) → is_accepted (answer_by (received r time w.records).reply w) ≡ false → world_after (received r time w.records) w ≡ w
 kept_octets (Ok telecommand) time w h = absurd (true_false (sym (accepted_octets (Ok telecommand) time w.records w refl) ∙ h))
 kept_octets (Err (Rejected rejection request)) time w h = absurd (true_false h)
 kept_octets (Err (Discarded cause)) time w h = refl
 
-kept_turn : (id : ℕ) (t : Result Made Refusal) (w : World) → is_accepted (answer_by (stepped id t).reply w) ≡ false → enacted (stepped id t) w ≡ w
+kept_turn : (id : ℕ) (t : Result InstructionOutcome Refusal) (w : World) → is_accepted (answer_by (stepped id t).reply w) ≡ false → world_after (stepped id t) w ≡ w
 kept_turn id (Ok made.Ran) w h = absurd (true_false h)
 kept_turn id (Ok made.Ended) w h = absurd (true_false h)
 kept_turn id (Ok (made.Faulted number)) w h = absurd (true_false h)
@@ -69,7 +69,7 @@ never_full_octets (Ok telecommand) time w h = absurd (true_false (sym (accepted_
 never_full_octets (Err (Rejected rejection request)) time w h = refl
 never_full_octets (Err (Discarded cause)) time w h = refl
 
-never_full_turn : (id : ℕ) (t : Result Made Refusal) (w : World) → is_full_answer (answer_by (stepped id t).reply w) ≡ false
+never_full_turn : (id : ℕ) (t : Result InstructionOutcome Refusal) (w : World) → is_full_answer (answer_by (stepped id t).reply w) ≡ false
 never_full_turn id (Ok made.Ran) w = refl
 never_full_turn id (Ok made.Ended) w = refl
 never_full_turn id (Ok (made.Faulted number)) w = refl
@@ -84,16 +84,16 @@ is_accepted-full : (e : Event) → is_accepted (full_answer e) ≡ false
 is_accepted-full (Request by time octets) = refl
 is_accepted-full (Step by id) = refl
 
-world_after : (log : Log) (e : Event) → world_of (noted log (entry_for e)) ≡ (after (world_of log) e).world
-world_after log (Request by time octets) = world_of-noted log (entry_for (Request by time octets))
-world_after log (Step by id) = world_of-noted log (entry_for (Step by id))
+world_of-entry : (log : Log) (e : Event) → world_of (with_entry log (entry_for e)) ≡ (after (world_of log) e).world
+world_of-entry log (Request by time octets) = world_of-with_entry log (entry_for (Request by time octets))
+world_of-entry log (Step by id) = world_of-with_entry log (entry_for (Step by id))
 
 module _ (log : Log) (e : Event) where
   abbrev answer : Answer
   answer = (after (world_of log) e).answer
 
   abbrev left : Bool → Bool → Log
-  left b f = cond b (cond f log (noted log (entry_for e))) log
+  left b f = cond b (cond f log (with_entry log (entry_for e))) log
 
   -- an event that is not answered with a full journal has its own answer
   pub done_event : (x : Answer) → x ≡ answer_in log e → is_full_answer x ≡ false → (x ≡ answer) × (finds_full log e ≡ false)
@@ -123,7 +123,7 @@ module _ (log : Log) (e : Event) where
       elim (is_accepted answer) as (λ b. is_accepted answer ≡ b → cond b (is_full log) false ≡ false → world_of (left b (is_full log)) ≡ (after (world_of log) e).world) [
         | true ↦ λ taken. elim (is_full log) as (λ f. f ≡ false → world_of (left true f) ≡ (after (world_of log) e).world) [
           | true ↦ λ full. absurd (true_false full)
-          | false ↦ λ free. world_after log e
+          | false ↦ λ free. world_of-entry log e
         ]
         | false ↦ λ taken free. sym (refused_keeps (world_of log) e taken)
       ] refl

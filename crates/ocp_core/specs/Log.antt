@@ -26,8 +26,8 @@ pub record Log : Type 0 where
   pub entries : List Entry
 
 -- a journal without entries
-abbrev pub opened : ℕ → ℕ → ℕ → Log
-opened apid words capacity = record { apid = apid; words = words; capacity = capacity; entries = [] }
+abbrev pub empty_log : ℕ → ℕ → ℕ → Log
+empty_log apid words capacity = record { apid = apid; words = words; capacity = capacity; entries = [] }
 
 unfoldable pub world_of : Log → World
 world_of log = replay log.apid (expand log.entries)
@@ -35,8 +35,8 @@ world_of log = replay log.apid (expand log.entries)
 abbrev pub is_full : Log → Bool
 is_full log = length log.entries == log.capacity
 
-abbrev pub noted : Log → Entry → Log
-noted log entry = record log { entries = log.entries ++ entry ∷ [] }
+abbrev pub with_entry : Log → Entry → Log
+with_entry log entry = record log { entries = log.entries ++ entry ∷ [] }
 
 -- the entry of an accepted event
 abbrev pub entry_for : Event → Entry
@@ -53,4 +53,4 @@ answer_in log e = let answer = (after (world_of log) e).answer in if is_accepted
 
 -- an accepted event leaves one entry, and a refused one none
 abbrev pub log_after : Log → Event → Log
-log_after log e = if is_accepted (after (world_of log) e).answer then (if is_full log then log else noted log (entry_for e)) else log
+log_after log e = if is_accepted (after (world_of log) e).answer then (if is_full log then log else with_entry log (entry_for e)) else log

@@ -8,7 +8,7 @@ use Rattle.ocp_core.specs.declared.answers.StepOutcome.{StepOutcome}
 use Rattle.ocp_core.specs.declared.answers.StepOutcome.TheVariants as S
 use Rattle.ocp_core.specs.declared.answers.Slice.{Slice}
 use Rattle.ocp_core.specs.World.{World, Step, After, Answer, Requested, Stepped, after, is_accepted}
-use Rattle.ocp_core.specs.Log.{Log, Steps, world_of, is_full, noted}
+use Rattle.ocp_core.specs.Log.{Log, Steps, world_of, is_full, with_entry}
 
 abbrev pub is_running_status : Status → Bool
 is_running_status Running = true
@@ -55,4 +55,4 @@ slice_in log by id budget =
 
 -- its instructions are one entry
 abbrev pub slice_log : Log → ℕ → ℕ → ℕ → Log
-slice_log log by id budget = if is_accepted (after (world_of log) (Step by id)).answer then (if is_full log then log else noted log (Steps by id (slice_count (world_of log) by id budget))) else log
+slice_log log by id budget = if is_accepted (after (world_of log) (Step by id)).answer then (if is_full log then log else with_entry log (Steps by id (slice_count (world_of log) by id budget))) else log

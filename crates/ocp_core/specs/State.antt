@@ -2,7 +2,7 @@
 use Rattle.std.specs.Prelude.{◌≡◌, ◌%◌, ℕ, List, Result, Ok, Err}
 use Rattle.ocp_table.specs.Rec.{Records}
 use Rattle.ocp_core.specs.declared.answers.EngineFault.{EngineFault}
-use Rattle.ocp_core.specs.World.{World, Did, enacted, answer_by}
+use Rattle.ocp_core.specs.World.{World, Effect, world_after, answer_by}
 use Rattle.ocp_core.specs.Answering.{Answers}
 use Rattle.ocp_core.specs.declared.state.State.{State}
 
@@ -18,5 +18,5 @@ module _ {A : Type 0} where
   StandsAfter (Err fault) old new s = IsWorld old s
 
   -- whatever world the state stood for, the result and the new state are those of what was decided in it
-  abbrev pub Does : State A → State A → Result (List (List ℕ)) EngineFault → (Records → Did) → Type 0
-  Does old new result decide = (w : World) → IsWorld w old → Answers result (answer_by (decide w.records).reply w) × StandsAfter result w (enacted (decide w.records) w) new
+  abbrev pub Does : State A → State A → Result (List (List ℕ)) EngineFault → (Records → Effect) → Type 0
+  Does old new result decide = (w : World) → IsWorld w old → Answers result (answer_by (decide w.records).reply w) × StandsAfter result w (world_after (decide w.records) w) new

@@ -35,18 +35,18 @@ use Rattle.verification.specs.Codes.{acceptance_code, start_code}
 use Rattle.verification.specs.Reports.{reports_of_outcome}
 use Rattle.ocp_table.specs.declared.control.Status.{Status}
 use Rattle.ocp_table.specs.declared.control.Status.TheVariants.{Inactive, Running}
-use Rattle.ocp_table.specs.declared.answers.Made.{Made}
-use Rattle.ocp_table.specs.declared.answers.Made.TheVariants as made
+use Rattle.ocp_table.specs.declared.answers.InstructionOutcome.{InstructionOutcome}
+use Rattle.ocp_table.specs.declared.answers.InstructionOutcome.TheVariants as made
 use Rattle.ocp_table.specs.declared.answers.Failure.{Failure}
 use Rattle.ocp_table.specs.declared.answers.Failure.TheVariants as failure
 use Rattle.ocp_table.specs.declared.answers.Refusal.{Refusal}
 use Rattle.ocp_table.specs.declared.answers.Refusal.TheVariants as refusal
 use Rattle.ocp_table.specs.declared.view.Row.{Row}
 use Rattle.ocp_table.specs.Rec.{Records}
-use Rattle.ocp_table.specs.Did.{Loaded, Changed, Kept, Unasked, Failed, Refused, records_by}
-use Rattle.ocp_table.specs.Did as table
-use Rattle.ocp_table.specs.Deciding.{did_in, did_turn, turn}
-use Rattle.ocp_table.specs.Deciding as deed
+use Rattle.ocp_table.specs.Effect.{Loaded, Changed, Kept, Unasked, Failed, Refused, records_by}
+use Rattle.ocp_table.specs.Effect as table
+use Rattle.ocp_table.specs.Deciding.{effect_in, effect_turn, turn}
+use Rattle.ocp_table.specs.Deciding as directive
 use Rattle.ocp_table.specs.Shown.{statuses_of}
 use Rattle.ocp_core.specs.declared.reporting.Origin.{Origin}
 use Rattle.ocp_core.specs.declared.answers.EngineFault.{EngineFault}
@@ -80,8 +80,8 @@ pub data Reply : Type 0 where
   Steps : StepOutcome → Reply
 
 -- what an event did to the records, and what is answered
-pub record Did : Type 0 where
-  pub deed : table.Did
+pub record Effect : Type 0 where
+  pub on_records : table.Effect
   pub reply : Reply
 
 -- ---- the reports of a request
@@ -124,29 +124,29 @@ sends origin outcome answer = Sends origin.destination origin.time (reports_of o
 -- ---- what a request does
 
 -- a failed acceptance
-abbrev pub refused : Origin → AcceptanceFailure → Did
-refused origin failure = record { deed = Kept Unasked; reply = sends origin (outcome.Refused failure) [] }
+abbrev pub refused : Origin → AcceptanceFailure → Effect
+refused origin failure = record { on_records = Kept Unasked; reply = sends origin (outcome.Refused failure) [] }
 
 -- what became of a request that was accepted
-abbrev pub outcome_by : table.Did → Outcome
+abbrev pub outcome_by : table.Effect → Outcome
 outcome_by (Loaded id image) = outcome.Done
 outcome_by (Changed id change) = outcome.Done
 outcome_by (Kept Unasked) = outcome.Done
 outcome_by (Kept (Failed failure)) = outcome.NotStarted (start_failure failure)
 outcome_by (Kept (Refused why)) = outcome.Done
 
-abbrev pub done : Origin → table.Did → Did
-done origin deed = record { deed = deed; reply = sends origin (outcome_by deed) [] }
+abbrev pub done : Origin → table.Effect → Effect
+done origin effect = record { on_records = effect; reply = sends origin (outcome_by effect) [] }
 
 -- the status report of all procedures
 abbrev pub status_report : Records → Report
 status_report m = report.Status (map status_row (statuses_of m))
 
 -- the request to load, activate or report the status; the others are not served
-abbrev pub served : Command → Origin → Records → Did
-served (command.Load id code) origin m = done origin (did_in (deed.Load code) id m)
-served (command.Activate id arguments) origin m = done origin (did_in (deed.Activate arguments) id m)
-served command.Status origin m = record { deed = Kept Unasked; reply = sends origin outcome.Done (status_report m ∷ []) }
+abbrev pub served : Command → Origin → Records → Effect
+served (command.Load id code) origin m = done origin (effect_in (directive.Load code) id m)
+served (command.Activate id arguments) origin m = done origin (effect_in (directive.Activate arguments) id m)
+served command.Status origin m = record { on_records = Kept Unasked; reply = sends origin outcome.Done (status_report m ∷ []) }
 served other origin m = refused origin acceptance.Subtype
 
 abbrev pub request_failure : RequestFault → AcceptanceFailure
@@ -158,7 +158,7 @@ request_failure Q.Layout = acceptance.Layout
 unfoldable pub command_of : Telecommand → Result Command RequestFault
 command_of tc = request_of tc.service tc.subtype tc.payload
 
-abbrev pub accepted : Result Command RequestFault → Origin → Records → Did
+abbrev pub accepted : Result Command RequestFault → Origin → Records → Effect
 accepted (Ok request) origin m = served request origin m
 accepted (Err fault) origin m = refused origin (request_failure fault)
 
@@ -177,28 +177,28 @@ origin_of tc time = record { request = request_id tc.apid tc.count; ack = tc.ack
 abbrev pub unread : List ℕ → ℕ → Origin
 unread request time = record { request = request; ack = record { 0 = 0 }; destination = 0; time = time }
 
-abbrev pub received : Result Telecommand TcFault → ℕ → Records → Did
+abbrev pub received : Result Telecommand TcFault → ℕ → Records → Effect
 received (Ok tc) time m = accepted (command_of tc) (origin_of tc time) m
 received (Err (Rejected rejection request)) time m = refused (unread request time) (rejection_failure rejection)
-received (Err (Discarded cause)) time m = record { deed = Kept Unasked; reply = Discards cause }
+received (Err (Discarded cause)) time m = record { on_records = Kept Unasked; reply = Discards cause }
 
 -- ---- what an instruction does
 
-abbrev pub outcome_of : Result Made Refusal → StepOutcome
+abbrev pub outcome_of : Result InstructionOutcome Refusal → StepOutcome
 outcome_of (Ok made.Ran) = S.Ran
 outcome_of (Ok made.Ended) = S.Ended
 outcome_of (Ok (made.Faulted number)) = S.Faulted number
 outcome_of (Err refusal.NotLoaded) = S.NotLoaded
 outcome_of (Err refusal.NotRunning) = S.NotRunning
 
-abbrev pub stepped : ℕ → Result Made Refusal → Did
-stepped id turn = record { deed = did_turn id turn; reply = Steps (outcome_of turn) }
+abbrev pub stepped : ℕ → Result InstructionOutcome Refusal → Effect
+stepped id turn = record { on_records = effect_turn id turn; reply = Steps (outcome_of turn) }
 
 -- ---- after an event
 
-abbrev pub did : World → Event → Did
-did w (Request by time octets) = received (telecommand_of w.apid octets) time w.records
-did w (Step by id) = stepped id (turn (get w.records id))
+abbrev pub effect_of : World → Event → Effect
+effect_of w (Request by time octets) = received (telecommand_of w.apid octets) time w.records
+effect_of w (Step by id) = stepped id (turn (get w.records id))
 
 -- the report of this content: the sequence count is that of all reports before it
 abbrev pub telemetry_of_report : ℕ → ℕ → ℕ → ℕ → Report → Telemetry
@@ -233,15 +233,15 @@ reports_by (Discards cause) n = n
 reports_by (Sends destination time reports) n = n + length reports
 reports_by (Steps outcome) n = n
 
-abbrev pub enacted : Did → World → World
-enacted d w = record { apid = w.apid; records = records_by d.deed w.records; reports = reports_by d.reply w.reports }
+abbrev pub world_after : Effect → World → World
+world_after d w = record { apid = w.apid; records = records_by d.on_records w.records; reports = reports_by d.reply w.reports }
 
 pub record After : Type 0 where
   pub world : World
   pub answer : Answer
 
 abbrev pub after : World → Event → After
-after w e = record { world = enacted (did w e) w; answer = answer_by (did w e).reply w }
+after w e = record { world = world_after (effect_of w e) w; answer = answer_by (effect_of w e).reply w }
 
 -- ---- replay
 

@@ -4,12 +4,12 @@ ghost use Rattle.std.specs.Prelude.{◌≡◌, ◌≤◌, ◌<◌, ◌-◌, ◌^
 ghost use Rattle.std.specs.FinMap.{get};
 ghost use Rattle.ocp_table.specs.Shown.{shown_at};
 ghost use Rattle.ocp_core.specs.World as world;
-ghost use Rattle.ocp_core.specs.Log.{opened, expand, world_of, answer_in, log_after};
+ghost use Rattle.ocp_core.specs.Log.{empty_log, expand, world_of, answer_in, log_after};
 ghost use Rattle.ocp_core.specs.Slice.{slice_in, slice_log};
 ghost use Rattle.ocp_core.specs.Answering.{Answers};
 
 use crate::state::State;
-use crate::translating::discard_of;
+use crate::convert::discard_of;
 use crate::{EngineFault, Entry, Journal, Octets, Reports, Slice, StepOutcome};
 use ocp_table::View;
 use pus_fields::read_tc;
@@ -51,7 +51,7 @@ impl<A: Allocator> Engine<A> {
         requires words_to { words ≤ 256 }
         requires capacity_from { 1 ≤ capacity }
         requires capacity_to { capacity ≤ 1000000 }
-        ensures { IfOk result (λ engine. engine ≡ opened apid words capacity) }
+        ensures { IfOk result (λ engine. engine ≡ empty_log apid words capacity) }
     {
         let apid = Apid::new(apid).unwrap();
         let state = State::new(alloc, apid)?;

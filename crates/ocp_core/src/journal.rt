@@ -1,7 +1,7 @@
 //! The journal.
 
 ghost use Rattle.std.specs.Prelude.{◌≡◌, ◌≤◌, ◌<◌, ◌^◌, map, length, IfOk, false};
-ghost use Rattle.ocp_core.specs.Log.{opened, is_full, noted, expand};
+ghost use Rattle.ocp_core.specs.Log.{empty_log, is_full, with_entry, expand};
 
 use crate::Entry;
 use space_packet::Apid;
@@ -43,7 +43,7 @@ impl<A: Allocator> Journal<A> {
     pub fn new(alloc: A, apid: Apid, words: u16, capacity: u32) -> Result<Self, AllocError>
         requires apid { apid < 2047 }
         requires capacity { capacity ≤ 1000000 }
-        ensures { IfOk result (λ journal. journal ≡ opened apid words capacity) }
+        ensures { IfOk result (λ journal. journal ≡ empty_log apid words capacity) }
     {
         Ok(Journal {
             apid,
@@ -108,7 +108,7 @@ impl<A: Allocator> Journal<A> {
     /// Adds an entry.
     pub(crate) fn push(&mut self, entry: Entry<A>)
         requires { is_full self.old ≡ false }
-        ensures { self.new ≡ noted self.old (entry_of entry) }
+        ensures { self.new ≡ with_entry self.old (entry_of entry) }
     {
         self.events += entry.events();
         self.entries.push_reserved(entry);

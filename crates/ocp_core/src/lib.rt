@@ -11,7 +11,7 @@ mod octets;
 mod reporting;
 mod run;
 mod state;
-mod translating;
+mod convert;
 
 pub use answers::{Answer, EngineFault, RunFault, RunRefusal, Slice, StepOutcome};
 pub use engine::Engine;

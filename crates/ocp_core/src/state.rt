@@ -4,20 +4,20 @@ ghost use Rattle.std.specs.Prelude.{◌≡◌, ◌≤◌, ℕ, IfOk, length};
 ghost use Rattle.std.specs.Option.{option_to_list};
 ghost use Rattle.std.specs.FinMap.{get};
 ghost use Rattle.obcp_messages.specs.declared.request.Request.TheVariants as command;
-ghost use Rattle.ocp_table.specs.Did.{Kept, Unasked, Failed};
-ghost use Rattle.ocp_table.specs.Deciding.{did_in};
-ghost use Rattle.ocp_table.specs.Deciding as deed;
+ghost use Rattle.ocp_table.specs.Effect.{Kept, Unasked, Failed};
+ghost use Rattle.ocp_table.specs.Deciding.{effect_in};
+ghost use Rattle.ocp_table.specs.Deciding as directive;
 ghost use Rattle.ocp_table.specs.Shown.{shown_at, statuses_of};
 ghost use Rattle.ocp_core.specs.World.{World, opening, after, sends, received, served, refused, done, origin_of, command_of, start_failure, request_failure, rejection_failure, outcome_of, status_report, reported_status};
 ghost use Rattle.ocp_core.specs.World as world;
 
 use crate::reporting::{Origin, Sender, count_after};
-use crate::translating::{
+use crate::convert::{
     command_of, origin_of, rejection_failure, request_failure, start_failure, status_report, unread,
 };
 use crate::{EngineFault, Reports, Slice, StepOutcome};
 use obcp_messages::{Report, Request};
-use ocp_table::{Failure, LoadFailure, Made, Refusal, Status, Table, View};
+use ocp_table::{Failure, LoadFailure, InstructionOutcome, Refusal, Status, Table, View};
 use pus_fields::{Tc, TcFault};
 use space_packet::{Apid, SequenceCount};
 use std::alloc::{AllocError, Allocator};
@@ -82,7 +82,7 @@ impl<A: Allocator> State<A> {
     ) -> Result<Reports<A>, EngineFault>
     where
         A: Copy,
-        ensures does { Does self.old self.new result (λ m. record { deed = Kept Unasked; reply = sends origin outcome (option_to_list answer.now) }) }
+        ensures does { Does self.old self.new result (λ m. record { on_records = Kept Unasked; reply = sends origin outcome (option_to_list answer.now) }) }
         ensures table { self.new.table ≡ self.old.table }
     {
         let sender = Sender {
@@ -137,12 +137,12 @@ impl<A: Allocator> State<A> {
     ) -> Result<Reports<A>, EngineFault>
     where
         A: Copy,
-        ensures { Does self.old self.new result (λ m. done origin (did_in (deed.Load code.now) id m)) }
+        ensures { Does self.old self.new result (λ m. done origin (effect_in (directive.Load code.now) id m)) }
     {
-        match self.table.prepare(alloc, id, code) {
+        match self.table.check_load(alloc, id, code) {
             Ok(loading) => {
                 let reports = self.reply(alloc, origin, Outcome::Done, &None)?;
-                self.table.put(loading);
+                self.table.insert(loading);
                 Ok(reports)
             }
             Err(LoadFailure::Failed(failure)) => self.fail(alloc, origin, failure),
@@ -161,7 +161,7 @@ impl<A: Allocator> State<A> {
     where
         A: Copy,
         requires { length arguments.now ≤ 256 }
-        ensures { Does self.old self.new result (λ m. done origin (did_in (deed.Activate arguments.now) id m)) }
+        ensures { Does self.old self.new result (λ m. done origin (effect_in (directive.Activate arguments.now) id m)) }
     {
         if let Some(failure) = self.table.activation_failure(id) {
             return self.fail(alloc, origin, failure);
@@ -243,13 +243,13 @@ fn first_count() -> SequenceCount
 }
 
 // The outcome of an instruction event.
-fn outcome_of(turn: Result<Made, Refusal>) -> StepOutcome
+fn outcome_of(turn: Result<InstructionOutcome, Refusal>) -> StepOutcome
     ensures { result ≡ outcome_of turn }
 {
     match turn {
-        Ok(Made::Ran) => StepOutcome::Ran,
-        Ok(Made::Ended) => StepOutcome::Ended,
-        Ok(Made::Faulted(number)) => StepOutcome::Faulted(number),
+        Ok(InstructionOutcome::Ran) => StepOutcome::Ran,
+        Ok(InstructionOutcome::Ended) => StepOutcome::Ended,
+        Ok(InstructionOutcome::Faulted(number)) => StepOutcome::Faulted(number),
         Err(Refusal::NotLoaded) => StepOutcome::NotLoaded,
         Err(Refusal::NotRunning) => StepOutcome::NotRunning,
     }

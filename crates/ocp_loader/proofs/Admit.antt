@@ -7,7 +7,7 @@ use Rattle.bpf_types.specs.Line.{is_wide, spelling}
 use Rattle.bpf_decode.specs.Decoding.{BeginsWith}
 use Rattle.bpf_listing.specs.Listing.{image_of}
 use Rattle.ocp_loader.specs.Image.{line_in, second_of, by_slot, is_last}
-use Rattle.ocp_loader.specs.Judging.{judged}
+use Rattle.ocp_loader.specs.LoadResult.{load_result}
 use Rattle.ocp_loader.specs.Reading.{IsPlain, IsRead}
 use Rattle.ocp_loader.specs.Admitted.{IsAdmitted}
 use Rattle.ocp_loader.proofs.Octets.{append_nil, image_of-append, spelled, drop_front, drop_more, drop_all}
@@ -99,7 +99,7 @@ no_more ls lines f e =
     ]
 
 -- an image that is judged to be fine is that of its lines
-sound : (image : List ℕ) (slots : ℕ) (lines : List (Option Line)) (second : Bool) → judged image ≡ Ok lines → length image ≡ 8 * slots → IsRead image slots lines second → (ls : List Line) × IsSound image ls
+sound : (image : List ℕ) (slots : ℕ) (lines : List (Option Line)) (second : Bool) → load_result image ≡ Ok lines → length image ≡ 8 * slots → IsRead image slots lines second → (ls : List Line) × IsSound image ls
 unfolding Ends
 sound image slots lines true j n r = absurd (no_more r.lines lines (fine image lines j) r.slots)
 sound image slots lines false j n r =
@@ -117,5 +117,5 @@ sound image slots lines false j n r =
       },
     )
 
-pub admitted : (image : List ℕ) (slots : ℕ) (lines : List (Option Line)) (second : Bool) → judged image ≡ Ok lines → length image ≡ 8 * slots → IsRead image slots lines second → IsAdmitted image
+pub admitted : (image : List ℕ) (slots : ℕ) (lines : List (Option Line)) (second : Bool) → load_result image ≡ Ok lines → length image ≡ 8 * slots → IsRead image slots lines second → IsAdmitted image
 admitted image slots lines second j n r = let s = sound image slots lines second j n r in record { lines = s.0; admitted = admitted_of image s.0 s.1 }

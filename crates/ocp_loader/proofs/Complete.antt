@@ -12,7 +12,7 @@ use Rattle.ocp_loader.specs.declared.fault.LoadFault.TheVariants.{EmptyCode, Rag
 use Rattle.bpf_listing.specs.Listing.{image_of}
 use Rattle.ocp_loader.specs.Image.{line_in, second_of, slots_of, by_slot, target_of, calls_well}
 use Rattle.ocp_loader.specs.Reading.{line_read, line_added, slot_read, slots_read}
-use Rattle.ocp_loader.specs.Judging.{judged, lines_judged, unless, lines_fault, end_fault, first_astray, is_aimed, is_target}
+use Rattle.ocp_loader.specs.LoadResult.{load_result, lines_result, unless, lines_fault, end_fault, first_bad_target, has_valid_target, is_target}
 use Rattle.ocp_loader.specs.Reading.{IsPlain}
 use Rattle.ocp_loader.specs.Admitted.{IsAdmittedAs, IsAdmitted}
 use Rattle.ocp_loader.proofs.Octets.{append_nil, image_of-append, drop_front, length_image}
@@ -27,7 +27,7 @@ AreDecoded = (octets : List ℕ) (l : Line) → BeginsWith octets l → ¬ Write
 
 -- what the law says of images that may be run
 abbrev pub AreJudged : Type 0
-AreJudged = (image : List ℕ) (lines : List Line) → IsAdmittedAs image lines → judged image ≡ Ok (by_slot lines)
+AreJudged = (image : List ℕ) (lines : List Line) → IsAdmittedAs image lines → load_result image ≡ Ok (by_slot lines)
 
 line_step : (image : List ℕ) (n : ℕ) (lines : List (Option Line)) (l : Line) (b : Bool) → is_wide l ≡ b → slots_read image n ≡ Ok (record { lines = lines; second = false }) →
     decoded (drop (8 * n) image) ≡ Ok l → calls_well l ≡ true → slots_read image (suc n) ≡ Ok (record { lines = lines ++ Some l ∷ []; second = b })
@@ -62,11 +62,11 @@ reads decodes image before (l ∷ after) e plain so_far =
     subst (λ ls. slots_read image (length (by_slot ls)) ≡ Ok (record { lines = by_slot ls; second = false })) again
     (reads decodes image (before ++ l ∷ []) after (e ∙ ap image_of (sym again)) (All-tail IsPlain l after plain) done)
 
-none_astray : (lines : List (Option Line)) (n : ℕ) → ((p : ℕ) → is_aimed lines p (line_in lines p) ≡ true) → first_astray lines n ≡ None
+none_astray : (lines : List (Option Line)) (n : ℕ) → ((p : ℕ) → has_valid_target lines p (line_in lines p) ≡ true) → first_bad_target lines n ≡ None
 none_astray lines zero a = refl
 none_astray lines (suc n) a = rw (none_astray lines n a, a n) refl
 
-aimed_by : (lines : List (Option Line)) (p : ℕ) (o : Option Line) → line_in lines p ≡ o → ((l : Line) → line_in lines p ≡ Some l → is_target lines (target_of p l) ≡ true) → is_aimed lines p o ≡ true
+aimed_by : (lines : List (Option Line)) (p : ℕ) (o : Option Line) → line_in lines p ≡ o → ((l : Line) → line_in lines p ≡ Some l → is_target lines (target_of p l) ≡ true) → has_valid_target lines p o ≡ true
 aimed_by lines p (Some l) e a = a l e
 aimed_by lines p None e a = refl
 
@@ -80,8 +80,8 @@ by_tests false true false q ms x y z h = h
 tests : (n k : ℕ) → n ≡ 8 * k → 0 < k → k ≤ 2048 → ((n == 0) ≡ false) × ((n % 8 == 0) ≡ true) × (nat_lt 16384 n ≡ false) × (n / 8 ≡ k)
 tests n k e p l = (grind (arith, nat_tests), grind (arith, nat_tests), grind (arith, nat_tests), omega (arith, e))
 
-complete_by_slot : AreDecoded → (image : List ℕ) (lines : List Line) → IsSound image lines → judged image ≡ Ok (by_slot lines)
-unfolding judged
+complete_by_slot : AreDecoded → (image : List ℕ) (lines : List Line) → IsSound image lines → load_result image ≡ Ok (by_slot lines)
+unfolding load_result
 complete_by_slot decodes image lines a =
     let n = length (by_slot lines) in
     let ends = a.ends in
@@ -90,18 +90,18 @@ complete_by_slot decodes image lines a =
     let some : 0 < n = omega (arith, sym (ap length shape) ∙ length-append (by_slot ends.0) (Some ends.1 ∷ [])) in
     let t = tests (length image) n (ap length a.whole.1 ∙ length_image lines) some a.short in
     let read : slots_read image (length image / 8) ≡ Ok (record { lines = by_slot lines; second = false }) = ap (slots_read image) t.3 ∙ reads decodes image [] lines a.whole.1 a.whole.0 refl in
-    let astray : first_astray (by_slot lines) n ≡ None = none_astray (by_slot lines) n (λ p. aimed_by (by_slot lines) p (line_in (by_slot lines) p) refl (a.aimed p)) in
+    let bad_target : first_bad_target (by_slot lines) n ≡ None = none_astray (by_slot lines) n (λ p. aimed_by (by_slot lines) p (line_in (by_slot lines) p) refl (a.aimed p)) in
     let end : end_fault n (line_in (by_slot lines) (n - 1)) ≡ None = ap (end_fault n) (last_at (by_slot ends.0) (Some ends.1) (by_slot lines) shape) ∙ ap (λ b. if b then None else Some (FallsOffEnd (n - 1))) ends.3 in
-    by_tests _ _ _ (lines_judged (slots_read image (length image / 8))) (by_slot lines) t.0 t.1 t.2
-    (ap lines_judged read ∙ ap (λ o. unless (lines_fault (by_slot lines) o) (by_slot lines)) astray ∙ ap (λ f. unless f (by_slot lines)) end)
+    by_tests _ _ _ (lines_result (slots_read image (length image / 8))) (by_slot lines) t.0 t.1 t.2
+    (ap lines_result read ∙ ap (λ o. unless (lines_fault (by_slot lines) o) (by_slot lines)) bad_target ∙ ap (λ f. unless f (by_slot lines)) end)
 
 pub complete : AreDecoded → AreJudged
 complete decodes image lines a = complete_by_slot decodes image lines (sound_of image lines a)
 
 -- an image with a fault is not admitted
-pub not_admitted : AreDecoded → (image : List ℕ) (fault : LoadFault) → judged image ≡ Err fault → IsAdmitted image → ⊥
-not_admitted decodes image fault h a = let ok : judged image ≡ Ok (by_slot a.lines) = complete decodes image a.lines a.admitted in absurd cc
+pub not_admitted : AreDecoded → (image : List ℕ) (fault : LoadFault) → load_result image ≡ Err fault → IsAdmitted image → ⊥
+not_admitted decodes image fault h a = let ok : load_result image ≡ Ok (by_slot a.lines) = complete decodes image a.lines a.admitted in absurd cc
 
-pub refused : (image : List ℕ) (fault : LoadFault) → (judged image ≡ Err fault → ¬ IsAdmitted image) → (fault ≡ Memory) ⊎ (judged image ≡ Err fault) → (fault ≡ Memory) ⊎ ¬ IsAdmitted image
+pub refused : (image : List ℕ) (fault : LoadFault) → (load_result image ≡ Err fault → ¬ IsAdmitted image) → (fault ≡ Memory) ⊎ (load_result image ≡ Err fault) → (fault ≡ Memory) ⊎ ¬ IsAdmitted image
 refused image fault never (inl e) = inl e
 refused image fault never (inr e) = inr (never e)

@@ -10,7 +10,7 @@ use Rattle.ocp_loader.specs.declared.fault.LoadFault.TheVariants.{BadCall}
 use Rattle.ocp_loader.specs.declared.fault.LoadFault.{LoadFault}
 use Rattle.ocp_loader.specs.Image.{line_in, second_of, slots_of, slots_in, by_slot, calls_well}
 use Rattle.ocp_loader.specs.Reading.{Reading, line_read, line_added, slot_read, slots_read}
-use Rattle.ocp_loader.specs.Judging.{first_astray, or_at, is_aimed}
+use Rattle.ocp_loader.specs.LoadResult.{first_bad_target, or_at, has_valid_target}
 
 -- what lies behind a line
 pub record Next (lines : List (Option Line)) (p : ℕ) (b : Bool) : Type 0 where
@@ -93,16 +93,16 @@ pub laid_out : (image : List ℕ) (n : ℕ) → IfOk (slots_read image n) (IsLai
 laid_out image zero = (refl, ([], refl))
 laid_out image (suc n) = laid_next image n (slots_read image n) (laid_out image n)
 
--- where no slot leads astray, each is aimed
+-- where no slot leads to no line, each has a valid target
 aimed_or : (o : Option ℕ) (fine : Bool) (n : ℕ) → or_at o fine n ≡ None → (o ≡ None) × (fine ≡ true)
 aimed_or (Some x) fine n h = absurd cc
 aimed_or None true n h = (refl, refl)
 aimed_or None false n h = absurd cc
 
-pub all_aimed : (lines : List (Option Line)) (n p : ℕ) → first_astray lines n ≡ None → p < n → is_aimed lines p (line_in lines p) ≡ true
+pub all_aimed : (lines : List (Option Line)) (n p : ℕ) → first_bad_target lines n ≡ None → p < n → has_valid_target lines p (line_in lines p) ≡ true
 all_aimed lines zero p h l = absurd (omega (arith, l))
 all_aimed lines (suc n) p h l =
-    let both = aimed_or (first_astray lines n) (is_aimed lines n (line_in lines n)) n h in
+    let both = aimed_or (first_bad_target lines n) (has_valid_target lines n (line_in lines n)) n h in
     elim (split p n l) [
       | inl less ↦ all_aimed lines n p both.0 less
       | inr same ↦ rw same both.1

@@ -7,9 +7,9 @@ use Rattle.bpf_types.specs.declared.line.Line.{Line}
 use Rattle.bpf_types.specs.Line.{is_wide, IsLine}
 use Rattle.bpf_listing.specs.Listing.{image_of}
 use Rattle.ocp_loader.specs.Image.{line_in, second_of, slots_of, by_slot, is_last, target_of}
-use Rattle.ocp_loader.specs.Places.{place_of, IsAt, IsPlaceOf, IsAimed}
+use Rattle.ocp_loader.specs.Places.{place_of, IsAt, IsPlaceOf, HasValidTarget}
 use Rattle.ocp_loader.specs.Reading.{IsPlain}
-use Rattle.ocp_loader.specs.Judging.{is_place, is_target}
+use Rattle.ocp_loader.specs.LoadResult.{is_place, is_target}
 use Rattle.ocp_loader.specs.Admitted.{IsLawful, IsAdmittedAs}
 use Rattle.ocp_loader.proofs.Laid.{by_slot-append}
 use Rattle.ocp_loader.proofs.Octets.{length_image, place_by_slot}
@@ -70,10 +70,10 @@ target_by : (ls : List Line) (o : Option ℤ) → ((z : ℤ) → o ≡ Some z �
 target_by ls (Some y) a = placed ls y (a y refl)
 target_by ls None a = refl
 
-pub aimed_of : (ls : List Line) (p : ℕ) (l : Line) → is_target (by_slot ls) (target_of p l) ≡ true → IsAimed ls p l
+pub aimed_of : (ls : List Line) (p : ℕ) (l : Line) → is_target (by_slot ls) (target_of p l) ≡ true → HasValidTarget ls p l
 aimed_of ls p l h = aimed_by ls (target_of p l) h
 
-pub target_at : (ls : List Line) (p : ℕ) (l : Line) → IsAimed ls p l → is_target (by_slot ls) (target_of p l) ≡ true
+pub target_at : (ls : List Line) (p : ℕ) (l : Line) → HasValidTarget ls p l → is_target (by_slot ls) (target_of p l) ≡ true
 target_at ls p l a = target_by ls (target_of p l) a
 
 -- the same as IsAdmittedAs, by slot

@@ -4,7 +4,7 @@ use Rattle.bpf_types.specs.declared.line.Line.{Line}
 use Rattle.ocp_loader.specs.declared.fault.LoadFault.{LoadFault}
 use Rattle.ocp_loader.specs.Image.{line_in}
 use Rattle.ocp_loader.specs.Reading.{slot_read, slots_read}
-use Rattle.ocp_loader.specs.Judging.{first_astray, or_at, is_aimed, lines_judged}
+use Rattle.ocp_loader.specs.LoadResult.{first_bad_target, or_at, has_valid_target, lines_result}
 
 more : (image : List ℕ) (k d : ℕ) (fault : LoadFault) → slots_read image k ≡ Err fault → slots_read image (k + d) ≡ Err fault
 more image k zero fault h = let e : k + zero ≡ k = omega arith in rw e h
@@ -15,19 +15,19 @@ stays image k n fault h l = let e : n ≡ k + (n - k) = omega arith in rw e (mor
 
 -- the loop's return with a fault of the slot k
 pub judged_err : (image : List ℕ) (k n : ℕ) (lines : List (Option Line)) (second : Bool) (fault : LoadFault) →
-    slots_read image k ≡ Ok (record { lines = lines; second = second }) → slot_read image k (Ok (record { lines = lines; second = second })) ≡ Err fault → k < n → lines_judged (slots_read image n) ≡ Err fault
+    slots_read image k ≡ Ok (record { lines = lines; second = second }) → slot_read image k (Ok (record { lines = lines; second = second })) ≡ Err fault → k < n → lines_result (slots_read image n) ≡ Err fault
 judged_err image k n lines second fault so_far h l =
     let now : slots_read image (suc k) ≡ Err fault = ap (slot_read image k) so_far ∙ h in
     let later : slots_read image n ≡ Err fault = stays image (suc k) n fault now (omega arith) in
-    ap lines_judged later
+    ap lines_result later
 
-astray_more : (lines : List (Option Line)) (k d s : ℕ) → first_astray lines k ≡ Some s → first_astray lines (k + d) ≡ Some s
+astray_more : (lines : List (Option Line)) (k d s : ℕ) → first_bad_target lines k ≡ Some s → first_bad_target lines (k + d) ≡ Some s
 astray_more lines k zero s h = let e : k + zero ≡ k = omega arith in rw e h
-astray_more lines k (suc d) s h = let e : k + suc d ≡ suc (k + d) = omega arith in rw e (ap (λ o. or_at o (is_aimed lines (k + d) (line_in lines (k + d))) (k + d)) (astray_more lines k d s h))
+astray_more lines k (suc d) s h = let e : k + suc d ≡ suc (k + d) = omega arith in rw e (ap (λ o. or_at o (has_valid_target lines (k + d) (line_in lines (k + d))) (k + d)) (astray_more lines k d s h))
 
--- the first slot that leads astray
-pub astray_first : (lines : List (Option Line)) (k n : ℕ) → first_astray lines k ≡ None → is_aimed lines k (line_in lines k) ≡ false → k < n → first_astray lines n ≡ Some k
-astray_first lines k n h astray l =
+-- the first slot that leads to no line
+pub astray_first : (lines : List (Option Line)) (k n : ℕ) → first_bad_target lines k ≡ None → has_valid_target lines k (line_in lines k) ≡ false → k < n → first_bad_target lines n ≡ Some k
+astray_first lines k n h bad_target l =
     let e : n ≡ suc k + (n - suc k) = omega arith in
-    let now : first_astray lines (suc k) ≡ Some k = rw (h, astray) refl in
+    let now : first_bad_target lines (suc k) ≡ Some k = rw (h, bad_target) refl in
     rw e (astray_more lines (suc k) (n - suc k) k now)

@@ -5,7 +5,7 @@ use Rattle.bpf_types.specs.declared.line.Line.{Line}
 use Rattle.bpf_types.specs.Line.{WritesFramePointer}
 use Rattle.bpf_listing.specs.Listing.{IsImageOf}
 use Rattle.ocp_loader.specs.Image.{calls_well, is_last}
-use Rattle.ocp_loader.specs.Places.{IsLast, AllAimed}
+use Rattle.ocp_loader.specs.Places.{IsLast, AllHaveValidTargets}
 
 -- a line that may stand in an image, wherever it leads
 abbrev pub IsLawful : Line → Type 0
@@ -29,7 +29,7 @@ pub record IsAdmittedAs (image : List ℕ) (lines : List Line) : Type 0 where
   pub slots : HasSlots image
   pub whole : IsImageOf image lines
   pub lawful : All IsLawful lines
-  pub aimed : AllAimed lines
+  pub aimed : AllHaveValidTargets lines
   pub ends : EndsWell lines
 
 -- the image may be run

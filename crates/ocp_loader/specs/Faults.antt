@@ -9,7 +9,7 @@ use Rattle.ocp_loader.specs.declared.fault.LoadFault.{LoadFault}
 use Rattle.ocp_loader.specs.declared.fault.LoadFault.TheVariants.{EmptyCode, RaggedCode, TooLong, Decode, BadCall, BadTarget, FallsOffEnd, Memory}
 use Rattle.bpf_listing.specs.Listing.{IsImageOf}
 use Rattle.ocp_loader.specs.Image.{is_engine_call, is_last}
-use Rattle.ocp_loader.specs.Places.{IsAt, IsLast, IsAimed, AllAimed}
+use Rattle.ocp_loader.specs.Places.{IsAt, IsLast, HasValidTarget, AllHaveValidTargets}
 use Rattle.ocp_loader.specs.Admitted.{IsLawful, HasSlots}
 
 -- lines that may stand in an image fill the slots in front of this one
@@ -31,19 +31,19 @@ pub record IsLawfulImage (image : List ℕ) (lines : List Line) : Type 0 where
   pub lawful : All IsLawful lines
 
 -- the first line that jumps or calls to no line stands at the slot
-pub record HasFirstAstray (image : List ℕ) (slot : ℕ) : Type 0 where
+pub record HasFirstBadTarget (image : List ℕ) (slot : ℕ) : Type 0 where
   pub lines : List Line
   pub lawful : IsLawfulImage image lines
   pub line : Line
   pub stands : IsAt lines slot line
-  pub astray : ¬ IsAimed lines slot line
-  pub earlier : (place : ℕ) (l : Line) → place < slot → IsAt lines place l → IsAimed lines place l
+  pub bad_target : ¬ HasValidTarget lines slot line
+  pub earlier : (place : ℕ) (l : Line) → place < slot → IsAt lines place l → HasValidTarget lines place l
 
 -- the last line stands at the slot, and is neither EXIT nor JA
 pub record FallsOff (image : List ℕ) (slot : ℕ) : Type 0 where
   pub lines : List Line
   pub lawful : IsLawfulImage image lines
-  pub aimed : AllAimed lines
+  pub aimed : AllHaveValidTargets lines
   pub line : Line
   pub last : IsLast lines slot line
   pub falls : is_last line ≡ false
@@ -55,7 +55,7 @@ IsFirstFault image RaggedCode = length image % 8 ≢ 0
 IsFirstFault image TooLong = (length image % 8 ≡ 0) × (2048 < length image / 8)
 IsFirstFault image (Decode fault slot) = HasSlots image × IsFront image slot × IsFirst fault (drop (8 * slot) image)
 IsFirstFault image (BadCall slot) = HasSlots image × IsFront image slot × CallsBadly (drop (8 * slot) image)
-IsFirstFault image (BadTarget slot) = HasSlots image × HasFirstAstray image slot
+IsFirstFault image (BadTarget slot) = HasSlots image × HasFirstBadTarget image slot
 IsFirstFault image (FallsOffEnd slot) = HasSlots image × FallsOff image slot
 IsFirstFault image Memory = Unit {0}
 

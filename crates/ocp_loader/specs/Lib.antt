@@ -4,5 +4,5 @@ pub mod Admitted
 pub mod Faults
 pub mod FaultNumbers
 pub mod Reading
-pub mod Judging
+pub mod LoadResult
 pub mod Listing

@@ -1,7 +1,7 @@
 //! Where the lines of an image lead to.
 ghost use Rattle.std.specs.Prelude.{◌≡◌, ◌≤◌, ◌<◌, ◌-◌, length, pos, ◌+ℤ◌, Some, None, option_copied};
 ghost use Rattle.ocp_loader.specs.Image.{line_in, target_of, is_last};
-ghost use Rattle.ocp_loader.specs.Judging.{is_place, is_aimed, first_astray, end_fault, lines_fault};
+ghost use Rattle.ocp_loader.specs.LoadResult.{is_place, has_valid_target, first_bad_target, end_fault, lines_fault};
 
 use crate::fault::LoadFault;
 use bpf_types::Line;
@@ -55,8 +55,8 @@ fn target_of(slot: u16, line: Line) -> Option<i64>
 }
 
 /// Whether the line at the slot leads to a line, if it leads anywhere.
-fn is_aimed(lines: &[Option<Line>], slot: u16, line: Option<Line>) -> bool
-    ensures { result ≡ is_aimed lines.now slot line }
+fn has_valid_target(lines: &[Option<Line>], slot: u16, line: Option<Line>) -> bool
+    ensures { result ≡ has_valid_target lines.now slot line }
 {
     match line {
         Some(line) => match target_of(slot, line) {
@@ -69,13 +69,13 @@ fn is_aimed(lines: &[Option<Line>], slot: u16, line: Option<Line>) -> bool
 
 /// The first slot whose line leads to no line.
 #[tactic(auto, using(crate::proofs::Stays::astray_first))]
-fn first_astray(lines: &[Option<Line>]) -> Option<u16>
+fn first_bad_target(lines: &[Option<Line>]) -> Option<u16>
     requires { length lines.now ≤ 2048 }
-    ensures { result ≡ first_astray lines.now (length lines.now) }
+    ensures { result ≡ first_bad_target lines.now (length lines.now) }
 {
     let slots = lines.len() as u16;
     for slot in 0..slots {
-        if !is_aimed(lines, slot, line_in(lines, usize::from(slot))) {
+        if !has_valid_target(lines, slot, line_in(lines, usize::from(slot))) {
             return Some(slot);
         }
     }
@@ -108,9 +108,9 @@ fn end_fault(slots: u16, line: Option<Line>) -> Option<LoadFault>
 /// The first fault of lines that were read.
 pub fn lines_fault(lines: &[Option<Line>]) -> Option<LoadFault>
     requires { length lines.now ≤ 2048 }
-    ensures { result ≡ lines_fault lines.now (first_astray lines.now (length lines.now)) }
+    ensures { result ≡ lines_fault lines.now (first_bad_target lines.now (length lines.now)) }
 {
-    match first_astray(lines) {
+    match first_bad_target(lines) {
         Some(slot) => Some(LoadFault::BadTarget(slot)),
         None => end_fault(
             lines.len() as u16,

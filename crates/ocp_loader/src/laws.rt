@@ -5,14 +5,14 @@ ghost use Rattle.ocp_loader.specs.declared.fault.LoadFault.{LoadFault};
 ghost use Rattle.ocp_loader.specs.Image.{by_slot};
 ghost use Rattle.ocp_loader.specs.Places.{IsAt, Continues, place_of};
 ghost use Rattle.ocp_loader.specs.Admitted.{IsAdmitted, IsAdmittedAs};
-ghost use Rattle.ocp_loader.specs.Judging.{judged, line_of, IsPlace, Stands};
+ghost use Rattle.ocp_loader.specs.LoadResult.{load_result, line_of, IsPlace, IsLineAt};
 
 use bpf_decode::instructions_are_decoded;
 
 /// An image that may be run is judged to be its lines by slot; so an image that has a fault may not be run.
 pub fn faults_are_of_images_that_may_not_be_run()
-    ensures admitted { (image : List ℕ) (lines : List Line) → IsAdmittedAs image lines → judged image ≡ Ok (by_slot lines) }
-    ensures refused { (image : List ℕ) (fault : LoadFault) → judged image ≡ Err fault → ¬ IsAdmitted image }
+    ensures admitted { (image : List ℕ) (lines : List Line) → IsAdmittedAs image lines → load_result image ≡ Ok (by_slot lines) }
+    ensures refused { (image : List ℕ) (fault : LoadFault) → load_result image ≡ Err fault → ¬ IsAdmitted image }
 {
     instructions_are_decoded();
 }
@@ -35,7 +35,7 @@ pub fn images_begin_with_an_instruction()
 /// half of a wide load is met.
 pub fn places_lead_to_places()
     ensures lines { (image : List ℕ) (lines : List Line) (slot : ℕ) (l : Line) → IsAdmittedAs image lines → IsAt lines slot l → Continues lines slot l }
-    ensures slots { (image : List ℕ) (slot : ℕ) (l : Line) → line_of image slot ≡ Some l → Stands image slot l }
+    ensures slots { (image : List ℕ) (slot : ℕ) (l : Line) → line_of image slot ≡ Some l → IsLineAt image slot l }
 {}
 
 /// Of an image that may be run: the line at a slot is the one that has that place.

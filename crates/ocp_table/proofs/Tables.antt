@@ -5,39 +5,39 @@ use Rattle.std.specs.FinMap as map
 use Rattle.slab.specs.Slab.{Slab, get, slab_len, with_value}
 use Rattle.ocp_table.specs.declared.control.Status.{Status}
 use Rattle.ocp_table.specs.declared.control.Status.TheVariants.{Inactive, Running}
-use Rattle.ocp_table.specs.declared.answers.Made.{Made}
+use Rattle.ocp_table.specs.declared.answers.InstructionOutcome.{InstructionOutcome}
 use Rattle.ocp_table.specs.declared.answers.Refusal.{Refusal}
 use Rattle.ocp_table.specs.Contents.{IsSound}
 use Rattle.ocp_table.specs.Rec.{Rec, Records}
-use Rattle.ocp_table.specs.Did.{Did, Loaded, Changed, Kept, records_by, put_changed}
-use Rattle.ocp_table.specs.Deciding.{did_activate_by, did_turn, is_full}
+use Rattle.ocp_table.specs.Effect.{Effect, Loaded, Changed, Kept, records_by, put_changed}
+use Rattle.ocp_table.specs.Deciding.{effect_activate_by, effect_turn, is_full}
 use Rattle.ocp_table.specs.Shown.{rec_after}
 use Rattle.std.proofs.lemmas.Bool.Decides.{nat_tests}
 use Rattle.std.proofs.lemmas.List.Sums.{sum_by-set}
 use Rattle.slab.proofs.SlabLemmas.{ContainsKey-within}
 use Rattle.ocp_table.proofs.ContentsLemmas.{insert-same, IsDistinct-with_value}
 
-abbrev IsAbout : ℕ → Did → Type 0
+abbrev IsAbout : ℕ → Effect → Type 0
 IsAbout q (Loaded id image) = ⊥
 IsAbout q (Changed id change) = id ≡ q
 IsAbout q (Kept why) = Unit {0}
 
-pub about_activate : (q : ℕ) (s : Status) (arguments : List ℕ) → IsAbout q (did_activate_by s q arguments)
+pub about_activate : (q : ℕ) (s : Status) (arguments : List ℕ) → IsAbout q (effect_activate_by s q arguments)
 about_activate q Inactive arguments = refl
 about_activate q Running arguments = tt
 
-pub about_turn : (q : ℕ) (t : Result Made Refusal) → IsAbout q (did_turn q t)
+pub about_turn : (q : ℕ) (t : Result InstructionOutcome Refusal) → IsAbout q (effect_turn q t)
 about_turn q (Ok made) = refl
 about_turn q (Err why) = tt
 
 -- the record that is there, changed, is all that the event changed
-pub records_by-held : (m : Records) (id : ℕ) (r : Rec) (d : Did) → map.get m id ≡ Some r → IsAbout id d → map.insert m id (rec_after d r) ≡ records_by d m
+pub records_by-held : (m : Records) (id : ℕ) (r : Rec) (d : Effect) → map.get m id ≡ Some r → IsAbout id d → map.insert m id (rec_after d r) ≡ records_by d m
 records_by-held m id r (Loaded i image) here is = absurd is
 records_by-held m id r (Changed i change) here is = sym (ap (λ k. put_changed (map.get m k) k change m) is ∙ ap (λ o. put_changed o id change m) here)
 records_by-held m id r (Kept why) here is = insert-same m id r here
 
 -- and the same for an event that is decided by the record under the id
-pub held-after : (d : ℕ → Option Rec → Did) (m : Records) (id n : ℕ) (r new : Rec) → map.get m id ≡ Some r → n ≡ id → IsAbout id (d id (Some r)) → new ≡ rec_after (d n (Some r)) r → map.insert m id new ≡ records_by (d id (map.get m id)) m
+pub held-after : (d : ℕ → Option Rec → Effect) (m : Records) (id n : ℕ) (r new : Rec) → map.get m id ≡ Some r → n ≡ id → IsAbout id (d id (Some r)) → new ≡ rec_after (d n (Some r)) r → map.insert m id new ≡ records_by (d id (map.get m id)) m
 held-after d m id n r new here named about is =
     ap (map.insert m id) (is ∙ ap (λ i. rec_after (d i (Some r)) r) named)
     ∙ records_by-held m id r (d id (Some r)) here about

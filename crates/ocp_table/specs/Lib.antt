@@ -1,6 +1,6 @@
 pub mod Contents
 pub mod Rec
 pub mod Codes
-pub mod Did
+pub mod Effect
 pub mod Deciding
 pub mod Shown

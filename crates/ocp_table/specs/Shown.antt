@@ -11,7 +11,7 @@ use Rattle.ocp_table.specs.declared.answers.Refusal.{Refusal}
 use Rattle.ocp_table.specs.declared.answers.Refusal.TheVariants as refusal
 use Rattle.ocp_table.specs.declared.record.Record.{Record}
 use Rattle.ocp_table.specs.Rec.{Rec, Records}
-use Rattle.ocp_table.specs.Did.{Did, Loaded, Changed, Kept, Unasked, Failed, Refused, changed, loaded}
+use Rattle.ocp_table.specs.Effect.{Effect, Loaded, Changed, Kept, Unasked, Failed, Refused, changed, loaded}
 
 module _ {A : Type 0} where
   abbrev pub id_of : Record A → ℕ
@@ -21,7 +21,7 @@ module _ {A : Type 0} where
   shown r = record { image = r.execution.image; machine = r.execution.machine; control = record { status = r.status; cause = r.cause } }
 
 -- what an event leaves of the record that it is about, where that stays
-abbrev pub rec_after : Did → Rec → Rec
+abbrev pub rec_after : Effect → Rec → Rec
 rec_after (Loaded id image) r = r
 rec_after (Changed id change) r = changed change r
 rec_after (Kept why) r = r
@@ -68,7 +68,7 @@ refusal_at None = Some refusal.NotLoaded
 refusal_at (Some r) = refusal_by r.control.status
 
 -- a start's answer
-abbrev pub started_by : Did → Result (Unit {0}) Failure
+abbrev pub started_by : Effect → Result (Unit {0}) Failure
 started_by (Loaded id image) = Ok tt
 started_by (Changed id change) = Ok tt
 started_by (Kept Unasked) = Ok tt

@@ -1,6 +1,6 @@
 /// What an instruction made of a running procedure.
 #[derive(Clone, Copy, PartialEq, Eq, Debug)]
-pub enum Made {
+pub enum InstructionOutcome {
     Ran,
     /// The last exit.
     Ended,

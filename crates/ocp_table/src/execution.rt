@@ -1,4 +1,4 @@
-use crate::Made;
+use crate::InstructionOutcome;
 use bpf_step::{Local, Machine, Need};
 use ocp_loader::Program;
 use std::alloc::Allocator;
@@ -20,7 +20,7 @@ impl<A: Allocator> Model for Execution<A> {
 
     ghost coded = { execution_code };
 
-    ghost use Rattle.ocp_loader.specs.Judging.{IsPlace};
+    ghost use Rattle.ocp_loader.specs.LoadResult.{IsPlace};
     ghost use Rattle.bpf_step.specs.Step.{StandsIn};
 
     ghost view = { λ e. record { image = e.program; machine = e.machine } };
@@ -30,10 +30,10 @@ impl<A: Allocator> Model for Execution<A> {
 
 impl<A: Allocator> Execution<A> {
     ghost use Rattle.std.specs.Prelude.{◌≡◌, ◌≤◌, [], length};
-    ghost use Rattle.ocp_loader.specs.Judging.{IsPlace};
+    ghost use Rattle.ocp_loader.specs.LoadResult.{IsPlace};
     ghost use Rattle.bpf_step.specs.Machine.{started};
     ghost use Rattle.bpf_step.specs.Step.{one_step};
-    ghost use Rattle.ocp_table.specs.Did.{machine_after};
+    ghost use Rattle.ocp_table.specs.Effect.{machine_after};
     ghost use Rattle.ocp_table.specs.Deciding.{made_by};
 
     /// A new machine at a program's first instruction.
@@ -56,15 +56,15 @@ impl<A: Allocator> Execution<A> {
     }
 
     /// Does one instruction.
-    pub(crate) fn step(&mut self) -> Made
+    pub(crate) fn step(&mut self) -> InstructionOutcome
         ensures made { result ≡ made_by (one_step self.old.image self.old.machine) }
         ensures image { self.new.image ≡ self.old.image }
         ensures machine { self.new.machine ≡ machine_after (one_step self.old.image self.old.machine) self.old.machine }
     {
         match self.machine.local_step(&self.program) {
-            Local::Stepped => Made::Ran,
-            Local::NeedsEngine(Need::LastExit) => Made::Ended,
-            Local::NeedsEngine(Need::Fault(fault)) => Made::Faulted(fault.number()),
+            Local::Stepped => InstructionOutcome::Ran,
+            Local::NeedsEngine(Need::LastExit) => InstructionOutcome::Ended,
+            Local::NeedsEngine(Need::Fault(fault)) => InstructionOutcome::Faulted(fault.number()),
             Local::NeedsEngine(Need::Call(_)) => unreachable!(),
         }
     }

@@ -9,9 +9,9 @@ mod record;
 mod table;
 mod view;
 
-pub use answers::{Failure, LoadFailure, Made, Refusal};
+pub use answers::{Failure, LoadFailure, InstructionOutcome, Refusal};
 pub use control::{Cause, Status};
 pub use execution::Execution;
 pub use record::Record;
-pub use table::{MOST, Table};
+pub use table::{MAX_PROCEDURES, Table};
 pub use view::{Row, View};

@@ -1,4 +1,4 @@
-use crate::{Cause, Execution, Failure, Made, Refusal, Status, View};
+use crate::{Cause, Execution, Failure, InstructionOutcome, Refusal, Status, View};
 use std::alloc::Allocator;
 
 /// A procedure under its id.
@@ -13,8 +13,8 @@ pub struct Record<A: Allocator> {
 impl<A: Allocator> Record<A> {
     ghost use Rattle.std.specs.Prelude.{◌≡◌, ◌≤◌, [], Some, length};
     ghost use Rattle.bpf_step.specs.Machine.{started};
-    ghost use Rattle.ocp_table.specs.Did.{loaded, ended};
-    ghost use Rattle.ocp_table.specs.Deciding.{did_activate_by, did_turn, turn, turn_by};
+    ghost use Rattle.ocp_table.specs.Effect.{loaded, ended};
+    ghost use Rattle.ocp_table.specs.Deciding.{effect_activate_by, effect_turn, turn, turn_by};
     ghost use Rattle.ocp_table.specs.Shown.{shown, rec_after, started_by, view_of, activation_failure_by, refusal_by};
 
     /// A procedure that was loaded.
@@ -34,8 +34,8 @@ impl<A: Allocator> Record<A> {
     /// Starts an inactive procedure from its first instruction, with at most 256 octets of arguments.
     pub(crate) fn activate(&mut self, arguments: &[u8]) -> Result<(), Failure>
         requires { length arguments.now ≤ 256 }
-        ensures answer { result ≡ started_by (did_activate_by self.old.status self.old.id arguments.now) }
-        ensures record { shown self.new ≡ rec_after (did_activate_by self.old.status self.old.id arguments.now) (shown self.old) }
+        ensures answer { result ≡ started_by (effect_activate_by self.old.status self.old.id arguments.now) }
+        ensures record { shown self.new ≡ rec_after (effect_activate_by self.old.status self.old.id arguments.now) (shown self.old) }
         ensures id { self.new.id ≡ self.old.id }
     {
         match self.status {
@@ -81,9 +81,9 @@ impl<A: Allocator> Record<A> {
     }
 
     /// Does one instruction of a running procedure.
-    pub(crate) fn step(&mut self) -> Result<Made, Refusal>
+    pub(crate) fn step(&mut self) -> Result<InstructionOutcome, Refusal>
         ensures answer { result ≡ turn_by self.old.status (shown self.old) }
-        ensures record { shown self.new ≡ rec_after (did_turn self.old.id (turn (Some (shown self.old)))) (shown self.old) }
+        ensures record { shown self.new ≡ rec_after (effect_turn self.old.id (turn (Some (shown self.old)))) (shown self.old) }
         ensures id { self.new.id ≡ self.old.id }
     {
         if self.status != Status::Running {
@@ -91,9 +91,9 @@ impl<A: Allocator> Record<A> {
         }
         let made = self.execution.step();
         match made {
-            Made::Ran => {}
-            Made::Ended => self.end(Cause::Exited),
-            Made::Faulted(number) => self.end(Cause::Fault(number)),
+            InstructionOutcome::Ran => {}
+            InstructionOutcome::Ended => self.end(Cause::Exited),
+            InstructionOutcome::Faulted(number) => self.end(Cause::Fault(number)),
         }
         Ok(made)
     }

@@ -1,7 +1,7 @@
 use Rattle.std.proofs.Common.{◌≡◌, ◌⊎◌, ℕ, List, map, Err, subst}
 use Rattle.ocp_loader.specs.Admitted.{IsAdmitted}
 use Rattle.ocp_loader.specs.Faults.{IsFirstFault}
-use Rattle.ocp_loader.specs.Judging.{judged}
+use Rattle.ocp_loader.specs.LoadResult.{load_result}
 use Rattle.ocp_loader.specs.declared.fault.LoadFault.TheVariants as load
 use Rattle.bpf_assembler.specs.Passes.{AreResolved, IsReported, entry}
 use Rattle.bpf_assembler.specs.declared.table.Row.{Row}
@@ -23,7 +23,7 @@ returns g c =
     let resolved = subst (λ (rs : List Row). AreResolved t.lines (map entry rs) c.in_ok-octets.octets.items) c.deref.ensures.value (c.in_ok-octets.ensures t.lines t.labels) in
     let octets = c.in_ok-octets.octets.items in
     let fault = c.in-Err.fault in
-    let refused = subst (λ (code : List ℕ). (fault ≡ load.Memory) ⊎ (judged code ≡ Err fault)) c.deref-2.ensures.value c.in-Err.ensures.err in
+    let refused = subst (λ (code : List ℕ). (fault ≡ load.Memory) ⊎ (load_result code ≡ Err fault)) c.deref-2.ensures.value c.in-Err.ensures.err in
     let first = subst (λ (code : List ℕ). IsFirstFault code fault) c.deref-2.ensures.value c.in-Err.ensures.first in
     let reported = subst (λ (rs : List Row). IsReported (map entry rs) fault c.reported.result) c.deref-in-Err.ensures.value c.reported.ensures in
     record { means = tt; fault = reported_fault c.args.text.now u.labels u.rows.items octets fault c.reported.result t resolved refused first reported }

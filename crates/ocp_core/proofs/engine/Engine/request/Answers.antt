@@ -1,9 +1,9 @@
 use Rattle.std.proofs.Common.{[], ◌∷◌, Ok, Err, refl, sym, ap, subst, ◌∙◌}
-use Rattle.ocp_core.specs.World.{Request, is_accepted, received, enacted, answer_by, replay_from}
-use Rattle.ocp_core.specs.Log.{Asked, noted, world_of}
+use Rattle.ocp_core.specs.World.{Request, is_accepted, received, world_after, answer_by, replay_from}
+use Rattle.ocp_core.specs.Log.{Asked, with_entry, world_of}
 use Rattle.ocp_core.specs.State.{IsWorld}
 use Rattle.ocp_core.specs.Answering.{Answers}
-use Rattle.ocp_core.proofs.Keeping.{IsWorld-noted}
+use Rattle.ocp_core.proofs.Keeping.{IsWorld-with_entry}
 use Rattle.ocp_core.proofs.Journaling.{request_discarded, request_accepted, request_read, full_answered, done_answer, done_log, answered}
 use Rattle.ocp_core.proofs.engine.Engine.request.Goals as goal
 
@@ -24,8 +24,8 @@ pub invariant_of-self : goal.invariant_of-self
 invariant_of-self g c =
     let w = world_of c.self.inside.journal in
     let does = c.in-Ok-receive.ensures w c.self.invariant in
-    IsWorld-noted _ _ _ _ c.push.ensures (subst (λ octets. IsWorld (replay_from w (Request c.args.by c.args.time octets ∷ [])) c.receive.new.self) (sym c.in-Ok.ensures)
-    (request_read c.self.inside.journal c.args.self.now c.self.view_is c.args.by c.args.time c.args.octets.now c.apid.result c.apid.ensures.value c.read_tc-read.result c.read_tc-read.ensures.value (λ read. IsWorld (enacted (received read c.args.time w.records) w) c.receive.new.self) does.1))
+    IsWorld-with_entry _ _ _ _ c.push.ensures (subst (λ octets. IsWorld (replay_from w (Request c.args.by c.args.time octets ∷ [])) c.receive.new.self) (sym c.in-Ok.ensures)
+    (request_read c.self.inside.journal c.args.self.now c.self.view_is c.args.by c.args.time c.args.octets.now c.apid.result c.apid.ensures.value c.read_tc-read.result c.read_tc-read.ensures.value (λ read. IsWorld (world_after (received read c.args.time w.records) w) c.receive.new.self) does.1))
 
 pub returns-in-Ok-receive-clause-answer : goal.returns-in-Ok-receive-clause-answer
 returns-in-Ok-receive-clause-answer g c =
@@ -39,7 +39,7 @@ pub returns-in-Ok-receive-clause-journal : goal.returns-in-Ok-receive-clause-jou
 returns-in-Ok-receive-clause-journal g c =
     let taken = request_accepted c.self.inside.journal c.args.self.now c.self.view_is c.args.by c.args.time c.args.octets.now c.apid.result c.apid.ensures.value c.read_tc-read.result c.read_tc-read.ensures.value (sym c.discard_of.ensures ∙ c.in_default.is) in
     done_log c.self.inside.journal c.args.self.now c.self.view_is (Request c.args.by c.args.time c.args.octets.now) _ taken (sym c.is_full.ensures ∙ c.if-is_full.false)
-    (c.push.ensures ∙ ap (λ octets. noted c.self.inside.journal (Asked c.args.by c.args.time octets)) c.in-Ok.ensures)
+    (c.push.ensures ∙ ap (λ octets. with_entry c.self.inside.journal (Asked c.args.by c.args.time octets)) c.in-Ok.ensures)
 
 pub returns-in-Err-clause-answer : goal.returns-in-Err-clause-answer
 returns-in-Err-clause-answer g c =

@@ -1,10 +1,10 @@
 use Rattle.std.proofs.Common.{sym, ◌∙◌}
-use Rattle.ocp_core.proofs.Keeping.{IsWorld-noted}
+use Rattle.ocp_core.proofs.Keeping.{IsWorld-with_entry}
 use Rattle.ocp_core.proofs.Journaling.{refused_slice, refused_slice_log, full_slice, done_slice, done_slice_log}
 use Rattle.ocp_core.proofs.engine.Engine.slice.Goals as goal
 
 pub invariant_of-self : goal.invariant_of-self
-invariant_of-self g c = IsWorld-noted _ _ _ _ c.push.ensures (c.slice-slice.ensures.world _ c.args.by c.self.invariant)
+invariant_of-self g c = IsWorld-with_entry _ _ _ _ c.push.ensures (c.slice-slice.ensures.world _ c.args.by c.self.invariant)
 
 pub returns-in-Some-clause-slice : goal.returns-in-Some-clause-slice
 returns-in-Some-clause-slice g c = let why = c.in-Some.ensures _ c.args.by c.self.invariant in refused_slice c.self.inside.journal c.args.self.now c.self.view_is c.args.by c.args.id c.args.budget _ why.0 why.1

@@ -1,11 +1,11 @@
 use Rattle.std.proofs.Common.{sym, ◌∙◌}
 use Rattle.ocp_core.specs.World.{Step}
-use Rattle.ocp_core.proofs.Keeping.{IsWorld-noted}
+use Rattle.ocp_core.proofs.Keeping.{IsWorld-with_entry}
 use Rattle.ocp_core.proofs.Journaling.{refused_answer, refused_log, full_answered, done_answer, done_log}
 use Rattle.ocp_core.proofs.engine.Engine.step.Goals as goal
 
 pub invariant_of-self : goal.invariant_of-self
-invariant_of-self g c = IsWorld-noted _ _ _ _ c.push.ensures (c.step-outcome.ensures.world _ c.args.by c.self.invariant)
+invariant_of-self g c = IsWorld-with_entry _ _ _ _ c.push.ensures (c.step-outcome.ensures.world _ c.args.by c.self.invariant)
 
 pub returns-in-Some-clause-answer : goal.returns-in-Some-clause-answer
 returns-in-Some-clause-answer g c = let why = c.in-Some.ensures _ c.args.by c.self.invariant in refused_answer c.self.inside.journal c.args.self.now c.self.view_is (Step c.args.by c.args.id) _ why.0 why.1
