@@ -5,8 +5,7 @@ use Rattle.std.specs.List.{All, list_all}
 use Rattle.std.specs.Str.Lines.{strip_carriage_return}
 use Rattle.std.proofs.lemmas.Bool.Decides.{nat_tests}
 use Rattle.bpf_types.specs.declared.line.Line.{Line}
-use Rattle.bpf_types.specs.Line.{IsLine, is_wide}
-use Rattle.ocp_loader.specs.Image.{slots_in}
+use Rattle.bpf_types.specs.Line.{IsLine, slots_in}
 use Rattle.bpf_listing.specs.Canonical.{canonical}
 use Rattle.bpf_listing.specs.Listing.{listing, IsImageOf}
 use Rattle.bpf_listing.specs.Octets.{is_text_octet}
@@ -77,7 +76,7 @@ none_twice before (l ∷ ls) = (tt, none_twice (before ++ alone l ∷ []) ls)
 
 each_itself : (all : List Written) (number place : ℕ) (ls : List Line) → AreInstructions all (entries_of number place (map alone ls)) ls
 each_itself all number place [] = tt
-each_itself all number place (l ∷ ls) = (refl, each_itself all (number + 1) (place + slots_in (is_wide l)) ls)
+each_itself all number place (l ∷ ls) = (refl, each_itself all (number + 1) (place + slots_in l) ls)
 
 pub listing_means : AreTexts → AreWritten → (ls : List Line) → All IsLine ls → Means (listing ls) ls
 listing_means texts writes ls h = record {

@@ -4,8 +4,8 @@ use Rattle.std.proofs.Math.IntN.{+ℤ_comm, -ℤ-+ℤ_cancel}
 use Rattle.std.proofs.lemmas.Slice.Eq.{bytes_eq-Decides}
 use Rattle.bpf_types.specs.declared.line.Line.{Line}
 use Rattle.bpf_types.specs.declared.line.Line.TheVariants as line
-use Rattle.bpf_types.specs.Line.{is_wide}
-use Rattle.ocp_loader.specs.Image.{second_of, slots_of, slots_in, by_slot, target_of}
+use Rattle.bpf_types.specs.Line.{is_wide, slots_if}
+use Rattle.ocp_loader.specs.Image.{second_of, slots_of, by_slot, target_of}
 use Rattle.ocp_loader.specs.Places.{place_of}
 use Rattle.bpf_text.specs.Lines.{Written, Writes, HasLabel, Statement, IsOperands, IsForm}
 use Rattle.bpf_assembler.specs.Text.{lines_of, EachWritten, label_place, has_label, slots, end_of, IsNew, AreDistinct, entry_of, entries_of, with_distance, aimed_at, IsInstruction, AreInstructions, IsWritten}
@@ -26,7 +26,7 @@ wide_same : (all : List Written) (place : ℕ) (given l : Line) (name : Option (
 wide_same all place given l None h = ap is_wide h
 wide_same all place given l (Some name) h = ap is_wide h.3 ∙ wide_aimed given _
 
-slots_more : (b : Bool) (l : Line) (ls : List Line) → is_wide l ≡ b → length (by_slot (l ∷ ls)) ≡ slots_in b + length (by_slot ls)
+slots_more : (b : Bool) (l : Line) (ls : List Line) → is_wide l ≡ b → length (by_slot (l ∷ ls)) ≡ slots_if b + length (by_slot ls)
 slots_more true l ls e = length-append (slots_of l) (by_slot ls) ∙ ap (λ (c : Bool). suc (length (second_of c)) + length (by_slot ls)) e
 slots_more false l ls e = length-append (slots_of l) (by_slot ls) ∙ ap (λ (c : Bool). suc (length (second_of c)) + length (by_slot ls)) e
 

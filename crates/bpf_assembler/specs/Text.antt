@@ -4,8 +4,7 @@ use Rattle.std.specs.Str.{bytes_eq}
 use Rattle.std.specs.Str.Lines.{strip_carriage_return}
 use Rattle.bpf_types.specs.declared.line.Line.{Line}
 use Rattle.bpf_types.specs.declared.line.Line.TheVariants as line
-use Rattle.bpf_types.specs.Line.{IsLine, is_wide}
-use Rattle.ocp_loader.specs.Image.{slots_in}
+use Rattle.bpf_types.specs.Line.{IsLine, slots_in}
 use Rattle.bpf_text.specs.Lines.{Written, Writes, InRange, Statement}
 
 -- ---- the text, cut at newlines
@@ -48,7 +47,7 @@ EachWritten (l ∷ ls) (w ∷ ws) = Writes l w × InRange w.body × EachWritten 
 -- a wide load has two slots, any other instruction one, a line without one none
 abbrev pub slots : Option Statement → ℕ
 slots None = 0
-slots (Some s) = slots_in (is_wide s.line)
+slots (Some s) = slots_in s.line
 
 -- the label of a line is this name
 abbrev pub has_label : List ℕ → Option (List ℕ) → Bool
@@ -96,7 +95,7 @@ entries_of number place (w ∷ ws) = entry_of number place w.body ++ entries_of 
 abbrev pub with_distance : Line → ℤ → Line
 with_distance (line.Jump old) distance = line.Jump distance
 with_distance (line.LongJump old) distance = line.LongJump distance
-with_distance (line.JumpIf width test dst operand old) distance = line.JumpIf width test dst operand distance
+with_distance (line.JumpIf width comparison dst operand old) distance = line.JumpIf width comparison dst operand distance
 with_distance (line.CallLocal old) distance = line.CallLocal distance
 with_distance l distance = l
 

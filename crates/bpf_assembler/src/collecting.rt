@@ -1,8 +1,7 @@
 //! The first pass: the lines, their labels and their instructions.
 
 ghost use Rattle.std.specs.Prelude.{◌≡◌, ◌<◌, ◌≤◌, ◌+◌, ◌*◌, ◌++◌, ◌^◌, List, [], map, OnOk, IfOk, IfErr};
-ghost use Rattle.bpf_types.specs.Line.{is_wide};
-ghost use Rattle.ocp_loader.specs.Image.{slots_in};
+ghost use Rattle.bpf_types.specs.Line.{slots_in};
 ghost use Rattle.bpf_text.specs.Lines.{Written};
 ghost use Rattle.bpf_text.specs.Judged.{text_of, statement_of};
 ghost use Rattle.bpf_assembler.specs.Text.{end_of, slots, entry_of};
@@ -12,7 +11,6 @@ use crate::cut::cut;
 use crate::fault::{AsmFault, Why};
 use crate::table::{Row, Table, has, put};
 use bpf_text::{LineFault, Source, read_line};
-use bpf_types::Line;
 use std::alloc::Allocator;
 use std::collections::BTreeMap;
 
@@ -32,17 +30,6 @@ fn put_label<'a, A: Allocator + Clone>(
     }
     put(labels, name, place)?;
     Ok(true)
-}
-
-/// How many slots the instruction has.
-fn slots_at(line: &Line) -> u64
-    ensures same { result ≡ slots_in (is_wide line.now) }
-    ensures few { result ≤ 2 }
-{
-    match line {
-        Line::LoadWide { .. } => 2,
-        _ => 1,
-    }
 }
 
 /// Notes a line's instruction, and gives the place after it.
@@ -67,7 +54,7 @@ fn put_row<'a, A: Allocator>(
                 name: source.name,
             };
             rows.extend_from_slice(&[row])?;
-            Ok(place + slots_at(&source.line))
+            Ok(place + u64::from(source.line.slots()))
         }
     }
 }

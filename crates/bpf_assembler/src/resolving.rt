@@ -53,14 +53,14 @@ fn with_distance(line: Line, distance: i128) -> Option<Line>
         },
         Line::JumpIf {
             width,
-            test,
+            comparison,
             dst,
             operand,
             ..
         } => match short(distance) {
             Some(distance) => Some(Line::JumpIf {
                 width,
-                test,
+                comparison,
                 dst,
                 operand,
                 distance,

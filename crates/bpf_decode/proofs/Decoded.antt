@@ -20,7 +20,7 @@ not_written : (l : Line) → ¬ WritesFramePointer l → writes_frame_pointer l 
 not_written (line.Arithmetic width operation dst operand) h = not_ten dst h
 not_written (line.Negate width dst) h = not_ten dst h
 not_written (line.MoveExtended extension dst src) h = not_ten dst h
-not_written (line.ByteOrder order swapped dst) h = not_ten dst h
+not_written (line.ByteOrder order width dst) h = not_ten dst h
 not_written (line.LoadWide dst value) h = not_ten dst h
 not_written (line.Load size dst base offset) h = not_ten dst h
 not_written (line.LoadExtended size dst base offset) h = not_ten dst h

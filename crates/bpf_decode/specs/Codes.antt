@@ -3,11 +3,11 @@ use Rattle.std.specs.Prelude.{ℕ, ◌/◌, ◌%◌, Bool, false, ◌&&◌, ◌|
 use Rattle.bpf_types.specs.declared.line.Operation.{Operation}
 use Rattle.bpf_types.specs.declared.line.Operation.TheVariants as op
 use Rattle.bpf_types.specs.declared.line.Comparison.{Comparison}
-use Rattle.bpf_types.specs.declared.line.Comparison.TheVariants as test
+use Rattle.bpf_types.specs.declared.line.Comparison.TheVariants as comparison
 use Rattle.bpf_types.specs.declared.line.Size.{Size}
 use Rattle.bpf_types.specs.declared.line.Size.TheVariants as size
 use Rattle.bpf_types.specs.declared.line.SignedSize.{SignedSize}
-use Rattle.bpf_types.specs.declared.line.SignedSize.TheVariants as narrow
+use Rattle.bpf_types.specs.declared.line.SignedSize.TheVariants as signed_size
 
 -- the unsigned operation of a code, the high four bits of an arithmetic opcode (RFC 9669, section 4.1)
 abbrev pub operation_at : ℕ → Option Operation
@@ -16,11 +16,11 @@ operation_at n = if n == 0 then Some op.Add else if n == 1 then Some op.Sub else
     else if n == 9 then Some op.Mod else if n == 10 then Some op.Xor else if n == 11 then Some op.Mov else if n == 12 then Some op.Arsh else None
 
 -- the test of a code, the high four bits of a jump's opcode (RFC 9669, section 4.3)
-abbrev pub test_at : ℕ → Option Comparison
-test_at n = if n == 1 then Some test.Equal else if n == 2 then Some test.Greater else if n == 3 then Some test.GreaterOrEqual
-    else if n == 4 then Some test.Set else if n == 5 then Some test.NotEqual else if n == 6 then Some test.SignedGreater
-    else if n == 7 then Some test.SignedGreaterOrEqual else if n == 10 then Some test.Less else if n == 11 then Some test.LessOrEqual
-    else if n == 12 then Some test.SignedLess else if n == 13 then Some test.SignedLessOrEqual else None
+abbrev pub comparison_at : ℕ → Option Comparison
+comparison_at n = if n == 1 then Some comparison.Equal else if n == 2 then Some comparison.Greater else if n == 3 then Some comparison.GreaterOrEqual
+    else if n == 4 then Some comparison.Set else if n == 5 then Some comparison.NotEqual else if n == 6 then Some comparison.SignedGreater
+    else if n == 7 then Some comparison.SignedGreaterOrEqual else if n == 10 then Some comparison.Less else if n == 11 then Some comparison.LessOrEqual
+    else if n == 12 then Some comparison.SignedLess else if n == 13 then Some comparison.SignedLessOrEqual else None
 
 -- the number lies between two others, or is one of them
 abbrev pub is_within : ℕ → ℕ → ℕ → Bool
@@ -52,8 +52,8 @@ abbrev pub size_at : ℕ → Size
 size_at n = if n == 0 then size.Word else if n == 1 then size.Half else if n == 2 then size.Byte else size.Double
 
 -- the size of a load that extends the sign: any but 8 octets (RFC 9669, section 5.2)
-abbrev pub narrow_at : Size → Option SignedSize
-narrow_at size.Word = Some narrow.Word
-narrow_at size.Half = Some narrow.Half
-narrow_at size.Byte = Some narrow.Byte
-narrow_at size.Double = None
+abbrev pub signed_size_at : Size → Option SignedSize
+signed_size_at size.Word = Some signed_size.Word
+signed_size_at size.Half = Some signed_size.Half
+signed_size_at size.Byte = Some signed_size.Byte
+signed_size_at size.Double = None

@@ -1,5 +1,5 @@
 -- The rows of the instruction table, read from the fields of a slot.
-use Rattle.std.specs.Prelude.{◌<◌, ◌≤◌, ◌≡◌, ◌/◌, ◌%◌, ◌&&◌, ◌||◌, not, nat_lt, ◌==◌, if◌then◌else◌, Option, Some, None, [], ℤ, pos}
+use Rattle.std.specs.Prelude.{◌<◌, ◌≤◌, ◌≡◌, ◌/◌, ◌%◌, ◌&&◌, ◌||◌, not, nat_lt, ◌==◌, if◌then◌else◌, Option, Some, None, [], ℤ, pos, negsuc}
 use Rattle.std.specs.Ordering.{int_eq}
 use Rattle.bpf_types.specs.declared.line.Fields.{Fields}
 use Rattle.bpf_types.specs.declared.line.Line.{Line}
@@ -9,15 +9,13 @@ use Rattle.bpf_types.specs.declared.line.Operand.TheVariants.{Immediate, Registe
 use Rattle.bpf_types.specs.declared.line.Operation.{Operation}
 use Rattle.bpf_types.specs.declared.line.Operation.TheVariants as op
 use Rattle.bpf_types.specs.declared.line.Extension.{Extension}
-use Rattle.bpf_types.specs.declared.line.Extension.TheVariants as extension
 use Rattle.bpf_types.specs.declared.line.Order.{Order}
 use Rattle.bpf_types.specs.declared.line.Order.TheVariants as order
-use Rattle.bpf_types.specs.declared.line.Swapped.{Swapped}
-use Rattle.bpf_types.specs.declared.line.Swapped.TheVariants as swapped
+use Rattle.bpf_types.specs.declared.line.SwapWidth.{SwapWidth}
 use Rattle.bpf_types.specs.declared.line.Width.{Width}
 use Rattle.bpf_types.specs.declared.line.Width.TheVariants.{W32, W64}
-use Rattle.bpf_types.specs.Line.{first_slot, second_slot}
-use Rattle.bpf_decode.specs.Codes.{operation_at, test_at, size_at, narrow_at}
+use Rattle.bpf_types.specs.Line.{first_slot, second_slot, extension_of, swap_width_of}
+use Rattle.bpf_decode.specs.Codes.{operation_at, comparison_at, size_at, signed_size_at}
 
 infixl 10 ◌>>=◌
 -- what follows from the value, where there is one
@@ -51,13 +49,13 @@ with_offset operation offset = if int_eq offset (pos 0) then Some operation else
 
 -- the move that extends the sign, by its class and its offset field (RFC 9669, section 4.1)
 abbrev pub extension_at : Width → ℤ → Option Extension
-extension_at W32 offset = if int_eq offset (pos 8) then Some extension.From8To32 else if int_eq offset (pos 16) then Some extension.From16To32 else None
-extension_at W64 offset = if int_eq offset (pos 8) then Some extension.From8To64 else if int_eq offset (pos 16) then Some extension.From16To64
-    else if int_eq offset (pos 32) then Some extension.From32To64 else None
+extension_at width (pos bits) = extension_of width bits
+extension_at width (negsuc n) = None
 
 -- how many bits the imm field of a byte order instruction says (RFC 9669, section 4.2)
-abbrev pub swapped_at : ℤ → Option Swapped
-swapped_at imm = if int_eq imm (pos 16) then Some swapped.Bits16 else if int_eq imm (pos 32) then Some swapped.Bits32 else if int_eq imm (pos 64) then Some swapped.Bits64 else None
+abbrev pub swap_width_at : ℤ → Option SwapWidth
+swap_width_at (pos bits) = swap_width_of bits
+swap_width_at (negsuc n) = None
 
 -- a negation: dst alone (RFC 9669, section 4.1)
 abbrev pub negate_at : Width → Fields → Option Line
@@ -65,7 +63,7 @@ negate_at width f = if (f.src == 0) && int_eq f.offset (pos 0) && int_eq f.imm (
 
 -- a byte order instruction: dst, and 16, 32 or 64 as imm (RFC 9669, section 4.2)
 abbrev pub order_at : Order → Fields → Option Line
-order_at order f = if (f.src == 0) && int_eq f.offset (pos 0) then (swapped_at f.imm >>= λ swapped. Some (line.ByteOrder order swapped f.dst)) else None
+order_at order f = if (f.src == 0) && int_eq f.offset (pos 0) then (swap_width_at f.imm >>= λ width. Some (line.ByteOrder order width f.dst)) else None
 
 -- a move that extends the sign: dst, src and offset (RFC 9669, section 4.1)
 abbrev pub move_at : Width → Fields → Option Line
@@ -84,15 +82,9 @@ arithmetic_at width f = if (f.opcode == 0x84) || (f.opcode == 0x87) then negate_
     else if ((f.opcode == 0xbc) || (f.opcode == 0xbf)) && not (int_eq f.offset (pos 0)) then move_at width f
     else two_operands_at width f
 
--- the class of a move that extends the sign
-abbrev pub width_of : Extension → Width
-width_of extension.From8To32 = W32
-width_of extension.From16To32 = W32
-width_of _ = W64
-
 -- a jump that tests: dst, the operand and offset (RFC 9669, section 4.3)
 abbrev pub jump_if_at : Width → Fields → Option Line
-jump_if_at width f = test_at (f.opcode / 16) >>= λ test. operand_at f >>= λ operand. Some (line.JumpIf width test f.dst operand f.offset)
+jump_if_at width f = comparison_at (f.opcode / 16) >>= λ comparison. operand_at f >>= λ operand. Some (line.JumpIf width comparison f.dst operand f.offset)
 
 -- a call of the engine, with src 0, or a local call, with src 1: imm (RFC 9669, section 4.3)
 abbrev pub call_at : Fields → Option Line
@@ -121,7 +113,7 @@ short_jump_at f = if f.opcode == 0x06 then (if (f.dst == 0) && (f.src == 0) && i
 abbrev pub load_at : Fields → Option Line
 load_at f = if not (int_eq f.imm (pos 0)) then None
     else if f.opcode / 32 == 3 then Some (line.Load (size_at (f.opcode / 8 % 4)) f.dst f.src f.offset)
-    else if f.opcode / 32 == 4 then (narrow_at (size_at (f.opcode / 8 % 4)) >>= λ size. Some (line.LoadExtended size f.dst f.src f.offset))
+    else if f.opcode / 32 == 4 then (signed_size_at (size_at (f.opcode / 8 % 4)) >>= λ size. Some (line.LoadExtended size f.dst f.src f.offset))
     else None
 
 -- the class ST: dst, offset and imm (RFC 9669, section 5.1)

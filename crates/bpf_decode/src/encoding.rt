@@ -1,10 +1,11 @@
 // Instructions as octets.
 ghost use Rattle.std.specs.Prelude.{◌≡◌, ◌*◌, ◌+◌, ◌≤◌, ℕ, List, [], length, take, IfSome, IfNone, pos};
 ghost use Rattle.bpf_types.specs.declared.line.Line.TheVariants as Variants;
-ghost use Rattle.bpf_types.specs.Line.{first_slot, second_slot, spelling, Spells, slot_octets, code_of, offset_of, arithmetic_class, jump_class, comparison_code, extension_opcode, extension_offset, order_opcode, swapped_bits, size_code, signed_size_code};
+ghost use Rattle.bpf_types.specs.Line.{first_slot, second_slot, spelling, Spells, slot_octets, code_of, offset_of, arithmetic_class, jump_class, comparison_code, extension_opcode, extension_offset, order_opcode, swap_width_bits, size_code, signed_size_code};
 
 use bpf_types::{
-    Extension, Fields, Line, SignedSize, Operand, Operation, Order, Reg, Size, Swapped, Comparison, Width,
+    Comparison, Extension, Fields, Line, Operand, Operation, Order, Reg, SignedSize, Size,
+    SwapWidth, Width,
 };
 use std::marker::Model;
 
@@ -137,10 +138,10 @@ fn jump_class_of(width: Width) -> u8
 }
 
 /// The code of a test, the high four bits of its opcodes.
-fn comparison_number(test: Comparison) -> u8
-    ensures { result ≡ comparison_code test }
+fn comparison_number(comparison: Comparison) -> u8
+    ensures { result ≡ comparison_code comparison }
 {
-    match test {
+    match comparison {
         Comparison::Equal => 1,
         Comparison::Greater => 2,
         Comparison::GreaterOrEqual => 3,
@@ -179,10 +180,16 @@ fn signed_size_number(size: SignedSize) -> u8
 }
 
 /// The fields of a jump that tests.
-fn jump_fields(width: Width, test: Comparison, dst: Reg, operand: Operand, distance: i16) -> Fields
-    ensures { result ≡ first_slot (Line.JumpIf width test dst operand distance) }
+fn jump_fields(
+    width: Width,
+    comparison: Comparison,
+    dst: Reg,
+    operand: Operand,
+    distance: i16,
+) -> Fields
+    ensures { result ≡ first_slot (Line.JumpIf width comparison dst operand distance) }
 {
-    let opcode = comparison_number(test) * 16 + jump_class_of(width);
+    let opcode = comparison_number(comparison) * 16 + jump_class_of(width);
     match operand {
         Operand::Immediate(imm) => Fields {
             dst,
@@ -203,38 +210,30 @@ fn jump_fields(width: Width, test: Comparison, dst: Reg, operand: Operand, dista
 fn move_fields(extension: Extension, dst: Reg, src: Reg) -> Fields
     ensures { result ≡ first_slot (Line.MoveExtended extension dst src) }
 {
-    let (opcode, offset) = match extension {
-        Extension::From8To32 => (0xbc, 8),
-        Extension::From16To32 => (0xbc, 16),
-        Extension::From8To64 => (0xbf, 8),
-        Extension::From16To64 => (0xbf, 16),
-        Extension::From32To64 => (0xbf, 32),
+    let opcode = match extension.width() {
+        Width::W32 => 0xbc,
+        Width::W64 => 0xbf,
     };
     Fields {
         dst,
         src,
-        offset,
+        offset: i16::from(extension.bits()),
         ..blank(opcode)
     }
 }
 
 /// The fields of a byte order instruction.
-fn order_fields(order: Order, swapped: Swapped, dst: Reg) -> Fields
-    ensures { result ≡ first_slot (Line.ByteOrder order swapped dst) }
+fn order_fields(order: Order, width: SwapWidth, dst: Reg) -> Fields
+    ensures { result ≡ first_slot (Line.ByteOrder order width dst) }
 {
     let opcode = match order {
         Order::Little => 0xd4,
         Order::Big => 0xdc,
         Order::Swap => 0xd7,
     };
-    let imm = match swapped {
-        Swapped::Bits16 => 16,
-        Swapped::Bits32 => 32,
-        Swapped::Bits64 => 64,
-    };
     Fields {
         dst,
-        imm,
+        imm: i32::from(width.bits()),
         ..blank(opcode)
     }
 }
@@ -259,11 +258,7 @@ fn first_fields(line: Line) -> Fields
             dst,
             src,
         } => move_fields(extension, dst, src),
-        Line::ByteOrder {
-            order,
-            swapped,
-            dst,
-        } => order_fields(order, swapped, dst),
+        Line::ByteOrder { order, width, dst } => order_fields(order, width, dst),
         Line::Jump { distance } => Fields {
             offset: distance,
             ..blank(0x05)
@@ -274,11 +269,11 @@ fn first_fields(line: Line) -> Fields
         },
         Line::JumpIf {
             width,
-            test,
+            comparison,
             dst,
             operand,
             distance,
-        } => jump_fields(width, test, dst, operand, distance),
+        } => jump_fields(width, comparison, dst, operand, distance),
         Line::Call { number } => Fields {
             imm: number,
             ..blank(0x85)

@@ -1,10 +1,10 @@
 // The rows of the instruction table, found by the fields of a slot.
 ghost use Rattle.std.specs.Prelude.{◌≡◌, ◌+◌, ◌/◌, ◌%◌, ◌⊎◌, [], IfSome, pos};
-ghost use Rattle.bpf_types.specs.Line.{first_slot, second_slot, arithmetic_class, jump_class, order_opcode, extension_opcode, code_of, offset_of, swapped_bits, extension_offset};
-ghost use Rattle.bpf_decode.specs.Rows.{Spelled, IsOperandOf, width_of, operand_at, with_offset, extension_at, swapped_at, negate_at, order_at, move_at, two_operands_at, arithmetic_at, jump_if_at, call_at, near_jump_at, exit_at, jump_at, short_jump_at, load_at, store_immediate_at, store_at, short_at};
+ghost use Rattle.bpf_types.specs.Line.{first_slot, second_slot, arithmetic_class, jump_class, order_opcode, extension_opcode, code_of, offset_of, swap_width_bits, extension_offset, extension_width};
+ghost use Rattle.bpf_decode.specs.Rows.{Spelled, IsOperandOf, operand_at, with_offset, extension_at, swap_width_at, negate_at, order_at, move_at, two_operands_at, arithmetic_at, jump_if_at, call_at, near_jump_at, exit_at, jump_at, short_jump_at, load_at, store_immediate_at, store_at, short_at};
 
-use crate::codes::{narrow_of, operation_of, size_of, test_of};
-use bpf_types::{Extension, Fields, Line, Operand, Operation, Order, Swapped, Width};
+use crate::codes::{comparison_of, operation_of, signed_size_of, size_of};
+use bpf_types::{Extension, Fields, Line, Operand, Operation, Order, SwapWidth, Width};
 
 /// The operand of the opcode, where the field of the other one is zero.
 pub fn operand_of(fields: Fields) -> Option<Operand>
@@ -46,29 +46,17 @@ pub fn operation_at_offset(operation: Operation, offset: i16) -> Option<Operatio
 /// The move that extends the sign from as many bits as the offset says, in a class.
 pub fn extension_of(width: Width, offset: i16) -> Option<Extension>
     ensures exact { result ≡ extension_at width offset }
-    ensures found { IfSome result (λ e. (extension_offset e ≡ offset) × (width ≡ width_of e)) }
+    ensures found { IfSome result (λ e. (extension_offset e ≡ offset) × (width ≡ extension_width e)) }
 {
-    match (width, offset) {
-        (Width::W32, 8) => Some(Extension::From8To32),
-        (Width::W32, 16) => Some(Extension::From16To32),
-        (Width::W64, 8) => Some(Extension::From8To64),
-        (Width::W64, 16) => Some(Extension::From16To64),
-        (Width::W64, 32) => Some(Extension::From32To64),
-        _ => None,
-    }
+    Extension::new(width, u64::try_from(offset).ok()?)
 }
 
-/// How many bits the imm field of a byte order instruction says.
-pub fn swapped_of(imm: i32) -> Option<Swapped>
-    ensures exact { result ≡ swapped_at imm }
-    ensures found { IfSome result (λ s. pos (swapped_bits s) ≡ imm) }
+/// The width that the imm field of a byte order instruction says.
+pub fn swap_width_of(imm: i32) -> Option<SwapWidth>
+    ensures exact { result ≡ swap_width_at imm }
+    ensures found { IfSome result (λ s. pos (swap_width_bits s) ≡ imm) }
 {
-    match imm {
-        16 => Some(Swapped::Bits16),
-        32 => Some(Swapped::Bits32),
-        64 => Some(Swapped::Bits64),
-        _ => None,
-    }
+    SwapWidth::new(u64::try_from(imm).ok()?)
 }
 
 /// A negation.
@@ -94,10 +82,10 @@ fn order_of(order: Order, fields: Fields) -> Option<Line>
     ensures found { IfSome result (Spelled fields) }
 {
     if fields.src.number() == 0 && fields.offset == 0 {
-        let swapped = swapped_of(fields.imm)?;
+        let width = swap_width_of(fields.imm)?;
         Some(Line::ByteOrder {
             order,
-            swapped,
+            width,
             dst: fields.dst,
         })
     } else {
@@ -160,10 +148,10 @@ fn jump_if_of(width: Width, fields: Fields) -> Option<Line>
     ensures exact { result ≡ jump_if_at width fields }
     ensures found { IfSome result (Spelled fields) }
 {
-    let test = test_of(fields.opcode / 16)?;
+    let comparison = comparison_of(fields.opcode / 16)?;
     Some(Line::JumpIf {
         width,
-        test,
+        comparison,
         dst: fields.dst,
         operand: operand_of(fields)?,
         distance: fields.offset,
@@ -270,7 +258,7 @@ fn load_of(fields: Fields) -> Option<Line>
             offset: fields.offset,
         }),
         4 => Some(Line::LoadExtended {
-            size: narrow_of(size)?,
+            size: signed_size_of(size)?,
             dst: fields.dst,
             base: fields.src,
             offset: fields.offset,

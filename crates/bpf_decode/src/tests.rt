@@ -3,7 +3,7 @@ ghost use Rattle.std.specs.Prelude.{◌≡◌, ◌≤◌};
 
 use crate::{DecodeFault, decode_at, encode};
 use bpf_types::{
-    Extension, Line, SignedSize, Operand, Operation, Order, Reg, Size, Swapped, Comparison, Width,
+    Comparison, Extension, Line, Operand, Operation, Order, Reg, SignedSize, Size, SwapWidth, Width,
 };
 use std::process::Abort;
 
@@ -40,18 +40,18 @@ fn moved(extension: Extension) -> Line {
     }
 }
 
-fn ordered(order: Order, swapped: Swapped) -> Line {
+fn ordered(order: Order, width: SwapWidth) -> Line {
     Line::ByteOrder {
         order,
-        swapped,
+        width,
         dst: reg(1),
     }
 }
 
-fn jump_if(width: Width, test: Comparison, operand: Operand) -> Line {
+fn jump_if(width: Width, comparison: Comparison, operand: Operand) -> Line {
     Line::JumpIf {
         width,
-        test,
+        comparison,
         dst: reg(1),
         operand,
         distance: -2,
@@ -105,10 +105,10 @@ fn is_operation(rt: &impl Abort, operation: Operation, octets: [u8; 8]) {
     is_spelled(rt, by_constant(Width::W64, operation, -2), octets);
 }
 
-fn is_test(rt: &impl Abort, test: Comparison, octets: [u8; 8]) {
+fn is_test(rt: &impl Abort, comparison: Comparison, octets: [u8; 8]) {
     is_spelled(
         rt,
-        jump_if(Width::W64, test, Operand::Register(reg(10))),
+        jump_if(Width::W64, comparison, Operand::Register(reg(10))),
         octets,
     );
 }
@@ -146,14 +146,22 @@ fn each_operation_has_its_opcode(rt: HostRuntime) {
 #[test]
 fn each_test_has_its_opcode(rt: HostRuntime) {
     is_test(&rt, Comparison::Equal, [0x1d, 0xa1, 0xfe, 0xff, 0, 0, 0, 0]);
-    is_test(&rt, Comparison::Greater, [0x2d, 0xa1, 0xfe, 0xff, 0, 0, 0, 0]);
+    is_test(
+        &rt,
+        Comparison::Greater,
+        [0x2d, 0xa1, 0xfe, 0xff, 0, 0, 0, 0],
+    );
     is_test(
         &rt,
         Comparison::GreaterOrEqual,
         [0x3d, 0xa1, 0xfe, 0xff, 0, 0, 0, 0],
     );
     is_test(&rt, Comparison::Set, [0x4d, 0xa1, 0xfe, 0xff, 0, 0, 0, 0]);
-    is_test(&rt, Comparison::NotEqual, [0x5d, 0xa1, 0xfe, 0xff, 0, 0, 0, 0]);
+    is_test(
+        &rt,
+        Comparison::NotEqual,
+        [0x5d, 0xa1, 0xfe, 0xff, 0, 0, 0, 0],
+    );
     is_test(
         &rt,
         Comparison::SignedGreater,
@@ -165,8 +173,16 @@ fn each_test_has_its_opcode(rt: HostRuntime) {
         [0x7d, 0xa1, 0xfe, 0xff, 0, 0, 0, 0],
     );
     is_test(&rt, Comparison::Less, [0xad, 0xa1, 0xfe, 0xff, 0, 0, 0, 0]);
-    is_test(&rt, Comparison::LessOrEqual, [0xbd, 0xa1, 0xfe, 0xff, 0, 0, 0, 0]);
-    is_test(&rt, Comparison::SignedLess, [0xcd, 0xa1, 0xfe, 0xff, 0, 0, 0, 0]);
+    is_test(
+        &rt,
+        Comparison::LessOrEqual,
+        [0xbd, 0xa1, 0xfe, 0xff, 0, 0, 0, 0],
+    );
+    is_test(
+        &rt,
+        Comparison::SignedLess,
+        [0xcd, 0xa1, 0xfe, 0xff, 0, 0, 0, 0],
+    );
     is_test(
         &rt,
         Comparison::SignedLessOrEqual,
@@ -204,17 +220,17 @@ fn arithmetic_is_spelled_by_its_rows(rt: HostRuntime) {
     is_spelled(&rt, wide, [0x87, 3, 0, 0, 0, 0, 0, 0]);
     is_spelled(
         &rt,
-        ordered(Order::Little, Swapped::Bits16),
+        ordered(Order::Little, SwapWidth::Bits16),
         [0xd4, 1, 0, 0, 16, 0, 0, 0],
     );
     is_spelled(
         &rt,
-        ordered(Order::Big, Swapped::Bits32),
+        ordered(Order::Big, SwapWidth::Bits32),
         [0xdc, 1, 0, 0, 32, 0, 0, 0],
     );
     is_spelled(
         &rt,
-        ordered(Order::Swap, Swapped::Bits64),
+        ordered(Order::Swap, SwapWidth::Bits64),
         [0xd7, 1, 0, 0, 64, 0, 0, 0],
     );
 }

@@ -9,16 +9,16 @@ use Rattle.bpf_types.specs.declared.line.Operand.{Operand}
 use Rattle.bpf_types.specs.declared.line.Operand.TheVariants.{Immediate, Register}
 use Rattle.bpf_types.specs.declared.line.Extension.{Extension}
 use Rattle.bpf_types.specs.declared.line.Extension.TheVariants as extension
-use Rattle.bpf_types.specs.declared.line.Swapped.{Swapped}
-use Rattle.bpf_types.specs.declared.line.Swapped.TheVariants as swapped
-use Rattle.bpf_types.specs.Line.{swapped_bits, IsLine, IsOperand}
+use Rattle.bpf_types.specs.declared.line.SwapWidth.{SwapWidth}
+use Rattle.bpf_types.specs.declared.line.SwapWidth.TheVariants as swap
+use Rattle.bpf_types.specs.Line.{swap_width_bits, IsLine, IsOperand, extension_width, extension_bits}
 use Rattle.bpf_listing.specs.declared.mnemonic.Mnemonic.{Mnemonic}
 use Rattle.bpf_listing.specs.declared.mnemonic.Mnemonic.TheVariants as word
 use Rattle.bpf_listing.specs.declared.mnemonic.Jump.TheVariants as jump
 use Rattle.bpf_listing.specs.declared.mnemonic.Access.TheVariants as access
 use Rattle.bpf_listing.specs.declared.scan.Field.{Field}
 use Rattle.bpf_listing.specs.declared.scan.Scan.{Scan}
-use Rattle.bpf_listing.specs.Canonical.{canonical, hex_digits, operation_name, comparison_name, width_name, order_name, size_name, signed_size_name, extension_width, extension_bits, register, with_sign, operand_text}
+use Rattle.bpf_listing.specs.Canonical.{canonical, hex_digits, operation_name, comparison_name, width_name, order_name, size_name, signed_size_name, register, with_sign, operand_text}
 use Rattle.bpf_listing.specs.Mnemonics.{mnemonic_name}
 use Rattle.bpf_listing.specs.Reading.{word_length, hex_on, fields_in, no_field, closed, start, scanned, minus_or, number_field, signed_field, operand_field, Shows}
 use Rattle.bpf_listing.proofs.Numbers.{scan_number, scan_last, scan_signed, scan_signed_last, scan_with_sign, scan_with_sign_last, ◌⧺◌, field, numbered, regroup, regroup_load, regroup_store, no_letter, keeps_first, hex_length, hex_whole, last_16, wide_enough}
@@ -124,9 +124,9 @@ extension_small : (e : Extension) → extension_bits e < 2 ^ 64
 extension_small extension.From8To32 = omega arith
 extension_small _ = omega arith
 
-swapped_small : (s : Swapped) → swapped_bits s < 2 ^ 64
-swapped_small swapped.Bits16 = omega arith
-swapped_small _ = omega arith
+swap_width_small : (s : SwapWidth) → swap_width_bits s < 2 ^ 64
+swap_width_small swap.Bits16 = omega arith
+swap_width_small _ = omega arith
 
 -- the digits of a wide load are the last octets, and its register is the first number
 wide_read : (dst value : ℕ) (hex : List ℕ) → dst ≤ 10 → length hex ≡ 16 → hex_on 0 hex ≡ value → IsRead (line.LoadWide dst value) (codes "lddw " ++ register dst ++ codes ", 0x" ++ hex)
@@ -154,9 +154,9 @@ canonical_is_read (line.MoveExtended e dst src) h =
     (regroup (codes "movsx") (width_name w) (codes " ") (register dst) (codes ", ") (register src) (codes ", ") (decimal (extension_bits e))) (move_word w os)
     (two_registers_number dst src (extension_bits e) h.0 h.1 (extension_small e)) (refl, refl, refl, refl)
 canonical_is_read (line.ByteOrder o s dst) h =
-    let os = register dst ⧺ codes ", " ⧺ decimal (swapped_bits s) in
-    read_by (line.ByteOrder o s dst) (canonical (line.ByteOrder o s dst)) (order_name o ⧺ codes " " ⧺ os) os (word.ByteOrder o) (field 114 dst) (field 32 (swapped_bits s)) no_field
-    (simp append_assoc) (order_word o os) (field_and_number dst (swapped_bits s) h (swapped_small s)) (refl, refl, refl)
+    let os = register dst ⧺ codes ", " ⧺ decimal (swap_width_bits s) in
+    read_by (line.ByteOrder o s dst) (canonical (line.ByteOrder o s dst)) (order_name o ⧺ codes " " ⧺ os) os (word.ByteOrder o) (field 114 dst) (field 32 (swap_width_bits s)) no_field
+    (simp append_assoc) (order_word o os) (field_and_number dst (swap_width_bits s) h (swap_width_small s)) (refl, refl, refl)
 canonical_is_read (line.LoadWide dst value) h = wide_read dst value (hex_digits 16 value) h.0 (hex_length 16 value) (hex_whole value h.1)
 canonical_is_read (line.JumpIf width t dst operand z) h =
     let os = register dst ⧺ codes ", " ⧺ operand_text operand ⧺ codes ", " ⧺ with_sign z in

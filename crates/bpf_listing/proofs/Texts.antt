@@ -15,21 +15,21 @@ use Rattle.bpf_types.specs.declared.line.Operand.TheVariants.{Immediate, Registe
 use Rattle.bpf_types.specs.declared.line.Operation.{Operation}
 use Rattle.bpf_types.specs.declared.line.Operation.TheVariants as op
 use Rattle.bpf_types.specs.declared.line.Comparison.{Comparison}
-use Rattle.bpf_types.specs.declared.line.Comparison.TheVariants as test
+use Rattle.bpf_types.specs.declared.line.Comparison.TheVariants as comparison
 use Rattle.bpf_types.specs.declared.line.Extension.{Extension}
 use Rattle.bpf_types.specs.declared.line.Extension.TheVariants as extension
 use Rattle.bpf_types.specs.declared.line.Order.{Order}
 use Rattle.bpf_types.specs.declared.line.Order.TheVariants as order
-use Rattle.bpf_types.specs.declared.line.Swapped.{Swapped}
-use Rattle.bpf_types.specs.declared.line.Swapped.TheVariants as swapped
+use Rattle.bpf_types.specs.declared.line.SwapWidth.{SwapWidth}
+use Rattle.bpf_types.specs.declared.line.SwapWidth.TheVariants as swap
 use Rattle.bpf_types.specs.declared.line.Size.{Size}
 use Rattle.bpf_types.specs.declared.line.Size.TheVariants as size
 use Rattle.bpf_types.specs.declared.line.SignedSize.{SignedSize}
-use Rattle.bpf_types.specs.declared.line.SignedSize.TheVariants as narrow
+use Rattle.bpf_types.specs.declared.line.SignedSize.TheVariants as signed_size
 use Rattle.bpf_types.specs.declared.line.Width.{Width}
 use Rattle.bpf_types.specs.declared.line.Width.TheVariants.{W32, W64}
-use Rattle.bpf_types.specs.Line.{swapped_bits, IsLine, IsOperand}
-use Rattle.bpf_listing.specs.Canonical.{canonical, operation_name, comparison_name, order_name, size_name, signed_size_name, width_name, register, with_sign, operand_text, extension_width, extension_bits, hex_digits}
+use Rattle.bpf_types.specs.Line.{swap_width_bits, IsLine, IsOperand, extension_width, extension_bits}
+use Rattle.bpf_listing.specs.Canonical.{canonical, operation_name, comparison_name, order_name, size_name, signed_size_name, width_name, register, with_sign, operand_text, hex_digits}
 use Rattle.bpf_listing.specs.Listing.{listing}
 use Rattle.bpf_listing.specs.Octets.{is_text_octet}
 use Rattle.bpf_listing.proofs.Numbers.{fits_in, wide_enough}
@@ -77,9 +77,9 @@ operation_text : (o : Operation) → IsText (operation_name o)
 operation_text op.Add = refl
 operation_text _ = refl
 
-test_text : (t : Comparison) → IsText (comparison_name t)
-test_text test.Equal = refl
-test_text _ = refl
+comparison_text : (t : Comparison) → IsText (comparison_name t)
+comparison_text comparison.Equal = refl
+comparison_text _ = refl
 
 order_text : (o : Order) → IsText (order_name o)
 order_text order.Little = refl
@@ -89,9 +89,9 @@ size_text : (s : Size) → IsText (size_name s)
 size_text size.Word = refl
 size_text _ = refl
 
-narrow_text : (s : SignedSize) → IsText (signed_size_name s)
-narrow_text narrow.Word = refl
-narrow_text _ = refl
+signed_size_text : (s : SignedSize) → IsText (signed_size_name s)
+signed_size_text signed_size.Word = refl
+signed_size_text _ = refl
 
 width_text : (w : Width) → IsText (width_name w)
 width_text W32 = refl
@@ -104,10 +104,10 @@ extension_text extension.From8To64 = decimal_text 8 (omega arith)
 extension_text extension.From16To64 = decimal_text 16 (omega arith)
 extension_text extension.From32To64 = decimal_text 32 (omega arith)
 
-swapped_text : (s : Swapped) → IsText (decimal (swapped_bits s))
-swapped_text swapped.Bits16 = decimal_text 16 (omega arith)
-swapped_text swapped.Bits32 = decimal_text 32 (omega arith)
-swapped_text swapped.Bits64 = decimal_text 64 (omega arith)
+swap_width_text : (s : SwapWidth) → IsText (decimal (swap_width_bits s))
+swap_width_text swap.Bits16 = decimal_text 16 (omega arith)
+swap_width_text swap.Bits32 = decimal_text 32 (omega arith)
+swap_width_text swap.Bits64 = decimal_text 64 (omega arith)
 
 wide_text : (dst : ℕ) (hex : List ℕ) → dst ≤ 10 → IsText hex → IsText (codes "lddw " ++ register dst ++ codes ", 0x" ++ hex)
 wide_text dst hex le h = simp (list_all-append is_text_octet, register_text dst le, h) refl
@@ -116,16 +116,16 @@ pub canonical_is_text : (l : Line) → IsLine l → IsText (canonical l)
 canonical_is_text (line.Arithmetic w o dst x) h = simp (list_all-append is_text_octet, operation_text o, width_text w, register_text dst h.0, operand_is_text x h.1) refl
 canonical_is_text (line.Negate w dst) h = simp (list_all-append is_text_octet, width_text w, register_text dst h) refl
 canonical_is_text (line.MoveExtended e dst src) h = simp (list_all-append is_text_octet, width_text (extension_width e), register_text dst h.0, register_text src h.1, extension_text e) refl
-canonical_is_text (line.ByteOrder o s dst) h = simp (list_all-append is_text_octet, order_text o, register_text dst h, swapped_text s) refl
+canonical_is_text (line.ByteOrder o s dst) h = simp (list_all-append is_text_octet, order_text o, register_text dst h, swap_width_text s) refl
 canonical_is_text (line.LoadWide dst value) h = wide_text dst (hex_digits 16 value) h.0 (hex_text 16 value)
-canonical_is_text (line.JumpIf w t dst x z) h = simp (list_all-append is_text_octet, test_text t, width_text w, register_text dst h.0, operand_is_text x h.1, sign_text z (wide_enough z h.2)) refl
+canonical_is_text (line.JumpIf w t dst x z) h = simp (list_all-append is_text_octet, comparison_text t, width_text w, register_text dst h.0, operand_is_text x h.1, sign_text z (wide_enough z h.2)) refl
 canonical_is_text (line.Jump z) h = simp (list_all-append is_text_octet, sign_text z (wide_enough z h)) refl
 canonical_is_text (line.LongJump z) h = simp (list_all-append is_text_octet, sign_text z h) refl
 canonical_is_text (line.Call z) h = simp (list_all-append is_text_octet, number_text z h) refl
 canonical_is_text (line.CallLocal z) h = simp (list_all-append is_text_octet, sign_text z h) refl
 canonical_is_text line.Exit h = refl
 canonical_is_text (line.Load s dst base z) h = simp (list_all-append is_text_octet, size_text s, register_text dst h.0, register_text base h.1, sign_text z (wide_enough z h.2)) refl
-canonical_is_text (line.LoadExtended s dst base z) h = simp (list_all-append is_text_octet, narrow_text s, register_text dst h.0, register_text base h.1, sign_text z (wide_enough z h.2)) refl
+canonical_is_text (line.LoadExtended s dst base z) h = simp (list_all-append is_text_octet, signed_size_text s, register_text dst h.0, register_text base h.1, sign_text z (wide_enough z h.2)) refl
 canonical_is_text (line.StoreImmediate s base z y) h = simp (list_all-append is_text_octet, size_text s, register_text base h.0, sign_text z (wide_enough z h.1), number_text y h.2) refl
 canonical_is_text (line.Store s base z src) h = simp (list_all-append is_text_octet, size_text s, register_text base h.0, sign_text z (wide_enough z h.1), register_text src h.2) refl
 

@@ -10,24 +10,24 @@ use Rattle.bpf_types.specs.declared.line.Operand.TheVariants.{Immediate, Registe
 use Rattle.bpf_types.specs.declared.line.Operation.{Operation}
 use Rattle.bpf_types.specs.declared.line.Operation.TheVariants as op
 use Rattle.bpf_types.specs.declared.line.Comparison.{Comparison}
-use Rattle.bpf_types.specs.declared.line.Comparison.TheVariants as test
+use Rattle.bpf_types.specs.declared.line.Comparison.TheVariants as comparison
 use Rattle.bpf_types.specs.declared.line.Extension.{Extension}
 use Rattle.bpf_types.specs.declared.line.Extension.TheVariants as extension
-use Rattle.bpf_types.specs.declared.line.Swapped.{Swapped}
-use Rattle.bpf_types.specs.declared.line.Swapped.TheVariants as swapped
+use Rattle.bpf_types.specs.declared.line.SwapWidth.{SwapWidth}
+use Rattle.bpf_types.specs.declared.line.SwapWidth.TheVariants as swap
 use Rattle.bpf_types.specs.declared.line.Order.TheVariants as order
 use Rattle.bpf_types.specs.declared.line.Size.{Size}
 use Rattle.bpf_types.specs.declared.line.Size.TheVariants as size
-use Rattle.bpf_types.specs.declared.line.SignedSize.TheVariants as narrow
+use Rattle.bpf_types.specs.declared.line.SignedSize.TheVariants as signed_size
 use Rattle.bpf_types.specs.declared.line.Width.{Width}
 use Rattle.bpf_types.specs.declared.line.Width.TheVariants.{W32, W64}
-use Rattle.bpf_types.specs.Line.{swapped_bits, IsLine}
+use Rattle.bpf_types.specs.Line.{swap_width_bits, IsLine, extension_width, extension_bits}
 use Rattle.bpf_listing.specs.declared.mnemonic.Mnemonic.{Mnemonic}
 use Rattle.bpf_listing.specs.declared.mnemonic.Mnemonic.TheVariants as word
 use Rattle.bpf_listing.specs.declared.mnemonic.Jump.TheVariants as jump
 use Rattle.bpf_listing.specs.declared.mnemonic.Access.TheVariants as access
 use Rattle.bpf_listing.specs.declared.scan.Field.{Field}
-use Rattle.bpf_listing.specs.Canonical.{canonical, extension_width, extension_bits}
+use Rattle.bpf_listing.specs.Canonical.{canonical}
 use Rattle.bpf_listing.specs.Mnemonics.{mnemonic_name}
 use Rattle.bpf_listing.specs.Reading.{word_length, hex_on, number_field, signed_field, operand_field, Shows}
 use Rattle.bpf_listing.proofs.Shown.{IsRead, text_is_read, field_at}
@@ -36,7 +36,7 @@ abbrev operations : List Operation
 operations = op.Add ∷ op.Sub ∷ op.Mul ∷ op.Div ∷ op.SignedDiv ∷ op.Or ∷ op.And ∷ op.Lsh ∷ op.Rsh ∷ op.Mod ∷ op.SignedMod ∷ op.Xor ∷ op.Mov ∷ op.Arsh ∷ []
 
 abbrev tests : List Comparison
-tests = test.Equal ∷ test.Greater ∷ test.GreaterOrEqual ∷ test.Set ∷ test.NotEqual ∷ test.SignedGreater ∷ test.SignedGreaterOrEqual ∷ test.Less ∷ test.LessOrEqual ∷ test.SignedLess ∷ test.SignedLessOrEqual ∷ []
+tests = comparison.Equal ∷ comparison.Greater ∷ comparison.GreaterOrEqual ∷ comparison.Set ∷ comparison.NotEqual ∷ comparison.SignedGreater ∷ comparison.SignedGreaterOrEqual ∷ comparison.Less ∷ comparison.LessOrEqual ∷ comparison.SignedLess ∷ comparison.SignedLessOrEqual ∷ []
 
 abbrev sizes : List Size
 sizes = size.Word ∷ size.Half ∷ size.Byte ∷ size.Double ∷ []
@@ -46,7 +46,7 @@ abbrev mnemonics : List Mnemonic
 mnemonics = map (word.Arithmetic W32) operations ++ map (word.Arithmetic W64) operations
     ++ map (λ t. word.Jump (jump.If W32 t)) tests ++ map (λ t. word.Jump (jump.If W64 t)) tests
     ++ map (λ s. word.Access (access.Load s)) sizes ++ map (λ s. word.Access (access.Store s)) sizes ++ map (λ s. word.Access (access.StoreImmediate s)) sizes
-    ++ map (λ s. word.Access (access.LoadExtended s)) (narrow.Word ∷ narrow.Half ∷ narrow.Byte ∷ [])
+    ++ map (λ s. word.Access (access.LoadExtended s)) (signed_size.Word ∷ signed_size.Half ∷ signed_size.Byte ∷ [])
     ++ map word.ByteOrder (order.Little ∷ order.Big ∷ order.Swap ∷ [])
     ++ word.Negate W32 ∷ word.Negate W64 ∷ word.MoveExtended W32 ∷ word.MoveExtended W64 ∷ word.LoadWide
     ∷ word.Jump jump.Short ∷ word.Jump jump.Long ∷ word.Jump jump.Call ∷ word.Jump jump.Exit ∷ []
@@ -68,15 +68,15 @@ named_back (word.MoveExtended W64) = refl
 named_back (word.ByteOrder order.Little) = refl
 named_back (word.ByteOrder _) = refl
 named_back word.LoadWide = refl
-named_back (word.Jump (jump.If W32 test.Equal)) = refl
+named_back (word.Jump (jump.If W32 comparison.Equal)) = refl
 named_back (word.Jump (jump.If W32 _)) = refl
-named_back (word.Jump (jump.If W64 test.Equal)) = refl
+named_back (word.Jump (jump.If W64 comparison.Equal)) = refl
 named_back (word.Jump (jump.If W64 _)) = refl
 named_back (word.Jump jump.Short) = refl
 named_back (word.Jump _) = refl
 named_back (word.Access (access.Load size.Word)) = refl
 named_back (word.Access (access.Load _)) = refl
-named_back (word.Access (access.LoadExtended narrow.Word)) = refl
+named_back (word.Access (access.LoadExtended signed_size.Word)) = refl
 named_back (word.Access (access.LoadExtended _)) = refl
 named_back (word.Access (access.Store size.Word)) = refl
 named_back (word.Access (access.Store _)) = refl
@@ -97,15 +97,15 @@ abbrev extension_from : Width → ℕ → Extension
 extension_from W32 n = if n == 8 then extension.From8To32 else extension.From16To32
 extension_from W64 n = if n == 8 then extension.From8To64 else if n == 16 then extension.From16To64 else extension.From32To64
 
-abbrev swapped_from : ℕ → Swapped
-swapped_from n = if n == 16 then swapped.Bits16 else if n == 32 then swapped.Bits32 else swapped.Bits64
+abbrev swap_width_from : ℕ → SwapWidth
+swap_width_from n = if n == 16 then swap.Bits16 else if n == 32 then swap.Bits32 else swap.Bits64
 
 -- the only instruction that the mnemonic and the numbers may show
 abbrev line_from : Mnemonic → Field → Field → Field → List ℕ → Line
 line_from (word.Arithmetic width o) f g h os = line.Arithmetic width o f.number (operand_from g)
 line_from (word.Negate width) f g h os = line.Negate width f.number
 line_from (word.MoveExtended width) f g h os = line.MoveExtended (extension_from width h.number) f.number g.number
-line_from (word.ByteOrder o) f g h os = line.ByteOrder o (swapped_from g.number) f.number
+line_from (word.ByteOrder o) f g h os = line.ByteOrder o (swap_width_from g.number) f.number
 line_from word.LoadWide f g h os = line.LoadWide f.number (hex_on 0 (drop (length os - 16) os))
 line_from (word.Jump (jump.If width t)) f g h os = line.JumpIf width t f.number (operand_from g) (signed_from h)
 line_from (word.Jump jump.Short) f g h os = line.Jump (signed_from f)
@@ -134,15 +134,15 @@ extension_back : (e : Extension) → extension_from (extension_width e) (extensi
 extension_back extension.From8To32 = refl
 extension_back _ = refl
 
-swapped_back : (s : Swapped) → swapped_from (swapped_bits s) ≡ s
-swapped_back swapped.Bits16 = refl
-swapped_back _ = refl
+swap_width_back : (s : SwapWidth) → swap_width_from (swap_width_bits s) ≡ s
+swap_width_back swap.Bits16 = refl
+swap_width_back _ = refl
 
 shown_back : (l : Line) (m : Mnemonic) (f g h : Field) (os : List ℕ) → Shows l m f g h os → line_from m f g h os ≡ l
 shown_back (line.Arithmetic w o dst x) m f g h os s = rw (s.0, s.1, s.2, operand_back x) refl
 shown_back (line.Negate w dst) m f g h os s = rw (s.0, s.1) refl
 shown_back (line.MoveExtended e dst src) m f g h os s = rw (s.0, s.1, s.2, s.3, extension_back e) refl
-shown_back (line.ByteOrder o b dst) m f g h os s = rw (s.0, s.1, s.2, swapped_back b) refl
+shown_back (line.ByteOrder o b dst) m f g h os s = rw (s.0, s.1, s.2, swap_width_back b) refl
 shown_back (line.LoadWide dst value) m f g h os s = rw (s.0, s.1, s.2) refl
 shown_back (line.JumpIf w t dst x z) m f g h os s = rw (s.0, s.1, s.2, s.3, operand_back x, signed_back z) refl
 shown_back (line.Jump z) m f g h os s = rw (s.0, s.1, signed_back z) refl

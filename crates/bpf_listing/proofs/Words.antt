@@ -5,7 +5,7 @@ use Rattle.std.specs.Str.{bytes_eq}
 use Rattle.bpf_types.specs.declared.line.Operation.{Operation}
 use Rattle.bpf_types.specs.declared.line.Operation.TheVariants as op
 use Rattle.bpf_types.specs.declared.line.Comparison.{Comparison}
-use Rattle.bpf_types.specs.declared.line.Comparison.TheVariants as test
+use Rattle.bpf_types.specs.declared.line.Comparison.TheVariants as comparison
 use Rattle.bpf_types.specs.declared.line.Width.{Width}
 use Rattle.bpf_types.specs.declared.line.Width.TheVariants.{W32, W64}
 use Rattle.bpf_types.specs.declared.line.Order.{Order}
@@ -13,7 +13,7 @@ use Rattle.bpf_types.specs.declared.line.Order.TheVariants as order
 use Rattle.bpf_types.specs.declared.line.Size.{Size}
 use Rattle.bpf_types.specs.declared.line.Size.TheVariants as size
 use Rattle.bpf_types.specs.declared.line.SignedSize.{SignedSize}
-use Rattle.bpf_types.specs.declared.line.SignedSize.TheVariants as narrow
+use Rattle.bpf_types.specs.declared.line.SignedSize.TheVariants as signed_size
 use Rattle.bpf_listing.specs.declared.mnemonic.Mnemonic.{Mnemonic}
 use Rattle.bpf_listing.specs.declared.mnemonic.Mnemonic.TheVariants as word
 use Rattle.bpf_listing.specs.declared.mnemonic.Jump.TheVariants as jump
@@ -37,9 +37,9 @@ arithmetic_word W64 op.Add rest = record { word = refl; others = refl }
 arithmetic_word W64 _ rest = record { word = refl; others = refl }
 
 pub jump_word : (w : Width) (o : Comparison) (rest : List ℕ) → Begins (comparison_name o ⧺ width_name w ⧺ codes " " ⧺ rest) (word.Jump (jump.If w o)) rest
-jump_word W32 test.Equal rest = record { word = refl; others = refl }
+jump_word W32 comparison.Equal rest = record { word = refl; others = refl }
 jump_word W32 _ rest = record { word = refl; others = refl }
-jump_word W64 test.Equal rest = record { word = refl; others = refl }
+jump_word W64 comparison.Equal rest = record { word = refl; others = refl }
 jump_word W64 _ rest = record { word = refl; others = refl }
 
 pub negate_word : (w : Width) (rest : List ℕ) → Begins (codes "neg" ⧺ width_name w ⧺ codes " " ⧺ rest) (word.Negate w) rest
@@ -59,7 +59,7 @@ load_word size.Word rest = record { word = refl; others = refl }
 load_word _ rest = record { word = refl; others = refl }
 
 pub load_extended_word : (o : SignedSize) (rest : List ℕ) → Begins (codes "ldxs" ⧺ signed_size_name o ⧺ codes " " ⧺ rest) (word.Access (access.LoadExtended o)) rest
-load_extended_word narrow.Word rest = record { word = refl; others = refl }
+load_extended_word signed_size.Word rest = record { word = refl; others = refl }
 load_extended_word _ rest = record { word = refl; others = refl }
 
 pub store_word : (o : Size) (rest : List ℕ) → Begins (codes "stx" ⧺ size_name o ⧺ codes " " ⧺ rest) (word.Access (access.Store o)) rest
@@ -97,9 +97,9 @@ stem_ends (stem.Arithmetic op.Add) W32 = refl
 stem_ends (stem.Arithmetic _) W32 = refl
 stem_ends (stem.Arithmetic op.Add) W64 = refl
 stem_ends (stem.Arithmetic _) W64 = refl
-stem_ends (stem.JumpIf test.Equal) W32 = refl
+stem_ends (stem.JumpIf comparison.Equal) W32 = refl
 stem_ends (stem.JumpIf _) W32 = refl
-stem_ends (stem.JumpIf test.Equal) W64 = refl
+stem_ends (stem.JumpIf comparison.Equal) W64 = refl
 stem_ends (stem.JumpIf _) W64 = refl
 stem_ends stem.Negate W32 = refl
 stem_ends stem.Negate W64 = refl
@@ -119,7 +119,7 @@ plain_ends (word.Jump jump.Short) h = refl
 plain_ends (word.Jump _) h = refl
 plain_ends (word.Access (access.Load size.Word)) h = refl
 plain_ends (word.Access (access.Load _)) h = refl
-plain_ends (word.Access (access.LoadExtended narrow.Word)) h = refl
+plain_ends (word.Access (access.LoadExtended signed_size.Word)) h = refl
 plain_ends (word.Access (access.LoadExtended _)) h = refl
 plain_ends (word.Access (access.Store size.Word)) h = refl
 plain_ends (word.Access (access.Store _)) h = refl

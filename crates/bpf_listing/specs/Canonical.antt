@@ -9,18 +9,16 @@ use Rattle.bpf_types.specs.declared.line.Operand.TheVariants.{Immediate, Registe
 use Rattle.bpf_types.specs.declared.line.Operation.{Operation}
 use Rattle.bpf_types.specs.declared.line.Operation.TheVariants as op
 use Rattle.bpf_types.specs.declared.line.Comparison.{Comparison}
-use Rattle.bpf_types.specs.declared.line.Comparison.TheVariants as test
-use Rattle.bpf_types.specs.declared.line.Extension.{Extension}
-use Rattle.bpf_types.specs.declared.line.Extension.TheVariants as extension
+use Rattle.bpf_types.specs.declared.line.Comparison.TheVariants as comparison
 use Rattle.bpf_types.specs.declared.line.Order.{Order}
 use Rattle.bpf_types.specs.declared.line.Order.TheVariants as order
 use Rattle.bpf_types.specs.declared.line.Size.{Size}
 use Rattle.bpf_types.specs.declared.line.Size.TheVariants as size
 use Rattle.bpf_types.specs.declared.line.SignedSize.{SignedSize}
-use Rattle.bpf_types.specs.declared.line.SignedSize.TheVariants as narrow
+use Rattle.bpf_types.specs.declared.line.SignedSize.TheVariants as signed_size
 use Rattle.bpf_types.specs.declared.line.Width.{Width}
 use Rattle.bpf_types.specs.declared.line.Width.TheVariants.{W32, W64}
-use Rattle.bpf_types.specs.Line.{swapped_bits}
+use Rattle.bpf_types.specs.Line.{extension_width, extension_bits, swap_width_bits}
 
 -- the arithmetic operations (RFC 9669, section 4.1)
 abbrev pub operation_name : Operation → List ℕ
@@ -41,17 +39,17 @@ operation_name op.Arsh = codes "arsh"
 
 -- the conditional jumps (RFC 9669, section 4.3)
 abbrev pub comparison_name : Comparison → List ℕ
-comparison_name test.Equal = codes "jeq"
-comparison_name test.Greater = codes "jgt"
-comparison_name test.GreaterOrEqual = codes "jge"
-comparison_name test.Set = codes "jset"
-comparison_name test.NotEqual = codes "jne"
-comparison_name test.SignedGreater = codes "jsgt"
-comparison_name test.SignedGreaterOrEqual = codes "jsge"
-comparison_name test.Less = codes "jlt"
-comparison_name test.LessOrEqual = codes "jle"
-comparison_name test.SignedLess = codes "jslt"
-comparison_name test.SignedLessOrEqual = codes "jsle"
+comparison_name comparison.Equal = codes "jeq"
+comparison_name comparison.Greater = codes "jgt"
+comparison_name comparison.GreaterOrEqual = codes "jge"
+comparison_name comparison.Set = codes "jset"
+comparison_name comparison.NotEqual = codes "jne"
+comparison_name comparison.SignedGreater = codes "jsgt"
+comparison_name comparison.SignedGreaterOrEqual = codes "jsge"
+comparison_name comparison.Less = codes "jlt"
+comparison_name comparison.LessOrEqual = codes "jle"
+comparison_name comparison.SignedLess = codes "jslt"
+comparison_name comparison.SignedLessOrEqual = codes "jsle"
 
 -- the byte order instructions (RFC 9669, section 4.2)
 abbrev pub order_name : Order → List ℕ
@@ -68,9 +66,9 @@ size_name size.Double = codes "dw"
 
 -- the sizes of a load that extends the sign (RFC 9669, section 5.2)
 abbrev pub signed_size_name : SignedSize → List ℕ
-signed_size_name narrow.Word = codes "w"
-signed_size_name narrow.Half = codes "h"
-signed_size_name narrow.Byte = codes "b"
+signed_size_name signed_size.Word = codes "w"
+signed_size_name signed_size.Half = codes "h"
+signed_size_name signed_size.Byte = codes "b"
 
 -- the class, by how many bits it works on
 abbrev pub width_name : Width → List ℕ
@@ -95,20 +93,6 @@ operand_text (Register src) = register src
 abbrev pub place_text : ℕ → ℤ → List ℕ
 place_text base offset = codes "[" ++ register base ++ with_sign offset ++ codes "]"
 
--- the class of a move that extends the sign
-abbrev pub extension_width : Extension → Width
-extension_width extension.From8To32 = W32
-extension_width extension.From16To32 = W32
-extension_width _ = W64
-
--- from how many bits such a move extends
-abbrev pub extension_bits : Extension → ℕ
-extension_bits extension.From8To32 = 8
-extension_bits extension.From16To32 = 16
-extension_bits extension.From8To64 = 8
-extension_bits extension.From16To64 = 16
-extension_bits extension.From32To64 = 32
-
 -- the last `count` hexadecimal digits of a number, in lower case
 abbrev pub hex_digits : ℕ → ℕ → List ℕ
 hex_digits zero n = []
@@ -119,13 +103,13 @@ abbrev pub canonical : Line → List ℕ
 canonical (line.Arithmetic width operation dst operand) = operation_name operation ++ width_name width ++ codes " " ++ register dst ++ codes ", " ++ operand_text operand
 canonical (line.Negate width dst) = codes "neg" ++ width_name width ++ codes " " ++ register dst
 canonical (line.MoveExtended extension dst src) = codes "movsx" ++ width_name (extension_width extension) ++ codes " " ++ register dst ++ codes ", " ++ register src ++ codes ", " ++ decimal (extension_bits extension)
-canonical (line.ByteOrder order swapped dst) = order_name order ++ codes " " ++ register dst ++ codes ", " ++ decimal (swapped_bits swapped)
+canonical (line.ByteOrder order width dst) = order_name order ++ codes " " ++ register dst ++ codes ", " ++ decimal (swap_width_bits width)
 canonical (line.LoadWide dst value) = codes "lddw " ++ register dst ++ codes ", 0x" ++ hex_digits 16 value
 canonical (line.Load size dst base offset) = codes "ldx" ++ size_name size ++ codes " " ++ register dst ++ codes ", " ++ place_text base offset
 canonical (line.LoadExtended size dst base offset) = codes "ldxs" ++ signed_size_name size ++ codes " " ++ register dst ++ codes ", " ++ place_text base offset
 canonical (line.Store size base offset src) = codes "stx" ++ size_name size ++ codes " " ++ place_text base offset ++ codes ", " ++ register src
 canonical (line.StoreImmediate size base offset value) = codes "st" ++ size_name size ++ codes " " ++ place_text base offset ++ codes ", " ++ signed_decimal value
-canonical (line.JumpIf width test dst operand distance) = comparison_name test ++ width_name width ++ codes " " ++ register dst ++ codes ", " ++ operand_text operand ++ codes ", " ++ with_sign distance
+canonical (line.JumpIf width comparison dst operand distance) = comparison_name comparison ++ width_name width ++ codes " " ++ register dst ++ codes ", " ++ operand_text operand ++ codes ", " ++ with_sign distance
 canonical (line.Jump distance) = codes "ja " ++ with_sign distance
 canonical (line.LongJump distance) = codes "ja32 " ++ with_sign distance
 canonical (line.Call number) = codes "call " ++ signed_decimal number

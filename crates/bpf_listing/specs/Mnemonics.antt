@@ -10,7 +10,7 @@ use Rattle.bpf_listing.specs.Canonical.{operation_name, comparison_name, width_n
 
 -- the words of jumps, calls and the exit (RFC 9669, section 4.3)
 abbrev pub jump_name : Jump → List ℕ
-jump_name (jump.If width test) = comparison_name test ++ width_name width
+jump_name (jump.If width comparison) = comparison_name comparison ++ width_name width
 jump_name jump.Short = codes "ja"
 jump_name jump.Long = codes "ja32"
 jump_name jump.Call = codes "call"

@@ -6,7 +6,7 @@ use Rattle.bpf_types.specs.declared.line.Line.TheVariants as line
 use Rattle.bpf_types.specs.declared.line.Operand.{Operand}
 use Rattle.bpf_types.specs.declared.line.Operand.TheVariants.{Immediate, Register}
 use Rattle.bpf_types.specs.declared.line.Width.{Width}
-use Rattle.bpf_types.specs.Line.{swapped_bits}
+use Rattle.bpf_types.specs.Line.{swap_width_bits, extension_width, extension_bits}
 use Rattle.bpf_listing.specs.declared.mnemonic.Mnemonic.{Mnemonic}
 use Rattle.bpf_listing.specs.declared.mnemonic.Mnemonic.TheVariants as word
 use Rattle.bpf_listing.specs.declared.mnemonic.Jump.TheVariants as jump
@@ -15,19 +15,19 @@ use Rattle.bpf_listing.specs.declared.mnemonic.Stem.{Stem}
 use Rattle.bpf_listing.specs.declared.mnemonic.Stem.TheVariants as stem
 use Rattle.bpf_listing.specs.declared.scan.Field.{Field}
 use Rattle.bpf_listing.specs.declared.scan.Scan.{Scan}
-use Rattle.bpf_listing.specs.Canonical.{operation_name, comparison_name, extension_width, extension_bits}
+use Rattle.bpf_listing.specs.Canonical.{operation_name, comparison_name}
 
 -- a mnemonic without its class
 abbrev pub stem_name : Stem → List ℕ
 stem_name (stem.Arithmetic operation) = operation_name operation
-stem_name (stem.JumpIf test) = comparison_name test
+stem_name (stem.JumpIf comparison) = comparison_name comparison
 stem_name stem.Negate = codes "neg"
 stem_name stem.MoveExtended = codes "movsx"
 
 -- the mnemonic of a stem and a class
 abbrev pub classed : Stem → Width → Mnemonic
 classed (stem.Arithmetic operation) width = word.Arithmetic width operation
-classed (stem.JumpIf test) width = word.Jump (jump.If width test)
+classed (stem.JumpIf comparison) width = word.Jump (jump.If width comparison)
 classed stem.Negate width = word.Negate width
 classed stem.MoveExtended width = word.MoveExtended width
 
@@ -36,7 +36,7 @@ abbrev pub IsPlain : Mnemonic → Type 0
 IsPlain (word.Arithmetic width operation) = ⊥
 IsPlain (word.Negate width) = ⊥
 IsPlain (word.MoveExtended width) = ⊥
-IsPlain (word.Jump (jump.If width test)) = ⊥
+IsPlain (word.Jump (jump.If width comparison)) = ⊥
 IsPlain _ = Unit {0}
 
 -- how many octets stand in front of the first space
@@ -109,7 +109,7 @@ abbrev pub Shows : Line → Mnemonic → Field → Field → Field → List ℕ 
 Shows (line.Arithmetic width o dst operand) m f g h os = (m ≡ word.Arithmetic width o) × (f.number ≡ dst) × (g ≡ operand_field operand)
 Shows (line.Negate width dst) m f g h os = (m ≡ word.Negate width) × (f.number ≡ dst)
 Shows (line.MoveExtended e dst src) m f g h os = (m ≡ word.MoveExtended (extension_width e)) × (f.number ≡ dst) × (g.number ≡ src) × (h.number ≡ extension_bits e)
-Shows (line.ByteOrder o s dst) m f g h os = (m ≡ word.ByteOrder o) × (f.number ≡ dst) × (g.number ≡ swapped_bits s)
+Shows (line.ByteOrder o s dst) m f g h os = (m ≡ word.ByteOrder o) × (f.number ≡ dst) × (g.number ≡ swap_width_bits s)
 Shows (line.LoadWide dst value) m f g h os = (m ≡ word.LoadWide) × (f.number ≡ dst) × (hex_on 0 (drop (length os - 16) os) ≡ value)
 Shows (line.JumpIf width t dst operand z) m f g h os = (m ≡ word.Jump (jump.If width t)) × (f.number ≡ dst) × (g ≡ operand_field operand) × (h ≡ signed_field z)
 Shows (line.Jump z) m f g h os = (m ≡ word.Jump jump.Short) × (f ≡ signed_field z)

@@ -24,18 +24,6 @@ pub enum DisassembleFault {
     Memory,
 }
 
-/// How many slots an instruction has.
-fn slots_of(line: Line) -> usize
-    ensures exact { 8 * result ≡ length (spelling line) }
-    ensures some { 1 ≤ result }
-    ensures few { result ≤ 2 }
-{
-    match line {
-        Line::LoadWide { .. } => 2,
-        _ => 1,
-    }
-}
-
 /// Appends the line of the instruction at a slot, and gives how many slots it has.
 fn write_next<A: Allocator>(
     code: &[u8],
@@ -59,7 +47,7 @@ fn write_next<A: Allocator>(
     let mut text = text_of(copied);
     text.push_all(b"\n");
     match out.extend_from_slice(text.as_slice()) {
-        Ok(()) => Ok(slots_of(line)),
+        Ok(()) => Ok(usize::from(line.slots())),
         Err(_) => Err(DisassembleFault::Memory),
     }
 }

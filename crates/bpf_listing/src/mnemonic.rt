@@ -8,7 +8,7 @@ ghost use Rattle.bpf_listing.specs.Mnemonics.{mnemonic_name};
 ghost use Rattle.bpf_listing.specs.Reading.{stem_name, IsPlain};
 ghost use Rattle.bpf_listing.specs.Reading as words;
 
-use bpf_types::{SignedSize, Operation, Order, Size, Comparison, Width};
+use bpf_types::{Comparison, Operation, Order, SignedSize, Size, Width};
 
 /// What the first word of an instruction's text says: `canonical` begins with it.
 #[derive(Clone, Copy)]
@@ -122,7 +122,7 @@ fn classed(stem: Stem, width: Width) -> Mnemonic
 {
     match stem {
         Stem::Arithmetic(operation) => Mnemonic::Arithmetic(width, operation),
-        Stem::JumpIf(test) => Mnemonic::Jump(Jump::If(width, test)),
+        Stem::JumpIf(comparison) => Mnemonic::Jump(Jump::If(width, comparison)),
         Stem::Negate => Mnemonic::Negate(width),
         Stem::MoveExtended => Mnemonic::MoveExtended(width),
     }

@@ -3,17 +3,15 @@ ghost use Rattle.std.specs.Prelude.{◌≡◌, ◌+◌, ◌⊎◌, IfSome, Some,
 ghost use Rattle.std.specs.Int.{w16, w32};
 ghost use Rattle.bpf_types.specs.declared.line.Line.{Line};
 ghost use Rattle.bpf_types.specs.declared.line.Operand.{Operand};
-ghost use Rattle.bpf_types.specs.declared.line.Extension.{Extension};
-ghost use Rattle.bpf_types.specs.declared.line.Swapped.{Swapped};
-ghost use Rattle.bpf_types.specs.Line.{IsLine, IsOperand, IsReg, swapped_bits};
+ghost use Rattle.bpf_types.specs.Line.{IsLine, IsOperand, IsReg};
 ghost use Rattle.bpf_listing.specs.declared.mnemonic.Mnemonic.TheVariants as word;
-ghost use Rattle.bpf_listing.specs.Canonical.{canonical, extension_width, extension_bits};
+ghost use Rattle.bpf_listing.specs.Canonical.{canonical};
 ghost use Rattle.bpf_listing.specs.Reading.{word_length, number_field, signed_field, operand_field, hex_value, hex_on, Shows};
 
 use crate::mnemonic::{Access, Jump, Mnemonic, mnemonic_of};
 use crate::scan::{Field, fields_of};
 use crate::writing::text_of;
-use bpf_types::{Extension, Line, Operand, Reg, Swapped, Width};
+use bpf_types::{Extension, Line, Operand, Reg, SwapWidth, Width};
 
 /// The first word of a text, and what stands behind the space that ends it.
 fn first_word(text: &[u8]) -> (&[u8], &[u8])
@@ -82,35 +80,6 @@ fn operand_of(field: Field) -> Option<Operand>
     }
 }
 
-fn extension_of(width: Width, number: u64) -> Option<Extension>
-    ensures only { (e : Extension) → extension_width e ≡ width → extension_bits e ≡ number → result ≡ Some e }
-{
-    match width {
-        Width::W32 => match number {
-            8 => Some(Extension::From8To32),
-            16 => Some(Extension::From16To32),
-            _ => None,
-        },
-        Width::W64 => match number {
-            8 => Some(Extension::From8To64),
-            16 => Some(Extension::From16To64),
-            32 => Some(Extension::From32To64),
-            _ => None,
-        },
-    }
-}
-
-fn swapped_of(number: u64) -> Option<Swapped>
-    ensures only { (s : Swapped) → number ≡ swapped_bits s → result ≡ Some s }
-{
-    match number {
-        16 => Some(Swapped::Bits16),
-        32 => Some(Swapped::Bits32),
-        64 => Some(Swapped::Bits64),
-        _ => None,
-    }
-}
-
 /// What a hexadecimal digit in lower case stands for.
 fn hex_digit(octet: u8) -> u8
     ensures { result ≡ hex_value octet }
@@ -138,9 +107,9 @@ fn jump_of(jump: Jump, first: Field, second: Field, third: Field, operands: &[u8
     ensures only { (l : Line) → IsLine l → Shows l (word.Jump jump) first second third operands.now → result ≡ Some l }
 {
     Some(match jump {
-        Jump::If(width, test) => Line::JumpIf {
+        Jump::If(width, comparison) => Line::JumpIf {
             width,
-            test,
+            comparison,
             dst: register_of(first)?,
             operand: operand_of(second)?,
             distance: half_of(third)?,
@@ -216,13 +185,13 @@ fn line_of(
             dst: register_of(first)?,
         },
         Mnemonic::MoveExtended(width) => Line::MoveExtended {
-            extension: extension_of(width, third.number)?,
+            extension: Extension::new(width, third.number)?,
             dst: register_of(first)?,
             src: register_of(second)?,
         },
         Mnemonic::ByteOrder(order) => Line::ByteOrder {
             order,
-            swapped: swapped_of(second.number)?,
+            width: SwapWidth::new(second.number)?,
             dst: register_of(first)?,
         },
         Mnemonic::LoadWide => Line::LoadWide {

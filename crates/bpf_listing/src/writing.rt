@@ -1,46 +1,14 @@
 //! Instructions as text.
 ghost use Rattle.std.specs.Prelude.{◌≡◌, ◌++◌, ◌≤◌, ◌<◌, ◌+◌, length, codes, OnOk, OnErr, vec_capacity};
 ghost use Rattle.bpf_types.specs.declared.line.Line.TheVariants as Variants;
-ghost use Rattle.bpf_types.specs.Line.{swapped_bits};
-ghost use Rattle.bpf_listing.specs.Canonical.{canonical, IsAccess, operand_text, place_text, extension_bits, with_sign};
-ghost use Rattle.bpf_listing.specs.Canonical as words;
+ghost use Rattle.bpf_listing.specs.Canonical.{canonical, IsAccess, operand_text, place_text, with_sign};
 
-use crate::names::{signed_size_name, operation_name, order_name, size_name, comparison_name, width_name};
+use crate::names::{
+    comparison_name, operation_name, order_name, signed_size_name, size_name, width_name,
+};
 use crate::text::Text;
-use bpf_types::{Extension, Line, Operand, Operation, Order, Reg, Swapped, Comparison, Width};
+use bpf_types::{Comparison, Extension, Line, Operand, Operation, Order, Reg, SwapWidth, Width};
 use std::alloc::{AllocError, Allocator};
-
-/// The class of a move that extends the sign.
-fn extension_width(extension: Extension) -> Width
-    ensures { result ≡ words.extension_width extension }
-{
-    match extension {
-        Extension::From8To32 | Extension::From16To32 => Width::W32,
-        _ => Width::W64,
-    }
-}
-
-/// How many bits a move that extends the sign takes.
-fn extension_number(extension: Extension) -> u32
-    ensures { result ≡ extension_bits extension }
-{
-    match extension {
-        Extension::From8To32 | Extension::From8To64 => 8,
-        Extension::From16To32 | Extension::From16To64 => 16,
-        Extension::From32To64 => 32,
-    }
-}
-
-/// How many bits a byte order instruction keeps.
-fn swapped_number(swapped: Swapped) -> u32
-    ensures { result ≡ swapped_bits swapped }
-{
-    match swapped {
-        Swapped::Bits16 => 16,
-        Swapped::Bits32 => 32,
-        Swapped::Bits64 => 64,
-    }
-}
 
 /// The second operand.
 fn push_operand(text: &mut Text, operand: Operand)
@@ -90,11 +58,17 @@ fn arithmetic_text(width: Width, operation: Operation, dst: Reg, operand: Operan
     text
 }
 
-fn jump_if_text(width: Width, test: Comparison, dst: Reg, operand: Operand, distance: i16) -> Text
-    ensures items { result ≡ canonical (Line.JumpIf width test dst operand distance) }
+fn jump_if_text(
+    width: Width,
+    comparison: Comparison,
+    dst: Reg,
+    operand: Operand,
+    distance: i16,
+) -> Text
+    ensures items { result ≡ canonical (Line.JumpIf width comparison dst operand distance) }
     ensures len { length result ≤ 48 }
 {
-    let mut text = mnemonic(comparison_name(test), width_name(width));
+    let mut text = mnemonic(comparison_name(comparison), width_name(width));
     text.push_register(dst);
     text.push_all(b", ");
     push_operand(&mut text, operand);
@@ -116,23 +90,23 @@ fn move_text(extension: Extension, dst: Reg, src: Reg) -> Text
     ensures items { result ≡ canonical (Line.MoveExtended extension dst src) }
     ensures len { length result ≤ 48 }
 {
-    let mut text = mnemonic(b"movsx", width_name(extension_width(extension)));
+    let mut text = mnemonic(b"movsx", width_name(extension.width()));
     text.push_register(dst);
     text.push_all(b", ");
     text.push_register(src);
     text.push_all(b", ");
-    text.push_number(extension_number(extension));
+    text.push_number(u32::from(extension.bits()));
     text
 }
 
-fn order_text(order: Order, swapped: Swapped, dst: Reg) -> Text
-    ensures items { result ≡ canonical (Line.ByteOrder order swapped dst) }
+fn order_text(order: Order, width: SwapWidth, dst: Reg) -> Text
+    ensures items { result ≡ canonical (Line.ByteOrder order width dst) }
     ensures len { length result ≤ 48 }
 {
     let mut text = mnemonic(order_name(order), b"");
     text.push_register(dst);
     text.push_all(b", ");
-    text.push_number(swapped_number(swapped));
+    text.push_number(u32::from(width.bits()));
     text
 }
 
@@ -254,19 +228,15 @@ pub fn text_of(line: Line) -> Text
             dst,
             src,
         } => move_text(extension, dst, src),
-        Line::ByteOrder {
-            order,
-            swapped,
-            dst,
-        } => order_text(order, swapped, dst),
+        Line::ByteOrder { order, width, dst } => order_text(order, width, dst),
         Line::LoadWide { dst, value } => load_wide_text(dst, value),
         Line::JumpIf {
             width,
-            test,
+            comparison,
             dst,
             operand,
             distance,
-        } => jump_if_text(width, test, dst, operand, distance),
+        } => jump_if_text(width, comparison, dst, operand, distance),
         Line::Jump { distance } => distance_text(b"ja ", i32::from(distance)),
         Line::LongJump { distance } => distance_text(b"ja32 ", distance),
         Line::Call { number } => call_text(number),

@@ -4,7 +4,7 @@ ghost use Rattle.std.specs.Int.{w8, w16, cast_signed};
 ghost use Rattle.bpf_types.specs.declared.line.Width.TheVariants.{W32, W64};
 ghost use Rattle.bpf_step.specs.Value.{signed, unsigned, alu_result, value, negated, extended, ordered};
 
-use bpf_types::{Extension, Operation, Order, Swapped, Width};
+use bpf_types::{Extension, Operation, Order, SwapWidth, Width};
 
 /// The quotient of signed numbers, truncated toward zero; the least number by -1 is itself.
 #[inline(always)]
@@ -164,25 +164,25 @@ pub fn extend(extension: Extension, src: u64) -> u64
 
 /// The low bits of a number in a byte order, and zeros above.
 #[inline(always)]
-pub fn order(order: Order, kept: Swapped, dst: u64) -> u64
+pub fn order(order: Order, kept: SwapWidth, dst: u64) -> u64
     ensures { result ≡ ordered order kept dst }
 {
     match kept {
-        Swapped::Bits16 => {
+        SwapWidth::Bits16 => {
             let half = (dst % 0x1_0000) as u16;
             u64::from(match order {
                 Order::Little => half,
                 Order::Big | Order::Swap => half.swap_bytes(),
             })
         }
-        Swapped::Bits32 => {
+        SwapWidth::Bits32 => {
             let word = low(dst);
             u64::from(match order {
                 Order::Little => word,
                 Order::Big | Order::Swap => word.swap_bytes(),
             })
         }
-        Swapped::Bits64 => match order {
+        SwapWidth::Bits64 => match order {
             Order::Little => dst,
             Order::Big | Order::Swap => dst.swap_bytes(),
         },

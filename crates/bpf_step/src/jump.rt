@@ -8,11 +8,11 @@ use bpf_types::{Comparison, Width};
 
 /// Whether a test on 64 bits holds.
 #[inline(always)]
-fn passes64(test: Comparison, dst: u64, src: u64) -> bool
-    ensures value { result ≡ passes W64 test dst src }
-    ensures meaning { IsTrue result ↔ Holds W64 test dst src }
+fn passes64(comparison: Comparison, dst: u64, src: u64) -> bool
+    ensures value { result ≡ passes W64 comparison dst src }
+    ensures meaning { IsTrue result ↔ Holds W64 comparison dst src }
 {
-    match test {
+    match comparison {
         Comparison::Equal => dst == src,
         Comparison::Greater => dst > src,
         Comparison::GreaterOrEqual => dst >= src,
@@ -29,11 +29,11 @@ fn passes64(test: Comparison, dst: u64, src: u64) -> bool
 
 /// Whether a test on 32 bits holds.
 #[inline(always)]
-fn passes32(test: Comparison, low_dst: u32, low_src: u32) -> bool
-    ensures value { result ≡ passes W32 test low_dst low_src }
-    ensures meaning { IsTrue result ↔ Holds W32 test low_dst low_src }
+fn passes32(comparison: Comparison, low_dst: u32, low_src: u32) -> bool
+    ensures value { result ≡ passes W32 comparison low_dst low_src }
+    ensures meaning { IsTrue result ↔ Holds W32 comparison low_dst low_src }
 {
-    match test {
+    match comparison {
         Comparison::Equal => low_dst == low_src,
         Comparison::Greater => low_dst > low_src,
         Comparison::GreaterOrEqual => low_dst >= low_src,
@@ -50,12 +50,12 @@ fn passes32(test: Comparison, low_dst: u32, low_src: u32) -> bool
 
 /// Whether a jump of this width is taken. One of 32 bits compares the low halves.
 #[inline(always)]
-pub fn is_taken(width: Width, test: Comparison, dst: u64, src: u64) -> bool
-    ensures value { result ≡ taken width test dst src }
-    ensures meaning { IsTrue result ↔ IsTaken width test dst src }
+pub fn is_taken(width: Width, comparison: Comparison, dst: u64, src: u64) -> bool
+    ensures value { result ≡ taken width comparison dst src }
+    ensures meaning { IsTrue result ↔ IsTaken width comparison dst src }
 {
     match width {
-        Width::W64 => passes64(test, dst, src),
-        Width::W32 => passes32(test, low(dst), low(src)),
+        Width::W64 => passes64(comparison, dst, src),
+        Width::W32 => passes32(comparison, low(dst), low(src)),
     }
 }

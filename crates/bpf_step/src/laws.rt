@@ -3,7 +3,7 @@ ghost use Rattle.std.specs.Prelude.{◌≡◌, ℕ, ◌+ℤ◌, pos, ◌<◌, �
 ghost use Rattle.bpf_types.specs.declared.line.Line.{Line};
 ghost use Rattle.bpf_types.specs.declared.line.Width.{Width};
 ghost use Rattle.bpf_types.specs.declared.line.Order.{Order};
-ghost use Rattle.bpf_types.specs.declared.line.Swapped.{Swapped};
+ghost use Rattle.bpf_types.specs.declared.line.SwapWidth.{SwapWidth};
 ghost use Rattle.ocp_regions.specs.Memory.{low_octets};
 ghost use Rattle.ocp_loader.specs.Admitted.{IsAdmitted, IsAdmittedAs};
 ghost use Rattle.ocp_loader.specs.Places.{IsAt};
@@ -28,7 +28,7 @@ pub fn signed_numbers_are_in_twos_complement()
 /// highest first.
 #[tactic(auto, using(crate::proofs::Exchanged::read_in_order))]
 pub fn byte_order_instructions_read_octets_in_order()
-    ensures { (order : Order) (kept : Swapped) (a : ℕ) → a < 2 ^ 64 → ordered order kept a ≡ read_in order (low_octets (octets_kept kept) a) }
+    ensures { (order : Order) (kept : SwapWidth) (a : ℕ) → a < 2 ^ 64 → ordered order kept a ≡ read_in order (low_octets (octets_kept kept) a) }
 {}
 
 /// The step of an admitted image is that of the line whose octets stand at the place.

@@ -1,7 +1,7 @@
 //! Values of operations, worked out from the text of RFC 9669, section 4, by a script of its own over whole numbers.
 use crate::arithmetic::{extend, negate, order, value};
 use crate::jump::is_taken;
-use bpf_types::{Extension, Operation, Order, Swapped, Comparison, Width};
+use bpf_types::{Comparison, Extension, Operation, Order, SwapWidth, Width};
 
 /// Operands: 0, 1, -1, the least and the greatest number, 2^31, 2^32, shift amounts about 64, -13 by 3.
 const PAIRS: [(u64, u64); 15] = [
@@ -354,16 +354,16 @@ const EXTENDED: [(Extension, u64, u64); 10] = [
     (Extension::From32To64, 0xffffffff7fffffff, 0x7fffffff),
 ];
 
-const ORDERED: [(Order, Swapped, u64); 9] = [
-    (Order::Little, Swapped::Bits16, 0xcdef),
-    (Order::Little, Swapped::Bits32, 0x89abcdef),
-    (Order::Little, Swapped::Bits64, 0x123456789abcdef),
-    (Order::Big, Swapped::Bits16, 0xefcd),
-    (Order::Big, Swapped::Bits32, 0xefcdab89),
-    (Order::Big, Swapped::Bits64, 0xefcdab8967452301),
-    (Order::Swap, Swapped::Bits16, 0xefcd),
-    (Order::Swap, Swapped::Bits32, 0xefcdab89),
-    (Order::Swap, Swapped::Bits64, 0xefcdab8967452301),
+const ORDERED: [(Order, SwapWidth, u64); 9] = [
+    (Order::Little, SwapWidth::Bits16, 0xcdef),
+    (Order::Little, SwapWidth::Bits32, 0x89abcdef),
+    (Order::Little, SwapWidth::Bits64, 0x123456789abcdef),
+    (Order::Big, SwapWidth::Bits16, 0xefcd),
+    (Order::Big, SwapWidth::Bits32, 0xefcdab89),
+    (Order::Big, SwapWidth::Bits64, 0xefcdab8967452301),
+    (Order::Swap, SwapWidth::Bits16, 0xefcd),
+    (Order::Swap, SwapWidth::Bits32, 0xefcdab89),
+    (Order::Swap, SwapWidth::Bits64, 0xefcdab8967452301),
 ];
 
 const NEGATED: [(u64, u64, u64); 5] = [
@@ -387,9 +387,9 @@ fn first_wrong(operation: Operation, wanted: &[(u64, u64); 15]) -> Option<usize>
 }
 
 /// The index of the first pair on which the test does not tell what is wanted.
-fn first_mistaken(test: Comparison, width: Width, wanted: &[u8]) -> Option<usize> {
+fn first_mistaken(comparison: Comparison, width: Width, wanted: &[u8]) -> Option<usize> {
     for (i, ((dst, src), digit)) in COMPARED.iter().zip(wanted).enumerate() {
-        if is_taken(width, test, *dst, *src) != (*digit == b'1') {
+        if is_taken(width, comparison, *dst, *src) != (*digit == b'1') {
             return Some(i);
         }
     }
@@ -405,9 +405,9 @@ fn operations_have_the_values_of_the_standard(rt: HostRuntime) {
 
 #[test]
 fn jumps_are_taken_where_the_test_holds(rt: HostRuntime) {
-    for (test, wide, narrow) in PASSED {
-        assert_eq!(rt; first_mistaken(test, Width::W64, wide), None);
-        assert_eq!(rt; first_mistaken(test, Width::W32, narrow), None);
+    for (comparison, wide, narrow) in PASSED {
+        assert_eq!(rt; first_mistaken(comparison, Width::W64, wide), None);
+        assert_eq!(rt; first_mistaken(comparison, Width::W32, narrow), None);
     }
 }
 

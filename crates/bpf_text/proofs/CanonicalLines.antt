@@ -7,10 +7,10 @@ use Rattle.bpf_types.specs.declared.line.Line.{Line}
 use Rattle.bpf_types.specs.declared.line.Line.TheVariants as line
 use Rattle.bpf_types.specs.declared.line.Extension.{Extension}
 use Rattle.bpf_types.specs.declared.line.Extension.TheVariants as extension
-use Rattle.bpf_types.specs.declared.line.Swapped.{Swapped}
-use Rattle.bpf_types.specs.declared.line.Swapped.TheVariants as swapped
-use Rattle.bpf_types.specs.Line.{IsLine, swapped_bits}
-use Rattle.bpf_listing.specs.Canonical.{canonical, register, with_sign, operand_text, extension_bits, hex_digits}
+use Rattle.bpf_types.specs.declared.line.SwapWidth.{SwapWidth}
+use Rattle.bpf_types.specs.declared.line.SwapWidth.TheVariants as swap
+use Rattle.bpf_types.specs.Line.{IsLine, swap_width_bits, extension_bits}
+use Rattle.bpf_listing.specs.Canonical.{canonical, register, with_sign, operand_text, hex_digits}
 use Rattle.bpf_listing.specs.Mnemonics.{mnemonic_name}
 use Rattle.bpf_text.specs.Tokens.{NoWord, HasTokens}
 use Rattle.bpf_text.specs.Lines.{mnemonic_of, IsForm, Writes}
@@ -29,8 +29,8 @@ few_bits : (e : Extension) → extension_bits e < 2 ^ 64
 few_bits extension.From8To32 = omega arith
 few_bits _ = omega arith
 
-few_kept : (s : Swapped) → swapped_bits s < 2 ^ 64
-few_kept swapped.Bits16 = omega arith
+few_kept : (s : SwapWidth) → swap_width_bits s < 2 ^ 64
+few_kept swap.Bits16 = omega arith
 few_kept _ = omega arith
 
 -- the tokens of the canonical text, as the table of forms wants them
@@ -67,14 +67,14 @@ canonical_form (line.MoveExtended extension dst src) h =
         (refl, extension_bits extension, refl, (a, b, c, refl, register_read dst h.0, register_read src h.1, numeral_read (extension_bits extension) (few_bits extension))),
       ),
     )
-canonical_form (line.ByteOrder order swapped dst) h =
-    let a = register dst in let b = decimal (swapped_bits swapped) in let m = mnemonic_name (mnemonic_of (line.ByteOrder order swapped dst)) in (
+canonical_form (line.ByteOrder order width dst) h =
+    let a = register dst in let b = decimal (swap_width_bits width) in let m = mnemonic_name (mnemonic_of (line.ByteOrder order width dst)) in (
       m ∷ a ∷ codes "," ∷ b ∷ [],
-      word_and_two m a b (word_of (line.ByteOrder order swapped dst)) (register_run dst h) (decimal_run (swapped_bits swapped) (few_kept swapped)),
+      word_and_two m a b (word_of (line.ByteOrder order width dst)) (register_run dst h) (decimal_run (swap_width_bits width) (few_kept width)),
       (
         a ∷ codes "," ∷ b ∷ [],
         refl,
-        (refl, swapped_bits swapped, refl, (a, b, refl, register_read dst h, numeral_read (swapped_bits swapped) (few_kept swapped))),
+        (refl, swap_width_bits width, refl, (a, b, refl, register_read dst h, numeral_read (swap_width_bits width) (few_kept width))),
       ),
     )
 canonical_form (line.Jump distance) h =
@@ -89,10 +89,10 @@ canonical_form (line.LongJump distance) h =
       word_and_one (codes "ja32") a (word_of (line.LongJump distance)) (distance_run distance h),
       (a ∷ [], refl, (refl, (a, refl, distance_read distance h))),
     )
-canonical_form (line.JumpIf width test dst operand distance) h =
-    let a = register dst in let b = operand_text operand in let c = with_sign distance in let m = mnemonic_name (mnemonic_of (line.JumpIf width test dst operand distance)) in (
+canonical_form (line.JumpIf width comparison dst operand distance) h =
+    let a = register dst in let b = operand_text operand in let c = with_sign distance in let m = mnemonic_name (mnemonic_of (line.JumpIf width comparison dst operand distance)) in (
       m ∷ a ∷ codes "," ∷ b ∷ codes "," ∷ c ∷ [],
-      word_and_three m a b c (word_of (line.JumpIf width test dst operand distance)) (register_run dst h.0) (operand_run operand h.1) (distance_run distance (wide_enough distance h.2)),
+      word_and_three m a b c (word_of (line.JumpIf width comparison dst operand distance)) (register_run dst h.0) (operand_run operand h.1) (distance_run distance (wide_enough distance h.2)),
       (
         a ∷ codes "," ∷ b ∷ codes "," ∷ c ∷ [],
         refl,

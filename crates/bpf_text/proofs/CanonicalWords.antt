@@ -4,13 +4,13 @@ use Rattle.std.specs.Prelude.{codes, ◌&&◌}
 use Rattle.bpf_types.specs.declared.line.Operation.{Operation}
 use Rattle.bpf_types.specs.declared.line.Operation.TheVariants as op
 use Rattle.bpf_types.specs.declared.line.Comparison.{Comparison}
-use Rattle.bpf_types.specs.declared.line.Comparison.TheVariants as test
+use Rattle.bpf_types.specs.declared.line.Comparison.TheVariants as comparison
 use Rattle.bpf_types.specs.declared.line.Order.{Order}
 use Rattle.bpf_types.specs.declared.line.Order.TheVariants as order
 use Rattle.bpf_types.specs.declared.line.Size.{Size}
 use Rattle.bpf_types.specs.declared.line.Size.TheVariants as size
 use Rattle.bpf_types.specs.declared.line.SignedSize.{SignedSize}
-use Rattle.bpf_types.specs.declared.line.SignedSize.TheVariants as narrow
+use Rattle.bpf_types.specs.declared.line.SignedSize.TheVariants as signed_size
 use Rattle.bpf_types.specs.declared.line.Width.{Width}
 use Rattle.bpf_types.specs.declared.line.Width.TheVariants.{W32, W64}
 use Rattle.bpf_listing.specs.declared.mnemonic.Mnemonic.{Mnemonic}
@@ -52,9 +52,9 @@ operation_plain : (o : Operation) → is_plain (operation_name o) ≡ true
 operation_plain op.Add = refl
 operation_plain _ = refl
 
-test_plain : (t : Comparison) → is_plain (comparison_name t) ≡ true
-test_plain test.Equal = refl
-test_plain _ = refl
+comparison_plain : (t : Comparison) → is_plain (comparison_name t) ≡ true
+comparison_plain comparison.Equal = refl
+comparison_plain _ = refl
 
 order_plain : (o : Order) → is_plain (order_name o) ≡ true
 order_plain order.Little = refl
@@ -68,12 +68,12 @@ size_word : (s : Size) → all_word (size_name s) ≡ true
 size_word size.Word = refl
 size_word _ = refl
 
-narrow_word : (s : SignedSize) → all_word (signed_size_name s) ≡ true
-narrow_word narrow.Word = refl
-narrow_word _ = refl
+signed_size_word : (s : SignedSize) → all_word (signed_size_name s) ≡ true
+signed_size_word signed_size.Word = refl
+signed_size_word _ = refl
 
 jump_run : (j : Jump) → IsRun (jump_name j)
-jump_run (leap.If width test) = run_join (comparison_name test) (width_name width) (test_plain test) (width_word width)
+jump_run (leap.If width comparison) = run_join (comparison_name comparison) (width_name width) (comparison_plain comparison) (width_word width)
 jump_run leap.Short = plain_run (codes "ja") refl
 jump_run leap.Long = plain_run (codes "ja32") refl
 jump_run leap.Call = plain_run (codes "call") refl
@@ -81,7 +81,7 @@ jump_run leap.Exit = plain_run (codes "exit") refl
 
 access_run : (a : Access) → IsRun (access_name a)
 access_run (access.Load size) = run_join (codes "ldx") (size_name size) refl (size_word size)
-access_run (access.LoadExtended size) = run_join (codes "ldxs") (signed_size_name size) refl (narrow_word size)
+access_run (access.LoadExtended size) = run_join (codes "ldxs") (signed_size_name size) refl (signed_size_word size)
 access_run (access.Store size) = run_join (codes "stx") (size_name size) refl (size_word size)
 access_run (access.StoreImmediate size) = run_join (codes "st") (size_name size) refl (size_word size)
 

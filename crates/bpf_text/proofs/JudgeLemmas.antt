@@ -1,7 +1,7 @@
 -- Instructions of each mnemonic.
 use Rattle.std.proofs.Common.{◌≡◌, ◌≢◌, ◌<◌, ◌^◌, ℕ, ℤ, List, [], ◌∷◌, get_or, Option, Some, None, Result, Ok, Err, refl, sym, ap, ◌∙◌, subst, arith, inl, inr, FitsSigned}
 use Rattle.std.specs.Int.{w16, w32}
-use Rattle.bpf_types.specs.Line.{IsLine, IsReg, IsOperand, swapped_bits}
+use Rattle.bpf_types.specs.Line.{IsLine, IsReg, IsOperand, swap_width_bits, extension_width, extension_bits}
 use Rattle.bpf_types.specs.declared.line.Line.{Line}
 use Rattle.bpf_types.specs.declared.line.Line.TheVariants as line
 use Rattle.bpf_types.specs.declared.line.Operand.{Operand}
@@ -14,13 +14,12 @@ use Rattle.bpf_types.specs.declared.line.Width.{Width}
 use Rattle.bpf_types.specs.declared.line.Width.TheVariants.{W32, W64}
 use Rattle.bpf_types.specs.declared.line.Extension.{Extension}
 use Rattle.bpf_types.specs.declared.line.Extension.TheVariants as extension
-use Rattle.bpf_types.specs.declared.line.Swapped.{Swapped}
-use Rattle.bpf_types.specs.declared.line.Swapped.TheVariants as swapped
+use Rattle.bpf_types.specs.declared.line.SwapWidth.{SwapWidth}
+use Rattle.bpf_types.specs.declared.line.SwapWidth.TheVariants as swap
 use Rattle.bpf_listing.specs.declared.mnemonic.Mnemonic.{Mnemonic}
 use Rattle.bpf_listing.specs.declared.mnemonic.Mnemonic.TheVariants as word
 use Rattle.bpf_listing.specs.declared.mnemonic.Jump.TheVariants as leap
 use Rattle.bpf_listing.specs.declared.mnemonic.Access.TheVariants as access
-use Rattle.bpf_listing.specs.Canonical.{extension_width, extension_bits}
 use Rattle.bpf_listing.specs.Mnemonics.{mnemonic_name}
 use Rattle.bpf_text.specs.Number.{IsNumeral}
 use Rattle.bpf_text.specs.Fields.{IsRegister, IsImmediate, IsSecond, IsTarget}
@@ -124,17 +123,17 @@ extension_small extension.From8To64 = omega arith
 extension_small extension.From16To64 = omega arith
 extension_small extension.From32To64 = omega arith
 
-swapped_small : (s : Swapped) → swapped_bits s < 2 ^ 64
-swapped_small swapped.Bits16 = omega arith
-swapped_small swapped.Bits32 = omega arith
-swapped_small swapped.Bits64 = omega arith
+swap_width_small : (s : SwapWidth) → swap_width_bits s < 2 ^ 64
+swap_width_small swap.Bits16 = omega arith
+swap_width_small swap.Bits32 = omega arith
+swap_width_small swap.Bits64 = omega arith
 
 pub odd_extended : (w : Width) (tokens : List (List ℕ)) (dst src n : ℕ) → AreThree IsRegister IsRegister IsNumeral tokens ((dst, src), n) → ((e : Extension) → extension_width e ≡ w → extension_bits e ≢ n) → Judges (word.MoveExtended w) tokens (Err Range)
 odd_extended W32 tokens dst src n h none = (line.MoveExtended extension.From8To32 dst src, None, Some n, refl, (refl, n, (refl, none), h), λ m. let e = m.1 in absurd cc)
 odd_extended W64 tokens dst src n h none = (line.MoveExtended extension.From8To64 dst src, None, Some n, refl, (refl, n, (refl, none), h), λ m. let e = m.1 in absurd cc)
 
-pub odd_swapped : (o : Order) (tokens : List (List ℕ)) (dst n : ℕ) → AreTwo IsRegister IsNumeral tokens (dst, n) → ((s : Swapped) → swapped_bits s ≢ n) → Judges (word.ByteOrder o) tokens (Err Range)
-odd_swapped o tokens dst n h none = (line.ByteOrder o swapped.Bits16 dst, None, Some n, refl, (refl, n, (refl, none), h), λ m. let e = m.1 in absurd cc)
+pub odd_swap_width : (o : Order) (tokens : List (List ℕ)) (dst n : ℕ) → AreTwo IsRegister IsNumeral tokens (dst, n) → ((s : SwapWidth) → swap_width_bits s ≢ n) → Judges (word.ByteOrder o) tokens (Err Range)
+odd_swap_width o tokens dst n h none = (line.ByteOrder o swap.Bits16 dst, None, Some n, refl, (refl, n, (refl, none), h), λ m. let e = m.1 in absurd cc)
 
 pub extended_err : (w : Width) (tokens : List (List ℕ)) (fault : LineFault) {V : Type 0} (f : V → (ℕ × ℕ) × ℕ) → Gives f (AreThree IsRegister IsRegister IsNumeral tokens) (λ v. (IsReg v.0.0 × IsReg v.0.1) × (v.1 < 2 ^ 64)) (Err fault) → Judges (word.MoveExtended w) tokens (Err fault)
 extended_err w tokens Syntax f h = by
@@ -155,7 +154,7 @@ order_err o tokens Syntax f h = by
     by _ name odd m k = absurd cc
 order_err o tokens Range f h =
     let a = register_in_range h.1.0 h.0.0 h.1.3 in
-    odd_swapped o tokens h.0.0 h.0.1 h.1 (λ s same. h.2 (a, subst (λ (n : ℕ). n < 2 ^ 64) same (swapped_small s)))
+    odd_swap_width o tokens h.0.0 h.0.1 h.1 (λ s same. h.2 (a, subst (λ (n : ℕ). n < 2 ^ 64) same (swap_width_small s)))
 
 -- the word local is no number
 pub no_local : (t : List ℕ) (z : ℤ) → t ≡ 108 ∷ 111 ∷ 99 ∷ 97 ∷ 108 ∷ [] → IsImmediate t z → ⊥

@@ -1,7 +1,7 @@
 -- A line is read in one way.
 use Rattle.std.proofs.Common.{◌≡◌, ℕ, ℤ, List, [], ◌∷◌, Option, Some, None, refl, sym, ap, ◌∙◌, subst}
 use Rattle.std.specs.Prelude.{◌==◌, if◌then◌else◌}
-use Rattle.bpf_types.specs.Line.{swapped_bits}
+use Rattle.bpf_types.specs.Line.{swap_width_bits, extension_width, extension_bits}
 use Rattle.bpf_types.specs.declared.line.Line.{Line}
 use Rattle.bpf_types.specs.declared.line.Line.TheVariants as line
 use Rattle.bpf_types.specs.declared.line.Operand.{Operand}
@@ -14,14 +14,13 @@ use Rattle.bpf_types.specs.declared.line.Width.{Width}
 use Rattle.bpf_types.specs.declared.line.Width.TheVariants.{W32, W64}
 use Rattle.bpf_types.specs.declared.line.Extension.{Extension}
 use Rattle.bpf_types.specs.declared.line.Extension.TheVariants as extension
-use Rattle.bpf_types.specs.declared.line.Swapped.{Swapped}
-use Rattle.bpf_types.specs.declared.line.Swapped.TheVariants as swapped
-use Rattle.bpf_listing.specs.Canonical.{extension_width, extension_bits}
+use Rattle.bpf_types.specs.declared.line.SwapWidth.{SwapWidth}
+use Rattle.bpf_types.specs.declared.line.SwapWidth.TheVariants as swap
 use Rattle.bpf_listing.specs.Mnemonics.{mnemonic_name}
 use Rattle.bpf_listing.specs.declared.mnemonic.Mnemonic.{Mnemonic}
 use Rattle.bpf_text.specs.Number.{IsNumeral}
 use Rattle.bpf_text.specs.Fields.{IsRegister, IsImmediate, IsSecond, IsTarget}
-use Rattle.bpf_text.specs.Lines.{IsOperands, IsForm, IsExtended, IsSwapped, IsBody, HasLabel, Statement, Written, Writes, InRange, mnemonic_of, AreOne}
+use Rattle.bpf_text.specs.Lines.{IsOperands, IsForm, IsExtended, IsSwapWidth, IsBody, HasLabel, Statement, Written, Writes, InRange, mnemonic_of, AreOne}
 use Rattle.bpf_text.proofs.Scanning.{one_tokens}
 use Rattle.bpf_text.proofs.JudgeLemmas.{no_local}
 use Rattle.bpf_text.proofs.ReadingLemmas.{no_colon}
@@ -47,15 +46,15 @@ extension_back _ = refl
 one_extension : (e f : Extension) → extension_width e ≡ extension_width f → extension_bits e ≡ extension_bits f → e ≡ f
 one_extension e f w b = let p = extension_back e in let q = extension_back f in cc
 
-abbrev swapped_from : ℕ → Swapped
-swapped_from n = if n == 16 then swapped.Bits16 else if n == 32 then swapped.Bits32 else swapped.Bits64
+abbrev swap_width_from : ℕ → SwapWidth
+swap_width_from n = if n == 16 then swap.Bits16 else if n == 32 then swap.Bits32 else swap.Bits64
 
-swapped_back : (s : Swapped) → swapped_from (swapped_bits s) ≡ s
-swapped_back swapped.Bits16 = refl
-swapped_back _ = refl
+swap_width_back : (s : SwapWidth) → swap_width_from (swap_width_bits s) ≡ s
+swap_width_back swap.Bits16 = refl
+swap_width_back _ = refl
 
-one_swapped : (s t : Swapped) → swapped_bits s ≡ swapped_bits t → s ≡ t
-one_swapped s t b = let p = swapped_back s in let q = swapped_back t in cc
+one_swap_width : (s t : SwapWidth) → swap_width_bits s ≡ swap_width_bits t → s ≡ t
+one_swap_width s t b = let p = swap_width_back s in let q = swap_width_back t in cc
 
 -- the same instruction, the same name, and no odd width
 abbrev Same : Line → Option (List ℕ) → Line → Option (List ℕ) → Option ℕ → Type 0
@@ -178,8 +177,8 @@ one_width : (e f : Extension) (odd : Option ℕ) (m n : ℕ) → extension_width
 one_width e f None m n w same h k = (one_extension e f w (sym h ∙ same ∙ k), refl)
 one_width e f (Some odd) m n w same h k = absurd (k.1 e w (sym h ∙ same))
 
-one_swap : (s t : Swapped) (odd : Option ℕ) (m n : ℕ) → m ≡ n → IsSwapped s None m → IsSwapped t odd n → (s ≡ t) × (odd ≡ None)
-one_swap s t None m n same h k = (one_swapped s t (sym h ∙ same ∙ k), refl)
+one_swap : (s t : SwapWidth) (odd : Option ℕ) (m n : ℕ) → m ≡ n → IsSwapWidth s None m → IsSwapWidth t odd n → (s ≡ t) × (odd ≡ None)
+one_swap s t None m n same h k = (one_swap_width s t (sym h ∙ same ∙ k), refl)
 one_swap s t (Some odd) m n same h k = absurd (k.1 s (sym h ∙ same))
 
 one_move_extended : (e : Extension) (dst src : ℕ) → IsOne (line.MoveExtended e dst src)
@@ -193,7 +192,7 @@ one_move_extended e dst src (line.MoveExtended e' dst' src') a b odd tokens m h 
     (cc, h.0 ∙ sym k.0, r.1)
 one_move_extended e dst src _ a b odd tokens m h k = absurd cc
 
-one_byte_order : (o : Order) (s : Swapped) (dst : ℕ) → IsOne (line.ByteOrder o s dst)
+one_byte_order : (o : Order) (s : SwapWidth) (dst : ℕ) → IsOne (line.ByteOrder o s dst)
 one_byte_order o s dst (line.ByteOrder o' s' dst') a b odd tokens m h k =
     let same = one_pair IsRegister IsNumeral one_register one_numeral tokens (dst, h.1) (dst', k.1) h.3 k.3 in
     let p : dst ≡ dst' = λ i. (same i).0 in

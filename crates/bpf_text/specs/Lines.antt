@@ -3,13 +3,12 @@ use Rattle.std.specs.Prelude.{◌≡◌, ◌≢◌, ℕ, ℤ, List, [], ◌∷�
 use Rattle.bpf_types.specs.declared.line.Line.{Line}
 use Rattle.bpf_types.specs.declared.line.Line.TheVariants as line
 use Rattle.bpf_types.specs.declared.line.Extension.{Extension}
-use Rattle.bpf_types.specs.declared.line.Swapped.{Swapped}
-use Rattle.bpf_types.specs.Line.{IsLine, swapped_bits}
+use Rattle.bpf_types.specs.declared.line.SwapWidth.{SwapWidth}
+use Rattle.bpf_types.specs.Line.{IsLine, swap_width_bits, extension_width, extension_bits}
 use Rattle.bpf_listing.specs.declared.mnemonic.Mnemonic.{Mnemonic}
 use Rattle.bpf_listing.specs.declared.mnemonic.Mnemonic.TheVariants as word
 use Rattle.bpf_listing.specs.declared.mnemonic.Jump.TheVariants as jump
 use Rattle.bpf_listing.specs.declared.mnemonic.Access.TheVariants as access
-use Rattle.bpf_listing.specs.Canonical.{extension_width, extension_bits}
 use Rattle.bpf_listing.specs.Mnemonics.{mnemonic_name}
 use Rattle.bpf_text.specs.Number.{IsNumeral}
 use Rattle.bpf_text.specs.Tokens.{HasTokens}
@@ -20,10 +19,10 @@ abbrev pub mnemonic_of : Line → Mnemonic
 mnemonic_of (line.Arithmetic width operation dst operand) = word.Arithmetic width operation
 mnemonic_of (line.Negate width dst) = word.Negate width
 mnemonic_of (line.MoveExtended extension dst src) = word.MoveExtended (extension_width extension)
-mnemonic_of (line.ByteOrder order swapped dst) = word.ByteOrder order
+mnemonic_of (line.ByteOrder order width dst) = word.ByteOrder order
 mnemonic_of (line.Jump distance) = word.Jump jump.Short
 mnemonic_of (line.LongJump distance) = word.Jump jump.Long
-mnemonic_of (line.JumpIf width test dst operand distance) = word.Jump (jump.If width test)
+mnemonic_of (line.JumpIf width comparison dst operand distance) = word.Jump (jump.If width comparison)
 mnemonic_of (line.Call number) = word.Jump jump.Call
 mnemonic_of (line.CallLocal distance) = word.Jump jump.Call
 mnemonic_of line.Exit = word.Jump jump.Exit
@@ -64,9 +63,9 @@ IsExtended extension None n = n ≡ extension_bits extension
 IsExtended extension (Some odd) n = (n ≡ odd) × ((other : Extension) → extension_width other ≡ extension_width extension → extension_bits other ≢ n)
 
 -- the same of a byte order instruction
-abbrev pub IsSwapped : Swapped → Option ℕ → ℕ → Type 0
-IsSwapped swapped None n = n ≡ swapped_bits swapped
-IsSwapped swapped (Some odd) n = (n ≡ odd) × ((other : Swapped) → swapped_bits other ≢ n)
+abbrev pub IsSwapWidth : SwapWidth → Option ℕ → ℕ → Type 0
+IsSwapWidth width None n = n ≡ swap_width_bits width
+IsSwapWidth width (Some odd) n = (n ≡ odd) × ((other : SwapWidth) → swap_width_bits other ≢ n)
 
 -- The operands of an instruction, its numbers as they are written; the label's name that stands in place of its distance;
 -- and the number that stands in place of its width where there is no such width.
@@ -74,10 +73,10 @@ abbrev pub IsOperands : Line → Option (List ℕ) → Option ℕ → List (List
 IsOperands (line.Arithmetic width operation dst operand) name odd tokens = (name ≡ None) × (odd ≡ None) × AreTwo IsRegister IsSecond tokens (dst, operand)
 IsOperands (line.Negate width dst) name odd tokens = (name ≡ None) × (odd ≡ None) × AreOne IsRegister tokens dst
 IsOperands (line.MoveExtended extension dst src) name odd tokens = (name ≡ None) × (n : ℕ) × IsExtended extension odd n × AreThree IsRegister IsRegister IsNumeral tokens ((dst, src), n)
-IsOperands (line.ByteOrder order swapped dst) name odd tokens = (name ≡ None) × (n : ℕ) × IsSwapped swapped odd n × AreTwo IsRegister IsNumeral tokens (dst, n)
+IsOperands (line.ByteOrder order width dst) name odd tokens = (name ≡ None) × (n : ℕ) × IsSwapWidth width odd n × AreTwo IsRegister IsNumeral tokens (dst, n)
 IsOperands (line.Jump distance) name odd tokens = (odd ≡ None) × AreOne IsTarget tokens (distance, name)
 IsOperands (line.LongJump distance) name odd tokens = (odd ≡ None) × AreOne IsTarget tokens (distance, name)
-IsOperands (line.JumpIf width test dst operand distance) name odd tokens = (odd ≡ None) × AreThree IsRegister IsSecond IsTarget tokens ((dst, operand), (distance, name))
+IsOperands (line.JumpIf width comparison dst operand distance) name odd tokens = (odd ≡ None) × AreThree IsRegister IsSecond IsTarget tokens ((dst, operand), (distance, name))
 IsOperands (line.Call number) name odd tokens = (name ≡ None) × (odd ≡ None) × AreOne IsImmediate tokens number
 IsOperands (line.CallLocal distance) name odd tokens = (odd ≡ None) × (others : List (List ℕ)) × (tokens ≡ codes "local" ∷ others) × AreOne IsTarget others (distance, name)
 IsOperands line.Exit name odd tokens = (name ≡ None) × (odd ≡ None) × (tokens ≡ [])

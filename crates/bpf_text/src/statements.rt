@@ -1,10 +1,6 @@
 //! Instructions, from their tokens.
 
 ghost use Rattle.std.specs.Prelude.{◌≡◌, ◌≢◌, ◌∷◌, List, ℕ, IfSome, IfNone, codes};
-ghost use Rattle.bpf_types.specs.Line.{swapped_bits};
-ghost use Rattle.bpf_types.specs.declared.line.Extension.{Extension};
-ghost use Rattle.bpf_types.specs.declared.line.Swapped.{Swapped};
-ghost use Rattle.bpf_listing.specs.Canonical.{extension_width, extension_bits};
 ghost use Rattle.bpf_listing.specs.declared.mnemonic.Mnemonic.TheVariants as word;
 ghost use Rattle.bpf_listing.specs.declared.mnemonic.Jump.TheVariants as leap;
 ghost use Rattle.bpf_listing.specs.declared.mnemonic.Access.TheVariants as access;
@@ -17,7 +13,9 @@ use crate::forms::{
 };
 use crate::line::{LineFault, Source};
 use bpf_listing::{Access, Jump, Mnemonic, mnemonic_of};
-use bpf_types::{Extension, Line, SignedSize, Operation, Order, Size, Swapped, Comparison, Width};
+use bpf_types::{
+    Comparison, Extension, Line, Operation, Order, SignedSize, Size, SwapWidth, Width,
+};
 
 /// The operands of arithmetic.
 fn arithmetic<'a>(
@@ -54,27 +52,12 @@ fn negate<'a>(width: Width, operands: &[&'a [u8]]) -> Result<Source<'a>, LineFau
     }
 }
 
-/// The extension from so many bits to the class.
-fn extension_of(width: Width, bits: u64) -> Option<Extension>
-    ensures some { IfSome result (λ e. (extension_width e ≡ width) × (extension_bits e ≡ bits)) }
-    ensures none { IfNone result ((e : Extension) → extension_width e ≡ width → extension_bits e ≢ bits) }
-{
-    match (width, bits) {
-        (Width::W32, 8) => Some(Extension::From8To32),
-        (Width::W32, 16) => Some(Extension::From16To32),
-        (Width::W64, 8) => Some(Extension::From8To64),
-        (Width::W64, 16) => Some(Extension::From16To64),
-        (Width::W64, 32) => Some(Extension::From32To64),
-        _ => None,
-    }
-}
-
 /// The operands of a move that extends the sign.
 fn move_extended<'a>(width: Width, operands: &[&'a [u8]]) -> Result<Source<'a>, LineFault>
     ensures { Judges (word.MoveExtended width) (texts operands.now) result }
 {
     match registers_and_number(operands) {
-        Ok(found) => match extension_of(width, found.1) {
+        Ok(found) => match Extension::new(width, found.1) {
             Some(extension) => Ok(Source {
                 line: Line::MoveExtended {
                     extension,
@@ -89,29 +72,16 @@ fn move_extended<'a>(width: Width, operands: &[&'a [u8]]) -> Result<Source<'a>, 
     }
 }
 
-/// How many bits a byte order instruction keeps.
-fn swapped_of(bits: u64) -> Option<Swapped>
-    ensures some { IfSome result (λ s. swapped_bits s ≡ bits) }
-    ensures none { IfNone result ((s : Swapped) → swapped_bits s ≢ bits) }
-{
-    match bits {
-        16 => Some(Swapped::Bits16),
-        32 => Some(Swapped::Bits32),
-        64 => Some(Swapped::Bits64),
-        _ => None,
-    }
-}
-
 /// The operands of a byte order instruction.
 fn byte_order<'a>(order: Order, operands: &[&'a [u8]]) -> Result<Source<'a>, LineFault>
     ensures { Judges (word.ByteOrder order) (texts operands.now) result }
 {
     match register_and_number(operands) {
-        Ok(found) => match swapped_of(found.1) {
-            Some(swapped) => Ok(Source {
+        Ok(found) => match SwapWidth::new(found.1) {
+            Some(width) => Ok(Source {
                 line: Line::ByteOrder {
                     order,
-                    swapped,
+                    width,
                     dst: found.0,
                 },
                 name: None,
@@ -162,14 +132,18 @@ fn long_jump<'a>(operands: &[&'a [u8]]) -> Result<Source<'a>, LineFault>
 }
 
 /// The operands of a jump that tests.
-fn jump_if<'a>(width: Width, test: Comparison, operands: &[&'a [u8]]) -> Result<Source<'a>, LineFault>
-    ensures { Judges (word.Jump (leap.If width test)) (texts operands.now) result }
+fn jump_if<'a>(
+    width: Width,
+    comparison: Comparison,
+    operands: &[&'a [u8]],
+) -> Result<Source<'a>, LineFault>
+    ensures { Judges (word.Jump (leap.If width comparison)) (texts operands.now) result }
 {
     match jump_operands(operands) {
         Ok(found) => Ok(Source {
             line: Line::JumpIf {
                 width,
-                test,
+                comparison,
                 dst: found.0.0,
                 operand: found.0.1,
                 distance: found.1.0,
@@ -308,7 +282,7 @@ fn operands_read<'a>(mnemonic: Mnemonic, operands: &[&'a [u8]]) -> Result<Source
         Mnemonic::MoveExtended(width) => move_extended(width, operands),
         Mnemonic::ByteOrder(order) => byte_order(order, operands),
         Mnemonic::LoadWide => load_wide(operands),
-        Mnemonic::Jump(Jump::If(width, test)) => jump_if(width, test, operands),
+        Mnemonic::Jump(Jump::If(width, comparison)) => jump_if(width, comparison, operands),
         Mnemonic::Jump(Jump::Short) => short_jump(operands),
         Mnemonic::Jump(Jump::Long) => long_jump(operands),
         Mnemonic::Jump(Jump::Call) => call(operands),

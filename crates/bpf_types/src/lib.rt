@@ -5,7 +5,7 @@ pub mod line;
 pub mod reg;
 
 pub use line::{
-    Extension, Fields, Line, SignedSize, Operand, Operation, Order, Size, Swapped, Comparison, Width,
-    lines_are_in_range,
+    Comparison, Extension, Fields, Line, Operand, Operation, Order, SignedSize, Size, SwapWidth,
+    Width, lines_are_in_range,
 };
 pub use reg::Reg;

@@ -49,6 +49,50 @@ pub enum Extension {
     From32To64,
 }
 
+impl Extension {
+    ghost use Rattle.std.specs.Prelude.{◌≡◌, ◌≢◌, IfSome, IfNone, Some};
+    ghost use Rattle.bpf_types.specs.declared.line.Extension.{Extension};
+    ghost use Rattle.bpf_types.specs.Line.{extension_width, extension_bits, extension_of};
+
+    /// The extension of a class that reads so many bits: 8 or 16 in W32; 8, 16 or 32 in W64.
+    pub fn new(width: Width, bits: u64) -> Option<Self>
+        ensures exact { result ≡ extension_of width bits }
+        ensures some { IfSome result (λ e. (extension_width e ≡ width) × (extension_bits e ≡ bits)) }
+        ensures only { (e : Extension) → extension_width e ≡ width → extension_bits e ≡ bits → result ≡ Some e }
+        ensures none { IfNone result ((e : Extension) → extension_width e ≡ width → extension_bits e ≢ bits) }
+    {
+        match (width, bits) {
+            (Width::W32, 8) => Some(Extension::From8To32),
+            (Width::W32, 16) => Some(Extension::From16To32),
+            (Width::W64, 8) => Some(Extension::From8To64),
+            (Width::W64, 16) => Some(Extension::From16To64),
+            (Width::W64, 32) => Some(Extension::From32To64),
+            _ => None,
+        }
+    }
+
+    /// The class, by how many bits are written.
+    pub fn width(self) -> Width
+        ensures { result ≡ extension_width self }
+    {
+        match self {
+            Extension::From8To32 | Extension::From16To32 => Width::W32,
+            _ => Width::W64,
+        }
+    }
+
+    /// How many bits are read: 8, 16 or 32.
+    pub fn bits(self) -> u8
+        ensures { result ≡ extension_bits self }
+    {
+        match self {
+            Extension::From8To32 | Extension::From8To64 => 8,
+            Extension::From16To32 | Extension::From16To64 => 16,
+            Extension::From32To64 => 32,
+        }
+    }
+}
+
 /// What a byte order instruction does: to little-endian, to big-endian, or swap (RFC 9669, section 4.2).
 #[derive(Clone, Copy, PartialEq, Eq, Debug)]
 pub enum Order {
@@ -59,10 +103,42 @@ pub enum Order {
 
 /// How many bits a byte order instruction keeps.
 #[derive(Clone, Copy, PartialEq, Eq, Debug)]
-pub enum Swapped {
+pub enum SwapWidth {
     Bits16,
     Bits32,
     Bits64,
+}
+
+impl SwapWidth {
+    ghost use Rattle.std.specs.Prelude.{◌≡◌, ◌≢◌, IfSome, IfNone, Some};
+    ghost use Rattle.bpf_types.specs.declared.line.SwapWidth.{SwapWidth};
+    ghost use Rattle.bpf_types.specs.Line.{swap_width_bits, swap_width_of};
+
+    /// The width of so many bits: 16, 32 or 64.
+    pub fn new(bits: u64) -> Option<Self>
+        ensures exact { result ≡ swap_width_of bits }
+        ensures some { IfSome result (λ w. swap_width_bits w ≡ bits) }
+        ensures only { (w : SwapWidth) → swap_width_bits w ≡ bits → result ≡ Some w }
+        ensures none { IfNone result ((w : SwapWidth) → swap_width_bits w ≢ bits) }
+    {
+        match bits {
+            16 => Some(SwapWidth::Bits16),
+            32 => Some(SwapWidth::Bits32),
+            64 => Some(SwapWidth::Bits64),
+            _ => None,
+        }
+    }
+
+    /// How many bits: 16, 32 or 64.
+    pub fn bits(self) -> u8
+        ensures { result ≡ swap_width_bits self }
+    {
+        match self {
+            SwapWidth::Bits16 => 16,
+            SwapWidth::Bits32 => 32,
+            SwapWidth::Bits64 => 64,
+        }
+    }
 }
 
 /// What a jump tests of its two operands (RFC 9669, section 4.3). `Set` asks whether they have a bit in common.
@@ -88,6 +164,25 @@ pub enum Size {
     Half,
     Byte,
     Double,
+}
+
+impl Size {
+    ghost use Rattle.std.specs.Prelude.{◌≡◌, ◌≤◌};
+    ghost use Rattle.bpf_types.specs.Line.{octets_in};
+
+    /// How many octets are moved: 1, 2, 4 or 8.
+    #[inline(always)]
+    pub fn octets(self) -> usize
+        ensures exact { result ≡ octets_in self }
+        ensures some { (1 ≤ result) × (result ≤ 8) }
+    {
+        match self {
+            Size::Byte => 1,
+            Size::Half => 2,
+            Size::Word => 4,
+            Size::Double => 8,
+        }
+    }
 }
 
 /// How many octets a load that extends the sign reads: 4, 2 or 1 (RFC 9669, section 5.2).
@@ -123,7 +218,7 @@ pub enum Line {
     /// A byte order instruction.
     ByteOrder {
         order: Order,
-        swapped: Swapped,
+        width: SwapWidth,
         dst: Reg,
     },
     /// A jump that is always taken, by the offset field.
@@ -134,10 +229,10 @@ pub enum Line {
     LongJump {
         distance: i32,
     },
-    /// A jump that is taken where the test of dst and operand holds.
+    /// A jump that is taken where the comparison of dst and operand holds.
     JumpIf {
         width: Width,
-        test: Comparison,
+        comparison: Comparison,
         dst: Reg,
         operand: Operand,
         distance: i16,
@@ -198,8 +293,8 @@ pub struct Fields {
 }
 
 impl Line {
-    ghost use Rattle.std.specs.Prelude.{◌≡◌, ◌↔◌, IsTrue};
-    ghost use Rattle.bpf_types.specs.Line.{WritesFramePointer, writes_frame_pointer, is_wide};
+    ghost use Rattle.std.specs.Prelude.{◌≡◌, ◌↔◌, ◌≤◌, ◌*◌, length, IsTrue};
+    ghost use Rattle.bpf_types.specs.Line.{WritesFramePointer, writes_frame_pointer, is_wide, slots_in, spelling};
 
     /// The instruction would write R10. Such a line can be spelled, and is never decoded.
     pub fn writes_frame_pointer(self) -> bool
@@ -224,6 +319,19 @@ impl Line {
         ensures { result ≡ is_wide self }
     {
         matches!(self, Line::LoadWide { .. })
+    }
+
+    /// How many slots of 8 octets the instruction has: 2 for a wide load, and else 1 (RFC 9669, section 3.2).
+    #[inline(always)]
+    pub fn slots(self) -> u16
+        ensures exact { result ≡ slots_in self }
+        ensures octets { 8 * result ≡ length (spelling self) }
+        ensures some { (1 ≤ result) × (result ≤ 2) }
+    {
+        match self {
+            Line::LoadWide { .. } => 2,
+            _ => 1,
+        }
     }
 }
 

@@ -3,19 +3,19 @@ use Rattle.std.proofs.Common.{◌≡◌, ℕ, zero, suc, ◌+◌, ◌*◌, ◌<�
 use Rattle.std.specs.Prelude.{if◌then◌else◌}
 use Rattle.std.proofs.lemmas.Option.{same_Some}
 use Rattle.bpf_types.specs.declared.line.Line.{Line}
-use Rattle.bpf_types.specs.Line.{is_wide}
+use Rattle.bpf_types.specs.Line.{is_wide, slots_if}
 use Rattle.bpf_decode.specs.Decoding.{decoded}
 use Rattle.bpf_decode.specs.declared.fault.DecodeFault.{DecodeFault}
 use Rattle.ocp_loader.specs.declared.fault.LoadFault.TheVariants.{BadCall}
 use Rattle.ocp_loader.specs.declared.fault.LoadFault.{LoadFault}
-use Rattle.ocp_loader.specs.Image.{line_in, second_of, slots_of, slots_in, by_slot, calls_well}
+use Rattle.ocp_loader.specs.Image.{line_in, second_of, slots_of, by_slot, calls_well}
 use Rattle.ocp_loader.specs.Reading.{Reading, line_read, line_added, slot_read, slots_read}
 use Rattle.ocp_loader.specs.LoadResult.{first_bad_target, or_at, has_valid_target}
 
 -- what lies behind a line
 pub record Next (lines : List (Option Line)) (p : ℕ) (b : Bool) : Type 0 where
   pub second : b ≡ true → line_in lines (p + 1) ≡ None
-  pub next : (p + slots_in b ≡ length lines) ⊎ IsSome (line_in lines (p + slots_in b))
+  pub next : (p + slots_if b ≡ length lines) ⊎ IsSome (line_in lines (p + slots_if b))
 
 -- the first slot of the lines, if there are any, is a line's
 abbrev pub Starts : List (Option Line) → Type 0
@@ -32,7 +32,7 @@ AllNext lines = (p : ℕ) (l : Line) → line_in lines p ≡ Some l → Next lin
 shift : (x : Option Line) (lines : List (Option Line)) (p : ℕ) (b : Bool) → Next lines p b → Next (x ∷ lines) (suc p) b
 shift x lines p b n = record {
   second = λ w. let e : suc p + 1 ≡ suc (p + 1) = omega arith in rw e (n.second w);
-  next = let e : suc p + slots_in b ≡ suc (p + slots_in b) = omega arith in elim n.next [
+  next = let e : suc p + slots_if b ≡ suc (p + slots_if b) = omega arith in elim n.next [
     | inl h ↦ inl (omega (arith, h))
     | inr h ↦ inr (rw e h)
   ];

@@ -19,8 +19,8 @@ image_of-append (l ∷ ls) ms = ap (λ xs. spelling l ++ xs) (image_of-append ls
 pub spelled : (l : Line) → length (spelling l) ≡ 8 * suc (length (second_of (is_wide l)))
 spelled (line.Arithmetic width operation dst (Immediate imm)) = refl
 spelled (line.Arithmetic width operation dst (Register src)) = refl
-spelled (line.JumpIf width test dst (Immediate imm) distance) = refl
-spelled (line.JumpIf width test dst (Register src) distance) = refl
+spelled (line.JumpIf width comparison dst (Immediate imm) distance) = refl
+spelled (line.JumpIf width comparison dst (Register src) distance) = refl
 spelled (line.LoadWide dst value) = refl
 spelled _ = refl
 

@@ -1,23 +1,10 @@
 // Single accesses to one region.
 ghost use Rattle.std.specs.Prelude.{◌≡◌, ◌≤◌, ◌<◌, ◌+◌, ◌-◌, ◌^◌, ◌++◌, ◌↔◌, IfSome, IsTrue, None, length, take, drop, replicate};
 ghost use Rattle.std.proofs.lemmas.List.Edits.{sets};
-ghost use Rattle.ocp_regions.specs.Memory.{octets_in, number_of, low_octets};
+ghost use Rattle.bpf_types.specs.Line.{octets_in};
+ghost use Rattle.ocp_regions.specs.Memory.{number_of, low_octets};
 
 use bpf_types::Size;
-
-/// How many octets an access moves.
-#[inline(always)]
-pub(crate) fn octets_in(size: Size) -> usize
-    ensures value { result ≡ octets_in size }
-    ensures some { (1 ≤ result) × (result ≤ 8) }
-{
-    match size {
-        Size::Byte => 1,
-        Size::Half => 2,
-        Size::Word => 4,
-        Size::Double => 8,
-    }
-}
 
 /// The index of an address in a region, where so many octets from there on lie in the region.
 #[inline(always)]
