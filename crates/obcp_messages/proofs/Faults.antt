@@ -6,8 +6,8 @@ use Rattle.obcp_messages.specs.Request.{HasRequestFault, subtype_of}
 use Rattle.obcp_messages.specs.Reading.{request_in, request_of}
 use Rattle.obcp_messages.specs.declared.request.Request.{Request}
 use Rattle.obcp_messages.specs.declared.request.Request.TheVariants.{Load, Unload, Activate, Stop, Suspend, Resume, Communicate, Status, Abort}
-use Rattle.obcp_messages.specs.declared.fault.RequestFault.{RequestFault}
-use Rattle.obcp_messages.specs.declared.fault.RequestFault.TheVariants.{Service, Subtype, Layout}
+use Rattle.obcp_types.specs.declared.failure.RequestFault.{RequestFault}
+use Rattle.obcp_types.specs.declared.failure.RequestFault.TheVariants.{Service, Subtype, Layout}
 use Rattle.obcp_messages.proofs.Requests.{only_request}
 
 -- an Ok, or the fault Layout

@@ -1,7 +1,7 @@
 -- Identifiers that rise.
 use Rattle.std.proofs.Common.{◌≡◌, ◌<◌, ℕ, ◌+◌, ◌-◌, List, length, map, get_or, ap, ◌∙◌, arith}
 use Rattle.std.proofs.lemmas.List.{get_or-map}
-use Rattle.obcp_messages.specs.declared.rows.StatusRow.{StatusRow}
+use Rattle.obcp_types.specs.declared.status.StatusRow.{StatusRow}
 
 abbrev pub ids : List StatusRow → List ℕ
 ids rows = map (λ row. row.id) rows

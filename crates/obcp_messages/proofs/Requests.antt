@@ -16,8 +16,8 @@ use Rattle.obcp_messages.specs.Request.{IsRequest, IsRequestData, request_data, 
 use Rattle.obcp_messages.specs.Reading.{with_id, with_step, is_counted, with_octets, with_words, request_in, request_of}
 use Rattle.obcp_messages.specs.declared.request.Request.{Request}
 use Rattle.obcp_messages.specs.declared.request.Request.TheVariants.{Load, Unload, Activate, Stop, Suspend, Resume, Communicate, Status, Abort}
-use Rattle.obcp_messages.specs.declared.fault.RequestFault.{RequestFault}
-use Rattle.obcp_messages.specs.declared.fault.RequestFault.TheVariants.{Layout}
+use Rattle.obcp_types.specs.declared.failure.RequestFault.{RequestFault}
+use Rattle.obcp_types.specs.declared.failure.RequestFault.TheVariants.{Layout}
 use Rattle.obcp_messages.proofs.Octets.{AreOctets, both_parts, octets_dropped, octets_of_two, octets_of_words, length-numbers, joined, one_octet, words_fit}
 
 -- ---- what is read is laid out so

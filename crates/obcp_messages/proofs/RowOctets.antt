@@ -13,12 +13,13 @@ use Rattle.std.proofs.lemmas.List.Elements.{All-nil, All-cons, All-head, All-tai
 use Rattle.std.proofs.Math.Seq.{take-add}
 use Rattle.byteorder.specs.Endian.{big_bytes, big_number}
 use Rattle.byteorder.specs.Numbers.{big_from-lt, big_number-reads_back}
-use Rattle.obcp_messages.specs.Report.{row_data, status_code}
+use Rattle.obcp_messages.specs.Report.{row_data}
+use Rattle.obcp_types.specs.Codes.{status_code}
 use Rattle.obcp_messages.specs.ReadingReports.{status_at, row_and, rows_in, follow, rise, status_report, with_rows}
 use Rattle.obcp_messages.specs.Rows.{IsRising}
-use Rattle.obcp_messages.specs.declared.rows.Status.{Status}
-use Rattle.obcp_messages.specs.declared.rows.Status.TheVariants.{Inactive, Running, Held}
-use Rattle.obcp_messages.specs.declared.rows.StatusRow.{StatusRow}
+use Rattle.obcp_types.specs.declared.status.Status.{Status}
+use Rattle.obcp_types.specs.declared.status.Status.TheVariants.{Inactive, Running, Held}
+use Rattle.obcp_types.specs.declared.status.StatusRow.{StatusRow}
 use Rattle.obcp_messages.specs.declared.report.Report.TheVariants as R
 use Rattle.obcp_messages.specs.declared.fault.ReportFault.TheVariants.{Layout}
 use Rattle.obcp_messages.proofs.Octets.{AreOctets, both_parts, octets_dropped, octets_of_two, one_octet, joined}

@@ -5,8 +5,8 @@ use Rattle.byteorder.specs.Endian.{big_number}
 use Rattle.obcp_messages.specs.Fields.{numbers}
 use Rattle.obcp_messages.specs.declared.request.Request.{Request}
 use Rattle.obcp_messages.specs.declared.request.Request.TheVariants.{Load, Unload, Activate, Stop, Suspend, Resume, Communicate, Status, Abort}
-use Rattle.obcp_messages.specs.declared.fault.RequestFault.{RequestFault}
-use Rattle.obcp_messages.specs.declared.fault.RequestFault.TheVariants.{Service, Subtype, Layout}
+use Rattle.obcp_types.specs.declared.failure.RequestFault.{RequestFault}
+use Rattle.obcp_types.specs.declared.failure.RequestFault.TheVariants.{Service, Subtype, Layout}
 
 -- an identifier alone
 abbrev pub with_id : (ℕ → Request) → List ℕ → Result Request RequestFault

@@ -2,9 +2,9 @@
 -- means: `read_report` answers by both.
 use Rattle.std.specs.Prelude.{ℕ, zero, suc, Bool, true, ◌+◌, ◌*◌, ◌==◌, ◌&&◌, nat_le, nat_lt, if◌then◌else◌, List, [], ◌∷◌, length, take, drop, slice_index, Option, Some, None, Result, Ok, Err}
 use Rattle.byteorder.specs.Endian.{big_number}
-use Rattle.obcp_messages.specs.declared.rows.StatusRow.{StatusRow}
-use Rattle.obcp_messages.specs.declared.rows.Status.{Status}
-use Rattle.obcp_messages.specs.declared.rows.Status.TheVariants.{Inactive, Running, Held}
+use Rattle.obcp_types.specs.declared.status.StatusRow.{StatusRow}
+use Rattle.obcp_types.specs.declared.status.Status.{Status}
+use Rattle.obcp_types.specs.declared.status.Status.TheVariants.{Inactive, Running, Held}
 use Rattle.obcp_messages.specs.declared.report.StartFault.TheVariants.{BadCode, Plain}
 use Rattle.obcp_messages.specs.declared.report.Report.{Report}
 use Rattle.obcp_messages.specs.declared.report.Report.TheVariants.{Accepted, NotAccepted, Started, NotStarted, Completed, NotCompleted}

@@ -4,9 +4,10 @@ use Rattle.std.specs.Prelude.{◌≡◌, ◌≢◌, ◌≤◌, ◌<◌, ◌^◌,
 use Rattle.std.specs.List.{flat_map}
 use Rattle.byteorder.specs.Endian.{big_bytes}
 use Rattle.obcp_messages.specs.Rows.{IsRising}
-use Rattle.obcp_messages.specs.declared.rows.StatusRow.{StatusRow}
-use Rattle.obcp_messages.specs.declared.rows.Status.{Status}
-use Rattle.obcp_messages.specs.declared.rows.Status.TheVariants.{Inactive, Running, Held}
+use Rattle.obcp_types.specs.declared.status.StatusRow.{StatusRow}
+use Rattle.obcp_types.specs.declared.failure.StartFailure.{StartFailure}
+use Rattle.obcp_types.specs.declared.failure.StartFailure.TheVariants as start
+use Rattle.obcp_types.specs.Codes.{start_code, status_code}
 use Rattle.obcp_messages.specs.declared.report.StartFault.{StartFault}
 use Rattle.obcp_messages.specs.declared.report.StartFault.TheVariants.{BadCode, Plain}
 use Rattle.obcp_messages.specs.declared.report.Report.{Report}
@@ -34,10 +35,10 @@ kind_of (Completed request) = 7
 kind_of (NotCompleted request code) = 8
 kind_of (R.Status rows) = 9
 
-abbrev pub status_code : Status → ℕ
-status_code Inactive = 0
-status_code Running = 1
-status_code Held = 2
+-- what a report says of a failed start: code 18 has data, and no other has
+abbrev pub start_fault : StartFailure → StartFault
+start_fault (start.BadCode fault slot) = BadCode fault slot
+start_fault other = Plain (start_code other)
 
 -- a failure code with its data: a load fault and a slot in code 18, and none in any other
 abbrev pub fault_data : StartFault → List ℕ

@@ -5,8 +5,8 @@ use Rattle.std.specs.List.{flat_map}
 use Rattle.byteorder.specs.Endian.{big_bytes}
 use Rattle.obcp_messages.specs.declared.request.Request.{Request}
 use Rattle.obcp_messages.specs.declared.request.Request.TheVariants.{Load, Unload, Activate, Stop, Suspend, Resume, Communicate, Status, Abort}
-use Rattle.obcp_messages.specs.declared.fault.RequestFault.{RequestFault}
-use Rattle.obcp_messages.specs.declared.fault.RequestFault.TheVariants.{Service, Subtype, Layout}
+use Rattle.obcp_types.specs.declared.failure.RequestFault.{RequestFault}
+use Rattle.obcp_types.specs.declared.failure.RequestFault.TheVariants.{Service, Subtype, Layout}
 
 -- the message subtype of a request
 abbrev pub subtype_of : Request → ℕ

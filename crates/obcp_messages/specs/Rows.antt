@@ -1,7 +1,7 @@
 -- The rows of a status report.
 use Rattle.std.specs.Prelude.{List, map}
 use Rattle.std.specs.List.Sorted.{IsStrictlyIncreasing}
-use Rattle.obcp_messages.specs.declared.rows.StatusRow.{StatusRow}
+use Rattle.obcp_types.specs.declared.status.StatusRow.{StatusRow}
 
 -- each identifier is below the next
 abbrev pub IsRising : List StatusRow → Type 0

@@ -1,15 +1,4 @@
-//! Why service data are no request, or no report.
-
-/// What is first wrong with the service data of a telecommand, in this order.
-#[derive(Clone, Copy, Debug, PartialEq, Eq)]
-pub enum RequestFault {
-    /// The service is not 18.
-    Service,
-    /// The subtype is none of the requests'.
-    Subtype,
-    /// The data have another length than the request's fields, or a number is out of its range.
-    Layout,
-}
+//! Why service data are no report.
 
 /// What is first wrong with the service data of a report, in this order.
 #[derive(Clone, Copy, Debug, PartialEq, Eq)]

@@ -6,8 +6,8 @@ ghost use Rattle.arrayvec.specs.ArrayVec.{array_vec_len};
 ghost use Rattle.byteorder.specs.Endian.{big_bytes};
 ghost use Rattle.obcp_messages.specs.Report.{row_data};
 
-use crate::rows::StatusRow;
 use arrayvec::ArrayVec;
+use obcp_types::StatusRow;
 
 /// Room for the fields of each request and report but the octets that a request lends: those of a
 /// communicate request with 8 words are the most.
@@ -53,6 +53,6 @@ pub(crate) fn put_rows(fields: &mut Fields, rows: &[StatusRow])
 {
     for row in rows {
         put_u16(fields, row.id);
-        put_u8(fields, row.status as u8);
+        put_u8(fields, row.status.code());
     }
 }

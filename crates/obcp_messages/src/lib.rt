@@ -14,17 +14,18 @@ mod rising;
 mod rows;
 mod writing;
 
-pub use fault::{ReportFault, RequestFault};
+pub use fault::ReportFault;
 pub use laws::{
     read_reports_are_laid_out, read_requests_are_laid_out, reports_are_read_back,
     requests_are_read_back,
 };
+pub use obcp_types::{RequestFault, Status, StatusRow};
 pub use payload::{Arguments, Code, MOST_ARGUMENTS, MOST_CODE, MOST_WORDS, Words};
 pub use reading_reports::read_report;
 pub use reading_requests::read_request;
 pub use report::{BAD_CODE, PlainCode, Report, STATUS_REPORT, StartFault, VERIFICATION};
 pub use request::{Request, SERVICE};
-pub use rows::{Status, StatusRow, StatusRows};
+pub use rows::StatusRows;
 pub use writing::{write_report, write_request};
 
 #[cfg(test)]

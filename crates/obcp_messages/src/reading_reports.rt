@@ -11,9 +11,10 @@ ghost use Rattle.obcp_messages.specs.ReadingReports.{with_fault, with_rows, orde
 use crate::fault::ReportFault;
 use crate::report::{PlainCode, Report, STATUS_REPORT, StartFault, VERIFICATION};
 use crate::request::SERVICE;
-use crate::rows::{Status, StatusRow, StatusRows};
+use crate::rows::StatusRows;
 use arrayvec::ArrayVec;
 use byteorder::{BigEndian, ByteOrder};
+use obcp_types::{Status, StatusRow};
 
 /// The request identifier at the beginning of the data.
 fn request_at_front(octets: &[u8]) -> [u8; 4]

@@ -6,13 +6,13 @@ ghost use Rattle.obcp_messages.specs.Fields.{numbers};
 ghost use Rattle.obcp_messages.specs.Reading.{is_counted, with_octets, with_words, request_in, request_of};
 ghost use Rattle.obcp_messages.specs.Request.{IsRequestData, HasRequestFault};
 ghost use Rattle.obcp_messages.specs.declared.request.Request.{Request};
-ghost use Rattle.obcp_messages.specs.declared.fault.RequestFault.TheVariants.{Layout};
+ghost use Rattle.obcp_types.specs.declared.failure.RequestFault.TheVariants.{Layout};
 
-use crate::fault::RequestFault;
 use crate::payload::{Arguments, Code, Words};
 use crate::request::{Request, SERVICE};
 use arrayvec::ArrayVec;
 use byteorder::{BigEndian, ByteOrder};
+use obcp_types::RequestFault;
 use pus_fields::Tc;
 
 /// The one field of data that are an identifier alone.

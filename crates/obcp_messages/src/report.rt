@@ -4,6 +4,7 @@ ghost use Rattle.std.specs.Prelude.{◌≡◌, ◌≢◌, ◌↔◌, IfSome, IsS
 
 use crate::request::SERVICE;
 use crate::rows::StatusRows;
+use obcp_types::StartFailure;
 use std::marker::Model;
 
 /// The service type of request verification.
@@ -61,6 +62,22 @@ pub enum StartFault {
     BadCode { fault: u8, slot: u16 },
     /// Any other code.
     Plain(PlainCode),
+}
+
+impl From<StartFailure> for StartFault {
+    ghost use Rattle.obcp_messages.specs.Report.{start_fault};
+
+    ghost from_gives = { λ failure fault. fault ≡ start_fault failure };
+
+    fn from(failure: StartFailure) -> StartFault {
+        match failure {
+            StartFailure::BadCode { fault, slot } => StartFault::BadCode { fault, slot },
+            _ => match PlainCode::new(failure.code()) {
+                Some(code) => StartFault::Plain(code),
+                None => unreachable!(),
+            },
+        }
+    }
 }
 
 /// A report of service 1 (request verification, ECSS-E-ST-70-41C, 6.1), with the request's first four

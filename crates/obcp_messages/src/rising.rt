@@ -3,7 +3,7 @@
 ghost use Rattle.std.specs.Prelude.{◌↔◌, IsTrue};
 ghost use Rattle.obcp_messages.specs.Rows.{IsRising};
 
-use crate::rows::StatusRow;
+use obcp_types::StatusRow;
 
 /// Whether each identifier is below the next.
 pub(crate) fn is_rising(rows: &[StatusRow]) -> bool

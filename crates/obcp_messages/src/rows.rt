@@ -4,23 +4,8 @@ ghost use Rattle.std.specs.Prelude.{◌≡◌, ◌≤◌, ◌↔◌, length, IfS
 
 use crate::rising::is_rising;
 use arrayvec::ArrayVec;
+use obcp_types::StatusRow;
 use std::marker::Model;
-
-/// The status of a loaded procedure.
-#[derive(Clone, Copy, Default)]
-pub enum Status {
-    #[default]
-    Inactive,
-    Running,
-    Held,
-}
-
-/// A row of the status report.
-#[derive(Clone, Copy, Default)]
-pub struct StatusRow {
-    pub id: u16,
-    pub status: Status,
-}
 
 /// The rows of a status report: at most 16, by rising identifier.
 #[derive(Drop)]
@@ -30,7 +15,7 @@ pub struct StatusRows {
 
 impl Model for StatusRows {
     ghost use Rattle.std.specs.Prelude.{List};
-    ghost use Rattle.obcp_messages.specs.declared.rows.StatusRow.{StatusRow as Row};
+    ghost use Rattle.obcp_types.specs.declared.status.StatusRow.{StatusRow as Row};
     ghost use Rattle.obcp_messages.specs.Rows.{IsRising};
 
     ghost Value = { List Row };

@@ -26,6 +26,8 @@ asked wanted notice = if wanted then notice ∷ [] else []
 -- the flags are, and ends the list
 abbrev pub reports_of_outcome : Ack → Outcome → List Notice
 reports_of_outcome ack (O.Refused failure) = NotAccepted failure ∷ []
-reports_of_outcome ack (O.NotStarted failure) = asked (wants_acceptance ack) Accepted ++ NotStarted failure ∷ []
+reports_of_outcome ack (O.NotStarted failure) =
+    asked (wants_acceptance ack) Accepted ++ NotStarted failure ∷ []
 reports_of_outcome ack O.Done =
-    asked (wants_acceptance ack) Accepted ++ asked (wants_start ack) Started ++ Answer ∷ asked (wants_completion ack) Completed
+    asked (wants_acceptance ack) Accepted ++ asked (wants_start ack) Started
+    ++ Answer ∷ asked (wants_completion ack) Completed

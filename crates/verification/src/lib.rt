@@ -1,4 +1,4 @@
-//! Which verification reports a request gives (service 1 of ECSS-E-ST-70-41C), and their failure codes.
+//! Which verification reports a request gives (service 1 of ECSS-E-ST-70-41C).
 #![tactic(auto)]
 
 mod choosing;
@@ -7,7 +7,8 @@ mod outcome;
 
 pub use choosing::notices;
 pub use notice::{Notice, NoticeList};
-pub use outcome::{AcceptanceFailure, Outcome, StartFailure};
+pub use obcp_types::{AcceptanceFailure, StartFailure};
+pub use outcome::Outcome;
 
 #[cfg(test)]
 mod tests;

@@ -2,8 +2,8 @@
 
 ghost use Rattle.std.specs.Prelude.{◌≡◌, ◌<◌, ◌≤◌, [], ◌∷◌, ◌++◌, length};
 
-use crate::outcome::{AcceptanceFailure, StartFailure};
 use arrayvec::ArrayVec;
+use obcp_types::{AcceptanceFailure, StartFailure};
 use std::marker::Model;
 
 /// A report to send, or the place of one.

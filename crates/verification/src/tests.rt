@@ -1,6 +1,6 @@
 use super::*;
 use bitflags::Flags;
-use pus_fields::Ack;
+use pus_fields::{Ack, Rejection};
 
 /// For each number of the acknowledgement flags: the reports of a request that is done, and of one that
 /// is not started.
@@ -45,47 +45,11 @@ fn notices_of_each_acknowledgement(rt: HostRuntime) {
                 "not started, at {number}"
             );
         }
-        let list = notices(ack, &Outcome::Refused(AcceptanceFailure::Pec));
-        let refused = [Notice::NotAccepted(AcceptanceFailure::Pec)];
+        let list = notices(
+            ack,
+            &Outcome::Refused(AcceptanceFailure::Packet(Rejection::Pec)),
+        );
+        let refused = [Notice::NotAccepted(AcceptanceFailure::Packet(Rejection::Pec))];
         assert_eq!(rt; list.as_slice(), refused.as_slice(), "refused, at {number}");
-    }
-}
-
-#[test]
-fn failure_codes(rt: HostRuntime) {
-    use AcceptanceFailure::{
-        Layout, NoRoom, NoSecondary, Pec, PusVersion, Segmented, Service, Subtype,
-    };
-    use StartFailure::{
-        AlreadyLoaded, BadCode, MailboxFull, NotActive, NotHeld, NotInactive, NotLoaded,
-        NotRunning, StopPending, TableFull,
-    };
-    let acceptance = [
-        (Segmented, 1),
-        (NoSecondary, 2),
-        (NoRoom, 3),
-        (Pec, 4),
-        (PusVersion, 5),
-        (Service, 6),
-        (Subtype, 7),
-        (Layout, 8),
-    ];
-    for (failure, code) in acceptance {
-        assert_eq!(rt; failure.code(), code);
-    }
-    let start = [
-        (AlreadyLoaded, 16),
-        (TableFull, 17),
-        (BadCode { fault: 1, slot: 0 }, 18),
-        (NotLoaded, 19),
-        (NotInactive, 20),
-        (NotActive, 21),
-        (NotRunning, 22),
-        (NotHeld, 23),
-        (StopPending, 24),
-        (MailboxFull, 25),
-    ];
-    for (failure, code) in start {
-        assert_eq!(rt; failure.code(), code);
     }
 }

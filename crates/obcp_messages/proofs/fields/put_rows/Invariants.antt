@@ -1,7 +1,7 @@
 use Rattle.std.proofs.Common.{◌≡◌, ◌<◌, ◌^◌, ◌+◌, ◌*◌, ◌++◌, length, take}
 use Rattle.std.specs.List.{flat_map, AllWithin}
 use Rattle.obcp_messages.specs.Report.{row_data}
-use Rattle.obcp_messages.specs.declared.rows.StatusRow.{StatusRow}
+use Rattle.obcp_types.specs.declared.status.StatusRow.{StatusRow}
 use Rattle.obcp_messages.proofs.fields.put_rows.Given as goal
 
 abbrev pub invariant-loop-row : goal.invariant-loop-row

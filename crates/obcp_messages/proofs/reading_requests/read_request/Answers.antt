@@ -3,7 +3,7 @@ use Rattle.std.specs.Prelude.{IfOk, IfErr}
 use Rattle.obcp_messages.specs.Request.{IsRequestData, HasRequestFault}
 use Rattle.obcp_messages.specs.Reading.{request_of}
 use Rattle.obcp_messages.specs.declared.request.Request.{Request}
-use Rattle.obcp_messages.specs.declared.fault.RequestFault.{RequestFault}
+use Rattle.obcp_types.specs.declared.failure.RequestFault.{RequestFault}
 use Rattle.obcp_messages.proofs.Octets.{AreOctets}
 use Rattle.obcp_messages.proofs.Requests.{request_is_read, only_request}
 use Rattle.obcp_messages.proofs.Faults.{request_fault}

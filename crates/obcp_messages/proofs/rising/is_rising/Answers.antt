@@ -1,8 +1,8 @@
 use Rattle.std.proofs.Common.{◌≡◌, ◌+◌, ◌-◌, ◌<◌, length, arith, get_or, ⊎_elim}
 use Rattle.std.proofs.lemmas.List.{length-map}
 use Rattle.std.proofs.lemmas.Bool.{cases_lt}
-use Rattle.obcp_messages.specs.declared.rows.StatusRow.{StatusRow}
-use Rattle.obcp_messages.specs.declared.rows.Status.TheVariants.{Inactive}
+use Rattle.obcp_types.specs.declared.status.StatusRow.{StatusRow}
+use Rattle.obcp_types.specs.declared.status.Status.TheVariants.{Inactive}
 use Rattle.obcp_messages.proofs.Identifiers.{ids, rising_at}
 use Rattle.obcp_messages.proofs.rising.is_rising.Goals as goal
 
