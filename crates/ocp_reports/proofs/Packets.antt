@@ -13,33 +13,38 @@ use Rattle.obcp_messages.specs.declared.report.Report.{Report}
 use Rattle.obcp_messages.specs.declared.report.Report.TheVariants.{Accepted, NotAccepted, Started, NotStarted, Completed, NotCompleted, Status}
 use Rattle.obcp_messages.specs.Report.{report_data, fault_data, row_data, IsReport}
 use Rattle.pus_fields.specs.Telemetry.{telemetry_octets}
-use Rattle.ocp_core.specs.World.{packets, telemetry_of_report}
+use Rattle.ocp_reports.specs.Origin.{Dispatch}
+use Rattle.ocp_reports.specs.Packets.{packets, telemetry_of}
 
-module _ (apid destination time : ℕ) where
-  pub packets-append : (n : ℕ) (xs ys : List Report) → packets apid n destination time (xs ++ ys) ≡ packets apid n destination time xs ++ packets apid (n + length xs) destination time ys
-  packets-append n [] ys = ap (λ k. packets apid k destination time ys) (sym (add-zero n))
+module _ (apid : ℕ) where
+  pub packets-append : (n : ℕ) (xs ys : List Dispatch) → packets apid n (xs ++ ys) ≡ packets apid n xs ++ packets apid (n + length xs) ys
+  packets-append n [] ys = ap (λ k. packets apid k ys) (sym (add-zero n))
   packets-append n (x ∷ xs) ys =
       let same : n + 1 + length xs ≡ n + length (x ∷ xs) = omega arith in
-      ap (λ rest. telemetry_octets (telemetry_of_report apid n destination time x) ∷ rest) (packets-append (n + 1) xs ys ∙ ap (λ k. packets apid (n + 1) destination time xs ++ packets apid k destination time ys) same)
+      ap (λ rest. telemetry_octets (telemetry_of apid n x) ∷ rest) (packets-append (n + 1) xs ys ∙ ap (λ k. packets apid (n + 1) xs ++ packets apid k ys) same)
 
-  pub length-packets : (n : ℕ) (xs : List Report) → length (packets apid n destination time xs) ≡ length xs
+  pub length-packets : (n : ℕ) (xs : List Dispatch) → length (packets apid n xs) ≡ length xs
   length-packets n [] = refl
-  length-packets n (x ∷ xs) = let rest : length (packets apid (n + 1) destination time xs) ≡ length xs = length-packets (n + 1) xs in omega (arith, rest)
+  length-packets n (x ∷ xs) = let rest : length (packets apid (n + 1) xs) ≡ length xs = length-packets (n + 1) xs in omega (arith, rest)
 
   -- only the count modulo 16,384 is sent
-  pub packets-alike : (m n : ℕ) (xs : List Report) → m % 16384 ≡ n % 16384 → packets apid m destination time xs ≡ packets apid n destination time xs
+  pub packets-alike : (m n : ℕ) (xs : List Dispatch) → m % 16384 ≡ n % 16384 → packets apid m xs ≡ packets apid n xs
   packets-alike m n [] h = refl
-  packets-alike m n (x ∷ xs) h = λ i. telemetry_octets (record (telemetry_of_report apid m destination time x) { count = h i }) ∷ packets-alike (m + 1) (n + 1) xs (sym (mod-add-mod m 16384 1) ∙ ap (λ k. (k + 1) % 16384) h ∙ mod-add-mod n 16384 1) i
+  packets-alike m n (x ∷ xs) h = λ i. telemetry_octets (record (telemetry_of apid m x) { count = h i }) ∷ packets-alike (m + 1) (n + 1) xs (sym (mod-add-mod m 16384 1) ∙ ap (λ k. (k + 1) % 16384) h ∙ mod-add-mod n 16384 1) i
 
   -- the packets of one more piece of a list
-  pub packets_more : {N : Type 0} (f : N → List Report) (n : ℕ) (list : List N) (i : ℕ) (d : N) (old new : List (List ℕ)) → i < length list → old ≡ packets apid n destination time (flat_map f (take i list)) → new ≡ old ++ packets apid (n + length old) destination time (f (get_or list i d)) → new ≡ packets apid n destination time (flat_map f (take (i + 1) list))
+  pub packets_more : {N : Type 0} (f : N → List Dispatch) (n : ℕ) (list : List N) (i : ℕ) (d : N) (old new : List (List ℕ)) → i < length list → old ≡ packets apid n (flat_map f (take i list)) → new ≡ old ++ packets apid (n + length old) (f (get_or list i d)) → new ≡ packets apid n (flat_map f (take (i + 1) list))
   packets_more f n list i d old new within so_far is =
       let before = flat_map f (take i list) in
       let more = f (get_or list i d) in
-      is ∙ (λ k. so_far k ++ packets apid (n + length (so_far k)) destination time more)
-      ∙ ap (λ k. packets apid n destination time before ++ packets apid (n + k) destination time more) (length-packets n before)
+      is ∙ (λ k. so_far k ++ packets apid (n + length (so_far k)) more)
+      ∙ ap (λ k. packets apid n before ++ packets apid (n + k) more) (length-packets n before)
       ∙ sym (packets-append n before more)
-      ∙ ap (packets apid n destination time) (sym (ap (flat_map f) (take_more list i d within) ∙ flat_map-append f (take i list) (get_or list i d ∷ []) ∙ ap (λ xs. before ++ xs) (append-nil more)))
+      ∙ ap (packets apid n) (sym (ap (flat_map f) (take_more list i d within) ∙ flat_map-append f (take i list) (get_or list i d ∷ []) ∙ ap (λ xs. before ++ xs) (append-nil more)))
+
+-- counts are added modulo 16,384
+pub counts : (count packets : ℕ) → (count + packets % 16384) % 16384 ≡ (count + packets) % 16384
+counts count packets = omega arith
 
 -- ---- service data are short
 

@@ -1,27 +1,22 @@
 //! The reports of a request as telemetry packets.
 
-ghost use Rattle.std.specs.Prelude.{◌≡◌, ◌≤◌, ◌+◌, ◌%◌, ◌++◌, ◌∷◌, [], List, length, IfOk, OnOk, MatchOption};
+ghost use Rattle.std.specs.Prelude.{◌≡◌, ◌+◌, ◌%◌, ◌++◌, ◌∷◌, [], List, length, IfOk, OnOk, MatchOption};
 ghost use Rattle.std.specs.Option.{option_to_list};
 ghost use Rattle.obcp_messages.specs.declared.report.Report.{Report as Sent};
 ghost use Rattle.pus_fields.specs.Telemetry.{telemetry_octets};
-ghost use Rattle.ocp_core.specs.World.{packets, report_of, reports_of, telemetry_of_report, start_fault};
+ghost use Rattle.ocp_reports.specs.Origin.{dispatch_of};
+ghost use Rattle.ocp_reports.specs.Reports.{report_of, dispatch_of_notice, reports_of, start_fault};
+ghost use Rattle.ocp_reports.specs.Packets.{packets, telemetry_of};
 
-use crate::{Octets, Reports};
+use crate::{Octets, Origin, Reports};
 use obcp_messages::{PlainCode, Report, StartFault, write_report};
-use pus_fields::{Ack, Tm, WriteFault, write_tm};
+use pus_fields::{Tm, WriteFault, write_tm};
 use space_packet::{Apid, SequenceCount};
 use std::alloc::{AllocError, Allocator};
 use verification::{Notice, Outcome, StartFailure, notices};
 
-/// What a request's reports repeat of it: its first four octets, its acknowledgement flags, the destination of the
-/// reports and the time at which it came.
-#[derive(Clone, Copy)]
-pub struct Origin {
-    pub request: [u8; 4],
-    pub ack: Ack,
-    pub destination: u16,
-    pub time: u32,
-}
+// How many sequence counts there are: the count behind the last one is 0.
+const SEQUENCE_COUNTS: u16 = 16_384;
 
 /// The application process that sends reports, and the sequence count of its next one.
 #[derive(Clone, Copy)]
@@ -31,11 +26,12 @@ pub struct Sender {
 }
 
 /// A sequence count after so many more packets.
+#[tactic(auto, using(crate::proofs::Packets::counts))]
 pub fn count_after(count: SequenceCount, packets: usize) -> SequenceCount
-    requires { packets ≤ 17 }
-    ensures { result ≡ (count + packets) % 16384 }
+    ensures { result ≡ (count + packets) % SEQUENCE_COUNTS }
 {
-    match SequenceCount::new((count.number() + packets as u16) % 16384) {
+    let more = (packets % usize::from(SEQUENCE_COUNTS)) as u16;
+    match SequenceCount::new((count.number() + more) % SEQUENCE_COUNTS) {
         Some(count) => count,
         None => unreachable!(),
     }
@@ -56,7 +52,8 @@ fn start_fault(failure: StartFailure) -> StartFault
 
 // The verification report of a notice, where it is not the place of the answer report.
 fn verification_report(request: [u8; 4], notice: Notice) -> Option<Report>
-    ensures { (answer : List Sent) → MatchOption result (notice ≡ Notice.Answer) (λ r. report_of request answer notice ≡ r ∷ []) }
+    ensures { (answer : List Sent) →
+        MatchOption result (notice ≡ Notice.Answer) (λ r. report_of request answer notice ≡ r ∷ []) }
 {
     match notice {
         Notice::Accepted => Some(Report::Accepted { request }),
@@ -75,7 +72,7 @@ fn verification_report(request: [u8; 4], notice: Notice) -> Option<Report>
 }
 
 impl Sender {
-    // The packet of a report that so many others of the same request stand before.
+    // The packet of a report that so many others stand before.
     fn packet<A: Allocator + Copy>(
         &self,
         alloc: A,
@@ -83,8 +80,8 @@ impl Sender {
         before: usize,
         report: &Report,
     ) -> Result<Octets<A>, AllocError>
-        requires { before ≤ 16 }
-        ensures { IfOk result (λ p. p ≡ telemetry_octets (telemetry_of_report self.now.apid (self.now.count + before) origin.destination origin.time report.now)) }
+        ensures { IfOk result (λ p. p ≡
+            telemetry_octets (telemetry_of self.now.apid (self.now.count + before) (dispatch_of origin report.now))) }
     {
         let mut data = Vec::new(alloc);
         write_report(report, &mut data)?;
@@ -113,9 +110,8 @@ impl Sender {
         report: &Report,
         reports: &mut Reports<A>,
     ) -> Result<(), AllocError>
-        requires { length reports.old ≤ 16 }
-        ensures ok { OnOk result (reports.new ≡ reports.old ++ packets self.now.apid (self.now.count + length reports.old) origin.destination origin.time (report.now ∷ [])) }
-        ensures one { length reports.new ≤ length reports.old + 1 }
+        ensures { OnOk result (reports.new ≡ reports.old
+            ++ packets self.now.apid (self.now.count + length reports.old) (dispatch_of origin report.now ∷ [])) }
     {
         let packet = self.packet(alloc, origin, reports.len(), report)?;
         reports.push(packet)
@@ -130,9 +126,9 @@ impl Sender {
         answer: &Option<Report>,
         reports: &mut Reports<A>,
     ) -> Result<(), AllocError>
-        requires { length reports.old ≤ 16 }
-        ensures ok { OnOk result (reports.new ≡ reports.old ++ packets self.now.apid (self.now.count + length reports.old) origin.destination origin.time (report_of origin.request (option_to_list answer.now) notice)) }
-        ensures one { length reports.new ≤ length reports.old + 1 }
+        ensures { OnOk result (reports.new ≡ reports.old
+            ++ packets self.now.apid (self.now.count + length reports.old)
+                (dispatch_of_notice origin (option_to_list answer.now) notice)) }
     {
         if let Some(report) = verification_report(origin.request, notice) {
             return self.add(alloc, origin, &report, reports);
@@ -151,7 +147,8 @@ impl Sender {
         outcome: Outcome,
         answer: &Option<Report>,
     ) -> Result<Reports<A>, AllocError>
-        ensures { IfOk result (λ r. r ≡ packets self.now.apid self.now.count origin.destination origin.time (reports_of origin outcome (option_to_list answer.now))) }
+        ensures { IfOk result (λ r. r ≡
+            packets self.now.apid self.now.count (reports_of origin outcome (option_to_list answer.now))) }
     {
         let mut reports = Reports::new(alloc);
         let list = notices(origin.ack, &outcome);

@@ -1,0 +1,23 @@
+-- The packets of reports, one after another.
+use Rattle.std.specs.Prelude.{ℕ, ◌+◌, ◌%◌, List, [], ◌∷◌}
+use Rattle.pus_fields.specs.Telemetry.{Telemetry, telemetry_octets}
+use Rattle.obcp_messages.specs.Report.{service_of, kind_of, report_data}
+use Rattle.ocp_reports.specs.Origin.{Dispatch}
+
+-- what the packet of a report says: the sequence count is that of all reports before it
+abbrev pub telemetry_of : ℕ → ℕ → Dispatch → Telemetry
+telemetry_of apid count dispatch = record {
+  apid = apid;
+  count = count % 16384;
+  service = service_of dispatch.report;
+  subtype = kind_of dispatch.report;
+  destination = dispatch.destination;
+  time = dispatch.time;
+  payload = report_data dispatch.report;
+}
+
+-- the packets of reports, of which so many were sent before
+abbrev pub packets : ℕ → ℕ → List Dispatch → List (List ℕ)
+packets apid count [] = []
+packets apid count (dispatch ∷ dispatches) =
+    telemetry_octets (telemetry_of apid count dispatch) ∷ packets apid (count + 1) dispatches

@@ -1,0 +1,44 @@
+//! What the reports of a request repeat of it.
+
+use bitflags::Flags;
+use pus_fields::{Ack, Tc};
+
+/// What a request's reports repeat of it: its first four octets, its acknowledgement flags, the destination of the
+/// reports and the time at which it came.
+#[derive(Clone, Copy)]
+pub struct Origin {
+    pub request: [u8; 4],
+    pub ack: Ack,
+    pub destination: u16,
+    pub time: u32,
+}
+
+impl Origin {
+    ghost use Rattle.std.specs.Prelude.{◌≡◌};
+    ghost use Rattle.ocp_reports.specs.Origin.{origin_of, origin_of_packet};
+
+    /// That of a telecommand: its reports go to its source.
+    pub fn of_telecommand(telecommand: &Tc, time: u32) -> Origin
+        ensures { result ≡ origin_of telecommand.now time }
+    {
+        Origin {
+            request: telecommand.id(),
+            ack: telecommand.ack(),
+            destination: telecommand.source(),
+            time,
+        }
+    }
+
+    /// That of a packet whose secondary header is not read: its reports go to destination 0, and no report of success is
+    /// asked for.
+    pub fn of_packet(request: [u8; 4], time: u32) -> Origin
+        ensures { result ≡ origin_of_packet request time }
+    {
+        Origin {
+            request,
+            ack: Ack::empty(),
+            destination: 0,
+            time,
+        }
+    }
+}
