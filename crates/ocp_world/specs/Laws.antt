@@ -8,6 +8,10 @@ abbrev pub machine_of : Option Rec → Option State
 machine_of None = None
 machine_of (Some r) = Some r.machine
 
--- a machine stays as it was, or it is started anew
-abbrev pub IsKeptOrStarted : Option State → Option State → Type 0
-IsKeptOrStarted old new = (new ≡ old) ⊎ ((arguments : List ℕ) × (new ≡ Some (started arguments)))
+-- the machine is one that was started anew
+abbrev pub IsStarted : Option State → Type 0
+IsStarted machine = (arguments : List ℕ) × (machine ≡ Some (started arguments))
+
+-- a machine stays as it was, or it is started anew, or its procedure is no longer loaded
+abbrev pub IsKeptOrStartedOrGone : Option State → Option State → Type 0
+IsKeptOrStartedOrGone old new = (new ≡ old) ⊎ (IsStarted new ⊎ (new ≡ None))

@@ -1,18 +1,18 @@
 -- A slice: instructions of one procedure, up to a budget, until it no longer runs.
 use Rattle.std.specs.Prelude.{ℕ, zero, suc, Bool, true, false, Option, Some, None, if◌then◌else◌}
 use Rattle.std.specs.FinMap.{get}
-use Rattle.ocp_table.specs.declared.control.Status.{Status}
-use Rattle.ocp_table.specs.declared.control.Status.TheVariants.{Inactive, Running}
+use Rattle.obcp_types.specs.declared.status.Status.{Status}
+use Rattle.obcp_types.specs.declared.status.Status.TheVariants.{Inactive, Running, Held}
 use Rattle.ocp_table.specs.Rec.{Rec}
-use Rattle.ocp_core.specs.declared.answers.StepOutcome.{StepOutcome}
-use Rattle.ocp_core.specs.declared.answers.StepOutcome.TheVariants as S
-use Rattle.ocp_core.specs.declared.answers.Slice.{Slice}
-use Rattle.ocp_core.specs.World.{World, Step, After, Answer, Requested, Stepped, after, is_accepted}
-use Rattle.ocp_core.specs.Log.{Log, Steps, world_of, is_full, with_entry}
+use Rattle.ocp_table.specs.declared.answers.StepOutcome.{StepOutcome}
+use Rattle.ocp_table.specs.declared.answers.StepOutcome.TheVariants as S
+use Rattle.ocp_world.specs.World.{World, Step}
+use Rattle.ocp_world.specs.After.{After, Answer, Requested, Stepped, after}
 
 abbrev pub is_running_status : Status → Bool
-is_running_status Running = true
 is_running_status Inactive = false
+is_running_status Running = true
+is_running_status Held = false
 
 abbrev pub is_running : Option Rec → Bool
 is_running None = false
@@ -33,26 +33,19 @@ outcome_in (Stepped outcome) = outcome
 outcome_in (Requested reports) = S.JournalFull
 
 abbrev pub goes_on : After → ℕ → Bool
-goes_on d id = if is_on (outcome_in d.answer) then is_running (get d.world.records id) else false
+goes_on a id = if is_on (outcome_in a.answer) then is_running (get a.world.records id) else false
 
--- how many instructions a slice does, and its last outcome
+-- how many instructions a slice does
 abbrev pub slice_count : World → ℕ → ℕ → ℕ → ℕ
 slice_count w by id zero = 0
-slice_count w by id (suc budget) = if goes_on (after w (Step by id)) id then suc (slice_count (after w (Step by id)).world by id budget) else 1
+slice_count w by id (suc budget) =
+    let step = after w (Step by id) in
+    if goes_on step id then suc (slice_count step.world by id budget) else 1
 
+-- the outcome of its last one
 abbrev pub slice_last : World → ℕ → ℕ → StepOutcome → ℕ → StepOutcome
 slice_last w by id last zero = last
-slice_last w by id last (suc budget) = if goes_on (after w (Step by id)) id then slice_last (after w (Step by id)).world by id (outcome_in (after w (Step by id)).answer) budget else outcome_in (after w (Step by id)).answer
-
--- a slice whose first instruction is refused, or that finds the journal full, does none
-abbrev pub slice_in : Log → ℕ → ℕ → ℕ → Slice
-slice_in log by id budget =
-    let first = (after (world_of log) (Step by id)).answer in
-    if is_accepted first then
-    (if is_full log then record { count = 0; last = S.JournalFull }
-    else record { count = slice_count (world_of log) by id budget; last = slice_last (world_of log) by id S.Ran budget })
-    else record { count = 0; last = outcome_in first }
-
--- its instructions are one entry
-abbrev pub slice_log : Log → ℕ → ℕ → ℕ → Log
-slice_log log by id budget = if is_accepted (after (world_of log) (Step by id)).answer then (if is_full log then log else with_entry log (Steps by id (slice_count (world_of log) by id budget))) else log
+slice_last w by id last (suc budget) =
+    let step = after w (Step by id) in
+    if goes_on step id then slice_last step.world by id (outcome_in step.answer) budget
+    else outcome_in step.answer

@@ -1,27 +1,29 @@
 //! What the engine keeps of its world.
 
-ghost use Rattle.std.specs.Prelude.{◌≡◌, ◌≤◌, ℕ, IfOk, length};
+ghost use Rattle.std.specs.Prelude.{◌≡◌, ◌≤◌, ℕ, [], ◌∷◌, IfOk, length};
 ghost use Rattle.std.specs.Option.{option_to_list};
 ghost use Rattle.std.specs.FinMap.{get};
-ghost use Rattle.obcp_messages.specs.declared.request.Request.TheVariants as command;
+ghost use Rattle.obcp_types.specs.declared.failure.StartFailure.{StartFailure as Failure};
 ghost use Rattle.ocp_table.specs.Effect.{Kept, Unasked, Failed};
-ghost use Rattle.ocp_table.specs.Deciding.{effect_in};
+ghost use Rattle.ocp_table.specs.Deciding.{effect_in, effect_of_load};
 ghost use Rattle.ocp_table.specs.Deciding as directive;
-ghost use Rattle.ocp_table.specs.Shown.{shown_at, statuses_of};
-ghost use Rattle.ocp_core.specs.World.{World, opening, after, sends, received, served, refused, done, origin_of, command_of, start_failure, request_failure, rejection_failure, outcome_of, status_report, reported_status};
-ghost use Rattle.ocp_core.specs.World as world;
+ghost use Rattle.ocp_table.specs.Shown.{shown_at};
+ghost use Rattle.ocp_reports.specs.Reports.{reports_of};
+ghost use Rattle.ocp_world.specs.World.{World, opening, Step};
+ghost use Rattle.ocp_world.specs.Effect.{Sends};
+ghost use Rattle.ocp_world.specs.Requests.{refusal_effect, start_effect, command_effect, service_effect, request_effect, status_report};
+ghost use Rattle.ocp_world.specs.After.{Stepped, after};
 
-use crate::reporting::{Origin, Sender, count_after};
-use crate::convert::{
-    command_of, origin_of, rejection_failure, request_failure, start_failure, status_report, unread,
-};
-use crate::{EngineFault, Reports, Slice, StepOutcome};
+use crate::convert::{command_of, status_report};
+use crate::{EngineFault, Slice};
 use obcp_messages::{Report, Request};
-use ocp_table::{Failure, LoadFailure, InstructionOutcome, Refusal, Status, Table, View};
+use obcp_types::{AcceptanceFailure, RequestFault, StartFailure};
+use ocp_reports::{Origin, Reports, Sender, count_after};
+use ocp_table::{Directive, LoadFailure, StepOutcome, Table, View};
 use pus_fields::{Tc, TcFault};
 use space_packet::{Apid, SequenceCount};
 use std::alloc::{AllocError, Allocator};
-use verification::{AcceptanceFailure, Outcome};
+use verification::Outcome;
 
 /// The procedures, the application process identifier, and the sequence count of the next report.
 #[derive(Drop)]
@@ -32,12 +34,12 @@ pub struct State<A: Allocator> {
 }
 
 impl<A: Allocator> State<A> {
-    ghost use Rattle.ocp_core.specs.State.{IsWorld, Does};
-    ghost use Rattle.ocp_core.specs.Answering.{IsRefusal};
+    ghost use Rattle.ocp_world.specs.Mirror.State.{IsWorld, Does};
+    ghost use Rattle.ocp_world.specs.Mirror.Answering.{IsRefusal};
 
-    /// The state in which no procedure is loaded.
+    /// The state in which no procedure is loaded, with a pool of any size.
     pub fn new(alloc: A, apid: Apid) -> Result<Self, AllocError>
-        ensures { IfOk result (IsWorld (opening apid)) }
+        ensures { IfOk result (λ state. (words : ℕ) → IsWorld (opening apid words) state) }
     {
         Ok(State {
             apid,
@@ -55,21 +57,20 @@ impl<A: Allocator> State<A> {
 
     /// Why an instruction event is refused, where it is.
     pub fn refusal(&self, id: u16) -> Option<StepOutcome>
-        ensures { (w : World) (by : ℕ) → IsWorld w self.now → IsRefusal w (world.Step by id) result }
+        ensures { (w : World) (by : ℕ) → IsWorld w self.now → IsRefusal w (Step by id) result }
     {
-        match self.table.refusal(id) {
-            Some(Refusal::NotLoaded) => Some(StepOutcome::NotLoaded),
-            Some(Refusal::NotRunning) => Some(StepOutcome::NotRunning),
+        match self.table.failure(id, &Directive::Step) {
+            Some(failure) => Some(StepOutcome::of_failure(failure)),
             None => None,
         }
     }
 
     /// Does one instruction of a procedure.
     pub fn step(&mut self, id: u16) -> StepOutcome
-        ensures world { (w : World) (by : ℕ) → IsWorld w self.old → IsWorld (after w (world.Step by id)).world self.new }
-        ensures answer { (w : World) (by : ℕ) → IsWorld w self.old → world.Stepped result ≡ (after w (world.Step by id)).answer }
+        ensures world { (w : World) (by : ℕ) → IsWorld w self.old → IsWorld (after w (Step by id)).world self.new }
+        ensures answer { (w : World) (by : ℕ) → IsWorld w self.old → Stepped result ≡ (after w (Step by id)).answer }
     {
-        outcome_of(self.table.instruction(id))
+        self.table.instruction(id)
     }
 
     // Sends the reports of a request that changes no procedure.
@@ -82,7 +83,9 @@ impl<A: Allocator> State<A> {
     ) -> Result<Reports<A>, EngineFault>
     where
         A: Copy,
-        ensures does { Does self.old self.new result (λ m. record { on_records = Kept Unasked; reply = sends origin outcome (option_to_list answer.now) }) }
+        ensures does { Does self.old self.new result (λ m. record {
+            on_records = Kept Unasked;
+            reply = Sends (reports_of origin outcome (option_to_list answer.now)) }) }
         ensures table { self.new.table ≡ self.old.table }
     {
         let sender = Sender {
@@ -103,7 +106,7 @@ impl<A: Allocator> State<A> {
     ) -> Result<Reports<A>, EngineFault>
     where
         A: Copy,
-        ensures { Does self.old self.new result (λ m. refused origin failure) }
+        ensures { Does self.old self.new result (λ m. refusal_effect origin failure) }
     {
         self.reply(alloc, origin, Outcome::Refused(failure), &None)
     }
@@ -113,18 +116,13 @@ impl<A: Allocator> State<A> {
         &mut self,
         alloc: A,
         origin: Origin,
-        failure: Failure,
+        failure: StartFailure,
     ) -> Result<Reports<A>, EngineFault>
     where
         A: Copy,
-        ensures { Does self.old self.new result (λ m. done origin (Kept (Failed failure))) }
+        ensures { Does self.old self.new result (λ m. start_effect origin [] (Kept (Failed failure))) }
     {
-        self.reply(
-            alloc,
-            origin,
-            Outcome::NotStarted(start_failure(failure)),
-            &None,
-        )
+        self.reply(alloc, origin, Outcome::NotStarted(failure), &None)
     }
 
     // Loads a procedure.
@@ -137,7 +135,7 @@ impl<A: Allocator> State<A> {
     ) -> Result<Reports<A>, EngineFault>
     where
         A: Copy,
-        ensures { Does self.old self.new result (λ m. done origin (effect_in (directive.Load code.now) id m)) }
+        ensures { Does self.old self.new result (λ m. start_effect origin [] (effect_of_load id code.now m)) }
     {
         match self.table.check_load(alloc, id, code) {
             Ok(loading) => {
@@ -161,9 +159,10 @@ impl<A: Allocator> State<A> {
     where
         A: Copy,
         requires { length arguments.now ≤ 256 }
-        ensures { Does self.old self.new result (λ m. done origin (effect_in (directive.Activate arguments.now) id m)) }
+        ensures { Does self.old self.new result
+            (λ m. start_effect origin [] (effect_in (directive.Activate arguments.now) id m)) }
     {
-        if let Some(failure) = self.table.activation_failure(id) {
+        if let Some(failure) = self.table.failure(id, &Directive::Activate(arguments)) {
             return self.fail(alloc, origin, failure);
         }
         let reports = self.reply(alloc, origin, Outcome::Done, &None)?;
@@ -175,7 +174,7 @@ impl<A: Allocator> State<A> {
     fn report_status(&mut self, alloc: A, origin: Origin) -> Result<Reports<A>, EngineFault>
     where
         A: Copy,
-        ensures { Does self.old self.new result (served command.Status origin) }
+        ensures { Does self.old self.new result (λ m. start_effect origin (status_report m ∷ []) (Kept Unasked)) }
     {
         let report = status_report(&self.table);
         self.reply(alloc, origin, Outcome::Done, &Some(report))
@@ -190,7 +189,7 @@ impl<A: Allocator> State<A> {
     ) -> Result<Reports<A>, EngineFault>
     where
         A: Copy,
-        ensures { Does self.old self.new result (served request.entry origin) }
+        ensures { Does self.old self.new result (command_effect request.entry origin) }
     {
         match request {
             Request::Load { id, code } => self.load(alloc, origin, id, code.octets()),
@@ -201,7 +200,11 @@ impl<A: Allocator> State<A> {
                 arguments.octets(),
             ),
             Request::Status => self.report_status(alloc, origin),
-            _ => self.refuse(alloc, origin, AcceptanceFailure::Subtype),
+            _ => self.refuse(
+                alloc,
+                origin,
+                AcceptanceFailure::Request(RequestFault::Subtype),
+            ),
         }
     }
 
@@ -214,19 +217,21 @@ impl<A: Allocator> State<A> {
     ) -> Result<Reports<A>, EngineFault>
     where
         A: Copy,
-        ensures { Does self.old self.new result (received read.entry time) }
+        ensures { Does self.old self.new result (request_effect read.entry time) }
     {
         match read {
             Ok(telecommand) => {
-                let origin = origin_of(&telecommand, time);
+                let origin = Origin::of_telecommand(&telecommand, time);
                 match command_of(&telecommand) {
                     Ok(request) => self.serve(alloc, origin, request),
-                    Err(fault) => self.refuse(alloc, origin, request_failure(fault)),
+                    Err(fault) => self.refuse(alloc, origin, AcceptanceFailure::Request(fault)),
                 }
             }
-            Err(TcFault::Rejected(rejection, request)) => {
-                self.refuse(alloc, unread(request, time), rejection_failure(rejection))
-            }
+            Err(TcFault::Rejected(rejection, request)) => self.refuse(
+                alloc,
+                Origin::of_packet(request, time),
+                AcceptanceFailure::Packet(rejection),
+            ),
             Err(TcFault::Discarded(cause)) => Err(EngineFault::Discarded(cause)),
         }
     }
@@ -242,41 +247,32 @@ fn first_count() -> SequenceCount
     }
 }
 
-// The outcome of an instruction event.
-fn outcome_of(turn: Result<InstructionOutcome, Refusal>) -> StepOutcome
-    ensures { result ≡ outcome_of turn }
-{
-    match turn {
-        Ok(InstructionOutcome::Ran) => StepOutcome::Ran,
-        Ok(InstructionOutcome::Ended) => StepOutcome::Ended,
-        Ok(InstructionOutcome::Faulted(number)) => StepOutcome::Faulted(number),
-        Err(Refusal::NotLoaded) => StepOutcome::NotLoaded,
-        Err(Refusal::NotRunning) => StepOutcome::NotRunning,
-    }
-}
-
 impl<A: Allocator> State<A> {
     ghost use Rattle.std.specs.Prelude.{if◌then◌else◌, false, replicate};
-    ghost use Rattle.ocp_core.specs.State.{IsWorld};
-    ghost use Rattle.ocp_core.specs.World.{replay_from};
-    ghost use Rattle.ocp_core.specs.Slice.{is_on, is_running, slice_count, slice_last};
+    ghost use Rattle.ocp_world.specs.Mirror.State.{IsWorld};
+    ghost use Rattle.ocp_world.specs.Replay.{replay_from};
+    ghost use Rattle.ocp_world.specs.Slice.{is_on, is_running, slice_count, slice_last};
 
     // Whether a slice goes on after this outcome.
     fn goes_on(&self, id: u16, outcome: StepOutcome) -> bool
-        ensures { (w : World) → IsWorld w self.now → result ≡ (if is_on outcome then is_running (get w.records id) else false) }
+        ensures { (w : World) → IsWorld w self.now →
+            result ≡ (if is_on outcome then is_running (get w.records id) else false) }
     {
         if outcome != StepOutcome::Ran {
             return false;
         }
-        self.table.refusal(id).is_none()
+        self.table.failure(id, &Directive::Step).is_none()
     }
 
     /// Does instructions of one procedure until the budget is used or it no longer goes on.
     pub fn slice(&mut self, id: u16, budget: u32) -> Slice
         requires { 1 ≤ budget }
-        ensures world { (w : World) (by : ℕ) → IsWorld w self.old → IsWorld (replay_from w (replicate result.count (world.Step by id))) self.new }
-        ensures count { (w : World) (by : ℕ) → IsWorld w self.old → result.count ≡ slice_count w by id budget }
-        ensures last { (w : World) (by : ℕ) → IsWorld w self.old → result.last ≡ slice_last w by id StepOutcome.Ran budget }
+        ensures world { (w : World) (by : ℕ) → IsWorld w self.old →
+            IsWorld (replay_from w (replicate result.count (Step by id))) self.new }
+        ensures count { (w : World) (by : ℕ) → IsWorld w self.old →
+            result.count ≡ slice_count w by id budget }
+        ensures last { (w : World) (by : ℕ) → IsWorld w self.old →
+            result.last ≡ slice_last w by id StepOutcome.Ran budget }
     {
         let mut last = StepOutcome::Ran;
         for count in 0..budget {

@@ -1,12 +1,15 @@
 -- Which worlds a state stands for, and what a request makes of it.
 use Rattle.std.specs.Prelude.{◌≡◌, ◌%◌, ℕ, List, Result, Ok, Err}
 use Rattle.ocp_table.specs.Rec.{Records}
-use Rattle.ocp_core.specs.declared.answers.EngineFault.{EngineFault}
-use Rattle.ocp_core.specs.World.{World, Effect, world_after, answer_by}
-use Rattle.ocp_core.specs.Answering.{Answers}
-use Rattle.ocp_core.specs.declared.state.State.{State}
+use Rattle.ocp_world.specs.declared.answers.EngineFault.{EngineFault}
+use Rattle.ocp_world.specs.World.{World}
+use Rattle.ocp_world.specs.Effect.{Effect}
+use Rattle.ocp_world.specs.After.{world_after, answer_by}
+use Rattle.ocp_world.specs.Mirror.Answering.{Answers}
+use Rattle.ocp_world.specs.declared.state.State.{State}
 
 module _ {A : Type 0} where
+  -- nothing reads or writes the pool yet, so a state stands for worlds of any pool
   pub record IsWorld (w : World) (s : State A) : Type 0 where
     pub apid : s.apid ≡ w.apid
     pub records : s.table ≡ w.records
@@ -17,6 +20,12 @@ module _ {A : Type 0} where
   StandsAfter (Ok reports) old new s = IsWorld new s
   StandsAfter (Err fault) old new s = IsWorld old s
 
+  -- the result and the new state are those of this effect in this world
+  abbrev pub DoesIn : World → Effect → Result (List (List ℕ)) EngineFault → State A → Type 0
+  DoesIn w effect result new =
+      Answers result (answer_by effect.reply w) × StandsAfter result w (world_after effect w) new
+
   -- whatever world the state stood for, the result and the new state are those of what was decided in it
   abbrev pub Does : State A → State A → Result (List (List ℕ)) EngineFault → (Records → Effect) → Type 0
-  Does old new result decide = (w : World) → IsWorld w old → Answers result (answer_by (decide w.records).reply w) × StandsAfter result w (world_after (decide w.records) w) new
+  Does old new result decide =
+      (w : World) → IsWorld w old → DoesIn w (decide w.records) result new

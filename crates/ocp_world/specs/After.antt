@@ -1,0 +1,62 @@
+-- The world after an event, and the answer.
+use Rattle.std.specs.Prelude.{ℕ, ◌+◌, Bool, true, false, List, length, Result, Ok, Err}
+use Rattle.pus_fields.specs.TelecommandFaults.{telecommand_of}
+use Rattle.ocp_table.specs.declared.answers.StepOutcome.{StepOutcome}
+use Rattle.ocp_table.specs.declared.answers.StepOutcome.TheVariants as S
+use Rattle.ocp_table.specs.Effect.{records_by}
+use Rattle.ocp_table.specs.Deciding.{effect_in}
+use Rattle.ocp_table.specs.Deciding as directive
+use Rattle.ocp_reports.specs.Packets.{packets}
+use Rattle.ocp_world.specs.declared.answers.EngineFault.{EngineFault}
+use Rattle.ocp_world.specs.declared.answers.EngineFault.TheVariants as engine
+use Rattle.ocp_world.specs.World.{World, Event, Request, Step}
+use Rattle.ocp_world.specs.Effect.{Effect, Reply, Discards, Sends, Steps}
+use Rattle.ocp_world.specs.Requests.{request_effect}
+use Rattle.ocp_world.specs.Instructions.{instruction_effect}
+
+-- what an event does in a world
+abbrev pub effect_of : World → Event → Effect
+effect_of w (Request by time octets) = request_effect (telecommand_of w.apid octets) time w.records
+effect_of w (Step by id) = instruction_effect (effect_in directive.Step id w.records)
+
+-- the reports of a request, each a whole packet, or the outcome of an instruction
+pub data Answer : Type 0 where
+  Requested : Result (List (List ℕ)) EngineFault → Answer
+  Stepped : StepOutcome → Answer
+
+abbrev pub answer_by : Reply → World → Answer
+answer_by (Discards cause) w = Requested (Err (engine.Discarded cause))
+answer_by (Sends dispatches) w = Requested (Ok (packets w.apid w.reports dispatches))
+answer_by (Steps outcome) w = Stepped outcome
+
+-- the reports so far
+abbrev pub reports_by : Reply → ℕ → ℕ
+reports_by (Discards cause) n = n
+reports_by (Sends dispatches) n = n + length dispatches
+reports_by (Steps outcome) n = n
+
+abbrev pub world_after : Effect → World → World
+world_after effect w = record {
+  apid = w.apid;
+  records = records_by effect.on_records w.records;
+  pool = w.pool;
+  reports = reports_by effect.reply w.reports;
+}
+
+pub record After : Type 0 where
+  pub world : World
+  pub answer : Answer
+
+abbrev pub after : World → Event → After
+after w e = record { world = world_after (effect_of w e) w; answer = answer_by (effect_of w e).reply w }
+
+-- whether the answer is not that of an event which is refused and leaves the world as it was
+abbrev pub is_accepted : Answer → Bool
+is_accepted (Requested (Ok reports)) = true
+is_accepted (Requested (Err fault)) = false
+is_accepted (Stepped S.Ran) = true
+is_accepted (Stepped S.Ended) = true
+is_accepted (Stepped (S.Faulted number)) = true
+is_accepted (Stepped S.NotLoaded) = false
+is_accepted (Stepped S.NotRunning) = false
+is_accepted (Stepped S.JournalFull) = false

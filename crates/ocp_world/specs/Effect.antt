@@ -1,0 +1,17 @@
+-- What an event does: to the records, and what is answered.
+use Rattle.std.specs.Prelude.{List}
+use Rattle.pus_fields.specs.declared.fault.Discard.{Discard}
+use Rattle.ocp_table.specs.declared.answers.StepOutcome.{StepOutcome}
+use Rattle.ocp_table.specs.Effect as table
+use Rattle.ocp_reports.specs.Origin.{Dispatch}
+
+-- octets are discarded; reports are sent, each to its destination at its time; or an instruction was
+-- asked for
+pub data Reply : Type 0 where
+  Discards : Discard → Reply
+  Sends : List Dispatch → Reply
+  Steps : StepOutcome → Reply
+
+pub record Effect : Type 0 where
+  pub on_records : table.Effect
+  pub reply : Reply

@@ -1,0 +1,9 @@
+pub mod World
+pub mod Effect
+pub mod Requests
+pub mod Instructions
+pub mod After
+pub mod Replay
+pub mod Slice
+pub mod Laws
+pub mod Mirror

@@ -1,0 +1,13 @@
+//! The world of an engine: what each event does in it and what is answered, the replay of events, and the state that
+//! stands for it.
+#![tactic(auto)]
+
+mod answers;
+mod convert;
+pub mod laws;
+mod state;
+
+pub use answers::{EngineFault, Slice};
+pub use convert::discard_of;
+pub use ocp_table::StepOutcome;
+pub use state::State;
