@@ -6,7 +6,7 @@ use Rattle.std.proofs.lemmas.List.{take_more, append-nil}
 use Rattle.std.proofs.lemmas.Grind.{flat_map-append}
 use Rattle.std.proofs.Math.Nat.{mod-add-mod}
 use Rattle.byteorder.specs.Endian.{big_bytes}
-use Rattle.obcp_messages.specs.declared.rows.StatusRow.{StatusRow}
+use Rattle.obcp_types.specs.declared.status.StatusRow.{StatusRow}
 use Rattle.obcp_messages.specs.declared.report.StartFault.{StartFault}
 use Rattle.obcp_messages.specs.declared.report.StartFault.TheVariants.{BadCode, Plain}
 use Rattle.obcp_messages.specs.declared.report.Report.{Report}

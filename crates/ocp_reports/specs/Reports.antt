@@ -3,22 +3,14 @@ use Rattle.std.specs.Prelude.{ℕ, List, [], ◌∷◌, map}
 use Rattle.std.specs.List.{flat_map}
 use Rattle.obcp_messages.specs.declared.report.Report.{Report}
 use Rattle.obcp_messages.specs.declared.report.Report.TheVariants as report
-use Rattle.obcp_messages.specs.declared.report.StartFault.{StartFault}
-use Rattle.obcp_messages.specs.declared.report.StartFault.TheVariants as fault
-use Rattle.verification.specs.declared.outcome.StartFailure.{StartFailure}
-use Rattle.verification.specs.declared.outcome.StartFailure.TheVariants as start
+use Rattle.obcp_messages.specs.Report.{start_fault}
+use Rattle.obcp_types.specs.Codes.{acceptance_code}
 use Rattle.verification.specs.declared.outcome.Outcome.{Outcome}
 use Rattle.verification.specs.declared.notice.Notice.{Notice}
 use Rattle.verification.specs.declared.notice.Notice.TheVariants as notice
-use Rattle.verification.specs.Codes.{acceptance_code, start_code}
 use Rattle.verification.specs.Reports.{reports_of_outcome}
 use Rattle.ocp_reports.specs.declared.origin.Origin.{Origin}
 use Rattle.ocp_reports.specs.Origin.{Dispatch, dispatch_of}
-
--- a failure code, with the data that code 18 has
-abbrev pub start_fault : StartFailure → StartFault
-start_fault (start.BadCode number slot) = fault.BadCode number slot
-start_fault other = fault.Plain (start_code other)
 
 -- the report of a notice about the request of this identifier; the answer report, where there is one,
 -- stands at its place
@@ -33,7 +25,8 @@ report_of request answer notice.Answer = answer
 report_of request answer notice.Completed = report.Completed request ∷ []
 
 abbrev pub dispatch_of_notice : Origin → List Report → Notice → List Dispatch
-dispatch_of_notice origin answer notice = map (dispatch_of origin) (report_of origin.request answer notice)
+dispatch_of_notice origin answer notice =
+    map (dispatch_of origin) (report_of origin.request answer notice)
 
 -- the reports of an outcome, in their order
 abbrev pub reports_of : Origin → Outcome → List Report → List Dispatch

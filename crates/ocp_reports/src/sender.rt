@@ -5,15 +5,15 @@ ghost use Rattle.std.specs.Option.{option_to_list};
 ghost use Rattle.obcp_messages.specs.declared.report.Report.{Report as Sent};
 ghost use Rattle.pus_fields.specs.Telemetry.{telemetry_octets};
 ghost use Rattle.ocp_reports.specs.Origin.{dispatch_of};
-ghost use Rattle.ocp_reports.specs.Reports.{report_of, dispatch_of_notice, reports_of, start_fault};
+ghost use Rattle.ocp_reports.specs.Reports.{report_of, dispatch_of_notice, reports_of};
 ghost use Rattle.ocp_reports.specs.Packets.{packets, telemetry_of};
 
 use crate::{Octets, Origin, Reports};
-use obcp_messages::{PlainCode, Report, StartFault, write_report};
+use obcp_messages::{Report, StartFault, write_report};
 use pus_fields::{Tm, WriteFault, write_tm};
 use space_packet::{Apid, SequenceCount};
 use std::alloc::{AllocError, Allocator};
-use verification::{Notice, Outcome, StartFailure, notices};
+use verification::{Notice, Outcome, notices};
 
 // How many sequence counts there are: the count behind the last one is 0.
 const SEQUENCE_COUNTS: u16 = 16_384;
@@ -37,23 +37,10 @@ pub fn count_after(count: SequenceCount, packets: usize) -> SequenceCount
     }
 }
 
-// A failure code, with the data that code 18 has.
-fn start_fault(failure: StartFailure) -> StartFault
-    ensures { result ≡ start_fault failure }
-{
-    match failure {
-        StartFailure::BadCode { fault, slot } => StartFault::BadCode { fault, slot },
-        _ => match PlainCode::new(failure.code()) {
-            Some(code) => StartFault::Plain(code),
-            None => unreachable!(),
-        },
-    }
-}
-
 // The verification report of a notice, where it is not the place of the answer report.
 fn verification_report(request: [u8; 4], notice: Notice) -> Option<Report>
-    ensures { (answer : List Sent) →
-        MatchOption result (notice ≡ Notice.Answer) (λ r. report_of request answer notice ≡ r ∷ []) }
+    ensures { (answer : List Sent) → MatchOption result (notice ≡ Notice.Answer)
+        (λ r. report_of request answer notice ≡ r ∷ []) }
 {
     match notice {
         Notice::Accepted => Some(Report::Accepted { request }),
@@ -64,7 +51,7 @@ fn verification_report(request: [u8; 4], notice: Notice) -> Option<Report>
         Notice::Started => Some(Report::Started { request }),
         Notice::NotStarted(failure) => Some(Report::NotStarted {
             request,
-            fault: start_fault(failure),
+            fault: StartFault::from(failure),
         }),
         Notice::Answer => None,
         Notice::Completed => Some(Report::Completed { request }),
@@ -80,8 +67,9 @@ impl Sender {
         before: usize,
         report: &Report,
     ) -> Result<Octets<A>, AllocError>
-        ensures { IfOk result (λ p. p ≡
-            telemetry_octets (telemetry_of self.now.apid (self.now.count + before) (dispatch_of origin report.now))) }
+        ensures { let count = self.now.count + before in
+            IfOk result (λ p. p ≡
+            telemetry_octets (telemetry_of self.now.apid count (dispatch_of origin report.now))) }
     {
         let mut data = Vec::new(alloc);
         write_report(report, &mut data)?;
@@ -110,8 +98,9 @@ impl Sender {
         report: &Report,
         reports: &mut Reports<A>,
     ) -> Result<(), AllocError>
-        ensures { OnOk result (reports.new ≡ reports.old
-            ++ packets self.now.apid (self.now.count + length reports.old) (dispatch_of origin report.now ∷ [])) }
+        ensures { let count = self.now.count + length reports.old in
+            OnOk result (reports.new ≡
+            reports.old ++ packets self.now.apid count (dispatch_of origin report.now ∷ [])) }
     {
         let packet = self.packet(alloc, origin, reports.len(), report)?;
         reports.push(packet)
@@ -126,9 +115,9 @@ impl Sender {
         answer: &Option<Report>,
         reports: &mut Reports<A>,
     ) -> Result<(), AllocError>
-        ensures { OnOk result (reports.new ≡ reports.old
-            ++ packets self.now.apid (self.now.count + length reports.old)
-                (dispatch_of_notice origin (option_to_list answer.now) notice)) }
+        ensures { let count = self.now.count + length reports.old in
+            let more = dispatch_of_notice origin (option_to_list answer.now) notice in
+            OnOk result (reports.new ≡ reports.old ++ packets self.now.apid count more) }
     {
         if let Some(report) = verification_report(origin.request, notice) {
             return self.add(alloc, origin, &report, reports);
@@ -147,8 +136,8 @@ impl Sender {
         outcome: Outcome,
         answer: &Option<Report>,
     ) -> Result<Reports<A>, AllocError>
-        ensures { IfOk result (λ r. r ≡
-            packets self.now.apid self.now.count (reports_of origin outcome (option_to_list answer.now))) }
+        ensures { let all = reports_of origin outcome (option_to_list answer.now) in
+            IfOk result (λ r. r ≡ packets self.now.apid self.now.count all) }
     {
         let mut reports = Reports::new(alloc);
         let list = notices(origin.ack, &outcome);
