@@ -9,7 +9,7 @@ use Rattle.std.specs.Cmp.{nat_cmp_total, unsigned_tied}
 use Rattle.std.specs.FinMap as map
 use Rattle.slab.specs.Slab.{Slab, get, entries, entries_from, slab_len, Updates, with_value}
 use Rattle.slab.proofs.SlabLemmas.{Contains-entries, Contains-cons, Contains-cons_cases, Updates-with_value}
-use Rattle.ocp_table.specs.Contents.{IsDistinct, IsUnder, IsAbsent, contents}
+use Rattle.ocp_table.specs.Mirror.Contents.{IsDistinct, IsUnder, IsAbsent, contents}
 
 module _ {T X : Type 0} (id_of : T → ℕ) (shown : T → X) where
   abbrev pair : ℕ × T → ℕ × X

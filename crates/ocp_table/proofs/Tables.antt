@@ -7,9 +7,9 @@ use Rattle.ocp_table.specs.declared.control.Status.{Status}
 use Rattle.ocp_table.specs.declared.control.Status.TheVariants.{Inactive, Running}
 use Rattle.ocp_table.specs.declared.answers.InstructionOutcome.{InstructionOutcome}
 use Rattle.ocp_table.specs.declared.answers.Refusal.{Refusal}
-use Rattle.ocp_table.specs.Contents.{IsSound}
-use Rattle.ocp_table.specs.Rec.{Rec, Records}
-use Rattle.ocp_table.specs.Effect.{Effect, Loaded, Changed, Kept, records_by, put_changed}
+use Rattle.ocp_table.specs.Mirror.Contents.{IsSound}
+use Rattle.ocp_table.specs.Records.{Rec, Records}
+use Rattle.ocp_table.specs.Effects.{Effect, Loaded, Changed, Kept, records_by, put_changed}
 use Rattle.ocp_table.specs.Deciding.{effect_activate_by, effect_turn, is_full}
 use Rattle.ocp_table.specs.Shown.{rec_after}
 use Rattle.std.proofs.lemmas.Bool.Decides.{nat_tests}

@@ -1,6 +1,7 @@
-pub mod Contents
-pub mod Rec
-pub mod Codes
-pub mod Effect
+pub mod Records
+pub mod Effects
+pub mod RequestTable
 pub mod Deciding
 pub mod Shown
+pub mod Laws
+pub mod Mirror

@@ -1,38 +1,62 @@
-/// What an instruction made of a running procedure.
+use obcp_types::StartFailure;
+
+/// What an instruction did to a running procedure.
 #[derive(Clone, Copy, PartialEq, Eq, Debug)]
 pub enum InstructionOutcome {
     Ran,
-    /// The last exit.
+    /// The last exit: the procedure is inactive.
     Ended,
-    /// The number of the machine's fault.
+    /// The number of the machine's fault: the procedure is inactive.
     Faulted(u8),
 }
 
-/// Why an instruction event changes nothing.
+/// What became of an instruction event. The last three change nothing, and come in this order. A table has no journal, and
+/// never answers the last one.
 #[derive(Clone, Copy, PartialEq, Eq, Debug)]
-pub enum Refusal {
+pub enum StepOutcome {
+    Ran,
+    /// The last exit: the procedure is inactive.
+    Ended,
+    /// The number of the machine's fault: the procedure is inactive.
+    Faulted(u8),
     NotLoaded,
     NotRunning,
+    JournalFull,
 }
 
-/// Why the start of a request failed.
-#[derive(Clone, Copy, PartialEq, Eq, Debug)]
-pub enum Failure {
-    /// Code 16: a procedure with this id is loaded.
-    AlreadyLoaded,
-    /// Code 17: sixteen procedures are loaded.
-    TableFull,
-    /// Code 18: the image may not be run. The number of its first fault, and the slot of the instruction at fault.
-    BadCode(u8, u16),
-    /// Code 19: no procedure with this id is loaded.
-    NotLoaded,
-    /// Code 20: the procedure is not inactive.
-    NotInactive,
+/// What was done, where a directive did not fail.
+#[derive(Clone, Copy)]
+pub enum Done {
+    Started,
+    Stepped(InstructionOutcome),
 }
 
 /// Why nothing is loaded: the start of the request failed, or memory was refused.
 #[derive(Clone, Copy, PartialEq, Eq, Debug)]
 pub enum LoadFailure {
-    Failed(Failure),
+    Failed(StartFailure),
     Memory,
+}
+
+impl StepOutcome {
+    ghost use Rattle.std.specs.Prelude.{◌≡◌, ◌≢◌, Ok};
+    ghost use Rattle.ocp_table.specs.declared.answers.Done.TheVariants.{Started};
+    ghost use Rattle.ocp_table.specs.Effects.{Effect, step_outcome};
+    ghost use Rattle.ocp_table.specs.Shown.{Answers};
+
+    /// That of an instruction event which was answered so.
+    #[inline(always)]
+    pub(crate) fn of(answer: Result<Done, StartFailure>) -> StepOutcome
+        requires { answer ≢ Ok Started }
+        ensures { (effect : Effect) → Answers answer effect → result ≡ step_outcome effect }
+    {
+        match answer {
+            Ok(Done::Started) => unreachable!(),
+            Ok(Done::Stepped(InstructionOutcome::Ran)) => StepOutcome::Ran,
+            Ok(Done::Stepped(InstructionOutcome::Ended)) => StepOutcome::Ended,
+            Ok(Done::Stepped(InstructionOutcome::Faulted(number))) => StepOutcome::Faulted(number),
+            Err(StartFailure::NotLoaded) => StepOutcome::NotLoaded,
+            Err(_) => StepOutcome::NotRunning,
+        }
+    }
 }

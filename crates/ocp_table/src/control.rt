@@ -1,10 +1,4 @@
-/// Whether a procedure runs.
-#[derive(Clone, Copy, PartialEq, Eq, Debug, Default)]
-pub enum Status {
-    #[default]
-    Inactive,
-    Running,
-}
+use obcp_types::Status;
 
 /// How a procedure became inactive after its last start.
 #[derive(Clone, Copy, PartialEq, Eq, Debug)]
@@ -14,4 +8,36 @@ pub enum Cause {
     Exited,
     /// The number of the machine's fault.
     Fault(u8),
+}
+
+/// What requests and the end of a run set.
+#[derive(Clone, Copy)]
+pub struct Control {
+    pub status: Status,
+    pub cause: Cause,
+}
+
+impl Control {
+    ghost use Rattle.std.specs.Prelude.{◌≡◌};
+    ghost use Rattle.ocp_table.specs.Effects.{running, inactive};
+
+    /// That of a procedure that runs.
+    pub(crate) fn running() -> Control
+        ensures { result ≡ running }
+    {
+        Control {
+            status: Status::Running,
+            cause: Cause::Nothing,
+        }
+    }
+
+    /// That of a procedure that became inactive.
+    pub(crate) fn inactive(cause: Cause) -> Control
+        ensures { result ≡ inactive cause }
+    {
+        Control {
+            status: Status::Inactive,
+            cause,
+        }
+    }
 }

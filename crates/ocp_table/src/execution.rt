@@ -1,4 +1,4 @@
-use crate::InstructionOutcome;
+use crate::{InstructionOutcome, MAX_ARGUMENTS};
 use bpf_step::{Local, Machine, Need};
 use ocp_loader::Program;
 use std::alloc::Allocator;
@@ -12,11 +12,11 @@ pub struct Execution<A: Allocator> {
 }
 
 impl<A: Allocator> Model for Execution<A> {
-    ghost use Rattle.ocp_table.specs.Rec.{Execution as Executed};
+    ghost use Rattle.ocp_table.specs.Records.{Execution as Pair};
 
-    ghost Value = { Executed };
+    ghost Value = { Pair };
 
-    ghost use Rattle.ocp_table.specs.Codes.{execution_code};
+    ghost use Rattle.ocp_table.specs.Mirror.Codes.{execution_code};
 
     ghost coded = { execution_code };
 
@@ -29,12 +29,12 @@ impl<A: Allocator> Model for Execution<A> {
 }
 
 impl<A: Allocator> Execution<A> {
-    ghost use Rattle.std.specs.Prelude.{◌≡◌, ◌≤◌, [], length};
+    ghost use Rattle.std.specs.Prelude.{◌≡◌, ◌≤◌, [], Some, length};
     ghost use Rattle.ocp_loader.specs.LoadResult.{IsPlace};
     ghost use Rattle.bpf_step.specs.Machine.{started};
     ghost use Rattle.bpf_step.specs.Step.{one_step};
-    ghost use Rattle.ocp_table.specs.Effect.{machine_after};
-    ghost use Rattle.ocp_table.specs.Deciding.{made_by};
+    ghost use Rattle.ocp_table.specs.Effects.{machine_by_outcome};
+    ghost use Rattle.ocp_table.specs.Deciding.{outcome_of};
 
     /// A new machine at a program's first instruction.
     pub(crate) fn new(program: Program<A>, machine: Machine<A>) -> Self
@@ -48,18 +48,19 @@ impl<A: Allocator> Execution<A> {
 
     /// Starts the machine anew with at most 256 octets of arguments.
     pub(crate) fn start(&mut self, arguments: &[u8])
-        requires { length arguments.now ≤ 256 }
+        requires { length arguments.now ≤ MAX_ARGUMENTS }
         ensures image { self.new.image ≡ self.old.image }
         ensures machine { self.new.machine ≡ started arguments.now }
     {
         self.machine.start(arguments);
     }
 
-    /// Does one instruction.
+    /// Does one instruction. There always is one, and it is no numbered call.
+    #[inline(always)]
     pub(crate) fn step(&mut self) -> InstructionOutcome
-        ensures made { result ≡ made_by (one_step self.old.image self.old.machine) }
+        ensures outcome { outcome_of (one_step self.old.image self.old.machine) ≡ Some result }
         ensures image { self.new.image ≡ self.old.image }
-        ensures machine { self.new.machine ≡ machine_after (one_step self.old.image self.old.machine) self.old.machine }
+        ensures machine { self.new.machine ≡ machine_by_outcome result self.old.image self.old.machine }
     {
         match self.machine.local_step(&self.program) {
             Local::Stepped => InstructionOutcome::Ran,

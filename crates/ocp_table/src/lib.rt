@@ -4,14 +4,18 @@
 
 mod answers;
 mod control;
+mod directive;
 mod execution;
+pub mod laws;
 mod record;
 mod table;
 mod view;
 
-pub use answers::{Failure, LoadFailure, InstructionOutcome, Refusal};
-pub use control::{Cause, Status};
+pub use answers::{Done, InstructionOutcome, LoadFailure, StepOutcome};
+pub use control::{Cause, Control};
+pub use directive::{Directive, MAX_ARGUMENTS};
 pub use execution::Execution;
+pub use obcp_types::{StartFailure, Status, StatusRow};
 pub use record::Record;
 pub use table::{MAX_PROCEDURES, Table};
-pub use view::{Row, View};
+pub use view::View;

@@ -1,4 +1,5 @@
-use crate::{Cause, Execution, Failure, InstructionOutcome, Refusal, Status, View};
+use crate::{Cause, Control, Directive, Done, Execution, InstructionOutcome, View};
+use obcp_types::StartFailure;
 use std::alloc::Allocator;
 
 /// A procedure under its id.
@@ -6,96 +7,87 @@ use std::alloc::Allocator;
 pub struct Record<A: Allocator> {
     pub id: u16,
     pub execution: Execution<A>,
-    pub status: Status,
-    pub cause: Cause,
+    pub control: Control,
 }
 
 impl<A: Allocator> Record<A> {
-    ghost use Rattle.std.specs.Prelude.{◌≡◌, ◌≤◌, [], Some, length};
+    ghost use Rattle.std.specs.Prelude.{◌≡◌, ◌≤◌, [], Some, length, true};
+    ghost use Rattle.obcp_types.specs.declared.status.Status.TheVariants.{Running};
     ghost use Rattle.bpf_step.specs.Machine.{started};
-    ghost use Rattle.ocp_table.specs.Effect.{loaded, ended};
-    ghost use Rattle.ocp_table.specs.Deciding.{effect_activate_by, effect_turn, turn, turn_by};
-    ghost use Rattle.ocp_table.specs.Shown.{shown, rec_after, started_by, view_of, activation_failure_by, refusal_by};
+    ghost use Rattle.bpf_step.specs.Step.{one_step};
+    ghost use Rattle.ocp_table.specs.Effects.{Started, Stepped, new_record, record_by, record_after};
+    ghost use Rattle.ocp_table.specs.RequestTable.{transition, failure_by};
+    ghost use Rattle.ocp_table.specs.Deciding.{outcome_of, effect_on};
+    ghost use Rattle.ocp_table.specs.Shown.{shown, view_of, directive_of, Answers, HasFewArguments};
+    ghost use Rattle.ocp_table.specs.declared.directive.TheConstants.{MAX_ARGUMENTS};
 
     /// A procedure that was loaded.
     pub(crate) fn new(id: u16, execution: Execution<A>) -> Self
         requires { execution.machine ≡ started [] }
-        ensures record { shown result ≡ loaded execution.image }
+        ensures record { shown result ≡ new_record execution.image }
         ensures id { result.id ≡ id }
     {
         Record {
             id,
             execution,
-            status: Status::Inactive,
-            cause: Cause::Nothing,
+            control: Control::inactive(Cause::Nothing),
         }
     }
 
-    /// Starts an inactive procedure from its first instruction, with at most 256 octets of arguments.
-    pub(crate) fn activate(&mut self, arguments: &[u8]) -> Result<(), Failure>
-        requires { length arguments.now ≤ 256 }
-        ensures answer { result ≡ started_by (effect_activate_by self.old.status self.old.id arguments.now) }
-        ensures record { shown self.new ≡ rec_after (effect_activate_by self.old.status self.old.id arguments.now) (shown self.old) }
+    /// Decides: why a directive fails.
+    #[inline(always)]
+    pub(crate) fn failure(&self, directive: &Directive<'_>) -> Option<StartFailure>
+        ensures { result ≡ failure_by (transition (directive_of directive.now) (Some self.now.control.status)) }
+    {
+        directive.failure(self.control.status)
+    }
+
+    /// Enacts a directive, or fails and changes nothing.
+    #[inline(always)]
+    pub(crate) fn apply(&mut self, directive: Directive<'_>) -> Result<Done, StartFailure>
+        requires { HasFewArguments (directive_of directive) }
+        ensures answer { Answers result (effect_on (directive_of directive.entry) self.old.id (Some (shown self.old)) true) }
+        ensures record { shown self.new ≡ record_after (effect_on (directive_of directive.entry) self.old.id (Some (shown self.old)) true) (shown self.old) }
         ensures id { self.new.id ≡ self.old.id }
     {
-        match self.status {
-            Status::Inactive => {
-                self.execution.start(arguments);
-                self.status = Status::Running;
-                self.cause = Cause::Nothing;
-                Ok(())
+        if let Some(failure) = self.failure(&directive) {
+            return Err(failure);
+        }
+        match directive {
+            Directive::Activate(arguments) => {
+                self.start(arguments);
+                Ok(Done::Started)
             }
-            Status::Running => Err(Failure::NotInactive),
+            Directive::Step => Ok(Done::Stepped(self.step())),
         }
     }
 
-    /// Why an activate would fail.
-    pub(crate) fn activation_failure(&self) -> Option<Failure>
-        ensures { result ≡ activation_failure_by self.now.status }
-    {
-        match self.status {
-            Status::Inactive => None,
-            Status::Running => Some(Failure::NotInactive),
-        }
-    }
-
-    /// Why an instruction event would be refused.
-    pub(crate) fn refusal(&self) -> Option<Refusal>
-        ensures { result ≡ refusal_by self.now.status }
-    {
-        match self.status {
-            Status::Inactive => Some(Refusal::NotRunning),
-            Status::Running => None,
-        }
-    }
-
-    /// The procedure becomes inactive.
-    fn end(&mut self, cause: Cause)
-        ensures execution { self.new.execution ≡ self.old.execution }
-        ensures status { self.new.status ≡ (ended cause).status }
-        ensures cause { self.new.cause ≡ cause }
+    // Starts the procedure from its first instruction.
+    fn start(&mut self, arguments: &[u8])
+        requires { length arguments.now ≤ MAX_ARGUMENTS }
+        ensures record { shown self.new ≡ record_by (Started arguments.now) (shown self.old) }
         ensures id { self.new.id ≡ self.old.id }
     {
-        self.status = Status::Inactive;
-        self.cause = cause;
+        self.execution.start(arguments);
+        self.control = Control::running();
     }
 
-    /// Does one instruction of a running procedure.
-    pub(crate) fn step(&mut self) -> Result<InstructionOutcome, Refusal>
-        ensures answer { result ≡ turn_by self.old.status (shown self.old) }
-        ensures record { shown self.new ≡ rec_after (effect_turn self.old.id (turn (Some (shown self.old)))) (shown self.old) }
+    // Does one instruction of a running procedure.
+    #[inline(always)]
+    fn step(&mut self) -> InstructionOutcome
+        ensures outcome { outcome_of (one_step self.old.execution.image self.old.execution.machine) ≡ Some result }
+        ensures record { shown self.new ≡ record_by (Stepped result) (shown self.old) }
         ensures id { self.new.id ≡ self.old.id }
     {
-        if self.status != Status::Running {
-            return Err(Refusal::NotRunning);
-        }
-        let made = self.execution.step();
-        match made {
+        let outcome = self.execution.step();
+        match outcome {
             InstructionOutcome::Ran => {}
-            InstructionOutcome::Ended => self.end(Cause::Exited),
-            InstructionOutcome::Faulted(number) => self.end(Cause::Fault(number)),
+            InstructionOutcome::Ended => self.control = Control::inactive(Cause::Exited),
+            InstructionOutcome::Faulted(number) => {
+                self.control = Control::inactive(Cause::Fault(number));
+            }
         }
-        Ok(made)
+        outcome
     }
 
     /// What is shown of the procedure.
@@ -103,8 +95,8 @@ impl<A: Allocator> Record<A> {
         ensures { result ≡ view_of (shown self.now) }
     {
         View {
-            status: self.status,
-            cause: self.cause,
+            status: self.control.status,
+            cause: self.control.cause,
             place: self.execution.place(),
             depth: self.execution.depth(),
             registers: self.execution.registers(),

@@ -1,4 +1,5 @@
-use crate::{Cause, Status};
+use crate::Cause;
+use obcp_types::Status;
 
 /// What is shown of a procedure.
 #[derive(Clone, Copy, PartialEq, Eq, Debug)]
@@ -10,11 +11,4 @@ pub struct View {
     /// How many local calls have not returned.
     pub depth: usize,
     pub registers: [u64; 11],
-}
-
-/// A row of the status report.
-#[derive(Clone, Copy, PartialEq, Eq, Debug, Default)]
-pub struct Row {
-    pub id: u16,
-    pub status: Status,
 }

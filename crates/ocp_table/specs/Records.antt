@@ -3,19 +3,14 @@ use Rattle.std.specs.Prelude.{ℕ, List}
 use Rattle.std.specs.Ordering.{nat_cmp}
 use Rattle.std.specs.FinMap.{FinMap}
 use Rattle.bpf_step.specs.Machine.{State}
-use Rattle.ocp_table.specs.declared.control.Status.{Status}
-use Rattle.ocp_table.specs.declared.control.Cause.{Cause}
+use Rattle.ocp_table.specs.declared.control.Control.{Control}
 
 -- a program's image and the machine that runs it
 pub record Execution : Type 0 where
   pub image : List ℕ
   pub machine : State
 
--- what requests and the end of a run set
-pub record Control : Type 0 where
-  pub status : Status
-  pub cause : Cause
-
+-- the control is what requests and the end of a run set: the status, and why the procedure became inactive
 pub record Rec : Type 0 where
   pub image : List ℕ
   pub machine : State

@@ -2,6 +2,7 @@
 use Rattle.std.specs.Prelude.{◌≡◌, ◌≢◌, ℕ, ◌≤◌, map, Some}
 use Rattle.std.specs.Ordering.{nat_cmp}
 use Rattle.std.specs.FinMap.{FinMap, from_entries}
+use Rattle.ocp_table.specs.declared.table.TheConstants.{MAX_PROCEDURES}
 use Rattle.slab.specs.Slab.{Slab, get, entries, slab_len}
 
 module _ {T : Type 0} (id_of : T → ℕ) where
@@ -19,11 +20,11 @@ module _ {T : Type 0} (id_of : T → ℕ) where
   abbrev pub IsAbsent : Slab T → ℕ → Type 0
   IsAbsent s id = (key : ℕ) (r : T) → get s key ≡ Some r → id_of r ≢ id
 
-  -- at most sixteen records, with room for so many, and no id stands twice
+  -- at most so many records as a table may hold, with room for so many, and no id stands twice
   pub record IsSound (s : Slab T) : Type 0 where
     pub distinct : IsDistinct s
-    pub few : slab_len s ≤ 16
-    pub room : 16 ≤ s.capacity
+    pub few : slab_len s ≤ MAX_PROCEDURES
+    pub room : MAX_PROCEDURES ≤ s.capacity
 
 module _ {T X : Type 0} (id_of : T → ℕ) (shown : T → X) where
   abbrev pub contents : Slab T → FinMap nat_cmp X

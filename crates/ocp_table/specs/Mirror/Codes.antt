@@ -4,11 +4,9 @@ use Rattle.std.specs.Coded.{Coded, code_by, coded×, coded_ℕ, coded_list}
 use Rattle.std.specs.FinMap.{code}
 use Rattle.bpf_step.specs.Machine.{State}
 use Rattle.bpf_step.specs.Codes.{state_code}
-use Rattle.ocp_table.specs.declared.control.Status.{Status}
-use Rattle.ocp_table.specs.declared.control.Cause.{Cause}
-use Rattle.ocp_table.specs.contracts.control.Status as S
-use Rattle.ocp_table.specs.contracts.control.Cause as C
-use Rattle.ocp_table.specs.Rec.{Execution, Control, Rec, Records}
+use Rattle.ocp_table.specs.declared.control.Control.{Control}
+use Rattle.ocp_table.specs.contracts.control.Control as C
+use Rattle.ocp_table.specs.Records.{Execution, Rec, Records}
 
 abbrev pub execution_code : Coded Execution
 execution_code =
@@ -17,16 +15,9 @@ execution_code =
     (λ p. record { image = p.0; machine = p.1 })
     (λ _. refl)
 
-abbrev pub control_code : Coded Control
-control_code =
-    code_by (Status × Cause) (coded× (S.the_row).coded (C.the_row).coded)
-    (λ c. (c.status, c.cause))
-    (λ p. record { status = p.0; cause = p.1 })
-    (λ _. refl)
-
 abbrev pub rec_code : Coded Rec
 rec_code =
-    code_by (List ℕ × (State × Control)) (coded× (coded_list coded_ℕ) (coded× state_code control_code))
+    code_by (List ℕ × (State × Control)) (coded× (coded_list coded_ℕ) (coded× state_code (C.the_row).coded))
     (λ r. (r.image, (r.machine, r.control)))
     (λ p. record { image = p.0; machine = p.1.0; control = p.1.1 })
     (λ _. refl)
