@@ -14,7 +14,8 @@ use Rattle.ocp_loader.specs.Admitted.{IsAdmitted, IsAdmittedAs, HasSlots}
 use Rattle.bpf_text.specs.Lines.{Written, Statement}
 use Rattle.bpf_assembler.specs.Text.{Entry, entries_of, entry_of, AreInstructions, slots}
 use Rattle.bpf_assembler.specs.Faults.{IsFirstMiss, IsLineOfSlot, IsLineOf, IsFault}
-use Rattle.bpf_assembler.specs.Passes.{IsCollected, AreResolved, ResolvesAll, IsLineUpTo, IsReported, IsImageOfText, IsFaultOf, entry}
+use Rattle.bpf_assembler.specs.Mirror.Passes.{IsCollected, AreResolved, ResolvesAll, IsLineUpTo, IsReported, entry}
+use Rattle.bpf_assembler.specs.Assembling.{IsImageOfText, IsFaultOf}
 use Rattle.bpf_assembler.specs.declared.fault.Why.TheVariants as why
 use Rattle.bpf_assembler.specs.declared.fault.AsmFault.{AsmFault}
 use Rattle.bpf_assembler.specs.declared.fault.AsmFault.TheVariants.{Memory, At}

@@ -11,7 +11,8 @@ use Rattle.bpf_listing.specs.Listing.{listing, IsImageOf}
 use Rattle.bpf_listing.specs.Octets.{is_text_octet}
 use Rattle.bpf_text.specs.Lines.{Written, Writes}
 use Rattle.bpf_text.specs.Listings.{alone}
-use Rattle.bpf_assembler.specs.Text.{Ended, onto, pieces_of, line_of_piece, lines_of, EachWritten, AreDistinct, entries_of, AreInstructions, Means}
+use Rattle.text_lines.specs.Lines.{Ended, onto, lines_of, text_of, line_texts}
+use Rattle.bpf_assembler.specs.Text.{EachWritten, AreDistinct, entries_of, AreInstructions, Means}
 use Rattle.ocp_loader.specs.Admitted.{IsAdmitted, IsAdmittedAs}
 use Rattle.bpf_assembler.proofs.Only.{AreMeantOnce}
 
@@ -41,7 +42,7 @@ no_return : (o : ℕ) → is_text_octet o ≡ true → (o == 13) ≡ false
 no_return o h = grind (arith, nat_tests)
 
 -- the text up to a newline is a line
-first_piece : (text rest : List ℕ) → list_all is_text_octet text ≡ true → pieces_of (text ++ 10 ∷ rest) ≡ Ended text ∷ pieces_of rest
+first_piece : (text rest : List ℕ) → list_all is_text_octet text ≡ true → lines_of (text ++ 10 ∷ rest) ≡ Ended text ∷ lines_of rest
 first_piece [] rest h = refl
 first_piece (o ∷ os) rest h =
     let p = both_of (is_text_octet o) (list_all is_text_octet os) h in
@@ -55,14 +56,14 @@ octet_at (o ∷ os) (suc k) h = octet_at os k (both_of (is_text_octet o) (list_a
 stays_whole : (text : List ℕ) → list_all is_text_octet text ≡ true → strip_carriage_return text ≡ text
 stays_whole text h = rw (octet_at text (length text - 1) h) refl
 
-pub first_line : (text rest : List ℕ) → list_all is_text_octet text ≡ true → lines_of (text ++ 10 ∷ rest) ≡ text ∷ lines_of rest
-first_line text rest h = ap (map line_of_piece) (first_piece text rest h) ∙ ap (λ (t : List ℕ). t ∷ lines_of rest) (stays_whole text h)
+pub first_line : (text rest : List ℕ) → list_all is_text_octet text ≡ true → line_texts (text ++ 10 ∷ rest) ≡ text ∷ line_texts rest
+first_line text rest h = ap (map text_of) (first_piece text rest h) ∙ ap (λ (t : List ℕ). t ∷ line_texts rest) (stays_whole text h)
 
 -- the lines of a listing are the canonical texts
-lines_of_listing : AreTexts → (ls : List Line) → All IsLine ls → lines_of (listing ls) ≡ map canonical ls
+lines_of_listing : AreTexts → (ls : List Line) → All IsLine ls → line_texts (listing ls) ≡ map canonical ls
 lines_of_listing texts [] h = refl
 lines_of_listing texts (l ∷ ls) h =
-    ap lines_of (append_assoc (canonical l) (codes "\n") (listing ls))
+    ap line_texts (append_assoc (canonical l) (codes "\n") (listing ls))
     ∙ first_line (canonical l) (listing ls) (texts l (first_of l ls h))
     ∙ ap (λ (t : List (List ℕ)). canonical l ∷ t) (lines_of_listing texts ls (rest_of l ls h))
 

@@ -8,7 +8,8 @@ use Rattle.bpf_types.specs.Line.{is_wide, slots_if}
 use Rattle.ocp_loader.specs.Image.{second_of, slots_of, by_slot, target_of}
 use Rattle.ocp_loader.specs.Places.{place_of}
 use Rattle.bpf_text.specs.Lines.{Written, Writes, HasLabel, Statement, IsOperands, IsForm}
-use Rattle.bpf_assembler.specs.Text.{lines_of, EachWritten, label_place, has_label, slots, end_of, IsNew, AreDistinct, entry_of, entries_of, with_distance, aimed_at, IsInstruction, AreInstructions, IsWritten}
+use Rattle.text_lines.specs.Lines.{line_texts}
+use Rattle.bpf_assembler.specs.Text.{EachWritten, label_place, has_label, slots, end_of, IsNew, AreDistinct, entry_of, entries_of, with_distance, with_target, IsInstruction, AreInstructions, IsWritten}
 use Rattle.bpf_assembler.specs.Labels.{and_then, statements, IsLabelAt, IsMeantBy}
 
 -- what the law of the loader says of places
@@ -120,7 +121,7 @@ there_and_back : (slot to : ℕ) → pos (slot + 1) +ℤ (pos to -ℤ pos (slot 
 there_and_back slot to = +ℤ_comm (pos (slot + 1)) (pos to -ℤ pos (slot + 1)) ∙ -ℤ-+ℤ_cancel (pos to) (pos (slot + 1))
 
 -- an instruction that names a label is a jump or a local call
-named_target : (given : Line) (name : List ℕ) (odd : Option ℕ) (tokens : List (List ℕ)) (slot to : ℕ) → IsOperands given (Some name) odd tokens → target_of slot (aimed_at given slot to) ≡ Some (pos to)
+named_target : (given : Line) (name : List ℕ) (odd : Option ℕ) (tokens : List (List ℕ)) (slot to : ℕ) → IsOperands given (Some name) odd tokens → target_of slot (with_target given slot to) ≡ Some (pos to)
 named_target (line.Jump z) name odd tokens slot to h = ap (λ (x : ℤ). Some x) (there_and_back slot to)
 named_target (line.LongJump z) name odd tokens slot to h = ap (λ (x : ℤ). Some x) (there_and_back slot to)
 named_target (line.JumpIf w t dst x z) name odd tokens slot to h = ap (λ (x : ℤ). Some x) (there_and_back slot to)
@@ -163,7 +164,7 @@ pub meant_by : AreCounted → (text : List ℕ) (ws : List Written) (ls : List L
     → IsMeantBy ws ls (place_of c) s.line s.name l
 meant_by counted text ws ls a b s c d l h is e f same =
     let at = meant_at ws 1 0 ws a b s c d l e (subst (AreInstructions ws (entries_of 1 0 ws)) f is) same in
-    let form = formed_at (lines_of text) ws a b s h.each e in
+    let form = formed_at (line_texts text) ws a b s h.each e in
     by s.name (subst (λ (p : ℕ). IsInstruction ws p s.line s.name l) (let none : 0 + length (by_slot c) ≡ length (by_slot c) = omega arith in none ∙ sym (counted c)) at) form.1.0 form.1.2
   where
     by : (name : Option (List ℕ)) → IsInstruction ws (place_of c) s.line name l → (operands : List (List ℕ)) → IsOperands s.line name s.odd operands → IsMeantBy ws ls (place_of c) s.line name l

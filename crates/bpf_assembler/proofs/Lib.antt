@@ -1,7 +1,6 @@
 pub mod UniqueTexts
 pub mod CanonicalListings
 pub mod LabelLemmas
-pub mod Cutting
 pub mod Places
 pub mod FirstPass
 pub mod SecondPass

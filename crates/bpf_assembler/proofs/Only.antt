@@ -6,7 +6,7 @@ use Rattle.bpf_listing.specs.Listing.{image_of}
 use Rattle.ocp_loader.specs.Admitted.{IsAdmitted, IsAdmittedAs}
 use Rattle.bpf_assembler.specs.Text.{Means}
 use Rattle.bpf_assembler.specs.Faults.{IsFault}
-use Rattle.bpf_assembler.specs.Passes.{IsImageOfText, IsFaultOf}
+use Rattle.bpf_assembler.specs.Assembling.{IsImageOfText, IsFaultOf}
 use Rattle.bpf_assembler.specs.declared.fault.Why.{Why}
 use Rattle.bpf_assembler.specs.declared.fault.AsmFault.{AsmFault}
 use Rattle.bpf_assembler.specs.declared.fault.AsmFault.TheVariants.{Memory, At}

@@ -5,9 +5,9 @@ use Rattle.std.specs.Str.{bytes_eq}
 use Rattle.std.proofs.lemmas.Slice.Eq.{bytes_eq-Decides}
 use Rattle.std.proofs.Common.{Bor}
 use Rattle.bpf_text.specs.Lines.{Written, Statement, Writes, InRange}
-use Rattle.bpf_assembler.specs.Tables.{label_at}
+use Rattle.bpf_assembler.specs.Mirror.Tables.{label_at}
 use Rattle.bpf_assembler.specs.Text.{label_place, end_of, entries_of, entry_of, Entry, has_label, slots, IsNew, AreDistinct, EachWritten}
-use Rattle.bpf_assembler.specs.Passes.{AreLabels, Knows, entry}
+use Rattle.bpf_assembler.specs.Mirror.Passes.{AreLabels, Knows, entry}
 use Rattle.bpf_assembler.specs.declared.table.Row.{Row}
 
 -- the place of a name in one more line

@@ -10,7 +10,7 @@ use Rattle.bpf_types.specs.Line.{spelling, IsLine}
 use Rattle.bpf_listing.specs.Listing.{image_of}
 use Rattle.bpf_text.specs.Lines.{Written}
 use Rattle.bpf_assembler.specs.Text.{Entry, IsInstruction, AreInstructions}
-use Rattle.bpf_assembler.specs.Passes.{Resolves, ResolvesAll, AreResolved, entry}
+use Rattle.bpf_assembler.specs.Mirror.Passes.{Resolves, ResolvesAll, AreResolved, entry}
 use Rattle.bpf_assembler.specs.declared.table.Row.{Row}
 use Rattle.bpf_assembler.specs.declared.fault.AsmFault.{AsmFault}
 use Rattle.bpf_assembler.specs.declared.fault.AsmFault.TheVariants.{Memory, At}

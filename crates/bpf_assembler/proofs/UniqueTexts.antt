@@ -11,7 +11,8 @@ use Rattle.ocp_loader.specs.FaultNumbers.{number_of, slot_of}
 use Rattle.ocp_loader.specs.LoadResult.{load_result}
 use Rattle.ocp_loader.specs.Admitted.{IsAdmitted}
 use Rattle.bpf_text.specs.Lines.{Written, Writes, InRange}
-use Rattle.bpf_assembler.specs.Text.{lines_of, EachWritten, IsNew, AreDistinct, Entry, entries_of, aimed_at, IsInstruction, AreInstructions, IsWritten, Means}
+use Rattle.text_lines.specs.Lines.{line_texts}
+use Rattle.bpf_assembler.specs.Text.{EachWritten, IsNew, AreDistinct, Entry, entries_of, with_target, IsInstruction, AreInstructions, IsWritten, Means}
 use Rattle.bpf_assembler.specs.Faults.{HasFault, HasLineFault, MissesLabel, IsFirstMiss, HasNameFault, IsLineOfSlot, IsLineOf, HasLoadFault, IsLoadFault, IsFault}
 use Rattle.bpf_assembler.specs.declared.fault.Why.{Why}
 use Rattle.bpf_assembler.specs.declared.fault.Why.TheVariants as why
@@ -32,7 +33,7 @@ one_each once (l ∷ ls) (w ∷ ws) [] h k = absurd k
 one_each once (l ∷ ls) (w ∷ ws) (v ∷ vs) h k = let first = once l w v h.0 h.1 k.0 in let others = one_each once ls ws vs h.2 k.2 in cc
 
 pub one_list : AreReadOnce → (text : List ℕ) (ws vs : List Written) → IsWritten text ws → IsWritten text vs → ws ≡ vs
-one_list once text ws vs h k = one_each once (lines_of text) ws vs h.each k.each
+one_list once text ws vs h k = one_each once (line_texts text) ws vs h.each k.each
 
 -- ---- instructions
 
@@ -40,7 +41,7 @@ one_instruction : (all : List Written) (place : ℕ) (given l k : Line) (name : 
 one_instruction all place given l k None h j = h ∙ sym j
 one_instruction all place given l k (Some name) (p, e, f, h) (q, d, g, j) =
     let same : p ≡ q = cc in
-    h ∙ ap (aimed_at given place) same ∙ sym j
+    h ∙ ap (with_target given place) same ∙ sym j
 
 pub one_instructions : (all : List Written) (es : List Entry) (ls ks : List Line) → AreInstructions all es ls → AreInstructions all es ks → ls ≡ ks
 one_instructions all [] [] [] h k = refl
@@ -142,7 +143,7 @@ one_line_fault once text m n y z h k =
 reaches_or_misses : (all : List Written) (place : ℕ) (given l : Line) (name : Option (List ℕ)) (y : Why) → IsInstruction all place given name l → MissesLabel all place given name y → ⊥
 reaches_or_misses all place given l None y h k = k
 reaches_or_misses all place given l (Some name) why.Syntax h k = k
-reaches_or_misses all place given l (Some name) why.Range (p, e, f, h) (q, d, g) = let same : p ≡ q = cc in g (subst IsLine (h ∙ ap (aimed_at given place) same) f)
+reaches_or_misses all place given l (Some name) why.Range (p, e, f, h) (q, d, g) = let same : p ≡ q = cc in g (subst IsLine (h ∙ ap (with_target given place) same) f)
 reaches_or_misses all place given l (Some name) why.DuplicateLabel h k = k
 reaches_or_misses all place given l (Some name) why.UnknownLabel (p, e, f, h) k = absurd cc
 reaches_or_misses all place given l (Some name) (why.Load fault) h k = k

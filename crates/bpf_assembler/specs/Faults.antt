@@ -7,8 +7,9 @@ use Rattle.bpf_listing.specs.Listing.{image_of}
 use Rattle.ocp_loader.specs.declared.fault.LoadFault.{LoadFault}
 use Rattle.ocp_loader.specs.FaultNumbers.{number_of, slot_of}
 use Rattle.ocp_loader.specs.LoadResult.{load_result}
+use Rattle.text_lines.specs.Lines.{line_texts}
 use Rattle.bpf_text.specs.Lines.{Written, Writes, InRange}
-use Rattle.bpf_assembler.specs.Text.{lines_of, EachWritten, label_place, IsNew, AreDistinct, Entry, entries_of, aimed_at, AreInstructions, IsWritten}
+use Rattle.bpf_assembler.specs.Text.{EachWritten, label_place, IsNew, AreDistinct, Entry, entries_of, with_target, AreInstructions, IsWritten}
 use Rattle.bpf_assembler.specs.declared.fault.Why.{Why}
 use Rattle.bpf_assembler.specs.declared.fault.Why.TheVariants as why
 
@@ -28,7 +29,7 @@ pub record HasLineFault (text : List ℕ) (number : ℕ) (y : Why) : Type 0 wher
   pub line : List ℕ
   pub after : List (List ℕ)
   pub lines : List Written
-  pub order : lines_of text ≡ before ++ line ∷ after
+  pub order : line_texts text ≡ before ++ line ∷ after
   pub counted : number ≡ length before + 1
   pub each : EachWritten before lines
   pub distinct : AreDistinct [] lines
@@ -39,7 +40,7 @@ pub record HasLineFault (text : List ℕ) (number : ℕ) (y : Why) : Type 0 wher
 -- the instruction names a label that is none, or one that is too far
 abbrev pub MissesLabel : List Written → ℕ → Line → Option (List ℕ) → Why → Type 0
 MissesLabel all place given (Some name) why.UnknownLabel = label_place name 0 all ≡ None
-MissesLabel all place given (Some name) why.Range = (to : ℕ) × (label_place name 0 all ≡ Some to) × ¬ IsLine (aimed_at given place to)
+MissesLabel all place given (Some name) why.Range = (to : ℕ) × (label_place name 0 all ≡ Some to) × ¬ IsLine (with_target given place to)
 MissesLabel all place given name y = ⊥
 
 -- the first of these instructions that misses its label is of the line of this number

@@ -1,5 +1,5 @@
 pub mod Text
 pub mod Faults
 pub mod Labels
-pub mod Tables
-pub mod Passes
+pub mod Assembling
+pub mod Mirror

@@ -1,37 +1,11 @@
 -- What an assembly text means: its lines, the places of its labels, and its instructions.
-use Rattle.std.specs.Prelude.{◌≡◌, ◌+◌, ◌==◌, ℕ, ℤ, pos, ◌-ℤ◌, List, [], ◌∷◌, ◌++◌, map, Option, Some, None, Bool, false, if◌then◌else◌}
+use Rattle.std.specs.Prelude.{◌≡◌, ◌+◌, ℕ, ℤ, pos, ◌-ℤ◌, List, [], ◌∷◌, ◌++◌, Option, Some, None, Bool, false, if◌then◌else◌}
 use Rattle.std.specs.Str.{bytes_eq}
-use Rattle.std.specs.Str.Lines.{strip_carriage_return}
+use Rattle.text_lines.specs.Lines.{line_texts}
 use Rattle.bpf_types.specs.declared.line.Line.{Line}
 use Rattle.bpf_types.specs.declared.line.Line.TheVariants as line
 use Rattle.bpf_types.specs.Line.{IsLine, slots_in}
 use Rattle.bpf_text.specs.Lines.{Written, Writes, InRange, Statement}
-
--- ---- the text, cut at newlines
-
--- a newline ends a line; octets behind the last newline are a line too, which is open
-pub data Piece : Type 0 where
-  Ended : List ℕ → Piece
-  Open : List ℕ → Piece
-
--- an octet more in front of the first line
-abbrev pub onto : ℕ → List Piece → List Piece
-onto octet [] = Open (octet ∷ []) ∷ []
-onto octet (Ended octets ∷ pieces) = Ended (octet ∷ octets) ∷ pieces
-onto octet (Open octets ∷ pieces) = Open (octet ∷ octets) ∷ pieces
-
-abbrev pub pieces_of : List ℕ → List Piece
-pieces_of [] = []
-pieces_of (octet ∷ octets) = if octet == 10 then Ended [] ∷ pieces_of octets else onto octet (pieces_of octets)
-
--- a carriage return directly in front of the newline is no part of the line
-abbrev pub line_of_piece : Piece → List ℕ
-line_of_piece (Ended octets) = strip_carriage_return octets
-line_of_piece (Open octets) = octets
-
--- the lines of a text, without their newlines
-abbrev pub lines_of : List ℕ → List (List ℕ)
-lines_of text = map line_of_piece (pieces_of text)
 
 -- ---- lines that are written one after another
 
@@ -100,14 +74,14 @@ with_distance (line.CallLocal old) distance = line.CallLocal distance
 with_distance l distance = l
 
 -- the jump or the local call at a place, going to another place: distances count from the next slot (RFC 9669, section 4.3)
-abbrev pub aimed_at : Line → ℕ → ℕ → Line
-aimed_at l place to = with_distance l (pos to -ℤ pos (place + 1))
+abbrev pub with_target : Line → ℕ → ℕ → Line
+with_target l place to = with_distance l (pos to -ℤ pos (place + 1))
 
 -- the instruction at a place is the line: as it is written, or going to the place of the label that it names, where
 -- its distance is in range
 abbrev pub IsInstruction : List Written → ℕ → Line → Option (List ℕ) → Line → Type 0
 IsInstruction all place given None l = l ≡ given
-IsInstruction all place given (Some name) l = (to : ℕ) × (label_place name 0 all ≡ Some to) × IsLine l × (l ≡ aimed_at given place to)
+IsInstruction all place given (Some name) l = (to : ℕ) × (label_place name 0 all ≡ Some to) × IsLine l × (l ≡ with_target given place to)
 
 abbrev pub AreInstructions : List Written → List Entry → List Line → Type 0
 AreInstructions all [] [] = Unit {0}
@@ -117,7 +91,7 @@ AreInstructions all (e ∷ es) (l ∷ ls) = IsInstruction all e.place e.statemen
 
 -- the lines of the text are written so, and no label stands twice
 pub record IsWritten (text : List ℕ) (ws : List Written) : Type 0 where
-  pub each : EachWritten (lines_of text) ws
+  pub each : EachWritten (line_texts text) ws
   pub distinct : AreDistinct [] ws
 
 -- the text means these instructions

@@ -6,7 +6,8 @@ ghost use Rattle.bpf_listing.specs.Listing.{listing};
 ghost use Rattle.ocp_loader.specs.Admitted.{IsAdmitted, IsAdmittedAs};
 ghost use Rattle.bpf_assembler.specs.Text.{Means};
 ghost use Rattle.bpf_assembler.specs.Faults.{IsFault};
-ghost use Rattle.bpf_assembler.specs.Passes.{IsImageOfText, IsFaultOf, IsReported, entry};
+ghost use Rattle.bpf_assembler.specs.Mirror.Passes.{IsReported, entry};
+ghost use Rattle.bpf_assembler.specs.Assembling.{IsImageOfText, IsFaultOf};
 ghost use Rattle.bpf_assembler.specs.declared.fault.Why.{Why};
 ghost use Rattle.bpf_assembler.specs.declared.fault.AsmFault.TheVariants.{Memory, At};
 
@@ -50,7 +51,7 @@ impl<A: Allocator> Image<A> {
 }
 
 /// The fault of an image, at the line of the instruction at its slot, or at line 0 where it is one of the image's length.
-fn reported(rows: &[Row<'_>], fault: LoadFault) -> AsmFault
+fn fault_with_line(rows: &[Row<'_>], fault: LoadFault) -> AsmFault
     ensures { IsReported (map entry rows.now) fault result }
 {
     let line = match fault {
@@ -83,7 +84,7 @@ fn image_of<A: Allocator + Copy>(alloc: A, text: &[u8]) -> Result<Image<A>, AsmF
     let octets = resolve_all(alloc, &table.labels, &table.rows)?;
     match load(alloc, &octets) {
         Ok(_) => Ok(Image { octets }),
-        Err(fault) => Err(reported(&table.rows, fault)),
+        Err(fault) => Err(fault_with_line(&table.rows, fault)),
     }
 }
 
@@ -98,10 +99,14 @@ fn image_of<A: Allocator + Copy>(alloc: A, text: &[u8]) -> Result<Image<A>, AsmF
 pub fn assemble<A: Allocator + Copy>(alloc: A, text: &[u8]) -> Result<Image<A>, AsmFault>
     ensures means { IfOk result (IsImageOfText text.now) }
     ensures fault { IfErr result (IsFaultOf text.now) }
-    ensures lines { (lines : List Line) → Means text.now lines → IfOk result (λ image. IsAdmittedAs image lines) }
-    ensures only { (image : List ℕ) → IsImageOfText text.now image → (result ≡ Err Memory) ⊎ (result ≡ Ok image) }
-    ensures only_fault { (line : ℕ) (why : Why) → IsFault text.now line why → (result ≡ Err Memory) ⊎ (result ≡ Err (At line why)) }
-    ensures listed { (image : List ℕ) (lines : List Line) → IsAdmittedAs image lines → text.now ≡ listing lines → (result ≡ Err Memory) ⊎ (result ≡ Ok image) }
+    ensures lines { (lines : List Line) → Means text.now lines →
+        IfOk result (λ image. IsAdmittedAs image lines) }
+    ensures only { (image : List ℕ) → IsImageOfText text.now image →
+        (result ≡ Err Memory) ⊎ (result ≡ Ok image) }
+    ensures only_fault { (line : ℕ) (why : Why) → IsFault text.now line why →
+        (result ≡ Err Memory) ⊎ (result ≡ Err (At line why)) }
+    ensures listed { (image : List ℕ) (lines : List Line) → IsAdmittedAs image lines →
+        text.now ≡ listing lines → (result ≡ Err Memory) ⊎ (result ≡ Ok image) }
 {
     meanings_are_unique();
     faults_are_unique();

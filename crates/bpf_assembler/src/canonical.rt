@@ -1,10 +1,10 @@
 //! The canonical form of an assembly text.
 
-ghost use Rattle.std.specs.Prelude.{◌≡◌, ◌⊎◌, ◌++◌, ℕ, List, Ok, Err, OnOk, OnErr, IfErr};
+ghost use Rattle.std.specs.Prelude.{◌≡◌, ◌⊎◌, ◌++◌, ℕ, List, Ok, Err, OnOk, OnErr, IfErr, ◌≤◌, vec_capacity};
 ghost use Rattle.bpf_types.specs.declared.line.Line.{Line};
 ghost use Rattle.bpf_listing.specs.Listing.{listing};
 ghost use Rattle.bpf_assembler.specs.Text.{Means};
-ghost use Rattle.bpf_assembler.specs.Passes.{IsImageOfText, IsFaultOf};
+ghost use Rattle.bpf_assembler.specs.Assembling.{IsImageOfText, IsFaultOf};
 ghost use Rattle.bpf_assembler.specs.declared.fault.AsmFault.TheVariants.{Memory};
 
 use crate::assembling::assemble;
@@ -13,18 +13,22 @@ use ocp_loader::{LoadFault, load};
 use std::alloc::Allocator;
 
 /// Appends the canonical form of an assembly text to the octets: the text is assembled, the image loaded and the program
-/// listed. Loading refuses no image of a text but for want of memory. Each instruction that the text means has its line.
+/// listed. The load is refused only where memory runs out. Each instruction that the text means has its line.
 ///
-/// Refused as `assemble` is, and as Memory where the listing has no room. On a refusal the octets stay.
+/// Refused as `assemble` is, and as Memory where memory for the program or its listing is refused. A refusal leaves the
+/// octets of `out` as they were. The capacity never shrinks.
 pub fn write_canonical<A: Allocator + Copy, B: Allocator>(
     alloc: A,
     text: &[u8],
     out: &mut Vec<u8, B>,
 ) -> Result<(), AsmFault>
-    ensures ok { OnOk result ((lines : List Line) × Means text.now lines × (out.new.items ≡ out.old.items ++ listing lines)) }
-    ensures only { (image : List ℕ) → IsImageOfText text.now image → (result ≡ Err Memory) ⊎ (result ≡ Ok tt) }
+    ensures ok { OnOk result ((lines : List Line) × Means text.now lines ×
+        (out.new.items ≡ out.old.items ++ listing lines)) }
+    ensures only { (image : List ℕ) → IsImageOfText text.now image →
+        (result ≡ Err Memory) ⊎ (result ≡ Ok tt) }
     ensures fault { IfErr result (IsFaultOf text.now) }
     ensures err { OnErr result (out.new.items ≡ out.old.items) }
+    ensures capacity { vec_capacity out.old ≤ vec_capacity out.new }
 {
     let image = assemble(alloc, text)?;
     match load(alloc, image.octets()) {

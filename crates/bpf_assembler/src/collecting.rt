@@ -5,14 +5,14 @@ ghost use Rattle.bpf_types.specs.Line.{slots_in};
 ghost use Rattle.bpf_text.specs.Lines.{Written};
 ghost use Rattle.bpf_text.specs.Judged.{text_of, statement_of};
 ghost use Rattle.bpf_assembler.specs.Text.{end_of, slots, entry_of};
-ghost use Rattle.bpf_assembler.specs.Passes.{AreLabels, PutsLabel, Knows, Adds, Collects, entry};
+ghost use Rattle.bpf_assembler.specs.Mirror.Passes.{AreLabels, PutsLabel, Knows, Adds, Collects, entry};
 
-use crate::cut::cut;
 use crate::fault::{AsmFault, Why};
 use crate::table::{Row, Table, has, put};
 use bpf_text::{LineFault, Source, read_line};
 use std::alloc::Allocator;
 use std::collections::BTreeMap;
+use text_lines::first_line;
 
 /// Notes a line's label, unless it stands already.
 fn put_label<'a, A: Allocator + Clone>(
@@ -20,7 +20,8 @@ fn put_label<'a, A: Allocator + Clone>(
     label: Option<&'a [u8]>,
     place: u64,
 ) -> Result<bool, AsmFault>
-    ensures { (ws : List Written) → AreLabels labels.old ws → place ≡ end_of 0 ws → PutsLabel (text_of label.entry) labels.new ws result }
+    ensures { (ws : List Written) → AreLabels labels.old ws → place ≡ end_of 0 ws →
+        PutsLabel (text_of label.entry) labels.new ws result }
 {
     let Some(name) = label else {
         return Ok(true);
@@ -40,8 +41,10 @@ fn put_row<'a, A: Allocator>(
     body: &Option<Source<'a>>,
 ) -> Result<u64, AsmFault>
     requires { place + 2 < 2 ^ 64 }
-    ensures rows { OnOk result (map entry rows.new.items ≡ map entry rows.old.items ++ entry_of number place (statement_of body.now)) }
-    ensures place { IfOk result (λ next. (next ≡ place + slots (statement_of body.now)) × (next ≤ place + 2)) }
+    ensures rows { OnOk result (map entry rows.new.items ≡
+        map entry rows.old.items ++ entry_of number place (statement_of body.now)) }
+    ensures place { IfOk result
+        (λ next. (next ≡ place + slots (statement_of body.now)) × (next ≤ place + 2)) }
     ensures err { IfErr result (λ e. e ≡ AsmFault.Memory) }
 {
     match body {
@@ -63,7 +66,8 @@ fn put_row<'a, A: Allocator>(
 fn add<'a, A: Allocator + Clone>(table: &mut Table<'a, A>, text: &'a [u8]) -> Result<(), AsmFault>
     requires few { table.old.lines + 1 < 2 ^ 63 }
     requires room { table.old.place ≤ 2 * table.old.lines }
-    ensures lines { (ws : List Written) → Knows table.old.labels table.old.rows.items table.old.lines table.old.place ws
+    ensures lines { (ws : List Written) →
+        Knows table.old.labels table.old.rows.items table.old.lines table.old.place ws
         → Adds text.now table.new.labels table.new.rows.items table.new.lines table.new.place ws result }
     ensures count { OnOk result (table.new.lines ≡ table.old.lines + 1) }
     ensures place { OnOk result (table.new.place ≤ table.old.place + 2) }
@@ -102,7 +106,7 @@ pub fn collect<'a, A: Allocator + Clone>(
 {
     let mut rest = text;
     while !rest.is_empty() {
-        let (line, after) = cut(rest);
+        let (line, after) = first_line(rest);
         add(table, line)?;
         rest = after;
     }

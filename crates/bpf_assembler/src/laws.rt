@@ -1,15 +1,13 @@
 //! Laws of assembly text.
 
-ghost use Rattle.std.specs.Prelude.{◌≡◌, ◌≢◌, ◌↔◌, [], ◌∷◌, ◌++◌, List, ℕ, Some, Err, length};
-ghost use Rattle.std.specs.List.{All};
-ghost use Rattle.std.specs.Str.Lines.{strip_carriage_return};
+ghost use Rattle.std.specs.Prelude.{◌≡◌, ◌↔◌, ◌∷◌, ◌++◌, List, ℕ, Some, Err, length};
 ghost use Rattle.bpf_types.specs.declared.line.Line.{Line};
 ghost use Rattle.bpf_listing.specs.Listing.{image_of};
 ghost use Rattle.ocp_loader.specs.declared.fault.LoadFault.{LoadFault};
 ghost use Rattle.ocp_loader.specs.Admitted.{IsAdmitted};
 ghost use Rattle.ocp_loader.specs.LoadResult.{load_result};
 ghost use Rattle.ocp_loader.specs.Places.{place_of};
-ghost use Rattle.bpf_assembler.specs.Text.{lines_of, Means, IsWritten, AreInstructions, entries_of, label_place};
+ghost use Rattle.bpf_assembler.specs.Text.{Means, IsWritten, AreInstructions, entries_of, label_place};
 ghost use Rattle.bpf_assembler.specs.Faults.{IsFault};
 ghost use Rattle.bpf_assembler.specs.Labels.{statements, IsLabelAt, IsMeantBy};
 ghost use Rattle.bpf_assembler.specs.declared.fault.Why.{Why};
@@ -18,6 +16,7 @@ ghost use Rattle.bpf_text.specs.Lines.{Written, Statement};
 
 use bpf_text::laws::readings_are_unique;
 use ocp_loader::{faults_are_of_images_that_may_not_be_run, places_are_counted_in_slots};
+pub use text_lines::laws::texts_are_cut_at_newlines;
 
 /// A text means at most one list of instructions.
 pub fn meanings_are_unique()
@@ -28,15 +27,19 @@ pub fn meanings_are_unique()
 
 /// A text has at most one fault, of one line.
 pub fn faults_are_unique()
-    ensures { (text : List ℕ) (m n : ℕ) (y z : Why) → IsFault text m y → IsFault text n z → (m ≡ n) × (y ≡ z) }
+    ensures { (text : List ℕ) (m n : ℕ) (y z : Why) → IsFault text m y → IsFault text n z →
+        (m ≡ n) × (y ≡ z) }
 {
     readings_are_unique();
 }
 
 /// A text that means instructions has no fault but that of their image; so it has none where their image may be run.
 pub fn meanings_exclude_faults()
-    ensures image { (text : List ℕ) (lines : List Line) (number : ℕ) (y : Why) → Means text lines → IsFault text number y → (fault : LoadFault) × (y ≡ Load fault) × (load_result (image_of lines) ≡ Err fault) }
-    ensures admitted { (text : List ℕ) (lines : List Line) (number : ℕ) (y : Why) → Means text lines → IsAdmitted (image_of lines) → ¬ IsFault text number y }
+    ensures image { (text : List ℕ) (lines : List Line) (number : ℕ) (y : Why) → Means text lines →
+        IsFault text number y →
+        (fault : LoadFault) × (y ≡ Load fault) × (load_result (image_of lines) ≡ Err fault) }
+    ensures admitted { (text : List ℕ) (lines : List Line) (number : ℕ) (y : Why) →
+        Means text lines → IsAdmitted (image_of lines) → ¬ IsFault text number y }
 {
     readings_are_unique();
     faults_are_of_images_that_may_not_be_run();
@@ -45,16 +48,13 @@ pub fn meanings_exclude_faults()
 /// Of a text that means instructions: a label has the place in the image of the next instruction, or at the end of the text
 /// the slot after the last one; and an instruction that names a label leads there, as the loader reads its distance.
 pub fn named_jumps_lead_to_their_labels()
-    ensures labels { (text : List ℕ) (ws : List Written) (ls : List Line) (name : List ℕ) (place : ℕ) → IsWritten text ws → AreInstructions ws (entries_of 1 0 ws) ls → (label_place name 0 ws ≡ Some place) ↔ IsLabelAt name ws ls place }
-    ensures jumps { (text : List ℕ) (ws : List Written) (ls : List Line) (a b : List Statement) (s : Statement) (c d : List Line) (l : Line) → IsWritten text ws → AreInstructions ws (entries_of 1 0 ws) ls → statements ws ≡ a ++ s ∷ b → ls ≡ c ++ l ∷ d → length a ≡ length c → IsMeantBy ws ls (place_of c) s.line s.name l }
+    ensures labels { (text : List ℕ) (ws : List Written) (ls : List Line) (name : List ℕ) (place : ℕ) →
+        IsWritten text ws → AreInstructions ws (entries_of 1 0 ws) ls →
+        (label_place name 0 ws ≡ Some place) ↔ IsLabelAt name ws ls place }
+    ensures jumps { (text : List ℕ) (ws : List Written) (ls : List Line) (a b : List Statement) (s : Statement)
+        (c d : List Line) (l : Line) → IsWritten text ws → AreInstructions ws (entries_of 1 0 ws) ls →
+        statements ws ≡ a ++ s ∷ b → ls ≡ c ++ l ∷ d → length a ≡ length c →
+        IsMeantBy ws ls (place_of c) s.line s.name l }
 {
     places_are_counted_in_slots();
 }
-
-/// A text is cut at its newlines: a line is what stands in front of one, without a carriage return directly before it; and
-/// what stands behind the last one, unless that is nothing.
-pub fn texts_are_cut_at_newlines()
-    ensures nothing { lines_of [] ≡ [] }
-    ensures ended { (line rest : List ℕ) → All (λ octet. octet ≢ 10) line → lines_of (line ++ 10 ∷ rest) ≡ strip_carriage_return line ∷ lines_of rest }
-    ensures open { (line : List ℕ) → All (λ octet. octet ≢ 10) line → line ≢ [] → lines_of line ≡ line ∷ [] }
-{}

@@ -4,7 +4,6 @@
 mod assembling;
 pub mod canonical;
 mod collecting;
-mod cut;
 mod fault;
 pub mod laws;
 pub mod listings;

@@ -5,7 +5,7 @@ ghost use Rattle.std.specs.Int.{w16, w32};
 ghost use Rattle.bpf_types.specs.Line.{IsLine};
 ghost use Rattle.bpf_text.specs.Lines.{Written};
 ghost use Rattle.bpf_assembler.specs.Text.{with_distance};
-ghost use Rattle.bpf_assembler.specs.Passes.{AreLabels, Resolves, ResolvesAll, IsLineUpTo, entry};
+ghost use Rattle.bpf_assembler.specs.Mirror.Passes.{AreLabels, Resolves, ResolvesAll, IsLineUpTo, entry};
 
 use crate::fault::{AsmFault, Why};
 use crate::table::{Row, place_at};
@@ -16,7 +16,8 @@ use std::collections::BTreeMap;
 
 /// The distance, where it fits 16 bits.
 fn short(distance: i128) -> Option<i16>
-    ensures { MatchOption result (¬ FitsSigned w16 distance) (λ d. (d ≡ distance) × FitsSigned w16 distance) }
+    ensures { MatchOption result (¬ FitsSigned w16 distance)
+        (λ d. (d ≡ distance) × FitsSigned w16 distance) }
 {
     if -0x8000 <= distance && distance < 0x8000 {
         Some(distance as i16)
@@ -27,7 +28,8 @@ fn short(distance: i128) -> Option<i16>
 
 /// The distance, where it fits 32 bits.
 fn long(distance: i128) -> Option<i32>
-    ensures { MatchOption result (¬ FitsSigned w32 distance) (λ d. (d ≡ distance) × FitsSigned w32 distance) }
+    ensures { MatchOption result (¬ FitsSigned w32 distance)
+        (λ d. (d ≡ distance) × FitsSigned w32 distance) }
 {
     if -0x8000_0000 <= distance && distance < 0x8000_0000 {
         Some(distance as i32)
@@ -38,7 +40,8 @@ fn long(distance: i128) -> Option<i32>
 
 /// The jump or the local call with the distance, where it is in range.
 fn with_distance(line: Line, distance: i128) -> Option<Line>
-    ensures { MatchOption result (¬ IsLine (with_distance line distance)) (λ l. (l ≡ with_distance line distance) × IsLine l) }
+    ensures { MatchOption result (¬ IsLine (with_distance line distance))
+        (λ l. (l ≡ with_distance line distance) × IsLine l) }
 {
     let copied = line;
     lines_are_in_range(copied);
@@ -106,7 +109,8 @@ pub fn resolve_all<A: Allocator, B: Allocator>(
     labels: &BTreeMap<&[u8], u64, A>,
     rows: &[Row<'_>],
 ) -> Result<Vec<u8, B>, AsmFault>
-    ensures { (ws : List Written) → AreLabels labels.now ws → ResolvesAll ws (map entry rows.now) (λ v. v.items) result }
+    ensures { (ws : List Written) → AreLabels labels.now ws → ResolvesAll ws (map entry rows.now)
+        (λ v. v.items) result }
 {
     let mut octets = Vec::new(alloc);
     for row in rows {

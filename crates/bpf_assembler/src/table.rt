@@ -2,7 +2,7 @@
 
 ghost use Rattle.std.specs.Prelude.{◌≡◌, ℕ, List, Some, if◌then◌else◌, OnOk, is_some};
 ghost use Rattle.std.specs.Str.{bytes_eq};
-ghost use Rattle.bpf_assembler.specs.Tables.{label_at};
+ghost use Rattle.bpf_assembler.specs.Mirror.Tables.{label_at};
 
 use bpf_types::Line;
 use std::alloc::{AllocError, Allocator};
@@ -28,7 +28,9 @@ pub fn put<'a, A: Allocator + Clone>(
     name: &'a [u8],
     place: u64,
 ) -> Result<(), AllocError>
-    ensures { OnOk result ((q : List ℕ) → label_at labels.new q ≡ (if bytes_eq name.now q then Some place else label_at labels.old q)) }
+    ensures { OnOk result ((q : List ℕ) →
+        label_at labels.new q ≡
+        (if bytes_eq name.now q then Some place else label_at labels.old q)) }
 {
     labels.insert(name, place)?;
     Ok(())

@@ -3,7 +3,7 @@ use Rattle.ocp_loader.specs.Admitted.{IsAdmitted}
 use Rattle.ocp_loader.specs.Faults.{IsFirstFault}
 use Rattle.ocp_loader.specs.LoadResult.{load_result}
 use Rattle.ocp_loader.specs.declared.fault.LoadFault.TheVariants as load
-use Rattle.bpf_assembler.specs.Passes.{AreResolved, IsReported, entry}
+use Rattle.bpf_assembler.specs.Mirror.Passes.{AreResolved, IsReported, entry}
 use Rattle.bpf_assembler.specs.declared.table.Row.{Row}
 use Rattle.bpf_assembler.proofs.Assembled.{assembled, reported_fault}
 use Rattle.bpf_assembler.proofs.assembling.image_of.Goals as goal
@@ -25,5 +25,5 @@ returns g c =
     let fault = c.in-Err.fault in
     let refused = subst (λ (code : List ℕ). (fault ≡ load.Memory) ⊎ (load_result code ≡ Err fault)) c.deref-2.ensures.value c.in-Err.ensures.err in
     let first = subst (λ (code : List ℕ). IsFirstFault code fault) c.deref-2.ensures.value c.in-Err.ensures.first in
-    let reported = subst (λ (rs : List Row). IsReported (map entry rs) fault c.reported.result) c.deref-in-Err.ensures.value c.reported.ensures in
-    record { means = tt; fault = reported_fault c.args.text.now u.labels u.rows.items octets fault c.reported.result t resolved refused first reported }
+    let reported = subst (λ (rs : List Row). IsReported (map entry rs) fault c.fault_with_line.result) c.deref-in-Err.ensures.value c.fault_with_line.ensures in
+    record { means = tt; fault = reported_fault c.args.text.now u.labels u.rows.items octets fault c.fault_with_line.result t resolved refused first reported }

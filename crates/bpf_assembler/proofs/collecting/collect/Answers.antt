@@ -19,21 +19,21 @@ returns-in_err-add g c =
     let p = err_from_is_err_and c.from_residual.result c.from_residual.ensures.1 in
     let t = c.loop-rest.table in
     let u = c.add.new.table in
-    rw (p.1, p.2) (fault_taken c.args.text.now c.loop-rest.rest.now c.cut.result.0.now c.cut.result.1.now t.labels u.labels t.rows.items u.rows.items t.lines u.lines t.place u.place _
-    c.loop-rest.invariant.taken c.cut.ensures.lines c.in_err-add.ensures.lines)
+    rw (p.1, p.2) (fault_taken c.args.text.now c.loop-rest.rest.now c.first_line.result.0.now c.first_line.result.1.now t.labels u.labels t.rows.items u.rows.items t.lines u.lines t.place u.place _
+    c.loop-rest.invariant.taken c.first_line.ensures.lines c.in_err-add.ensures.lines)
 
 pub loop-rest-preserved : goal.loop-rest-preserved
 loop-rest-preserved g c =
     let t = c.loop-rest.table in
     let u = c.add.new.table in
-    let shorter = c.cut.ensures.shorter in
+    let shorter = c.first_line.ensures.shorter in
     let n = c.in_ok-add.ensures.count in
     let p = c.in_ok-add.ensures.place in
     let i = c.loop-rest.invariant.count in
     let j = c.loop-rest.invariant.place in
     record {
-      taken = one_taken c.args.text.now c.loop-rest.rest.now c.cut.result.0.now c.cut.result.1.now t.labels u.labels t.rows.items u.rows.items t.lines u.lines t.place u.place c.in_ok-add.field-0
-          c.loop-rest.invariant.taken c.cut.ensures.lines c.in_ok-add.ensures.lines;
+      taken = one_taken c.args.text.now c.loop-rest.rest.now c.first_line.result.0.now c.first_line.result.1.now t.labels u.labels t.rows.items u.rows.items t.lines u.lines t.place u.place c.in_ok-add.field-0
+          c.loop-rest.invariant.taken c.first_line.ensures.lines c.in_ok-add.ensures.lines;
       count = omega (arith, shorter, n, i);
       place = omega (arith, n, p, j);
     }

@@ -1,6 +1,6 @@
 use Rattle.std.proofs.Common.{List, map, take}
 use Rattle.bpf_text.specs.Lines.{Written}
-use Rattle.bpf_assembler.specs.Passes.{AreLabels, AreResolved, entry}
+use Rattle.bpf_assembler.specs.Mirror.Passes.{AreLabels, AreResolved, entry}
 use Rattle.bpf_assembler.proofs.resolving.resolve_all.Given as goal
 
 abbrev pub invariant-loop-row : goal.invariant-loop-row

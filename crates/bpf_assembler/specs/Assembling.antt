@@ -1,0 +1,19 @@
+-- What the assembler answers.
+use Rattle.std.specs.Prelude.{ℕ, List}
+use Rattle.bpf_types.specs.declared.line.Line.{Line}
+use Rattle.ocp_loader.specs.Admitted.{IsAdmittedAs}
+use Rattle.bpf_assembler.specs.Text.{Means}
+use Rattle.bpf_assembler.specs.Faults.{IsFault}
+use Rattle.bpf_assembler.specs.declared.fault.AsmFault.{AsmFault}
+use Rattle.bpf_assembler.specs.declared.fault.AsmFault.TheVariants.{Memory, At}
+
+-- the text means the lines of the image, which may be run
+pub record IsImageOfText (text image : List ℕ) : Type 0 where
+  pub lines : List Line
+  pub means : Means text lines
+  pub admitted : IsAdmittedAs image lines
+
+-- memory was refused, or the text has the fault
+abbrev pub IsFaultOf : List ℕ → AsmFault → Type 0
+IsFaultOf text Memory = Unit {0}
+IsFaultOf text (At number y) = IsFault text number y

@@ -1,0 +1,3 @@
+pub mod Commands
+pub mod Assembly
+pub mod Listings

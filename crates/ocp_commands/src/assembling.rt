@@ -1,0 +1,113 @@
+//! The command `asm`.
+
+ghost use Rattle.std.specs.Prelude.{◌≡◌, List, ℕ, ◌<◌, ◌-◌, ◌^◌, ◌↔◌, length, IfOk, IfErr, IfSome, IsErrOf, string_bytes};
+ghost use Rattle.bpf_assembler.specs.Faults.{IsFault};
+ghost use Rattle.bpf_assembler.specs.Assembling.{IsImageOfText};
+ghost use Rattle.ocp_ports.specs.Reading.{max_input, IsShort, ReadsWhile};
+ghost use Rattle.ocp_commands.specs.Commands.{Writes, IsMachineFault};
+ghost use Rattle.ocp_ports.specs.Printing.{error_line};
+ghost use Rattle.ocp_commands.specs.Assembly.{image_line, why_name, IsTooLong, HasImageLine, HasFaultLine, Assembles};
+
+use crate::output::{Output, write_output};
+use bpf_assembler::{AsmFault, Why, assemble};
+use ocp_ports::{ConsoleFault, Sink, Source, error_text, read_whole};
+use std::alloc::{AllocError, Allocator};
+
+/// The line of an image.
+fn image_text<A: Allocator>(alloc: A, image: &[u8]) -> Result<String<A>, AllocError>
+    ensures { IfOk result (λ text. string_bytes text ≡ image_line image.now) }
+{
+    let mut text = hex::encode(alloc, image)?;
+    text.push_str("\n")?;
+    Ok(text)
+}
+
+/// What stands behind the line number in the line of a fault.
+fn name_of_why<A: Allocator>(alloc: A, why: Why) -> Result<String<A>, AllocError>
+    ensures { IfOk result (λ text. string_bytes text ≡ why_name why) }
+{
+    match why {
+        Why::Syntax => String::from_str(alloc, "Syntax"),
+        Why::Range => String::from_str(alloc, "Range"),
+        Why::DuplicateLabel => String::from_str(alloc, "DuplicateLabel"),
+        Why::UnknownLabel => String::from_str(alloc, "UnknownLabel"),
+        Why::Load(fault) => {
+            let number = fault.number();
+            format!(in alloc; "Load {number}")
+        }
+    }
+}
+
+/// The output where the text has a fault in this line.
+fn output_of_fault<A: Allocator + Copy>(
+    alloc: A,
+    line: u64,
+    why: Why,
+) -> Result<Output<A>, AllocError>
+    ensures { (input : List ℕ) → IsShort input → IsFault input line why →
+        IfOk result (λ output. Assembles input output.text.items output.done) }
+{
+    let name = name_of_why(alloc, why)?;
+    let text = error_text(alloc, line, name.as_str())?;
+    Ok(Output::of_fault(text))
+}
+
+/// The output where the input is too long.
+fn output_too_long<A: Allocator>(alloc: A) -> Result<Output<A>, AllocError>
+    ensures { (input : List ℕ) → max_input < length input →
+        IfOk result (λ output. Assembles input output.text.items output.done) }
+{
+    let text = error_text(alloc, 0, "TooLong")?;
+    Ok(Output::of_fault(text))
+}
+
+/// The output where the text means this image.
+fn output_of_image<A: Allocator>(alloc: A, image: &[u8]) -> Result<Output<A>, AllocError>
+    ensures { (input : List ℕ) → IsShort input → IsImageOfText input image.now →
+        IfOk result (λ output. Assembles input output.text.items output.done) }
+{
+    let text = image_text(alloc, image)?;
+    Ok(Output::of_text(text.into_bytes()))
+}
+
+/// The output for an input that is not too long.
+fn output_of<A: Allocator + Copy>(alloc: A, input: &[u8]) -> Result<Output<A>, AllocError>
+    requires { IsShort input.now }
+    ensures { IfOk result (λ output. Assembles input.now output.text.items output.done) }
+{
+    match assemble(alloc, input) {
+        Ok(image) => output_of_image(alloc, image.octets()),
+        Err(AsmFault::At { line, why }) => output_of_fault(alloc, line, why),
+        Err(AsmFault::Memory) => Err(AllocError),
+    }
+}
+
+/// Reads assembly text, and writes the image that it means as one line of lower-case hexadecimal digits.
+///
+/// False where the output is the line of a fault of the input: `error 0 TooLong` (over 1,048,576 octets), which is found
+/// first, or `error <line> <name>` with the name of the assembler's fault, which is `Load <number>` for a fault of the
+/// image. Only `Read`, `Write` and `Memory` are refused. The output is made whole before it is written, so that nothing
+/// is written after `Read` and `Memory`, and a prefix of it after `Write`.
+pub fn asm<R: Source, W: Sink, A: Allocator + Copy>(
+    alloc: A,
+    reader: &mut R,
+    writer: &mut W,
+) -> Result<bool, ConsoleFault>
+    requires reads { R.failed_reads reader.old < 2 ^ 64 - 1 }
+    requires writes { W.failed_writes writer.old < 2 ^ 64 - 1 }
+    ensures assembles { IfSome (R.remaining reader.old)
+        (λ input. Writes (Assembles input) (W.contents writer.old) (W.contents writer.new) result) }
+    ensures machine { IfErr result IsMachineFault }
+    ensures reads { IfSome (R.remaining reader.old)
+        (λ input. ReadsWhile IsShort input (R.remaining reader.new)) }
+    ensures read { IsErrOf result ConsoleFault.Read ↔
+        (R.failed_reads reader.old < R.failed_reads reader.new) }
+    ensures write { IsErrOf result ConsoleFault.Write ↔
+        (W.failed_writes writer.old < W.failed_writes writer.new) }
+{
+    let output = match read_whole(alloc, reader)? {
+        Some(input) => output_of(alloc, &input)?,
+        None => output_too_long(alloc)?,
+    };
+    write_output(writer, &output)
+}

@@ -1,0 +1,144 @@
+//! The command `list`.
+
+ghost use Rattle.std.specs.Prelude.{◌≡◌, List, ℕ, ◌<◌, ◌-◌, ◌^◌, ◌↔◌, length, IfOk, IfErr, IfSome, IsErrOf, string_bytes};
+ghost use Rattle.ocp_ports.specs.Reading.{max_input, IsShort, ReadsWhile};
+ghost use Rattle.ocp_commands.specs.Commands.{Writes, IsMachineFault};
+ghost use Rattle.ocp_commands.specs.Listings.{is_blank, digits_of, decode_number, list_fault_line, HasImage, HasListFault, Lists};
+
+use crate::output::{Output, write_output};
+use bpf_decode::DecodeFault;
+use bpf_listing::{DisassembleFault, disassemble};
+use hex::FromHexError;
+use ocp_ports::{ConsoleFault, Sink, Source, error_text, read_whole};
+use std::alloc::{AllocError, Allocator};
+
+/// Why an input has no listing, in the order in which it is asked.
+#[derive(Clone, Copy)]
+pub(crate) enum ListFault {
+    /// The input has over 1,048,576 octets.
+    TooLong,
+    /// The input is not an even number of hexadecimal digits with spaces and newlines behind them.
+    Hex,
+    /// The image is not whole slots of 8 octets.
+    Ragged,
+    /// The octets from this slot on begin with no instruction that may be loaded.
+    Decode(DecodeFault, usize),
+}
+
+fn number_of(fault: DecodeFault) -> u32
+    ensures { result ≡ decode_number fault }
+{
+    match fault {
+        DecodeFault::CutWide => 1,
+        DecodeFault::UnknownOpcode => 2,
+        DecodeFault::BadRegister => 3,
+        DecodeFault::ReservedField => 4,
+        DecodeFault::WritesFramePointer => 5,
+    }
+}
+
+/// The line of a fault.
+fn fault_line<A: Allocator>(alloc: A, fault: ListFault) -> Result<String<A>, AllocError>
+    ensures { IfOk result (λ line. string_bytes line ≡ list_fault_line fault) }
+{
+    match fault {
+        ListFault::TooLong => error_text(alloc, 0, "TooLong"),
+        ListFault::Hex => error_text(alloc, 0, "Hex"),
+        ListFault::Ragged => error_text(alloc, 0, "Ragged"),
+        ListFault::Decode(why, slot) => {
+            let number = number_of(why);
+            let text = format!(in alloc; "error {slot} Decode {number}\n")?;
+            Ok(text)
+        }
+    }
+}
+
+/// The output where the input has a fault.
+fn output_of_fault<A: Allocator>(alloc: A, fault: ListFault) -> Result<Output<A>, AllocError>
+    ensures { (input : List ℕ) → HasListFault input fault →
+        IfOk result (λ output. Lists input output.text.items output.done) }
+{
+    let line = fault_line(alloc, fault)?;
+    Ok(Output::of_fault(line))
+}
+
+fn is_blank(octet: u8) -> bool
+    ensures { result ≡ is_blank octet }
+{
+    octet == b' ' || octet == b'\n'
+}
+
+/// The text without the spaces and newlines at its end.
+fn digits(text: &[u8]) -> &[u8]
+    ensures { result.now ≡ digits_of text.now }
+{
+    let mut digits = text;
+    while let [start @ .., last] = digits {
+        if !is_blank(*last) {
+            break;
+        }
+        digits = start;
+    }
+    digits
+}
+
+/// The output for an image.
+fn output_of_image<A: Allocator + Copy>(alloc: A, image: &[u8]) -> Result<Output<A>, AllocError>
+    ensures { (input : List ℕ) → HasImage input image.now →
+        IfOk result (λ output. Lists input output.text.items output.done) }
+{
+    let mut listing = Vec::new(alloc);
+    match disassemble(image, &mut listing) {
+        Ok(()) => Ok(Output::of_text(listing)),
+        Err(DisassembleFault::Ragged) => output_of_fault(alloc, ListFault::Ragged),
+        Err(DisassembleFault::Decode(why, slot)) => output_of_fault(
+            alloc,
+            ListFault::Decode(why, slot),
+        ),
+        Err(DisassembleFault::Memory) => Err(AllocError),
+    }
+}
+
+/// The output for an input that is not too long.
+fn output_of<A: Allocator + Copy>(alloc: A, input: &[u8]) -> Result<Output<A>, AllocError>
+    requires { IsShort input.now }
+    ensures { IfOk result (λ output. Lists input.now output.text.items output.done) }
+{
+    match hex::decode(alloc, digits(input)) {
+        Ok(image) => output_of_image(alloc, &image),
+        Err(FromHexError::OutOfMemory) => Err(AllocError),
+        Err(_) => output_of_fault(alloc, ListFault::Hex),
+    }
+}
+
+/// Reads an image in hexadecimal digits of both cases, and writes its listing; spaces and newlines behind the digits are
+/// nothing. The empty input has the empty listing. It does no more than decode: an image that no loader would take has
+/// its listing too.
+///
+/// False where the output is the line of a fault of the input: `error 0 TooLong` (over 1,048,576 octets), `error 0 Hex`,
+/// `error 0 Ragged`, `error <slot> Decode <number>`, asked in this order. Only `Read`, `Write` and `Memory` are refused.
+/// The output is made whole before it is written, so that nothing is written after `Read` and `Memory`, and a prefix of
+/// it after `Write`.
+pub fn list<R: Source, W: Sink, A: Allocator + Copy>(
+    alloc: A,
+    reader: &mut R,
+    writer: &mut W,
+) -> Result<bool, ConsoleFault>
+    requires reads { R.failed_reads reader.old < 2 ^ 64 - 1 }
+    requires writes { W.failed_writes writer.old < 2 ^ 64 - 1 }
+    ensures lists { IfSome (R.remaining reader.old)
+        (λ input. Writes (Lists input) (W.contents writer.old) (W.contents writer.new) result) }
+    ensures machine { IfErr result IsMachineFault }
+    ensures reads { IfSome (R.remaining reader.old)
+        (λ input. ReadsWhile IsShort input (R.remaining reader.new)) }
+    ensures read { IsErrOf result ConsoleFault.Read ↔
+        (R.failed_reads reader.old < R.failed_reads reader.new) }
+    ensures write { IsErrOf result ConsoleFault.Write ↔
+        (W.failed_writes writer.old < W.failed_writes writer.new) }
+{
+    let output = match read_whole(alloc, reader)? {
+        Some(input) => output_of(alloc, &input)?,
+        None => output_of_fault(alloc, ListFault::TooLong)?,
+    };
+    write_output(writer, &output)
+}

@@ -1,5 +1,0 @@
-use Rattle.ocp_console.proofs.OneImage.{one_assembly}
-use Rattle.ocp_console.proofs.laws.assemblies_are_unique.Goals as goal
-
-pub returns : goal.returns
-returns c = one_assembly c.meanings_are_unique.ensures c.faults_are_unique.ensures c.meanings_exclude_faults.ensures.admitted

@@ -1,9 +1,0 @@
-use Rattle.std.proofs.Common.{◌∙◌}
-use Rattle.ocp_console.proofs.Sent.{part_sent}
-use Rattle.ocp_console.proofs.sending.send.Goals as goal
-
-pub loop-rest-preserved : goal.loop-rest-preserved
-loop-rest-preserved g c = record {
-  parts = part_sent _ _ _ _ _ _ c.loop-rest.invariant.parts c.in-Some.ensures.octets;
-  same = c.in-Some.ensures.count ∙ c.loop-rest.invariant.same;
-}

@@ -1,0 +1,3 @@
+pub mod Ports
+pub mod Reading
+pub mod Printing

@@ -1,0 +1,46 @@
+//! Why a run ended.
+
+ghost use Rattle.std.specs.Prelude.{◌≡◌};
+ghost use Rattle.ocp_ports.specs.declared.fault.ConsoleFault.TheVariants.{Memory};
+
+use std::alloc::{AllocError, AllocFailed};
+use thiserror::Error;
+
+/// Why a run ended. The first three are the script's, in this order for each line in turn.
+#[derive(Debug, Drop, Error)]
+pub enum ConsoleFault {
+    /// There are more than 100,000 lines.
+    #[error("too many lines")]
+    TooManyLines,
+    /// This line has more than 40,000 octets.
+    #[error("line {0} is too long")]
+    LineTooLong(u32),
+    /// This line has no form that the console knows.
+    #[error("line {0} is no command")]
+    Syntax(u32),
+    /// A read failed.
+    #[error("a read failed")]
+    Read,
+    /// A write failed.
+    #[error("a write failed")]
+    Write,
+    /// Memory ran out.
+    #[error("out of memory")]
+    Memory,
+}
+
+impl From<AllocError> for ConsoleFault {
+    ghost from_gives = { λ _ e. e ≡ Memory };
+
+    fn from(_e: AllocError) -> ConsoleFault {
+        ConsoleFault::Memory
+    }
+}
+
+impl<T: Drop> From<AllocFailed<T>> for ConsoleFault {
+    ghost from_gives = { λ _ e. e ≡ Memory };
+
+    fn from(_e: AllocFailed<T>) -> ConsoleFault {
+        ConsoleFault::Memory
+    }
+}

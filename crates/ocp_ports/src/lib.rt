@@ -1,0 +1,14 @@
+//! Where the commands read and write: sources and sinks that count their failed calls, whole inputs and whole outputs.
+#![tactic(auto)]
+
+mod device;
+mod fault;
+mod input;
+mod output;
+mod ports;
+
+pub use device::Device;
+pub use fault::ConsoleFault;
+pub use input::{CHUNK, MAX_INPUT, read_whole};
+pub use output::{error_text, write_whole};
+pub use ports::{Sink, Source};
