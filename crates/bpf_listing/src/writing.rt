@@ -1,6 +1,7 @@
 //! Instructions as text.
 ghost use Rattle.std.specs.Prelude.{◌≡◌, ◌++◌, ◌≤◌, ◌<◌, ◌+◌, length, codes, OnOk, OnErr, vec_capacity};
 ghost use Rattle.bpf_types.specs.declared.line.Line.TheVariants as Variants;
+ghost use Rattle.bpf_listing.specs.Canonical as words;
 ghost use Rattle.bpf_listing.specs.Canonical.{canonical, IsAccess, operand_text, place_text, with_sign};
 
 use crate::names::{

@@ -1,5 +1,6 @@
 pub mod Stays
 pub mod Laid
+pub mod Agree
 pub mod Stay
 pub mod Octets
 pub mod Sound

@@ -1,4 +1,5 @@
 pub mod Image
+pub mod LineAt
 pub mod Places
 pub mod Admitted
 pub mod Faults

@@ -1,11 +1,12 @@
 //! Laws on images and their lines. The functions do nothing when they run: their contracts are the laws.
-ghost use Rattle.std.specs.Prelude.{◌≡◌, ℕ, ◌↔◌, List, length, Some, Ok, Err};
+ghost use Rattle.std.specs.Prelude.{◌≡◌, ℕ, ◌↔◌, List, length, Option, Some, Ok, Err};
 ghost use Rattle.bpf_types.specs.declared.line.Line.{Line};
 ghost use Rattle.ocp_loader.specs.declared.fault.LoadFault.{LoadFault};
-ghost use Rattle.ocp_loader.specs.Image.{by_slot};
+ghost use Rattle.ocp_loader.specs.Image.{by_slot, line_in};
 ghost use Rattle.ocp_loader.specs.Places.{IsAt, Continues, place_of};
 ghost use Rattle.ocp_loader.specs.Admitted.{IsAdmitted, IsAdmittedAs};
-ghost use Rattle.ocp_loader.specs.LoadResult.{load_result, line_of, IsPlace, IsLineAt};
+ghost use Rattle.ocp_loader.specs.LineAt.{line_of, IsPlace, IsLineAt};
+ghost use Rattle.ocp_loader.specs.LoadResult.{load_result};
 
 use bpf_decode::instructions_are_decoded;
 
@@ -35,7 +36,14 @@ pub fn images_begin_with_an_instruction()
 /// half of a wide load is met.
 pub fn places_lead_to_places()
     ensures lines { (image : List ℕ) (lines : List Line) (slot : ℕ) (l : Line) → IsAdmittedAs image lines → IsAt lines slot l → Continues lines slot l }
-    ensures slots { (image : List ℕ) (slot : ℕ) (l : Line) → line_of image slot ≡ Some l → IsLineAt image slot l }
+    ensures slots { (image : List ℕ) (lines : List (Option Line)) (slot : ℕ) (l : Line) → load_result image ≡ Ok lines → line_of image slot ≡ Some l → IsLineAt image slot l }
+{}
+
+/// Of an image that may be run: the line at a slot, which is said by decoding alone, is the one that was loaded there; and
+/// there is one at slot 0.
+pub fn lines_agree_with_the_load_result()
+    ensures agree { (image : List ℕ) (lines : List (Option Line)) (slot : ℕ) → load_result image ≡ Ok lines → line_of image slot ≡ line_in lines slot }
+    ensures begins { (image : List ℕ) (lines : List (Option Line)) → load_result image ≡ Ok lines → IsPlace image 0 }
 {}
 
 /// Of an image that may be run: the line at a slot is the one that has that place.
