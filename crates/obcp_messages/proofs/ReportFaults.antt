@@ -3,7 +3,7 @@ use Rattle.std.proofs.Common.{◌≡◌, ℕ, List, [], length, drop, get_or, Bo
 use Rattle.std.specs.Prelude.{IfErr, ◌==◌, nat_le}
 use Rattle.std.proofs.lemmas.Bool.{cond_both, eqb-true}
 use Rattle.obcp_messages.specs.Report.{HasReportFault, kind_of, service_of}
-use Rattle.obcp_messages.specs.ReadingReports.{rise, rows_in, status_report, report_of}
+use Rattle.obcp_messages.specs.Mirror.ReadingReports.{rise, rows_in, status_report, report_of}
 use Rattle.obcp_types.specs.declared.status.StatusRow.{StatusRow}
 use Rattle.obcp_messages.specs.declared.report.StartFault.TheVariants.{BadCode}
 use Rattle.obcp_messages.specs.declared.report.Report.{Report}

@@ -9,7 +9,7 @@ use Rattle.std.proofs.lemmas.List.{drop-drop, get_or-drop, length-drop, length-t
 use Rattle.byteorder.specs.Endian.{big_bytes, big_number}
 use Rattle.byteorder.specs.Numbers.{big_from-lt, big_number-reads_back}
 use Rattle.obcp_messages.specs.Report.{IsReport, IsReportData, IsStartFault, fault_data, kind_of, report_data, row_data, service_of}
-use Rattle.obcp_messages.specs.ReadingReports.{with_request, with_code, with_fault, rise, rows_in, status_report, with_rows, verification_in, report_of}
+use Rattle.obcp_messages.specs.Mirror.ReadingReports.{with_request, with_code, with_fault, rise, rows_in, status_report, with_rows, verification_in, report_of}
 use Rattle.obcp_messages.specs.Rows.{IsRising}
 use Rattle.obcp_types.specs.declared.status.StatusRow.{StatusRow}
 use Rattle.obcp_messages.specs.declared.report.StartFault.{StartFault}

@@ -184,7 +184,7 @@ words_written id words h some most fits =
     ∙ ap (λ ws. Ok (Communicate id ws)) (words_back words fits)
 
 pub data_is_read : (request : Request) → IsRequest request → request_in (subtype_of request) (request_data request) ≡ Ok request
-data_is_read (Load id code) h = octets_written 65535 Load id code h.0 h.1 (omega arith)
+data_is_read (Load id code) h = octets_written 65535 Load id code h.0 (omega arith) h.1
 data_is_read (Unload id) h = id_written Unload id h
 data_is_read (Activate id arguments) h = octets_written 256 Activate id arguments h.0 (omega arith) h.1
 data_is_read (Stop id step) h = step_written Stop id step h.0 h.1

@@ -15,7 +15,7 @@ use Rattle.byteorder.specs.Endian.{big_bytes, big_number}
 use Rattle.byteorder.specs.Numbers.{big_from-lt, big_number-reads_back}
 use Rattle.obcp_messages.specs.Report.{row_data}
 use Rattle.obcp_types.specs.Codes.{status_code}
-use Rattle.obcp_messages.specs.ReadingReports.{status_at, row_and, rows_in, follow, rise, status_report, with_rows}
+use Rattle.obcp_messages.specs.Mirror.ReadingReports.{status_at, row_and, rows_in, follow, rise, status_report, with_rows}
 use Rattle.obcp_messages.specs.Rows.{IsRising}
 use Rattle.obcp_types.specs.declared.status.Status.{Status}
 use Rattle.obcp_types.specs.declared.status.Status.TheVariants.{Inactive, Running, Held}

@@ -1,6 +1,6 @@
 pub mod Fields
 pub mod Request
 pub mod Reading
-pub mod ReadingReports
+pub mod Mirror
 pub mod Rows
 pub mod Report

@@ -3,6 +3,7 @@
 use Rattle.std.specs.Prelude.{ℕ, Bool, ◌+◌, ◌*◌, ◌==◌, ◌&&◌, nat_le, if◌then◌else◌, List, length, drop, slice_index, Result, Ok, Err}
 use Rattle.byteorder.specs.Endian.{big_number}
 use Rattle.obcp_messages.specs.Fields.{numbers}
+use Rattle.obcp_messages.specs.declared.payload.TheConstants.{MAX_CODE_LENGTH, MAX_ARGUMENTS_LENGTH, MAX_WORDS}
 use Rattle.obcp_messages.specs.declared.request.Request.{Request}
 use Rattle.obcp_messages.specs.declared.request.Request.TheVariants.{Load, Unload, Activate, Stop, Suspend, Resume, Communicate, Status, Abort}
 use Rattle.obcp_types.specs.declared.failure.RequestFault.{RequestFault}
@@ -29,14 +30,14 @@ with_octets most make octets =
 abbrev pub with_words : List ℕ → Result Request RequestFault
 with_words octets =
     let count = slice_index octets 2 in
-    if nat_le 3 (length octets) && (length octets == 3 + 8 * count) && nat_le 1 count && nat_le count 8
+    if nat_le 3 (length octets) && (length octets == 3 + 8 * count) && nat_le 1 count && nat_le count MAX_WORDS
     then Ok (Communicate (big_number 2 octets) (numbers 8 count (drop 3 octets))) else Err Layout
 
 abbrev pub request_in : ℕ → List ℕ → Result Request RequestFault
 request_in subtype octets =
-    if subtype == 1 then with_octets 65535 Load octets
+    if subtype == 1 then with_octets MAX_CODE_LENGTH Load octets
     else (if subtype == 2 then with_id Unload octets
-    else (if subtype == 3 then with_octets 256 Activate octets
+    else (if subtype == 3 then with_octets MAX_ARGUMENTS_LENGTH Activate octets
     else (if subtype == 4 then with_step Stop octets
     else (if subtype == 5 then with_step Suspend octets
     else (if subtype == 6 then with_id Resume octets

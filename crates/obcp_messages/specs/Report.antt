@@ -10,6 +10,7 @@ use Rattle.obcp_types.specs.declared.failure.StartFailure.TheVariants as start
 use Rattle.obcp_types.specs.Codes.{start_code, status_code}
 use Rattle.obcp_messages.specs.declared.report.StartFault.{StartFault}
 use Rattle.obcp_messages.specs.declared.report.StartFault.TheVariants.{BadCode, Plain}
+use Rattle.obcp_messages.specs.declared.rows.TheConstants.{MAX_ROWS}
 use Rattle.obcp_messages.specs.declared.report.Report.{Report}
 use Rattle.obcp_messages.specs.declared.report.Report.TheVariants.{Accepted, NotAccepted, Started, NotStarted, Completed, NotCompleted}
 use Rattle.obcp_messages.specs.declared.report.Report.TheVariants as R
@@ -70,7 +71,7 @@ IsReport (Started request) = length request ≡ 4
 IsReport (NotStarted request fault) = (length request ≡ 4) × IsStartFault fault
 IsReport (Completed request) = length request ≡ 4
 IsReport (NotCompleted request code) = (length request ≡ 4) × (code < 2 ^ 16)
-IsReport (R.Status rows) = (length rows ≤ 16) × IsRising rows × All (λ row. row.id < 2 ^ 16) rows
+IsReport (R.Status rows) = (length rows ≤ MAX_ROWS) × IsRising rows × All (λ row. row.id < 2 ^ 16) rows
 
 -- the octets are the service data of this report, in a telemetry packet of this service and subtype
 pub record IsReportData (service subtype : ℕ) (octets : List ℕ) (report : Report) : Type 0 where

@@ -3,6 +3,7 @@
 use Rattle.std.specs.Prelude.{◌≡◌, ◌≢◌, ◌≤◌, ◌<◌, ◌^◌, ℕ, List, [], ◌++◌, length, All}
 use Rattle.std.specs.List.{flat_map}
 use Rattle.byteorder.specs.Endian.{big_bytes}
+use Rattle.obcp_messages.specs.declared.payload.TheConstants.{MAX_CODE_LENGTH, MAX_ARGUMENTS_LENGTH, MAX_WORDS}
 use Rattle.obcp_messages.specs.declared.request.Request.{Request}
 use Rattle.obcp_messages.specs.declared.request.Request.TheVariants.{Load, Unload, Activate, Stop, Suspend, Resume, Communicate, Status, Abort}
 use Rattle.obcp_types.specs.declared.failure.RequestFault.{RequestFault}
@@ -34,13 +35,14 @@ request_data (Abort id) = big_bytes 2 id
 
 -- each number of a request is in the range of its field
 abbrev pub IsRequest : Request → Type 0
-IsRequest (Load id code) = (id < 2 ^ 16) × (length code < 2 ^ 16)
+IsRequest (Load id code) = (id < 2 ^ 16) × (length code ≤ MAX_CODE_LENGTH)
 IsRequest (Unload id) = id < 2 ^ 16
-IsRequest (Activate id arguments) = (id < 2 ^ 16) × (length arguments ≤ 256)
+IsRequest (Activate id arguments) = (id < 2 ^ 16) × (length arguments ≤ MAX_ARGUMENTS_LENGTH)
 IsRequest (Stop id step) = (id < 2 ^ 16) × (step < 2 ^ 16)
 IsRequest (Suspend id step) = (id < 2 ^ 16) × (step < 2 ^ 16)
 IsRequest (Resume id) = id < 2 ^ 16
-IsRequest (Communicate id words) = (id < 2 ^ 16) × (1 ≤ length words) × (length words ≤ 8) × All (λ word. word < 2 ^ 64) words
+IsRequest (Communicate id words) =
+    (id < 2 ^ 16) × (1 ≤ length words) × (length words ≤ MAX_WORDS) × All (λ word. word < 2 ^ 64) words
 IsRequest Status = Unit {0}
 IsRequest (Abort id) = id < 2 ^ 16
 
@@ -58,14 +60,14 @@ HasRequestFault service subtype octets Subtype = (service ≡ 18) × ((request :
 HasRequestFault service subtype octets Layout = (service ≡ 18) × ((request : Request) × (subtype ≡ subtype_of request))
     × ((request : Request) → IsRequestData service subtype octets request → ⊥)
 
--- the octets at the end of the data, which their caller lends
-abbrev pub lent_octets : Request → List ℕ
-lent_octets (Load id code) = code
-lent_octets (Unload id) = []
-lent_octets (Activate id arguments) = arguments
-lent_octets (Stop id step) = []
-lent_octets (Suspend id step) = []
-lent_octets (Resume id) = []
-lent_octets (Communicate id words) = []
-lent_octets Status = []
-lent_octets (Abort id) = []
+-- the octets at the end of the data: a load's code, an activation's arguments
+abbrev pub trailing_octets : Request → List ℕ
+trailing_octets (Load id code) = code
+trailing_octets (Unload id) = []
+trailing_octets (Activate id arguments) = arguments
+trailing_octets (Stop id step) = []
+trailing_octets (Suspend id step) = []
+trailing_octets (Resume id) = []
+trailing_octets (Communicate id words) = []
+trailing_octets Status = []
+trailing_octets (Abort id) = []

@@ -9,26 +9,29 @@ ghost use Rattle.obcp_messages.specs.Report.{row_data};
 use arrayvec::ArrayVec;
 use obcp_types::StatusRow;
 
-/// Room for the fields of each request and report but the octets that a request lends: those of a
-/// communicate request with 8 words are the most.
-pub(crate) type Fields = ArrayVec<u8, 67>;
+/// The most octets of fields, but for the octets at the end of a request: those of a communicate
+/// request with 8 words.
+pub(crate) const MAX_FIELDS_LENGTH: usize = 67;
+
+/// Room for the fields of each request and report, but for the octets at the end of a request.
+pub(crate) type Fields = ArrayVec<u8, MAX_FIELDS_LENGTH>;
 
 pub(crate) fn put_octets(fields: &mut Fields, octets: &[u8])
-    requires { array_vec_len fields.old + length octets.now ≤ 67 }
+    requires { array_vec_len fields.old + length octets.now ≤ MAX_FIELDS_LENGTH }
     ensures { fields.new.items ≡ fields.old.items ++ octets.now }
 {
     fields.try_extend_from_slice(octets).unwrap();
 }
 
 pub(crate) fn put_u8(fields: &mut Fields, number: u8)
-    requires { array_vec_len fields.old + 1 ≤ 67 }
+    requires { array_vec_len fields.old + 1 ≤ MAX_FIELDS_LENGTH }
     ensures { fields.new.items ≡ fields.old.items ++ big_bytes 1 number }
 {
     put_octets(fields, &number.to_be_bytes());
 }
 
 pub(crate) fn put_u16(fields: &mut Fields, number: u16)
-    requires { array_vec_len fields.old + 2 ≤ 67 }
+    requires { array_vec_len fields.old + 2 ≤ MAX_FIELDS_LENGTH }
     ensures { fields.new.items ≡ fields.old.items ++ big_bytes 2 number }
 {
     put_octets(fields, &number.to_be_bytes());
@@ -36,7 +39,7 @@ pub(crate) fn put_u16(fields: &mut Fields, number: u16)
 
 /// Words of 64 bits.
 pub(crate) fn put_words(fields: &mut Fields, words: &[u64])
-    requires { array_vec_len fields.old + 8 * length words.now ≤ 67 }
+    requires { array_vec_len fields.old + 8 * length words.now ≤ MAX_FIELDS_LENGTH }
     ensures octets { fields.new.items ≡ fields.old.items ++ flat_map (big_bytes 8) words.now }
     ensures in_range { All (λ word. word < 2 ^ 64) words.now }
 {
@@ -47,7 +50,7 @@ pub(crate) fn put_words(fields: &mut Fields, words: &[u64])
 
 /// The rows of a status report.
 pub(crate) fn put_rows(fields: &mut Fields, rows: &[StatusRow])
-    requires { array_vec_len fields.old + 3 * length rows.now ≤ 67 }
+    requires { array_vec_len fields.old + 3 * length rows.now ≤ MAX_FIELDS_LENGTH }
     ensures octets { fields.new.items ≡ fields.old.items ++ flat_map row_data rows.now }
     ensures in_range { All (λ row. row.id < 2 ^ 16) rows.now }
 {

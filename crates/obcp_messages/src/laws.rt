@@ -2,7 +2,7 @@
 
 ghost use Rattle.std.specs.Prelude.{◌≡◌, ◌<◌, ◌^◌, ℕ, List, Ok, All};
 ghost use Rattle.obcp_messages.specs.Reading.{request_of};
-ghost use Rattle.obcp_messages.specs.ReadingReports.{report_of};
+ghost use Rattle.obcp_messages.specs.Mirror.ReadingReports.{report_of};
 ghost use Rattle.obcp_messages.specs.Report.{IsReport, IsReportData, kind_of, report_data, service_of};
 ghost use Rattle.obcp_messages.specs.Request.{IsRequest, IsRequestData, request_data, subtype_of};
 ghost use Rattle.obcp_messages.specs.declared.report.Report.{Report};
@@ -10,22 +10,26 @@ ghost use Rattle.obcp_messages.specs.declared.request.Request.{Request};
 
 /// The service data of a request are read as that request.
 pub fn requests_are_read_back()
-    ensures { (request : Request) → IsRequest request → request_of 18 (subtype_of request) (request_data request) ≡ Ok request }
+    ensures { (request : Request) → IsRequest request →
+        request_of 18 (subtype_of request) (request_data request) ≡ Ok request }
 {}
 
 /// Octets that are read as a request are its service data.
 pub fn read_requests_are_laid_out()
-    ensures { (service subtype : ℕ) (octets : List ℕ) (request : Request) → All (λ octet. octet < 2 ^ 8) octets →
-        request_of service subtype octets ≡ Ok request → IsRequestData service subtype octets request }
+    ensures { (service subtype : ℕ) (octets : List ℕ) (request : Request) →
+        All (λ octet. octet < 2 ^ 8) octets → request_of service subtype octets ≡ Ok request →
+        IsRequestData service subtype octets request }
 {}
 
 /// The service data of a report are read as that report.
 pub fn reports_are_read_back()
-    ensures { (report : Report) → IsReport report → report_of (service_of report) (kind_of report) (report_data report) ≡ Ok report }
+    ensures { (report : Report) → IsReport report →
+        report_of (service_of report) (kind_of report) (report_data report) ≡ Ok report }
 {}
 
 /// Octets that are read as a report are its service data.
 pub fn read_reports_are_laid_out()
-    ensures { (service subtype : ℕ) (octets : List ℕ) (report : Report) → All (λ octet. octet < 2 ^ 8) octets →
-        report_of service subtype octets ≡ Ok report → IsReportData service subtype octets report }
+    ensures { (service subtype : ℕ) (octets : List ℕ) (report : Report) →
+        All (λ octet. octet < 2 ^ 8) octets → report_of service subtype octets ≡ Ok report →
+        IsReportData service subtype octets report }
 {}

@@ -20,12 +20,12 @@ pub use laws::{
     requests_are_read_back,
 };
 pub use obcp_types::{RequestFault, Status, StatusRow};
-pub use payload::{Arguments, Code, MOST_ARGUMENTS, MOST_CODE, MOST_WORDS, Words};
+pub use payload::{Arguments, Code, MAX_ARGUMENTS_LENGTH, MAX_CODE_LENGTH, MAX_WORDS, Words};
 pub use reading_reports::read_report;
 pub use reading_requests::read_request;
 pub use report::{BAD_CODE, PlainCode, Report, STATUS_REPORT, StartFault, VERIFICATION};
 pub use request::{Request, SERVICE};
-pub use rows::StatusRows;
+pub use rows::{MAX_ROWS, StatusRows};
 pub use writing::{write_report, write_request};
 
 #[cfg(test)]

@@ -5,16 +5,16 @@ ghost use Rattle.std.specs.Prelude.{◌≡◌, ◌≤◌, ◌↔◌, [], length,
 use arrayvec::ArrayVec;
 use std::marker::Model;
 
-/// The most octets of code that a load names: its length field has 16 bits.
-pub const MOST_CODE: usize = 65535;
+/// The most octets of the code of a load: its length field has 16 bits.
+pub const MAX_CODE_LENGTH: usize = 65_535;
 
-/// The most octets of arguments.
-pub const MOST_ARGUMENTS: usize = 256;
+/// The most octets of the arguments of an activation.
+pub const MAX_ARGUMENTS_LENGTH: usize = 256;
 
-/// The most words of one communicate request.
-pub const MOST_WORDS: usize = 8;
+/// The most words of a communicate request.
+pub const MAX_WORDS: usize = 8;
 
-/// The code of a load, which its caller lends: at most 65,535 octets.
+/// The code of a load, borrowed: at most 65,535 octets.
 #[derive(Drop)]
 pub struct Code<'a> {
     code: &'a [u8],
@@ -22,21 +22,22 @@ pub struct Code<'a> {
 
 impl<'a> Model for Code<'a> {
     ghost use Rattle.std.specs.Prelude.{◌≤◌, ℕ, List, length};
+    ghost use Rattle.obcp_messages.specs.declared.payload.TheConstants.{MAX_CODE_LENGTH};
 
     ghost Value = { List ℕ };
 
     ghost view = { λ code. code.code.now };
 
-    ghost invariant = { λ code. length code.code.now ≤ 65535 };
+    ghost invariant = { λ code. length code.code.now ≤ MAX_CODE_LENGTH };
 }
 
 impl<'a> Code<'a> {
     /// These octets, where a load can carry them.
     pub fn new(octets: &'a [u8]) -> Option<Code<'a>>
         ensures value { IfSome result (λ code. code ≡ octets.now) }
-        ensures variant { IsSome result ↔ (length octets.now ≤ 65535) }
+        ensures variant { IsSome result ↔ (length octets.now ≤ MAX_CODE_LENGTH) }
     {
-        if octets.len() > MOST_CODE {
+        if octets.len() > MAX_CODE_LENGTH {
             return None;
         }
         Some(Code { code: octets })
@@ -45,13 +46,13 @@ impl<'a> Code<'a> {
     /// The octets of the code.
     pub fn octets(&self) -> &'a [u8]
         ensures value { result.now ≡ self.now }
-        ensures bound { length self.now ≤ 65535 }
+        ensures bound { length self.now ≤ MAX_CODE_LENGTH }
     {
         self.code
     }
 }
 
-/// The arguments of an activation, which its caller lends: at most 256 octets.
+/// The arguments of an activation, borrowed: at most 256 octets.
 #[derive(Drop)]
 pub struct Arguments<'a> {
     arguments: &'a [u8],
@@ -59,21 +60,22 @@ pub struct Arguments<'a> {
 
 impl<'a> Model for Arguments<'a> {
     ghost use Rattle.std.specs.Prelude.{◌≤◌, ℕ, List, length};
+    ghost use Rattle.obcp_messages.specs.declared.payload.TheConstants.{MAX_ARGUMENTS_LENGTH};
 
     ghost Value = { List ℕ };
 
     ghost view = { λ arguments. arguments.arguments.now };
 
-    ghost invariant = { λ arguments. length arguments.arguments.now ≤ 256 };
+    ghost invariant = { λ arguments. length arguments.arguments.now ≤ MAX_ARGUMENTS_LENGTH };
 }
 
 impl<'a> Arguments<'a> {
     /// These octets, where an activation can carry them.
     pub fn new(octets: &'a [u8]) -> Option<Arguments<'a>>
         ensures value { IfSome result (λ arguments. arguments ≡ octets.now) }
-        ensures variant { IsSome result ↔ (length octets.now ≤ 256) }
+        ensures variant { IsSome result ↔ (length octets.now ≤ MAX_ARGUMENTS_LENGTH) }
     {
-        if octets.len() > MOST_ARGUMENTS {
+        if octets.len() > MAX_ARGUMENTS_LENGTH {
             return None;
         }
         Some(Arguments { arguments: octets })
@@ -82,7 +84,7 @@ impl<'a> Arguments<'a> {
     /// The octets of the arguments.
     pub fn octets(&self) -> &'a [u8]
         ensures value { result.now ≡ self.now }
-        ensures bound { length self.now ≤ 256 }
+        ensures bound { length self.now ≤ MAX_ARGUMENTS_LENGTH }
     {
         self.arguments
     }
@@ -91,7 +93,7 @@ impl<'a> Arguments<'a> {
 /// The parameters of a communicate request: 1 to 8 words.
 #[derive(Drop)]
 pub struct Words {
-    words: ArrayVec<u64, 8>,
+    words: ArrayVec<u64, MAX_WORDS>,
 }
 
 impl Model for Words {
@@ -106,7 +108,7 @@ impl Model for Words {
 
 impl Words {
     /// These words, where there is one.
-    pub fn new(words: ArrayVec<u64, 8>) -> Option<Words>
+    pub fn new(words: ArrayVec<u64, MAX_WORDS>) -> Option<Words>
         ensures value { IfSome result (λ value. value ≡ words.items) }
         ensures variant { IsSome result ↔ (1 ≤ length words.items) }
     {
@@ -120,7 +122,7 @@ impl Words {
     pub fn as_slice(&self) -> &[u64]
         ensures value { result.now ≡ self.now }
         ensures some { 1 ≤ length self.now }
-        ensures bound { length self.now ≤ 8 }
+        ensures bound { length self.now ≤ MAX_WORDS }
     {
         self.words.as_slice()
     }

@@ -6,18 +6,18 @@ ghost use Rattle.obcp_messages.specs.Report.{IsReportData, HasReportFault};
 ghost use Rattle.obcp_messages.specs.declared.report.Report.{Report};
 ghost use Rattle.obcp_messages.specs.declared.fault.ReportFault.TheVariants.{Layout};
 ghost use Rattle.std.specs.Option.{option_map};
-ghost use Rattle.obcp_messages.specs.ReadingReports.{with_fault, with_rows, ordered_rows, status_at, rows_in, verification_in, report_of};
+ghost use Rattle.obcp_messages.specs.Mirror.ReadingReports.{with_fault, with_rows, ordered_rows, status_at, rows_in, verification_in, report_of};
 
 use crate::fault::ReportFault;
 use crate::report::{PlainCode, Report, STATUS_REPORT, StartFault, VERIFICATION};
 use crate::request::SERVICE;
-use crate::rows::StatusRows;
+use crate::rows::{MAX_ROWS, StatusRows};
 use arrayvec::ArrayVec;
 use byteorder::{BigEndian, ByteOrder};
 use obcp_types::{Status, StatusRow};
 
 /// The request identifier at the beginning of the data.
-fn request_at_front(octets: &[u8]) -> [u8; 4]
+fn leading_request(octets: &[u8]) -> [u8; 4]
     requires { 4 ≤ length octets.now }
     ensures { result ≡ take 4 octets.now }
 {
@@ -33,26 +33,27 @@ fn request_alone(octets: &[u8]) -> Result<[u8; 4], ReportFault>
     if octets.len() != 4 {
         return Err(ReportFault::Layout);
     }
-    Ok(request_at_front(octets))
+    Ok(leading_request(octets))
 }
 
 /// The fields of data that are a request identifier and a failure code.
 fn request_and_code(octets: &[u8]) -> Result<([u8; 4], u16), ReportFault>
-    ensures { result ≡ (if length octets.now == 6 then Ok (take 4 octets.now, big_number 2 (drop 4 octets.now)) else Err Layout) }
+    ensures { result ≡ (if length octets.now == 6
+        then Ok (take 4 octets.now, big_number 2 (drop 4 octets.now)) else Err Layout) }
 {
     if octets.len() != 6 {
         return Err(ReportFault::Layout);
     }
-    Ok((request_at_front(octets), BigEndian::read_u16(&octets[4..])))
+    Ok((leading_request(octets), BigEndian::read_u16(&octets[4..])))
 }
 
-fn not_started(octets: &[u8]) -> Result<Report, ReportFault>
+fn failed_start(octets: &[u8]) -> Result<Report, ReportFault>
     ensures { result ≡ with_fault octets.now }
 {
     if octets.len() < 6 {
         return Err(ReportFault::Layout);
     }
-    let request = request_at_front(octets);
+    let request = leading_request(octets);
     let code = BigEndian::read_u16(&octets[4..]);
     let fault = match PlainCode::new(code) {
         Some(plain) if octets.len() == 6 => StartFault::Plain(plain),
@@ -78,8 +79,8 @@ fn status(code: u8) -> Option<Status>
 }
 
 /// The rows in so many times 3 octets, where each status is one.
-fn rows(octets: &[u8], count: usize) -> Option<ArrayVec<StatusRow, 16>>
-    requires most { count ≤ 16 }
+fn rows(octets: &[u8], count: usize) -> Option<ArrayVec<StatusRow, MAX_ROWS>>
+    requires most { count ≤ MAX_ROWS }
     requires whole { length octets.now ≡ 3 * count }
     ensures { option_map (λ rows. rows.items) result ≡ rows_in count octets.now }
 {
@@ -95,7 +96,7 @@ fn rows(octets: &[u8], count: usize) -> Option<ArrayVec<StatusRow, 16>>
 
 /// The status report of these rows, where their identifiers rise.
 #[tactic(auto, using(crate::proofs::RowOctets::rise_rising, crate::proofs::RowOctets::rising_rise))]
-fn in_order(rows: ArrayVec<StatusRow, 16>) -> Result<Report, ReportFault>
+fn in_order(rows: ArrayVec<StatusRow, MAX_ROWS>) -> Result<Report, ReportFault>
     ensures { result ≡ ordered_rows rows.items }
 {
     match StatusRows::new(rows) {
@@ -112,7 +113,7 @@ fn status_report(octets: &[u8]) -> Result<Report, ReportFault>
     }
     let count = octets[0] as usize;
     let rest = &octets[1..];
-    if count > 16 || rest.len() != 3 * count {
+    if count > MAX_ROWS || rest.len() != 3 * count {
         return Err(ReportFault::Layout);
     }
     let Some(rows) = rows(rest, count) else {
@@ -136,7 +137,7 @@ fn verification(subtype: u8, octets: &[u8]) -> Result<Report, ReportFault>
         3 => Ok(Report::Started {
             request: request_alone(octets)?,
         }),
-        4 => not_started(octets),
+        4 => failed_start(octets),
         7 => Ok(Report::Completed {
             request: request_alone(octets)?,
         }),
@@ -165,7 +166,8 @@ fn report_in(service: u8, subtype: u8, octets: &[u8]) -> Result<Report, ReportFa
 /// (ECSS-E-ST-70-41C, 8.1 and 8.18).
 pub fn read_report(service: u8, subtype: u8, octets: &[u8]) -> Result<Report, ReportFault>
     ensures found { IfOk result (IsReportData service subtype octets.now) }
-    ensures only { (report : Report) → IsReportData service subtype octets.now report → result ≡ Ok report }
+    ensures only { (report : Report) →
+        IsReportData service subtype octets.now report → result ≡ Ok report }
     ensures fault { IfErr result (HasReportFault service subtype octets.now) }
     // The same as a function, for definitions that speak of reports by their octets.
     ensures reads { result ≡ report_of service subtype octets.now }

@@ -6,9 +6,10 @@ ghost use Rattle.obcp_messages.specs.Fields.{numbers};
 ghost use Rattle.obcp_messages.specs.Reading.{is_counted, with_octets, with_words, request_in, request_of};
 ghost use Rattle.obcp_messages.specs.Request.{IsRequestData, HasRequestFault};
 ghost use Rattle.obcp_messages.specs.declared.request.Request.{Request};
+ghost use Rattle.obcp_messages.specs.declared.payload.TheConstants.{MAX_ARGUMENTS_LENGTH, MAX_CODE_LENGTH};
 ghost use Rattle.obcp_types.specs.declared.failure.RequestFault.TheVariants.{Layout};
 
-use crate::payload::{Arguments, Code, Words};
+use crate::payload::{Arguments, Code, MAX_WORDS, Words};
 use crate::request::{Request, SERVICE};
 use arrayvec::ArrayVec;
 use byteorder::{BigEndian, ByteOrder};
@@ -27,7 +28,8 @@ fn id_alone(octets: &[u8]) -> Result<u16, RequestFault>
 
 /// The fields of data that are an identifier and a step.
 fn id_and_step(octets: &[u8]) -> Result<(u16, u16), RequestFault>
-    ensures { result ≡ (if length octets.now == 4 then Ok (big_number 2 octets.now, big_number 2 (drop 2 octets.now)) else Err Layout) }
+    ensures { result ≡ (if length octets.now == 4
+        then Ok (big_number 2 octets.now, big_number 2 (drop 2 octets.now)) else Err Layout) }
 {
     if octets.len() != 4 {
         return Err(RequestFault::Layout);
@@ -39,8 +41,9 @@ fn id_and_step(octets: &[u8]) -> Result<(u16, u16), RequestFault>
 }
 
 /// The octets behind an identifier and their number, where they are that many.
-fn counted(octets: &[u8]) -> Result<&[u8], RequestFault>
-    ensures { MatchResult result (λ rest. IsTrue (is_counted octets.now) × (rest.now ≡ drop 4 octets.now))
+fn counted_octets(octets: &[u8]) -> Result<&[u8], RequestFault>
+    ensures { MatchResult result
+        (λ rest. IsTrue (is_counted octets.now) × (rest.now ≡ drop 4 octets.now))
         (λ fault. (fault ≡ Layout) × IsFalse (is_counted octets.now)) }
 {
     if octets.len() < 4 {
@@ -54,24 +57,24 @@ fn counted(octets: &[u8]) -> Result<&[u8], RequestFault>
 }
 
 fn load(octets: &[u8]) -> Result<Request<'_>, RequestFault>
-    ensures { result ≡ with_octets 65535 Request.Load octets.now }
+    ensures { result ≡ with_octets MAX_CODE_LENGTH Request.Load octets.now }
 {
-    let code = Code::new(counted(octets)?).ok_or(RequestFault::Layout)?;
+    let code = Code::new(counted_octets(octets)?).ok_or(RequestFault::Layout)?;
     let id = BigEndian::read_u16(octets);
     Ok(Request::Load { id, code })
 }
 
 fn activate(octets: &[u8]) -> Result<Request<'_>, RequestFault>
-    ensures { result ≡ with_octets 256 Request.Activate octets.now }
+    ensures { result ≡ with_octets MAX_ARGUMENTS_LENGTH Request.Activate octets.now }
 {
-    let arguments = Arguments::new(counted(octets)?).ok_or(RequestFault::Layout)?;
+    let arguments = Arguments::new(counted_octets(octets)?).ok_or(RequestFault::Layout)?;
     let id = BigEndian::read_u16(octets);
     Ok(Request::Activate { id, arguments })
 }
 
 /// The words in so many times 8 octets.
-fn words_in(octets: &[u8], count: usize) -> ArrayVec<u64, 8>
-    requires most { count ≤ 8 }
+fn words_in(octets: &[u8], count: usize) -> ArrayVec<u64, MAX_WORDS>
+    requires most { count ≤ MAX_WORDS }
     requires whole { length octets.now ≡ 8 * count }
     ensures { result.items ≡ numbers 8 count octets.now }
 {
@@ -90,7 +93,7 @@ fn communicate(octets: &[u8]) -> Result<Request<'_>, RequestFault>
     }
     let count = octets[2] as usize;
     let rest = &octets[3..];
-    if count > 8 || rest.len() != 8 * count {
+    if count > MAX_WORDS || rest.len() != 8 * count {
         return Err(RequestFault::Layout);
     }
     let words = Words::new(words_in(rest, count)).ok_or(RequestFault::Layout)?;

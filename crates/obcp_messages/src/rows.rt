@@ -7,10 +7,13 @@ use arrayvec::ArrayVec;
 use obcp_types::StatusRow;
 use std::marker::Model;
 
+/// The most rows of a status report: as many procedures can be loaded.
+pub const MAX_ROWS: usize = 16;
+
 /// The rows of a status report: at most 16, by rising identifier.
 #[derive(Drop)]
 pub struct StatusRows {
-    rows: ArrayVec<StatusRow, 16>,
+    rows: ArrayVec<StatusRow, MAX_ROWS>,
 }
 
 impl Model for StatusRows {
@@ -29,7 +32,7 @@ impl StatusRows {
     ghost use Rattle.obcp_messages.specs.Rows.{IsRising};
 
     /// These rows, where their identifiers rise.
-    pub fn new(rows: ArrayVec<StatusRow, 16>) -> Option<StatusRows>
+    pub fn new(rows: ArrayVec<StatusRow, MAX_ROWS>) -> Option<StatusRows>
         ensures value { IfSome result (λ value. value ≡ rows.items) }
         ensures variant { IsSome result ↔ IsRising rows.items }
     {
@@ -43,7 +46,7 @@ impl StatusRows {
     pub fn as_slice(&self) -> &[StatusRow]
         ensures value { result.now ≡ self.now }
         ensures rising { IsRising self.now }
-        ensures bound { length self.now ≤ 16 }
+        ensures bound { length self.now ≤ MAX_ROWS }
     {
         self.rows.as_slice()
     }

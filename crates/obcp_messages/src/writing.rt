@@ -1,7 +1,7 @@
 //! Writing requests and reports.
 
-ghost use Rattle.std.specs.Prelude.{◌≡◌, ◌<◌, ◌+◌, ◌++◌, length, OnOk, OnErr, vec_len, vec_capacity};
-ghost use Rattle.obcp_messages.specs.Request.{IsRequest, IsRequestData, request_data, subtype_of, lent_octets};
+ghost use Rattle.std.specs.Prelude.{◌≡◌, ◌<◌, ◌+◌, ◌++◌, ◌≤◌, length, OnOk, OnErr, vec_len, vec_capacity};
+ghost use Rattle.obcp_messages.specs.Request.{IsRequest, IsRequestData, request_data, subtype_of, trailing_octets};
 ghost use Rattle.obcp_messages.specs.Report.{IsReport, IsReportData, IsStartFault, report_data, service_of, kind_of, fault_data};
 
 use crate::fields::{Fields, put_octets, put_rows, put_u8, put_u16, put_words};
@@ -10,9 +10,9 @@ use crate::request::Request;
 use arrayvec::ArrayVec;
 use std::alloc::{AllocError, Allocator};
 
-/// The fields of a request before the octets that it lends.
+/// The fields of a request before the octets at its end.
 fn request_fields(request: &Request) -> Fields
-    ensures octets { result.items ++ lent_octets request.now ≡ request_data request.now }
+    ensures octets { result.items ++ trailing_octets request.now ≡ request_data request.now }
     ensures in_range { IsRequest request.now }
 {
     let mut fields = ArrayVec::new();
@@ -42,9 +42,9 @@ fn request_fields(request: &Request) -> Fields
     fields
 }
 
-/// The octets that a request lends.
-fn lent<'a>(request: &Request<'a>) -> &'a [u8]
-    ensures { result.now ≡ lent_octets request.now }
+/// The octets at the end of a request.
+fn trailing_octets<'a>(request: &Request<'a>) -> &'a [u8]
+    ensures { result.now ≡ trailing_octets request.now }
 {
     match request {
         Request::Load { code, .. } => code.octets(),
@@ -53,19 +53,21 @@ fn lent<'a>(request: &Request<'a>) -> &'a [u8]
     }
 }
 
-/// Appends the service data of a request (ECSS-E-ST-70-41C, 8.18).
+/// Appends the service data of a request (ECSS-E-ST-70-41C, 8.18). The capacity never shrinks.
 pub fn write_request<A: Allocator>(
     request: &Request,
     out: &mut Vec<u8, A>,
 ) -> Result<(), AllocError>
     ensures written { OnOk result (out.new.items ≡ out.old.items ++ request_data request.now) }
     ensures laid_out { IsRequestData 18 (subtype_of request.now) (request_data request.now) request.now }
-    // Memory is refused only where the vector had to grow, and then nothing is appended.
-    ensures memory { OnErr result (vec_capacity out.old < vec_len out.old + length (request_data request.now)) }
+    // It is refused only where the vector had to grow, and then nothing is appended.
+    ensures memory { OnErr result
+        (vec_capacity out.old < vec_len out.old + length (request_data request.now)) }
     ensures err { OnErr result (out.new.items ≡ out.old.items) }
+    ensures capacity { vec_capacity out.old ≤ vec_capacity out.new }
 {
     let fields = request_fields(request);
-    let octets = lent(request);
+    let octets = trailing_octets(request);
     out.reserve(fields.len() + octets.len())?;
     out.extend_from_slice(fields.as_slice()).unwrap();
     out.extend_from_slice(octets).unwrap();
@@ -116,13 +118,16 @@ fn report_fields(report: &Report) -> Fields
     fields
 }
 
-/// Appends the service data of a report (ECSS-E-ST-70-41C, 8.1 and 8.18).
+/// Appends the service data of a report (ECSS-E-ST-70-41C, 8.1 and 8.18). The capacity never shrinks.
 pub fn write_report<A: Allocator>(report: &Report, out: &mut Vec<u8, A>) -> Result<(), AllocError>
     ensures written { OnOk result (out.new.items ≡ out.old.items ++ report_data report.now) }
-    ensures laid_out { IsReportData (service_of report.now) (kind_of report.now) (report_data report.now) report.now }
-    // Memory is refused only where the vector had to grow, and then nothing is appended.
-    ensures memory { OnErr result (vec_capacity out.old < vec_len out.old + length (report_data report.now)) }
+    ensures laid_out { IsReportData (service_of report.now) (kind_of report.now)
+        (report_data report.now) report.now }
+    // It is refused only where the vector had to grow, and then nothing is appended.
+    ensures memory { OnErr result
+        (vec_capacity out.old < vec_len out.old + length (report_data report.now)) }
     ensures err { OnErr result (out.new.items ≡ out.old.items) }
+    ensures capacity { vec_capacity out.old ≤ vec_capacity out.new }
 {
     out.extend_from_slice(report_fields(report).as_slice())
 }

@@ -1,43 +1,43 @@
 -- The division, from the highest coefficient down.
 use Rattle.std.proofs.Common.{◌≡◌, ℕ, zero, suc, ◌+◌, Bool, true, false, List, [], ◌∷◌, ◌++◌, length, take, drop, refl, sym, ap, ◌∙◌, arith, append_assoc, length-append}
-use Rattle.pus_fields.specs.ErrorControl.{sum_of, zeros, scaled, low, generator, product, inverted, IsRemainder, octet_bits, message, bits}
-use Rattle.pus_fields.specs.Register.{dividend, shifted_bits}
-use Rattle.pus_fields.proofs.Polynomials.{plus-comm, plus-false, sum-assoc, sum-comm, length-zeros, zeros-sum, sum-self, sum-zeros_zeros, length-sum, sum-append, length-scaled, sum-cancel}
+use Rattle.pus_fields.specs.ErrorControl.{sum_of, zeros, multiple, low, generator, product, inversion, IsRemainder, octet_bits, message, bits}
+use Rattle.pus_fields.specs.Mirror.Register.{dividend, shifted_bits}
+use Rattle.pus_fields.proofs.Polynomials.{plus-comm, plus-false, sum-assoc, sum-comm, length-zeros, zeros-sum, sum-self, sum-zeros_zeros, length-sum, sum-append, length-multiple, sum-cancel}
 
-scaled_generator : (b : Bool) → scaled b generator ≡ b ∷ scaled b low
-scaled_generator false = refl
-scaled_generator true = refl
+multiple_of_generator : (b : Bool) → multiple b generator ≡ b ∷ multiple b low
+multiple_of_generator false = refl
+multiple_of_generator true = refl
 
 pub length-product : (q : List Bool) → length (product q) ≡ length q + 16
 length-product [] = refl
 length-product (b ∷ q) =
-    let s : length (scaled b generator ++ zeros (length q)) ≡ length q + 17 = omega (arith, length-append (scaled b generator) (zeros (length q)), length-scaled b generator, length-zeros (length q)) in
-    let e : length (scaled b generator ++ zeros (length q)) ≡ length (false ∷ product q) = omega (arith, s, length-product q) in
-    omega (arith, length-sum (scaled b generator ++ zeros (length q)) (false ∷ product q) e, s)
+    let s : length (multiple b generator ++ zeros (length q)) ≡ length q + 17 = omega (arith, length-append (multiple b generator) (zeros (length q)), length-multiple b generator, length-zeros (length q)) in
+    let e : length (multiple b generator ++ zeros (length q)) ≡ length (false ∷ product q) = omega (arith, s, length-product q) in
+    omega (arith, length-sum (multiple b generator ++ zeros (length q)) (false ∷ product q) e, s)
 
 -- the product without its first coefficient, which is b
 under : Bool → List Bool → List Bool
-under b q = sum_of (scaled b low ++ zeros (length q)) (product q)
+under b q = sum_of (multiple b low ++ zeros (length q)) (product q)
 
 product-cons : (b : Bool) (q : List Bool) → product (b ∷ q) ≡ b ∷ under b q
 unfolding under
-product-cons b q = rw (scaled_generator b) (rw (plus-false b) refl)
+product-cons b q = rw (multiple_of_generator b) (rw (plus-false b) refl)
 
-length-low : (b : Bool) (q : List Bool) → length (scaled b low ++ zeros (length q)) ≡ length q + 16
-length-low b q = omega (arith, length-append (scaled b low) (zeros (length q)), length-scaled b low, length-zeros (length q))
+length-low : (b : Bool) (q : List Bool) → length (multiple b low ++ zeros (length q)) ≡ length q + 16
+length-low b q = omega (arith, length-append (multiple b low) (zeros (length q)), length-multiple b low, length-zeros (length q))
 
 -- one step of the division
-pub step : (b : Bool) (n : ℕ) (p r : List Bool) → length p ≡ n + 16 → IsRemainder (sum_of p (scaled b low ++ zeros n)) r → IsRemainder (b ∷ p) r
+pub step : (b : Bool) (n : ℕ) (p r : List Bool) → length p ≡ n + 16 → IsRemainder (sum_of p (multiple b low ++ zeros n)) r → IsRemainder (b ∷ p) r
 unfolding under
 step b n p r len h =
     let q = h.quotient in
-    let low_len : length (scaled b low ++ zeros n) ≡ n + 16 = omega (arith, length-append (scaled b low) (zeros n), length-scaled b low, length-zeros n) in
-    let sum_len : length (sum_of p (scaled b low ++ zeros n)) ≡ n + 16 = omega (arith, length-sum p (scaled b low ++ zeros n) (omega arith)) in
+    let low_len : length (multiple b low ++ zeros n) ≡ n + 16 = omega (arith, length-append (multiple b low) (zeros n), length-multiple b low, length-zeros n) in
+    let sum_len : length (sum_of p (multiple b low ++ zeros n)) ≡ n + 16 = omega (arith, length-sum p (multiple b low ++ zeros n) (omega arith)) in
     let same : length q ≡ n = omega (arith, h.size) in
-    let sub = scaled b low ++ zeros n in
+    let sub = multiple b low ++ zeros n in
     let tail = zeros (length q) ++ r in
     let twice : sum_of sub (sum_of sub p) ≡ p = sym (sum-assoc sub sub p) ∙ ap (λ (t : List Bool). sum_of t p) (sum-self sub) ∙ zeros-sum (length sub) p (omega arith) in
-    let under_is : under b q ≡ sum_of sub (product q) = ap (λ (k : ℕ). sum_of (scaled b low ++ zeros k) (product q)) same in
+    let under_is : under b q ≡ sum_of sub (product q) = ap (λ (k : ℕ). sum_of (multiple b low ++ zeros k) (product q)) same in
     let whole : sum_of (under b q) tail ≡ p = ap (λ (t : List Bool). sum_of t tail) under_is ∙ sum-assoc sub (product q) tail ∙ ap (sum_of sub) (sym h.parts ∙ sum-comm p sub) ∙ twice in
     let all : sum_of (product (b ∷ q)) (false ∷ tail) ≡ b ∷ p = ap (λ (t : List Bool). sum_of t (false ∷ tail)) (product-cons b q) ∙ rw (plus-false b, whole) refl in
     record { quotient = b ∷ q; size = omega (arith, len, same); width = h.width; parts = sym all }
@@ -61,12 +61,12 @@ one_quotient (b ∷ q) (c ∷ s) x y e f g h =
     let tails : sum_of (under b q) (zeros (length q) ++ x) ≡ sum_of (under c s) (zeros (length s) ++ y) = cc in
     let u = zeros (length q) ++ x in
     let v = zeros (length s) ++ y in
-    let sub = scaled b low ++ zeros (length q) in
+    let sub = multiple b low ++ zeros (length q) in
     let u_len : length u ≡ length q + 16 = omega (arith, length-append (zeros (length q)) x, length-zeros (length q)) in
     let v_len : length v ≡ length q + 16 = omega (arith, length-append (zeros (length s)) y, length-zeros (length s)) in
     let l1 : length (sum_of (product q) u) ≡ length q + 16 = omega (arith, length-sum (product q) u (omega (arith, length-product q)), length-product q) in
     let l2 : length (sum_of (product s) v) ≡ length q + 16 = omega (arith, length-sum (product s) v (omega (arith, length-product s)), length-product s) in
-    let right_sub : under c s ≡ sum_of sub (product s) = ap (λ (k : ℕ). sum_of (scaled c low ++ zeros k) (product s)) (sym len) ∙ ap (λ (k : Bool). sum_of (scaled k low ++ zeros (length q)) (product s)) (sym heads) in
+    let right_sub : under c s ≡ sum_of sub (product s) = ap (λ (k : ℕ). sum_of (multiple c low ++ zeros k) (product s)) (sym len) ∙ ap (λ (k : Bool). sum_of (multiple k low ++ zeros (length q)) (product s)) (sym heads) in
     let shared : sum_of sub (sum_of (product q) u) ≡ sum_of sub (sum_of (product s) v) = sym (sum-assoc sub (product q) u) ∙ tails ∙ ap (λ (t : List Bool). sum_of t v) right_sub ∙ sum-assoc sub (product s) v in
     one_quotient q s x y len f g (sum-cancel sub _ _ (omega (arith, length-low b q)) (omega (arith, length-low b q)) shared)
 
@@ -81,14 +81,14 @@ pub shift_step : (top : Bool) (s rest r : List Bool) → length s ≡ 15 → IsR
 shift_step top s rest r len h =
     let m = rest ++ zeros 16 in
     let n = length rest in
-    let low_len : length (scaled top low) ≡ 16 = length-scaled top low in
+    let low_len : length (multiple top low) ≡ 16 = length-multiple top low in
     let s_len : length (s ++ false ∷ []) ≡ 16 = omega (arith, length-append s (false ∷ [])) in
     let m_len : length m ≡ n + 16 = length-append rest (zeros 16) in
     let state_len : length ((s ++ false ∷ []) ++ zeros n) ≡ n + 16 = omega (arith, length-append (s ++ false ∷ []) (zeros n), length-zeros n) in
     let p = sum_of m ((s ++ false ∷ []) ++ zeros n) in
-    let joined : sum_of ((s ++ false ∷ []) ++ zeros n) (scaled top low ++ zeros n) ≡ shifted_bits (top ∷ s) ++ zeros n =
-    sum-append (s ++ false ∷ []) (zeros n) (scaled top low) (zeros n) (omega arith) ∙ ap (λ (t : List Bool). sum_of (s ++ false ∷ []) (scaled top low) ++ t) (sum-zeros_zeros n) in
-    let next : sum_of p (scaled top low ++ zeros n) ≡ dividend (shifted_bits (top ∷ s)) rest = sum-assoc m ((s ++ false ∷ []) ++ zeros n) (scaled top low ++ zeros n) ∙ ap (sum_of m) joined in
+    let joined : sum_of ((s ++ false ∷ []) ++ zeros n) (multiple top low ++ zeros n) ≡ shifted_bits (top ∷ s) ++ zeros n =
+    sum-append (s ++ false ∷ []) (zeros n) (multiple top low) (zeros n) (omega arith) ∙ ap (λ (t : List Bool). sum_of (s ++ false ∷ []) (multiple top low) ++ t) (sum-zeros_zeros n) in
+    let next : sum_of p (multiple top low ++ zeros n) ≡ dividend (shifted_bits (top ∷ s)) rest = sum-assoc m ((s ++ false ∷ []) ++ zeros n) (multiple top low ++ zeros n) ∙ ap (sum_of m) joined in
     let P : List Bool → Type 0 = λ t. IsRemainder t r in
     let stepped : IsRemainder (top ∷ p) r = step top n p r (omega (arith, length-sum m ((s ++ false ∷ []) ++ zeros n) (omega arith))) (rw next h) in
     let regrouped : top ∷ p ≡ dividend (top ∷ s) (false ∷ rest) = ap (λ (t : List Bool). top ∷ sum_of m t) (append_assoc s (false ∷ []) (zeros n)) in
@@ -125,7 +125,7 @@ ones : ℕ → List Bool
 ones zero = []
 ones (suc n) = true ∷ ones n
 
-inverted_front : (k n : ℕ) (p : List Bool) → length p ≡ n + k → inverted (take k p) ++ drop k p ≡ sum_of p (ones k ++ zeros n)
+inverted_front : (k n : ℕ) (p : List Bool) → length p ≡ n + k → inversion (take k p) ++ drop k p ≡ sum_of p (ones k ++ zeros n)
 unfolding ones
 inverted_front zero n p e = sym (sum-comm p (zeros n) ∙ zeros-sum n p (omega (arith, e)))
 inverted_front (suc k) n [] e = refl

@@ -1,20 +1,20 @@
 -- The error control as a function is the error control.
 use Rattle.std.proofs.Common.{◌≡◌, ℕ, zero, suc, ◌+◌, ◌*◌, ◌/◌, ◌%◌, ◌^◌, ◌<◌, Bool, true, false, eqb, if◌then◌else◌, List, [], ◌∷◌, ◌++◌, length, refl, sym, ap, subst, ◌∙◌, arith, length-append}
 use Rattle.std.proofs.Math.Nat.{add-mod_left, div-eq_of_lt, div-eq_of_lt-le, mod-eq_of_lt}
-use Rattle.pus_fields.specs.ErrorControl.{IsErrorControl, IsRemainder, bits, divided, error_control, message, number_of_bits, octet_bits, scaled, low, sum_of, zeros}
+use Rattle.pus_fields.specs.ErrorControl.{IsErrorControl, IsRemainder, bits, remainder_of, error_control, message, number_of_bits, octet_bits, multiple, low, sum_of, zeros}
 use Rattle.pus_fields.proofs.Bits.{bits-cut, length-bits, one_number}
 use Rattle.pus_fields.proofs.Division.{one_remainder, short, start, step}
-use Rattle.pus_fields.proofs.Polynomials.{length-scaled, length-sum, length-zeros}
+use Rattle.pus_fields.proofs.Polynomials.{length-multiple, length-sum, length-zeros}
 
-divided_is : (n : ℕ) (p : List Bool) → length p ≡ n + 16 → IsRemainder p (divided n p)
-unfolding divided
-divided_is zero p e = short p (omega (arith, e))
-divided_is (suc n) [] e = absurd (omega (arith, e))
-divided_is (suc n) (b ∷ p) e =
-    let low_len : length (scaled b low ++ zeros n) ≡ n + 16 = omega (arith, length-append (scaled b low) (zeros n), length-scaled b low, length-zeros n) in
+remainder_of-is : (n : ℕ) (p : List Bool) → length p ≡ n + 16 → IsRemainder p (remainder_of n p)
+unfolding remainder_of
+remainder_of-is zero p e = short p (omega (arith, e))
+remainder_of-is (suc n) [] e = absurd (omega (arith, e))
+remainder_of-is (suc n) (b ∷ p) e =
+    let low_len : length (multiple b low ++ zeros n) ≡ n + 16 = omega (arith, length-append (multiple b low) (zeros n), length-multiple b low, length-zeros n) in
     let rest_len : length p ≡ n + 16 = omega (arith, e) in
-    let sum_len : length (sum_of p (scaled b low ++ zeros n)) ≡ n + 16 = omega (arith, length-sum p (scaled b low ++ zeros n) (omega arith)) in
-    step b n p _ rest_len (divided_is n (sum_of p (scaled b low ++ zeros n)) sum_len)
+    let sum_len : length (sum_of p (multiple b low ++ zeros n)) ≡ n + 16 = omega (arith, length-sum p (multiple b low ++ zeros n) (omega arith)) in
+    step b n p _ rest_len (remainder_of-is n (sum_of p (multiple b low ++ zeros n)) sum_len)
 
 number-lt : (p : List Bool) → number_of_bits p < 2 ^ length p
 unfolding number_of_bits
@@ -60,16 +60,16 @@ length-message octets =
 pub error_control-is : (octets : List ℕ) → IsErrorControl octets (error_control octets)
 unfolding IsErrorControl error_control
 error_control-is octets =
-    let r = divided (8 * length octets) (message octets) in
-    let h : IsRemainder (message octets) r = divided_is (8 * length octets) (message octets) (length-message octets) in
+    let r = remainder_of (8 * length octets) (message octets) in
+    let h : IsRemainder (message octets) r = remainder_of-is (8 * length octets) (message octets) (length-message octets) in
     let e : bits 16 (number_of_bits r) ≡ r = ap (λ (k : ℕ). bits k (number_of_bits r)) (sym h.width) ∙ bits-number r in
     subst (λ (t : List Bool). IsRemainder (message octets) t) (sym e) h
 
 pub error_control-lt : (octets : List ℕ) → error_control octets < 2 ^ 16
 unfolding error_control
 error_control-lt octets =
-    let r = divided (8 * length octets) (message octets) in
-    let h : IsRemainder (message octets) r = divided_is (8 * length octets) (message octets) (length-message octets) in
+    let r = remainder_of (8 * length octets) (message octets) in
+    let h : IsRemainder (message octets) r = remainder_of-is (8 * length octets) (message octets) (length-message octets) in
     subst (λ (k : ℕ). number_of_bits r < 2 ^ k) h.width (number-lt r)
 
 -- octets have one error control

@@ -11,7 +11,7 @@ use Rattle.pus_fields.specs.declared.fault.Rejection.{Rejection}
 use Rattle.pus_fields.specs.declared.fault.TcFault.TheVariants.{Discarded, Rejected}
 use Rattle.pus_fields.specs.Acknowledgement.{flags, flags_of}
 use Rattle.pus_fields.specs.ErrorControl.{IsErrorControl, error_control}
-use Rattle.pus_fields.specs.Rejections.{IsSound, covered, last_two, rejection_of}
+use Rattle.pus_fields.specs.Rejections.{IsSound, covered_octets, last_two, rejection_of}
 use Rattle.pus_fields.specs.Telecommand.{IsTelecommand, Telecommand, telecommand_header, telecommand_secondary}
 use Rattle.pus_fields.specs.TelecommandFaults.{discard_of, telecommand_answer, telecommand_in, telecommand_of, unless_rejected}
 use Rattle.pus_fields.proofs.Function.{same_control}
@@ -61,7 +61,7 @@ same_telecommand a b h1 h2 h3 h4 h5 h6 h7 = λ i. record {
 
 -- a telecommand's octets are not rejected, and say what it says
 sound_answer : (octets : List ℕ) (tc : Telecommand) → IsTelecommand octets tc
-    → (c : ℕ) → c < 2 ^ 16 → drop 6 octets ≡ field_of tc c → IsErrorControl (covered octets) c
+    → (c : ℕ) → c < 2 ^ 16 → drop 6 octets ≡ field_of tc c → IsErrorControl (covered_octets octets) c
     → unless_rejected octets (rejection_of 7 octets (telecommand_header tc) (field_of tc c)) (telecommand_in tc.apid tc.count (field_of tc c)) ≡ Ok tc
 unfolding field_of
 sound_answer octets tc h c lt remain checked =
@@ -71,7 +71,7 @@ sound_answer octets tc h c lt remain checked =
     let some : 1 ≤ length field = omega (arith, len) in
     let last : last_two octets ≡ c = last_two-is octets field tc.payload 5 c remain refl some lt in
     let room = le-ltb (length field) 7 (omega (arith, len)) in
-    let control = eq-eqb (error_control (covered octets)) (last_two octets) (sym (same_control (covered octets) c lt checked) ∙ sym last) in
+    let control = eq-eqb (error_control (covered_octets octets)) (last_two octets) (sym (same_control (covered_octets octets) c lt checked) ∙ sym last) in
     let version = eq-eqb ((2 * 2 ^ 4 + flags_of tc.ack) % 256 / 2 ^ 4) 2 (omega (arith, r.ack)) in
     let said : telecommand_in tc.apid tc.count field ≡ tc = same_telecommand _ _ refl refl (omega (arith, r.ack)) (omega (arith, r.service)) (omega (arith, r.subtype)) (omega (arith, r.source)) (between-is field tc.payload 5 c refl) in
     rw (room, control, version) (ap Ok said)

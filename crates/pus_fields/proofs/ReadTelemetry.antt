@@ -9,7 +9,7 @@ use Rattle.space_packet.specs.Packet.{IsPacket, packet_in}
 use Rattle.pus_fields.specs.declared.fault.Rejection.{Rejection}
 use Rattle.pus_fields.specs.declared.fault.TmFault.TheVariants.{NotProfile, NotTelemetry}
 use Rattle.pus_fields.specs.ErrorControl.{IsErrorControl, error_control}
-use Rattle.pus_fields.specs.Rejections.{IsSound, covered, last_two, rejection_of}
+use Rattle.pus_fields.specs.Rejections.{IsSound, covered_octets, last_two, rejection_of}
 use Rattle.pus_fields.specs.Telemetry.{IsTelemetry, Telemetry, telemetry_header, telemetry_secondary}
 use Rattle.pus_fields.specs.TelemetryFaults.{IsOtherProfile, fault_of, fault_of_packet, in_profile, telemetry_answer, telemetry_in, telemetry_of, unless_rejected}
 use Rattle.pus_fields.proofs.Function.{same_control}
@@ -91,7 +91,7 @@ four_octets n h =
 
 -- telemetry's octets are not rejected, and say what it says
 sound_answer : (octets : List ℕ) (tm : Telemetry) → IsTelemetry octets tm
-    → (c : ℕ) → c < 2 ^ 16 → drop 6 octets ≡ field_of tm c → IsErrorControl (covered octets) c
+    → (c : ℕ) → c < 2 ^ 16 → drop 6 octets ≡ field_of tm c → IsErrorControl (covered_octets octets) c
     → unless_rejected (field_of tm c) (rejection_of 13 octets (telemetry_header tm) (field_of tm c)) (telemetry_in tm.apid tm.count (field_of tm c)) ≡ Ok tm
 unfolding field_of
 sound_answer octets tm h c lt remain checked =
@@ -101,7 +101,7 @@ sound_answer octets tm h c lt remain checked =
     let some : 1 ≤ length field = omega (arith, len) in
     let last : last_two octets ≡ c = last_two-is octets field tm.payload 11 c remain refl some lt in
     let room = le-ltb (length field) 13 (omega (arith, len)) in
-    let control = eq-eqb (error_control (covered octets)) (last_two octets) (sym (same_control (covered octets) c lt checked) ∙ sym last) in
+    let control = eq-eqb (error_control (covered_octets octets)) (last_two octets) (sym (same_control (covered_octets octets) c lt checked) ∙ sym last) in
     let said : telemetry_in tm.apid tm.count field ≡ tm = same_telemetry _ _ refl refl (omega (arith, r.service)) (omega (arith, r.subtype)) (omega (arith, r.destination)) (four_octets tm.time r.time) (between-is field tm.payload 11 c refl) in
     rw (room, control) (ap Ok said)
 

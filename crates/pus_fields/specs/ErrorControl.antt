@@ -21,9 +21,9 @@ zeros zero = []
 zeros (suc n) = false ∷ zeros n
 
 -- a coefficient times a polynomial
-abbrev pub scaled : Bool → List Bool → List Bool
-scaled false p = zeros (length p)
-scaled true p = p
+abbrev pub multiple : Bool → List Bool → List Bool
+multiple false p = zeros (length p)
+multiple true p = p
 
 -- x^12 + x^5 + 1, with 16 coefficients
 abbrev pub low : List Bool
@@ -36,7 +36,7 @@ generator = true ∷ low
 -- a polynomial times the generator
 abbrev pub product : List Bool → List Bool
 product [] = zeros 16
-product (b ∷ q) = sum_of (scaled b generator ++ zeros (length q)) (false ∷ product q)
+product (b ∷ q) = sum_of (multiple b generator ++ zeros (length q)) (false ∷ product q)
 
 -- dividend = quotient * generator + remainder, and the remainder has 16 coefficients
 pub record IsRemainder (dividend remainder : List Bool) : Type 0 where
@@ -56,22 +56,22 @@ abbrev pub octet_bits : List ℕ → List Bool
 octet_bits [] = []
 octet_bits (octet ∷ octets) = bits 8 octet ++ octet_bits octets
 
-abbrev pub inverted : List Bool → List Bool
-inverted p = map (plus true) p
+abbrev pub inversion : List Bool → List Bool
+inversion p = map (plus true) p
 
 -- the bits of the octets, followed by 16 zeros, the first 16 of that list inverted
 abbrev pub message : List ℕ → List Bool
-message octets = let all = octet_bits octets ++ zeros 16 in inverted (take 16 all) ++ drop 16 all
+message octets = let all = octet_bits octets ++ zeros 16 in inversion (take 16 all) ++ drop 16 all
 
 -- the number is the error control of the octets
 unfoldable pub IsErrorControl : List ℕ → ℕ → Type 0
 IsErrorControl octets number = IsRemainder (message octets) (bits 16 number)
 
 -- what long division leaves of a polynomial once its highest n coefficients are taken away
-unfoldable pub divided : ℕ → List Bool → List Bool
-divided zero p = p
-divided (suc n) [] = []
-divided (suc n) (b ∷ p) = divided n (sum_of p (scaled b low ++ zeros n))
+unfoldable pub remainder_of : ℕ → List Bool → List Bool
+remainder_of zero p = p
+remainder_of (suc n) [] = []
+remainder_of (suc n) (b ∷ p) = remainder_of n (sum_of p (multiple b low ++ zeros n))
 
 -- the number that the bits spell, the highest first
 unfoldable pub number_of_bits : List Bool → ℕ
@@ -80,4 +80,4 @@ number_of_bits (b ∷ p) = (if b then 2 ^ length p else 0) + number_of_bits p
 
 -- the error control as a function of the octets
 unfoldable pub error_control : List ℕ → ℕ
-error_control octets = number_of_bits (divided (8 * length octets) (message octets))
+error_control octets = number_of_bits (remainder_of (8 * length octets) (message octets))

@@ -1,6 +1,6 @@
 pub mod Acknowledgement
 pub mod ErrorControl
-pub mod Register
+pub mod Mirror
 pub mod Rejections
 pub mod Telecommand
 pub mod TelecommandFaults

@@ -9,8 +9,8 @@ use Rattle.pus_fields.specs.declared.fault.Rejection.TheVariants.{Segmented, NoS
 use Rattle.pus_fields.specs.ErrorControl.{IsErrorControl, error_control}
 
 -- all octets but the last two
-abbrev pub covered : List ℕ → List ℕ
-covered octets = take (length octets - 2) octets
+abbrev pub covered_octets : List ℕ → List ℕ
+covered_octets octets = take (length octets - 2) octets
 
 -- the number in the last two octets
 abbrev pub last_two : List ℕ → ℕ
@@ -18,7 +18,7 @@ last_two octets = big_number 2 (drop (length octets - 2) octets)
 
 -- the last two octets are the error control of the octets before them
 abbrev pub HasErrorControl : List ℕ → Type 0
-HasErrorControl octets = IsErrorControl (covered octets) (last_two octets)
+HasErrorControl octets = IsErrorControl (covered_octets octets) (last_two octets)
 
 -- the packet is unsegmented, has a secondary header, and its data field has at least so many octets
 pub record IsWhole (least : ℕ) (header : Primary) (field : List ℕ) : Type 0 where
@@ -54,6 +54,6 @@ rejection_of least octets header field =
     if not (flags_number header.flags == 3) then Some Segmented
     else if not header.secondary then Some NoSecondary
     else if nat_lt (length field) least then Some NoRoom
-    else if not (error_control (covered octets) == last_two octets) then Some Pec
+    else if not (error_control (covered_octets octets) == last_two octets) then Some Pec
     else if not (pus_version field == 2) then Some PusVersion
     else None

@@ -4,6 +4,7 @@ use Rattle.byteorder.specs.Endian.{big_bytes}
 use Rattle.space_packet.specs.declared.primary.Primary.{Primary}
 use Rattle.space_packet.specs.declared.primary.SequenceFlags.TheVariants.{Unsegmented}
 use Rattle.space_packet.specs.Packet.{IsPacket}
+use Rattle.space_packet.specs.declared.range.TheConstants.{IDLE_APID}
 use Rattle.pus_fields.specs.declared.ack.Ack.{Ack}
 use Rattle.pus_fields.specs.Acknowledgement.{flags_of}
 use Rattle.pus_fields.specs.ErrorControl.{IsErrorControl, error_control}
@@ -20,7 +21,7 @@ pub record Telecommand : Type 0 where
 
 -- each number fits its field, and the application process identifier is not that of idle packets
 pub record IsTelecommandInRange (tc : Telecommand) : Type 0 where
-  pub apid : tc.apid < 2047
+  pub apid : tc.apid < IDLE_APID
   pub count : tc.count < 2 ^ 14
   pub ack : flags_of tc.ack < 2 ^ 4
   pub service : tc.service < 2 ^ 8

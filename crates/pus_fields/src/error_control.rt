@@ -2,13 +2,13 @@
 
 ghost use Rattle.std.specs.Prelude.{◌≡◌, ◌<◌, ◌^◌, ℕ, [], ◌∷◌, ◌++◌, List, Bool, true, false};
 ghost use Rattle.pus_fields.specs.ErrorControl.{IsErrorControl, IsRemainder, error_control, bits};
-ghost use Rattle.pus_fields.specs.Register.{dividend, shifted_bits};
+ghost use Rattle.pus_fields.specs.Mirror.Register.{dividend, shifted_bits};
 
 /// x^12 + x^5 + 1
 const LOW: u16 = 0x1021;
 
 /// The register after one bit has left it.
-fn shifted(register: u16) -> u16
+fn register_after_bit(register: u16) -> u16
     ensures { bits 16 result ≡ shifted_bits (bits 16 register) }
 {
     if register >> 15 == 1 {
@@ -19,14 +19,14 @@ fn shifted(register: u16) -> u16
 }
 
 /// The register after an octet.
-fn fed(register: u16, octet: u8) -> u16
+fn register_after_octet(register: u16, octet: u8) -> u16
     // Whatever remainder the rest of a message then gives is that of the octet and the rest.
     ensures { (rest remainder : List Bool) → IsRemainder (dividend (bits 16 result) rest) remainder →
         IsRemainder (dividend (bits 16 register) (bits 8 octet ++ rest)) remainder }
 {
     let mut next = register ^ (u16::from(octet) << 8);
     for _step in 0..8u8 {
-        next = shifted(next);
+        next = register_after_bit(next);
     }
     next
 }
@@ -40,7 +40,7 @@ pub fn crc16(octets: &[u8]) -> u16
 {
     let mut register = 0xffff;
     for octet in octets {
-        register = fed(register, *octet);
+        register = register_after_octet(register, *octet);
     }
     register
 }

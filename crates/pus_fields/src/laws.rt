@@ -7,12 +7,13 @@ ghost use Rattle.pus_fields.specs.Telecommand.{IsTelecommand, IsTelecommandInRan
 ghost use Rattle.pus_fields.specs.TelecommandFaults.{telecommand_of};
 ghost use Rattle.pus_fields.specs.Telemetry.{IsTelemetry, IsTelemetryInRange, Telemetry, telemetry_octets};
 ghost use Rattle.pus_fields.specs.TelemetryFaults.{telemetry_of};
+ghost use Rattle.pus_fields.specs.declared.writing.TheConstants.{MAX_TELECOMMAND_DATA, MAX_TELEMETRY_DATA};
 
 use space_packet::written_octets_are_the_packet;
 
 /// The octets of a telecommand are its packet.
 pub fn telecommand_octets_are_its_packet()
-    ensures { (tc : Telecommand) → IsTelecommandInRange tc → length tc.payload ≤ 65529 →
+    ensures { (tc : Telecommand) → IsTelecommandInRange tc → length tc.payload ≤ MAX_TELECOMMAND_DATA →
         IsTelecommand (telecommand_octets tc) tc }
 {
     written_octets_are_the_packet();
@@ -29,7 +30,7 @@ pub fn one_packet_for_a_telecommand()
 
 /// The octets of a telecommand are read as that telecommand.
 pub fn telecommand_octets_are_read_back()
-    ensures { (tc : Telecommand) → IsTelecommandInRange tc → length tc.payload ≤ 65529 →
+    ensures { (tc : Telecommand) → IsTelecommandInRange tc → length tc.payload ≤ MAX_TELECOMMAND_DATA →
         telecommand_of tc.apid (telecommand_octets tc) ≡ Ok tc }
 {
     written_octets_are_the_packet();
@@ -37,7 +38,7 @@ pub fn telecommand_octets_are_read_back()
 
 /// The octets of telemetry are its packet.
 pub fn telemetry_octets_are_its_packet()
-    ensures { (tm : Telemetry) → IsTelemetryInRange tm → length tm.payload ≤ 65523 →
+    ensures { (tm : Telemetry) → IsTelemetryInRange tm → length tm.payload ≤ MAX_TELEMETRY_DATA →
         IsTelemetry (telemetry_octets tm) tm }
 {
     written_octets_are_the_packet();
@@ -54,7 +55,7 @@ pub fn one_packet_for_telemetry()
 
 /// The octets of telemetry are read as that telemetry.
 pub fn telemetry_octets_are_read_back()
-    ensures { (tm : Telemetry) → IsTelemetryInRange tm → length tm.payload ≤ 65523 →
+    ensures { (tm : Telemetry) → IsTelemetryInRange tm → length tm.payload ≤ MAX_TELEMETRY_DATA →
         telemetry_of (telemetry_octets tm) ≡ Ok tm }
 {
     written_octets_are_the_packet();

@@ -23,7 +23,7 @@ pub use laws::{
 pub use reading::{read_tc, read_tm};
 pub use telecommand::Tc;
 pub use telemetry::Tm;
-pub use writing::{write_tc, write_tm};
+pub use writing::{MAX_TELECOMMAND_DATA, MAX_TELEMETRY_DATA, write_tc, write_tm};
 
 #[cfg(test)]
 mod tests;

@@ -6,6 +6,7 @@ ghost use Rattle.pus_fields.specs.Telecommand.{IsTelecommand, Telecommand};
 ghost use Rattle.pus_fields.specs.TelecommandFaults.{HasTcFault, telecommand_in, telecommand_of};
 ghost use Rattle.pus_fields.specs.Telemetry.{IsTelemetry, Telemetry};
 ghost use Rattle.pus_fields.specs.TelemetryFaults.{HasTmFault, telemetry_in, telemetry_of};
+ghost use Rattle.space_packet.specs.declared.range.TheConstants.{IDLE_APID};
 
 use crate::ack::Ack;
 use crate::fault::{Discard, TcFault, TmFault};
@@ -18,7 +19,7 @@ use space_packet::{Apid, Primary};
 
 /// What the packet with this header and this data field says.
 fn tc_in<'a>(header: &Primary, field: &'a [u8]) -> Tc<'a>
-    requires apid { header.now.apid < 2047 }
+    requires apid { header.now.apid < IDLE_APID }
     requires room { 7 ≤ length field.now }
     ensures { result ≡ telecommand_in header.now.apid header.now.count field.now }
 {
@@ -45,7 +46,7 @@ fn tc_in<'a>(header: &Primary, field: &'a [u8]) -> Tc<'a>
 /// NotTelecommand, OtherApid; it is rejected, with the request identifier, as Segmented, NoSecondary,
 /// NoRoom, Pec, PusVersion.
 pub fn read_tc<'a>(apid: Apid, octets: &'a [u8]) -> Result<Tc<'a>, TcFault>
-    requires { apid < 2047 }
+    requires { apid < IDLE_APID }
     ensures ok { IfOk result (λ tc. IsTelecommand octets.now tc × (tc.apid ≡ apid)) }
     ensures only { (tc : Telecommand) → IsTelecommand octets.now tc → tc.apid ≡ apid → result ≡ Ok tc }
     ensures err { IfErr result (HasTcFault apid octets.now) }

@@ -2,7 +2,7 @@
 
 ghost use Rattle.std.specs.Prelude.{◌≡◌, ◌≤◌, ◌↔◌, ◌==◌, IsTrue, MatchOption, length, true};
 ghost use Rattle.pus_fields.specs.ErrorControl.{error_control};
-ghost use Rattle.pus_fields.specs.Rejections.{HasErrorControl, IsRejected, IsSound, covered, last_two, rejection_of};
+ghost use Rattle.pus_fields.specs.Rejections.{HasErrorControl, IsRejected, IsSound, covered_octets, last_two, rejection_of};
 
 use crate::error_control::crc16;
 use crate::fault::Rejection;
@@ -16,7 +16,7 @@ const PUS_VERSION: u8 = 2;
 fn has_error_control(octets: &[u8]) -> bool
     requires { 2 ≤ length octets.now }
     ensures checked { IsTrue result ↔ HasErrorControl octets.now }
-    ensures value { result ≡ (error_control (covered octets.now) == last_two octets.now) }
+    ensures value { result ≡ (error_control (covered_octets octets.now) == last_two octets.now) }
 {
     let end = octets.len() - 2;
     crc16(&octets[..end]) == BigEndian::read_u16(&octets[end..])

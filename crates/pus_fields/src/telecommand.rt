@@ -2,16 +2,14 @@
 
 ghost use Rattle.std.specs.Prelude.{◌≡◌, ◌<◌, ◌^◌, SomeIff};
 ghost use Rattle.pus_fields.specs.Acknowledgement.{flags_of};
-ghost use Rattle.pus_fields.specs.Telecommand.{IsTelecommandInRange, request_id};
+ghost use Rattle.pus_fields.specs.Telecommand.{request_id};
+ghost use Rattle.space_packet.specs.declared.range.TheConstants.{SEQUENCE_COUNTS};
 
 use crate::ack::Ack;
 use bitflags::Flags;
 use byteorder::{BigEndian, ByteOrder};
-use space_packet::{Apid, SequenceCount};
+use space_packet::{Apid, IDLE_APID, SequenceCount};
 use std::marker::Model;
-
-/// The application process identifier of idle packets.
-const IDLE: u16 = 2047;
 
 /// A telecommand (ECSS-E-ST-70-41C, 7.4.4): application process identifier 0 to 2,046, sequence count 0
 /// to 16,383, the four acknowledgement flags, service type, message subtype, source identifier and
@@ -33,12 +31,22 @@ impl<'a> Model for Tc<'a> {
     ghost use Rattle.std.specs.Prelude.{◌≡◌, ◌<◌, ◌^◌};
     ghost use Rattle.pus_fields.specs.Acknowledgement.{flags_of};
     ghost use Rattle.pus_fields.specs.Telecommand.{Telecommand, request_id};
+    ghost use Rattle.space_packet.specs.declared.range.TheConstants.{IDLE_APID, SEQUENCE_COUNTS};
 
     ghost Value = { Telecommand };
 
-    ghost view = { λ t. record { apid = t.apid; count = t.count; ack = t.ack; service = t.service; subtype = t.subtype; source = t.source; payload = t.payload.now } };
+    ghost view = { λ t. record {
+      apid = t.apid;
+      count = t.count;
+      ack = t.ack;
+      service = t.service;
+      subtype = t.subtype;
+      source = t.source;
+      payload = t.payload.now;
+    } };
 
-    ghost invariant = { λ t. (t.apid < 2047) × (flags_of t.ack < 2 ^ 4) × (t.id ≡ request_id t.apid t.count) };
+    ghost invariant = { λ t. (t.apid < IDLE_APID) × (t.count < SEQUENCE_COUNTS)
+        × (flags_of t.ack < 2 ^ 4) × (t.id ≡ request_id t.apid t.count) };
 }
 
 impl<'a> Tc<'a> {
@@ -53,10 +61,17 @@ impl<'a> Tc<'a> {
         source: u16,
         payload: &'a [u8],
     ) -> Option<Tc<'a>>
-        ensures { SomeIff result ((apid < 2047) × (flags_of ack < 2 ^ 4))
-            (record { apid = apid; count = count; ack = ack; service = service; subtype = subtype; source = source; payload = payload.now }) }
+        ensures { SomeIff result ((apid < IDLE_APID) × (flags_of ack < 2 ^ 4)) (record {
+          apid = apid;
+          count = count;
+          ack = ack;
+          service = service;
+          subtype = subtype;
+          source = source;
+          payload = payload.now;
+        }) }
     {
-        if apid.number() >= IDLE || ack.bits() >= 1 << 4 {
+        if apid.number() >= IDLE_APID || ack.bits() >= 1 << 4 {
             return None;
         }
         let mut id = [0; 4];
@@ -76,7 +91,9 @@ impl<'a> Tc<'a> {
 
     /// The request identifier: the first four octets of its packet.
     pub fn id(&self) -> [u8; 4]
-        ensures { result ≡ request_id self.now.apid self.now.count }
+        ensures value { result ≡ request_id self.now.apid self.now.count }
+        ensures apid_in_range { self.now.apid < IDLE_APID }
+        ensures count_in_range { self.now.count < SEQUENCE_COUNTS }
     {
         self.id
     }
@@ -84,14 +101,15 @@ impl<'a> Tc<'a> {
     /// The application process identifier, 0 to 2,046.
     pub fn apid(&self) -> Apid
         ensures value { result ≡ self.now.apid }
-        ensures in_range { result < 2047 }
+        ensures in_range { result < IDLE_APID }
     {
         self.apid
     }
 
     /// The sequence count, 0 to 16,383.
     pub fn count(&self) -> SequenceCount
-        ensures { result ≡ self.now.count }
+        ensures value { result ≡ self.now.count }
+        ensures in_range { result < SEQUENCE_COUNTS }
     {
         self.count
     }
@@ -130,14 +148,5 @@ impl<'a> Tc<'a> {
         ensures { result.now ≡ self.now.payload }
     {
         self.payload
-    }
-
-    /// Each number fits its field.
-    pub fn numbers_fit(&self)
-        ensures { IsTelecommandInRange self.now }
-    {
-        let _ack = self.ack();
-        let _header = (self.apid().number(), self.count().number());
-        let _secondary = (self.service(), self.subtype(), self.source());
     }
 }

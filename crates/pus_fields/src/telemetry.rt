@@ -1,7 +1,7 @@
 //! Telemetry.
 
-ghost use Rattle.std.specs.Prelude.{◌≡◌};
-ghost use Rattle.pus_fields.specs.Telemetry.{IsTelemetryInRange};
+ghost use Rattle.std.specs.Prelude.{◌≡◌, ◌<◌};
+ghost use Rattle.space_packet.specs.declared.range.TheConstants.{APIDS, SEQUENCE_COUNTS};
 
 use space_packet::{Apid, SequenceCount};
 use std::marker::Model;
@@ -21,11 +21,23 @@ pub struct Tm<'a> {
 }
 
 impl<'a> Model for Tm<'a> {
+    ghost use Rattle.std.specs.Prelude.{◌<◌};
+    ghost use Rattle.space_packet.specs.declared.range.TheConstants.{APIDS, SEQUENCE_COUNTS};
     ghost use Rattle.pus_fields.specs.Telemetry.{Telemetry};
 
     ghost Value = { Telemetry };
 
-    ghost view = { λ t. record { apid = t.apid; count = t.count; service = t.service; subtype = t.subtype; destination = t.destination; time = t.time; payload = t.payload.now } };
+    ghost view = { λ t. record {
+      apid = t.apid;
+      count = t.count;
+      service = t.service;
+      subtype = t.subtype;
+      destination = t.destination;
+      time = t.time;
+      payload = t.payload.now;
+    } };
+
+    ghost invariant = { λ t. (t.apid < APIDS) × (t.count < SEQUENCE_COUNTS) };
 }
 
 impl<'a> Tm<'a> {
@@ -39,7 +51,15 @@ impl<'a> Tm<'a> {
         time: u32,
         payload: &'a [u8],
     ) -> Tm<'a>
-        ensures { result ≡ record { apid = apid; count = count; service = service; subtype = subtype; destination = destination; time = time; payload = payload.now } }
+        ensures { result ≡ record {
+          apid = apid;
+          count = count;
+          service = service;
+          subtype = subtype;
+          destination = destination;
+          time = time;
+          payload = payload.now;
+        } }
     {
         Tm {
             apid,
@@ -54,14 +74,16 @@ impl<'a> Tm<'a> {
 
     /// The application process identifier, 0 to 2,047.
     pub fn apid(&self) -> Apid
-        ensures { result ≡ self.now.apid }
+        ensures value { result ≡ self.now.apid }
+        ensures in_range { result < APIDS }
     {
         self.apid
     }
 
     /// The sequence count, 0 to 16,383.
     pub fn count(&self) -> SequenceCount
-        ensures { result ≡ self.now.count }
+        ensures value { result ≡ self.now.count }
+        ensures in_range { result < SEQUENCE_COUNTS }
     {
         self.count
     }
@@ -99,14 +121,5 @@ impl<'a> Tm<'a> {
         ensures { result.now ≡ self.now.payload }
     {
         self.payload
-    }
-
-    /// Each number fits its field.
-    pub fn numbers_fit(&self)
-        ensures { IsTelemetryInRange self.now }
-    {
-        let _header = (self.apid().number(), self.count().number());
-        let _message = (self.service(), self.subtype());
-        let _secondary = (self.destination(), self.time());
     }
 }

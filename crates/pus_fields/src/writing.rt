@@ -15,16 +15,22 @@ use std::alloc::Allocator;
 /// The first octet of a secondary header: version number 2 in its higher four bits.
 const VERSION_OCTET: u8 = 0x20;
 
+/// The most octets of a telecommand's payload: a data field has at most 65,536, of which 5 are the
+/// secondary header and 2 the error control.
+pub const MAX_TELECOMMAND_DATA: usize = 65_529;
+
+/// The most octets of a telemetry packet's payload: its secondary header has 11 octets.
+pub const MAX_TELEMETRY_DATA: usize = 65_523;
+
 /// Appends a telecommand but its error control.
 fn append_tc<A: Allocator>(tc: &Tc, out: &mut Vec<u8, A>)
-    requires length { length tc.now.payload ≤ 65529 }
+    requires length { length tc.now.payload ≤ MAX_TELECOMMAND_DATA }
     requires room { vec_len out.old + (11 + length tc.now.payload) ≤ vec_capacity out.old }
     ensures items { out.new.items ≡ out.old.items ++ telecommand_covered tc.now }
     ensures len { vec_len out.new ≡ vec_len out.old + (11 + length tc.now.payload) }
     ensures capacity { vec_capacity out.old ≤ vec_capacity out.new }
     ensures in_range { IsTelecommandInRange tc.now }
 {
-    tc.numbers_fit();
     let payload = tc.payload();
     append_octets(out, &tc.id());
     append_u16(out, (payload.len() + 6) as u16);
@@ -36,19 +42,21 @@ fn append_tc<A: Allocator>(tc: &Tc, out: &mut Vec<u8, A>)
 }
 
 /// Appends the packet of a telecommand (CCSDS 133.0-B, 4.1; ECSS-E-ST-70-41C, 7.4.4): 13 octets more than
-/// its payload has. It is refused, with the vector as it was, where 1. the payload has over 65,529
-/// octets; 2. memory runs out.
+/// its payload has. It is refused, with the octets of the vector as they were, where 1. the payload has over
+/// 65,529 octets; 2. memory runs out. The capacity never shrinks.
 pub fn write_tc<A: Allocator>(tc: &Tc, out: &mut Vec<u8, A>) -> Result<(), WriteFault>
     ensures written { OnOk result ((packet : List ℕ) × IsTelecommand packet tc.now
         × (out.new.items ≡ out.old.items ++ packet)) }
     ensures octets { OnOk result (out.new.items ≡ out.old.items ++ telecommand_octets tc.now) }
-    ensures too_long { IsErrOf result WriteFault.TooLong ↔ (65529 < length tc.now.payload) }
+    ensures too_long { IsErrOf result WriteFault.TooLong ↔ (MAX_TELECOMMAND_DATA < length tc.now.payload) }
     // Memory is answered only where the vector had to grow.
-    ensures memory { IsErrOf result WriteFault.Memory → vec_capacity out.old < vec_len out.old + (13 + length tc.now.payload) }
+    ensures memory { IsErrOf result WriteFault.Memory →
+        vec_capacity out.old < vec_len out.old + (13 + length tc.now.payload) }
     ensures err { OnErr result (out.new.items ≡ out.old.items) }
+    ensures capacity { vec_capacity out.old ≤ vec_capacity out.new }
 {
     let length = tc.payload().len();
-    if length > 65529 {
+    if length > MAX_TELECOMMAND_DATA {
         return Err(WriteFault::TooLong);
     }
     out.reserve(13 + length)?;
@@ -61,14 +69,13 @@ pub fn write_tc<A: Allocator>(tc: &Tc, out: &mut Vec<u8, A>) -> Result<(), Write
 
 /// Appends a telemetry packet but its error control.
 fn append_tm<A: Allocator>(tm: &Tm, out: &mut Vec<u8, A>)
-    requires length { length tm.now.payload ≤ 65523 }
+    requires length { length tm.now.payload ≤ MAX_TELEMETRY_DATA }
     requires room { vec_len out.old + (17 + length tm.now.payload) ≤ vec_capacity out.old }
     ensures items { out.new.items ≡ out.old.items ++ telemetry_covered tm.now }
     ensures len { vec_len out.new ≡ vec_len out.old + (17 + length tm.now.payload) }
     ensures capacity { vec_capacity out.old ≤ vec_capacity out.new }
     ensures in_range { IsTelemetryInRange tm.now }
 {
-    tm.numbers_fit();
     let payload = tm.payload();
     append_u16(out, (1 << 11) + tm.apid().number());
     append_u16(out, (3 << 14) + tm.count().number());
@@ -83,19 +90,21 @@ fn append_tm<A: Allocator>(tm: &Tm, out: &mut Vec<u8, A>)
 }
 
 /// Appends the packet of telemetry (CCSDS 133.0-B, 4.1; ECSS-E-ST-70-41C, 7.4.3): 19 octets more than its
-/// payload has. It is refused, with the vector as it was, where 1. the payload has over 65,523 octets;
-/// 2. memory runs out.
+/// payload has. It is refused, with the octets of the vector as they were, where 1. the payload has over
+/// 65,523 octets; 2. memory runs out. The capacity never shrinks.
 pub fn write_tm<A: Allocator>(tm: &Tm, out: &mut Vec<u8, A>) -> Result<(), WriteFault>
     ensures written { OnOk result ((packet : List ℕ) × IsTelemetry packet tm.now
         × (out.new.items ≡ out.old.items ++ packet)) }
     ensures octets { OnOk result (out.new.items ≡ out.old.items ++ telemetry_octets tm.now) }
-    ensures too_long { IsErrOf result WriteFault.TooLong ↔ (65523 < length tm.now.payload) }
+    ensures too_long { IsErrOf result WriteFault.TooLong ↔ (MAX_TELEMETRY_DATA < length tm.now.payload) }
     // Memory is answered only where the vector had to grow.
-    ensures memory { IsErrOf result WriteFault.Memory → vec_capacity out.old < vec_len out.old + (19 + length tm.now.payload) }
+    ensures memory { IsErrOf result WriteFault.Memory →
+        vec_capacity out.old < vec_len out.old + (19 + length tm.now.payload) }
     ensures err { OnErr result (out.new.items ≡ out.old.items) }
+    ensures capacity { vec_capacity out.old ≤ vec_capacity out.new }
 {
     let length = tm.payload().len();
-    if length > 65523 {
+    if length > MAX_TELEMETRY_DATA {
         return Err(WriteFault::TooLong);
     }
     out.reserve(19 + length)?;

@@ -5,6 +5,7 @@
 ghost use Rattle.std.specs.Prelude.{◌≡◌, ◌≤◌, ℕ, List, All, length};
 ghost use Rattle.space_packet.specs.Packet.{IsPacket, IsHeader, IsOctet, packet_octets};
 ghost use Rattle.space_packet.specs.declared.primary.Primary.{Primary};
+ghost use Rattle.space_packet.specs.declared.writing.TheConstants.{MAX_DATA_LENGTH};
 
 /// Octets are a packet of at most one header and one data field.
 #[tactic(auto, using(crate::proofs::Packets::one_reading))]
@@ -23,6 +24,6 @@ pub fn one_packet_for_a_header()
 /// The octets that are written for a header and a data field are their packet.
 pub fn written_octets_are_the_packet()
     ensures { (header : Primary) (payload : List ℕ) → IsHeader header →
-        1 ≤ length payload → length payload ≤ 65536 →
+        1 ≤ length payload → length payload ≤ MAX_DATA_LENGTH →
         IsPacket (packet_octets header payload) header payload }
 {}

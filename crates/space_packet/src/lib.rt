@@ -15,9 +15,9 @@ mod writing;
 pub use fault::{PacketFault, WriteFault};
 pub use laws::{one_header_for_a_packet, one_packet_for_a_header, written_octets_are_the_packet};
 pub use primary::{Primary, SequenceFlags};
-pub use range::{Apid, SequenceCount};
-pub use reading::read;
-pub use writing::write;
+pub use range::{APIDS, Apid, IDLE_APID, SEQUENCE_COUNTS, SequenceCount};
+pub use reading::{HEADER_LENGTH, read};
+pub use writing::{MAX_DATA_LENGTH, write};
 
 #[cfg(test)]
 mod tests;

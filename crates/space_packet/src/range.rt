@@ -1,17 +1,21 @@
 //! Numbers of the primary header that do not fill their type.
 
-ghost use Rattle.std.specs.Prelude.{◌≡◌, ℕ, ◌+◌, ◌%◌, ◌<◌, ◌^◌};
+ghost use Rattle.std.specs.Prelude.{◌≡◌, ℕ, ◌+◌, ◌%◌, ◌<◌};
 ghost use Rattle.std.specs.Option.{SomeIff};
+ghost use Rattle.space_packet.specs.declared.range.TheConstants.{APIDS, SEQUENCE_COUNTS};
 
 use std::marker::Model;
 
 /// How many application process identifiers there are.
-const APIDS: u16 = 2048;
+pub const APIDS: u16 = 2_048;
+
+/// The application process identifier of idle packets: the highest one, all ones.
+pub const IDLE_APID: u16 = 2_047;
 
 /// How many sequence counts there are: a count is taken modulo this number.
-const SEQUENCE_COUNTS: u16 = 16384;
+pub const SEQUENCE_COUNTS: u16 = 16_384;
 
-/// An application process identifier, 0 to 2,047. The highest one, all ones, marks idle packets.
+/// An application process identifier, 0 to 2,047.
 #[derive(Clone, Copy, PartialEq, Eq, Debug)]
 pub struct Apid {
     number: u16,
@@ -22,7 +26,7 @@ impl Model for Apid {
 
     ghost view = { λ a. a.number };
 
-    ghost invariant = { λ a. a.number < 2 ^ 11 };
+    ghost invariant = { λ a. a.number < APIDS };
 
     ghost inverse = { λ n. record { number = n } };
 }
@@ -30,7 +34,7 @@ impl Model for Apid {
 impl Apid {
     /// The identifier of this number, where the number is below 2,048.
     pub fn new(number: u16) -> Option<Self>
-        ensures { SomeIff result (number < 2 ^ 11) number }
+        ensures { SomeIff result (number < APIDS) number }
     {
         if number < APIDS {
             Some(Apid { number })
@@ -41,7 +45,7 @@ impl Apid {
 
     pub fn number(self) -> u16
         ensures same { result ≡ self }
-        ensures in_range { result < 2 ^ 11 }
+        ensures in_range { result < APIDS }
     {
         self.number
     }
@@ -58,7 +62,7 @@ impl Model for SequenceCount {
 
     ghost view = { λ c. c.number };
 
-    ghost invariant = { λ c. c.number < 2 ^ 14 };
+    ghost invariant = { λ c. c.number < SEQUENCE_COUNTS };
 
     ghost inverse = { λ n. record { number = n } };
 }
@@ -66,7 +70,7 @@ impl Model for SequenceCount {
 impl SequenceCount {
     /// The count of this number, where the number is below 16,384.
     pub fn new(number: u16) -> Option<Self>
-        ensures { SomeIff result (number < 2 ^ 14) number }
+        ensures { SomeIff result (number < SEQUENCE_COUNTS) number }
     {
         if number < SEQUENCE_COUNTS {
             Some(SequenceCount { number })
@@ -77,14 +81,14 @@ impl SequenceCount {
 
     pub fn number(self) -> u16
         ensures same { result ≡ self }
-        ensures in_range { result < 2 ^ 14 }
+        ensures in_range { result < SEQUENCE_COUNTS }
     {
         self.number
     }
 
     /// The count of the next packet: one more, and 0 after 16,383.
     pub fn next(self) -> Self
-        ensures { result ≡ (self + 1) % 2 ^ 14 }
+        ensures { result ≡ (self + 1) % SEQUENCE_COUNTS }
     {
         SequenceCount {
             number: (self.number + 1) % SEQUENCE_COUNTS,

@@ -1,21 +1,21 @@
 //! Reading a packet.
 
-ghost use Rattle.std.specs.Prelude.{◌≡◌, ◌<◌, ◌^◌, ◌%◌, ℕ, List, IfOk, IfErr, IsOkAnd, MatchResult, Ok, Err};
+ghost use Rattle.std.specs.Prelude.{◌≡◌, ◌%◌, ℕ, List, IfOk, IfErr, IsOkAnd, MatchResult, Ok, Err};
 ghost use Rattle.space_packet.specs.Packet.{IsPacket, IsFirstFault, packet_in};
 
 use crate::fault::PacketFault;
 use crate::primary::{Primary, SequenceFlags};
-use crate::range::{Apid, SequenceCount};
+use crate::range::{APIDS, Apid, SEQUENCE_COUNTS, SequenceCount};
 use byteorder::{BigEndian, ByteOrder};
 
-/// Octets in a primary header.
-pub(crate) const HEADER_LEN: usize = 6;
+/// How many octets a primary header has.
+pub const HEADER_LENGTH: usize = 6;
 
 /// The application process identifier in the low 11 bits of the packet identification.
 fn apid_in(identification: u16) -> Apid
-    ensures { result ≡ identification % 2 ^ 11 }
+    ensures { result ≡ identification % APIDS }
 {
-    match Apid::new(identification % 2048) {
+    match Apid::new(identification % APIDS) {
         Some(apid) => apid,
         None => unreachable!(),
     }
@@ -23,9 +23,9 @@ fn apid_in(identification: u16) -> Apid
 
 /// The sequence count in the low 14 bits of the packet sequence control.
 fn count_in(sequence_control: u16) -> SequenceCount
-    ensures { result ≡ sequence_control % 2 ^ 14 }
+    ensures { result ≡ sequence_control % SEQUENCE_COUNTS }
 {
-    match SequenceCount::new(sequence_control % 16384) {
+    match SequenceCount::new(sequence_control % SEQUENCE_COUNTS) {
         Some(count) => count,
         None => unreachable!(),
     }
@@ -40,16 +40,17 @@ pub fn read(octets: &[u8]) -> Result<(Primary, &[u8]), PacketFault>
     ensures only { (header : Primary) (payload : List ℕ) → IsPacket octets.now header payload →
         IsOkAnd result (λ found. (found.0 ≡ header) × (found.1.now ≡ payload)) }
     ensures value { MatchResult result
-        (λ found. packet_in octets.now ≡ Ok (found.0, found.1.now)) (λ fault. packet_in octets.now ≡ Err fault) }
+        (λ found. packet_in octets.now ≡ Ok (found.0, found.1.now))
+        (λ fault. packet_in octets.now ≡ Err fault) }
     ensures err { IfErr result (IsFirstFault octets.now) }
 {
-    if octets.len() <= HEADER_LEN {
+    if octets.len() <= HEADER_LENGTH {
         return Err(PacketFault::Short);
     }
     let identification = BigEndian::read_u16(octets);
     let sequence_control = BigEndian::read_u16(&octets[2..]);
     let data_length = BigEndian::read_u16(&octets[4..]);
-    let payload = &octets[HEADER_LEN..];
+    let payload = &octets[HEADER_LENGTH..];
     if identification >> 13 != 0 {
         return Err(PacketFault::Version);
     }

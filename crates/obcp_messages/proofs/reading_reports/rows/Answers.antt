@@ -1,7 +1,7 @@
 use Rattle.std.proofs.Common.{◌≡◌, ◌-◌, ◌+◌, ◌*◌, suc, drop, get_or, Some, None, sym, ap, ◌∙◌, arith}
 use Rattle.std.proofs.lemmas.List.{take_rest}
 use Rattle.byteorder.specs.Endian.{big_number}
-use Rattle.obcp_messages.specs.ReadingReports.{rows_in, status_at}
+use Rattle.obcp_messages.specs.Mirror.ReadingReports.{rows_in, status_at}
 use Rattle.obcp_messages.proofs.RowOctets.{rows_more, rows_end}
 use Rattle.obcp_messages.proofs.reading_reports.rows.Goals as goal
 

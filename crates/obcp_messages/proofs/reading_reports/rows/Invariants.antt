@@ -1,6 +1,6 @@
 use Rattle.std.proofs.Common.{◌≡◌, ◌-◌, ◌*◌, ◌++◌, length, drop}
 use Rattle.std.specs.Option.{option_map}
-use Rattle.obcp_messages.specs.ReadingReports.{rows_in}
+use Rattle.obcp_messages.specs.Mirror.ReadingReports.{rows_in}
 use Rattle.obcp_messages.proofs.reading_reports.rows.Given as goal
 
 abbrev pub invariant-loop-i : goal.invariant-loop-i

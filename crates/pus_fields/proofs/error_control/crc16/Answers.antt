@@ -13,7 +13,7 @@ loop-octet-init c = record { in_range = omega arith; divides = λ r h. subst (λ
 pub loop-octet-preserved : goal.loop-octet-preserved
 loop-octet-preserved c = record {
   in_range = omega arith;
-  divides = λ r h. c.loop-octet.invariant.divides r (next_octet c.args.octets.now c.loop-octet.octet-index c.loop-octet.register r (omega arith) (c.fed-register.ensures _ r (rw (← add-one) h)));
+  divides = λ r h. c.loop-octet.invariant.divides r (next_octet c.args.octets.now c.loop-octet.octet-index c.loop-octet.register r (omega arith) (c.register_after_octet-register.ensures _ r (rw (← add-one) h)));
 }
 
 pub returns-clause-check : goal.returns-clause-check

@@ -1,6 +1,6 @@
 use Rattle.std.proofs.Common.{◌<◌, ◌^◌, List, Bool, drop}
 use Rattle.pus_fields.specs.ErrorControl.{IsRemainder, bits, octet_bits, message}
-use Rattle.pus_fields.specs.Register.{dividend}
+use Rattle.pus_fields.specs.Mirror.Register.{dividend}
 use Rattle.pus_fields.proofs.error_control.crc16.Given as goal
 
 abbrev pub invariant-loop-octet : goal.invariant-loop-octet

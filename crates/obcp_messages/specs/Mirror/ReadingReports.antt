@@ -6,6 +6,7 @@ use Rattle.obcp_types.specs.declared.status.StatusRow.{StatusRow}
 use Rattle.obcp_types.specs.declared.status.Status.{Status}
 use Rattle.obcp_types.specs.declared.status.Status.TheVariants.{Inactive, Running, Held}
 use Rattle.obcp_messages.specs.declared.report.StartFault.TheVariants.{BadCode, Plain}
+use Rattle.obcp_messages.specs.declared.rows.TheConstants.{MAX_ROWS}
 use Rattle.obcp_messages.specs.declared.report.Report.{Report}
 use Rattle.obcp_messages.specs.declared.report.Report.TheVariants.{Accepted, NotAccepted, Started, NotStarted, Completed, NotCompleted}
 use Rattle.obcp_messages.specs.declared.report.Report.TheVariants as R
@@ -61,7 +62,7 @@ status_report (Some rows) = ordered_rows rows
 abbrev pub with_rows : List ℕ → Result Report ReportFault
 with_rows octets =
     let count = slice_index octets 0 in
-    if nat_le 1 (length octets) && (length octets == 1 + 3 * count) && nat_le count 16 then status_report (rows_in count (drop 1 octets)) else Err Layout
+    if nat_le 1 (length octets) && (length octets == 1 + 3 * count) && nat_le count MAX_ROWS then status_report (rows_in count (drop 1 octets)) else Err Layout
 
 abbrev pub verification_in : ℕ → List ℕ → Result Report ReportFault
 verification_in subtype octets =

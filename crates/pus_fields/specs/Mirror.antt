@@ -1,0 +1,2 @@
+-- What mirrors the code, for proofs alone.
+pub mod Register
