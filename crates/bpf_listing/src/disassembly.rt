@@ -6,7 +6,7 @@ ghost use Rattle.bpf_types.specs.Line.{spelling, IsLine, WritesFramePointer};
 ghost use Rattle.bpf_decode.specs.Decoding.{BeginsWith};
 ghost use Rattle.bpf_decode.specs.Faults.{IsFirst};
 ghost use Rattle.bpf_listing.specs.Canonical.{canonical};
-ghost use Rattle.bpf_listing.specs.Listing.{IsListed, IsImageOf, NoneWritesFramePointer, IsFaultOf, IsNextFault, NeedsMore, listing};
+ghost use Rattle.bpf_listing.specs.Listing.{IsListed, IsImageOf, NoneWritesFramePointer, IsFaultOf, IsNextFault, NeedsMore, LacksRoom, listing};
 
 use crate::writing::text_of;
 use bpf_decode::{DecodeFault, decode_at, instructions_are_unique};
@@ -60,6 +60,8 @@ fn write_lines<A: Allocator>(code: &[u8], out: &mut Vec<u8, A>) -> Result<(), Di
     ensures fault { IfErr result (λ e. (e ≢ DisassembleFault.Ragged) × IsFaultOf code.now e) }
     ensures memory { IsErrOf result DisassembleFault.Memory → (lines : List Line) → IsImageOf code.now lines →
         vec_capacity out.old < length (out.old.items ++ listing lines) }
+    ensures room { IsErrOf result DisassembleFault.Memory → LacksRoom code.now (vec_capacity out.old) (length out.old.items) }
+    ensures capacity { vec_capacity out.old ≤ vec_capacity out.new }
 {
     instructions_are_unique();
     let slots = code.len() / 8;
@@ -74,8 +76,9 @@ fn write_lines<A: Allocator>(code: &[u8], out: &mut Vec<u8, A>) -> Result<(), Di
 /// the empty listing.
 ///
 /// Refused with `Ragged` where the length of `code` is no multiple of 8, then with `Decode` and the first fault and its
-/// slot, and with `Memory`, only where the listing does not fit into the capacity that `out` has. A refusal leaves the
-/// octets of `out` as they were. The time is linear in the image.
+/// slot, and with `Memory`, only where the listing of instructions that the image begins with does not fit into the
+/// capacity that `out` has. A refusal leaves the octets of `out` as they were. The capacity never shrinks. The time is
+/// linear in the image.
 pub fn disassemble<A: Allocator>(code: &[u8], out: &mut Vec<u8, A>) -> Result<(), DisassembleFault>
     ensures ok { OnOk result (IsListed code.now out.old.items out.new.items) }
     ensures only { (lines : List Line) → IsImageOf code.now lines → NoneWritesFramePointer lines →
@@ -84,7 +87,9 @@ pub fn disassemble<A: Allocator>(code: &[u8], out: &mut Vec<u8, A>) -> Result<()
     ensures fault { IfErr result (IsFaultOf code.now) }
     ensures memory { IsErrOf result DisassembleFault.Memory → (lines : List Line) → IsImageOf code.now lines →
         vec_capacity out.old < length (out.old.items ++ listing lines) }
+    ensures room { IsErrOf result DisassembleFault.Memory → LacksRoom code.now (vec_capacity out.old) (length out.old.items) }
     ensures err { OnErr result (out.new.items ≡ out.old.items) }
+    ensures capacity { vec_capacity out.old ≤ vec_capacity out.new }
 {
     instructions_are_unique();
     if code.len() % 8 != 0 {
