@@ -7,7 +7,7 @@ use Rattle.bpf_types.specs.declared.line.Order.TheVariants.{Little, Big, Swap}
 use Rattle.bpf_types.specs.declared.line.SwapWidth.{SwapWidth}
 use Rattle.bpf_types.specs.declared.line.SwapWidth.TheVariants.{Bits16, Bits32, Bits64}
 use Rattle.ocp_regions.specs.Memory.{number_of, low_octets}
-use Rattle.bpf_step.specs.Value.{ordered, octets_kept, read_in}
+use Rattle.bpf_step.specs.Value.{byte_order_result, octets_kept, read_in}
 
 -- the octets of a number, each by its own division
 two : (a b a' b' : ℕ) → a ≡ a' → b ≡ b' → a ∷ b ∷ [] ≡ a' ∷ b' ∷ []
@@ -35,19 +35,19 @@ backward_4 a b c d = omega arith
 backward_8 : (a b c d e f g h : ℕ) → from_be_bytes w64 (a ∷ b ∷ c ∷ d ∷ e ∷ f ∷ g ∷ h ∷ []) ≡ number_of (reverse (a ∷ b ∷ c ∷ d ∷ e ∷ f ∷ g ∷ h ∷ []))
 backward_8 a b c d e f g h = omega arith
 
-exchanged : SwapWidth → ℕ → ℕ
-exchanged Bits16 a = swap_bytes w16 (a % 2 ^ 16)
-exchanged Bits32 a = swap_bytes w32 (a % 2 ^ 32)
-exchanged Bits64 a = swap_bytes w64 a
+exchange : SwapWidth → ℕ → ℕ
+exchange Bits16 a = swap_bytes w16 (a % 2 ^ 16)
+exchange Bits32 a = swap_bytes w32 (a % 2 ^ 32)
+exchange Bits64 a = swap_bytes w64 a
 
-read_backward : (kept : SwapWidth) (a : ℕ) → exchanged kept a ≡ number_of (reverse (low_octets (octets_kept kept) a))
-unfolding exchanged
+read_backward : (kept : SwapWidth) (a : ℕ) → exchange kept a ≡ number_of (reverse (low_octets (octets_kept kept) a))
+unfolding exchange
 read_backward Bits16 a = backward_2 _ _ ∙ ap (λ xs. number_of (reverse xs)) (octets_2 a)
 read_backward Bits32 a = backward_4 _ _ _ _ ∙ ap (λ xs. number_of (reverse xs)) (octets_4 a)
 read_backward Bits64 a = backward_8 _ _ _ _ _ _ _ _ ∙ ap (λ xs. number_of (reverse xs)) (octets_8 a)
 
-pub read_in_order : (order : Order) (kept : SwapWidth) (a : ℕ) → a < 2 ^ 64 → ordered order kept a ≡ read_in order (low_octets (octets_kept kept) a)
-unfolding exchanged
+pub read_in_order : (order : Order) (kept : SwapWidth) (a : ℕ) → a < 2 ^ 64 → byte_order_result order kept a ≡ read_in order (low_octets (octets_kept kept) a)
+unfolding exchange
 read_in_order Little Bits16 a h = omega arith
 read_in_order Little Bits32 a h = omega arith
 read_in_order Little Bits64 a h = omega arith

@@ -1,5 +1,7 @@
 pub mod Value
 pub mod Machine
+pub mod Access
+pub mod Calls
 pub mod Step
-pub mod Codes
 pub mod Reach
+pub mod Mirror

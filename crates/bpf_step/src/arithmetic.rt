@@ -2,7 +2,7 @@
 ghost use Rattle.std.specs.Prelude.{◌≡◌, ◌<◌, ◌%◌, ◌^◌, int_div, int_rem};
 ghost use Rattle.std.specs.Int.{w8, w16, cast_signed};
 ghost use Rattle.bpf_types.specs.declared.line.Width.TheVariants.{W32, W64};
-ghost use Rattle.bpf_step.specs.Value.{signed, unsigned, alu_result, value, negated, extended, ordered};
+ghost use Rattle.bpf_step.specs.Value.{signed, unsigned, alu_result, value, negation, sign_extension, byte_order_result};
 
 use bpf_types::{Extension, Operation, Order, SwapWidth, Width};
 
@@ -140,7 +140,7 @@ pub fn value(width: Width, operation: Operation, dst: u64, src: u64) -> u64
 /// The negative of a number of this width.
 #[inline(always)]
 pub fn negate(width: Width, dst: u64) -> u64
-    ensures { result ≡ negated width dst }
+    ensures { result ≡ negation width dst }
 {
     match width {
         Width::W64 => dst.wrapping_neg(),
@@ -151,7 +151,7 @@ pub fn negate(width: Width, dst: u64) -> u64
 /// The low bits of a number with their sign extended to the width, and zeros above.
 #[inline(always)]
 pub fn extend(extension: Extension, src: u64) -> u64
-    ensures { result ≡ extended extension src }
+    ensures { result ≡ sign_extension extension src }
 {
     match extension {
         Extension::From8To32 => u64::from(i32::from(low8(src)).cast_unsigned()),
@@ -165,7 +165,7 @@ pub fn extend(extension: Extension, src: u64) -> u64
 /// The low bits of a number in a byte order, and zeros above.
 #[inline(always)]
 pub fn order(order: Order, kept: SwapWidth, dst: u64) -> u64
-    ensures { result ≡ ordered order kept dst }
+    ensures { result ≡ byte_order_result order kept dst }
 {
     match kept {
         SwapWidth::Bits16 => {

@@ -1,7 +1,7 @@
 //! The tests of conditional jumps (RFC 9669, section 4.3).
 ghost use Rattle.std.specs.Prelude.{◌≡◌, ◌↔◌, IsTrue};
 ghost use Rattle.bpf_types.specs.declared.line.Width.TheVariants.{W32, W64};
-ghost use Rattle.bpf_step.specs.Value.{passes, taken, Holds, IsTaken};
+ghost use Rattle.bpf_step.specs.Value.{passes, is_taken, Holds, IsTaken};
 
 use crate::arithmetic::low;
 use bpf_types::{Comparison, Width};
@@ -51,7 +51,7 @@ fn passes32(comparison: Comparison, low_dst: u32, low_src: u32) -> bool
 /// Whether a jump of this width is taken. One of 32 bits compares the low halves.
 #[inline(always)]
 pub fn is_taken(width: Width, comparison: Comparison, dst: u64, src: u64) -> bool
-    ensures value { result ≡ taken width comparison dst src }
+    ensures value { result ≡ is_taken width comparison dst src }
     ensures meaning { IsTrue result ↔ IsTaken width comparison dst src }
 {
     match width {

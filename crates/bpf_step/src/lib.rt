@@ -7,11 +7,7 @@ pub mod frame;
 pub mod jump;
 pub mod laws;
 pub mod machine;
-#[cfg(test)]
-mod tests;
-#[cfg(test)]
-mod value_tests;
 
 pub use answer::{Local, MachineFault, Need};
-pub use frame::Frame;
-pub use machine::Machine;
+pub use frame::{FRAME_OCTETS, Frame, MAX_LOCAL_CALLS};
+pub use machine::{MAX_SLOTS, Machine};

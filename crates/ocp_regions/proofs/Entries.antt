@@ -5,7 +5,7 @@ use Rattle.std.specs.Cmp.{nat_cmp_total, eq_by_cmp_equiv}
 use Rattle.std.specs.FinMap.{from_entries, find, get, insert, get-from_entries, get-insert, same_map, nat_cmp-IsAntisymmetric}
 use Rattle.std.specs.BTreeMap.{is_at}
 use Rattle.std.specs.Map.{lookup}
-use Rattle.ocp_regions.specs.Memory.{placed, memory_of}
+use Rattle.ocp_regions.specs.Memory.{entries_from, memory_of}
 use Rattle.std.proofs.Common.{◌+◌, ◌-◌, ◌<◌, ◌≤◌, arith, true, false, Bool}
 use Rattle.std.proofs.Common.{length, get_or}
 use Rattle.std.proofs.lemmas.Option.{slice_get-get_or, slice_get_past}
@@ -35,7 +35,7 @@ same_either_way true x = refl
 same_either_way false x = refl
 
 -- a region has its octets from its first address on
-pub placed_octet : (os : List ℕ) (first q : ℕ) → octet_in (placed first os) q ≡ (if nat_lt q first then None else slice_get os (q - first))
+pub placed_octet : (os : List ℕ) (first q : ℕ) → octet_in (entries_from first os) q ≡ (if nat_lt q first then None else slice_get os (q - first))
 placed_octet [] first q = same_either_way (nat_lt q first) None
 placed_octet (o ∷ os) first q = grind (arith, nat_tests, placed_octet os (first + 1) q)
 
@@ -55,23 +55,23 @@ octet_in-append (x ∷ xs) ys q = ap (cond (is_at (nat_cmp q) x.0) (Some x.1)) (
 
 -- the memory at an address: the first region that has it
 pub get_memory : (stack arguments work : List ℕ) (q : ℕ) → get (memory_of stack arguments work) q ≡
-    or_else (octet_in (placed 0x1000_0000 stack) q) (or_else (octet_in (placed 0x2000_0000 arguments) q) (octet_in (placed 0x3000_0000 work) q))
+    or_else (octet_in (entries_from 0x1000_0000 stack) q) (or_else (octet_in (entries_from 0x2000_0000 arguments) q) (octet_in (entries_from 0x3000_0000 work) q))
 unfolding memory_of
 get_memory stack arguments work q =
-    let s = placed 0x1000_0000 stack in
-    let a = placed 0x2000_0000 arguments in
-    let w = placed 0x3000_0000 work in
+    let s = entries_from 0x1000_0000 stack in
+    let a = entries_from 0x2000_0000 arguments in
+    let w = entries_from 0x3000_0000 work in
     get_octet ((s ++ a) ++ w) q ∙ octet_in-append (s ++ a) w q ∙ ap (λ o. or_else o (octet_in w q)) (octet_in-append s a q) ∙ assoc (octet_in s q) (octet_in a q) (octet_in w q)
   where
     assoc : (x y z : Option ℕ) → or_else (or_else x y) z ≡ or_else x (or_else y z)
     assoc None y z = refl
     assoc (Some x) y z = refl
 
-pub placed_at : (os : List ℕ) (first q : ℕ) → first ≤ q → octet_in (placed first os) q ≡ slice_get os (q - first)
+pub placed_at : (os : List ℕ) (first q : ℕ) → first ≤ q → octet_in (entries_from first os) q ≡ slice_get os (q - first)
 placed_at os first q h = grind (arith, nat_tests, placed_octet os first q)
 
-pub placed_inside : (os : List ℕ) (first q : ℕ) → first ≤ q → q - first < length os → octet_in (placed first os) q ≡ Some (get_or os (q - first) 0)
+pub placed_inside : (os : List ℕ) (first q : ℕ) → first ≤ q → q - first < length os → octet_in (entries_from first os) q ≡ Some (get_or os (q - first) 0)
 placed_inside os first q h l = placed_at os first q h ∙ slice_get-get_or os (q - first) 0 l
 
-pub placed_outside : (os : List ℕ) (first q : ℕ) → first ≤ q → length os ≤ q - first → octet_in (placed first os) q ≡ None
+pub placed_outside : (os : List ℕ) (first q : ℕ) → first ≤ q → length os ≤ q - first → octet_in (entries_from first os) q ≡ None
 placed_outside os first q h l = placed_at os first q h ∙ slice_get_past os (q - first) l

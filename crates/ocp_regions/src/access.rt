@@ -10,7 +10,7 @@ use bpf_types::Size;
 #[inline(always)]
 pub(crate) fn index_within(first: u64, octets: usize, address: u64, count: usize) -> Option<usize>
     requires { first + octets ≤ 2 ^ 32 }
-    ensures found { IfSome result (λ index. (address ≡ first + index) × (index + count ≤ octets)) }
+    ensures found { IfSome result (λ i. (address ≡ first + i) × (i + count ≤ octets)) }
     ensures none { (result ≡ None) → first ≤ address → octets < address - first + count }
 {
     let index = address.wrapping_sub(first);

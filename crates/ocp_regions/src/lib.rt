@@ -10,8 +10,6 @@
 mod access;
 pub mod fault;
 pub mod regions;
-#[cfg(test)]
-mod tests;
 
 pub use fault::AccessFault;
-pub use regions::Regions;
+pub use regions::{ARGUMENT_OCTETS, Regions};

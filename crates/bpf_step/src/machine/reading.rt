@@ -3,6 +3,7 @@ ghost use Rattle.std.specs.Prelude.{◌≡◌, ◌≤◌, length, IfErr, OnOk, O
 ghost use Rattle.ocp_regions.specs.Memory.{octets_at};
 ghost use Rattle.ocp_regions.specs.declared.fault.AccessFault.TheVariants.{AccessOutside};
 
+use crate::frame::MAX_LOCAL_CALLS;
 use crate::machine::Machine;
 use ocp_regions::AccessFault;
 use std::alloc::Allocator;
@@ -19,7 +20,8 @@ impl<A: Allocator> Machine<A> {
     /// where one of them is not there, and the slice keeps its octets.
     pub fn octets(&self, address: u64, octets: &mut [u8]) -> Result<(), AccessFault>
         ensures ok { OnOk result (octets_at self.now.memory address (length octets.old) ≡ Some octets.new) }
-        ensures err { IfErr result (λ fault. (fault ≡ AccessOutside) × (octets_at self.now.memory address (length octets.old) ≡ None)) }
+        ensures err { IfErr result (λ fault. fault ≡ AccessOutside) }
+        ensures outside { OnErr result (octets_at self.now.memory address (length octets.old) ≡ None) }
         ensures kept { OnErr result (octets.new ≡ octets.old) }
     {
         self.memory.octets(address, octets)
@@ -32,10 +34,10 @@ impl<A: Allocator> Machine<A> {
         self.place
     }
 
-    /// How many local calls are open, at most 7.
+    /// How many local calls are open.
     pub fn depth(&self) -> usize
         ensures value { result ≡ length self.now.frames }
-        ensures bound { result ≤ 7 }
+        ensures bound { result ≤ MAX_LOCAL_CALLS }
     {
         self.frames.len()
     }
