@@ -15,7 +15,9 @@ with_id make octets = if length octets == 2 then Ok (make (big_number 2 octets))
 
 -- an identifier and a step
 abbrev pub with_step : (ℕ → ℕ → Request) → List ℕ → Result Request RequestFault
-with_step make octets = if length octets == 4 then Ok (make (big_number 2 octets) (big_number 2 (drop 2 octets))) else Err Layout
+with_step make octets =
+    if length octets == 4
+    then Ok (make (big_number 2 octets) (big_number 2 (drop 2 octets))) else Err Layout
 
 -- behind an identifier stands a number, and as many octets
 abbrev pub is_counted : List ℕ → Bool
@@ -24,13 +26,15 @@ is_counted octets = nat_le 4 (length octets) && (length octets == 4 + big_number
 -- an identifier, a number up to the most, and as many octets
 abbrev pub with_octets : ℕ → (ℕ → List ℕ → Request) → List ℕ → Result Request RequestFault
 with_octets most make octets =
-    if is_counted octets && nat_le (length octets) (4 + most) then Ok (make (big_number 2 octets) (drop 4 octets)) else Err Layout
+    if is_counted octets && nat_le (length octets) (4 + most)
+    then Ok (make (big_number 2 octets) (drop 4 octets)) else Err Layout
 
 -- an identifier, a number from 1 to 8, and as many words
 abbrev pub with_words : List ℕ → Result Request RequestFault
 with_words octets =
     let count = slice_index octets 2 in
-    if nat_le 3 (length octets) && (length octets == 3 + 8 * count) && nat_le 1 count && nat_le count MAX_WORDS
+    if nat_le 3 (length octets) && (length octets == 3 + 8 * count)
+    && nat_le 1 count && nat_le count MAX_WORDS
     then Ok (Communicate (big_number 2 octets) (numbers 8 count (drop 3 octets))) else Err Layout
 
 abbrev pub request_in : ℕ → List ℕ → Result Request RequestFault

@@ -71,7 +71,8 @@ IsReport (Started request) = length request ≡ 4
 IsReport (NotStarted request fault) = (length request ≡ 4) × IsStartFault fault
 IsReport (Completed request) = length request ≡ 4
 IsReport (NotCompleted request code) = (length request ≡ 4) × (code < 2 ^ 16)
-IsReport (R.Status rows) = (length rows ≤ MAX_ROWS) × IsRising rows × All (λ row. row.id < 2 ^ 16) rows
+IsReport (R.Status rows) =
+    (length rows ≤ MAX_ROWS) × IsRising rows × All (λ row. row.id < 2 ^ 16) rows
 
 -- the octets are the service data of this report, in a telemetry packet of this service and subtype
 pub record IsReportData (service subtype : ℕ) (octets : List ℕ) (report : Report) : Type 0 where
@@ -82,6 +83,8 @@ pub record IsReportData (service subtype : ℕ) (octets : List ℕ) (report : Re
 
 -- what is first wrong with service data that are no report
 abbrev pub HasReportFault : ℕ → ℕ → List ℕ → ReportFault → Type 0
-HasReportFault service subtype octets Kind = (report : Report) → service ≡ service_of report → subtype ≢ kind_of report
-HasReportFault service subtype octets Layout = ((report : Report) × (service ≡ service_of report) × (subtype ≡ kind_of report))
+HasReportFault service subtype octets Kind =
+    (report : Report) → service ≡ service_of report → subtype ≢ kind_of report
+HasReportFault service subtype octets Layout =
+    ((report : Report) × (service ≡ service_of report) × (subtype ≡ kind_of report))
     × ((report : Report) → IsReportData service subtype octets report → ⊥)

@@ -29,7 +29,8 @@ request_data (Activate id arguments) = big_bytes 2 id ++ big_bytes 2 (length arg
 request_data (Stop id step) = big_bytes 2 id ++ big_bytes 2 step
 request_data (Suspend id step) = big_bytes 2 id ++ big_bytes 2 step
 request_data (Resume id) = big_bytes 2 id
-request_data (Communicate id words) = big_bytes 2 id ++ big_bytes 1 (length words) ++ flat_map (big_bytes 8) words
+request_data (Communicate id words) =
+    big_bytes 2 id ++ big_bytes 1 (length words) ++ flat_map (big_bytes 8) words
 request_data Status = []
 request_data (Abort id) = big_bytes 2 id
 
@@ -42,7 +43,8 @@ IsRequest (Stop id step) = (id < 2 ^ 16) × (step < 2 ^ 16)
 IsRequest (Suspend id step) = (id < 2 ^ 16) × (step < 2 ^ 16)
 IsRequest (Resume id) = id < 2 ^ 16
 IsRequest (Communicate id words) =
-    (id < 2 ^ 16) × (1 ≤ length words) × (length words ≤ MAX_WORDS) × All (λ word. word < 2 ^ 64) words
+    (id < 2 ^ 16) × (1 ≤ length words) × (length words ≤ MAX_WORDS)
+    × All (λ word. word < 2 ^ 64) words
 IsRequest Status = Unit {0}
 IsRequest (Abort id) = id < 2 ^ 16
 
@@ -56,8 +58,10 @@ pub record IsRequestData (service subtype : ℕ) (octets : List ℕ) (request : 
 -- what is first wrong with service data that are no request
 abbrev pub HasRequestFault : ℕ → ℕ → List ℕ → RequestFault → Type 0
 HasRequestFault service subtype octets Service = service ≢ 18
-HasRequestFault service subtype octets Subtype = (service ≡ 18) × ((request : Request) → subtype ≢ subtype_of request)
-HasRequestFault service subtype octets Layout = (service ≡ 18) × ((request : Request) × (subtype ≡ subtype_of request))
+HasRequestFault service subtype octets Subtype =
+    (service ≡ 18) × ((request : Request) → subtype ≢ subtype_of request)
+HasRequestFault service subtype octets Layout =
+    (service ≡ 18) × ((request : Request) × (subtype ≡ subtype_of request))
     × ((request : Request) → IsRequestData service subtype octets request → ⊥)
 
 -- the octets at the end of the data: a load's code, an activation's arguments

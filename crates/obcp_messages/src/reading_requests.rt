@@ -18,7 +18,8 @@ use pus_fields::Tc;
 
 /// The one field of data that are an identifier alone.
 fn id_alone(octets: &[u8]) -> Result<u16, RequestFault>
-    ensures { result ≡ (if length octets.now == 2 then Ok (big_number 2 octets.now) else Err Layout) }
+    ensures { result ≡
+        (if length octets.now == 2 then Ok (big_number 2 octets.now) else Err Layout) }
 {
     if octets.len() != 2 {
         return Err(RequestFault::Layout);

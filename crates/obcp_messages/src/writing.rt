@@ -59,7 +59,8 @@ pub fn write_request<A: Allocator>(
     out: &mut Vec<u8, A>,
 ) -> Result<(), AllocError>
     ensures written { OnOk result (out.new.items ≡ out.old.items ++ request_data request.now) }
-    ensures laid_out { IsRequestData 18 (subtype_of request.now) (request_data request.now) request.now }
+    ensures laid_out { IsRequestData 18 (subtype_of request.now)
+        (request_data request.now) request.now }
     // It is refused only where the vector had to grow, and then nothing is appended.
     ensures memory { OnErr result
         (vec_capacity out.old < vec_len out.old + length (request_data request.now)) }

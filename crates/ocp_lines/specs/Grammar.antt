@@ -6,6 +6,9 @@ use Rattle.std.specs.Option.{option_map}
 use Rattle.ocp_lines.specs.Words.{Word, words_of, number_up_to, octets_up_to}
 use Rattle.obcp_messages.specs.declared.request.Request.{Request}
 use Rattle.obcp_messages.specs.declared.request.Request.TheVariants.{Load, Unload, Activate, Stop, Suspend, Resume, Abort, Communicate, Status}
+use Rattle.obcp_messages.specs.declared.payload.TheConstants.{MAX_ARGUMENTS_LENGTH, MAX_WORDS}
+use Rattle.ocp_lines.specs.declared.command.TheConstants.{MAX_STEPS}
+use Rattle.ocp_lines.specs.declared.octets.TheConstants.{MAX_OCTETS_LENGTH}
 use Rattle.ocp_lines.specs.declared.command.Command.{Command}
 use Rattle.ocp_lines.specs.declared.command.Command.TheVariants as command
 use Rattle.ocp_lines.specs.declared.command.Verb.{Verb}
@@ -81,7 +84,7 @@ both (Some x) (Some y) f = Some (f x y)
 
 -- an identifier, a place or a step
 abbrev pub short : Word → Option ℕ
-short word = number_up_to 65535 word
+short word = number_up_to (2 ^ 16 - 1) word
 
 abbrev pub numbers : List Word → Option (List ℕ)
 numbers [] = Some []
@@ -89,7 +92,8 @@ numbers (word ∷ words) = both (number_up_to (2 ^ 64 - 1) word) (numbers words)
 
 abbrev pub one_to_eight : Option (List ℕ) → Option (List ℕ)
 one_to_eight None = None
-one_to_eight (Some ns) = if nat_le 1 (length ns) && nat_le (length ns) 8 then Some ns else None
+one_to_eight (Some ns) =
+    if nat_le 1 (length ns) && nat_le (length ns) MAX_WORDS then Some ns else None
 
 -- 1 to 8 numbers
 abbrev pub parameters_in : List Word → Option (List ℕ)
@@ -101,17 +105,20 @@ from_one (Some n) = if nat_le 1 n then Some n else None
 
 -- a number of steps, 1 to 1,000,000
 abbrev pub steps : Word → Option ℕ
-steps word = from_one (number_up_to 1000000 word)
+steps word = from_one (number_up_to MAX_STEPS word)
 
 -- ---- the verbs of `send`
 
 -- `load <id> [<hex>]`
 abbrev pub load_in : List Word → Option Request
-load_in words = first_word (λ id rest. both (short id) (word_or_none (octets_up_to 65525) rest) Load) words
+load_in words =
+    first_word (λ id rest.
+    both (short id) (word_or_none (octets_up_to MAX_OCTETS_LENGTH) rest) Load) words
 
 -- `activate <id> [<hex>]`
 abbrev pub activate_in : List Word → Option Request
-activate_in words = first_word (λ id rest. both (short id) (word_or_none (octets_up_to 256) rest) Activate) words
+activate_in words = first_word (λ id rest.
+    both (short id) (word_or_none (octets_up_to MAX_ARGUMENTS_LENGTH) rest) Activate) words
 
 -- the identifier of `unload <id>`, `resume <id>` and `abort <id>`
 abbrev pub id_in : List Word → Option ℕ
@@ -123,7 +130,8 @@ step_in words = two_words (λ id step. both (short id) (short step) (λ i s. (i,
 
 -- `communicate <id>` with 1 to 8 numbers
 abbrev pub communicate_in : List Word → Option Request
-communicate_in words = first_word (λ id rest. both (short id) (parameters_in rest) Communicate) words
+communicate_in words =
+    first_word (λ id rest. both (short id) (parameters_in rest) Communicate) words
 
 -- the verbs without octets
 abbrev pub plain_verb_in : Word → List Word → Option Request
@@ -147,11 +155,13 @@ verb_in name words =
 
 -- `up [<hex>]`
 abbrev pub up_in : List Word → Option Said
-up_in words = word_or_none (λ word. option_map Up (octets_up_to 65525 word)) words
+up_in words = word_or_none (λ word. option_map Up (octets_up_to MAX_OCTETS_LENGTH word)) words
 
 -- `send <ack 0 to 15> <verb> ..`
 abbrev pub send_in : List Word → Option Said
-send_in words = first_word (λ ack rest. first_word (λ name arguments. both (number_up_to 15 ack) (verb_in name arguments) Send) rest) words
+send_in words = first_word (λ ack rest.
+    first_word (λ name arguments.
+    both (number_up_to 15 ack) (verb_in name arguments) Send) rest) words
 
 -- the number of `time <u32>`
 abbrev pub time_in : List Word → Option ℕ
@@ -187,4 +197,5 @@ words_say (name ∷ words) = command_in name words
 
 -- The command that a line says, or none where its form is no other's. A line whose first octet is `#` is a comment.
 unfoldable pub command_of : List ℕ → Option Said
-command_of line = if starts_with nat_eq line (codes "#") then Some Nothing else words_say (words_of line)
+command_of line =
+    if starts_with nat_eq line (codes "#") then Some Nothing else words_say (words_of line)

@@ -41,7 +41,8 @@ value_of digits = fold (λ value digit. value * 10 + (digit - 48)) 0 digits
 -- decimal digits, at least one: a number up to the most
 abbrev pub number_up_to : ℕ → Word → Option ℕ
 number_up_to most word =
-    if not (is_empty word) && list_all is_digit word && nat_le (value_of word) most then Some (value_of word) else None
+    if not (is_empty word) && list_all is_digit word && nat_le (value_of word) most
+    then Some (value_of word) else None
 
 abbrev pub at_most : ℕ → Option (List ℕ) → Option (List ℕ)
 at_most most None = None

@@ -1,6 +1,7 @@
 //! What a line says.
 
 ghost use Rattle.std.specs.Prelude.{◌<◌, ◌≤◌};
+ghost use Rattle.ocp_lines.specs.declared.command.TheConstants.{MAX_STEPS};
 
 use crate::arguments::Arguments;
 use crate::octets::Octets;
@@ -28,12 +29,15 @@ pub struct Flags {
     pub ghost in_range: { number < 16 },
 }
 
+/// The most instructions of a `step` line.
+pub const MAX_STEPS: u32 = 1_000_000;
+
 /// How many instructions a `step` line asks for.
 #[derive(Clone, Copy)]
 pub struct Steps {
     pub number: u32,
     pub ghost some: { 1 ≤ number },
-    pub ghost in_range: { number ≤ 1000000 },
+    pub ghost in_range: { number ≤ MAX_STEPS },
 }
 
 /// What a line says.

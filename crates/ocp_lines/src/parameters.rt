@@ -3,12 +3,13 @@
 ghost use Rattle.std.specs.Prelude.{◌≡◌, ◌≤◌, ◌↔◌, length, IsSome, IfSome};
 
 use arrayvec::ArrayVec;
+use obcp_messages::MAX_WORDS;
 use std::marker::Model;
 
 /// 1 to 8 numbers.
 #[derive(Drop)]
 pub struct Parameters {
-    numbers: ArrayVec<u64, 8>,
+    numbers: ArrayVec<u64, MAX_WORDS>,
 }
 
 impl Model for Parameters {
@@ -23,7 +24,7 @@ impl Model for Parameters {
 
 impl Parameters {
     /// These numbers, if there is one.
-    pub fn new(numbers: ArrayVec<u64, 8>) -> Option<Parameters>
+    pub fn new(numbers: ArrayVec<u64, MAX_WORDS>) -> Option<Parameters>
         ensures some { IsSome result ↔ (1 ≤ length numbers.items) }
         ensures value { IfSome result (λ parameters. parameters ≡ numbers.items) }
     {
@@ -34,10 +35,10 @@ impl Parameters {
         }
     }
 
-    pub fn into_numbers(self) -> ArrayVec<u64, 8>
+    pub fn into_numbers(self) -> ArrayVec<u64, MAX_WORDS>
         ensures value { result.items ≡ self }
         ensures some { 1 ≤ length self }
-        ensures few { length self ≤ 8 }
+        ensures few { length self ≤ MAX_WORDS }
     {
         let Parameters { numbers } = self;
         numbers

@@ -5,13 +5,10 @@ ghost use Rattle.std.specs.Option.{option_map};
 ghost use Rattle.ocp_lines.specs.Words.{words_of};
 ghost use Rattle.ocp_lines.specs.Grammar.{said_by, up_in, send_in, time_in, count_in, view_in, command_in, plain_command_in, command_of};
 
-use crate::command::{Command, Flags, Steps};
+use crate::command::{Command, Flags, MAX_STEPS, Steps};
 use crate::verbs::verb;
 use crate::words::{next_word, no_word, number, octets, one_word, short, two_words, word_or_none};
 use std::alloc::{AllocError, Allocator};
-
-/// The most steps of one line.
-const MOST_STEPS: u64 = 1_000_000;
 
 fn up<A: Allocator>(alloc: A, arguments: &[u8]) -> Result<Option<Command<A>>, AllocError>
     ensures { IfOk result (λ command. option_map said_by command ≡ up_in (words_of arguments.now)) }
@@ -26,7 +23,8 @@ fn up<A: Allocator>(alloc: A, arguments: &[u8]) -> Result<Option<Command<A>>, Al
 }
 
 fn send<A: Allocator>(alloc: A, arguments: &[u8]) -> Result<Option<Command<A>>, AllocError>
-    ensures { IfOk result (λ command. option_map said_by command ≡ send_in (words_of arguments.now)) }
+    ensures { IfOk result
+        (λ command. option_map said_by command ≡ send_in (words_of arguments.now)) }
 {
     let Some((flags, rest)) = next_word(arguments) else {
         return Ok(None);
@@ -54,11 +52,12 @@ fn time(arguments: &[u8]) -> Option<u32>
 
 /// The identifier and the number of a `step` line.
 fn steps(arguments: &[u8]) -> Option<(u16, Steps)>
-    ensures { option_map (λ found. (found.0, found.1.number)) result ≡ count_in (words_of arguments.now) }
+    ensures { option_map (λ found. (found.0, found.1.number)) result ≡
+        count_in (words_of arguments.now) }
 {
     let (id, count) = two_words(arguments)?;
     let id = short(id)?;
-    let count = number(count, MOST_STEPS)?;
+    let count = number(count, u64::from(MAX_STEPS))?;
     if count == 0 {
         return None;
     }
@@ -100,7 +99,8 @@ fn command<A: Allocator>(
     name: &[u8],
     arguments: &[u8],
 ) -> Result<Option<Command<A>>, AllocError>
-    ensures { IfOk result (λ command. option_map said_by command ≡ command_in name.now (words_of arguments.now)) }
+    ensures { IfOk result (λ command. option_map said_by command ≡
+        command_in name.now (words_of arguments.now)) }
 {
     if name == b"up".as_slice() {
         up(alloc, arguments)

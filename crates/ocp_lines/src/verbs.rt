@@ -46,7 +46,8 @@ fn load<A: Allocator>(alloc: A, arguments: &[u8]) -> Result<Option<Verb<A>>, All
 }
 
 fn activate<A: Allocator>(alloc: A, arguments: &[u8]) -> Result<Option<Verb<A>>, AllocError>
-    ensures { IfOk result (λ verb. option_map request_of verb ≡ activate_in (words_of arguments.now)) }
+    ensures { IfOk result
+        (λ verb. option_map request_of verb ≡ activate_in (words_of arguments.now)) }
 {
     let Some((id, rest)) = next_word(arguments) else {
         return Ok(None);
@@ -92,7 +93,8 @@ pub(crate) fn verb<A: Allocator>(
     name: &[u8],
     arguments: &[u8],
 ) -> Result<Option<Verb<A>>, AllocError>
-    ensures { IfOk result (λ verb. option_map request_of verb ≡ verb_in name.now (words_of arguments.now)) }
+    ensures { IfOk result
+        (λ verb. option_map request_of verb ≡ verb_in name.now (words_of arguments.now)) }
 {
     if name == b"load".as_slice() {
         load(alloc, arguments)

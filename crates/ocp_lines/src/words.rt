@@ -1,8 +1,10 @@
 //! The words of a line, and what they say.
 
-ghost use Rattle.std.specs.Prelude.{◌≡◌, ◌<◌, ◌≤◌, ◌∷◌, [], length, true, false, take, drop, slice_index, IfOk, IfSome, IfNone, MatchOption, IsTrue, ◌↔◌, ◌≢◌, ◌⊎◌};
+ghost use Rattle.std.specs.Prelude.{◌≡◌, ◌<◌, ◌≤◌, ◌^◌, ◌-◌, ◌∷◌, [], length, true, false, take, drop, slice_index, IfOk, IfSome, IfNone, MatchOption, IsTrue, ◌↔◌, ◌≢◌, ◌⊎◌};
 ghost use Rattle.std.specs.List.{list_all};
 ghost use Rattle.ocp_lines.specs.Words.{words_of, is_solid, number_up_to, octets_up_to, value_of};
+ghost use Rattle.ocp_lines.specs.declared.octets.TheConstants.{MAX_OCTETS_LENGTH};
+ghost use Rattle.obcp_messages.specs.declared.payload.TheConstants.{MAX_ARGUMENTS_LENGTH};
 
 use crate::arguments::Arguments;
 use crate::octets::Octets;
@@ -25,7 +27,8 @@ fn word_length(text: &[u8]) -> usize
 
 /// The first word, and what stands behind it.
 pub(crate) fn next_word(text: &[u8]) -> Option<(&[u8], &[u8])>
-    ensures { MatchOption result (words_of text.now ≡ []) (λ found. words_of text.now ≡ found.0.now ∷ words_of found.1.now) }
+    ensures { MatchOption result (words_of text.now ≡ [])
+        (λ found. words_of text.now ≡ found.0.now ∷ words_of found.1.now) }
 {
     let mut rest = text;
     while let [b' ', behind @ ..] = rest {
@@ -66,7 +69,8 @@ pub(crate) fn two_words(text: &[u8]) -> Option<(&[u8], &[u8])>
 
 /// The one word of a text, or the empty word where there is none.
 pub(crate) fn word_or_none(text: &[u8]) -> Option<&[u8]>
-    ensures some { IfSome result (λ word. (words_of text.now ≡ word.now ∷ []) ⊎ ((words_of text.now ≡ []) × (word.now ≡ []))) }
+    ensures some { IfSome result (λ word. (words_of text.now ≡ word.now ∷ [])
+        ⊎ ((words_of text.now ≡ []) × (word.now ≡ []))) }
     ensures none { IfNone result (1 < length (words_of text.now)) }
 {
     match next_word(text) {
@@ -99,15 +103,15 @@ pub(crate) fn number(word: &[u8], most: u64) -> Option<u64>
 
 /// The number that a word says, if it has at most 16 bits.
 pub(crate) fn short(word: &[u8]) -> Option<u16>
-    ensures { result ≡ number_up_to 65535 word.now }
+    ensures { result ≡ number_up_to (2 ^ 16 - 1) word.now }
 {
-    let value = number(word, 65535)?;
+    let value = number(word, u64::from(u16::MAX))?;
     Some(value as u16)
 }
 
 /// The octets that a hexadecimal word says, if they are at most 65,525.
 pub(crate) fn octets<A: Allocator>(alloc: A, word: &[u8]) -> Result<Option<Octets<A>>, AllocError>
-    ensures { IfOk result (λ octets. octets ≡ octets_up_to 65525 word.now) }
+    ensures { IfOk result (λ octets. octets ≡ octets_up_to MAX_OCTETS_LENGTH word.now) }
 {
     match hex::decode(alloc, word) {
         Ok(items) => Ok(Octets::new(items)),
@@ -121,7 +125,7 @@ pub(crate) fn argument_octets<A: Allocator>(
     alloc: A,
     word: &[u8],
 ) -> Result<Option<Arguments<A>>, AllocError>
-    ensures { IfOk result (λ octets. octets ≡ octets_up_to 256 word.now) }
+    ensures { IfOk result (λ octets. octets ≡ octets_up_to MAX_ARGUMENTS_LENGTH word.now) }
 {
     match hex::decode(alloc, word) {
         Ok(items) => Ok(Arguments::new(items)),

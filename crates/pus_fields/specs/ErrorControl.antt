@@ -27,7 +27,9 @@ multiple true p = p
 
 -- x^12 + x^5 + 1, with 16 coefficients
 abbrev pub low : List Bool
-low = false ∷ false ∷ false ∷ true ∷ false ∷ false ∷ false ∷ false ∷ false ∷ false ∷ true ∷ false ∷ false ∷ false ∷ false ∷ true ∷ []
+low =
+    false ∷ false ∷ false ∷ true ∷ false ∷ false ∷ false ∷ false
+    ∷ false ∷ false ∷ true ∷ false ∷ false ∷ false ∷ false ∷ true ∷ []
 
 -- x^16 + x^12 + x^5 + 1
 abbrev pub generator : List Bool

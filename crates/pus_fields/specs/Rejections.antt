@@ -33,10 +33,13 @@ pus_version field = slice_index field 0 / 2 ^ 4
 -- a packet with this header and data field is rejected for this reason, and for none before it
 abbrev pub IsRejected : Rejection → ℕ → List ℕ → Primary → List ℕ → Type 0
 IsRejected Segmented least octets header field = header.flags ≢ Unsegmented
-IsRejected NoSecondary least octets header field = (header.flags ≡ Unsegmented) × (header.secondary ≡ false)
-IsRejected NoRoom least octets header field = (header.flags ≡ Unsegmented) × (header.secondary ≡ true) × (length field < least)
+IsRejected NoSecondary least octets header field =
+    (header.flags ≡ Unsegmented) × (header.secondary ≡ false)
+IsRejected NoRoom least octets header field =
+    (header.flags ≡ Unsegmented) × (header.secondary ≡ true) × (length field < least)
 IsRejected Pec least octets header field = IsWhole least header field × (¬ HasErrorControl octets)
-IsRejected PusVersion least octets header field = IsWhole least header field × HasErrorControl octets × (pus_version field ≢ 2)
+IsRejected PusVersion least octets header field =
+    IsWhole least header field × HasErrorControl octets × (pus_version field ≢ 2)
 
 -- it is rejected for none of the reasons
 pub record IsSound (least : ℕ) (octets : List ℕ) (header : Primary) (field : List ℕ) : Type 0 where
@@ -46,7 +49,8 @@ pub record IsSound (least : ℕ) (octets : List ℕ) (header : Primary) (field :
 
 -- the octets are a packet whose header and data field meet this
 abbrev pub IsPacketWith : List ℕ → (Primary → List ℕ → Type 0) → Type 0
-IsPacketWith octets P = (header : Primary) × (field : List ℕ) × IsPacket octets header field × P header field
+IsPacketWith octets P =
+    (header : Primary) × (field : List ℕ) × IsPacket octets header field × P header field
 
 -- the first reason as a function
 abbrev pub rejection_of : ℕ → List ℕ → Primary → List ℕ → Option Rejection

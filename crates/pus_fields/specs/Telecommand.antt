@@ -37,11 +37,19 @@ request_id apid count = big_bytes 2 (2 ^ 12 + 2 ^ 11 + apid) ++ big_bytes 2 (3 *
 -- the secondary header, 5 octets: version number 2 (4 bits), acknowledgement flags (4), service type
 -- (8), message subtype (8), source identifier (16)
 abbrev pub telecommand_secondary : Telecommand → List ℕ
-telecommand_secondary tc = big_bytes 1 (2 * 2 ^ 4 + flags_of tc.ack) ++ big_bytes 1 tc.service ++ big_bytes 1 tc.subtype ++ big_bytes 2 tc.source
+telecommand_secondary tc =
+    big_bytes 1 (2 * 2 ^ 4 + flags_of tc.ack) ++ big_bytes 1 tc.service ++ big_bytes 1 tc.subtype
+    ++ big_bytes 2 tc.source
 
 -- the primary header: an unsegmented telecommand with a secondary header
 abbrev pub telecommand_header : Telecommand → Primary
-telecommand_header tc = record { telecommand = true; secondary = true; apid = tc.apid; flags = Unsegmented; count = tc.count }
+telecommand_header tc = record {
+  telecommand = true;
+  secondary = true;
+  apid = tc.apid;
+  flags = Unsegmented;
+  count = tc.count;
+}
 
 -- the octets are the packet of this telecommand: its data field is the secondary header, the payload
 -- and the error control of all octets before it
@@ -49,13 +57,17 @@ pub record IsTelecommand (octets : List ℕ) (tc : Telecommand) : Type 0 where
   pub in_range : IsTelecommandInRange tc
   pub control : ℕ
   pub control_fits : control < 2 ^ 16
-  pub packet : IsPacket octets (telecommand_header tc) (telecommand_secondary tc ++ tc.payload ++ big_bytes 2 control)
+  pub packet : IsPacket octets (telecommand_header tc)
+      (telecommand_secondary tc ++ tc.payload ++ big_bytes 2 control)
   pub checked : IsErrorControl (take (length octets - 2) octets) control
 
 -- the octets of a telecommand but its error control
 abbrev pub telecommand_covered : Telecommand → List ℕ
-telecommand_covered tc = request_id tc.apid tc.count ++ big_bytes 2 (length tc.payload + 6) ++ telecommand_secondary tc ++ tc.payload
+telecommand_covered tc =
+    request_id tc.apid tc.count ++ big_bytes 2 (length tc.payload + 6) ++ telecommand_secondary tc
+    ++ tc.payload
 
 -- the octets of a telecommand, one packet for each
 unfoldable pub telecommand_octets : Telecommand → List ℕ
-telecommand_octets tc = telecommand_covered tc ++ big_bytes 2 (error_control (telecommand_covered tc))
+telecommand_octets tc =
+    telecommand_covered tc ++ big_bytes 2 (error_control (telecommand_covered tc))

@@ -19,10 +19,13 @@ abbrev pub HasTcFault : ℕ → List ℕ → TcFault → Type 0
 HasTcFault apid octets (Discarded Short) = IsFirstFault octets packet.Short
 HasTcFault apid octets (Discarded Version) = IsFirstFault octets packet.Version
 HasTcFault apid octets (Discarded Length) = IsFirstFault octets packet.Length
-HasTcFault apid octets (Discarded NotTelecommand) = IsPacketWith octets (λ header field. header.telecommand ≡ false)
-HasTcFault apid octets (Discarded OtherApid) = IsPacketWith octets (λ header field. (header.telecommand ≡ true) × (header.apid ≢ apid))
+HasTcFault apid octets (Discarded NotTelecommand) =
+    IsPacketWith octets (λ header field. header.telecommand ≡ false)
+HasTcFault apid octets (Discarded OtherApid) =
+    IsPacketWith octets (λ header field. (header.telecommand ≡ true) × (header.apid ≢ apid))
 HasTcFault apid octets (Rejected why id) = (id ≡ take 4 octets)
-    × IsPacketWith octets (λ header field. (header.telecommand ≡ true) × (header.apid ≡ apid) × IsRejected why 7 octets header field)
+    × IsPacketWith octets (λ header field.
+    (header.telecommand ≡ true) × (header.apid ≡ apid) × IsRejected why 7 octets header field)
 
 -- ---- the same as a function
 
@@ -50,12 +53,14 @@ unless_rejected octets (Some why) tc = Err (Rejected why (take 4 octets))
 unless_rejected octets None tc = Ok tc
 
 -- the answer by what the octets are as a packet: its header and data field
-abbrev pub telecommand_answer : ℕ → List ℕ → Result (Primary × List ℕ) PacketFault → Result Telecommand TcFault
+abbrev pub telecommand_answer :
+    ℕ → List ℕ → Result (Primary × List ℕ) PacketFault → Result Telecommand TcFault
 telecommand_answer apid octets (Err fault) = Err (Discarded (discard_of fault))
 telecommand_answer apid octets (Ok found) =
     if not found.0.telecommand then Err (Discarded NotTelecommand)
     else if not (found.0.apid == apid) then Err (Discarded OtherApid)
-    else unless_rejected octets (rejection_of 7 octets found.0 found.1) (telecommand_in found.0.apid found.0.count found.1)
+    else unless_rejected octets (rejection_of 7 octets found.0 found.1)
+    (telecommand_in found.0.apid found.0.count found.1)
 
 -- the telecommand that the octets are, for the process of this identifier, or their first fault
 unfoldable pub telecommand_of : ℕ → List ℕ → Result Telecommand TcFault

@@ -28,11 +28,19 @@ pub record IsTelemetryInRange (tm : Telemetry) : Type 0 where
 -- the secondary header, 11 octets: version number 2 (4 bits), time reference status 0 (4), service type
 -- (8), message subtype (8), message type counter 0 (16), destination identifier (16), time (32)
 abbrev pub telemetry_secondary : Telemetry → List ℕ
-telemetry_secondary tm = big_bytes 1 (2 * 2 ^ 4) ++ big_bytes 1 tm.service ++ big_bytes 1 tm.subtype ++ big_bytes 2 0 ++ big_bytes 2 tm.destination ++ big_bytes 4 tm.time
+telemetry_secondary tm =
+    big_bytes 1 (2 * 2 ^ 4) ++ big_bytes 1 tm.service ++ big_bytes 1 tm.subtype ++ big_bytes 2 0
+    ++ big_bytes 2 tm.destination ++ big_bytes 4 tm.time
 
 -- the primary header: unsegmented telemetry with a secondary header
 abbrev pub telemetry_header : Telemetry → Primary
-telemetry_header tm = record { telecommand = false; secondary = true; apid = tm.apid; flags = Unsegmented; count = tm.count }
+telemetry_header tm = record {
+  telecommand = false;
+  secondary = true;
+  apid = tm.apid;
+  flags = Unsegmented;
+  count = tm.count;
+}
 
 -- the octets are the packet of this telemetry: its data field is the secondary header, the payload and
 -- the error control of all octets before it
@@ -40,14 +48,17 @@ pub record IsTelemetry (octets : List ℕ) (tm : Telemetry) : Type 0 where
   pub in_range : IsTelemetryInRange tm
   pub control : ℕ
   pub control_fits : control < 2 ^ 16
-  pub packet : IsPacket octets (telemetry_header tm) (telemetry_secondary tm ++ tm.payload ++ big_bytes 2 control)
+  pub packet : IsPacket octets (telemetry_header tm)
+      (telemetry_secondary tm ++ tm.payload ++ big_bytes 2 control)
   pub checked : IsErrorControl (take (length octets - 2) octets) control
 
 -- the octets of a telemetry packet but its error control: version number 0 (3 bits), type 0 (1),
 -- secondary header flag 1 (1), application process identifier (11), sequence flags 11 (2), sequence
 -- count (14), the length of the data field less 1 (16), and the data field
 abbrev pub telemetry_covered : Telemetry → List ℕ
-telemetry_covered tm = big_bytes 2 (2 ^ 11 + tm.apid) ++ big_bytes 2 (3 * 2 ^ 14 + tm.count) ++ big_bytes 2 (length tm.payload + 12) ++ telemetry_secondary tm ++ tm.payload
+telemetry_covered tm =
+    big_bytes 2 (2 ^ 11 + tm.apid) ++ big_bytes 2 (3 * 2 ^ 14 + tm.count)
+    ++ big_bytes 2 (length tm.payload + 12) ++ telemetry_secondary tm ++ tm.payload
 
 -- the octets of telemetry, one packet for each
 unfoldable pub telemetry_octets : Telemetry → List ℕ

@@ -18,7 +18,8 @@ IsOtherProfile field = (slice_index field 0 % 2 ^ 4 ≢ 0) ⊎ (big_number 2 (dr
 
 -- the octets are a telemetry packet that is rejected for this reason
 abbrev pub IsRejectedTelemetry : List ℕ → Rejection → Type 0
-IsRejectedTelemetry octets why = IsPacketWith octets (λ header field. (header.telecommand ≡ false) × IsRejected why 13 octets header field)
+IsRejectedTelemetry octets why = IsPacketWith octets (λ header field.
+    (header.telecommand ≡ false) × IsRejected why 13 octets header field)
 
 -- the octets have this fault, and none before it
 abbrev pub HasTmFault : List ℕ → TmFault → Type 0
@@ -31,7 +32,8 @@ HasTmFault octets NoSecondary = IsRejectedTelemetry octets reason.NoSecondary
 HasTmFault octets NoRoom = IsRejectedTelemetry octets reason.NoRoom
 HasTmFault octets Pec = IsRejectedTelemetry octets reason.Pec
 HasTmFault octets PusVersion = IsRejectedTelemetry octets reason.PusVersion
-HasTmFault octets NotProfile = IsPacketWith octets (λ header field. (header.telecommand ≡ false) × IsSound 13 octets header field × IsOtherProfile field)
+HasTmFault octets NotProfile = IsPacketWith octets (λ header field.
+    (header.telecommand ≡ false) × IsSound 13 octets header field × IsOtherProfile field)
 
 -- ---- the same as a function
 
@@ -63,7 +65,9 @@ fault_of reason.PusVersion = PusVersion
 
 -- the answer to a sound packet by its data field
 abbrev pub in_profile : List ℕ → Telemetry → Result Telemetry TmFault
-in_profile field tm = if (slice_index field 0 % 2 ^ 4 == 0) && (big_number 2 (drop 3 field) == 0) then Ok tm else Err NotProfile
+in_profile field tm =
+    if (slice_index field 0 % 2 ^ 4 == 0) && (big_number 2 (drop 3 field) == 0)
+    then Ok tm else Err NotProfile
 
 -- the answer to a packet by its first rejection, if any
 abbrev pub unless_rejected : List ℕ → Option Rejection → Telemetry → Result Telemetry TmFault
@@ -71,11 +75,13 @@ unless_rejected field (Some why) tm = Err (fault_of why)
 unless_rejected field None tm = in_profile field tm
 
 -- the answer by what the octets are as a packet: its header and data field
-abbrev pub telemetry_answer : List ℕ → Result (Primary × List ℕ) PacketFault → Result Telemetry TmFault
+abbrev pub telemetry_answer :
+    List ℕ → Result (Primary × List ℕ) PacketFault → Result Telemetry TmFault
 telemetry_answer octets (Err fault) = Err (fault_of_packet fault)
 telemetry_answer octets (Ok found) =
     if found.0.telecommand then Err NotTelemetry
-    else unless_rejected found.1 (rejection_of 13 octets found.0 found.1) (telemetry_in found.0.apid found.0.count found.1)
+    else unless_rejected found.1 (rejection_of 13 octets found.0 found.1)
+    (telemetry_in found.0.apid found.0.count found.1)
 
 -- the telemetry that the octets are, or their first fault
 unfoldable pub telemetry_of : List ℕ → Result Telemetry TmFault

@@ -23,7 +23,8 @@ impl Flags for Ack {
 
     ghost exact = { ⊤ };
 
-    ghost table = { (codes "ACCEPTANCE", 1) ∷ (codes "START", 2) ∷ (codes "PROGRESS", 4) ∷ (codes "COMPLETION", 8) ∷ [] };
+    ghost table = { (codes "ACCEPTANCE", 1) ∷ (codes "START", 2)
+        ∷ (codes "PROGRESS", 4) ∷ (codes "COMPLETION", 8) ∷ [] };
 
     ghost set_of = { λ a. a.0 };
 

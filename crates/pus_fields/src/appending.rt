@@ -56,7 +56,8 @@ pub(crate) fn append_u32<A: Allocator>(out: &mut Vec<u8, A>, number: u32)
 pub(crate) fn append_error_control<A: Allocator>(out: &mut Vec<u8, A>, start: usize)
     requires place { start ≤ vec_len out.old }
     requires room { vec_len out.old + 2 ≤ vec_capacity out.old }
-    ensures items { out.new.items ≡ out.old.items ++ big_bytes 2 (error_control (drop start out.old.items)) }
+    ensures items { out.new.items ≡
+        out.old.items ++ big_bytes 2 (error_control (drop start out.old.items)) }
     ensures capacity { vec_capacity out.old ≤ vec_capacity out.new }
 {
     let control = crc16(&out[start..]);

@@ -21,7 +21,8 @@ fn register_after_bit(register: u16) -> u16
 /// The register after an octet.
 fn register_after_octet(register: u16, octet: u8) -> u16
     // Whatever remainder the rest of a message then gives is that of the octet and the rest.
-    ensures { (rest remainder : List Bool) → IsRemainder (dividend (bits 16 result) rest) remainder →
+    ensures { (rest remainder : List Bool) →
+        IsRemainder (dividend (bits 16 result) rest) remainder →
         IsRemainder (dividend (bits 16 register) (bits 8 octet ++ rest)) remainder }
 {
     let mut next = register ^ (u16::from(octet) << 8);

@@ -13,7 +13,8 @@ use space_packet::written_octets_are_the_packet;
 
 /// The octets of a telecommand are its packet.
 pub fn telecommand_octets_are_its_packet()
-    ensures { (tc : Telecommand) → IsTelecommandInRange tc → length tc.payload ≤ MAX_TELECOMMAND_DATA →
+    ensures { (tc : Telecommand) → IsTelecommandInRange tc →
+        length tc.payload ≤ MAX_TELECOMMAND_DATA →
         IsTelecommand (telecommand_octets tc) tc }
 {
     written_octets_are_the_packet();
@@ -30,7 +31,8 @@ pub fn one_packet_for_a_telecommand()
 
 /// The octets of a telecommand are read as that telecommand.
 pub fn telecommand_octets_are_read_back()
-    ensures { (tc : Telecommand) → IsTelecommandInRange tc → length tc.payload ≤ MAX_TELECOMMAND_DATA →
+    ensures { (tc : Telecommand) → IsTelecommandInRange tc →
+        length tc.payload ≤ MAX_TELECOMMAND_DATA →
         telecommand_of tc.apid (telecommand_octets tc) ≡ Ok tc }
 {
     written_octets_are_the_packet();

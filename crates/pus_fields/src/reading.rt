@@ -48,7 +48,8 @@ fn tc_in<'a>(header: &Primary, field: &'a [u8]) -> Tc<'a>
 pub fn read_tc<'a>(apid: Apid, octets: &'a [u8]) -> Result<Tc<'a>, TcFault>
     requires { apid < IDLE_APID }
     ensures ok { IfOk result (λ tc. IsTelecommand octets.now tc × (tc.apid ≡ apid)) }
-    ensures only { (tc : Telecommand) → IsTelecommand octets.now tc → tc.apid ≡ apid → result ≡ Ok tc }
+    ensures only { (tc : Telecommand) → IsTelecommand octets.now tc → tc.apid ≡ apid →
+        result ≡ Ok tc }
     ensures err { IfErr result (HasTcFault apid octets.now) }
     ensures value { result ≡ telecommand_of apid octets.now }
 {
@@ -88,7 +89,8 @@ fn tm_in<'a>(header: &Primary, field: &'a [u8]) -> Tm<'a>
 /// Whether the time reference status and the message type counter are 0.
 fn is_in_profile(field: &[u8]) -> bool
     requires { 5 ≤ length field.now }
-    ensures { result ≡ ((slice_index field.now 0 % 2 ^ 4 == 0) && (big_number 2 (drop 3 field.now) == 0)) }
+    ensures { result ≡
+        ((slice_index field.now 0 % 2 ^ 4 == 0) && (big_number 2 (drop 3 field.now) == 0)) }
 {
     field[0] % 16 == 0 && BigEndian::read_u16(&field[3..]) == 0
 }

@@ -48,7 +48,8 @@ pub fn write_tc<A: Allocator>(tc: &Tc, out: &mut Vec<u8, A>) -> Result<(), Write
     ensures written { OnOk result ((packet : List ℕ) × IsTelecommand packet tc.now
         × (out.new.items ≡ out.old.items ++ packet)) }
     ensures octets { OnOk result (out.new.items ≡ out.old.items ++ telecommand_octets tc.now) }
-    ensures too_long { IsErrOf result WriteFault.TooLong ↔ (MAX_TELECOMMAND_DATA < length tc.now.payload) }
+    ensures too_long { IsErrOf result WriteFault.TooLong ↔
+        (MAX_TELECOMMAND_DATA < length tc.now.payload) }
     // Memory is answered only where the vector had to grow.
     ensures memory { IsErrOf result WriteFault.Memory →
         vec_capacity out.old < vec_len out.old + (13 + length tc.now.payload) }
@@ -96,7 +97,8 @@ pub fn write_tm<A: Allocator>(tm: &Tm, out: &mut Vec<u8, A>) -> Result<(), Write
     ensures written { OnOk result ((packet : List ℕ) × IsTelemetry packet tm.now
         × (out.new.items ≡ out.old.items ++ packet)) }
     ensures octets { OnOk result (out.new.items ≡ out.old.items ++ telemetry_octets tm.now) }
-    ensures too_long { IsErrOf result WriteFault.TooLong ↔ (MAX_TELEMETRY_DATA < length tm.now.payload) }
+    ensures too_long { IsErrOf result WriteFault.TooLong ↔
+        (MAX_TELEMETRY_DATA < length tm.now.payload) }
     // Memory is answered only where the vector had to grow.
     ensures memory { IsErrOf result WriteFault.Memory →
         vec_capacity out.old < vec_len out.old + (19 + length tm.now.payload) }

@@ -52,18 +52,22 @@ HasFault octets Length = head octets % 2 ^ 16 + 1 ≢ length (drop 6 octets)
 abbrev pub IsFirstFault : List ℕ → PacketFault → Type 0
 IsFirstFault octets Short = HasFault octets Short
 IsFirstFault octets Version = (7 ≤ length octets) × HasFault octets Version
-IsFirstFault octets Length = (7 ≤ length octets) × (head octets / 2 ^ 45 % 2 ^ 3 ≡ 0) × HasFault octets Length
+IsFirstFault octets Length =
+    (7 ≤ length octets) × (head octets / 2 ^ 45 % 2 ^ 3 ≡ 0) × HasFault octets Length
 
 -- the three words of 16 bits that a header is written as
 abbrev pub identification : Primary → ℕ
-identification header = bit header.telecommand * 2 ^ 12 + bit header.secondary * 2 ^ 11 + header.apid
+identification header =
+    bit header.telecommand * 2 ^ 12 + bit header.secondary * 2 ^ 11 + header.apid
 
 abbrev pub sequence_control : Primary → ℕ
 sequence_control header = flags_number header.flags * 2 ^ 14 + header.count
 
 -- the octets of the packet with this header and this data field
 abbrev pub packet_octets : Primary → List ℕ → List ℕ
-packet_octets header payload = to_be_bytes w16 (identification header) ++ to_be_bytes w16 (sequence_control header) ++ to_be_bytes w16 (length payload - 1) ++ payload
+packet_octets header payload =
+    to_be_bytes w16 (identification header) ++ to_be_bytes w16 (sequence_control header)
+    ++ to_be_bytes w16 (length payload - 1) ++ payload
 
 -- the numbers of the header are in their ranges
 abbrev pub IsHeader : Primary → Type 0
@@ -71,7 +75,11 @@ IsHeader header = (header.apid < 2 ^ 11) × (header.count < 2 ^ 14)
 
 -- the sequence flags of a number of two bits
 abbrev pub flags_of : ℕ → SequenceFlags
-flags_of n = if n == 0 then Continuation else if n == 1 then First else if n == 2 then Last else Unsegmented
+flags_of n =
+    if n == 0 then Continuation
+    else if n == 1 then First
+    else if n == 2 then Last
+    else Unsegmented
 
 -- the header that the first six octets give
 abbrev pub header_in : List ℕ → Primary

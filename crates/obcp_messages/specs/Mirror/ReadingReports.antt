@@ -19,17 +19,28 @@ with_request make octets = if length octets == 4 then Ok (make (take 4 octets)) 
 
 -- a request identifier and a failure code
 abbrev pub with_code : (List ℕ → ℕ → Report) → List ℕ → Result Report ReportFault
-with_code make octets = if length octets == 6 then Ok (make (take 4 octets) (big_number 2 (drop 4 octets))) else Err Layout
+with_code make octets =
+    if length octets == 6
+    then Ok (make (take 4 octets) (big_number 2 (drop 4 octets))) else Err Layout
 
 -- a request identifier and a failure code, with the data of code 18
 abbrev pub with_fault : List ℕ → Result Report ReportFault
 with_fault octets =
     if big_number 2 (drop 4 octets) == 18
-    then (if length octets == 9 then Ok (NotStarted (take 4 octets) (BadCode (slice_index octets 6) (big_number 2 (drop 7 octets)))) else Err Layout)
-    else (if length octets == 6 then Ok (NotStarted (take 4 octets) (Plain (big_number 2 (drop 4 octets)))) else Err Layout)
+    then (if length octets == 9
+    then Ok (NotStarted (take 4 octets)
+    (BadCode (slice_index octets 6) (big_number 2 (drop 7 octets))))
+    else Err Layout)
+    else (if length octets == 6
+    then Ok (NotStarted (take 4 octets) (Plain (big_number 2 (drop 4 octets))))
+    else Err Layout)
 
 abbrev pub status_at : ℕ → Option Status
-status_at code = if code == 0 then Some Inactive else (if code == 1 then Some Running else (if code == 2 then Some Held else None))
+status_at code =
+    if code == 0 then Some Inactive
+    else (if code == 1 then Some Running
+    else (if code == 2 then Some Held
+    else None))
 
 -- a row before the others, where its status is one and they are rows
 abbrev pub row_and : ℕ → Option Status → Option (List StatusRow) → Option (List StatusRow)
@@ -40,7 +51,8 @@ row_and id (Some status) (Some rows) = Some (record { id = id; status = status }
 -- so many rows, where each status is one
 abbrev pub rows_in : ℕ → List ℕ → Option (List StatusRow)
 rows_in zero octets = Some []
-rows_in (suc n) octets = row_and (big_number 2 octets) (status_at (slice_index octets 2)) (rows_in n (drop 3 octets))
+rows_in (suc n) octets =
+    row_and (big_number 2 octets) (status_at (slice_index octets 2)) (rows_in n (drop 3 octets))
 
 -- each identifier is above the one before it
 abbrev pub follow : ℕ → List StatusRow → Bool
@@ -62,7 +74,8 @@ status_report (Some rows) = ordered_rows rows
 abbrev pub with_rows : List ℕ → Result Report ReportFault
 with_rows octets =
     let count = slice_index octets 0 in
-    if nat_le 1 (length octets) && (length octets == 1 + 3 * count) && nat_le count MAX_ROWS then status_report (rows_in count (drop 1 octets)) else Err Layout
+    if nat_le 1 (length octets) && (length octets == 1 + 3 * count) && nat_le count MAX_ROWS
+    then status_report (rows_in count (drop 1 octets)) else Err Layout
 
 abbrev pub verification_in : ℕ → List ℕ → Result Report ReportFault
 verification_in subtype octets =
