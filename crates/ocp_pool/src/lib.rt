@@ -1,0 +1,12 @@
+//! What procedures share and are sent: the pool of words, a procedure's mailbox, and the engine calls that use them.
+#![tactic(auto)]
+
+pub mod call;
+pub mod engine;
+pub mod mailbox;
+pub mod pool;
+
+pub use call::{Called, PoolFault, PoolOperation};
+pub use engine::engine_call;
+pub use mailbox::{MAX_MAILBOX_WORDS, Mailbox};
+pub use pool::{MAX_POOL_WORDS, Pool};
