@@ -1,3 +1,6 @@
 pub mod ContentsLemmas
+pub mod Able
+pub mod Each
+pub mod Lawful
 pub mod Tables
 pub mod Rows

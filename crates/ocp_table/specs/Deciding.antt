@@ -4,7 +4,7 @@ use Rattle.std.specs.FinMap.{get, len}
 use Rattle.bpf_types.specs.declared.line.Line.{Line}
 use Rattle.obcp_types.specs.declared.status.Status.{Status}
 use Rattle.obcp_types.specs.declared.failure.StartFailure.{StartFailure}
-use Rattle.obcp_types.specs.declared.failure.StartFailure.TheVariants.{TableFull, BadCode}
+use Rattle.obcp_types.specs.declared.failure.StartFailure.TheVariants.{TableFull, BadCode, NotRunning}
 use Rattle.ocp_loader.specs.declared.fault.LoadFault.{LoadFault}
 use Rattle.ocp_loader.specs.FaultNumbers.{number_of, slot_of}
 use Rattle.ocp_loader.specs.LoadResult.{load_result}
@@ -15,7 +15,7 @@ use Rattle.ocp_table.specs.declared.table.TheConstants.{MAX_PROCEDURES}
 use Rattle.ocp_table.specs.declared.answers.InstructionOutcome.{InstructionOutcome}
 use Rattle.ocp_table.specs.declared.answers.InstructionOutcome.TheVariants.{Ran, Ended, Faulted}
 use Rattle.ocp_table.specs.Records.{Rec, Records}
-use Rattle.ocp_table.specs.Effects.{Effect, Loaded, Changed, Kept, Stepped, Stuck, Failed}
+use Rattle.ocp_table.specs.Effects.{Effect, Loaded, Changed, Kept, Stepped, Failed}
 use Rattle.ocp_table.specs.RequestTable.{Directive, Decision, Loads, Changes, Steps, Fails, transition}
 
 -- ---- an image is loaded
@@ -35,8 +35,8 @@ effect_of_load false (Err fault) id image = Kept (Failed (bad_code fault))
 
 -- ---- an instruction is done
 
--- what the outcome of a machine is for its procedure. A place without an instruction and a numbered call have no outcome:
--- they do not come in an image that may be run, and no procedure of a table stands there.
+-- what the outcome of a machine is for its procedure. A place without an instruction and a numbered call have none: no
+-- procedure of a table stands there, since they do not come in an image that may be run.
 abbrev pub outcome_of : Outcome → Option InstructionOutcome
 outcome_of (Next s) = Some Ran
 outcome_of (Needs need.LastExit) = Some Ended
@@ -48,9 +48,10 @@ abbrev pub outcome_at : Option Rec → Option InstructionOutcome
 outcome_at None = None
 outcome_at (Some r) = outcome_of (one_step r.image r.machine)
 
+-- where there is none the procedure does not run
 abbrev pub effect_of_step : Option InstructionOutcome → ℕ → Effect
 effect_of_step (Some outcome) id = Changed id (Stepped outcome)
-effect_of_step None id = Kept Stuck
+effect_of_step None id = Kept (Failed NotRunning)
 
 -- ---- a directive
 

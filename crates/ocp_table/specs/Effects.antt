@@ -21,11 +21,9 @@ pub data Change : Type 0 where
   Started : List ℕ → Change
   Stepped : InstructionOutcome → Change
 
--- why an event leaves all records: nothing was asked of a procedure; the machine of a running procedure stands at nothing
--- that can be done, which no procedure of a table does; or what was asked failed
+-- why an event leaves all records: nothing was asked of a procedure, or what was asked failed
 pub data Why : Type 0 where
   Unasked : Why
-  Stuck : Why
   Failed : StartFailure → Why
 
 pub data Effect : Type 0 where

@@ -1,14 +1,22 @@
 -- A procedure's record, as a record of parts.
-use Rattle.std.specs.Prelude.{ℕ, List}
+use Rattle.std.specs.Prelude.{ℕ, List, IsOk}
 use Rattle.std.specs.Ordering.{nat_cmp}
 use Rattle.std.specs.FinMap.{FinMap}
+use Rattle.ocp_loader.specs.LoadResult.{load_result, IsPlace}
 use Rattle.bpf_step.specs.Machine.{State}
+use Rattle.bpf_step.specs.Step.{StandsIn}
 use Rattle.ocp_table.specs.declared.control.Control.{Control}
 
 -- a program's image and the machine that runs it
 pub record Execution : Type 0 where
   pub image : List ℕ
   pub machine : State
+
+-- the image may be run, and the machine stands at an instruction of it
+pub record IsAdmittedAt (image : List ℕ) (machine : State) : Type 0 where
+  pub admitted : IsOk (load_result image)
+  pub begins : IsPlace image 0
+  pub stands : StandsIn image machine
 
 -- the control is what requests and the end of a run set: the status, and why the procedure became inactive
 pub record Rec : Type 0 where

@@ -41,7 +41,7 @@ pub enum LoadFailure {
 impl StepOutcome {
     ghost use Rattle.std.specs.Prelude.{◌≡◌, ◌≢◌, Ok};
     ghost use Rattle.ocp_table.specs.declared.answers.Done.TheVariants.{Started};
-    ghost use Rattle.ocp_table.specs.Effects.{Effect, step_outcome};
+    ghost use Rattle.ocp_table.specs.Effects.{Effect, Kept, Failed, step_outcome};
     ghost use Rattle.ocp_table.specs.Shown.{Answers};
 
     /// That of an instruction event which was answered so.
@@ -55,8 +55,17 @@ impl StepOutcome {
             Ok(Done::Stepped(InstructionOutcome::Ran)) => StepOutcome::Ran,
             Ok(Done::Stepped(InstructionOutcome::Ended)) => StepOutcome::Ended,
             Ok(Done::Stepped(InstructionOutcome::Faulted(number))) => StepOutcome::Faulted(number),
-            Err(StartFailure::NotLoaded) => StepOutcome::NotLoaded,
-            Err(_) => StepOutcome::NotRunning,
+            Err(failure) => StepOutcome::of_failure(failure),
+        }
+    }
+
+    /// That of an instruction event which failed so.
+    pub fn of_failure(failure: StartFailure) -> StepOutcome
+        ensures { result ≡ step_outcome (Kept (Failed failure)) }
+    {
+        match failure {
+            StartFailure::NotLoaded => StepOutcome::NotLoaded,
+            _ => StepOutcome::NotRunning,
         }
     }
 }

@@ -1,6 +1,6 @@
 use crate::{InstructionOutcome, MAX_ARGUMENTS};
 use bpf_step::{Local, Machine, Need};
-use ocp_loader::Program;
+use ocp_loader::{Program, places_lead_to_places};
 use std::alloc::Allocator;
 use std::marker::Model;
 
@@ -20,17 +20,16 @@ impl<A: Allocator> Model for Execution<A> {
 
     ghost coded = { execution_code };
 
-    ghost use Rattle.ocp_loader.specs.LoadResult.{IsPlace};
-    ghost use Rattle.bpf_step.specs.Step.{StandsIn};
+    ghost use Rattle.ocp_table.specs.Records.{IsAdmittedAt};
 
     ghost view = { λ e. record { image = e.program; machine = e.machine } };
 
-    ghost invariant = { λ e. IsPlace e.program 0 × StandsIn e.program e.machine };
+    ghost invariant = { λ e. IsAdmittedAt e.program e.machine };
 }
 
 impl<A: Allocator> Execution<A> {
-    ghost use Rattle.std.specs.Prelude.{◌≡◌, ◌≤◌, [], Some, length};
-    ghost use Rattle.ocp_loader.specs.LoadResult.{IsPlace};
+    ghost use Rattle.std.specs.Prelude.{◌≡◌, ◌≤◌, [], Some, IsSome, IsOk, length};
+    ghost use Rattle.ocp_loader.specs.LoadResult.{load_result, IsPlace};
     ghost use Rattle.bpf_step.specs.Machine.{started};
     ghost use Rattle.bpf_step.specs.Step.{one_step};
     ghost use Rattle.ocp_table.specs.Effects.{machine_by_outcome};
@@ -38,6 +37,7 @@ impl<A: Allocator> Execution<A> {
 
     /// A new machine at a program's first instruction.
     pub(crate) fn new(program: Program<A>, machine: Machine<A>) -> Self
+        requires admitted { IsOk (load_result program) }
         requires place { IsPlace program 0 }
         requires machine { machine ≡ started [] }
         ensures image { result.image ≡ program }
@@ -53,6 +53,15 @@ impl<A: Allocator> Execution<A> {
         ensures machine { self.new.machine ≡ started arguments.now }
     {
         self.machine.start(arguments);
+    }
+
+    /// There is an instruction to do, and it is no numbered call. The function does nothing when it runs.
+    #[inline(always)]
+    pub(crate) fn has_instruction(&self)
+        ensures { IsSome (outcome_of (one_step self.now.image self.now.machine)) }
+    {
+        let _machine = &self.machine;
+        places_lead_to_places();
     }
 
     /// Does one instruction. There always is one, and it is no numbered call.

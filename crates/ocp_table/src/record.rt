@@ -15,7 +15,7 @@ impl<A: Allocator> Record<A> {
     ghost use Rattle.obcp_types.specs.declared.status.Status.TheVariants.{Running};
     ghost use Rattle.bpf_step.specs.Machine.{started};
     ghost use Rattle.bpf_step.specs.Step.{one_step};
-    ghost use Rattle.ocp_table.specs.Effects.{Started, Stepped, new_record, record_by, record_after};
+    ghost use Rattle.ocp_table.specs.Effects.{Started, Stepped, new_record, record_by, record_after, failure_of};
     ghost use Rattle.ocp_table.specs.RequestTable.{transition, failure_by};
     ghost use Rattle.ocp_table.specs.Deciding.{outcome_of, effect_on};
     ghost use Rattle.ocp_table.specs.Shown.{shown, view_of, directive_of, Answers, HasFewArguments};
@@ -37,8 +37,10 @@ impl<A: Allocator> Record<A> {
     /// Decides: why a directive fails.
     #[inline(always)]
     pub(crate) fn failure(&self, directive: &Directive<'_>) -> Option<StartFailure>
-        ensures { result ≡ failure_by (transition (directive_of directive.now) (Some self.now.control.status)) }
+        ensures table { result ≡ failure_by (transition (directive_of directive.now) (Some self.now.control.status)) }
+        ensures effect { result ≡ failure_of (effect_on (directive_of directive.now) self.now.id (Some (shown self.now)) true) }
     {
+        self.execution.has_instruction();
         directive.failure(self.control.status)
     }
 
