@@ -1,14 +1,16 @@
 -- A machine that stands at an instruction which is no numbered call has an outcome.
 use Rattle.std.proofs.Common.{◌≡◌, ℕ, ℤ, Bool, true, false, List, Option, Some, None, refl}
-use Rattle.std.specs.Prelude.{Result, Ok, Err, IsSome}
+use Rattle.std.specs.Prelude.{Result, Ok, Err, IsSome, IsOk}
 use Rattle.bpf_types.specs.declared.line.Line.{Line}
 use Rattle.bpf_types.specs.declared.line.Line.TheVariants as line
 use Rattle.ocp_regions.specs.Memory.{Octets}
 use Rattle.ocp_regions.specs.declared.fault.AccessFault.{AccessFault}
 use Rattle.ocp_loader.specs.Image.{calls_well}
-use Rattle.ocp_loader.specs.LoadResult.{line_of, IsPlace}
+use Rattle.ocp_loader.specs.LineAt.{line_of, IsPlace}
 use Rattle.bpf_step.specs.declared.frame.Frame.{Frame}
-use Rattle.bpf_step.specs.Machine.{State, loads, stores, calls, exits}
+use Rattle.bpf_step.specs.Machine.{State}
+use Rattle.bpf_step.specs.Access.{loads, stores}
+use Rattle.bpf_step.specs.Calls.{calls, exits}
 use Rattle.bpf_step.specs.Step.{step, step_of, one_step}
 use Rattle.ocp_table.specs.Deciding.{outcome_of}
 
@@ -44,3 +46,8 @@ able image s called place =
       | Some l ↦ λ is here. able_step l s (called l is)
       | None ↦ λ is here. absurd (cc)
     ] refl place
+
+-- what stands under an Ok
+pub lines_of : {X E : Type 0} (r : Result X E) → IsOk r → (x : X) × (r ≡ Ok x)
+lines_of (Ok x) is = (x, refl)
+lines_of (Err e) is = absurd (cc)

@@ -10,7 +10,7 @@ use Rattle.ocp_loader.specs.declared.fault.LoadFault.{LoadFault}
 use Rattle.ocp_loader.specs.LoadResult.{load_result}
 use Rattle.bpf_step.specs.Step.{one_step}
 use Rattle.ocp_table.specs.declared.answers.InstructionOutcome.{InstructionOutcome}
-use Rattle.ocp_table.specs.Records.{Rec, Records}
+use Rattle.ocp_table.specs.Records.{Rec}
 use Rattle.ocp_table.specs.Effects.{Effect, Loaded, Changed, Kept, Started, Stepped, Failed}
 use Rattle.ocp_table.specs.RequestTable.{Directive, Load, Activate, Step, transition}
 use Rattle.ocp_table.specs.Deciding.{bad_code, effect_of_load, outcome_of, effect_of_step, effect_by, effect_on}

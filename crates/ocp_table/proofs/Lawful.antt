@@ -7,11 +7,10 @@ use Rattle.std.specs.Cmp.{unsigned_tied, nat_cmp_total}
 use Rattle.std.proofs.lemmas.Bool.Decides.{nat_tests}
 use Rattle.obcp_types.specs.declared.status.Status.{Status}
 use Rattle.obcp_types.specs.declared.status.Status.TheVariants.{Inactive, Running, Held}
-use Rattle.obcp_types.specs.declared.failure.StartFailure.{StartFailure}
 use Rattle.bpf_step.specs.Machine.{State, started}
 use Rattle.ocp_table.specs.Records.{Rec, Records}
-use Rattle.ocp_table.specs.Effects.{Effect, Change, Loaded, Changed, Kept, Started, Failed, record_by, new_record, with_change, records_by, failure_of}
-use Rattle.ocp_table.specs.RequestTable.{Directive, Load, Activate, Step, transition}
+use Rattle.ocp_table.specs.Effects.{Change, Started, record_by, new_record, with_change, records_by, failure_of}
+use Rattle.ocp_table.specs.RequestTable.{Directive, Step, transition}
 use Rattle.ocp_table.specs.Deciding.{effect_by, effect_on, effect_in, is_full, status_of}
 use Rattle.ocp_table.specs.Laws.{machine_of, IsKeptOrStarted, IsRequest}
 use Rattle.ocp_table.proofs.Each.{each}

@@ -2,7 +2,8 @@
 use Rattle.std.specs.Prelude.{ℕ, List, IsOk}
 use Rattle.std.specs.Ordering.{nat_cmp}
 use Rattle.std.specs.FinMap.{FinMap}
-use Rattle.ocp_loader.specs.LoadResult.{load_result, IsPlace}
+use Rattle.ocp_loader.specs.LoadResult.{load_result}
+use Rattle.ocp_loader.specs.LineAt.{IsPlace}
 use Rattle.bpf_step.specs.Machine.{State}
 use Rattle.bpf_step.specs.Step.{StandsIn}
 use Rattle.ocp_table.specs.declared.control.Control.{Control}

@@ -3,6 +3,7 @@ use Rattle.std.specs.Prelude.{◌≡◌, ◌≤◌, ℕ, List, map, length, Opti
 use Rattle.std.specs.FinMap.{entries}
 use Rattle.obcp_types.specs.declared.failure.StartFailure.{StartFailure}
 use Rattle.obcp_types.specs.declared.status.StatusRow.{StatusRow}
+use Rattle.ocp_regions.specs.declared.regions.TheConstants.{ARGUMENT_OCTETS}
 use Rattle.ocp_table.specs.declared.view.View.{View}
 use Rattle.ocp_table.specs.declared.directive.Directive as D
 use Rattle.ocp_table.specs.declared.directive.Directive.TheVariants as directive
@@ -31,9 +32,9 @@ abbrev pub directive_of : D.Directive → Directive
 directive_of (directive.Activate arguments) = Activate arguments.now
 directive_of directive.Step = Step
 
--- at most 256 octets of arguments
+-- arguments that the machine's memory has room for
 abbrev pub HasFewArguments : Directive → Type 0
-HasFewArguments (Activate arguments) = length arguments ≤ 256
+HasFewArguments (Activate arguments) = length arguments ≤ ARGUMENT_OCTETS
 HasFewArguments other = Unit {0}
 
 -- what a directive is answered, by its effect

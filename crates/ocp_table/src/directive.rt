@@ -2,9 +2,6 @@
 
 use obcp_types::{StartFailure, Status};
 
-/// How many octets of arguments a procedure is started with at most.
-pub const MAX_ARGUMENTS: usize = 256;
-
 /// What can be asked of a procedure that is loaded.
 #[derive(Clone, Copy)]
 pub enum Directive<'a> {

@@ -1,6 +1,7 @@
-use crate::{InstructionOutcome, MAX_ARGUMENTS};
+use crate::InstructionOutcome;
 use bpf_step::{Local, Machine, Need};
 use ocp_loader::{Program, places_lead_to_places};
+use ocp_regions::ARGUMENT_OCTETS;
 use std::alloc::Allocator;
 use std::marker::Model;
 
@@ -29,7 +30,8 @@ impl<A: Allocator> Model for Execution<A> {
 
 impl<A: Allocator> Execution<A> {
     ghost use Rattle.std.specs.Prelude.{◌≡◌, ◌≤◌, [], Some, IsSome, IsOk, length};
-    ghost use Rattle.ocp_loader.specs.LoadResult.{load_result, IsPlace};
+    ghost use Rattle.ocp_loader.specs.LoadResult.{load_result};
+    ghost use Rattle.ocp_loader.specs.LineAt.{IsPlace};
     ghost use Rattle.bpf_step.specs.Machine.{started};
     ghost use Rattle.bpf_step.specs.Step.{one_step};
     ghost use Rattle.ocp_table.specs.Effects.{machine_by_outcome};
@@ -48,7 +50,7 @@ impl<A: Allocator> Execution<A> {
 
     /// Starts the machine anew with at most 256 octets of arguments.
     pub(crate) fn start(&mut self, arguments: &[u8])
-        requires { length arguments.now ≤ MAX_ARGUMENTS }
+        requires { length arguments.now ≤ ARGUMENT_OCTETS }
         ensures image { self.new.image ≡ self.old.image }
         ensures machine { self.new.machine ≡ started arguments.now }
     {

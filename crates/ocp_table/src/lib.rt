@@ -13,7 +13,7 @@ mod view;
 
 pub use answers::{Done, InstructionOutcome, LoadFailure, StepOutcome};
 pub use control::{Cause, Control};
-pub use directive::{Directive, MAX_ARGUMENTS};
+pub use directive::Directive;
 pub use execution::Execution;
 pub use obcp_types::{StartFailure, Status, StatusRow};
 pub use record::Record;

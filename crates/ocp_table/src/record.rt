@@ -19,7 +19,7 @@ impl<A: Allocator> Record<A> {
     ghost use Rattle.ocp_table.specs.RequestTable.{transition, failure_by};
     ghost use Rattle.ocp_table.specs.Deciding.{outcome_of, effect_on};
     ghost use Rattle.ocp_table.specs.Shown.{shown, view_of, directive_of, Answers, HasFewArguments};
-    ghost use Rattle.ocp_table.specs.declared.directive.TheConstants.{MAX_ARGUMENTS};
+    ghost use Rattle.ocp_regions.specs.declared.regions.TheConstants.{ARGUMENT_OCTETS};
 
     /// A procedure that was loaded.
     pub(crate) fn new(id: u16, execution: Execution<A>) -> Self
@@ -66,7 +66,7 @@ impl<A: Allocator> Record<A> {
 
     // Starts the procedure from its first instruction.
     fn start(&mut self, arguments: &[u8])
-        requires { length arguments.now ≤ MAX_ARGUMENTS }
+        requires { length arguments.now ≤ ARGUMENT_OCTETS }
         ensures record { shown self.new ≡ record_by (Started arguments.now) (shown self.old) }
         ensures id { self.new.id ≡ self.old.id }
     {

@@ -3,7 +3,7 @@ use Rattle.std.specs.Prelude.{ℕ, List, refl}
 use Rattle.std.specs.Coded.{Coded, code_by, coded×, coded_ℕ, coded_list}
 use Rattle.std.specs.FinMap.{code}
 use Rattle.bpf_step.specs.Machine.{State}
-use Rattle.bpf_step.specs.Codes.{state_code}
+use Rattle.bpf_step.specs.Mirror.Codes.{state_code}
 use Rattle.ocp_table.specs.declared.control.Control.{Control}
 use Rattle.ocp_table.specs.contracts.control.Control as C
 use Rattle.ocp_table.specs.Records.{Execution, Rec, Records}
