@@ -1,5 +1,5 @@
 -- What contracts see of a record and of a directive, and what readers show of a record.
-use Rattle.std.specs.Prelude.{◌≡◌, ◌≤◌, ℕ, List, map, length, Option, Some, None, Result, Ok, Err}
+use Rattle.std.specs.Prelude.{◌≡◌, ◌≤◌, ℕ, true, List, map, length, Option, Some, None, Result, Ok, Err}
 use Rattle.std.specs.FinMap.{entries}
 use Rattle.obcp_types.specs.declared.failure.StartFailure.{StartFailure}
 use Rattle.obcp_types.specs.declared.status.StatusRow.{StatusRow}
@@ -13,6 +13,7 @@ use Rattle.ocp_table.specs.declared.record.Record.{Record}
 use Rattle.ocp_table.specs.Records.{Rec, Records}
 use Rattle.ocp_table.specs.Effects.{Effect, Changed, Kept, Started, Stepped, Failed, new_record}
 use Rattle.ocp_table.specs.RequestTable.{Directive, Activate, Step}
+use Rattle.ocp_table.specs.Deciding.{effect_on}
 
 -- ---- what contracts see
 
@@ -31,6 +32,10 @@ module _ {A : Type 0} where
 abbrev pub directive_of : D.Directive → Directive
 directive_of (directive.Activate arguments) = Activate arguments.now
 directive_of directive.Step = Step
+
+-- the effect of a directive on a record of the table, in which whether the table is full is not asked
+abbrev pub effect_of_record : {A : Type 0} → D.Directive → Record A → Effect
+effect_of_record d r = effect_on (directive_of d) (id_of r) (Some (shown r)) true
 
 -- arguments that the machine's memory has room for
 abbrev pub HasFewArguments : Directive → Type 0

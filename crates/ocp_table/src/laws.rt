@@ -11,20 +11,26 @@ ghost use Rattle.ocp_table.specs.Laws.{machine_of, IsRequest, IsKeptOrStarted};
 
 /// What fails changes nothing at all.
 pub fn failures_change_nothing()
-    ensures { (effect : Effect) (failure : Failure) (m : Records) → failure_of effect ≡ Some failure → records_by effect m ≡ m }
+    ensures { (effect : Effect) (failure : Failure) (m : Records) →
+        failure_of effect ≡ Some failure → records_by effect m ≡ m }
 {}
 
 /// A directive leaves every other procedure's record.
 pub fn a_directive_changes_its_own_procedure()
-    ensures { (directive : Asked) (id other : ℕ) (m : Records) → other ≢ id → get (records_by (effect_in directive id m) m) other ≡ get m other }
+    ensures { (directive : Asked) (id other : ℕ) (m : Records) →
+        other ≢ id → get (records_by (effect_in directive id m) m) other ≡ get m other }
 {}
 
 /// Only a running procedure steps: an instruction of any other fails.
 pub fn only_running_procedures_step()
-    ensures { (id : ℕ) (m : Records) → status_of (get m id) ≢ Some Running → is_some (failure_of (effect_in Step id m)) ≡ true }
+    ensures { (id : ℕ) (m : Records) →
+        status_of (get m id) ≢ Some Running → is_some (failure_of (effect_in Step id m)) ≡ true }
 {}
 
 /// A request leaves each procedure's machine, or starts it anew: it is never changed in the midst of its run.
 pub fn requests_keep_or_start_machines()
-    ensures { (directive : Asked) (id q : ℕ) (m : Records) → IsRequest directive → IsKeptOrStarted (machine_of (get m q)) (machine_of (get (records_by (effect_in directive id m) m) q)) }
+    ensures { (directive : Asked) (id q : ℕ) (m : Records) → IsRequest directive →
+        IsKeptOrStarted
+        (machine_of (get m q))
+        (machine_of (get (records_by (effect_in directive id m) m) q)) }
 {}

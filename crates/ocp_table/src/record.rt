@@ -14,11 +14,10 @@ impl<A: Allocator> Record<A> {
     ghost use Rattle.std.specs.Prelude.{◌≡◌, ◌≤◌, [], Some, length, true};
     ghost use Rattle.obcp_types.specs.declared.status.Status.TheVariants.{Running};
     ghost use Rattle.bpf_step.specs.Machine.{started};
-    ghost use Rattle.bpf_step.specs.Step.{one_step};
     ghost use Rattle.ocp_table.specs.Effects.{Started, Stepped, new_record, record_by, record_after, failure_of};
     ghost use Rattle.ocp_table.specs.RequestTable.{transition, failure_by};
-    ghost use Rattle.ocp_table.specs.Deciding.{outcome_of, effect_on};
-    ghost use Rattle.ocp_table.specs.Shown.{shown, view_of, directive_of, Answers, HasFewArguments};
+    ghost use Rattle.ocp_table.specs.Deciding.{outcome_at};
+    ghost use Rattle.ocp_table.specs.Shown.{shown, view_of, directive_of, effect_of_record, Answers, HasFewArguments};
     ghost use Rattle.ocp_regions.specs.declared.regions.TheConstants.{ARGUMENT_OCTETS};
 
     /// A procedure that was loaded.
@@ -37,8 +36,9 @@ impl<A: Allocator> Record<A> {
     /// Decides: why a directive fails.
     #[inline(always)]
     pub(crate) fn failure(&self, directive: &Directive<'_>) -> Option<StartFailure>
-        ensures table { result ≡ failure_by (transition (directive_of directive.now) (Some self.now.control.status)) }
-        ensures effect { result ≡ failure_of (effect_on (directive_of directive.now) self.now.id (Some (shown self.now)) true) }
+        ensures table { result ≡
+            failure_by (transition (directive_of directive.now) (Some self.now.control.status)) }
+        ensures effect { result ≡ failure_of (effect_of_record directive.now self.now) }
     {
         self.execution.has_instruction();
         directive.failure(self.control.status)
@@ -48,8 +48,9 @@ impl<A: Allocator> Record<A> {
     #[inline(always)]
     pub(crate) fn apply(&mut self, directive: Directive<'_>) -> Result<Done, StartFailure>
         requires { HasFewArguments (directive_of directive) }
-        ensures answer { Answers result (effect_on (directive_of directive.entry) self.old.id (Some (shown self.old)) true) }
-        ensures record { shown self.new ≡ record_after (effect_on (directive_of directive.entry) self.old.id (Some (shown self.old)) true) (shown self.old) }
+        ensures answer { Answers result (effect_of_record directive.entry self.old) }
+        ensures record { shown self.new ≡
+            record_after (effect_of_record directive.entry self.old) (shown self.old) }
         ensures id { self.new.id ≡ self.old.id }
     {
         if let Some(failure) = self.failure(&directive) {
@@ -77,7 +78,7 @@ impl<A: Allocator> Record<A> {
     // Does one instruction of a running procedure.
     #[inline(always)]
     fn step(&mut self) -> InstructionOutcome
-        ensures outcome { outcome_of (one_step self.old.execution.image self.old.execution.machine) ≡ Some result }
+        ensures outcome { outcome_at (Some (shown self.old)) ≡ Some result }
         ensures record { shown self.new ≡ record_by (Stepped result) (shown self.old) }
         ensures id { self.new.id ≡ self.old.id }
     {

@@ -17,7 +17,8 @@ execution_code =
 
 abbrev pub rec_code : Coded Rec
 rec_code =
-    code_by (List ℕ × (State × Control)) (coded× (coded_list coded_ℕ) (coded× state_code (C.the_row).coded))
+    code_by (List ℕ × (State × Control))
+    (coded× (coded_list coded_ℕ) (coded× state_code (C.the_row).coded))
     (λ r. (r.image, (r.machine, r.control)))
     (λ p. record { image = p.0; machine = p.1.0; control = p.1.1 })
     (λ _. refl)

@@ -8,7 +8,8 @@ use Rattle.slab.specs.Slab.{Slab, get, entries, slab_len}
 module _ {T : Type 0} (id_of : T → ℕ) where
   -- no id stands under two keys
   abbrev pub IsDistinct : Slab T → Type 0
-  IsDistinct s = (i j : ℕ) (r q : T) → get s i ≡ Some r → get s j ≡ Some q → id_of r ≡ id_of q → i ≡ j
+  IsDistinct s =
+      (i j : ℕ) (r q : T) → get s i ≡ Some r → get s j ≡ Some q → id_of r ≡ id_of q → i ≡ j
 
   -- the record under this key has this id
   pub record IsUnder (s : Slab T) (key id : ℕ) : Type 0 where
