@@ -7,8 +7,9 @@ use Rattle.bpf_types.specs.declared.line.Line.{Line}
 use Rattle.bpf_types.specs.declared.line.Line.TheVariants as line
 use Rattle.bpf_types.specs.Line.{first_slot, spelling, WritesFramePointer, writes_frame_pointer}
 use Rattle.bpf_decode.specs.declared.fault.DecodeFault.TheVariants as fault
-use Rattle.bpf_decode.specs.Codes.{is_opcode}
-use Rattle.bpf_decode.specs.Decoding.{raw_fields, BeginsWith, fields_in, permitted_of, spelled_in, decoded}
+use Rattle.bpf_decode.specs.Mirror.Codes.{is_opcode}
+use Rattle.bpf_decode.specs.Mirror.Decoding.{raw_fields, fields_in, permitted_of, spelled_in, decode_result}
+use Rattle.bpf_decode.specs.Decoding.{BeginsWith}
 use Rattle.bpf_decode.proofs.Decode.{fields_of, in_range}
 use Rattle.bpf_decode.proofs.KnownLine.{known_line}
 use Rattle.bpf_decode.proofs.Only.{found_at, wide_length}
@@ -48,8 +49,8 @@ not_short n h = grind (arith, nat_tests)
 is_eighteen : (n : ℕ) → (n == 0x18) ≡ true → n ≡ 0x18
 is_eighteen n h = grind (arith, nat_tests)
 
-pub decoded_of : (octets : List ℕ) (l : Line) → BeginsWith octets l → ¬ WritesFramePointer l → decoded octets ≡ Ok l
-unfolding decoded
+pub decoded_of : (octets : List ℕ) (l : Line) → BeginsWith octets l → ¬ WritesFramePointer l → decode_result octets ≡ Ok l
+unfolding decode_result
 decoded_of octets l b n =
     let f : raw_fields octets ≡ first_slot l = fields_of octets l b in
     let op : slice_index octets 0 ≡ (first_slot l).opcode = ap (λ (f : Fields). f.opcode) f in

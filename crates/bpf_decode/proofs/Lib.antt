@@ -7,3 +7,4 @@ pub mod Only
 mod FirstFault
 mod KnownLine
 pub mod Decoded
+mod Total

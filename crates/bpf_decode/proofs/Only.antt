@@ -10,7 +10,8 @@ use Rattle.bpf_types.specs.declared.line.Line.TheVariants as line
 use Rattle.bpf_types.specs.Line.{first_slot, spelling, WritesFramePointer}
 use Rattle.bpf_decode.specs.declared.fault.DecodeFault.{DecodeFault}
 use Rattle.bpf_decode.specs.declared.fault.DecodeFault.TheVariants as fault
-use Rattle.bpf_decode.specs.Decoding.{raw_fields, line_at, BeginsWith}
+use Rattle.bpf_decode.specs.Mirror.Decoding.{raw_fields, line_at}
+use Rattle.bpf_decode.specs.Decoding.{BeginsWith}
 use Rattle.bpf_decode.specs.Faults.{IsFirst}
 use Rattle.bpf_decode.proofs.Complete.{complete}
 use Rattle.bpf_decode.proofs.Decode.{fields_of, line_found, in_range, registers_there, not_wide}
@@ -44,7 +45,7 @@ only_from (Err fault.ReservedField) octets ok err l b n = absurd (err.3 l b)
 only_from (Err fault.WritesFramePointer) octets ok err l b n = absurd (n (subst WritesFramePointer (unique octets err.4.0 l err.4.1 b) err.4.2))
 
 -- whether R10 would be written
-decide : (l : Line) → (WritesFramePointer l) ⊎ (¬ WritesFramePointer l)
+pub decide : (l : Line) → (WritesFramePointer l) ⊎ (¬ WritesFramePointer l)
 decide (line.Arithmetic w o dst x) = cases_eq dst 10
 decide (line.Negate w dst) = cases_eq dst 10
 decide (line.MoveExtended e dst src) = cases_eq dst 10

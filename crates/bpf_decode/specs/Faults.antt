@@ -1,5 +1,6 @@
 -- The faults of octets that are no instruction that may be loaded, as facts about the octets.
 use Rattle.std.specs.Prelude.{◌≡◌, ◌≢◌, ℕ, ◌<◌, List, length, slice_index}
+use Rattle.std.specs.List.{All}
 use Rattle.bpf_types.specs.declared.line.Line.{Line}
 use Rattle.bpf_types.specs.Line.{first_slot, WritesFramePointer}
 use Rattle.bpf_decode.specs.declared.fault.DecodeFault.{DecodeFault}
@@ -22,3 +23,18 @@ IsFirst fault.UnknownOpcode octets = ¬ Has fault.CutWide octets × Has fault.Un
 IsFirst fault.BadRegister octets = ¬ Has fault.CutWide octets × ¬ Has fault.UnknownOpcode octets × Has fault.BadRegister octets
 IsFirst fault.ReservedField octets = ¬ Has fault.CutWide octets × ¬ Has fault.UnknownOpcode octets × ¬ Has fault.BadRegister octets × Has fault.ReservedField octets
 IsFirst fault.WritesFramePointer octets = ¬ Has fault.CutWide octets × ¬ Has fault.UnknownOpcode octets × ¬ Has fault.BadRegister octets × ¬ Has fault.ReservedField octets × Has fault.WritesFramePointer octets
+
+-- the numbers are octets
+abbrev pub AreOctets : List ℕ → Type 0
+AreOctets octets = All (λ octet. octet < 256) octets
+
+-- the octets begin with an instruction that may be loaded
+pub record IsDecodable (octets : List ℕ) : Type 0 where
+  pub line : Line
+  pub begins : BeginsWith octets line
+  pub permitted : ¬ WritesFramePointer line
+
+-- the octets have a first fault
+pub record IsFaulty (octets : List ℕ) : Type 0 where
+  pub fault : DecodeFault
+  pub first : IsFirst fault octets

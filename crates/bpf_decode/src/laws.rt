@@ -1,10 +1,11 @@
 // What holds of all instructions and all octets.
-ghost use Rattle.std.specs.Prelude.{◌≡◌, ℕ, List, Ok};
+ghost use Rattle.std.specs.Prelude.{◌≡◌, ◌⊎◌, ℕ, List, Ok};
 ghost use Rattle.bpf_types.specs.declared.line.Line.{Line};
 ghost use Rattle.bpf_types.specs.Line.{Spells, WritesFramePointer};
 ghost use Rattle.bpf_decode.specs.declared.fault.DecodeFault.{DecodeFault};
-ghost use Rattle.bpf_decode.specs.Decoding.{decoded, BeginsWith};
-ghost use Rattle.bpf_decode.specs.Faults.{IsFirst};
+ghost use Rattle.bpf_decode.specs.Mirror.Decoding.{decode_result};
+ghost use Rattle.bpf_decode.specs.Decoding.{BeginsWith};
+ghost use Rattle.bpf_decode.specs.Faults.{IsFirst, AreOctets, IsDecodable, IsFaulty};
 
 /// A spelling determines its line, and a line its spelling.
 pub fn spellings_are_unique()
@@ -21,7 +22,12 @@ pub fn instructions_are_unique()
 
 /// Octets that begin with an instruction that does not write R10 are decoded as that instruction.
 pub fn instructions_are_decoded()
-    ensures { (octets : List ℕ) (line : Line) → BeginsWith octets line → ¬ WritesFramePointer line → decoded octets ≡ Ok line }
+    ensures { (octets : List ℕ) (line : Line) → BeginsWith octets line → ¬ WritesFramePointer line → decode_result octets ≡ Ok line }
+{}
+
+/// Octets begin with an instruction that may be loaded, or have a first fault.
+pub fn octets_have_an_instruction_or_a_fault()
+    ensures { (octets : List ℕ) → AreOctets octets → IsDecodable octets ⊎ IsFaulty octets }
 {}
 
 /// Octets have one first fault at most.

@@ -13,6 +13,7 @@ mod tests;
 pub use encoding::{Slots, encode};
 pub use fault::DecodeFault;
 pub use laws::{
-    faults_are_unique, instructions_are_decoded, instructions_are_unique, spellings_are_unique,
+    faults_are_unique, instructions_are_decoded, instructions_are_unique,
+    octets_have_an_instruction_or_a_fault, spellings_are_unique,
 };
 pub use slots::decode_at;

@@ -1,7 +1,7 @@
 // The rows of the instruction table, found by the fields of a slot.
 ghost use Rattle.std.specs.Prelude.{◌≡◌, ◌+◌, ◌/◌, ◌%◌, ◌⊎◌, [], IfSome, pos};
 ghost use Rattle.bpf_types.specs.Line.{first_slot, second_slot, arithmetic_class, jump_class, order_opcode, extension_opcode, code_of, offset_of, swap_width_bits, extension_offset, extension_width};
-ghost use Rattle.bpf_decode.specs.Rows.{Spelled, IsOperandOf, operand_at, with_offset, extension_at, swap_width_at, negate_at, order_at, move_at, two_operands_at, arithmetic_at, jump_if_at, call_at, near_jump_at, exit_at, jump_at, short_jump_at, load_at, store_immediate_at, store_at, short_at};
+ghost use Rattle.bpf_decode.specs.Mirror.Rows.{Spelled, IsOperandOf, operand_at, with_offset, extension_at, swap_width_at, negate_at, order_at, move_at, two_operands_at, arithmetic_at, jump_if_at, call_at, near_jump_at, exit_at, jump_at, short_jump_at, load_at, store_immediate_at, store_at, short_at};
 
 use crate::codes::{comparison_of, operation_of, signed_size_of, size_of};
 use bpf_types::{Extension, Fields, Line, Operand, Operation, Order, SwapWidth, Width};

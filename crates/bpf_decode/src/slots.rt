@@ -1,11 +1,12 @@
 // Instructions among the octets of code.
 ghost use Rattle.std.specs.Prelude.{◌≡◌, ◌≢◌, ◌≤◌, ◌<◌, ◌+◌, ◌*◌, ◌/◌, ◌%◌, ◌⊎◌, length, drop, take, IfOk, IfErr, IfSome, IfNone, Ok, Err, IsTrue, slice_index};
 ghost use Rattle.bpf_decode.specs.declared.fault.DecodeFault.{DecodeFault};
-ghost use Rattle.bpf_decode.specs.Codes.{is_opcode};
+ghost use Rattle.bpf_decode.specs.Mirror.Codes.{is_opcode};
 ghost use Rattle.bpf_types.specs.declared.line.Line.{Line};
 ghost use Rattle.bpf_types.specs.Line.{first_slot, second_slot, spelling, WritesFramePointer};
-ghost use Rattle.bpf_decode.specs.Decoding.{raw_fields, high_in, wide_at, line_at, fields_in, permitted_line, spelled_in, decoded, BeginsWith, HasBadRegister};
-ghost use Rattle.bpf_decode.specs.Rows.{Spelled};
+ghost use Rattle.bpf_decode.specs.Mirror.Decoding.{raw_fields, high_in, wide_at, line_at, fields_in, permitted_line, spelled_in, decode_result};
+ghost use Rattle.bpf_decode.specs.Decoding.{BeginsWith, HasBadRegister};
+ghost use Rattle.bpf_decode.specs.Mirror.Rows.{Spelled};
 ghost use Rattle.bpf_decode.specs.Faults.{IsFirst};
 
 use crate::codes::is_known;
@@ -78,7 +79,7 @@ fn line_of(fields: Fields, octets: &[u8]) -> Option<Line>
 }
 
 /// The instruction, unless it writes R10.
-fn permitted(line: Line) -> Result<Line, DecodeFault>
+fn permitted_line(line: Line) -> Result<Line, DecodeFault>
     ensures exact { result ≡ permitted_line line }
     ensures ok { IfOk result (λ r. (r ≡ line) × ¬ WritesFramePointer line) }
     ensures err { IfErr result (λ e. (e ≡ DecodeFault.WritesFramePointer) × WritesFramePointer line) }
@@ -102,7 +103,7 @@ fn decode_known(octets: &[u8]) -> Result<Line, DecodeFault>
 {
     match fields_at(octets) {
         Some(fields) => match line_of(fields, octets) {
-            Some(line) => permitted(line),
+            Some(line) => permitted_line(line),
             None => Err(DecodeFault::ReservedField),
         },
         None => Err(DecodeFault::BadRegister),
@@ -110,10 +111,10 @@ fn decode_known(octets: &[u8]) -> Result<Line, DecodeFault>
 }
 
 /// The instruction that the octets begin with.
-#[tactic(auto, unfolding(crate::specs::Decoding::decoded))]
+#[tactic(auto, unfolding(crate::specs::Mirror::Decoding::decode_result))]
 fn decode(octets: &[u8]) -> Result<Line, DecodeFault>
     requires { 8 ≤ length octets.now }
-    ensures exact { result ≡ decoded octets.now }
+    ensures exact { result ≡ decode_result octets.now }
     ensures ok { IfOk result (λ line. BeginsWith octets.now line × ¬ WritesFramePointer line) }
     ensures err { IfErr result (λ fault. IsFirst fault octets.now) }
 {
@@ -130,7 +131,7 @@ fn decode(octets: &[u8]) -> Result<Line, DecodeFault>
 /// The instruction that the octets begin with, and no other.
 fn decode_octets(octets: &[u8]) -> Result<Line, DecodeFault>
     requires { 8 ≤ length octets.now }
-    ensures exact { result ≡ decoded octets.now }
+    ensures exact { result ≡ decode_result octets.now }
     ensures ok { IfOk result (λ line. BeginsWith octets.now line × ¬ WritesFramePointer line) }
     ensures only { (line : Line) → BeginsWith octets.now line → ¬ WritesFramePointer line → result ≡ Ok line }
     ensures err { IfErr result (λ fault. IsFirst fault octets.now) }
@@ -144,7 +145,7 @@ fn decode_octets(octets: &[u8]) -> Result<Line, DecodeFault>
 /// Refused, in this order: `CutWide`, `UnknownOpcode`, `BadRegister`, `ReservedField`, `WritesFramePointer`.
 pub fn decode_at(code: &[u8], slot: usize) -> Result<Line, DecodeFault>
     requires { 8 * slot + 8 ≤ length code.now }
-    ensures exact { result ≡ decoded (drop (8 * slot) code.now) }
+    ensures exact { result ≡ decode_result (drop (8 * slot) code.now) }
     ensures ok { IfOk result (λ line. BeginsWith (drop (8 * slot) code.now) line × ¬ WritesFramePointer line) }
     ensures only { (line : Line) → BeginsWith (drop (8 * slot) code.now) line → ¬ WritesFramePointer line → result ≡ Ok line }
     ensures err { IfErr result (λ fault. IsFirst fault (drop (8 * slot) code.now)) }

@@ -454,3 +454,60 @@ fn the_second_slot_of_a_wide_load_has_reserved_fields(rt: HostRuntime) {
         );
     }
 }
+
+#[test]
+fn each_form_that_writes_its_dst_is_refused_for_r10(rt: HostRuntime) {
+    for octets in [
+        [0x04, 0x0a, 0, 0, 1, 0, 0, 0],
+        [0x0c, 0x1a, 0, 0, 0, 0, 0, 0],
+        [0x07, 0x0a, 0, 0, 1, 0, 0, 0],
+        [0x0f, 0x1a, 0, 0, 0, 0, 0, 0],
+        [0x84, 0x0a, 0, 0, 0, 0, 0, 0],
+        [0x87, 0x0a, 0, 0, 0, 0, 0, 0],
+        [0xbc, 0x1a, 8, 0, 0, 0, 0, 0],
+        [0xbf, 0x1a, 32, 0, 0, 0, 0, 0],
+        [0xd4, 0x0a, 0, 0, 16, 0, 0, 0],
+        [0xdc, 0x0a, 0, 0, 32, 0, 0, 0],
+        [0xd7, 0x0a, 0, 0, 64, 0, 0, 0],
+        [0x61, 0x1a, 0xf8, 0xff, 0, 0, 0, 0],
+        [0x91, 0x1a, 0xf8, 0xff, 0, 0, 0, 0],
+    ] {
+        assert_eq!(rt;
+            decode_at(&octets, 0),
+            Err(DecodeFault::WritesFramePointer),
+            "of {octets:?}"
+        );
+    }
+    let wide = [0x18, 0x0a, 0, 0, 1, 0, 0, 0, 0, 0, 0, 0, 2, 0, 0, 0];
+    assert_eq!(rt; decode_at(&wide, 0), Err(DecodeFault::WritesFramePointer));
+}
+
+#[test]
+fn jumps_and_stores_may_name_r10_as_dst(rt: HostRuntime) {
+    let equal = Line::JumpIf {
+        width: Width::W64,
+        comparison: Comparison::Equal,
+        dst: reg(10),
+        operand: Operand::Immediate(7),
+        distance: -2,
+    };
+    let set = Line::JumpIf {
+        width: Width::W32,
+        comparison: Comparison::Set,
+        dst: reg(10),
+        operand: Operand::Register(reg(1)),
+        distance: 3,
+    };
+    is_spelled(&rt, equal, [0x15, 0x0a, 0xfe, 0xff, 7, 0, 0, 0]);
+    is_spelled(&rt, set, [0x4e, 0x1a, 3, 0, 0, 0, 0, 0]);
+    is_spelled(
+        &rt,
+        store_immediate(Size::Double),
+        [0x7a, 0x0a, 0xf8, 0xff, 9, 0, 0, 0],
+    );
+    is_spelled(
+        &rt,
+        store(Size::Double),
+        [0x7b, 0x2a, 0xf8, 0xff, 0, 0, 0, 0],
+    );
+}

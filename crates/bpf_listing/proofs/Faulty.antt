@@ -28,10 +28,10 @@ not_before one none image s t f g h k lt =
     let tail = drop (8 * t) image in
     let whole : image ≡ front ++ tail = sym (take-append-drop (8 * t) image) in
     let long : 8 * s < length front = omega (arith, lt, h.within, ap length whole, length-append front tail, length-drop (8 * t) image) in
-    let head : image_of h.lines ≡ take (8 * s) front = sym h.front.octets ∙ ap (λ (o : List ℕ). take (8 * s) o) whole ∙ take-append-le (8 * s) front tail (omega (arith, long)) in
+    let head : image_of h.lines ≡ take (8 * s) front = sym h.before.octets ∙ ap (λ (o : List ℕ). take (8 * s) o) whole ∙ take-append-le (8 * s) front tail (omega (arith, long)) in
     let rest : drop (8 * s) image ≡ drop (8 * s) front ++ tail = ap (λ (o : List ℕ). drop (8 * s) o) whole ∙ drop-append-le (8 * s) front tail (omega (arith, long)) in
-    let c = continues one h.lines k.lines (drop (8 * s) front) h.front.ranges k.front.ranges
-    (ap (λ (o : List ℕ). o ++ drop (8 * s) front) head ∙ take-append-drop (8 * s) front ∙ k.front.octets) in
+    let c = continues one h.lines k.lines (drop (8 * s) front) h.before.ranges k.before.ranges
+    (ap (λ (o : List ℕ). o ++ drop (8 * s) front) head ∙ take-append-drop (8 * s) front ∙ k.before.octets) in
     no_instruction none (drop (8 * s) front) tail f c.more c.octets (omega (arith, long, length-drop (8 * s) front)) c.ranges
     (others_of (λ l. ¬ WritesFramePointer l) h.lines c.more (subst NoneWritesFramePointer c.lines k.permitted)) (subst (IsFirst f) rest h.first)
 

@@ -74,8 +74,8 @@ stuck none rest f (l ∷ more) e some ranges permitted first =
 -- a fault leaves no list of instructions
 pub no_lines : OneLine → NoFault → (image : List ℕ) (slot : ℕ) (f : DecodeFault) (lines : List Line) → HasFaultAt image slot f → IsImageOf image lines → NoneWritesFramePointer lines → ⊥
 no_lines one none image slot f lines h is permitted =
-    let c = continues one h.lines lines (drop (8 * slot) image) h.front.ranges is.ranges
-    (ap (λ (t : List ℕ). t ++ drop (8 * slot) image) (sym h.front.octets) ∙ take-append-drop (8 * slot) image ∙ is.octets) in
+    let c = continues one h.lines lines (drop (8 * slot) image) h.before.ranges is.ranges
+    (ap (λ (t : List ℕ). t ++ drop (8 * slot) image) (sym h.before.octets) ∙ take-append-drop (8 * slot) image ∙ is.octets) in
     stuck none (drop (8 * slot) image) f c.more c.octets (omega (arith, h.within, length-drop (8 * slot) image)) c.ranges
     (rest_of (λ k. ¬ WritesFramePointer k) h.lines c.more (subst NoneWritesFramePointer c.lines permitted)) h.first
 

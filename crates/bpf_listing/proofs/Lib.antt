@@ -6,3 +6,4 @@ pub mod Texts
 pub mod Listings
 pub mod Images
 pub mod Faulty
+mod Total

@@ -14,7 +14,7 @@ use Rattle.std.proofs.lemmas.Bool.{lt-ltb, le-ltb, cases_lt}
 use Rattle.std.proofs.lemmas.Bool.Decides.{nat_tests}
 use Rattle.bpf_listing.specs.declared.scan.Scan.{Scan}
 use Rattle.bpf_listing.specs.Canonical.{hex_digits, with_sign}
-use Rattle.bpf_listing.specs.Reading.{fed, closed, scanned, is_digit, hex_on, hex_value, minus_or}
+use Rattle.bpf_listing.specs.Mirror.Reading.{past_octet, past_other, past_octets, is_digit, hex_on, hex_value, minus_or}
 
 -- the scan, with this number so far
 abbrev pub numbered : Scan → ℕ → Scan
@@ -23,15 +23,15 @@ numbered s n = record { fields = s.fields; count = s.count; mark = s.mark; numbe
 digit_is : (d : ℕ) → d < 10 → is_digit (48 + d) ≡ true
 digit_is d lt = grind (arith, nat_tests)
 
-fed_digit : (s : Scan) (d n : ℕ) → d < 10 → n ≡ s.number * 10 + d → n < 2 ^ 64 → fed s (48 + d) ≡ numbered s n
+fed_digit : (s : Scan) (d n : ℕ) → d < 10 → n ≡ s.number * 10 + d → n < 2 ^ 64 → past_octet s (48 + d) ≡ numbered s n
 fed_digit s d n lt e fits = rw (digit_is d lt) (ap (λ (k : ℕ). numbered s k) (let f : (s.number * 10 + (48 + d - 48)) % 2 ^ 64 ≡ n = omega arith in f))
 
-pub scan_number : (s : Scan) → s.number ≡ 0 → (n : ℕ) → n < 2 ^ 64 → (rest : List ℕ) → scanned s (decimal n ++ rest) ≡ scanned (numbered s n) rest
-scan_number s none n fits = decimal_by_steps (λ n ds. n < 2 ^ 64 → (rest : List ℕ) → scanned s (ds ++ rest) ≡ scanned (numbered s n) rest)
-    (λ n lt fits rest. ap (λ (t : Scan). scanned t rest) (fed_digit s n n lt (omega arith) fits))
+pub scan_number : (s : Scan) → s.number ≡ 0 → (n : ℕ) → n < 2 ^ 64 → (rest : List ℕ) → past_octets s (decimal n ++ rest) ≡ past_octets (numbered s n) rest
+scan_number s none n fits = decimal_by_steps (λ n ds. n < 2 ^ 64 → (rest : List ℕ) → past_octets s (ds ++ rest) ≡ past_octets (numbered s n) rest)
+    (λ n lt fits rest. ap (λ (t : Scan). past_octets t rest) (fed_digit s n n lt (omega arith) fits))
     (λ n ds ge before fits rest.
     rw (append_assoc ds ((48 + n % 10) ∷ []) rest) (before (omega arith) ((48 + n % 10) ∷ rest)
-    ∙ ap (λ (t : Scan). scanned t rest) (fed_digit (numbered s (n / 10)) (n % 10) n (omega arith) (omega arith) fits)))
+    ∙ ap (λ (t : Scan). past_octets t rest) (fed_digit (numbered s (n / 10)) (n % 10) n (omega arith) (omega arith) fits)))
     n fits fits
 
 glyph_value : (d : ℕ) → d < 16 → hex_value (digit_glyph false d) ≡ d
@@ -52,8 +52,8 @@ pub hex_length : (count n : ℕ) → length (hex_digits count n) ≡ count
 hex_length zero n = refl
 hex_length (suc count) n = omega (arith, length-append (hex_digits count (n / 16)) (digit_glyph false (n % 16) ∷ []), hex_length count (n / 16))
 
-pub scan_last : (s : Scan) → s.number ≡ 0 → (n : ℕ) → n < 2 ^ 64 → scanned s (decimal n) ≡ numbered s n
-scan_last s none n fits = ap (λ (t : List ℕ). scanned s t) (sym (append-nil (decimal n))) ∙ scan_number s none n fits []
+pub scan_last : (s : Scan) → s.number ≡ 0 → (n : ℕ) → n < 2 ^ 64 → past_octets s (decimal n) ≡ numbered s n
+scan_last s none n fits = ap (λ (t : List ℕ). past_octets s t) (sym (append-nil (decimal n))) ∙ scan_number s none n fits []
 
 -- the scan at the octet in front of a number
 abbrev pub marked : Scan → ℕ → Scan
@@ -64,23 +64,23 @@ fits_in (pos n) h = omega (arith, ints)
 fits_in (negsuc n) h = omega (arith, ints)
 
 pub scan_signed : (fields : List Field) (count mark : ℕ) (z : ℤ) → FitsSigned w32 z → (rest : List ℕ)
-    → scanned (record { fields = fields; count = count; mark = mark; number = 0; inside = false }) (signed_decimal z ++ rest)
-    ≡ scanned (record { fields = fields; count = count; mark = minus_or mark z; number = unsigned_abs z; inside = true }) rest
+    → past_octets (record { fields = fields; count = count; mark = mark; number = 0; inside = false }) (signed_decimal z ++ rest)
+    ≡ past_octets (record { fields = fields; count = count; mark = minus_or mark z; number = unsigned_abs z; inside = true }) rest
 scan_signed fields count mark (pos n) h rest = scan_number _ refl n (fits_in (pos n) h) rest
 scan_signed fields count mark (negsuc n) h rest = scan_number _ refl (suc n) (fits_in (negsuc n) h) rest
 
 pub scan_signed_last : (fields : List Field) (count mark : ℕ) (z : ℤ) → FitsSigned w32 z
-    → scanned (record { fields = fields; count = count; mark = mark; number = 0; inside = false }) (signed_decimal z)
+    → past_octets (record { fields = fields; count = count; mark = mark; number = 0; inside = false }) (signed_decimal z)
     ≡ record { fields = fields; count = count; mark = minus_or mark z; number = unsigned_abs z; inside = true }
-scan_signed_last fields count mark z h = ap (λ (t : List ℕ). scanned (record { fields = fields; count = count; mark = mark; number = 0; inside = false }) t) (sym (append-nil (signed_decimal z))) ∙ scan_signed fields count mark z h []
+scan_signed_last fields count mark z h = ap (λ (t : List ℕ). past_octets (record { fields = fields; count = count; mark = mark; number = 0; inside = false }) t) (sym (append-nil (signed_decimal z))) ∙ scan_signed fields count mark z h []
 
 pub scan_with_sign : (s : Scan) (z : ℤ) → FitsSigned w32 z → (rest : List ℕ)
-    → scanned s (with_sign z ++ rest) ≡ scanned (numbered (closed s (minus_or 43 z)) (unsigned_abs z)) rest
+    → past_octets s (with_sign z ++ rest) ≡ past_octets (numbered (past_other s (minus_or 43 z)) (unsigned_abs z)) rest
 scan_with_sign s (pos n) h rest = scan_number _ refl n (fits_in (pos n) h) rest
 scan_with_sign s (negsuc n) h rest = scan_number _ refl (suc n) (fits_in (negsuc n) h) rest
 
-pub scan_with_sign_last : (s : Scan) (z : ℤ) → FitsSigned w32 z → scanned s (with_sign z) ≡ numbered (closed s (minus_or 43 z)) (unsigned_abs z)
-scan_with_sign_last s z h = ap (λ (t : List ℕ). scanned s t) (sym (append-nil (with_sign z))) ∙ scan_with_sign s z h []
+pub scan_with_sign_last : (s : Scan) (z : ℤ) → FitsSigned w32 z → past_octets s (with_sign z) ≡ numbered (past_other s (minus_or 43 z)) (unsigned_abs z)
+scan_with_sign_last s z h = ap (λ (t : List ℕ). past_octets s t) (sym (append-nil (with_sign z))) ∙ scan_with_sign s z h []
 
 -- what is read of one number
 abbrev pub field : ℕ → ℕ → Field
@@ -128,18 +128,18 @@ either false x y P h g = g
 
 -- the first number stays, whatever follows
 closed_first : (inside : Bool) (fields : List Field) (count mark number o : ℕ) (d : Field) → 1 ≤ count
-    → let t = closed (record { fields = fields; count = count; mark = mark; number = number; inside = inside }) o in
+    → let t = past_other (record { fields = fields; count = count; mark = mark; number = number; inside = inside }) o in
     (get_or t.fields 0 d ≡ get_or fields 0 d) × (1 ≤ t.count)
 closed_first false fields count mark number o d le = (refl, le)
 closed_first true fields count mark number o d le = first_of (ltb count 3) fields count (record { mark = mark; number = number }) d le
 
-fed_first : (s : Scan) (o : ℕ) (d : Field) → 1 ≤ s.count → (get_or (fed s o).fields 0 d ≡ get_or s.fields 0 d) × (1 ≤ (fed s o).count)
-fed_first s o d le = either (is_digit o) (record { fields = s.fields; count = s.count; mark = s.mark; number = (s.number * 10 + (o - 48)) % 2 ^ 64; inside = true }) (closed s o)
+fed_first : (s : Scan) (o : ℕ) (d : Field) → 1 ≤ s.count → (get_or (past_octet s o).fields 0 d ≡ get_or s.fields 0 d) × (1 ≤ (past_octet s o).count)
+fed_first s o d le = either (is_digit o) (record { fields = s.fields; count = s.count; mark = s.mark; number = (s.number * 10 + (o - 48)) % 2 ^ 64; inside = true }) (past_other s o)
     (λ t. (get_or t.fields 0 d ≡ get_or s.fields 0 d) × (1 ≤ t.count)) (refl, le) (closed_first s.inside s.fields s.count s.mark s.number o d le)
 
-pub keeps_first : (t : List ℕ) (s : Scan) (d : Field) → 1 ≤ s.count → get_or (closed (scanned s t) 10).fields 0 d ≡ get_or s.fields 0 d
+pub keeps_first : (t : List ℕ) (s : Scan) (d : Field) → 1 ≤ s.count → get_or (past_other (past_octets s t) 10).fields 0 d ≡ get_or s.fields 0 d
 keeps_first [] s d le = (closed_first s.inside s.fields s.count s.mark s.number 10 d le).0
-keeps_first (o ∷ t) s d le = let f = fed_first s o d le in keeps_first t (fed s o) d f.1 ∙ f.0
+keeps_first (o ∷ t) s d le = let f = fed_first s o d le in keeps_first t (past_octet s o) d f.1 ∙ f.0
 
 pub hex_whole : (n : ℕ) → n < 2 ^ 64 → hex_on 0 (hex_digits 16 n) ≡ n
 hex_whole n fits = ap (λ (t : List ℕ). hex_on 0 t) (sym (append-nil (hex_digits 16 n))) ∙ hex_read 16 n (let e : n < 16 ^ 16 = fits in e) fits []

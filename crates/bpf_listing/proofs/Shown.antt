@@ -20,7 +20,7 @@ use Rattle.bpf_listing.specs.declared.scan.Field.{Field}
 use Rattle.bpf_listing.specs.declared.scan.Scan.{Scan}
 use Rattle.bpf_listing.specs.Canonical.{canonical, hex_digits, operation_name, comparison_name, width_name, order_name, size_name, signed_size_name, register, with_sign, operand_text}
 use Rattle.bpf_listing.specs.Mnemonics.{mnemonic_name}
-use Rattle.bpf_listing.specs.Reading.{word_length, hex_on, fields_in, no_field, closed, start, scanned, minus_or, number_field, signed_field, operand_field, Shows}
+use Rattle.bpf_listing.specs.Mirror.Reading.{word_length, hex_on, fields_in, no_field, past_other, start, past_octets, minus_or, number_field, signed_field, operand_field, Shows}
 use Rattle.bpf_listing.proofs.Numbers.{scan_number, scan_last, scan_signed, scan_signed_last, scan_with_sign, scan_with_sign_last, ◌⧺◌, field, numbered, regroup, regroup_load, regroup_store, no_letter, keeps_first, hex_length, hex_whole, last_16, wide_enough}
 use Rattle.bpf_listing.proofs.Words.{Begins, arithmetic_word, jump_word, negate_word, move_word, order_word, load_word, load_extended_word, store_word, store_immediate_word, short_word, long_word, call_word, wide_word, exit_word}
 
@@ -51,74 +51,74 @@ read_by l text same os m f g h is begins e s = read_as l text same os m is begin
 
 -- the scan at the first register's number, and behind that number
 abbrev at_first : Scan
-at_first = scanned start (codes "r")
+at_first = past_octets start (codes "r")
 
 abbrev past_first : ℕ → Scan
-past_first a = scanned (numbered at_first a) (codes ", ")
+past_first a = past_octets (numbered at_first a) (codes ", ")
 
 two_fields : (a : ℕ) (o : Operand) → a ≤ 10 → IsOperand o → fields_in (register a ⧺ codes ", " ⧺ operand_text o) ≡ field 114 a ∷ operand_field o ∷ no_field ∷ []
-two_fields a (Immediate z) la h = ap (λ (s : Scan). (closed s 10).fields)
+two_fields a (Immediate z) la h = ap (λ (s : Scan). (past_other s 10).fields)
     (scan_number at_first refl a (omega arith) (codes ", " ⧺ signed_decimal z) ∙ scan_signed_last (past_first a).fields 1 32 z h)
-two_fields a (Register b) la h = ap (λ (s : Scan). (closed s 10).fields)
-    (scan_number at_first refl a (omega arith) (codes ", " ⧺ register b) ∙ scan_last (scanned (past_first a) (codes "r")) refl b (omega arith))
+two_fields a (Register b) la h = ap (λ (s : Scan). (past_other s 10).fields)
+    (scan_number at_first refl a (omega arith) (codes ", " ⧺ register b) ∙ scan_last (past_octets (past_first a) (codes "r")) refl b (omega arith))
 
 one_field : (a : ℕ) → a ≤ 10 → fields_in (register a) ≡ field 114 a ∷ no_field ∷ no_field ∷ []
-one_field a la = ap (λ (s : Scan). (closed s 10).fields) (scan_last at_first refl a (omega arith))
+one_field a la = ap (λ (s : Scan). (past_other s 10).fields) (scan_last at_first refl a (omega arith))
 
 field_and_number : (a n : ℕ) → a ≤ 10 → n < 2 ^ 64 → fields_in (register a ⧺ codes ", " ⧺ decimal n) ≡ field 114 a ∷ field 32 n ∷ no_field ∷ []
-field_and_number a n la ln = ap (λ (s : Scan). (closed s 10).fields)
+field_and_number a n la ln = ap (λ (s : Scan). (past_other s 10).fields)
     (scan_number at_first refl a (omega arith) (codes ", " ⧺ decimal n) ∙ scan_last (past_first a) refl n ln)
 
 two_registers_number : (a b n : ℕ) → a ≤ 10 → b ≤ 10 → n < 2 ^ 64 → fields_in (register a ⧺ codes ", " ⧺ register b ⧺ codes ", " ⧺ decimal n) ≡ field 114 a ∷ field 114 b ∷ field 32 n ∷ []
-two_registers_number a b n la lb ln = ap (λ (s : Scan). (closed s 10).fields)
+two_registers_number a b n la lb ln = ap (λ (s : Scan). (past_other s 10).fields)
     (scan_number at_first refl a (omega arith) (codes ", " ⧺ register b ⧺ codes ", " ⧺ decimal n)
-    ∙ scan_number (scanned (past_first a) (codes "r")) refl b (omega arith) (codes ", " ⧺ decimal n)
-    ∙ scan_last (scanned (numbered (scanned (past_first a) (codes "r")) b) (codes ", ")) refl n ln)
+    ∙ scan_number (past_octets (past_first a) (codes "r")) refl b (omega arith) (codes ", " ⧺ decimal n)
+    ∙ scan_last (past_octets (numbered (past_octets (past_first a) (codes "r")) b) (codes ", ")) refl n ln)
 
 jump_fields : (a : ℕ) (o : Operand) (z : ℤ) → a ≤ 10 → IsOperand o → FitsSigned w16 z
     → fields_in (register a ⧺ codes ", " ⧺ operand_text o ⧺ codes ", " ⧺ with_sign z) ≡ field 114 a ∷ operand_field o ∷ signed_field z ∷ []
-jump_fields a (Immediate y) z la h hz = ap (λ (s : Scan). (closed s 10).fields)
+jump_fields a (Immediate y) z la h hz = ap (λ (s : Scan). (past_other s 10).fields)
     (scan_number at_first refl a (omega arith) (codes ", " ⧺ signed_decimal y ⧺ codes ", " ⧺ with_sign z)
     ∙ scan_signed (past_first a).fields 1 32 y h (codes ", " ⧺ with_sign z)
-    ∙ scan_with_sign_last (scanned (record { fields = (past_first a).fields; count = 1; mark = minus_or 32 y; number = unsigned_abs y; inside = true }) (codes ", ")) z (wide_enough z hz))
-jump_fields a (Register b) z la h hz = ap (λ (s : Scan). (closed s 10).fields)
+    ∙ scan_with_sign_last (past_octets (record { fields = (past_first a).fields; count = 1; mark = minus_or 32 y; number = unsigned_abs y; inside = true }) (codes ", ")) z (wide_enough z hz))
+jump_fields a (Register b) z la h hz = ap (λ (s : Scan). (past_other s 10).fields)
     (scan_number at_first refl a (omega arith) (codes ", " ⧺ register b ⧺ codes ", " ⧺ with_sign z)
-    ∙ scan_number (scanned (past_first a) (codes "r")) refl b (omega arith) (codes ", " ⧺ with_sign z)
-    ∙ scan_with_sign_last (scanned (numbered (scanned (past_first a) (codes "r")) b) (codes ", ")) z (wide_enough z hz))
+    ∙ scan_number (past_octets (past_first a) (codes "r")) refl b (omega arith) (codes ", " ⧺ with_sign z)
+    ∙ scan_with_sign_last (past_octets (numbered (past_octets (past_first a) (codes "r")) b) (codes ", ")) z (wide_enough z hz))
 
 distance_field : (z : ℤ) → FitsSigned w32 z → fields_in (with_sign z) ≡ signed_field z ∷ no_field ∷ no_field ∷ []
-distance_field z h = ap (λ (s : Scan). (closed s 10).fields) (scan_with_sign_last start z h)
+distance_field z h = ap (λ (s : Scan). (past_other s 10).fields) (scan_with_sign_last start z h)
 
 local_field : (z : ℤ) → FitsSigned w32 z → fields_in (codes "local " ⧺ with_sign z) ≡ signed_field z ∷ no_field ∷ no_field ∷ []
-local_field z h = ap (λ (s : Scan). (closed s 10).fields) (scan_with_sign_last (scanned start (codes "local ")) z h)
+local_field z h = ap (λ (s : Scan). (past_other s 10).fields) (scan_with_sign_last (past_octets start (codes "local ")) z h)
 
 call_field : (z : ℤ) → FitsSigned w32 z → fields_in (signed_decimal z) ≡ number_field z ∷ no_field ∷ no_field ∷ []
-call_field z h = ap (λ (s : Scan). (closed s 10).fields) (scan_signed_last start.fields 0 32 z h)
+call_field z h = ap (λ (s : Scan). (past_other s 10).fields) (scan_signed_last start.fields 0 32 z h)
 
 -- a register, and a place in memory
 load_fields : (a b : ℕ) (z : ℤ) → a ≤ 10 → b ≤ 10 → FitsSigned w16 z
     → fields_in (register a ⧺ codes ", [" ⧺ register b ⧺ with_sign z ⧺ codes "]") ≡ field 114 a ∷ field 114 b ∷ signed_field z ∷ []
-load_fields a b z la lb h = ap (λ (s : Scan). (closed s 10).fields)
+load_fields a b z la lb h = ap (λ (s : Scan). (past_other s 10).fields)
     (scan_number at_first refl a (omega arith) (codes ", [" ⧺ register b ⧺ with_sign z ⧺ codes "]")
-    ∙ scan_number (scanned (past_first a) (codes "[r")) refl b (omega arith) (with_sign z ⧺ codes "]")
-    ∙ scan_with_sign (numbered (scanned (past_first a) (codes "[r")) b) z (wide_enough z h) (codes "]"))
+    ∙ scan_number (past_octets (past_first a) (codes "[r")) refl b (omega arith) (with_sign z ⧺ codes "]")
+    ∙ scan_with_sign (numbered (past_octets (past_first a) (codes "[r")) b) z (wide_enough z h) (codes "]"))
 
 -- the scan behind a place in memory
 past_place : ℕ → ℤ → Scan
-past_place b z = scanned (numbered (closed (numbered (scanned start (codes "[r")) b) (minus_or 43 z)) (unsigned_abs z)) (codes "], ")
+past_place b z = past_octets (numbered (past_other (numbered (past_octets start (codes "[r")) b) (minus_or 43 z)) (unsigned_abs z)) (codes "], ")
 
 -- a place in memory, and an operand
 store_fields : (b : ℕ) (z : ℤ) (o : Operand) → b ≤ 10 → FitsSigned w16 z → IsOperand o
     → fields_in (codes "[" ⧺ register b ⧺ with_sign z ⧺ codes "], " ⧺ operand_text o) ≡ field 114 b ∷ signed_field z ∷ operand_field o ∷ []
 unfolding past_place
-store_fields b z (Immediate y) lb h ho = ap (λ (s : Scan). (closed s 10).fields)
-    (scan_number (scanned start (codes "[r")) refl b (omega arith) (with_sign z ⧺ codes "], " ⧺ signed_decimal y)
-    ∙ scan_with_sign (numbered (scanned start (codes "[r")) b) z (wide_enough z h) (codes "], " ⧺ signed_decimal y)
+store_fields b z (Immediate y) lb h ho = ap (λ (s : Scan). (past_other s 10).fields)
+    (scan_number (past_octets start (codes "[r")) refl b (omega arith) (with_sign z ⧺ codes "], " ⧺ signed_decimal y)
+    ∙ scan_with_sign (numbered (past_octets start (codes "[r")) b) z (wide_enough z h) (codes "], " ⧺ signed_decimal y)
     ∙ scan_signed_last (past_place b z).fields 2 32 y ho)
-store_fields b z (Register a) lb h ho = ap (λ (s : Scan). (closed s 10).fields)
-    (scan_number (scanned start (codes "[r")) refl b (omega arith) (with_sign z ⧺ codes "], " ⧺ register a)
-    ∙ scan_with_sign (numbered (scanned start (codes "[r")) b) z (wide_enough z h) (codes "], " ⧺ register a)
-    ∙ scan_last (scanned (past_place b z) (codes "r")) refl a (omega arith))
+store_fields b z (Register a) lb h ho = ap (λ (s : Scan). (past_other s 10).fields)
+    (scan_number (past_octets start (codes "[r")) refl b (omega arith) (with_sign z ⧺ codes "], " ⧺ register a)
+    ∙ scan_with_sign (numbered (past_octets start (codes "[r")) b) z (wide_enough z h) (codes "], " ⧺ register a)
+    ∙ scan_last (past_octets (past_place b z) (codes "r")) refl a (omega arith))
 
 extension_small : (e : Extension) → extension_bits e < 2 ^ 64
 extension_small extension.From8To32 = omega arith
@@ -134,7 +134,7 @@ wide_read dst value hex le len e =
     let os = (register dst ++ codes ", 0x") ++ hex in
     let first : field_at os 0 ≡ field 114 dst =
     ap (λ (t : List ℕ). slice_index_or (fields_in (codes "r" ++ t)) 0 absent) (append_assoc (decimal dst) (codes ", 0x") hex)
-    ∙ ap (λ (s : Scan). slice_index_or (closed s 10).fields 0 absent) (scan_number at_first refl dst (omega arith) (codes ", 0x" ++ hex))
+    ∙ ap (λ (s : Scan). slice_index_or (past_other s 10).fields 0 absent) (scan_number at_first refl dst (omega arith) (codes ", 0x" ++ hex))
     ∙ keeps_first (codes "0x" ++ hex) (past_first dst) absent (omega arith) in
     read_as (line.LoadWide dst value) (codes "lddw " ++ register dst ++ codes ", 0x" ++ hex) (codes "lddw " ++ os) os word.LoadWide
     (simp append_assoc) (wide_word os) (refl, ap (λ (f : Field). f.number) first, ap (λ (t : List ℕ). hex_on 0 t) (last_16 (register dst ++ codes ", 0x") hex len) ∙ e)

@@ -29,7 +29,7 @@ use Rattle.bpf_listing.specs.declared.mnemonic.Access.TheVariants as access
 use Rattle.bpf_listing.specs.declared.scan.Field.{Field}
 use Rattle.bpf_listing.specs.Canonical.{canonical}
 use Rattle.bpf_listing.specs.Mnemonics.{mnemonic_name}
-use Rattle.bpf_listing.specs.Reading.{word_length, hex_on, number_field, signed_field, operand_field, Shows}
+use Rattle.bpf_listing.specs.Mirror.Reading.{word_length, hex_on, number_field, signed_field, operand_field, Shows}
 use Rattle.bpf_listing.proofs.Shown.{IsRead, text_is_read, field_at}
 
 abbrev operations : List Operation

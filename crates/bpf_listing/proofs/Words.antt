@@ -22,7 +22,7 @@ use Rattle.bpf_listing.specs.declared.mnemonic.Stem.{Stem}
 use Rattle.bpf_listing.specs.declared.mnemonic.Stem.TheVariants as stem
 use Rattle.bpf_listing.specs.Canonical.{operation_name, comparison_name, width_name, order_name, size_name, signed_size_name}
 use Rattle.bpf_listing.specs.Mnemonics.{mnemonic_name}
-use Rattle.bpf_listing.specs.Reading.{word_length, stem_name, classed, IsPlain}
+use Rattle.bpf_listing.specs.Mirror.Reading.{word_length, stem_name, mnemonic_of_stem, IsPlain}
 use Rattle.bpf_listing.proofs.Numbers.{◌⧺◌}
 
 -- the word in front of the first space, and what stands behind it
@@ -134,7 +134,7 @@ apart m s w h e = let f : false ≡ true = sym (plain_ends m h) ∙ ap ends_in_c
 pub record IsClassed (m : Mnemonic) : Type 0 where
   pub stem : Stem
   pub width : Width
-  pub whole : m ≡ classed stem width
+  pub whole : m ≡ mnemonic_of_stem stem width
 
 pub kind_of : (m : Mnemonic) → IsClassed m ⊎ IsPlain m
 kind_of (word.Arithmetic w o) = inl (record { stem = stem.Arithmetic o; width = w; whole = refl })
@@ -149,7 +149,7 @@ kind_of (word.Jump jump.Call) = inr tt
 kind_of (word.Jump jump.Exit) = inr tt
 kind_of (word.Access a) = inr tt
 
-pub classed_name : (s : Stem) (w : Width) → mnemonic_name (classed s w) ≡ stem_name s ++ width_name w
+pub classed_name : (s : Stem) (w : Width) → mnemonic_name (mnemonic_of_stem s w) ≡ stem_name s ++ width_name w
 classed_name (stem.Arithmetic o) w = refl
 classed_name (stem.JumpIf t) w = refl
 classed_name stem.Negate w = refl
@@ -157,7 +157,7 @@ classed_name stem.MoveExtended w = refl
 
 -- a word with a class is that of no other mnemonic
 pub classed_only : (text : List ℕ) (m : Mnemonic) (s : Stem) (w : Width) → text ≡ stem_name s ++ width_name w
-    → ((t : Stem) (v : Width) → text ≡ stem_name t ++ width_name v → classed s w ≡ classed t v) → text ≡ mnemonic_name m → classed s w ≡ m
+    → ((t : Stem) (v : Width) → text ≡ stem_name t ++ width_name v → mnemonic_of_stem s w ≡ mnemonic_of_stem t v) → text ≡ mnemonic_name m → mnemonic_of_stem s w ≡ m
 classed_only text m s w is only e = elim (kind_of m) [
   | inl k ↦ only k.stem k.width (e ∙ ap mnemonic_name k.whole ∙ classed_name k.stem k.width) ∙ sym k.whole
   | inr plain ↦ absurd (apart m s w plain (sym e ∙ is))
@@ -172,9 +172,9 @@ plain_only text m none e = elim (kind_of m) [
 
 -- the mnemonic of a stem and a class, where there are some
 paired : Option (Stem × Width) → Mnemonic
-paired (Some p) = classed p.0 p.1
+paired (Some p) = mnemonic_of_stem p.0 p.1
 paired None = word.LoadWide
 
-pub same_classed : (s t : Stem) (w v : Width) → ◌≡◌ {A = Option (Stem × Width)} (Some (s, w)) (Some (t, v)) → classed s w ≡ classed t v
+pub same_classed : (s t : Stem) (w v : Width) → ◌≡◌ {A = Option (Stem × Width)} (Some (s, w)) (Some (t, v)) → mnemonic_of_stem s w ≡ mnemonic_of_stem t v
 unfolding paired
 same_classed s t w v e = ap paired e

@@ -2,4 +2,4 @@ pub mod Canonical
 pub mod Listing
 pub mod Mnemonics
 pub mod Octets
-pub mod Reading
+pub mod Mirror

@@ -56,7 +56,7 @@ fn write_next<A: Allocator>(
 fn write_lines<A: Allocator>(code: &[u8], out: &mut Vec<u8, A>) -> Result<(), DisassembleFault>
     requires { length code.now % 8 ≡ 0 }
     ensures ok { OnOk result (IsListed code.now out.old.items out.new.items) }
-    ensures front { take (length out.old.items) out.new.items ≡ out.old.items }
+    ensures prefix { take (length out.old.items) out.new.items ≡ out.old.items }
     ensures fault { IfErr result (λ e. (e ≢ DisassembleFault.Ragged) × IsFaultOf code.now e) }
     ensures memory { IsErrOf result DisassembleFault.Memory → (lines : List Line) → IsImageOf code.now lines →
         vec_capacity out.old < length (out.old.items ++ listing lines) }

@@ -1,16 +1,19 @@
 //! Laws of canonical texts and listings.
-ghost use Rattle.std.specs.Prelude.{◌≡◌, IsTrue, ◌==◌, ◌%◌, List, [], ℕ, length};
+ghost use Rattle.std.specs.Prelude.{◌≡◌, ◌⊎◌, IsTrue, ◌==◌, ◌%◌, List, [], ℕ, length};
 ghost use Rattle.std.specs.List.{All, list_all, count_by};
 ghost use Rattle.bpf_types.specs.declared.line.Line.{Line};
 ghost use Rattle.bpf_types.specs.Line.{IsLine};
 ghost use Rattle.bpf_decode.specs.declared.fault.DecodeFault.{DecodeFault};
+ghost use Rattle.bpf_decode.specs.Faults.{AreOctets};
 ghost use Rattle.bpf_listing.specs.Canonical.{canonical};
 ghost use Rattle.bpf_listing.specs.declared.mnemonic.Mnemonic.{Mnemonic};
-ghost use Rattle.bpf_listing.specs.Listing.{IsImageOf, IsListed, HasFaultAt, listing};
+ghost use Rattle.bpf_listing.specs.Listing.{IsImageOf, IsListed, HasFaultAt, HasListing, HasFault, listing};
 ghost use Rattle.bpf_listing.specs.Mnemonics.{mnemonic_name};
 ghost use Rattle.bpf_listing.specs.Octets.{is_text_octet};
 
-use bpf_decode::{faults_are_unique, instructions_are_unique};
+use bpf_decode::{
+    faults_are_unique, instructions_are_unique, octets_have_an_instruction_or_a_fault,
+};
 
 /// A word is the name of one mnemonic at most.
 pub fn mnemonics_are_unique()
@@ -34,6 +37,13 @@ pub fn images_are_unique()
     ensures { (image : List ℕ) (a b : List Line) → IsImageOf image a → IsImageOf image b → a ≡ b }
 {
     instructions_are_unique();
+}
+
+/// Octets have a listing, or a first fault at a slot.
+pub fn images_have_a_listing_or_a_fault()
+    ensures { (image : List ℕ) → AreOctets image → HasListing image ⊎ HasFault image }
+{
+    octets_have_an_instruction_or_a_fault();
 }
 
 /// Octets have one listing at most, and then they are whole slots and have no fault; or they have one first fault at one

@@ -14,8 +14,9 @@ mod writing;
 
 pub use disassembly::{DisassembleFault, disassemble};
 pub use laws::{
-    canonical_texts_are_unique, images_are_unique, listings_and_faults_are_unique,
-    listings_have_a_line_for_each_instruction, mnemonics_are_unique,
+    canonical_texts_are_unique, images_are_unique, images_have_a_listing_or_a_fault,
+    listings_and_faults_are_unique, listings_have_a_line_for_each_instruction,
+    mnemonics_are_unique,
 };
 pub use mnemonic::{Access, Jump, Mnemonic, mnemonic_of};
 pub use reading::read_line;

@@ -5,8 +5,8 @@ ghost use Rattle.bpf_listing.specs.Canonical.{width_name};
 ghost use Rattle.bpf_listing.specs.declared.mnemonic.Mnemonic.{Mnemonic};
 ghost use Rattle.bpf_listing.specs.declared.mnemonic.Stem.{Stem};
 ghost use Rattle.bpf_listing.specs.Mnemonics.{mnemonic_name};
-ghost use Rattle.bpf_listing.specs.Reading.{stem_name, IsPlain};
-ghost use Rattle.bpf_listing.specs.Reading as words;
+ghost use Rattle.bpf_listing.specs.Mirror.Reading.{stem_name, IsPlain};
+ghost use Rattle.bpf_listing.specs.Mirror.Reading as words;
 
 use bpf_types::{Comparison, Operation, Order, SignedSize, Size, Width};
 
@@ -116,8 +116,8 @@ fn classed_of(word: &[u8]) -> Option<(Stem, Width)>
 }
 
 /// The mnemonic of a stem and a class.
-fn classed(stem: Stem, width: Width) -> Mnemonic
-    ensures exact { result ≡ words.classed stem width }
+fn mnemonic_of_stem(stem: Stem, width: Width) -> Mnemonic
+    ensures exact { result ≡ words.mnemonic_of_stem stem width }
     ensures name { mnemonic_name result ≡ stem_name stem ++ width_name width }
 {
     match stem {
@@ -167,7 +167,7 @@ pub fn mnemonic_of(word: &[u8]) -> Option<Mnemonic>
     ensures only { (m : Mnemonic) → word.now ≡ mnemonic_name m → result ≡ Some m }
 {
     match classed_of(word) {
-        Some((stem, width)) => Some(classed(stem, width)),
+        Some((stem, width)) => Some(mnemonic_of_stem(stem, width)),
         None => plain_of(word),
     }
 }

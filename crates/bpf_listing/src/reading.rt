@@ -6,7 +6,7 @@ ghost use Rattle.bpf_types.specs.declared.line.Operand.{Operand};
 ghost use Rattle.bpf_types.specs.Line.{IsLine, IsOperand, IsReg};
 ghost use Rattle.bpf_listing.specs.declared.mnemonic.Mnemonic.TheVariants as word;
 ghost use Rattle.bpf_listing.specs.Canonical.{canonical};
-ghost use Rattle.bpf_listing.specs.Reading.{word_length, number_field, signed_field, operand_field, hex_value, hex_on, Shows};
+ghost use Rattle.bpf_listing.specs.Mirror.Reading.{word_length, number_field, signed_field, operand_field, hex_value, hex_on, Shows};
 
 use crate::mnemonic::{Access, Jump, Mnemonic, mnemonic_of};
 use crate::scan::{Field, fields_of};

@@ -1,6 +1,6 @@
 //! The numbers of an instruction's text.
 ghost use Rattle.std.specs.Prelude.{◌≡◌};
-ghost use Rattle.bpf_listing.specs.Reading.{closed, fed, fields_in};
+ghost use Rattle.bpf_listing.specs.Mirror.Reading.{past_other, past_octet, fields_in};
 
 /// A number, and the octet in front of it.
 #[derive(Clone, Copy)]
@@ -23,7 +23,7 @@ pub struct Scan {
 
 /// An octet that is no digit ends a number.
 fn close(scan: Scan, octet: u8) -> Scan
-    ensures { result ≡ closed scan octet }
+    ensures { result ≡ past_other scan octet }
 {
     let mut next = scan;
     if scan.inside && scan.count < 3 {
@@ -41,7 +41,7 @@ fn close(scan: Scan, octet: u8) -> Scan
 
 /// The scan behind one more octet.
 fn feed(scan: Scan, octet: u8) -> Scan
-    ensures { result ≡ fed scan octet }
+    ensures { result ≡ past_octet scan octet }
 {
     if !octet.is_ascii_digit() {
         return close(scan, octet);

@@ -7,7 +7,7 @@ use Rattle.bpf_types.specs.declared.line.Operand.{Operand}
 use Rattle.bpf_types.specs.declared.line.Operand.TheVariants.{Immediate, Register}
 use Rattle.bpf_types.specs.Line.{IsOperand}
 use Rattle.bpf_text.specs.Fields.{IsRegister, IsInteger, IsImmediate, IsDistance, IsOffset, IsSecond, IsTarget, IsName, as_signed}
-use Rattle.bpf_text.specs.Gives.{Gives, Narrows}
+use Rattle.bpf_text.specs.Mirror.Gives.{Gives, Narrows}
 use Rattle.bpf_text.specs.declared.line.LineFault.{LineFault}
 use Rattle.bpf_text.specs.declared.line.LineFault.TheVariants.{Syntax, Range}
 

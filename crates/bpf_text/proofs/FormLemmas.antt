@@ -5,8 +5,8 @@ use Rattle.std.specs.Int.{w16}
 use Rattle.bpf_types.specs.Line.{IsReg}
 use Rattle.bpf_text.specs.Fields.{IsRegister, IsOffset}
 use Rattle.bpf_text.specs.Judged.{texts}
-use Rattle.bpf_text.specs.Gives.{Gives, both_of}
-use Rattle.bpf_text.specs.Lines.{AreOne, AreTwo, AreThree, AreLoad, AreStore, bracketed}
+use Rattle.bpf_text.specs.Mirror.Gives.{Gives, both_of}
+use Rattle.bpf_text.specs.Lines.{AreOne, AreTwo, AreThree, AreLoad, AreStore, in_brackets}
 use Rattle.bpf_text.specs.declared.line.LineFault.{LineFault}
 use Rattle.bpf_text.specs.declared.line.LineFault.TheVariants.{Syntax, Range}
 use Rattle.bpf_text.proofs.FieldLemmas.{no_closing}
@@ -47,14 +47,14 @@ three_gives {V} {W} {X} {Y} P Q R f Fits Gits Hits tokens a b c r s t e h k l =
     (gives_both (λ (v : V). v) (λ (w : W). w) (P a) Fits (Q b) Gits r s h k) l)
 
 -- brackets hold one register and one offset
-pub one_place : (tokens : List (List ℕ)) (base base' : List ℕ) (offset offset' : Option (List ℕ)) (rest rest' : List (List ℕ)) (z : ℤ) → tokens ≡ bracketed base offset rest → offset ≢ Some (93 ∷ []) → tokens ≡ bracketed base' offset' rest' → IsOffset offset' z
+pub one_place : (tokens : List (List ℕ)) (base base' : List ℕ) (offset offset' : Option (List ℕ)) (rest rest' : List (List ℕ)) (z : ℤ) → tokens ≡ in_brackets base offset rest → offset ≢ Some (93 ∷ []) → tokens ≡ in_brackets base' offset' rest' → IsOffset offset' z
     → (base' ≡ base) × (offset' ≡ offset) × (rest' ≡ rest)
 one_place tokens base base' None None rest rest' z e n e' h = (cc, refl, cc)
 one_place tokens base base' None (Some t) rest rest' z e n e' h = let same : t ≡ 93 ∷ [] = cc in absurd (no_closing t z same h)
 one_place tokens base base' (Some s) None rest rest' z e n e' h = let same : s ≡ 93 ∷ [] = cc in absurd (n (ap (λ (t : List ℕ). Some t) same))
 one_place tokens base base' (Some s) (Some t) rest rest' z e n e' h = let same : t ≡ s = cc in (cc, ap (λ (t : List ℕ). Some t) same, cc)
 
-pub load_gives : (tokens : List (List ℕ)) (a base : List ℕ) (offset : Option (List ℕ)) (r s : Result ℕ LineFault) (t : Result ℤ LineFault) → tokens ≡ a ∷ (44 ∷ []) ∷ bracketed base offset [] → offset ≢ Some (93 ∷ [])
+pub load_gives : (tokens : List (List ℕ)) (a base : List ℕ) (offset : Option (List ℕ)) (r s : Result ℕ LineFault) (t : Result ℤ LineFault) → tokens ≡ a ∷ (44 ∷ []) ∷ in_brackets base offset [] → offset ≢ Some (93 ∷ [])
     → Gives (λ (n : ℕ). n) (IsRegister a) IsReg r → Gives (λ (n : ℕ). n) (IsRegister base) IsReg s → Gives (λ (z : ℤ). z) (IsOffset offset) (FitsSigned w16) t
     → Gives (λ (p : ℕ × (ℕ × ℤ)). p) (AreLoad tokens) (λ (w : ℕ × (ℕ × ℤ)). IsReg w.0 × (IsReg w.1.0 × FitsSigned w16 w.1.1)) (both_of r (both_of s t))
 load_gives tokens a base offset r s t e n h k l =
@@ -63,14 +63,14 @@ load_gives tokens a base offset r s t e n h k l =
     (λ w m.
     let e' = m.3 in
     let p : m.0 ≡ a = cc in
-    let same : bracketed m.1 m.2 [] ≡ bracketed base offset [] = cc in
-    let q = one_place (bracketed m.1 m.2 []) base m.1 offset m.2 [] [] w.1.1 same n refl m.6 in
+    let same : in_brackets m.1 m.2 [] ≡ in_brackets base offset [] = cc in
+    let q = one_place (in_brackets m.1 m.2 []) base m.1 offset m.2 [] [] w.1.1 same n refl m.6 in
     (subst (λ t. IsRegister t w.0) p m.4, (subst (λ t. IsRegister t w.1.0) q.0 m.5, subst (λ t. IsOffset t w.1.1) q.1 m.6)))
     (gives_both (λ (n : ℕ). n) (λ (p : ℕ × ℤ). p) (IsRegister a) IsReg (λ (w : ℕ × ℤ). IsRegister base w.0 × IsOffset offset w.1) (λ (w : ℕ × ℤ). IsReg w.0 × FitsSigned w16 w.1) r (both_of s t) h
     (gives_both (λ (n : ℕ). n) (λ (z : ℤ). z) (IsRegister base) IsReg (IsOffset offset) (FitsSigned w16) s t k l))
 
 pub store_gives : {V : Type 0} (P : List ℕ → V → Type 0) (Fits : V → Type 0) (tokens : List (List ℕ)) (base c : List ℕ) (offset : Option (List ℕ)) (r : Result ℕ LineFault) (s : Result ℤ LineFault) (t : Result V LineFault)
-    → tokens ≡ bracketed base offset ((44 ∷ []) ∷ c ∷ []) → offset ≢ Some (93 ∷ [])
+    → tokens ≡ in_brackets base offset ((44 ∷ []) ∷ c ∷ []) → offset ≢ Some (93 ∷ [])
     → Gives (λ (n : ℕ). n) (IsRegister base) IsReg r → Gives (λ (z : ℤ). z) (IsOffset offset) (FitsSigned w16) s → Gives (λ (v : V). v) (P c) Fits t
     → Gives (λ (p : (ℕ × ℤ) × V). p) (AreStore P tokens) (λ (w : (ℕ × ℤ) × V). (IsReg w.0.0 × FitsSigned w16 w.0.1) × Fits w.1) (both_of (both_of r s) t)
 store_gives {V} P Fits tokens base c offset r s t e n h k l =
@@ -85,19 +85,19 @@ store_gives {V} P Fits tokens base c offset r s t e n h k l =
     (gives_both (λ (n : ℕ). n) (λ (z : ℤ). z) (IsRegister base) IsReg (IsOffset offset) (FitsSigned w16) r s h k) l)
 
 -- without brackets there is no such place
-pub no_load : (tokens : List (List ℕ)) (a : List ℕ) (after : List (List ℕ)) → tokens ≡ a ∷ (44 ∷ []) ∷ after → ((base : List ℕ) → (offset : Option (List ℕ)) → (rest : List (List ℕ)) → after ≢ bracketed base offset rest) → (w : ℕ × (ℕ × ℤ)) → ¬ AreLoad tokens w
-no_load tokens a after e none w m = let e' = m.3 in let same : after ≡ bracketed m.1 m.2 [] = cc in none m.1 m.2 [] same
+pub no_load : (tokens : List (List ℕ)) (a : List ℕ) (after : List (List ℕ)) → tokens ≡ a ∷ (44 ∷ []) ∷ after → ((base : List ℕ) → (offset : Option (List ℕ)) → (rest : List (List ℕ)) → after ≢ in_brackets base offset rest) → (w : ℕ × (ℕ × ℤ)) → ¬ AreLoad tokens w
+no_load tokens a after e none w m = let e' = m.3 in let same : after ≡ in_brackets m.1 m.2 [] = cc in none m.1 m.2 [] same
 
-pub load_past : (tokens : List (List ℕ)) (a base : List ℕ) (offset : Option (List ℕ)) (after rest : List (List ℕ)) → tokens ≡ a ∷ (44 ∷ []) ∷ after → after ≡ bracketed base offset rest → offset ≢ Some (93 ∷ []) → (rest ≡ [] → ⊥)
+pub load_past : (tokens : List (List ℕ)) (a base : List ℕ) (offset : Option (List ℕ)) (after rest : List (List ℕ)) → tokens ≡ a ∷ (44 ∷ []) ∷ after → after ≡ in_brackets base offset rest → offset ≢ Some (93 ∷ []) → (rest ≡ [] → ⊥)
     → (w : ℕ × (ℕ × ℤ)) → ¬ AreLoad tokens w
 load_past tokens a base offset after rest e f n some w m =
     let e' = m.3 in
-    let same : after ≡ bracketed m.1 m.2 [] = cc in
+    let same : after ≡ in_brackets m.1 m.2 [] = cc in
     let q = one_place after base m.1 offset m.2 rest [] w.1.1 f n same m.6 in
     some (sym q.2)
 
-pub load_tokens : (tokens after : List (List ℕ)) (rest : List (Bor (List ℕ))) (a base : List ℕ) (offset : Option (List ℕ)) (b : Bool) → tokens ≡ a ∷ (44 ∷ []) ∷ after → after ≡ bracketed base offset (texts rest) → b ≡ eqb (length rest) 0 → b ≡ true
-    → tokens ≡ a ∷ (44 ∷ []) ∷ bracketed base offset []
+pub load_tokens : (tokens after : List (List ℕ)) (rest : List (Bor (List ℕ))) (a base : List ℕ) (offset : Option (List ℕ)) (b : Bool) → tokens ≡ a ∷ (44 ∷ []) ∷ after → after ≡ in_brackets base offset (texts rest) → b ≡ eqb (length rest) 0 → b ≡ true
+    → tokens ≡ a ∷ (44 ∷ []) ∷ in_brackets base offset []
 load_tokens tokens after [] a base offset b e f is t = e ∙ ap (λ (r : List (List ℕ)). a ∷ (44 ∷ []) ∷ r) f
 load_tokens tokens after (x ∷ rest) a base offset b e f is t = let none : length (x ∷ rest) ≡ 0 = eqb-true _ _ (sym is ∙ t) in absurd (omega arith)
 

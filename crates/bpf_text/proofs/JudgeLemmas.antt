@@ -23,7 +23,7 @@ use Rattle.bpf_listing.specs.declared.mnemonic.Access.TheVariants as access
 use Rattle.bpf_listing.specs.Mnemonics.{mnemonic_name}
 use Rattle.bpf_text.specs.Number.{IsNumeral}
 use Rattle.bpf_text.specs.Fields.{IsRegister, IsImmediate, IsSecond, IsTarget}
-use Rattle.bpf_text.specs.Gives.{Gives}
+use Rattle.bpf_text.specs.Mirror.Gives.{Gives}
 use Rattle.bpf_text.specs.Lines.{IsOperands, mnemonic_of, AreOne, AreTwo, AreThree, AreLoad, AreStore}
 use Rattle.bpf_text.specs.Judged.{Judges, JudgesForm}
 use Rattle.bpf_text.specs.declared.line.Source.{Source}

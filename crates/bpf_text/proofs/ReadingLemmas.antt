@@ -4,7 +4,7 @@ use Rattle.bpf_text.specs.Tokens.{HasTokens, is_word, is_sign}
 use Rattle.bpf_text.specs.Number.{IsNumeral}
 use Rattle.bpf_text.specs.Fields.{IsName, IsDistance, IsRegister, IsImmediate, IsSecond, IsTarget}
 use Rattle.bpf_text.proofs.FieldLemmas.{letter_no_numeral}
-use Rattle.bpf_text.specs.Lines.{IsOperands, AreOne, AreTwo, AreThree, AreLoad, AreStore, bracketed, IsForm, IsBody, HasLabel, Statement}
+use Rattle.bpf_text.specs.Lines.{IsOperands, AreOne, AreTwo, AreThree, AreLoad, AreStore, in_brackets, IsForm, IsBody, HasLabel, Statement}
 use Rattle.bpf_text.specs.Judged.{texts, JudgesForm, JudgesBody, JudgesTokens, JudgesLine}
 use Rattle.bpf_types.specs.declared.line.Line.{Line}
 use Rattle.bpf_types.specs.declared.line.Line.TheVariants as line
@@ -59,7 +59,7 @@ no_three Q R tokens rest v e m = let f = m.3 in let same : m.0 ≡ 58 ∷ [] = c
 no_load : (tokens rest : List (List ℕ)) (v : ℕ × (ℕ × ℤ)) → tokens ≡ (58 ∷ []) ∷ rest → AreLoad tokens v → ⊥
 no_load tokens rest v e m = let f = m.3 in let same : m.0 ≡ 58 ∷ [] = cc in no_register v.0 (subst (λ (t : List ℕ). IsRegister t v.0) same m.4)
 
-no_bracket : (base : List ℕ) (offset : Option (List ℕ)) (after rest : List (List ℕ)) → bracketed base offset after ≡ (58 ∷ []) ∷ rest → ⊥
+no_bracket : (base : List ℕ) (offset : Option (List ℕ)) (after rest : List (List ℕ)) → in_brackets base offset after ≡ (58 ∷ []) ∷ rest → ⊥
 no_bracket base None after rest e = absurd (omega (arith, ap (λ (u : List (List ℕ)). get_or (get_or u 0 []) 0 0) e))
 no_bracket base (Some offset) after rest e = absurd (omega (arith, ap (λ (u : List (List ℕ)). get_or (get_or u 0 []) 0 0) e))
 

@@ -3,7 +3,7 @@ use Rattle.std.proofs.lemmas.Grind.{common_steps}
 use Rattle.std.proofs.lemmas.Bool.Decides.{nat_tests}
 use Rattle.std.proofs.Common.{inl, inr, ◌-◌, length-drop, ◌≡◌, ◌<◌, ◌≤◌, ◌++◌, ℕ, zero, suc, List, [], ◌∷◌, length, take, drop, get_or, MatchBool, Bool, true, false, refl, sym, ap, ◌∙◌, subst, arith}
 use Rattle.bpf_text.specs.Tokens.{is_word, is_mark, is_sign, is_blank, AllWord, NoWord, Stands, Leads, Ends, HasTokens}
-use Rattle.bpf_text.specs.Scans.{AfterBlanks}
+use Rattle.bpf_text.specs.Mirror.Scans.{AfterBlanks}
 
 -- a front of octets of a word
 pub run_front : (text : List ℕ) (i : ℕ) → i ≤ length text → ((k : ℕ) → k < i → is_word (get_or text k 0) ≡ true) → AllWord (take i text)

@@ -1,7 +1,7 @@
 -- The operands of an instruction are read in one way.
 use Rattle.std.proofs.Common.{◌≡◌, ◌≢◌, ℕ, ℤ, List, [], ◌∷◌, Option, Some, None, refl, subst}
 use Rattle.bpf_text.specs.Fields.{IsRegister, IsOffset}
-use Rattle.bpf_text.specs.Lines.{AreOne, AreTwo, AreThree, AreLoad, AreStore, bracketed}
+use Rattle.bpf_text.specs.Lines.{AreOne, AreTwo, AreThree, AreLoad, AreStore, in_brackets}
 use Rattle.bpf_text.proofs.FieldLemmas.{no_closing}
 use Rattle.bpf_text.proofs.FormLemmas.{one_place}
 use Rattle.bpf_text.proofs.UniqueFields.{one_register, one_offset}
@@ -41,8 +41,8 @@ no_bracket (Some t) z h e = let same : t ≡ 93 ∷ [] = cc in no_closing t z sa
 pub one_load : (tokens : List (List ℕ)) (v w : ℕ × (ℕ × ℤ)) → AreLoad tokens v → AreLoad tokens w → v ≡ w
 one_load tokens v w (a, base, offset, e, p, q, r) (a', base', offset', e', p', q', r') =
     let same : a' ≡ a = cc in
-    let like : bracketed base' offset' [] ≡ bracketed base offset [] = cc in
-    let o = one_place (bracketed base' offset' []) base base' offset offset' [] [] w.1.1 like (no_bracket offset v.1.1 r) refl r' in
+    let like : in_brackets base' offset' [] ≡ in_brackets base offset [] = cc in
+    let o = one_place (in_brackets base' offset' []) base base' offset offset' [] [] w.1.1 like (no_bracket offset v.1.1 r) refl r' in
     let x = one_register a v.0 w.0 p (subst (λ t. IsRegister t w.0) same p') in
     let y = one_register base v.1.0 w.1.0 q (subst (λ t. IsRegister t w.1.0) o.0 q') in
     let z = one_offset offset v.1.1 w.1.1 r (subst (λ t. IsOffset t w.1.1) o.1 r') in

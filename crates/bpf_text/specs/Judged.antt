@@ -37,12 +37,12 @@ abbrev pub statement_of : Option Source → Option Statement
 statement_of None = None
 statement_of (Some s) = Some (record { line = s.line; name = text_of s.name; odd = None })
 
-abbrev pub written : Parsed → Written
-written p = record { label = text_of p.label; body = statement_of p.body }
+abbrev pub written_line : Parsed → Written
+written_line p = record { label = text_of p.label; body = statement_of p.body }
 
 -- of a whole line
 abbrev pub JudgesLine : List ℕ → Result Parsed LineFault → Type 0
-JudgesLine text (Ok p) = Writes text (written p) × InRange (written p).body
+JudgesLine text (Ok p) = Writes text (written_line p) × InRange (written_line p).body
 JudgesLine text (Err Syntax) = (w : Written) → ¬ Writes text w
 JudgesLine text (Err Range) = (w : Written) × Writes text w × ¬ InRange w.body
 
@@ -53,6 +53,6 @@ JudgesBody tokens (Err Syntax) = (s : Option Statement) → ¬ IsBody s tokens
 JudgesBody tokens (Err Range) = (s : Option Statement) × IsBody s tokens × ¬ InRange s
 
 abbrev pub JudgesTokens : List (List ℕ) → Result Parsed LineFault → Type 0
-JudgesTokens tokens (Ok p) = HasLabel (written p).label (written p).body tokens × InRange (written p).body
+JudgesTokens tokens (Ok p) = HasLabel (written_line p).label (written_line p).body tokens × InRange (written_line p).body
 JudgesTokens tokens (Err Syntax) = (label : Option (List ℕ)) → (body : Option Statement) → ¬ HasLabel label body tokens
 JudgesTokens tokens (Err Range) = (label : Option (List ℕ)) × (body : Option Statement) × HasLabel label body tokens × ¬ InRange body

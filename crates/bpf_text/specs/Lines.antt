@@ -45,17 +45,17 @@ abbrev pub AreThree : {V : Type 0} → {W : Type 0} → {X : Type 0} → (List �
 AreThree P Q R tokens v = (a : List ℕ) × (b : List ℕ) × (c : List ℕ) × (tokens ≡ a ∷ codes "," ∷ b ∷ codes "," ∷ c ∷ []) × P a v.0.0 × Q b v.0.1 × R c v.1
 
 -- a register and an offset in brackets, in front of the rest
-abbrev pub bracketed : List ℕ → Option (List ℕ) → List (List ℕ) → List (List ℕ)
-bracketed base None rest = codes "[" ∷ base ∷ codes "]" ∷ rest
-bracketed base (Some offset) rest = codes "[" ∷ base ∷ offset ∷ codes "]" ∷ rest
+abbrev pub in_brackets : List ℕ → Option (List ℕ) → List (List ℕ) → List (List ℕ)
+in_brackets base None rest = codes "[" ∷ base ∷ codes "]" ∷ rest
+in_brackets base (Some offset) rest = codes "[" ∷ base ∷ offset ∷ codes "]" ∷ rest
 
 -- a register, a comma and a place in memory
 abbrev pub AreLoad : List (List ℕ) → ℕ × (ℕ × ℤ) → Type 0
-AreLoad tokens v = (a : List ℕ) × (base : List ℕ) × (offset : Option (List ℕ)) × (tokens ≡ a ∷ codes "," ∷ bracketed base offset []) × IsRegister a v.0 × IsRegister base v.1.0 × IsOffset offset v.1.1
+AreLoad tokens v = (a : List ℕ) × (base : List ℕ) × (offset : Option (List ℕ)) × (tokens ≡ a ∷ codes "," ∷ in_brackets base offset []) × IsRegister a v.0 × IsRegister base v.1.0 × IsOffset offset v.1.1
 
 -- a place in memory, a comma and what is stored there
 abbrev pub AreStore : {V : Type 0} → (List ℕ → V → Type 0) → List (List ℕ) → (ℕ × ℤ) × V → Type 0
-AreStore P tokens v = (base : List ℕ) × (offset : Option (List ℕ)) × (c : List ℕ) × (tokens ≡ bracketed base offset (codes "," ∷ c ∷ [])) × IsRegister base v.0.0 × IsOffset offset v.0.1 × P c v.1
+AreStore P tokens v = (base : List ℕ) × (offset : Option (List ℕ)) × (c : List ℕ) × (tokens ≡ in_brackets base offset (codes "," ∷ c ∷ [])) × IsRegister base v.0.0 × IsOffset offset v.0.1 × P c v.1
 
 -- a number stands in place of a width, and no extension of the class has it
 abbrev pub IsExtended : Extension → Option ℕ → ℕ → Type 0

@@ -6,7 +6,7 @@ ghost use Rattle.bpf_types.specs.Line.{IsReg, IsOperand};
 ghost use Rattle.bpf_text.specs.Number.{IsNumeral};
 ghost use Rattle.bpf_text.specs.Tokens.{AllWord};
 ghost use Rattle.bpf_text.specs.Fields.{IsRegister, IsImmediate, IsSecond, IsDistance, IsOffset, IsFirst, IsName, IsTarget, as_signed};
-ghost use Rattle.bpf_text.specs.Gives.{Gives, Narrows};
+ghost use Rattle.bpf_text.specs.Mirror.Gives.{Gives, Narrows};
 ghost use Rattle.bpf_text.specs.Judged.{text_of, target_of};
 
 use crate::line::LineFault;

@@ -5,8 +5,8 @@ ghost use Rattle.std.specs.Int.{w16, w32};
 ghost use Rattle.bpf_types.specs.Line.{IsReg, IsOperand};
 ghost use Rattle.bpf_text.specs.Number.{IsNumeral};
 ghost use Rattle.bpf_text.specs.Fields.{IsRegister, IsImmediate, IsSecond, IsTarget};
-ghost use Rattle.bpf_text.specs.Gives.{Gives, both_of};
-ghost use Rattle.bpf_text.specs.Lines.{AreOne, AreTwo, AreThree, AreLoad, AreStore, bracketed};
+ghost use Rattle.bpf_text.specs.Mirror.Gives.{Gives, both_of};
+ghost use Rattle.bpf_text.specs.Lines.{AreOne, AreTwo, AreThree, AreLoad, AreStore, in_brackets};
 ghost use Rattle.bpf_text.specs.Judged.{texts, text_of, target_of};
 
 use crate::fields::{immediate, long_target, offset, register, second, short_target, wide};
@@ -112,8 +112,8 @@ fn closed_after<'b, 'a>(tokens: &'b [&'a [u8]]) -> Option<(&'a [u8], &'b [&'a [u
 
 /// The register and the offset in brackets, and the tokens behind them.
 fn place<'b, 'a>(tokens: &'b [&'a [u8]]) -> Option<((&'a [u8], Option<&'a [u8]>), &'b [&'a [u8]])>
-    ensures some { IfSome result (λ p. (texts tokens.now ≡ bracketed p.0.0.now (text_of p.0.1) (texts p.1.now)) × (text_of p.0.1 ≢ Some (codes "]"))) }
-    ensures none { IfNone result ((base : List ℕ) (offset : Option (List ℕ)) (rest : List (List ℕ)) → texts tokens.now ≢ bracketed base offset rest) }
+    ensures some { IfSome result (λ p. (texts tokens.now ≡ in_brackets p.0.0.now (text_of p.0.1) (texts p.1.now)) × (text_of p.0.1 ≢ Some (codes "]"))) }
+    ensures none { IfNone result ((base : List ℕ) (offset : Option (List ℕ)) (rest : List (List ℕ)) → texts tokens.now ≢ in_brackets base offset rest) }
 {
     let Some((base, after)) = opened(tokens) else {
         return None;
@@ -190,8 +190,8 @@ pub fn load_operands(operands: &[&[u8]]) -> Result<(Reg, (Reg, i16)), LineFault>
 
 /// A place in memory, and the token behind the comma after it.
 fn stored<'a>(operands: &[&'a [u8]]) -> Option<((&'a [u8], Option<&'a [u8]>), &'a [u8])>
-    ensures some { IfSome result (λ p. (texts operands.now ≡ bracketed p.0.0.now (text_of p.0.1) (codes "," ∷ p.1.now ∷ [])) × (text_of p.0.1 ≢ Some (codes "]"))) }
-    ensures none { IfNone result ((base : List ℕ) (offset : Option (List ℕ)) (c : List ℕ) → offset ≢ Some (codes "]") → texts operands.now ≢ bracketed base offset (codes "," ∷ c ∷ [])) }
+    ensures some { IfSome result (λ p. (texts operands.now ≡ in_brackets p.0.0.now (text_of p.0.1) (codes "," ∷ p.1.now ∷ [])) × (text_of p.0.1 ≢ Some (codes "]"))) }
+    ensures none { IfNone result ((base : List ℕ) (offset : Option (List ℕ)) (c : List ℕ) → offset ≢ Some (codes "]") → texts operands.now ≢ in_brackets base offset (codes "," ∷ c ∷ [])) }
 {
     let Some((place, rest)) = place(operands) else {
         return None;

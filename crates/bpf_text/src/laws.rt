@@ -6,7 +6,7 @@ ghost use Rattle.bpf_types.specs.Line.{IsLine};
 ghost use Rattle.bpf_listing.specs.Canonical.{canonical};
 ghost use Rattle.bpf_text.specs.Lines.{Written, Writes, InRange};
 ghost use Rattle.bpf_text.specs.Listings.{alone};
-ghost use Rattle.bpf_text.specs.Judged.{JudgesLine, written};
+ghost use Rattle.bpf_text.specs.Judged.{JudgesLine, written_line};
 ghost use Rattle.bpf_text.specs.declared.line.Parsed.{Parsed};
 ghost use Rattle.bpf_text.specs.declared.line.LineFault.{LineFault};
 
@@ -23,7 +23,7 @@ pub fn readings_are_unique()
 /// answers that instruction.
 pub fn canonical_texts_are_read_back()
     ensures writes { (line : Line) → IsLine line → Writes (canonical line) (alone line) }
-    ensures reads { (line : Line) (result : Result Parsed LineFault) → IsLine line → JudgesLine (canonical line) result → MatchResult result (λ p. written p ≡ alone line) (λ fault. ⊥) }
+    ensures reads { (line : Line) (result : Result Parsed LineFault) → IsLine line → JudgesLine (canonical line) result → MatchResult result (λ p. written_line p ≡ alone line) (λ fault. ⊥) }
 {
     readings_are_unique();
 }

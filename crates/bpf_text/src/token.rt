@@ -2,7 +2,7 @@
 
 ghost use Rattle.std.specs.Prelude.{◌≡◌, ◌<◌, ◌≤◌, length, take, drop};
 ghost use Rattle.bpf_text.specs.Tokens.{is_word, is_sign, is_blank, AllWord, NoWord};
-ghost use Rattle.bpf_text.specs.Scans.{Scans, AfterBlanks, NoBlank};
+ghost use Rattle.bpf_text.specs.Mirror.Scans.{Scans, AfterBlanks, NoBlank};
 
 /// What a line begins with.
 #[derive(Clone, Copy)]
@@ -48,7 +48,7 @@ pub fn run_len(text: &[u8]) -> usize
 }
 
 /// The line without the spaces and tabs at its front.
-fn trimmed(line: &[u8]) -> &[u8]
+fn without_blanks(line: &[u8]) -> &[u8]
     ensures same { AfterBlanks line.now result.now }
 {
     for (i, octet) in line.iter().enumerate() {
@@ -90,5 +90,5 @@ fn token_at(line: &[u8]) -> Scan<'_>
 pub fn next_token(line: &[u8]) -> Scan<'_>
     ensures { Scans line.now result }
 {
-    token_at(trimmed(line))
+    token_at(without_blanks(line))
 }

@@ -8,7 +8,7 @@ use Rattle.bpf_decode.specs.Decoding.{BeginsWith}
 use Rattle.bpf_listing.specs.Listing.{image_of}
 use Rattle.ocp_loader.specs.Image.{line_in, second_of, by_slot, is_last}
 use Rattle.ocp_loader.specs.LoadResult.{load_result}
-use Rattle.ocp_loader.specs.Reading.{IsPlain, IsRead}
+use Rattle.ocp_loader.specs.Mirror.Reading.{IsPlain, IsRead}
 use Rattle.ocp_loader.specs.Admitted.{IsAdmitted}
 use Rattle.ocp_loader.proofs.Octets.{append_nil, image_of-append, spelled, drop_front, drop_more, drop_all}
 use Rattle.ocp_loader.proofs.Sound.{IsSound, admitted_of}

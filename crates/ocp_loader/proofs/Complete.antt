@@ -6,14 +6,16 @@ use Rattle.std.proofs.lemmas.Bool.Decides.{nat_tests}
 use Rattle.std.proofs.lemmas.List.Elements.{All-head, All-tail}
 use Rattle.bpf_types.specs.declared.line.Line.{Line}
 use Rattle.bpf_types.specs.Line.{is_wide, spelling, WritesFramePointer}
-use Rattle.bpf_decode.specs.Decoding.{BeginsWith, decoded}
+use Rattle.bpf_decode.specs.Decoding.{BeginsWith}
+use Rattle.bpf_decode.specs.Mirror.Decoding.{decode_result}
 use Rattle.ocp_loader.specs.declared.fault.LoadFault.{LoadFault}
 use Rattle.ocp_loader.specs.declared.fault.LoadFault.TheVariants.{EmptyCode, RaggedCode, TooLong, BadCall, FallsOffEnd, Memory}
 use Rattle.bpf_listing.specs.Listing.{image_of}
 use Rattle.ocp_loader.specs.Image.{line_in, second_of, slots_of, by_slot, target_of, calls_well}
-use Rattle.ocp_loader.specs.Reading.{line_read, line_added, slot_read, slots_read}
-use Rattle.ocp_loader.specs.LoadResult.{load_result, lines_result, unless, lines_fault, end_fault, first_bad_target, has_valid_target, is_target}
-use Rattle.ocp_loader.specs.Reading.{IsPlain}
+use Rattle.ocp_loader.specs.Mirror.Reading.{line_read, line_added, slot_read, slots_read}
+use Rattle.ocp_loader.specs.LoadResult.{load_result}
+use Rattle.ocp_loader.specs.Mirror.Checks.{lines_result, unless, lines_fault, end_fault, first_bad_target, has_valid_target, is_target}
+use Rattle.ocp_loader.specs.Mirror.Reading.{IsPlain}
 use Rattle.ocp_loader.specs.Admitted.{IsAdmittedAs, IsAdmitted}
 use Rattle.ocp_loader.proofs.Octets.{append_nil, image_of-append, drop_front, length_image}
 use Rattle.ocp_loader.proofs.Sound.{IsSound, sound_of}
@@ -23,20 +25,20 @@ use Rattle.ocp_loader.proofs.Admit.{narrow}
 
 -- what the law of bpf_decode says of octets
 abbrev pub AreDecoded : Type 0
-AreDecoded = (octets : List ℕ) (l : Line) → BeginsWith octets l → ¬ WritesFramePointer l → decoded octets ≡ Ok l
+AreDecoded = (octets : List ℕ) (l : Line) → BeginsWith octets l → ¬ WritesFramePointer l → decode_result octets ≡ Ok l
 
 -- what the law says of images that may be run
 abbrev pub AreJudged : Type 0
 AreJudged = (image : List ℕ) (lines : List Line) → IsAdmittedAs image lines → load_result image ≡ Ok (by_slot lines)
 
 line_step : (image : List ℕ) (n : ℕ) (lines : List (Option Line)) (l : Line) (b : Bool) → is_wide l ≡ b → slots_read image n ≡ Ok (record { lines = lines; second = false }) →
-    decoded (drop (8 * n) image) ≡ Ok l → calls_well l ≡ true → slots_read image (suc n) ≡ Ok (record { lines = lines ++ Some l ∷ []; second = b })
+    decode_result (drop (8 * n) image) ≡ Ok l → calls_well l ≡ true → slots_read image (suc n) ≡ Ok (record { lines = lines ++ Some l ∷ []; second = b })
 line_step image n lines l b w so_far d c =
     ap (slot_read image n) so_far ∙ ap (λ x. line_added lines (line_read n x)) d
     ∙ ap (λ x. line_added lines (if x then Ok l else Err (BadCall n))) c ∙ ap (λ x. Ok (record { lines = lines ++ Some l ∷ []; second = x })) w
 
 slots_step : (image : List ℕ) (n : ℕ) (lines : List (Option Line)) (l : Line) (b : Bool) → is_wide l ≡ b → slots_read image n ≡ Ok (record { lines = lines; second = false }) →
-    decoded (drop (8 * n) image) ≡ Ok l → calls_well l ≡ true → slots_read image (n + length (Some l ∷ second_of b)) ≡ Ok (record { lines = lines ++ Some l ∷ second_of b; second = false })
+    decode_result (drop (8 * n) image) ≡ Ok l → calls_well l ≡ true → slots_read image (n + length (Some l ∷ second_of b)) ≡ Ok (record { lines = lines ++ Some l ∷ second_of b; second = false })
 slots_step image n lines l false w so_far d c = let e : n + 1 ≡ suc n = omega arith in rw e (line_step image n lines l false w so_far d c)
 slots_step image n lines l true w so_far d c =
     let e : n + 2 ≡ suc (suc n) = omega arith in
@@ -53,7 +55,7 @@ reads decodes image before (l ∷ after) e plain so_far =
     let again : (before ++ l ∷ []) ++ after ≡ before ++ l ∷ after = append_assoc before (l ∷ []) after in
     let parts : image ≡ image_of before ++ (spelling l ++ image_of after) = e ∙ image_of-append before (l ∷ after) in
     let here : drop (8 * n) image ≡ spelling l ++ image_of after = ap (λ k. drop k image) (sym (length_image before)) ∙ ap (λ xs. drop (length (image_of before)) xs) parts ∙ drop_front (image_of before) (spelling l ++ image_of after) in
-    let read : decoded (drop (8 * n) image) ≡ Ok l = decodes (drop (8 * n) image) l (p.0, image_of after, here) p.1 in
+    let read : decode_result (drop (8 * n) image) ≡ Ok l = decodes (drop (8 * n) image) l (p.0, image_of after, here) p.1 in
     let next = slots_step image n (by_slot before) l (is_wide l) refl so_far read p.2 in
     let slots : by_slot (before ++ l ∷ []) ≡ by_slot before ++ slots_of l = by_slot-append before (l ∷ []) ∙ ap (λ xs. by_slot before ++ xs) (append_nil (slots_of l)) in
     let count : length (by_slot (before ++ l ∷ [])) ≡ n + length (slots_of l) = ap length slots ∙ length-append (by_slot before) (slots_of l) in

@@ -4,13 +4,13 @@ use Rattle.std.specs.Prelude.{if◌then◌else◌}
 use Rattle.std.proofs.lemmas.Option.{same_Some}
 use Rattle.bpf_types.specs.declared.line.Line.{Line}
 use Rattle.bpf_types.specs.Line.{is_wide, slots_if}
-use Rattle.bpf_decode.specs.Decoding.{decoded}
+use Rattle.bpf_decode.specs.Mirror.Decoding.{decode_result}
 use Rattle.bpf_decode.specs.declared.fault.DecodeFault.{DecodeFault}
 use Rattle.ocp_loader.specs.declared.fault.LoadFault.TheVariants.{BadCall}
 use Rattle.ocp_loader.specs.declared.fault.LoadFault.{LoadFault}
 use Rattle.ocp_loader.specs.Image.{line_in, second_of, slots_of, by_slot, calls_well}
-use Rattle.ocp_loader.specs.Reading.{Reading, line_read, line_added, slot_read, slots_read}
-use Rattle.ocp_loader.specs.LoadResult.{first_bad_target, or_at, has_valid_target}
+use Rattle.ocp_loader.specs.Mirror.Reading.{Reading, line_read, line_added, slot_read, slots_read}
+use Rattle.ocp_loader.specs.Mirror.Checks.{first_bad_target, or_at, has_valid_target}
 
 -- what lies behind a line
 pub record Next (lines : List (Option Line)) (p : ℕ) (b : Bool) : Type 0 where
@@ -83,7 +83,7 @@ laid_added n lines (Err fault) h laid = tt
 laid_step : (image : List ℕ) (n : ℕ) (lines : List (Option Line)) (second : Bool) → length lines ≡ n → IsLaid lines second →
     IfOk (slot_read image n (Ok (record { lines = lines; second = second }))) (IsLaidOut (suc n))
 laid_step image n lines true h laid = (count lines None n h, laid_second lines laid)
-laid_step image n lines false h laid = laid_added n lines (line_read n (decoded (drop (8 * n) image))) h laid
+laid_step image n lines false h laid = laid_added n lines (line_read n (decode_result (drop (8 * n) image))) h laid
 
 laid_next : (image : List ℕ) (n : ℕ) (q : Result Reading LoadFault) → IfOk q (IsLaidOut n) → IfOk (slot_read image n q) (IsLaidOut (suc n))
 laid_next image n (Ok r) h = laid_step image n r.lines r.second h.0 h.1
@@ -147,7 +147,7 @@ called_added lines slot (Err f) a = tt
 
 called_step : (image : List ℕ) (n : ℕ) (lines : List (Option Line)) (second : Bool) → AllCalled lines → IfOk (slot_read image n (Ok (record { lines = lines; second = second }))) (λ r. AllCalled r.lines)
 called_step image n lines true a = called_none lines a
-called_step image n lines false a = called_added lines n (decoded (drop (8 * n) image)) a
+called_step image n lines false a = called_added lines n (decode_result (drop (8 * n) image)) a
 
 called_next : (image : List ℕ) (n : ℕ) (q : Result Reading LoadFault) → IfOk q (λ r. AllCalled r.lines) → IfOk (slot_read image n q) (λ r. AllCalled r.lines)
 called_next image n (Ok r) a = called_step image n r.lines r.second a

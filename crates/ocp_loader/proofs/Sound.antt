@@ -8,8 +8,8 @@ use Rattle.bpf_types.specs.Line.{is_wide, IsLine}
 use Rattle.bpf_listing.specs.Listing.{image_of}
 use Rattle.ocp_loader.specs.Image.{line_in, second_of, slots_of, by_slot, is_last, target_of}
 use Rattle.ocp_loader.specs.Places.{place_of, IsAt, IsPlaceOf, HasValidTarget}
-use Rattle.ocp_loader.specs.Reading.{IsPlain}
-use Rattle.ocp_loader.specs.LoadResult.{is_place, is_target}
+use Rattle.ocp_loader.specs.Mirror.Reading.{IsPlain}
+use Rattle.ocp_loader.specs.Mirror.Checks.{is_place, is_target}
 use Rattle.ocp_loader.specs.Admitted.{IsLawful, IsAdmittedAs}
 use Rattle.ocp_loader.proofs.Laid.{by_slot-append}
 use Rattle.ocp_loader.proofs.Octets.{length_image, place_by_slot}

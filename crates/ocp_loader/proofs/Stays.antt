@@ -3,8 +3,8 @@ use Rattle.std.proofs.Common.{◌≡◌, ℕ, zero, suc, ◌+◌, ◌-◌, ◌�
 use Rattle.bpf_types.specs.declared.line.Line.{Line}
 use Rattle.ocp_loader.specs.declared.fault.LoadFault.{LoadFault}
 use Rattle.ocp_loader.specs.Image.{line_in}
-use Rattle.ocp_loader.specs.Reading.{slot_read, slots_read}
-use Rattle.ocp_loader.specs.LoadResult.{first_bad_target, or_at, has_valid_target, lines_result}
+use Rattle.ocp_loader.specs.Mirror.Reading.{slot_read, slots_read}
+use Rattle.ocp_loader.specs.Mirror.Checks.{first_bad_target, or_at, has_valid_target, lines_result}
 
 more : (image : List ℕ) (k d : ℕ) (fault : LoadFault) → slots_read image k ≡ Err fault → slots_read image (k + d) ≡ Err fault
 more image k zero fault h = let e : k + zero ≡ k = omega arith in rw e h

@@ -4,7 +4,7 @@ use Rattle.std.specs.List.{All}
 use Rattle.bpf_types.specs.declared.line.Line.{Line}
 use Rattle.bpf_types.specs.Line.{WritesFramePointer}
 use Rattle.bpf_listing.specs.Listing.{IsImageOf}
-use Rattle.ocp_loader.specs.Image.{calls_well, is_last}
+use Rattle.ocp_loader.specs.Image.{max_slots, calls_well, is_last}
 use Rattle.ocp_loader.specs.Places.{IsLast, AllHaveValidTargets}
 
 -- a line that may stand in an image, wherever it leads
@@ -15,7 +15,7 @@ IsLawful l = ¬ WritesFramePointer l × (calls_well l ≡ true)
 pub record HasSlots (image : List ℕ) : Type 0 where
   pub whole : length image % 8 ≡ 0
   pub some : 1 ≤ length image / 8
-  pub few : length image / 8 ≤ 2048
+  pub few : length image / 8 ≤ max_slots
 
 -- nothing falls through the last line, which is EXIT or JA of either class
 pub record EndsWell (lines : List Line) : Type 0 where

@@ -8,12 +8,12 @@ use Rattle.bpf_decode.specs.Faults.{IsFirst}
 use Rattle.ocp_loader.specs.declared.fault.LoadFault.{LoadFault}
 use Rattle.ocp_loader.specs.declared.fault.LoadFault.TheVariants.{EmptyCode, RaggedCode, TooLong, Decode, BadCall, BadTarget, FallsOffEnd, Memory}
 use Rattle.bpf_listing.specs.Listing.{IsImageOf}
-use Rattle.ocp_loader.specs.Image.{is_engine_call, is_last}
+use Rattle.ocp_loader.specs.Image.{max_slots, is_engine_call, is_last}
 use Rattle.ocp_loader.specs.Places.{IsAt, IsLast, HasValidTarget, AllHaveValidTargets}
 use Rattle.ocp_loader.specs.Admitted.{IsLawful, HasSlots}
 
--- lines that may stand in an image fill the slots in front of this one
-pub record IsFront (image : List ℕ) (slot : ℕ) : Type 0 where
+-- lines that may stand in an image fill the slots before this one
+pub record IsFilledUpTo (image : List ℕ) (slot : ℕ) : Type 0 where
   pub lines : List Line
   pub whole : IsImageOf (take (8 * slot) image) lines
   pub lawful : All IsLawful lines
@@ -52,22 +52,9 @@ pub record FallsOff (image : List ℕ) (slot : ℕ) : Type 0 where
 abbrev pub IsFirstFault : List ℕ → LoadFault → Type 0
 IsFirstFault image EmptyCode = length image ≡ 0
 IsFirstFault image RaggedCode = length image % 8 ≢ 0
-IsFirstFault image TooLong = (length image % 8 ≡ 0) × (2048 < length image / 8)
-IsFirstFault image (Decode fault slot) = HasSlots image × IsFront image slot × IsFirst fault (drop (8 * slot) image)
-IsFirstFault image (BadCall slot) = HasSlots image × IsFront image slot × CallsBadly (drop (8 * slot) image)
+IsFirstFault image TooLong = (length image % 8 ≡ 0) × (max_slots < length image / 8)
+IsFirstFault image (Decode fault slot) = HasSlots image × IsFilledUpTo image slot × IsFirst fault (drop (8 * slot) image)
+IsFirstFault image (BadCall slot) = HasSlots image × IsFilledUpTo image slot × CallsBadly (drop (8 * slot) image)
 IsFirstFault image (BadTarget slot) = HasSlots image × HasFirstBadTarget image slot
 IsFirstFault image (FallsOffEnd slot) = HasSlots image × FallsOff image slot
 IsFirstFault image Memory = Unit {0}
-
--- the fault that the octets of one slot have
-abbrev pub HasFaultThere : List ℕ → ℕ → LoadFault → Type 0
-HasFaultThere octets here (Decode fault slot) = (slot ≡ here) × IsFirst fault octets
-HasFaultThere octets here (BadCall slot) = (slot ≡ here) × CallsBadly octets
-HasFaultThere octets here fault = ⊥
-
--- the lines were read up to a slot, and there is the fault
-pub record StopsAt (image : List ℕ) (slots : ℕ) (fault : LoadFault) : Type 0 where
-  pub slot : ℕ
-  pub below : slot < slots
-  pub front : IsFront image slot
-  pub there : HasFaultThere (drop (8 * slot) image) slot fault

@@ -4,6 +4,5 @@ pub mod Places
 pub mod Admitted
 pub mod Faults
 pub mod FaultNumbers
-pub mod Reading
 pub mod LoadResult
-pub mod Listing
+pub mod Mirror

@@ -1,9 +1,10 @@
 //! Where the lines of an image lead to.
 ghost use Rattle.std.specs.Prelude.{◌≡◌, ◌≤◌, ◌<◌, ◌-◌, length, pos, ◌+ℤ◌, Some, None, option_copied};
 ghost use Rattle.ocp_loader.specs.Image.{line_in, target_of, is_last};
-ghost use Rattle.ocp_loader.specs.LoadResult.{is_place, has_valid_target, first_bad_target, end_fault, lines_fault};
+ghost use Rattle.ocp_loader.specs.Mirror.Checks.{is_place, has_valid_target, first_bad_target, end_fault, lines_fault};
 
 use crate::fault::LoadFault;
+use crate::program::MAX_SLOTS;
 use bpf_types::Line;
 
 /// The line whose first slot this is.
@@ -70,7 +71,7 @@ fn has_valid_target(lines: &[Option<Line>], slot: u16, line: Option<Line>) -> bo
 /// The first slot whose line leads to no line.
 #[tactic(auto, using(crate::proofs::Stays::astray_first))]
 fn first_bad_target(lines: &[Option<Line>]) -> Option<u16>
-    requires { length lines.now ≤ 2048 }
+    requires { length lines.now ≤ MAX_SLOTS }
     ensures { result ≡ first_bad_target lines.now (length lines.now) }
 {
     let slots = lines.len() as u16;
@@ -107,7 +108,7 @@ fn end_fault(slots: u16, line: Option<Line>) -> Option<LoadFault>
 
 /// The first fault of lines that were read.
 pub fn lines_fault(lines: &[Option<Line>]) -> Option<LoadFault>
-    requires { length lines.now ≤ 2048 }
+    requires { length lines.now ≤ MAX_SLOTS }
     ensures { result ≡ lines_fault lines.now (first_bad_target lines.now (length lines.now)) }
 {
     match first_bad_target(lines) {

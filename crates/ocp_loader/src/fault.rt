@@ -10,7 +10,7 @@ pub enum LoadFault {
     EmptyCode,
     /// The length is no multiple of 8 octets.
     RaggedCode,
-    /// There are over 2,048 slots.
+    /// There are over `MAX_SLOTS` slots: 2,048.
     TooLong,
     /// The octets at the slot are no instruction that may be loaded.
     Decode(DecodeFault, u16),

@@ -17,4 +17,4 @@ pub use laws::{
     lines_agree_with_the_load_result, lines_stand_at_their_places, places_are_counted_in_slots,
     places_lead_to_places,
 };
-pub use program::{Program, load};
+pub use program::{MAX_SLOTS, Program, load};

@@ -1,7 +1,7 @@
 //! The listing of a program.
 ghost use Rattle.std.specs.Prelude.{◌≡◌, ◌≤◌, ◌<◌, ◌++◌, length, take, OnOk, OnErr, vec_capacity};
 ghost use Rattle.std.specs.List.{flat_map};
-ghost use Rattle.ocp_loader.specs.Listing.{slot_text};
+ghost use Rattle.ocp_loader.specs.Mirror.Listing.{slot_text};
 
 use bpf_listing::line_text;
 use bpf_types::Line;
@@ -10,7 +10,7 @@ use std::alloc::{AllocError, Allocator};
 /// Appends the text of a line with its newline, if the slot has a line. A refusal may leave the text without the newline.
 fn write_slot<A: Allocator>(slot: Option<Line>, out: &mut Vec<u8, A>) -> Result<(), AllocError>
     ensures ok { OnOk result (out.new.items ≡ out.old.items ++ slot_text slot) }
-    ensures front { take (length out.old.items) out.new.items ≡ out.old.items }
+    ensures prefix { take (length out.old.items) out.new.items ≡ out.old.items }
     ensures memory { OnErr result (vec_capacity out.old < length (out.old.items ++ slot_text slot)) }
     ensures capacity { vec_capacity out.old ≤ vec_capacity out.new }
 {
@@ -28,7 +28,7 @@ pub fn write_slots<A: Allocator>(
     out: &mut Vec<u8, A>,
 ) -> Result<(), AllocError>
     ensures ok { OnOk result (out.new.items ≡ out.old.items ++ flat_map slot_text slots.now) }
-    ensures front { take (length out.old.items) out.new.items ≡ out.old.items }
+    ensures prefix { take (length out.old.items) out.new.items ≡ out.old.items }
     ensures memory { OnErr result (vec_capacity out.old < length (out.old.items ++ flat_map slot_text slots.now)) }
     ensures capacity { vec_capacity out.old ≤ vec_capacity out.new }
 {

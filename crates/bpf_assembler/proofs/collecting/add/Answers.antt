@@ -1,18 +1,18 @@
 use Rattle.std.proofs.Common.{◌+◌, ℕ, ap, refl}
-use Rattle.bpf_text.specs.Judged.{written}
+use Rattle.bpf_text.specs.Judged.{written_line}
 use Rattle.bpf_assembler.proofs.Places.{known_after}
 use Rattle.bpf_assembler.proofs.collecting.add.Goals as goal
 
 pub returns-then-not-branch-clause-lines : goal.returns-then-not-branch-clause-lines
 returns-then-not-branch-clause-lines g c = λ ws known.
     let old = rw c.if-not-branch.true at (c.in_ok-put_label-in-Ok.ensures ws known.labels known.place) in
-    (ap (λ (n : ℕ). n + 1) known.count, (written c.in-Ok.parsed, c.in-Ok.ensures.0, c.in-Ok.ensures.1, old))
+    (ap (λ (n : ℕ). n + 1) known.count, (written_line c.in-Ok.parsed, c.in-Ok.ensures.0, c.in-Ok.ensures.1, old))
 
 pub returns-in_ok-table-in-Ok-clause-lines : goal.returns-in_ok-table-in-Ok-clause-lines
 returns-in_ok-table-in-Ok-clause-lines g c = λ ws known.
     let put = rw c.if-not-branch.false at (c.in_ok-put_label-in-Ok.ensures ws known.labels known.place) in
     let t = c.args.table.now in
-    let w = written c.in-Ok.parsed in (
+    let w = written_line c.in-Ok.parsed in (
       w,
       c.in-Ok.ensures.0,
       c.in-Ok.ensures.1,

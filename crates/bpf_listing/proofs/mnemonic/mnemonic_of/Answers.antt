@@ -6,7 +6,7 @@ use Rattle.bpf_listing.proofs.mnemonic.mnemonic_of.Goals as goal
 pub returns-in-Some-clause-only : goal.returns-in-Some-clause-only
 returns-in-Some-clause-only c m e =
     let some = c.in-Some in
-    ap (λ (k : Mnemonic). Some k) (c.classed.ensures.exact
+    ap (λ (k : Mnemonic). Some k) (c.mnemonic_of_stem.ensures.exact
     ∙ classed_only c.args.word.now m some.stem some.width some.ensures.some (λ t v h. same_classed some.stem t some.width v (some.ensures.only t v h)) e)
 
 pub returns-in-None-clause-only : goal.returns-in-None-clause-only

@@ -1,5 +1,5 @@
 use Rattle.std.proofs.Common.{◌≡◌, drop}
-use Rattle.bpf_listing.specs.Reading.{hex_on}
+use Rattle.bpf_listing.specs.Mirror.Reading.{hex_on}
 use Rattle.bpf_listing.proofs.reading.hex_of.Given as goal
 
 abbrev pub invariant-loop-octet : goal.invariant-loop-octet

@@ -1,5 +1,5 @@
 use Rattle.std.proofs.Common.{◌≡◌, None}
-use Rattle.ocp_loader.specs.LoadResult.{first_bad_target}
+use Rattle.ocp_loader.specs.Mirror.Checks.{first_bad_target}
 use Rattle.ocp_loader.proofs.check.first_bad_target.Given as goal
 
 abbrev pub invariant-loop-slot : goal.invariant-loop-slot

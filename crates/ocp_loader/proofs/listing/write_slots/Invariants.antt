@@ -1,6 +1,6 @@
 use Rattle.std.proofs.Common.{◌≡◌, ◌≤◌, ◌++◌, take, vec_capacity}
 use Rattle.std.specs.List.{flat_map}
-use Rattle.ocp_loader.specs.Listing.{slot_text}
+use Rattle.ocp_loader.specs.Mirror.Listing.{slot_text}
 use Rattle.ocp_loader.proofs.listing.write_slots.Given as goal
 
 abbrev pub invariant-loop-slot : goal.invariant-loop-slot

@@ -25,11 +25,11 @@ stem_name stem.Negate = codes "neg"
 stem_name stem.MoveExtended = codes "movsx"
 
 -- the mnemonic of a stem and a class
-abbrev pub classed : Stem → Width → Mnemonic
-classed (stem.Arithmetic operation) width = word.Arithmetic width operation
-classed (stem.JumpIf comparison) width = word.Jump (jump.If width comparison)
-classed stem.Negate width = word.Negate width
-classed stem.MoveExtended width = word.MoveExtended width
+abbrev pub mnemonic_of_stem : Stem → Width → Mnemonic
+mnemonic_of_stem (stem.Arithmetic operation) width = word.Arithmetic width operation
+mnemonic_of_stem (stem.JumpIf comparison) width = word.Jump (jump.If width comparison)
+mnemonic_of_stem stem.Negate width = word.Negate width
+mnemonic_of_stem stem.MoveExtended width = word.MoveExtended width
 
 -- a mnemonic that has no stem and class
 abbrev pub IsPlain : Mnemonic → Type 0
@@ -48,8 +48,8 @@ abbrev pub is_digit : ℕ → Bool
 is_digit o = nat_le 48 o && nat_le o 57
 
 -- the scan at an octet that is no digit: where a number ends here, it is kept
-abbrev pub closed : Scan → ℕ → Scan
-closed s o = record {
+abbrev pub past_other : Scan → ℕ → Scan
+past_other s o = record {
   fields = if s.inside && nat_lt s.count 3 then slice_set s.fields s.count (record { mark = s.mark; number = s.number }) else s.fields;
   count = if s.inside && nat_lt s.count 3 then s.count + 1 else s.count;
   mark = o;
@@ -58,14 +58,14 @@ closed s o = record {
 }
 
 -- the scan behind one more octet
-abbrev pub fed : Scan → ℕ → Scan
-fed s o = if is_digit o
+abbrev pub past_octet : Scan → ℕ → Scan
+past_octet s o = if is_digit o
     then record { fields = s.fields; count = s.count; mark = s.mark; number = (s.number * 10 + (o - 48)) % 2 ^ 64; inside = true }
-    else closed s o
+    else past_other s o
 
-abbrev pub scanned : Scan → List ℕ → Scan
-scanned s [] = s
-scanned s (o ∷ os) = scanned (fed s o) os
+abbrev pub past_octets : Scan → List ℕ → Scan
+past_octets s [] = s
+past_octets s (o ∷ os) = past_octets (past_octet s o) os
 
 abbrev pub no_field : Field
 no_field = record { mark = 32; number = 0 }
@@ -75,7 +75,7 @@ start = record { fields = no_field ∷ no_field ∷ no_field ∷ []; count = 0; 
 
 -- the first three numbers of a text, each with the octet in front of it
 abbrev pub fields_in : List ℕ → List Field
-fields_in os = (closed (scanned start os) 10).fields
+fields_in os = (past_other (past_octets start os) 10).fields
 
 -- what a hexadecimal digit in lower case stands for
 abbrev pub hex_value : ℕ → ℕ

@@ -15,7 +15,7 @@ use Rattle.bpf_types.specs.declared.line.SwapWidth.{SwapWidth}
 use Rattle.bpf_types.specs.declared.line.Width.{Width}
 use Rattle.bpf_types.specs.declared.line.Width.TheVariants.{W32, W64}
 use Rattle.bpf_types.specs.Line.{first_slot, second_slot, extension_of, swap_width_of}
-use Rattle.bpf_decode.specs.Codes.{operation_at, comparison_at, size_at, signed_size_at}
+use Rattle.bpf_decode.specs.Mirror.Codes.{operation_at, comparison_at, size_at, signed_size_at}
 
 infixl 10 ◌>>=◌
 -- what follows from the value, where there is one
