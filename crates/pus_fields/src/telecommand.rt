@@ -13,7 +13,7 @@ use std::marker::Model;
 
 /// A telecommand (ECSS-E-ST-70-41C, 7.4.4): application process identifier 0 to 2,046, sequence count 0
 /// to 16,383, the four acknowledgement flags, service type, message subtype, source identifier and
-/// payload, which the caller lends.
+/// payload, which is borrowed.
 #[derive(Drop)]
 pub struct Tc<'a> {
     // The first four octets of its packet.

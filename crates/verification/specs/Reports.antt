@@ -19,15 +19,15 @@ abbrev pub wants_completion : Ack → Bool
 wants_completion ack = flags_of ack / 8 % 2 == 1
 
 -- a report of success, where it is asked for
-abbrev pub asked : Bool → Notice → List Notice
-asked wanted notice = if wanted then notice ∷ [] else []
+abbrev pub optional_report : Bool → Notice → List Notice
+optional_report wanted notice = if wanted then notice ∷ [] else []
 
 -- acceptance, start, the answer's place and completion; a failed acceptance or start is sent whatever
 -- the flags are, and ends the list
 abbrev pub reports_of_outcome : Ack → Outcome → List Notice
 reports_of_outcome ack (O.Refused failure) = NotAccepted failure ∷ []
 reports_of_outcome ack (O.NotStarted failure) =
-    asked (wants_acceptance ack) Accepted ++ NotStarted failure ∷ []
+    optional_report (wants_acceptance ack) Accepted ++ NotStarted failure ∷ []
 reports_of_outcome ack O.Done =
-    asked (wants_acceptance ack) Accepted ++ asked (wants_start ack) Started
-    ++ Answer ∷ asked (wants_completion ack) Completed
+    optional_report (wants_acceptance ack) Accepted ++ optional_report (wants_start ack) Started
+    ++ Answer ∷ optional_report (wants_completion ack) Completed

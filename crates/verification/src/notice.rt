@@ -40,7 +40,7 @@ impl Model for NoticeList {
 }
 
 impl NoticeList {
-    ghost use Rattle.verification.specs.Reports.{asked};
+    ghost use Rattle.verification.specs.Reports.{optional_report};
 
     pub(crate) fn new() -> NoticeList
         ensures { result ≡ [] }
@@ -61,7 +61,7 @@ impl NoticeList {
     /// Adds a notice at the end, where it is wanted.
     pub(crate) fn add_if(&mut self, wanted: bool, notice: Notice)
         requires { length self.old < 4 }
-        ensures { self.new ≡ self.old ++ asked wanted notice }
+        ensures { self.new ≡ self.old ++ optional_report wanted notice }
     {
         if wanted {
             self.add(notice);
