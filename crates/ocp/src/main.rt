@@ -1,8 +1,7 @@
 //! `ocp`: an engine for on-board control procedures on its ground console.
 #![tactic(auto)]
 
-use ocp_console::{ConsoleFault, Device, Settings, asm, list, run};
-use ocp_words::{Job, WordsFault, read_words};
+use ocp_console::{ConsoleFault, Device, Job, WordsFault, asm, list, not_utf8, read_words, run};
 use std::process::ExitCode;
 use std::{env, io};
 
@@ -12,25 +11,25 @@ const INPUT_FAULT: u8 = 1;
 /// The exit status of a device that failed, or of memory that was refused.
 const MACHINE_FAULT: u8 = 3;
 
-/// Says on standard error what failed in the machine.
-fn failed(rt: &HostRuntime, name: &str) -> io::Result<ExitCode> {
-    eprintln!(rt; "fault {name}")?;
-    Ok(ExitCode::from(MACHINE_FAULT))
+/// Says on standard error what failed in the machine, and gives the exit status of it, whether or not it could be said.
+fn machine_fault(rt: &HostRuntime, name: &str) -> ExitCode {
+    let _ = eprintln!(rt; "fault {name}");
+    ExitCode::from(MACHINE_FAULT)
 }
 
-/// The exit status of a command that ended so: whether it did what it was asked for, or what failed in the machine.
-fn ended(rt: &HostRuntime, answer: Result<bool, ConsoleFault>) -> io::Result<ExitCode> {
+/// The exit status of a command with this answer: whether it did what it was asked for, or what failed in the machine.
+fn status_of(rt: &HostRuntime, answer: Result<bool, ConsoleFault>) -> ExitCode {
     match answer {
-        Ok(true) => Ok(ExitCode::SUCCESS),
-        Err(ConsoleFault::Read) => failed(rt, "Read"),
-        Err(ConsoleFault::Write) => failed(rt, "Write"),
-        Err(ConsoleFault::Memory) => failed(rt, "Memory"),
-        Ok(false) | Err(_) => Ok(ExitCode::from(INPUT_FAULT)),
+        Ok(true) => ExitCode::SUCCESS,
+        Err(ConsoleFault::Read) => machine_fault(rt, "Read"),
+        Err(ConsoleFault::Write) => machine_fault(rt, "Write"),
+        Err(ConsoleFault::Memory) => machine_fault(rt, "Memory"),
+        Ok(false) | Err(_) => ExitCode::from(INPUT_FAULT),
     }
 }
 
 /// Does a job from standard input to standard output.
-fn perform(rt: &HostRuntime, job: Job) -> io::Result<ExitCode> {
+fn perform(rt: &HostRuntime, job: Job) -> ExitCode {
     let mut reader = Device {
         inner: rt.stdin(),
         failed: 0,
@@ -42,31 +41,33 @@ fn perform(rt: &HostRuntime, job: Job) -> io::Result<ExitCode> {
     let answer = match job {
         Job::Assemble => asm(rt.alloc(), &mut reader, &mut writer),
         Job::List => list(rt.alloc(), &mut reader, &mut writer),
-        Job::Run(settings) => {
-            let settings = Settings {
-                apid: settings.apid,
-                pool_words: settings.pool,
-                capacity: settings.journal,
-            };
-            run(rt.alloc(), settings, &mut reader, &mut writer).map(|()| true)
-        }
+        Job::Run(settings) => { run(rt.alloc(), settings, &mut reader, &mut writer).map(|()| true) }
     };
-    ended(rt, answer)
+    status_of(rt, answer)
 }
 
-fn main(rt: HostRuntime) -> io::Result<ExitCode> {
+/// The job that the words after the program's name ask for.
+fn job_of_words(rt: &HostRuntime) -> Result<Job, WordsFault> {
     let alloc = rt.alloc();
-    let given: Vec<String> = env::args(&rt)?.skip(1).collect(alloc)?;
+    let given: Vec<String> = match env::args(rt) {
+        Ok(given) => given.skip(1).collect(alloc)?,
+        Err(error) if error.kind() == io::ErrorKind::OutOfMemory => return Err(WordsFault::Memory),
+        Err(_) => return Err(not_utf8(alloc)),
+    };
     let mut words = Vec::new(alloc);
     for word in &given {
         words.push(word.as_str())?;
     }
-    match read_words(alloc, words.as_slice()) {
+    read_words(alloc, words.as_slice())
+}
+
+fn main(rt: HostRuntime) -> ExitCode {
+    match job_of_words(&rt) {
         Ok(job) => perform(&rt, job),
-        Err(WordsFault::Usage(error)) => {
-            error.print(&rt)?;
-            Ok(ExitCode::from(error.exit_code() as u8))
-        }
-        Err(WordsFault::Memory) => failed(&rt, "Memory"),
+        Err(WordsFault::Memory) => machine_fault(&rt, "Memory"),
+        Err(WordsFault::Usage(error)) => match error.print(&rt) {
+            Err(_) if !error.use_stderr() => machine_fault(&rt, "Write"),
+            _ => ExitCode::from(error.exit_code() as u8),
+        },
     }
 }

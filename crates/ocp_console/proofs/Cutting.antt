@@ -1,6 +1,7 @@
 -- A text that is cut into lines.
 use Rattle.std.proofs.Common.{◌≡◌, ◌++◌, ◌≤◌, List, [], ◌∷◌, ℕ, suc, Bool, true, false, eqb, cond, length, refl, arith}
-use Rattle.ocp_console.specs.Lines.{Line, Ended, Open, onto, lines_of, octets_of, is_one_line}
+use Rattle.text_lines.specs.Lines.{Line, Ended, Open, onto, lines_of, octets_of}
+use Rattle.ocp_console.specs.Mirror.Lines.{is_one_line}
 
 -- the first octet of a line is none that ends it
 one_line-cons : (c : ℕ) (p : List ℕ) → is_one_line (c ∷ p) ≡ true → (eqb c 10 ≡ false) × (is_one_line p ≡ true)

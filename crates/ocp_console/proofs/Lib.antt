@@ -1,10 +1,6 @@
-pub mod Sent
 pub mod Cutting
 pub mod Runs
 pub mod Scripts
 pub mod TextLemmas
-pub mod Inputs
 pub mod Requests
-pub mod OneOutput
-pub mod OneImage
 pub mod Taking

@@ -3,18 +3,20 @@ use Rattle.std.proofs.Common.{◌≡◌, ◌≢◌, ◌<◌, ◌≤◌, ◌+◌,
 use Rattle.std.proofs.lemmas.List.{take_more, take_all}
 use Rattle.std.specs.Io.KnownBytes.{Consumes, Keeps}
 use Rattle.std.proofs.KnownBytes.{Consumes-nil, Consumes-kept}
-use Rattle.ocp_console.specs.Lines.{Line, Ended, Open, lines_of, is_one_line, octets_of}
-use Rattle.ocp_console.specs.Reading.{AreShort, IsWithin, Took, ReadsWithin}
+use Rattle.text_lines.specs.Lines.{Line, Ended, Open, lines_of, octets_of}
+use Rattle.ocp_console.specs.Mirror.Lines.{is_one_line, HasTaken}
+use Rattle.ocp_ports.specs.Reading.{ReadsWhile}
+use Rattle.ocp_console.specs.Reading.{AreShort, IsWithin}
 use Rattle.ocp_console.proofs.Cutting.{ended_line, open_line}
 
 short-snoc : (lines : List Line) (line : Line) → AreShort lines → length (octets_of line) ≤ 40000 → AreShort (lines ++ line ∷ [])
 short-snoc [] line h le = (le, tt)
 short-snoc (l ∷ lines) line h le = (h.0, short-snoc lines line h.1 le)
 
-pub nothing_taken : (before : ℕ) (line : List ℕ) → before ≡ 0 → line ≡ [] → Took before line []
+pub nothing_taken : (before : ℕ) (line : List ℕ) → before ≡ 0 → line ≡ [] → HasTaken before line []
 nothing_taken before line none empty = record { done = []; count = sym none; short = tt; cut = λ more. rw empty refl; room = λ ne. absurd (ne empty) }
 
-pub newline_taken : (before : ℕ) (line after octets : List ℕ) (o : ℕ) → is_one_line line ≡ true → length line ≤ 40000 → o ≡ 10 → after ≡ [] → Took before line octets → Took (before + 1) after (octets ++ o ∷ [])
+pub newline_taken : (before : ℕ) (line after octets : List ℕ) (o : ℕ) → is_one_line line ≡ true → length line ≤ 40000 → o ≡ 10 → after ≡ [] → HasTaken before line octets → HasTaken (before + 1) after (octets ++ o ∷ [])
 newline_taken before line after octets o one le is empty t = record {
   done = t.done ++ Ended line ∷ [];
   count = omega (arith, t.count, length-append t.done (Ended line ∷ []));
@@ -25,7 +27,7 @@ newline_taken before line after octets o one le is empty t = record {
   room = λ ne. absurd (ne empty);
 }
 
-pub octet_taken : (before : ℕ) (line after octets : List ℕ) (o : ℕ) → before < 100000 → after ≡ line ++ o ∷ [] → Took before line octets → Took before after (octets ++ o ∷ [])
+pub octet_taken : (before : ℕ) (line after octets : List ℕ) (o : ℕ) → before < 100000 → after ≡ line ++ o ∷ [] → HasTaken before line octets → HasTaken before after (octets ++ o ∷ [])
 octet_taken before line after octets o lt is t = record {
   done = t.done;
   count = t.count;
@@ -37,14 +39,14 @@ octet_taken before line after octets o lt is t = record {
 }
 
 -- one octet more of a piece
-pub piece_taken : (before : ℕ) (line octets piece : List ℕ) (i : ℕ) → i < length piece → Took before line ((octets ++ take i piece) ++ get_or piece i 0 ∷ []) → Took before line (octets ++ take (i + 1) piece)
-piece_taken before line octets piece i lt t = subst (Took before line) (append_assoc octets (take i piece) (get_or piece i 0 ∷ []) ∙ ap (λ (p : List ℕ). octets ++ p) (sym (take_more piece i 0 lt))) t
+pub piece_taken : (before : ℕ) (line octets piece : List ℕ) (i : ℕ) → i < length piece → HasTaken before line ((octets ++ take i piece) ++ get_or piece i 0 ∷ []) → HasTaken before line (octets ++ take (i + 1) piece)
+piece_taken before line octets piece i lt t = subst (HasTaken before line) (append_assoc octets (take i piece) (get_or piece i 0 ∷ []) ∙ ap (λ (p : List ℕ). octets ++ p) (sym (take_more piece i 0 lt))) t
 
-pub piece_begun : (before : ℕ) (line octets piece : List ℕ) → Took before line octets → Took before line (octets ++ take 0 piece)
-piece_begun before line octets piece t = subst (Took before line) (sym (append-nil octets)) t
+pub piece_begun : (before : ℕ) (line octets piece : List ℕ) → HasTaken before line octets → HasTaken before line (octets ++ take 0 piece)
+piece_begun before line octets piece t = subst (HasTaken before line) (sym (append-nil octets)) t
 
-pub whole_piece : (before : ℕ) (line octets piece : List ℕ) (i : ℕ) → length piece ≤ i → Took before line (octets ++ take i piece) → Took before line (octets ++ piece)
-whole_piece before line octets piece i le t = subst (λ (p : List ℕ). Took before line (octets ++ p)) (take_all i piece le) t
+pub whole_piece : (before : ℕ) (line octets piece : List ℕ) (i : ℕ) → length piece ≤ i → HasTaken before line (octets ++ take i piece) → HasTaken before line (octets ++ piece)
+whole_piece before line octets piece i le t = subst (λ (p : List ℕ). HasTaken before line (octets ++ p)) (take_all i piece le) t
 
 short-open : (lines : List Line) (line : List ℕ) → AreShort lines → length line ≤ 40000 → is_one_line line ≡ true → AreShort (lines ++ lines_of line)
 short-open lines [] h le one = subst AreShort (sym (append-nil lines)) h
@@ -55,7 +57,7 @@ few-open lines [] le room one = omega (arith, le, ap length (append-nil lines))
 few-open lines (c ∷ line) le room one = omega (arith, room (λ e. absurd cc), length-append lines (lines_of (c ∷ line)), ap length (open_line c line one))
 
 -- what was taken is within the limits
-pub taken_within : (before : ℕ) (line octets : List ℕ) → before ≤ 100000 → length line ≤ 40000 → is_one_line line ≡ true → Took before line octets → IsWithin octets
+pub taken_within : (before : ℕ) (line octets : List ℕ) → before ≤ 100000 → length line ≤ 40000 → is_one_line line ≡ true → HasTaken before line octets → IsWithin octets
 taken_within before line octets few le one t =
     let lines : lines_of octets ≡ t.done ++ lines_of line = ap lines_of (sym (append-nil octets)) ∙ t.cut [] ∙ ap (λ (a : List ℕ). t.done ++ lines_of a) (append-nil line) in
     record {
@@ -65,12 +67,12 @@ taken_within before line octets few le one t =
 
 -- ---- reads
 
-pub reads_within : (input mid left : Option (List ℕ)) (front last : List ℕ) → Consumes input mid front → Consumes mid left last → IsWithin front → length last ≤ 4096 → IfSome input (λ script. ReadsWithin script left)
+pub reads_within : (input mid left : Option (List ℕ)) (front last : List ℕ) → Consumes input mid front → Consumes mid left last → IsWithin front → length last ≤ 4096 → IfSome input (λ script. ReadsWhile IsWithin script left)
 reads_within None mid left front last c d w le = tt
 reads_within (Some script) None left front last c d w le = absurd c
 reads_within (Some script) (Some more) None front last c d w le = absurd d
 reads_within (Some script) (Some more) (Some rest) front last c d w le = record {
-  front = front;
+  before = front;
   last = last;
   rest = rest;
   parts = c ∙ ap (λ (t : List ℕ). front ++ t) d ∙ sym (append_assoc front last rest);
@@ -83,12 +85,12 @@ pub consumes_none : (a b : Option (List ℕ)) → Keeps a b → Consumes a b []
 consumes_none a b k = Consumes-kept a a b [] (Consumes-nil a) k
 
 -- before the first read
-pub nothing_read : (input : Option (List ℕ)) → IfSome input (λ script. ReadsWithin script input)
+pub nothing_read : (input : Option (List ℕ)) → IfSome input (λ script. ReadsWhile IsWithin script input)
 nothing_read input = reads_within input input input [] [] (Consumes-nil input) (Consumes-nil input) (record { few = omega arith; short = tt }) (omega arith)
 
 -- a read that gave these octets
 pub read_within : (input mid left : Option (List ℕ)) (before : ℕ) (line last : List ℕ) → before ≤ 100000 → length line ≤ 40000 → is_one_line line ≡ true → length last ≤ 4096
-    → (front : List ℕ) × Consumes input mid front × Took before line front → Consumes mid left last → IfSome input (λ script. ReadsWithin script left)
+    → (front : List ℕ) × Consumes input mid front × HasTaken before line front → Consumes mid left last → IfSome input (λ script. ReadsWhile IsWithin script left)
 read_within input mid left before line last few short one le t c = reads_within input mid left t.0 last t.1 c (taken_within before line t.0 few short one t.2) le
 
 pub few_read : (n : ℕ) (buffer : List ℕ) → length buffer ≡ 4096 → length (take n buffer) ≤ 4096

@@ -13,7 +13,7 @@ use Rattle.ocp_core.specs.World as event
 use Rattle.ocp_core.specs.Log.{Log, empty_log, expand, world_of, answer_in, log_after}
 use Rattle.ocp_core.specs.Slice.{slice_in, slice_log}
 use Rattle.ocp_lines.specs.Grammar.{Said, Nothing, Up, Send, Time, Step, View, Journal, command_of}
-use Rattle.ocp_console.specs.declared.settings.Settings.{Settings}
+use Rattle.ocp_words.specs.declared.job.Settings.{Settings}
 use Rattle.ocp_console.specs.declared.console.Console.{Console}
 use Rattle.ocp_console.specs.Texts.{report_line, discard_line, step_line, view_lines, journal_line}
 
@@ -47,49 +47,49 @@ abbrev pub arrival : State → List ℕ → event.Event
 arrival state octets = event.Request 0 state.time octets
 
 -- the journal after an answer: a refused request leaves no entry
-abbrev pub kept : Answer → Log → Log → Log
-kept (Requested (Ok reports)) old new = new
-kept (Requested (Err fault)) old new = old
-kept (Stepped outcome) old new = old
+abbrev pub log_by_answer : Answer → Log → Log → Log
+log_by_answer (Requested (Ok reports)) old new = new
+log_by_answer (Requested (Err fault)) old new = old
+log_by_answer (Stepped outcome) old new = old
 
 -- these octets reach the engine
-abbrev pub received : State → List ℕ → State × List ℕ
-received state octets =
+abbrev pub on_octets : State → List ℕ → State × List ℕ
+on_octets state octets =
     let answer = answer_in state.engine (arrival state octets) in
-    (record state { engine = kept answer state.engine (log_after state.engine (arrival state octets)) }, answer_text answer)
+    (record state { engine = log_by_answer answer state.engine (log_after state.engine (arrival state octets)) }, answer_text answer)
 
 -- the telecommand of a request of service 18, from source 0
 abbrev pub telecommand : State → ℕ → Request → List ℕ
 telecommand state ack request = telecommand_octets (record { apid = state.apid; count = state.count; ack = flags ack; service = 18; subtype = subtype_of request; source = 0; payload = request_data request })
 
 -- the ground count rises with each telecommand
-abbrev pub counted : State → State
-counted state = record state { count = (state.count + 1) % 16384 }
+abbrev pub with_next_count : State → State
+with_next_count state = record state { count = (state.count + 1) % 16384 }
 
 -- a telecommand of this request reaches the engine
-abbrev pub asked : State → ℕ → Request → State × List ℕ
-asked state ack request = received (counted state) (telecommand state ack request)
+abbrev pub on_request : State → ℕ → Request → State × List ℕ
+on_request state ack request = on_octets (with_next_count state) (telecommand state ack request)
 
 -- ---- the other lines
 
-abbrev pub stepped : State → ℕ → ℕ → State × List ℕ
-stepped state id budget = let slice = slice_in state.engine 0 id budget in (record state { engine = slice_log state.engine 0 id budget }, step_line id slice.count slice.last)
+abbrev pub on_steps : State → ℕ → ℕ → State × List ℕ
+on_steps state id budget = let slice = slice_in state.engine 0 id budget in (record state { engine = slice_log state.engine 0 id budget }, step_line id slice.count slice.last)
 
 -- ---- each line
 
 -- the next state, and what is printed
-abbrev pub done : State → Said → State × List ℕ
-done state Nothing = (state, [])
-done state (Up octets) = received state octets
-done state (Send ack request) = asked state ack request
-done state (Time time) = (record state { time = time }, [])
-done state (Step id budget) = stepped state id budget
-done state (View id) = (state, view_lines id (shown_at (get (world_of state.engine).records id)))
-done state Journal = (state, journal_line (length (expand state.engine.entries)))
+abbrev pub on_command : State → Said → State × List ℕ
+on_command state Nothing = (state, [])
+on_command state (Up octets) = on_octets state octets
+on_command state (Send ack request) = on_request state ack request
+on_command state (Time time) = (record state { time = time }, [])
+on_command state (Step id budget) = on_steps state id budget
+on_command state (View id) = (state, view_lines id (shown_at (get (world_of state.engine).records id)))
+on_command state Journal = (state, journal_line (length (expand state.engine.entries)))
 
 abbrev pub response : State → Option Said → Option (State × List ℕ)
 response state None = None
-response state (Some said) = Some (done state said)
+response state (Some said) = Some (on_command state said)
 
 -- the next state, and what is printed; none where the line is no command
 unfoldable pub respond : State → List ℕ → Option (State × List ℕ)

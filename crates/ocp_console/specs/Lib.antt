@@ -1,10 +1,5 @@
-pub mod Ports
-pub mod Lines
 pub mod Texts
 pub mod Answering
 pub mod Script
-pub mod Session
 pub mod Reading
-pub mod Commands
-pub mod Listings
-pub mod Assembly
+pub mod Mirror

@@ -14,8 +14,10 @@ pub(crate) fn answer<A: Allocator + Copy>(
     console: &mut Console<A>,
     line: &[u8],
 ) -> Result<Option<String<A>>, AllocError>
-    ensures { IfOk result (λ printed. MatchOption printed (respond (state_of console.old) line.now ≡ None)
-        (λ text. respond (state_of console.old) line.now ≡ Some (state_of console.new, string_bytes text))) }
+    ensures { IfOk result
+        (λ printed. MatchOption printed (respond (state_of console.old) line.now ≡ None)
+        (λ text. respond (state_of console.old) line.now ≡
+        Some (state_of console.new, string_bytes text))) }
 {
     match read_command(alloc, line)? {
         None => Ok(None),

@@ -5,12 +5,12 @@ ghost use Rattle.pus_fields.specs.Telecommand.{telecommand_octets};
 ghost use Rattle.obcp_messages.specs.Request.{subtype_of, request_data};
 ghost use Rattle.pus_fields.specs.Acknowledgement.{flags_of};
 
-use crate::settings::Settings;
 use crate::texts::{discard_text, journal_text, reports_text, step_text, view_text};
 use bitflags::Flags as _;
 use obcp_messages::{Arguments, Code, Request, SERVICE, Words, write_request};
 use ocp_core::{Engine, EngineFault};
 use ocp_lines::{Command, Flags, Verb};
+use ocp_words::Settings;
 use pus_fields::{Ack, Tc, WriteFault, write_tc};
 use space_packet::{Apid, SequenceCount};
 use std::alloc::{AllocError, Allocator};
@@ -25,7 +25,9 @@ fn telecommand<A: Allocator + Copy>(
 ) -> Result<Vec<u8, A>, AllocError>
     requires apid { apid < 2047 }
     requires short { length (request_data request.now) ≤ 65529 }
-    ensures { IfOk result (λ packet. packet.items ≡ telecommand_octets (record { apid = apid; count = count; ack = record { 0 = flags.number }; service = 18; subtype = subtype_of request.now; source = 0; payload = request_data request.now })) }
+    ensures { IfOk result
+        (λ packet. packet.items ≡
+        telecommand_octets (record { apid = apid; count = count; ack = record { 0 = flags.number }; service = 18; subtype = subtype_of request.now; source = 0; payload = request_data request.now })) }
 {
     let mut payload = Vec::new(alloc);
     write_request(request, &mut payload)?;
@@ -54,7 +56,7 @@ pub(crate) struct Console<A: Allocator> {
 
 impl<A: Allocator + Copy> Console<A> {
     ghost use Rattle.ocp_lines.specs.Grammar.{said_by, request_of};
-    ghost use Rattle.ocp_console.specs.Answering.{state_of, opening, received, counted, asked, done};
+    ghost use Rattle.ocp_console.specs.Answering.{state_of, opening, on_octets, with_next_count, on_request, on_command};
 
     /// A console on a new engine.
     pub fn new(alloc: A, settings: Settings) -> Result<Console<A>, AllocError>
@@ -71,7 +73,9 @@ impl<A: Allocator + Copy> Console<A> {
 
     /// These octets reach the engine.
     fn receive(&mut self, alloc: A, octets: &[u8]) -> Result<String<A>, AllocError>
-        ensures { IfOk result (λ text. (state_of self.new, string_bytes text) ≡ received (state_of self.old) octets.now) }
+        ensures { IfOk result
+            (λ text. (state_of self.new, string_bytes text) ≡
+            on_octets (state_of self.old) octets.now) }
     {
         match self.engine.request(alloc, 0, self.time, octets) {
             Ok(reports) => reports_text(alloc, &reports),
@@ -84,7 +88,9 @@ impl<A: Allocator + Copy> Console<A> {
     /// A telecommand of this request reaches the engine.
     fn ask(&mut self, alloc: A, flags: Flags, request: &Request) -> Result<String<A>, AllocError>
         requires { length (request_data request.now) ≤ 65529 }
-        ensures { IfOk result (λ text. (state_of self.new, string_bytes text) ≡ asked (state_of self.old) flags.number request.now) }
+        ensures { IfOk result
+            (λ text. (state_of self.new, string_bytes text) ≡
+            on_request (state_of self.old) flags.number request.now) }
     {
         let packet = telecommand(alloc, self.apid, self.count, flags, request)?;
         self.count = self.count.next();
@@ -93,7 +99,9 @@ impl<A: Allocator + Copy> Console<A> {
 
     /// What a `send` line does.
     fn send(&mut self, alloc: A, flags: Flags, verb: Verb<A>) -> Result<String<A>, AllocError>
-        ensures { IfOk result (λ text. (state_of self.new, string_bytes text) ≡ asked (state_of self.old) flags.number (request_of verb)) }
+        ensures { IfOk result
+            (λ text. (state_of self.new, string_bytes text) ≡
+            on_request (state_of self.old) flags.number (request_of verb)) }
     {
         match verb {
             Verb::Load { id, code } => {
@@ -119,7 +127,9 @@ impl<A: Allocator + Copy> Console<A> {
 
     /// Does what a line says, and gives what it prints.
     pub fn obey(&mut self, alloc: A, command: Command<A>) -> Result<String<A>, AllocError>
-        ensures { IfOk result (λ text. (state_of self.new, string_bytes text) ≡ done (state_of self.old) (said_by command)) }
+        ensures { IfOk result
+            (λ text. (state_of self.new, string_bytes text) ≡
+            on_command (state_of self.old) (said_by command)) }
     {
         match command {
             Command::Nothing => Ok(String::new(alloc)),

@@ -1,27 +1,16 @@
-//! The console: a script of lines in, its transcript out; and the commands of the ground tools.
+//! The console: a script of lines in, its transcript out. It hands on the commands of the ground tools, and the words of the
+//! command line.
 #![tactic(auto)]
 
 mod answering;
-mod assembling;
 mod console;
-mod device;
-mod fault;
-mod input;
 pub mod laws;
-mod listing;
-mod output;
-mod ports;
 mod script;
-mod sending;
 mod session;
-mod settings;
 mod steps;
 mod texts;
 
-pub use assembling::asm;
-pub use device::Device;
-pub use fault::ConsoleFault;
-pub use listing::list;
-pub use ports::{Sink, Source};
+pub use ocp_commands::{asm, list};
+pub use ocp_ports::{ConsoleFault, Device, Sink, Source};
+pub use ocp_words::{Job, Settings, WordsFault, not_utf8, read_words};
 pub use script::run;
-pub use settings::Settings;

@@ -1,7 +1,8 @@
 //! A run, line by line.
 
 ghost use Rattle.std.specs.Prelude.{◌≡◌, ◌≤◌, [], true, vec_len};
-ghost use Rattle.ocp_console.specs.Lines.{is_one_line};
+ghost use Rattle.ocp_console.specs.Reading.{max_lines, max_line_octets};
+ghost use Rattle.ocp_console.specs.Mirror.Lines.{is_one_line};
 
 use crate::console::Console;
 use std::alloc::Allocator;
@@ -13,8 +14,8 @@ pub(crate) struct Session<A: Allocator> {
     pub line: Vec<u8, A>,
     pub before: u32,
     pub ghost one_line: { is_one_line line.items ≡ true },
-    pub ghost short: { vec_len line ≤ 40000 },
-    pub ghost few: { before ≤ 100000 },
+    pub ghost short: { vec_len line ≤ max_line_octets },
+    pub ghost few: { before ≤ max_lines },
 }
 
 impl<A: Allocator> Session<A> {

@@ -1,35 +1,26 @@
 //! The steps of a run.
 
-ghost use Rattle.std.specs.Prelude.{◌≡◌, ◌≢◌, MatchResult, ◌<◌, ◌≤◌, ◌+◌, ◌*◌, ◌-◌, ◌^◌, ℕ, List, [], ◌∷◌, ◌++◌, length, true, Err, MatchBool, IsErrOf, OnOk, IsTrue, codes, vec_len, if◌then◌else◌};
-ghost use Rattle.std.specs.Io.KnownBytes.{Appends};
-ghost use Rattle.std.specs.Str.Lines.{strip_carriage_return};
+ghost use Rattle.std.specs.Prelude.{◌≡◌, ◌≢◌, ◌<◌, ◌≤◌, ◌+◌, ◌-◌, ◌^◌, ◌↔◌, ℕ, List, [], ◌∷◌, ◌++◌, length, Err, IsErrOf, OnOk};
 ghost use Rattle.ocp_console.specs.Answering.{state_of};
-ghost use Rattle.ocp_console.specs.Lines.{Line, text_of, octets_of};
-ghost use Rattle.ocp_console.specs.Script.{PrintsFront, Prints, Answers, run_of, error_line};
-ghost use Rattle.ocp_console.specs.Reading.{Took};
-ghost use Rattle.ocp_console.specs.Session.{rest_of, taken};
+ghost use Rattle.text_lines.specs.Lines.{Line, text_of, octets_of};
+ghost use Rattle.ocp_ports.specs.Printing.{error_line};
+ghost use Rattle.ocp_console.specs.Reading.{max_lines, max_line_octets};
+ghost use Rattle.ocp_console.specs.Script.{Prints, run_of};
+ghost use Rattle.ocp_console.specs.Mirror.Session.{Answers, rest_of, octets_so_far};
+ghost use Rattle.ocp_console.specs.Mirror.Lines.{HasTaken, CountsWrites};
 
 use crate::answering::answer;
 use crate::console::Console;
-use crate::fault::ConsoleFault;
-use crate::ports::Sink;
-use crate::sending::send;
 use crate::session::Session;
+use ocp_ports::{ConsoleFault, Sink, error_text, write_whole};
 use std::alloc::Allocator;
+use text_lines::without_carriage_return;
 
+/// The most lines of a script.
 const MAX_LINES: u32 = 100_000;
 
-const MAX_LINE: usize = 40_000;
-
-/// The line without a carriage return at its end.
-fn stripped(line: &[u8]) -> &[u8]
-    ensures { result.now ≡ strip_carriage_return line.now }
-{
-    match line {
-        [front @ .., b'\r'] => front,
-        _ => line,
-    }
-}
+/// The most octets of a line, a carriage return included and the newline not.
+const MAX_LINE_OCTETS: usize = 40_000;
 
 /// Writes why a run ends, and says it.
 fn refuse<W: Sink, A: Allocator + Copy>(
@@ -40,19 +31,18 @@ fn refuse<W: Sink, A: Allocator + Copy>(
     fault: ConsoleFault,
 ) -> ConsoleFault
     requires { W.failed_writes writer.old < 2 ^ 64 - 1 }
-    ensures prints { Prints (W.contents writer.old) (W.contents writer.new) (error_line number name.now, Err fault) (Err result) }
-    ensures write { result ≡ ConsoleFault.Write → fault ≢ ConsoleFault.Write → W.failed_writes writer.old < W.failed_writes writer.new }
+    ensures prints { Prints (W.contents writer.old) (W.contents writer.new)
+        (error_line number name.now, Err fault) (Err result) }
+    ensures write { fault ≢ ConsoleFault.Write →
+        (result ≡ ConsoleFault.Write) ↔ (W.failed_writes writer.old < W.failed_writes writer.new) }
     ensures no_read { result ≡ ConsoleFault.Read → fault ≡ ConsoleFault.Read }
 {
-    match format!(in alloc; "error {number} {name}\n") {
+    match error_text(alloc, u64::from(number), name) {
         Err(_) => ConsoleFault::Memory,
-        Ok(text) => {
-            if send(writer, text.as_bytes()) {
-                fault
-            } else {
-                ConsoleFault::Write
-            }
-        }
+        Ok(text) => match write_whole(writer, text.as_bytes()) {
+            Ok(()) => fault,
+            Err(failure) => failure,
+        },
     }
 }
 
@@ -66,10 +56,13 @@ fn line_answer<W: Sink, A: Allocator + Copy>(
     text: &[u8],
 ) -> Result<(), ConsoleFault>
     requires device { W.failed_writes writer.old < 2 ^ 64 - 1 }
-    requires few { before < 100000 }
-    ensures answers { (line : Line) → text_of line ≡ text.now → length (octets_of line) ≤ 40000 →
-        Answers (W.contents writer.old) (W.contents writer.new) (λ lines. run_of (state_of console.old) before (line ∷ lines)) (λ lines. run_of (state_of console.new) (before + 1) lines) result }
-    ensures count { MatchResult result (λ _. W.failed_writes writer.new ≡ W.failed_writes writer.old) (λ e. e ≡ ConsoleFault.Write → W.failed_writes writer.old < W.failed_writes writer.new) }
+    requires few { before < max_lines }
+    ensures answers { (line : Line) → text_of line ≡ text.now →
+        length (octets_of line) ≤ max_line_octets →
+        Answers (W.contents writer.old) (W.contents writer.new)
+        (λ lines. run_of (state_of console.old) before (line ∷ lines))
+        (λ lines. run_of (state_of console.new) (before + 1) lines) result }
+    ensures count { CountsWrites (W.failed_writes writer.old) (W.failed_writes writer.new) result }
     ensures no_read { IsErrOf result ConsoleFault.Read → ⊥ }
 {
     match answer(alloc, console, text)? {
@@ -80,13 +73,7 @@ fn line_answer<W: Sink, A: Allocator + Copy>(
             "Syntax",
             ConsoleFault::Syntax(before + 1),
         )),
-        Some(printed) => {
-            if send(writer, printed.as_bytes()) {
-                Ok(())
-            } else {
-                Err(ConsoleFault::Write)
-            }
-        }
+        Some(printed) => write_whole(writer, printed.as_bytes()),
     }
 }
 
@@ -98,10 +85,12 @@ pub(crate) fn feed<W: Sink, A: Allocator + Copy>(
     writer: &mut W,
 ) -> Result<(), ConsoleFault>
     requires { W.failed_writes writer.old < 2 ^ 64 - 1 }
-    ensures run { Answers (W.contents writer.old) (W.contents writer.new) (λ more. rest_of session.old (octet ∷ more)) (λ more. rest_of session.new more) result }
-    ensures taken { OnOk result (taken session.old < taken session.new) }
-    ensures took { (octets : List ℕ) → Took session.old.before session.old.line.items octets → OnOk result (Took session.new.before session.new.line.items (octets ++ octet ∷ [])) }
-    ensures count { MatchResult result (λ _. W.failed_writes writer.new ≡ W.failed_writes writer.old) (λ e. e ≡ ConsoleFault.Write → W.failed_writes writer.old < W.failed_writes writer.new) }
+    ensures run { Answers (W.contents writer.old) (W.contents writer.new)
+        (λ more. rest_of session.old (octet ∷ more)) (λ more. rest_of session.new more) result }
+    ensures taken { OnOk result (octets_so_far session.old < octets_so_far session.new) }
+    ensures took { (octets : List ℕ) → HasTaken session.old.before session.old.line.items octets →
+        OnOk result (HasTaken session.new.before session.new.line.items (octets ++ octet ∷ [])) }
+    ensures count { CountsWrites (W.failed_writes writer.old) (W.failed_writes writer.new) result }
     ensures no_read { IsErrOf result ConsoleFault.Read → ⊥ }
 {
     if session.before == MAX_LINES {
@@ -114,11 +103,11 @@ pub(crate) fn feed<W: Sink, A: Allocator + Copy>(
         ));
     }
     if octet == b'\n' {
-        let text = stripped(&session.line);
+        let text = without_carriage_return(&session.line);
         line_answer(alloc, &mut session.console, writer, session.before, text)?;
         session.line.clear();
         session.before += 1;
-    } else if session.line.len() == MAX_LINE {
+    } else if session.line.len() == MAX_LINE_OCTETS {
         let number = session.before + 1;
         return Err(refuse(
             alloc,
@@ -141,10 +130,13 @@ pub(crate) fn feed_all<W: Sink, A: Allocator + Copy>(
     writer: &mut W,
 ) -> Result<(), ConsoleFault>
     requires { W.failed_writes writer.old < 2 ^ 64 - 1 }
-    ensures run { Answers (W.contents writer.old) (W.contents writer.new) (λ more. rest_of session.old (octets.now ++ more)) (λ more. rest_of session.new more) result }
-    ensures taken { OnOk result (taken session.old + length octets.now ≤ taken session.new) }
-    ensures took { (front : List ℕ) → Took session.old.before session.old.line.items front → OnOk result (Took session.new.before session.new.line.items (front ++ octets.now)) }
-    ensures count { MatchResult result (λ _. W.failed_writes writer.new ≡ W.failed_writes writer.old) (λ e. e ≡ ConsoleFault.Write → W.failed_writes writer.old < W.failed_writes writer.new) }
+    ensures run { Answers (W.contents writer.old) (W.contents writer.new)
+        (λ more. rest_of session.old (octets.now ++ more))
+        (λ more. rest_of session.new more) result }
+    ensures taken { OnOk result (octets_so_far session.old + length octets.now ≤ octets_so_far session.new) }
+    ensures took { (front : List ℕ) → HasTaken session.old.before session.old.line.items front →
+        OnOk result (HasTaken session.new.before session.new.line.items (front ++ octets.now)) }
+    ensures count { CountsWrites (W.failed_writes writer.old) (W.failed_writes writer.new) result }
     ensures no_read { IsErrOf result ConsoleFault.Read → ⊥ }
 {
     for octet in octets {
@@ -161,7 +153,8 @@ pub(crate) fn finish<W: Sink, A: Allocator + Copy>(
 ) -> Result<(), ConsoleFault>
     requires { W.failed_writes writer.old < 2 ^ 64 - 1 }
     ensures run { Prints (W.contents writer.old) (W.contents writer.new) (rest_of session.old []) result }
-    ensures write { IsErrOf result ConsoleFault.Write → W.failed_writes writer.old < W.failed_writes writer.new }
+    ensures write { IsErrOf result ConsoleFault.Write ↔
+        (W.failed_writes writer.old < W.failed_writes writer.new) }
     ensures no_read { IsErrOf result ConsoleFault.Read → ⊥ }
 {
     if session.line.is_empty() {

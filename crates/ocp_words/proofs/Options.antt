@@ -1,14 +1,11 @@
 -- What a typed getter read.
-use Rattle.std.proofs.Common.{◌≡◌, ℕ, List, Option, Some, None, Result, Ok, Err, refl, sym, ◌∙◌, subst, ap₂, option_map, Box}
+use Rattle.std.proofs.Common.{◌≡◌, ℕ, List, Option, Some, None, Result, Ok, refl, sym, ◌∙◌, subst, ap₂, option_map, Box}
 use Rattle.std.specs.Box.{box_value}
 use Rattle.clap.specs.declared.parser.matches.ArgMatches.{ArgMatches}
 use Rattle.clap.specs.declared.parser.matches.SubCommand.{SubCommand}
 use Rattle.clap.specs.declared.parser.matches.ArgMatches.TheViews.{out-ArgMatches, out-SubCommand}
 use Rattle.clap.specs.Words.{subcommand_name_of, subcommand_rows, subcommand_rows_of}
-use Rattle.clap.specs.Matches.{ReadsOne, one_text, found_of}
-use Rattle.clap.specs.Walk.{one_of, rows_of}
-use Rattle.clap.proofs.WalkLemmas.{one_text-rows}
-use Rattle.std.specs.Str.Parse.{ParsesUnsigned}
+use Rattle.clap.specs.Matches.{ReadsOne}
 use Rattle.std.specs.Prelude.{codes, IfSome}
 use Rattle.clap.specs.Words.{Row}
 use Rattle.ocp_words.specs.Jobs.{HasNumber, HasSettings}
@@ -32,11 +29,11 @@ name_part m = go (out-ArgMatches m).subcommand
     go None = refl
     go (Some b) = refl
 
-pub some_settings : (rows : List Row) (apid pool journal : ℕ) (o : Option Settings) → IfSome o (λ s. (s.apid ≡ apid) × (s.pool ≡ pool) × (s.journal ≡ journal))
+pub some_settings : (rows : List Row) (apid pool journal : ℕ) (o : Option Settings) → IfSome o (λ s. (s.apid ≡ apid) × (s.pool_words ≡ pool) × (s.capacity ≡ journal))
     → HasNumber 16 (codes "apid") rows apid → HasNumber 16 (codes "pool") rows pool → HasNumber 32 (codes "journal") rows journal → IfSome o (HasSettings rows)
 some_settings rows apid pool journal None e a p j = tt
 some_settings rows apid pool journal (Some s) e a p j = record {
   apid = subst (HasNumber 16 (codes "apid") rows) (sym e.0) a;
-  pool = subst (HasNumber 16 (codes "pool") rows) (sym e.1) p;
-  journal = subst (HasNumber 32 (codes "journal") rows) (sym e.2) j;
+  pool_words = subst (HasNumber 16 (codes "pool") rows) (sym e.1) p;
+  capacity = subst (HasNumber 32 (codes "journal") rows) (sym e.2) j;
 }

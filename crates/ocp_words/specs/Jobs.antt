@@ -5,6 +5,10 @@ use Rattle.clap.specs.Words.{Row, Text, one_of}
 use Rattle.ocp_words.specs.declared.job.Job.{Job}
 use Rattle.ocp_words.specs.declared.job.Job.TheVariants.{Assemble, List as Listing, Run}
 use Rattle.ocp_words.specs.declared.job.Settings.{Settings}
+use Rattle.clap.specs.Values.{kind_of}
+use Rattle.clap.specs.declared.error.kind.ErrorKind.TheVariants.{InvalidValue}
+use Rattle.ocp_words.specs.declared.job.WordsFault.{WordsFault}
+use Rattle.ocp_words.specs.declared.job.WordsFault.TheVariants.{Usage, Memory}
 
 -- the option's text is this number, which has so many bits
 abbrev pub HasNumber : ℕ → Text → List Row → ℕ → Type 0
@@ -13,12 +17,12 @@ HasNumber bits id rows n = (text : Text) × (one_of id rows ≡ Some text) × Pa
 -- the settings are the numbers that stand in these rows
 pub record HasSettings (rows : List Row) (s : Settings) : Type 0 where
   pub apid : HasNumber 16 (codes "apid") rows s.apid
-  pub pool : HasNumber 16 (codes "pool") rows s.pool
-  pub journal : HasNumber 32 (codes "journal") rows s.journal
+  pub pool_words : HasNumber 16 (codes "pool") rows s.pool_words
+  pub capacity : HasNumber 32 (codes "journal") rows s.capacity
 
 -- a run with the defaults
 abbrev pub HasDefaults : Job → Type 0
-HasDefaults (Run s) = (s.apid ≡ 291) × (s.pool ≡ 16) × (s.journal ≡ 100000)
+HasDefaults (Run s) = (s.apid ≡ 291) × (s.pool_words ≡ 16) × (s.capacity ≡ 100000)
 HasDefaults Assemble = ⊥
 HasDefaults Listing = ⊥
 
@@ -28,3 +32,8 @@ IsJob None job = HasDefaults job
 IsJob (Some found) Assemble = found.0 ≡ codes "asm"
 IsJob (Some found) Listing = found.0 ≡ codes "list"
 IsJob (Some found) (Run s) = (found.0 ≡ codes "run") × HasSettings found.1 s
+
+-- a mistake in the words, or no memory
+abbrev pub IsMistake : WordsFault → Type 0
+IsMistake (Usage error) = kind_of error ≡ InvalidValue
+IsMistake Memory = Unit {0}

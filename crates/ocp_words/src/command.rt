@@ -4,7 +4,7 @@ ghost use Rattle.std.specs.Prelude.{◌≡◌, ℕ, IfOk, codes, pos, false};
 ghost use Rattle.clap.specs.Words.{app_of, rule_of, new_app};
 ghost use Rattle.clap.specs.declared.builder.command.Command.TheViews.{out-Command};
 ghost use Rattle.clap.specs.declared.builder.value_parser.ValueParser.TheVariants.{Signed};
-ghost use Rattle.ocp_words.specs.Words.{ocp, run, number_option};
+ghost use Rattle.ocp_words.specs.Words.{ocp, run, number_option, apid_option as apid_rule, pool_option as pool_rule, journal_option as journal_rule};
 
 use clap::builder::ValueParser;
 use clap::{Arg, Command, value_parser};
@@ -28,7 +28,7 @@ const OCP_EXAMPLE: &str = "Each command reads standard input and writes standard
     With no command, ocp does what run does with its defaults.";
 
 /// A command with no options, and what help says of it.
-fn described<'a>(alloc: Global, name: &'a str, about: &'a str, example: &'a str) -> Command<'a>
+fn plain_command<'a>(alloc: Global, name: &'a str, about: &'a str, example: &'a str) -> Command<'a>
     ensures app { app_of result ≡ new_app name.entry.now }
     ensures global { (out-Command result).has_globals ≡ false }
 {
@@ -43,7 +43,8 @@ fn option<'a>(
     parser: ValueParser<'a>,
     help: &'a str,
 ) -> Arg<'a>
-    ensures rule { (low high : ℕ) → parser.entry ≡ Signed (pos low) (pos high) → rule_of result ≡ number_option name.entry.now default.entry.now low high }
+    ensures rule { (low high : ℕ) → parser.entry ≡ Signed (pos low) (pos high) →
+        rule_of result ≡ number_option name.entry.now default.entry.now low high }
     ensures global { result.global ≡ false }
 {
     Arg::new(alloc, name)
@@ -54,7 +55,7 @@ fn option<'a>(
 }
 
 fn apid_option<'a>(alloc: Global) -> Arg<'a>
-    ensures rule { rule_of result ≡ number_option (codes "apid") (codes "291") 0 2046 }
+    ensures rule { rule_of result ≡ apid_rule }
     ensures global { result.global ≡ false }
 {
     let help = "The engine's application process identifier, 0 to 2046";
@@ -68,7 +69,7 @@ fn apid_option<'a>(alloc: Global) -> Arg<'a>
 }
 
 fn pool_option<'a>(alloc: Global) -> Arg<'a>
-    ensures rule { rule_of result ≡ number_option (codes "pool") (codes "16") 1 256 }
+    ensures rule { rule_of result ≡ pool_rule }
     ensures global { result.global ≡ false }
 {
     let help = "Words of the pool, 1 to 256";
@@ -76,7 +77,7 @@ fn pool_option<'a>(alloc: Global) -> Arg<'a>
 }
 
 fn journal_option<'a>(alloc: Global) -> Arg<'a>
-    ensures rule { rule_of result ≡ number_option (codes "journal") (codes "100000") 1 1000000 }
+    ensures rule { rule_of result ≡ journal_rule }
     ensures global { result.global ≡ false }
 {
     let help = "Entries that the journal takes, 1 to 1000000";
@@ -94,7 +95,7 @@ fn run_command<'a>(alloc: Global) -> Result<Command<'a>, AllocError>
     ensures app { IfOk result (λ c. app_of c ≡ run) }
     ensures global { IfOk result (λ c. (out-Command c).has_globals ≡ false) }
 {
-    let run = described(alloc, "run", RUN, RUN_EXAMPLE)
+    let run = plain_command(alloc, "run", RUN, RUN_EXAMPLE)
         .arg(apid_option(alloc))?
         .arg(pool_option(alloc))?
         .arg(journal_option(alloc))?;
@@ -106,9 +107,9 @@ pub(crate) fn ocp_command<'a>(alloc: Global) -> Result<Command<'a>, AllocError>
     ensures { IfOk result (λ c. app_of c ≡ ocp) }
 {
     let run = run_command(alloc)?;
-    let asm = described(alloc, "asm", ASM, ASM_EXAMPLE);
-    let list = described(alloc, "list", LIST, LIST_EXAMPLE);
-    let ocp = described(alloc, "ocp", OCP, OCP_EXAMPLE)
+    let asm = plain_command(alloc, "asm", ASM, ASM_EXAMPLE);
+    let list = plain_command(alloc, "list", LIST, LIST_EXAMPLE);
+    let ocp = plain_command(alloc, "ocp", OCP, OCP_EXAMPLE)
         .no_binary_name(true)
         .bin_name("ocp")?
         .subcommand(asm)?

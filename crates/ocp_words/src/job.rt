@@ -1,10 +1,20 @@
 //! What the program is to do.
 
 ghost use Rattle.std.specs.Prelude.{◌≡◌, ◌≤◌, ◌↔◌, IsSome, IfSome};
+ghost use Rattle.ocp_words.specs.Limits.{max_apid, max_pool_words, max_capacity};
 ghost use Rattle.ocp_words.specs.declared.job.WordsFault.TheVariants.{Memory};
 
 use clap::Error;
-use std::alloc::AllocError;
+use std::alloc::{AllocError, AllocFailed};
+
+/// The greatest application process identifier of an engine.
+pub const MAX_APID: u16 = 2_046;
+
+/// The most words of a pool.
+pub const MAX_POOL_WORDS: u16 = 256;
+
+/// The most entries of a journal.
+pub const MAX_CAPACITY: u32 = 1_000_000;
 
 /// What a run of the console is made with.
 #[derive(Clone, Copy)]
@@ -12,27 +22,30 @@ pub struct Settings {
     /// The engine's application process identifier, 0 to 2,046.
     pub apid: u16,
     /// How many words the pool has, 1 to 256.
-    pub pool: u16,
+    pub pool_words: u16,
     /// How many entries the journal takes, 1 to 1,000,000.
-    pub journal: u32,
-    pub ghost apid_in_range: { apid ≤ 2046 },
-    pub ghost pool_not_empty: { 1 ≤ pool },
-    pub ghost pool_in_range: { pool ≤ 256 },
-    pub ghost journal_not_empty: { 1 ≤ journal },
-    pub ghost journal_in_range: { journal ≤ 1000000 },
+    pub capacity: u32,
+    pub ghost apid_in_range: { apid ≤ max_apid },
+    pub ghost pool_in_range: { (1 ≤ pool_words) × (pool_words ≤ max_pool_words) },
+    pub ghost capacity_in_range: { (1 ≤ capacity) × (capacity ≤ max_capacity) },
 }
 
 impl Settings {
     /// These numbers, if each is in its range.
-    pub fn new(apid: u16, pool: u16, journal: u32) -> Option<Settings>
-        ensures some { IsSome result ↔ ((apid ≤ 2046) × (1 ≤ pool) × (pool ≤ 256) × (1 ≤ journal) × (journal ≤ 1000000)) }
-        ensures numbers { IfSome result (λ s. (s.apid ≡ apid) × (s.pool ≡ pool) × (s.journal ≡ journal)) }
+    pub fn new(apid: u16, pool_words: u16, capacity: u32) -> Option<Settings>
+        ensures some { IsSome result ↔
+            ((apid ≤ max_apid) × ((1 ≤ pool_words) × (pool_words ≤ max_pool_words)) ×
+            ((1 ≤ capacity) × (capacity ≤ max_capacity))) }
+        ensures numbers { IfSome result (λ s.
+            (s.apid ≡ apid) × (s.pool_words ≡ pool_words) × (s.capacity ≡ capacity)) }
     {
-        if apid <= 2046 && 1 <= pool && pool <= 256 && 1 <= journal && journal <= 1_000_000 {
+        let pool_fits = 1 <= pool_words && pool_words <= MAX_POOL_WORDS;
+        let capacity_fits = 1 <= capacity && capacity <= MAX_CAPACITY;
+        if apid <= MAX_APID && pool_fits && capacity_fits {
             Some(Settings {
                 apid,
-                pool,
-                journal,
+                pool_words,
+                capacity,
             })
         } else {
             None
@@ -64,6 +77,14 @@ impl From<AllocError> for WordsFault {
     ghost from_gives = { λ _ e. e ≡ Memory };
 
     fn from(_e: AllocError) -> WordsFault {
+        WordsFault::Memory
+    }
+}
+
+impl<T: Drop> From<AllocFailed<T>> for WordsFault {
+    ghost from_gives = { λ _ e. e ≡ Memory };
+
+    fn from(_e: AllocFailed<T>) -> WordsFault {
         WordsFault::Memory
     }
 }

@@ -7,5 +7,5 @@ mod reading;
 #[cfg(test)]
 mod tests;
 
-pub use job::{Job, Settings, WordsFault};
-pub use reading::read_words;
+pub use job::{Job, MAX_APID, MAX_CAPACITY, MAX_POOL_WORDS, Settings, WordsFault};
+pub use reading::{not_utf8, read_words};

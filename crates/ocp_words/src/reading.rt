@@ -3,7 +3,7 @@
 ghost use Rattle.std.specs.Prelude.{◌≡◌, IfOk, IfSome, IsOk, [], map, ◌≢◌};
 ghost use Rattle.clap.specs.Words.{subcommand_of, rows_of, found_of};
 ghost use Rattle.ocp_words.specs.Words.{ocp};
-ghost use Rattle.ocp_words.specs.Jobs.{HasSettings, HasDefaults, IsJob};
+ghost use Rattle.ocp_words.specs.Jobs.{HasSettings, HasDefaults, IsJob, IsMistake};
 
 use crate::command::ocp_command;
 use crate::job::{Job, Settings, WordsFault};
@@ -11,10 +11,11 @@ use clap::ArgMatches;
 use clap::error::ErrorKind;
 use std::alloc::Global;
 
+/// The settings of a run with no words.
 const DEFAULTS: Settings = Settings {
     apid: 291,
-    pool: 16,
-    journal: 100_000,
+    pool_words: 16,
+    capacity: 100_000,
 };
 
 /// The settings in the matches of `run`, if they are there and each in its range.
@@ -22,16 +23,17 @@ fn settings_of(matches: &ArgMatches<'_>) -> Option<Settings>
     ensures { IfSome result (HasSettings (rows_of (found_of matches.now))) }
 {
     let apid = matches.get_one::<u16>("apid")?;
-    let pool = matches.get_one::<u16>("pool")?;
-    let journal = matches.get_one::<u32>("journal")?;
-    Settings::new(apid, pool, journal)
+    let pool_words = matches.get_one::<u16>("pool")?;
+    let capacity = matches.get_one::<u32>("journal")?;
+    Settings::new(apid, pool_words, capacity)
 }
 
 /// The job that the words after the program's name ask for: the subcommand and the numbers that
 /// `clap` finds in them, defaults included. With no words it is `run` with the defaults. A number
 /// outside its range is `Usage`, as is all that `clap` refuses, and a call for help.
 pub fn read_words<'a>(alloc: Global, words: &'a [&'a str]) -> Result<Job, WordsFault>
-    ensures job { IfOk result (λ job. words.entry.now ≢ [] → IsJob (subcommand_of ocp (map (λ word. word.now) words.entry.now)) job) }
+    ensures job { IfOk result (λ job. words.entry.now ≢ [] →
+        IsJob (subcommand_of ocp (map (λ word. word.now) words.entry.now)) job) }
     ensures none { words.entry.now ≡ [] → IfOk result HasDefaults }
     ensures no_fault { words.entry.now ≡ [] → IsOk result }
 {
@@ -63,5 +65,19 @@ pub fn read_words<'a>(alloc: Global, words: &'a [&'a str]) -> Result<Job, WordsF
             ErrorKind::InvalidSubcommand,
             "no such command",
         )?)),
+    }
+}
+
+/// The fault of words that are no UTF-8, which `read_words` can't be given, as `clap` words it.
+pub fn not_utf8(alloc: Global) -> WordsFault
+    ensures { IsMistake result }
+{
+    let Ok(mut command) = ocp_command(alloc) else {
+        return WordsFault::Memory;
+    };
+    let text = "invalid UTF-8 was detected in one or more arguments";
+    match command.error(ErrorKind::InvalidValue, text) {
+        Ok(error) => WordsFault::Usage(error),
+        Err(_) => WordsFault::Memory,
     }
 }

@@ -1,6 +1,6 @@
 use Rattle.std.proofs.Common.{ℕ, [], ◌++◌, take, arith, ◌∙◌, ap, refl}
 use Rattle.std.proofs.lemmas.Result.{err_from_is_err_and}
-use Rattle.ocp_console.specs.Session.{rest_of}
+use Rattle.ocp_console.specs.Mirror.Session.{rest_of}
 use Rattle.ocp_console.specs.Script.{transcript}
 use Rattle.ocp_console.proofs.Scripts.{not_begun, piece_answered, piece_failed, script_ended}
 use Rattle.std.proofs.KnownBytes.{Consumes-nil, Consumes-trans}

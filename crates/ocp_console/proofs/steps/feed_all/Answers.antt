@@ -1,6 +1,6 @@
 use Rattle.std.proofs.Common.{◌++◌, take, arith, ◌∙◌}
 use Rattle.std.proofs.lemmas.Result.{err_from_is_err_and}
-use Rattle.ocp_console.specs.Session.{rest_of}
+use Rattle.ocp_console.specs.Mirror.Session.{rest_of}
 use Rattle.ocp_console.proofs.Runs.{more_answered, ended_at}
 use Rattle.ocp_console.proofs.Taking.{piece_taken}
 use Rattle.ocp_console.proofs.steps.feed_all.Goals as goal

@@ -2,7 +2,7 @@ use Rattle.std.proofs.Common.{◌++◌, ◌∷◌, ◌+◌, [], length, arith, s
 use Rattle.std.specs.Vec.{vec_len}
 use Rattle.std.proofs.lemmas.Bool.{eqb-true, eqb-false}
 use Rattle.std.proofs.lemmas.List.{nil_from_length}
-use Rattle.ocp_console.specs.Lines.{Open, lines_of}
+use Rattle.text_lines.specs.Lines.{Open, lines_of}
 use Rattle.ocp_console.specs.Script.{run_of}
 use Rattle.ocp_console.specs.Answering.{state_of}
 use Rattle.ocp_console.proofs.Runs.{nothing_left, last_line, run_of_none, open_run, some_left, too_many, prints_of}

@@ -1,4 +1,4 @@
-use Rattle.std.proofs.Common.{rules, ap, refl, codes, ◌≡◌, ◌∙◌, sym, subst, Option, Some, List, map}
+use Rattle.std.proofs.Common.{ap, refl, codes, ◌≡◌, ◌∙◌, sym, subst, Option, Some, List, map}
 use Rattle.clap.specs.Words.{App, Row, Text, is_simple, subcommand_of, rows_of, found_of}
 use Rattle.ocp_words.specs.Words.{ocp}
 use Rattle.ocp_words.specs.Jobs.{IsJob}

@@ -1,0 +1,3 @@
+-- A run line by line and octet by octet, for its proofs.
+pub mod Lines
+pub mod Session

@@ -1,0 +1,23 @@
+-- The octets of a script that were taken so far.
+use Rattle.std.specs.Prelude.{◌≡◌, ◌≢◌, ◌<◌, ℕ, ◌==◌, Bool, true, false, if◌then◌else◌, List, [], ◌∷◌, ◌++◌, length, Result, MatchResult, ◌↔◌}
+use Rattle.text_lines.specs.Lines.{Line, lines_of}
+use Rattle.ocp_ports.specs.declared.fault.ConsoleFault.{ConsoleFault}
+use Rattle.ocp_ports.specs.declared.fault.ConsoleFault.TheVariants.{Write}
+use Rattle.ocp_console.specs.Reading.{max_lines, AreShort}
+
+-- a line so far: no newline stands in it
+abbrev pub is_one_line : List ℕ → Bool
+is_one_line [] = true
+is_one_line (octet ∷ octets) = if octet == 10 then false else is_one_line octets
+
+-- the octets that were taken are so many lines, each of them short, and this line that has not ended
+pub record HasTaken (before : ℕ) (line octets : List ℕ) : Type 0 where
+  pub done : List Line
+  pub count : length done ≡ before
+  pub short : AreShort done
+  pub cut : (more : List ℕ) → lines_of (octets ++ more) ≡ done ++ lines_of (line ++ more)
+  pub room : line ≢ [] → before < max_lines
+
+-- the count of failed writes rose, just where the answer is `Write`
+abbrev pub CountsWrites : ℕ → ℕ → Result Unit ConsoleFault → Type 0
+CountsWrites old new result = MatchResult result (λ _. new ≡ old) (λ fault. (fault ≡ Write) ↔ (old < new))
