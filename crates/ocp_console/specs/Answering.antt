@@ -2,14 +2,15 @@
 use Rattle.std.specs.Prelude.{ℕ, ◌+◌, ◌%◌, List, [], length, Option, Some, None, Ok, Err, codes}
 use Rattle.std.specs.List.{flat_map}
 use Rattle.std.specs.FinMap.{get}
+use Rattle.space_packet.specs.declared.range.TheConstants.{SEQUENCE_COUNTS}
 use Rattle.pus_fields.specs.Acknowledgement.{flags}
 use Rattle.pus_fields.specs.Telecommand.{telecommand_octets}
 use Rattle.obcp_messages.specs.declared.request.Request.{Request}
 use Rattle.obcp_messages.specs.Request.{subtype_of, request_data}
 use Rattle.ocp_table.specs.Shown.{shown_at}
-use Rattle.ocp_core.specs.declared.answers.EngineFault.TheVariants as fault
-use Rattle.ocp_core.specs.World.{Answer, Requested, Stepped}
-use Rattle.ocp_core.specs.World as event
+use Rattle.ocp_world.specs.declared.answers.EngineFault.TheVariants as fault
+use Rattle.ocp_world.specs.After.{Answer, Requested, Stepped}
+use Rattle.ocp_world.specs.World as event
 use Rattle.ocp_core.specs.Log.{Log, empty_log, expand, world_of, answer_in, log_after}
 use Rattle.ocp_core.specs.Slice.{slice_in, slice_log}
 use Rattle.ocp_lines.specs.Grammar.{Said, Nothing, Up, Send, Time, Step, View, Journal, command_of}
@@ -30,7 +31,12 @@ state_of c = record { engine = c.engine; apid = c.apid; time = c.time; count = c
 
 -- the state before the first line
 abbrev pub opening : Settings → State
-opening settings = record { engine = empty_log settings.apid settings.pool_words settings.capacity; apid = settings.apid; time = 0; count = 0 }
+opening settings = record {
+  engine = empty_log settings.apid settings.pool_words settings.capacity;
+  apid = settings.apid;
+  time = 0;
+  count = 0;
+}
 
 -- ---- requests
 
@@ -56,24 +62,35 @@ log_by_answer (Stepped outcome) old new = old
 abbrev pub on_octets : State → List ℕ → State × List ℕ
 on_octets state octets =
     let answer = answer_in state.engine (arrival state octets) in
-    (record state { engine = log_by_answer answer state.engine (log_after state.engine (arrival state octets)) }, answer_text answer)
+    let log = log_by_answer answer state.engine (log_after state.engine (arrival state octets)) in
+    (record state { engine = log }, answer_text answer)
 
 -- the telecommand of a request of service 18, from source 0
-abbrev pub telecommand : State → ℕ → Request → List ℕ
-telecommand state ack request = telecommand_octets (record { apid = state.apid; count = state.count; ack = flags ack; service = 18; subtype = subtype_of request; source = 0; payload = request_data request })
+abbrev pub telecommand : ℕ → ℕ → ℕ → Request → List ℕ
+telecommand apid count ack request = telecommand_octets (record {
+  apid = apid;
+  count = count;
+  ack = flags ack;
+  service = 18;
+  subtype = subtype_of request;
+  source = 0;
+  payload = request_data request;
+})
 
 -- the ground count rises with each telecommand
 abbrev pub with_next_count : State → State
-with_next_count state = record state { count = (state.count + 1) % 16384 }
+with_next_count state = record state { count = (state.count + 1) % SEQUENCE_COUNTS }
 
 -- a telecommand of this request reaches the engine
 abbrev pub on_request : State → ℕ → Request → State × List ℕ
-on_request state ack request = on_octets (with_next_count state) (telecommand state ack request)
+on_request state ack request = on_octets (with_next_count state) (telecommand state.apid state.count ack request)
 
 -- ---- the other lines
 
 abbrev pub on_steps : State → ℕ → ℕ → State × List ℕ
-on_steps state id budget = let slice = slice_in state.engine 0 id budget in (record state { engine = slice_log state.engine 0 id budget }, step_line id slice.count slice.last)
+on_steps state id budget =
+    let slice = slice_in state.engine 0 id budget in
+    (record state { engine = slice_log state.engine 0 id budget }, step_line id slice.count slice.last)
 
 -- ---- each line
 

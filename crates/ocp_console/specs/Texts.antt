@@ -8,13 +8,13 @@ use Rattle.pus_fields.specs.TelemetryFaults.{telemetry_of}
 use Rattle.pus_fields.specs.declared.fault.TmFault.{TmFault}
 use Rattle.pus_fields.specs.declared.fault.Discard.{Discard}
 use Rattle.pus_fields.specs.declared.fault.Discard.TheVariants as discard
-use Rattle.ocp_table.specs.declared.control.Status.{Status}
-use Rattle.ocp_table.specs.declared.control.Status.TheVariants as status
+use Rattle.obcp_types.specs.declared.status.Status.{Status}
+use Rattle.obcp_types.specs.declared.status.Status.TheVariants as status
 use Rattle.ocp_table.specs.declared.control.Cause.{Cause}
 use Rattle.ocp_table.specs.declared.control.Cause.TheVariants as cause
 use Rattle.ocp_table.specs.declared.view.View.{View}
-use Rattle.ocp_core.specs.declared.answers.StepOutcome.{StepOutcome}
-use Rattle.ocp_core.specs.declared.answers.StepOutcome.TheVariants as outcome
+use Rattle.ocp_table.specs.declared.answers.StepOutcome.{StepOutcome}
+use Rattle.ocp_table.specs.declared.answers.StepOutcome.TheVariants as outcome
 
 -- ---- reports
 
@@ -59,6 +59,7 @@ step_line id count last = codes "step " ++ decimal id ++ codes " " ++ decimal co
 abbrev pub status_name : Status → List ℕ
 status_name status.Inactive = codes "inactive"
 status_name status.Running = codes "running"
+status_name status.Held = codes "held"
 
 abbrev pub cause_text : Cause → List ℕ
 cause_text cause.Nothing = codes "none"

@@ -1,9 +1,10 @@
 //! What a console keeps from line to line, and what each line does to it.
 
-ghost use Rattle.std.specs.Prelude.{◌≡◌, ◌<◌, ◌≤◌, length, IfOk, string_bytes, Some};
-ghost use Rattle.pus_fields.specs.Telecommand.{telecommand_octets};
-ghost use Rattle.obcp_messages.specs.Request.{subtype_of, request_data};
-ghost use Rattle.pus_fields.specs.Acknowledgement.{flags_of};
+ghost use Rattle.std.specs.Prelude.{◌≡◌, ◌<◌, ◌≤◌, length, IfOk, string_bytes};
+ghost use Rattle.space_packet.specs.declared.range.TheConstants.{IDLE_APID};
+ghost use Rattle.pus_fields.specs.declared.writing.TheConstants.{MAX_TELECOMMAND_DATA};
+ghost use Rattle.obcp_messages.specs.Request.{request_data};
+ghost use Rattle.ocp_console.specs.Answering.{telecommand};
 
 use crate::texts::{discard_text, journal_text, reports_text, step_text, view_text};
 use bitflags::Flags as _;
@@ -23,11 +24,10 @@ fn telecommand<A: Allocator + Copy>(
     flags: Flags,
     request: &Request,
 ) -> Result<Vec<u8, A>, AllocError>
-    requires apid { apid < 2047 }
-    requires short { length (request_data request.now) ≤ 65529 }
+    requires apid { apid < IDLE_APID }
+    requires short { length (request_data request.now) ≤ MAX_TELECOMMAND_DATA }
     ensures { IfOk result
-        (λ packet. packet.items ≡
-        telecommand_octets (record { apid = apid; count = count; ack = record { 0 = flags.number }; service = 18; subtype = subtype_of request.now; source = 0; payload = request_data request.now })) }
+        (λ packet. packet.items ≡ telecommand apid count flags.number request.now) }
 {
     let mut payload = Vec::new(alloc);
     write_request(request, &mut payload)?;
@@ -51,12 +51,12 @@ pub(crate) struct Console<A: Allocator> {
     pub time: u32,
     /// The ground count: the sequence count of the next telecommand.
     pub count: SequenceCount,
-    pub ghost apid_in_range: { apid < 2047 },
+    pub ghost apid_in_range: { apid < IDLE_APID },
 }
 
 impl<A: Allocator + Copy> Console<A> {
     ghost use Rattle.ocp_lines.specs.Grammar.{said_by, request_of};
-    ghost use Rattle.ocp_console.specs.Answering.{state_of, opening, on_octets, with_next_count, on_request, on_command};
+    ghost use Rattle.ocp_console.specs.Answering.{state_of, opening, on_octets, on_request, on_command};
 
     /// A console on a new engine.
     pub fn new(alloc: A, settings: Settings) -> Result<Console<A>, AllocError>
@@ -87,7 +87,7 @@ impl<A: Allocator + Copy> Console<A> {
 
     /// A telecommand of this request reaches the engine.
     fn ask(&mut self, alloc: A, flags: Flags, request: &Request) -> Result<String<A>, AllocError>
-        requires { length (request_data request.now) ≤ 65529 }
+        requires { length (request_data request.now) ≤ MAX_TELECOMMAND_DATA }
         ensures { IfOk result
             (λ text. (state_of self.new, string_bytes text) ≡
             on_request (state_of self.old) flags.number request.now) }

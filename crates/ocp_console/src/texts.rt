@@ -97,6 +97,7 @@ fn name_of_status(status: Status) -> &'static str
     match status {
         Status::Inactive => "inactive",
         Status::Running => "running",
+        Status::Held => "held",
     }
 }
 

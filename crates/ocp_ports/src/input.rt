@@ -23,8 +23,10 @@ pub fn read_whole<R: Source, A: Allocator>(
     ensures whole { IfOk result (λ read. IfSome (R.remaining reader.old) (λ input.
         MatchOption read (max_input < length input) (λ octets. octets.items ≡ input))) }
     ensures few { IfOk result (λ read. IfSome read (λ octets. IsShort octets.items)) }
-    ensures reads { IfSome (R.remaining reader.old) (λ input. ReadsWhile IsShort input (R.remaining reader.new)) }
-    ensures read { IsErrOf result ConsoleFault.Read ↔ (R.failed_reads reader.old < R.failed_reads reader.new) }
+    ensures reads { IfSome (R.remaining reader.old)
+        (λ input. ReadsWhile IsShort input (R.remaining reader.new)) }
+    ensures read { IsErrOf result ConsoleFault.Read ↔
+        (R.failed_reads reader.old < R.failed_reads reader.new) }
     ensures err { IfErr result (λ e. (e ≡ ConsoleFault.Read) ⊎ (e ≡ ConsoleFault.Memory)) }
 {
     let mut input = Vec::new(alloc);

@@ -13,7 +13,8 @@ pub fn write_whole<W: Sink>(writer: &mut W, octets: &[u8]) -> Result<(), Console
     requires { W.failed_writes writer.old < 2 ^ 64 - 1 }
     ensures octets { MatchResult result
         (λ _. Appends (W.contents writer.old) (W.contents writer.new) octets.now)
-        (λ e. (e ≡ ConsoleFault.Write) × PrintsPrefix (W.contents writer.old) (W.contents writer.new) octets.now) }
+        (λ e. (e ≡ ConsoleFault.Write) ×
+        PrintsPrefix (W.contents writer.old) (W.contents writer.new) octets.now) }
     ensures count { MatchResult result
         (λ _. W.failed_writes writer.new ≡ W.failed_writes writer.old)
         (λ _. W.failed_writes writer.old < W.failed_writes writer.new) }

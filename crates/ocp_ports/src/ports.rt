@@ -34,5 +34,6 @@ pub trait Sink {
         ensures bound { IfSome result (λ count. count ≤ length octets.now) }
         ensures moves { IfSome result (λ count. 0 < count) }
         ensures octets { Puts (contents self.old) (contents self.new) result octets.now }
-        ensures count { failed_writes self.new ≡ failures (is_some result) (failed_writes self.old) };
+        ensures count { failed_writes self.new ≡
+            failures (is_some result) (failed_writes self.old) };
 }

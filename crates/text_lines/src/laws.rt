@@ -11,7 +11,8 @@ pub fn texts_are_cut_at_newlines()
     ensures nothing { line_texts [] ≡ [] }
     ensures ended { (line rest : List ℕ) → All (λ octet. octet ≢ 10) line →
         line_texts (line ++ 10 ∷ rest) ≡ strip_carriage_return line ∷ line_texts rest }
-    ensures open { (line : List ℕ) → All (λ octet. octet ≢ 10) line → line ≢ [] → line_texts line ≡ line ∷ [] }
+    ensures open { (line : List ℕ) → All (λ octet. octet ≢ 10) line → line ≢ [] →
+        line_texts line ≡ line ∷ [] }
     ensures ended_line { (line rest : List ℕ) → All (λ octet. octet ≢ 10) line →
         lines_of (line ++ 10 ∷ rest) ≡ Ended line ∷ lines_of rest }
     ensures open_line { (line : List ℕ) → All (λ octet. octet ≢ 10) line → line ≢ [] →
