@@ -16,13 +16,16 @@ pub fn spellings_are_unique()
 /// Octets begin with one instruction at most, so that no spelling begins another one; and an instruction that has a
 /// fault writes R10.
 pub fn instructions_are_unique()
-    ensures one { (octets : List ℕ) (a b : Line) → BeginsWith octets a → BeginsWith octets b → a ≡ b }
-    ensures no_fault { (octets : List ℕ) (fault : DecodeFault) (line : Line) → IsFirst fault octets → BeginsWith octets line → WritesFramePointer line }
+    ensures one { (octets : List ℕ) (a b : Line) → BeginsWith octets a → BeginsWith octets b →
+        a ≡ b }
+    ensures no_fault { (octets : List ℕ) (fault : DecodeFault) (line : Line) →
+        IsFirst fault octets → BeginsWith octets line → WritesFramePointer line }
 {}
 
 /// Octets that begin with an instruction that does not write R10 are decoded as that instruction.
 pub fn instructions_are_decoded()
-    ensures { (octets : List ℕ) (line : Line) → BeginsWith octets line → ¬ WritesFramePointer line → decode_result octets ≡ Ok line }
+    ensures { (octets : List ℕ) (line : Line) → BeginsWith octets line → ¬ WritesFramePointer line →
+        decode_result octets ≡ Ok line }
 {}
 
 /// Octets begin with an instruction that may be loaded, or have a first fault.

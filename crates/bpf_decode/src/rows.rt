@@ -28,7 +28,8 @@ pub fn operand_of(fields: Fields) -> Option<Operand>
 pub fn operation_at_offset(operation: Operation, offset: i16) -> Option<Operation>
     requires { offset_of operation ≡ pos 0 }
     ensures exact { result ≡ with_offset operation offset }
-    ensures found { IfSome result (λ found. (code_of found ≡ code_of operation) × (offset_of found ≡ offset)) }
+    ensures found { IfSome result
+        (λ found. (code_of found ≡ code_of operation) × (offset_of found ≡ offset)) }
 {
     if offset == 0 {
         return Some(operation);
@@ -46,7 +47,8 @@ pub fn operation_at_offset(operation: Operation, offset: i16) -> Option<Operatio
 /// The move that extends the sign from as many bits as the offset says, in a class.
 pub fn extension_of(width: Width, offset: i16) -> Option<Extension>
     ensures exact { result ≡ extension_at width offset }
-    ensures found { IfSome result (λ e. (extension_offset e ≡ offset) × (width ≡ extension_width e)) }
+    ensures found { IfSome result
+        (λ e. (extension_offset e ≡ offset) × (width ≡ extension_width e)) }
 {
     Extension::new(width, u64::try_from(offset).ok()?)
 }

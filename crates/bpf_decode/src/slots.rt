@@ -82,7 +82,8 @@ fn line_of(fields: Fields, octets: &[u8]) -> Option<Line>
 fn permitted_line(line: Line) -> Result<Line, DecodeFault>
     ensures exact { result ≡ permitted_line line }
     ensures ok { IfOk result (λ r. (r ≡ line) × ¬ WritesFramePointer line) }
-    ensures err { IfErr result (λ e. (e ≡ DecodeFault.WritesFramePointer) × WritesFramePointer line) }
+    ensures err { IfErr result
+        (λ e. (e ≡ DecodeFault.WritesFramePointer) × WritesFramePointer line) }
 {
     let copied = line;
     if copied.writes_frame_pointer() {
@@ -133,7 +134,8 @@ fn decode_octets(octets: &[u8]) -> Result<Line, DecodeFault>
     requires { 8 ≤ length octets.now }
     ensures exact { result ≡ decode_result octets.now }
     ensures ok { IfOk result (λ line. BeginsWith octets.now line × ¬ WritesFramePointer line) }
-    ensures only { (line : Line) → BeginsWith octets.now line → ¬ WritesFramePointer line → result ≡ Ok line }
+    ensures only { (line : Line) → BeginsWith octets.now line → ¬ WritesFramePointer line →
+        result ≡ Ok line }
     ensures err { IfErr result (λ fault. IsFirst fault octets.now) }
     ensures first { (fault : DecodeFault) → IsFirst fault octets.now → result ≡ Err fault }
 {
@@ -146,10 +148,13 @@ fn decode_octets(octets: &[u8]) -> Result<Line, DecodeFault>
 pub fn decode_at(code: &[u8], slot: usize) -> Result<Line, DecodeFault>
     requires { 8 * slot + 8 ≤ length code.now }
     ensures exact { result ≡ decode_result (drop (8 * slot) code.now) }
-    ensures ok { IfOk result (λ line. BeginsWith (drop (8 * slot) code.now) line × ¬ WritesFramePointer line) }
-    ensures only { (line : Line) → BeginsWith (drop (8 * slot) code.now) line → ¬ WritesFramePointer line → result ≡ Ok line }
+    ensures ok { IfOk result
+        (λ line. BeginsWith (drop (8 * slot) code.now) line × ¬ WritesFramePointer line) }
+    ensures only { (line : Line) → BeginsWith (drop (8 * slot) code.now) line →
+        ¬ WritesFramePointer line → result ≡ Ok line }
     ensures err { IfErr result (λ fault. IsFirst fault (drop (8 * slot) code.now)) }
-    ensures first { (fault : DecodeFault) → IsFirst fault (drop (8 * slot) code.now) → result ≡ Err fault }
+    ensures first { (fault : DecodeFault) → IsFirst fault (drop (8 * slot) code.now) →
+        result ≡ Err fault }
 {
     decode_octets(&code[8 * slot..])
 }

@@ -32,7 +32,7 @@ fn by_register(width: Width, operation: Operation) -> Line {
     }
 }
 
-fn moved(extension: Extension) -> Line {
+fn sign_extending_move(extension: Extension) -> Line {
     Line::MoveExtended {
         extension,
         dst: reg(1),
@@ -40,7 +40,7 @@ fn moved(extension: Extension) -> Line {
     }
 }
 
-fn ordered(order: Order, width: SwapWidth) -> Line {
+fn byte_order(order: Order, width: SwapWidth) -> Line {
     Line::ByteOrder {
         order,
         width,
@@ -220,17 +220,17 @@ fn arithmetic_is_spelled_by_its_rows(rt: HostRuntime) {
     is_spelled(&rt, wide, [0x87, 3, 0, 0, 0, 0, 0, 0]);
     is_spelled(
         &rt,
-        ordered(Order::Little, SwapWidth::Bits16),
+        byte_order(Order::Little, SwapWidth::Bits16),
         [0xd4, 1, 0, 0, 16, 0, 0, 0],
     );
     is_spelled(
         &rt,
-        ordered(Order::Big, SwapWidth::Bits32),
+        byte_order(Order::Big, SwapWidth::Bits32),
         [0xdc, 1, 0, 0, 32, 0, 0, 0],
     );
     is_spelled(
         &rt,
-        ordered(Order::Swap, SwapWidth::Bits64),
+        byte_order(Order::Swap, SwapWidth::Bits64),
         [0xd7, 1, 0, 0, 64, 0, 0, 0],
     );
 }
@@ -239,27 +239,27 @@ fn arithmetic_is_spelled_by_its_rows(rt: HostRuntime) {
 fn moves_that_extend_are_spelled_by_their_rows(rt: HostRuntime) {
     is_spelled(
         &rt,
-        moved(Extension::From8To32),
+        sign_extending_move(Extension::From8To32),
         [0xbc, 0x91, 8, 0, 0, 0, 0, 0],
     );
     is_spelled(
         &rt,
-        moved(Extension::From16To32),
+        sign_extending_move(Extension::From16To32),
         [0xbc, 0x91, 16, 0, 0, 0, 0, 0],
     );
     is_spelled(
         &rt,
-        moved(Extension::From8To64),
+        sign_extending_move(Extension::From8To64),
         [0xbf, 0x91, 8, 0, 0, 0, 0, 0],
     );
     is_spelled(
         &rt,
-        moved(Extension::From16To64),
+        sign_extending_move(Extension::From16To64),
         [0xbf, 0x91, 16, 0, 0, 0, 0, 0],
     );
     is_spelled(
         &rt,
-        moved(Extension::From32To64),
+        sign_extending_move(Extension::From32To64),
         [0xbf, 0x91, 32, 0, 0, 0, 0, 0],
     );
 }

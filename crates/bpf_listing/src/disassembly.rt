@@ -31,12 +31,15 @@ fn write_next<A: Allocator>(
     out: &mut Vec<u8, A>,
 ) -> Result<usize, DisassembleFault>
     requires { 8 * slot + 8 ≤ length code.now }
-    ensures ok { IfOk result (λ slots. (line : Line) × BeginsWith (drop (8 * slot) code.now) line × (¬ WritesFramePointer line) × (8 * slots ≡ length (spelling line))
+    ensures ok { IfOk result
+        (λ slots. (line : Line) × BeginsWith (drop (8 * slot) code.now) line
+        × (¬ WritesFramePointer line) × (8 * slots ≡ length (spelling line))
         × (out.new.items ≡ out.old.items ++ (canonical line ++ codes "\n"))) }
     ensures few { IfOk result (λ slots. (1 ≤ slots) × (slots ≤ 2)) }
     ensures err { OnErr result (out.new.items ≡ out.old.items) }
     ensures decode { IfErr result (IsNextFault slot (drop (8 * slot) code.now)) }
-    ensures memory { IsErrOf result DisassembleFault.Memory → NeedsMore (drop (8 * slot) code.now) (vec_capacity out.old) (length out.old.items) }
+    ensures memory { IsErrOf result DisassembleFault.Memory →
+        NeedsMore (drop (8 * slot) code.now) (vec_capacity out.old) (length out.old.items) }
     ensures capacity { vec_capacity out.old ≤ vec_capacity out.new }
 {
     let line = match decode_at(code, slot) {
@@ -58,9 +61,11 @@ fn write_lines<A: Allocator>(code: &[u8], out: &mut Vec<u8, A>) -> Result<(), Di
     ensures ok { OnOk result (IsListed code.now out.old.items out.new.items) }
     ensures prefix { take (length out.old.items) out.new.items ≡ out.old.items }
     ensures fault { IfErr result (λ e. (e ≢ DisassembleFault.Ragged) × IsFaultOf code.now e) }
-    ensures memory { IsErrOf result DisassembleFault.Memory → (lines : List Line) → IsImageOf code.now lines →
+    ensures memory { IsErrOf result DisassembleFault.Memory → (lines : List Line) →
+        IsImageOf code.now lines →
         vec_capacity out.old < length (out.old.items ++ listing lines) }
-    ensures room { IsErrOf result DisassembleFault.Memory → LacksRoom code.now (vec_capacity out.old) (length out.old.items) }
+    ensures room { IsErrOf result DisassembleFault.Memory →
+        LacksRoom code.now (vec_capacity out.old) (length out.old.items) }
     ensures capacity { vec_capacity out.old ≤ vec_capacity out.new }
 {
     instructions_are_unique();
@@ -82,12 +87,15 @@ fn write_lines<A: Allocator>(code: &[u8], out: &mut Vec<u8, A>) -> Result<(), Di
 pub fn disassemble<A: Allocator>(code: &[u8], out: &mut Vec<u8, A>) -> Result<(), DisassembleFault>
     ensures ok { OnOk result (IsListed code.now out.old.items out.new.items) }
     ensures only { (lines : List Line) → IsImageOf code.now lines → NoneWritesFramePointer lines →
-        MatchResult result (λ _. out.new.items ≡ out.old.items ++ listing lines) (λ e. e ≡ DisassembleFault.Memory) }
+        MatchResult result (λ _. out.new.items ≡ out.old.items ++ listing lines)
+        (λ e. e ≡ DisassembleFault.Memory) }
     ensures ragged { IsErrOf result DisassembleFault.Ragged ↔ (length code.now % 8 ≢ 0) }
     ensures fault { IfErr result (IsFaultOf code.now) }
-    ensures memory { IsErrOf result DisassembleFault.Memory → (lines : List Line) → IsImageOf code.now lines →
+    ensures memory { IsErrOf result DisassembleFault.Memory → (lines : List Line) →
+        IsImageOf code.now lines →
         vec_capacity out.old < length (out.old.items ++ listing lines) }
-    ensures room { IsErrOf result DisassembleFault.Memory → LacksRoom code.now (vec_capacity out.old) (length out.old.items) }
+    ensures room { IsErrOf result DisassembleFault.Memory →
+        LacksRoom code.now (vec_capacity out.old) (length out.old.items) }
     ensures err { OnErr result (out.new.items ≡ out.old.items) }
     ensures capacity { vec_capacity out.old ≤ vec_capacity out.new }
 {

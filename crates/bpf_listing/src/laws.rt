@@ -28,8 +28,10 @@ pub fn canonical_texts_are_unique()
 /// A canonical text is of digits, lower-case letters, spaces and the signs `+ , - [ ]`; so it has no newline, and a listing
 /// has one for each instruction.
 pub fn listings_have_a_line_for_each_instruction()
-    ensures octets { (line : Line) → IsLine line → IsTrue (list_all is_text_octet (canonical line)) }
-    ensures newlines { (lines : List Line) → All IsLine lines → count_by (λ octet. octet == 10) (listing lines) ≡ length lines }
+    ensures octets { (line : Line) → IsLine line →
+        IsTrue (list_all is_text_octet (canonical line)) }
+    ensures newlines { (lines : List Line) → All IsLine lines →
+        count_by (λ octet. octet == 10) (listing lines) ≡ length lines }
 {}
 
 /// An image is that of one list of instructions at most.
@@ -51,8 +53,10 @@ pub fn images_have_a_listing_or_a_fault()
 pub fn listings_and_faults_are_unique()
     ensures listing { (image a b : List ℕ) → IsListed image [] a → IsListed image [] b → a ≡ b }
     ensures slots { (image a : List ℕ) → IsListed image [] a → length image % 8 ≡ 0 }
-    ensures sound { (image a : List ℕ) (slot : ℕ) (fault : DecodeFault) → IsListed image [] a → ¬ HasFaultAt image slot fault }
-    ensures fault { (image : List ℕ) (s t : ℕ) (f g : DecodeFault) → HasFaultAt image s f → HasFaultAt image t g → (f ≡ g) × (s ≡ t) }
+    ensures sound { (image a : List ℕ) (slot : ℕ) (fault : DecodeFault) → IsListed image [] a →
+        ¬ HasFaultAt image slot fault }
+    ensures fault { (image : List ℕ) (s t : ℕ) (f g : DecodeFault) → HasFaultAt image s f →
+        HasFaultAt image t g → (f ≡ g) × (s ≡ t) }
 {
     instructions_are_unique();
     faults_are_unique();

@@ -104,7 +104,8 @@ fn stem_of(word: &[u8]) -> Option<Stem>
 /// The stem and the class that are this text.
 fn classed_of(word: &[u8]) -> Option<(Stem, Width)>
     ensures some { IfSome result (λ p. word.now ≡ stem_name p.0 ++ width_name p.1) }
-    ensures only { (s : Stem) (w : Width) → word.now ≡ stem_name s ++ width_name w → result ≡ Some (s, w) }
+    ensures only { (s : Stem) (w : Width) → word.now ≡ stem_name s ++ width_name w →
+        result ≡ Some (s, w) }
 {
     let end = word.len().saturating_sub(2);
     let width = match &word[end..] {

@@ -38,7 +38,8 @@ fn register_of(field: Field) -> Option<Reg>
 
 /// A number of 32 bits, behind a sign or a space.
 fn number_of(field: Field) -> Option<i32>
-    ensures only { (z : ℤ) → FitsSigned w32 z → (field ≡ signed_field z) ⊎ (field ≡ number_field z) → result ≡ Some z }
+    ensures only { (z : ℤ) → FitsSigned w32 z →
+        (field ≡ signed_field z) ⊎ (field ≡ number_field z) → result ≡ Some z }
 {
     if field.mark == b'-' {
         if field.number <= 0x8000_0000 {
@@ -104,7 +105,8 @@ fn hex_of(digits: &[u8]) -> u64
 }
 
 fn jump_of(jump: Jump, first: Field, second: Field, third: Field, operands: &[u8]) -> Option<Line>
-    ensures only { (l : Line) → IsLine l → Shows l (word.Jump jump) first second third operands.now → result ≡ Some l }
+    ensures only { (l : Line) → IsLine l →
+        Shows l (word.Jump jump) first second third operands.now → result ≡ Some l }
 {
     Some(match jump {
         Jump::If(width, comparison) => Line::JumpIf {
@@ -133,7 +135,8 @@ fn jump_of(jump: Jump, first: Field, second: Field, third: Field, operands: &[u8
 }
 
 fn access_of(access: Access, first: Field, second: Field, third: Field) -> Option<Line>
-    ensures only { (l : Line) (os : List ℕ) → IsLine l → Shows l (word.Access access) first second third os → result ≡ Some l }
+    ensures only { (l : Line) (os : List ℕ) → IsLine l →
+        Shows l (word.Access access) first second third os → result ≡ Some l }
 {
     Some(match access {
         Access::Load(size) => Line::Load {
@@ -171,7 +174,8 @@ fn line_of(
     third: Field,
     operands: &[u8],
 ) -> Option<Line>
-    ensures only { (l : Line) → IsLine l → Shows l mnemonic first second third operands.now → result ≡ Some l }
+    ensures only { (l : Line) → IsLine l → Shows l mnemonic first second third operands.now →
+        result ≡ Some l }
 {
     Some(match mnemonic {
         Mnemonic::Arithmetic(width, operation) => Line::Arithmetic {

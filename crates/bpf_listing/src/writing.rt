@@ -126,7 +126,8 @@ fn load_wide_text(dst: Reg, value: u64) -> Text
 fn load_text(first: &[u8], second: &[u8], dst: Reg, base: Reg, offset: i16) -> Text
     requires first { length first.now ≤ 5 }
     requires second { length second.now ≤ 2 }
-    ensures items { result ≡ first.now ++ second.now ++ codes " " ++ words.register dst ++ codes ", " ++ place_text base offset }
+    ensures items { result ≡ first.now ++ second.now ++ codes " " ++ words.register dst
+        ++ codes ", " ++ place_text base offset }
     ensures len { length result ≤ 48 }
 {
     let mut text = mnemonic(first, second);
@@ -140,7 +141,8 @@ fn load_text(first: &[u8], second: &[u8], dst: Reg, base: Reg, offset: i16) -> T
 fn store_text(first: &[u8], second: &[u8], base: Reg, offset: i16, operand: Operand) -> Text
     requires first { length first.now ≤ 5 }
     requires second { length second.now ≤ 2 }
-    ensures items { result ≡ first.now ++ second.now ++ codes " " ++ place_text base offset ++ codes ", " ++ operand_text operand }
+    ensures items { result ≡ first.now ++ second.now ++ codes " " ++ place_text base offset
+        ++ codes ", " ++ operand_text operand }
     ensures len { length result ≤ 48 }
 {
     let mut text = mnemonic(first, second);
@@ -254,7 +256,8 @@ pub fn text_of(line: Line) -> Text
 pub fn line_text<A: Allocator>(line: Line, out: &mut Vec<u8, A>) -> Result<(), AllocError>
     ensures ok { OnOk result (out.new.items ≡ out.old.items ++ canonical line) }
     ensures err { OnErr result (out.new.items ≡ out.old.items) }
-    ensures memory { OnErr result (vec_capacity out.old < length (out.old.items ++ canonical line)) }
+    ensures memory { OnErr result
+        (vec_capacity out.old < length (out.old.items ++ canonical line)) }
     ensures capacity { vec_capacity out.old ≤ vec_capacity out.new }
 {
     out.extend_from_slice(text_of(line).as_slice())

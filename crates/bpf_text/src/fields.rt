@@ -53,7 +53,8 @@ fn unsigned_immediate(n: u128) -> Result<i32, LineFault>
 
 /// The immediate that a number with a minus stands for.
 fn negative_immediate(n: u128) -> Result<i32, LineFault>
-    ensures { (m : ℕ) → n ≡ min m (2 ^ 64) → Narrows (FitsSigned w32) (as_signed (pos 0 -ℤ pos m)) result }
+    ensures { (m : ℕ) → n ≡ min m (2 ^ 64) →
+        Narrows (FitsSigned w32) (as_signed (pos 0 -ℤ pos m)) result }
 {
     if n <= 0x8000_0000 {
         Ok((0 - n as i64) as i32)

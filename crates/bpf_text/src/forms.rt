@@ -58,7 +58,8 @@ fn two<'a>(operands: &[&'a [u8]]) -> Option<(&'a [u8], &'a [u8])>
 /// The first operand, and the tokens behind the comma after it.
 fn first<'b, 'a>(operands: &'b [&'a [u8]]) -> Option<(&'a [u8], &'b [&'a [u8]])>
     ensures some { IfSome result (λ p. texts operands.now ≡ p.0.now ∷ codes "," ∷ texts p.1.now) }
-    ensures none { IfNone result ((a : List ℕ) (rest : List (List ℕ)) → texts operands.now ≢ a ∷ codes "," ∷ rest) }
+    ensures none { IfNone result ((a : List ℕ) (rest : List (List ℕ)) →
+        texts operands.now ≢ a ∷ codes "," ∷ rest) }
 {
     match operands {
         [a, b",", rest @ ..] => Some((*a, rest)),
@@ -80,7 +81,8 @@ fn last<'a>(tokens: &[&'a [u8]]) -> Option<&'a [u8]>
 /// The register in brackets, and the tokens behind it.
 fn opened<'b, 'a>(tokens: &'b [&'a [u8]]) -> Option<(&'a [u8], &'b [&'a [u8]])>
     ensures some { IfSome result (λ p. texts tokens.now ≡ codes "[" ∷ p.0.now ∷ texts p.1.now) }
-    ensures none { IfNone result ((a : List ℕ) (rest : List (List ℕ)) → texts tokens.now ≢ codes "[" ∷ a ∷ rest) }
+    ensures none { IfNone result ((a : List ℕ) (rest : List (List ℕ)) →
+        texts tokens.now ≢ codes "[" ∷ a ∷ rest) }
 {
     match tokens {
         [b"[", base, rest @ ..] => Some((*base, rest)),
@@ -102,7 +104,8 @@ fn closed<'b, 'a>(tokens: &'b [&'a [u8]]) -> Option<&'b [&'a [u8]]>
 /// The offset before a bracket that closes, and the tokens behind that.
 fn closed_after<'b, 'a>(tokens: &'b [&'a [u8]]) -> Option<(&'a [u8], &'b [&'a [u8]])>
     ensures some { IfSome result (λ p. texts tokens.now ≡ p.0.now ∷ codes "]" ∷ texts p.1.now) }
-    ensures none { IfNone result ((a : List ℕ) (rest : List (List ℕ)) → texts tokens.now ≢ a ∷ codes "]" ∷ rest) }
+    ensures none { IfNone result ((a : List ℕ) (rest : List (List ℕ)) →
+        texts tokens.now ≢ a ∷ codes "]" ∷ rest) }
 {
     match tokens {
         [offset, b"]", rest @ ..] => Some((*offset, rest)),
@@ -112,8 +115,12 @@ fn closed_after<'b, 'a>(tokens: &'b [&'a [u8]]) -> Option<(&'a [u8], &'b [&'a [u
 
 /// The register and the offset in brackets, and the tokens behind them.
 fn place<'b, 'a>(tokens: &'b [&'a [u8]]) -> Option<((&'a [u8], Option<&'a [u8]>), &'b [&'a [u8]])>
-    ensures some { IfSome result (λ p. (texts tokens.now ≡ in_brackets p.0.0.now (text_of p.0.1) (texts p.1.now)) × (text_of p.0.1 ≢ Some (codes "]"))) }
-    ensures none { IfNone result ((base : List ℕ) (offset : Option (List ℕ)) (rest : List (List ℕ)) → texts tokens.now ≢ in_brackets base offset rest) }
+    ensures some { IfSome result
+        (λ p. (texts tokens.now ≡ in_brackets p.0.0.now (text_of p.0.1) (texts p.1.now))
+        × (text_of p.0.1 ≢ Some (codes "]"))) }
+    ensures none { IfNone result
+        ((base : List ℕ) (offset : Option (List ℕ)) (rest : List (List ℕ)) →
+        texts tokens.now ≢ in_brackets base offset rest) }
 {
     let Some((base, after)) = opened(tokens) else {
         return None;
@@ -129,7 +136,8 @@ fn place<'b, 'a>(tokens: &'b [&'a [u8]]) -> Option<((&'a [u8], Option<&'a [u8]>)
 
 /// A register, a comma, and a register or an immediate.
 pub fn register_and_second(operands: &[&[u8]]) -> Result<(Reg, Operand), LineFault>
-    ensures { Gives (λ p. p) (AreTwo IsRegister IsSecond (texts operands.now)) (λ w. IsReg w.0 × IsOperand w.1) result }
+    ensures { Gives (λ p. p) (AreTwo IsRegister IsSecond (texts operands.now))
+        (λ w. IsReg w.0 × IsOperand w.1) result }
 {
     match two(operands) {
         Some((a, b)) => both(register(a), second(b)),
@@ -139,7 +147,8 @@ pub fn register_and_second(operands: &[&[u8]]) -> Result<(Reg, Operand), LineFau
 
 /// A register, a comma, and a number.
 pub fn register_and_number(operands: &[&[u8]]) -> Result<(Reg, u64), LineFault>
-    ensures { Gives (λ p. p) (AreTwo IsRegister IsNumeral (texts operands.now)) (λ w. IsReg w.0 × (w.1 < 2 ^ 64)) result }
+    ensures { Gives (λ p. p) (AreTwo IsRegister IsNumeral (texts operands.now))
+        (λ w. IsReg w.0 × (w.1 < 2 ^ 64)) result }
 {
     match two(operands) {
         Some((a, b)) => both(register(a), wide(b)),
@@ -149,8 +158,10 @@ pub fn register_and_number(operands: &[&[u8]]) -> Result<(Reg, u64), LineFault>
 
 /// Three operands with commas between them.
 fn three<'a>(operands: &[&'a [u8]]) -> Option<((&'a [u8], &'a [u8]), &'a [u8])>
-    ensures some { IfSome result (λ p. texts operands.now ≡ p.0.0.now ∷ codes "," ∷ p.0.1.now ∷ codes "," ∷ p.1.now ∷ []) }
-    ensures none { IfNone result ((a b c : List ℕ) → texts operands.now ≢ a ∷ codes "," ∷ b ∷ codes "," ∷ c ∷ []) }
+    ensures some { IfSome result
+        (λ p. texts operands.now ≡ p.0.0.now ∷ codes "," ∷ p.0.1.now ∷ codes "," ∷ p.1.now ∷ []) }
+    ensures none { IfNone result ((a b c : List ℕ) →
+        texts operands.now ≢ a ∷ codes "," ∷ b ∷ codes "," ∷ c ∷ []) }
 {
     let Some((a, rest)) = first(operands) else {
         return None;
@@ -163,7 +174,8 @@ fn three<'a>(operands: &[&'a [u8]]) -> Option<((&'a [u8], &'a [u8]), &'a [u8])>
 
 /// Two registers and a number, with commas between them.
 pub fn registers_and_number(operands: &[&[u8]]) -> Result<((Reg, Reg), u64), LineFault>
-    ensures { Gives (λ p. p) (AreThree IsRegister IsRegister IsNumeral (texts operands.now)) (λ w. (IsReg w.0.0 × IsReg w.0.1) × (w.1 < 2 ^ 64)) result }
+    ensures { Gives (λ p. p) (AreThree IsRegister IsRegister IsNumeral (texts operands.now))
+        (λ w. (IsReg w.0.0 × IsReg w.0.1) × (w.1 < 2 ^ 64)) result }
 {
     match three(operands) {
         Some(((a, b), c)) => both(both(register(a), register(b)), wide(c)),
@@ -173,7 +185,8 @@ pub fn registers_and_number(operands: &[&[u8]]) -> Result<((Reg, Reg), u64), Lin
 
 /// A register, a comma, and a place in memory.
 pub fn load_operands(operands: &[&[u8]]) -> Result<(Reg, (Reg, i16)), LineFault>
-    ensures { Gives (λ p. p) (AreLoad (texts operands.now)) (λ w. IsReg w.0 × (IsReg w.1.0 × FitsSigned w16 w.1.1)) result }
+    ensures { Gives (λ p. p) (AreLoad (texts operands.now))
+        (λ w. IsReg w.0 × (IsReg w.1.0 × FitsSigned w16 w.1.1)) result }
 {
     let Some((a, after)) = first(operands) else {
         return Err(LineFault::Syntax);
@@ -190,8 +203,13 @@ pub fn load_operands(operands: &[&[u8]]) -> Result<(Reg, (Reg, i16)), LineFault>
 
 /// A place in memory, and the token behind the comma after it.
 fn stored<'a>(operands: &[&'a [u8]]) -> Option<((&'a [u8], Option<&'a [u8]>), &'a [u8])>
-    ensures some { IfSome result (λ p. (texts operands.now ≡ in_brackets p.0.0.now (text_of p.0.1) (codes "," ∷ p.1.now ∷ [])) × (text_of p.0.1 ≢ Some (codes "]"))) }
-    ensures none { IfNone result ((base : List ℕ) (offset : Option (List ℕ)) (c : List ℕ) → offset ≢ Some (codes "]") → texts operands.now ≢ in_brackets base offset (codes "," ∷ c ∷ [])) }
+    ensures some { IfSome result
+        (λ p. (texts operands.now
+        ≡ in_brackets p.0.0.now (text_of p.0.1) (codes "," ∷ p.1.now ∷ []))
+        × (text_of p.0.1 ≢ Some (codes "]"))) }
+    ensures none { IfNone result ((base : List ℕ) (offset : Option (List ℕ)) (c : List ℕ) →
+        offset ≢ Some (codes "]") →
+        texts operands.now ≢ in_brackets base offset (codes "," ∷ c ∷ [])) }
 {
     let Some((place, rest)) = place(operands) else {
         return None;
@@ -204,7 +222,8 @@ fn stored<'a>(operands: &[&'a [u8]]) -> Option<((&'a [u8], Option<&'a [u8]>), &'
 
 /// A place in memory, a comma, and a register.
 pub fn store_operands(operands: &[&[u8]]) -> Result<((Reg, i16), Reg), LineFault>
-    ensures { Gives (λ p. p) (AreStore IsRegister (texts operands.now)) (λ w. (IsReg w.0.0 × FitsSigned w16 w.0.1) × IsReg w.1) result }
+    ensures { Gives (λ p. p) (AreStore IsRegister (texts operands.now))
+        (λ w. (IsReg w.0.0 × FitsSigned w16 w.0.1) × IsReg w.1) result }
 {
     match stored(operands) {
         Some(((base, distance), c)) => { both(both(register(base), offset(distance)), register(c)) }
@@ -214,7 +233,8 @@ pub fn store_operands(operands: &[&[u8]]) -> Result<((Reg, i16), Reg), LineFault
 
 /// A place in memory, a comma, and an immediate.
 pub fn store_immediate_operands(operands: &[&[u8]]) -> Result<((Reg, i16), i32), LineFault>
-    ensures { Gives (λ p. p) (AreStore IsImmediate (texts operands.now)) (λ w. (IsReg w.0.0 × FitsSigned w16 w.0.1) × FitsSigned w32 w.1) result }
+    ensures { Gives (λ p. p) (AreStore IsImmediate (texts operands.now))
+        (λ w. (IsReg w.0.0 × FitsSigned w16 w.0.1) × FitsSigned w32 w.1) result }
 {
     match stored(operands) {
         Some(((base, distance), c)) => {
@@ -246,7 +266,8 @@ pub fn one_immediate(operands: &[&[u8]]) -> Result<i32, LineFault>
 
 /// One distance of 16 bits, or a name.
 pub fn one_short_target<'a>(operands: &[&'a [u8]]) -> Result<(i16, Option<&'a [u8]>), LineFault>
-    ensures { Gives target_of (AreOne IsTarget (texts operands.now)) (λ w. FitsSigned w16 w.0) result }
+    ensures { Gives target_of (AreOne IsTarget (texts operands.now))
+        (λ w. FitsSigned w16 w.0) result }
 {
     match one(operands) {
         Some(a) => short_target(a),
@@ -256,7 +277,8 @@ pub fn one_short_target<'a>(operands: &[&'a [u8]]) -> Result<(i16, Option<&'a [u
 
 /// One distance of 32 bits, or a name.
 pub fn one_long_target<'a>(operands: &[&'a [u8]]) -> Result<(i32, Option<&'a [u8]>), LineFault>
-    ensures { Gives target_of (AreOne IsTarget (texts operands.now)) (λ w. FitsSigned w32 w.0) result }
+    ensures { Gives target_of (AreOne IsTarget (texts operands.now))
+        (λ w. FitsSigned w32 w.0) result }
 {
     match one(operands) {
         Some(a) => long_target(a),
@@ -268,7 +290,9 @@ pub fn one_long_target<'a>(operands: &[&'a [u8]]) -> Result<(i32, Option<&'a [u8
 pub fn jump_operands<'a>(
     operands: &[&'a [u8]],
 ) -> Result<((Reg, Operand), (i16, Option<&'a [u8]>)), LineFault>
-    ensures { Gives (λ p. (p.0, target_of p.1)) (AreThree IsRegister IsSecond IsTarget (texts operands.now)) (λ w. (IsReg w.0.0 × IsOperand w.0.1) × FitsSigned w16 w.1.0) result }
+    ensures { Gives (λ p. (p.0, target_of p.1))
+        (AreThree IsRegister IsSecond IsTarget (texts operands.now))
+        (λ w. (IsReg w.0.0 × IsOperand w.0.1) × FitsSigned w16 w.1.0) result }
 {
     match three(operands) {
         Some(((a, b), c)) => both(both(register(a), second(b)), short_target(c)),

@@ -14,7 +14,8 @@ use bpf_listing::mnemonics_are_unique;
 
 /// A line of text whose numbers are in their ranges is read in one way: it says one label and one instruction.
 pub fn readings_are_unique()
-    ensures { (text : List ℕ) (w v : Written) → Writes text w → InRange w.body → Writes text v → w ≡ v }
+    ensures { (text : List ℕ) (w v : Written) → Writes text w → InRange w.body → Writes text v →
+        w ≡ v }
 {
     mnemonics_are_unique();
 }
@@ -23,7 +24,9 @@ pub fn readings_are_unique()
 /// answers that instruction.
 pub fn canonical_texts_are_read_back()
     ensures writes { (line : Line) → IsLine line → Writes (canonical line) (alone line) }
-    ensures reads { (line : Line) (result : Result Parsed LineFault) → IsLine line → JudgesLine (canonical line) result → MatchResult result (λ p. written_line p ≡ alone line) (λ fault. ⊥) }
+    ensures reads { (line : Line) (result : Result Parsed LineFault) → IsLine line →
+        JudgesLine (canonical line) result →
+        MatchResult result (λ p. written_line p ≡ alone line) (λ fault. ⊥) }
 {
     readings_are_unique();
 }

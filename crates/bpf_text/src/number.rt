@@ -22,7 +22,9 @@ fn digit_of(octet: u8) -> u8
 fn in_base(base: u8, octets: &[u8]) -> Option<u128>
     requires low { 2 ≤ base }
     requires high { base ≤ 36 }
-    ensures some { IfSome result (λ n. Spells base octets.now (number_in base octets.now) × (n ≡ min (number_in base octets.now) (2 ^ 64))) }
+    ensures some { IfSome result
+        (λ n. Spells base octets.now (number_in base octets.now)
+        × (n ≡ min (number_in base octets.now) (2 ^ 64))) }
     ensures none { IfNone result ((n : ℕ) → Spells base octets.now n → ⊥) }
 {
     if octets.is_empty() {

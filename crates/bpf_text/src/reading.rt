@@ -24,7 +24,8 @@ fn body_of<'a>(tokens: &[&'a [u8]]) -> Result<Option<Source<'a>>, LineFault>
 /// The octets before a colon, and the tokens after it.
 fn label_of<'b, 'a>(tokens: &'b [&'a [u8]]) -> Option<(&'a [u8], &'b [&'a [u8]])>
     ensures some { IfSome result (λ p. texts tokens.now ≡ p.0.now ∷ codes ":" ∷ texts p.1.now) }
-    ensures none { IfNone result ((name : List ℕ) (others : List (List ℕ)) → texts tokens.now ≢ name ∷ codes ":" ∷ others) }
+    ensures none { IfNone result ((name : List ℕ) (others : List (List ℕ)) →
+        texts tokens.now ≢ name ∷ codes ":" ∷ others) }
 {
     match tokens {
         [name, b":", rest @ ..] => Some((*name, rest)),

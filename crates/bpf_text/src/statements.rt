@@ -157,7 +157,8 @@ fn jump_if<'a>(
 /// The tokens behind the word `local`.
 fn local<'b, 'a>(operands: &'b [&'a [u8]]) -> Option<&'b [&'a [u8]]>
     ensures some { IfSome result (λ p. texts operands.now ≡ codes "local" ∷ texts p.now) }
-    ensures none { IfNone result ((others : List (List ℕ)) → texts operands.now ≢ codes "local" ∷ others) }
+    ensures none { IfNone result ((others : List (List ℕ)) →
+        texts operands.now ≢ codes "local" ∷ others) }
 {
     match operands {
         [b"local", rest @ ..] => Some(rest),
@@ -297,7 +298,8 @@ fn operands_read<'a>(mnemonic: Mnemonic, operands: &[&'a [u8]]) -> Result<Source
 /// The word that an instruction begins with, and its operands.
 fn parts<'b, 'a>(tokens: &'b [&'a [u8]]) -> Option<(&'a [u8], &'b [&'a [u8]])>
     ensures some { IfSome result (λ p. texts tokens.now ≡ p.0.now ∷ texts p.1.now) }
-    ensures none { IfNone result ((a : List ℕ) (rest : List (List ℕ)) → texts tokens.now ≢ a ∷ rest) }
+    ensures none { IfNone result ((a : List ℕ) (rest : List (List ℕ)) →
+        texts tokens.now ≢ a ∷ rest) }
 {
     match tokens {
         [word, operands @ ..] => Some((*word, operands)),

@@ -11,7 +11,8 @@ pub const MAX_TOKENS: usize = 9;
 
 /// The tokens of a line, unless it has none or too many.
 pub fn tokens(line: &[u8]) -> Option<ArrayVec<&[u8], MAX_TOKENS>>
-    ensures some { IfSome result (λ found. HasTokens line.now (map (λ token. token.now) found.items)) }
+    ensures some { IfSome result
+        (λ found. HasTokens line.now (map (λ token. token.now) found.items)) }
     ensures none { IfNone result ((ts : List (List ℕ)) → HasTokens line.now ts → 9 < length ts) }
 {
     let mut found: ArrayVec<&[u8], MAX_TOKENS> = ArrayVec::new();

@@ -57,9 +57,12 @@ impl Extension {
     /// The extension of a class that reads so many bits: 8 or 16 in W32; 8, 16 or 32 in W64.
     pub fn new(width: Width, bits: u64) -> Option<Self>
         ensures exact { result ≡ extension_of width bits }
-        ensures some { IfSome result (λ e. (extension_width e ≡ width) × (extension_bits e ≡ bits)) }
-        ensures only { (e : Extension) → extension_width e ≡ width → extension_bits e ≡ bits → result ≡ Some e }
-        ensures none { IfNone result ((e : Extension) → extension_width e ≡ width → extension_bits e ≢ bits) }
+        ensures some { IfSome result
+            (λ e. (extension_width e ≡ width) × (extension_bits e ≡ bits)) }
+        ensures only { (e : Extension) → extension_width e ≡ width → extension_bits e ≡ bits →
+            result ≡ Some e }
+        ensures none { IfNone result ((e : Extension) → extension_width e ≡ width →
+            extension_bits e ≢ bits) }
     {
         match (width, bits) {
             (Width::W32, 8) => Some(Extension::From8To32),

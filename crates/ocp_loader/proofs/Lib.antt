@@ -9,3 +9,4 @@ pub mod Complete
 pub mod First
 pub mod Line
 pub mod Listed
+mod InOrder

@@ -11,7 +11,8 @@ use std::alloc::{AllocError, Allocator};
 fn write_slot<A: Allocator>(slot: Option<Line>, out: &mut Vec<u8, A>) -> Result<(), AllocError>
     ensures ok { OnOk result (out.new.items ≡ out.old.items ++ slot_text slot) }
     ensures prefix { take (length out.old.items) out.new.items ≡ out.old.items }
-    ensures memory { OnErr result (vec_capacity out.old < length (out.old.items ++ slot_text slot)) }
+    ensures memory { OnErr result
+        (vec_capacity out.old < length (out.old.items ++ slot_text slot)) }
     ensures capacity { vec_capacity out.old ≤ vec_capacity out.new }
 {
     if let Some(line) = slot {
@@ -29,7 +30,8 @@ pub fn write_slots<A: Allocator>(
 ) -> Result<(), AllocError>
     ensures ok { OnOk result (out.new.items ≡ out.old.items ++ flat_map slot_text slots.now) }
     ensures prefix { take (length out.old.items) out.new.items ≡ out.old.items }
-    ensures memory { OnErr result (vec_capacity out.old < length (out.old.items ++ flat_map slot_text slots.now)) }
+    ensures memory { OnErr result
+        (vec_capacity out.old < length (out.old.items ++ flat_map slot_text slots.now)) }
     ensures capacity { vec_capacity out.old ≤ vec_capacity out.new }
 {
     for slot in slots {
