@@ -1,125 +1,90 @@
--- Laws on worlds and events.
-use Rattle.std.proofs.Common.{◌≡◌, ◌≢◌, ℕ, Bool, true, false, cond, List, [], Option, Some, None, inl, inr, refl, ap, ◌∙◌, arith}
-use Rattle.std.specs.Prelude.{Result, Ok, Err}
+-- Laws on worlds and events, lifted from those on records.
+use Rattle.std.proofs.Common.{◌≡◌, ◌≢◌, ℕ, Bool, true, false, cond, List, [], Option, Some, None, inl, refl, sym, ap, ◌∙◌}
+use Rattle.std.specs.Prelude.{Result, Ok, Err, is_some}
 use Rattle.std.specs.Ordering.{eq_by_cmp, nat_cmp}
 use Rattle.std.specs.FinMap.{get, insert, get-insert}
-use Rattle.std.specs.Cmp.{unsigned_tied, nat_cmp_total}
-use Rattle.std.proofs.lemmas.Bool.Decides.{nat_tests}
-use Rattle.bpf_step.specs.Machine.{started}
-use Rattle.bpf_types.specs.declared.line.Line.{Line}
-use Rattle.ocp_loader.specs.declared.fault.LoadFault.{LoadFault}
-use Rattle.ocp_loader.specs.LoadResult.{load_result}
+use Rattle.std.specs.Cmp.{nat_cmp_total}
 use Rattle.pus_fields.specs.declared.fault.TcFault.{TcFault}
 use Rattle.pus_fields.specs.declared.fault.TcFault.TheVariants.{Discarded, Rejected}
 use Rattle.pus_fields.specs.Telecommand.{Telecommand}
 use Rattle.pus_fields.specs.TelecommandFaults.{telecommand_of}
-use Rattle.obcp_messages.specs.declared.fault.RequestFault.{RequestFault}
+use Rattle.obcp_types.specs.declared.failure.RequestFault.{RequestFault}
+use Rattle.obcp_types.specs.declared.status.Status.TheVariants.{Inactive, Running, Held}
 use Rattle.obcp_messages.specs.declared.request.Request.{Request as Command}
 use Rattle.obcp_messages.specs.declared.request.Request.TheVariants as command
-use Rattle.ocp_table.specs.declared.control.Status.TheVariants.{Inactive, Running}
-use Rattle.ocp_table.specs.declared.answers.InstructionOutcome.{InstructionOutcome}
-use Rattle.ocp_table.specs.declared.answers.Refusal.{Refusal}
-use Rattle.ocp_table.specs.Rec.{Rec, Records}
-use Rattle.ocp_table.specs.Effect.{Change, Started, Stepped, Loaded, Changed, Kept, records_by, put_changed, changed, loaded}
-use Rattle.ocp_table.specs.Effect as table
-use Rattle.ocp_table.specs.Deciding.{turn, turn_by, effect_turn, effect_load, effect_of_load, effect_activate, effect_activate_by, is_full}
-use Rattle.ocp_core.specs.declared.reporting.Origin.{Origin}
-use Rattle.ocp_core.specs.World.{World, Request, Step, after, answer_by, is_accepted, stepped, served, accepted, received, command_of, origin_of}
-use Rattle.ocp_core.specs.Slice.{is_running, is_running_status}
-use Rattle.ocp_core.specs.Laws.{machine_of, IsKeptOrStarted}
-use Rattle.ocp_core.proofs.Runs.{refused_keeps}
+use Rattle.ocp_table.specs.Records.{Rec, Records}
+use Rattle.ocp_table.specs.Effects.{Change, Loaded, Changed, Kept, new_record, record_by, with_change, records_by, failure_of}
+use Rattle.ocp_table.specs.Effects as table
+use Rattle.ocp_table.specs.RequestTable as directive
+use Rattle.ocp_table.specs.RequestTable.{Directive}
+use Rattle.ocp_table.specs.Deciding.{effect_in, status_of}
+use Rattle.ocp_table.specs.Laws.{machine_of, IsRequest, IsKeptOrStarted}
+use Rattle.ocp_reports.specs.declared.origin.Origin.{Origin}
+use Rattle.ocp_reports.specs.Origin.{origin_of}
+use Rattle.ocp_world.specs.World.{World, Request, Step}
+use Rattle.ocp_world.specs.Requests.{command_effect, service_effect, request_effect, command_of}
+use Rattle.ocp_world.specs.After.{after, is_accepted}
+use Rattle.ocp_world.specs.Slice.{is_running, is_running_status}
+use Rattle.ocp_world.proofs.Refusals.{is_instruction, refused_step, refused_keeps}
 
 -- ---- only a running procedure steps
 
-refused_turn : (w : World) (id : ℕ) (o : Option Rec) → is_running o ≡ false → is_accepted (answer_by (stepped id (turn o)).reply w) ≡ false
-refused_turn w id None h = refl
-refused_turn w id (Some r) h =
-    elim r.control.status as (λ s. is_running_status s ≡ false → is_accepted (answer_by (stepped id (turn_by s r)).reply w) ≡ false) [
-      | Inactive ↦ λ still. refl
-      | Running ↦ λ still. absurd (cc)
-    ] h
+not_running : (o : Option Rec) → is_running o ≡ false → status_of o ≢ Some Running
+not_running None h e = cc
+not_running (Some r) h e =
+    let same : r.control.status ≡ Running = cc in
+    let on : true ≡ false = sym (ap is_running_status same) ∙ h in
+    cc
 
-pub still_refused : (w : World) (by id : ℕ) → is_running (get w.records id) ≡ false → is_accepted (after w (Step by id)).answer ≡ false
-still_refused w by id h = refused_turn w id (get w.records id) h
+module _ (only : (id : ℕ) (m : Records) → status_of (get m id) ≢ Some Running → is_some (failure_of (effect_in directive.Step id m)) ≡ true) where
+  pub still_refused : (w : World) (by id : ℕ) → is_running (get w.records id) ≡ false → is_accepted (after w (Step by id)).answer ≡ false
+  still_refused w by id h = refused_step id (effect_in directive.Step id w.records) (is_instruction w.records id) (only id w.records (not_running (get w.records id) h))
 
-pub still : (w : World) (by id : ℕ) → is_running (get w.records id) ≡ false → (after w (Step by id)).world ≡ w
-still w by id h = refused_keeps w (Step by id) (still_refused w by id h)
-
--- ---- a change of one procedure
-
-changed-other : (m : Records) (id : ℕ) (c : Change) (o : Option Rec) (other : ℕ) → eq_by_cmp nat_cmp other id ≡ false → get (put_changed o id c m) other ≡ get m other
-changed-other m id c None other apart = refl
-changed-other m id c (Some r) other apart = get-insert nat_cmp_total m id (changed c r) other ∙ ap (λ b. cond b (Some (changed c r)) (get m other)) apart
-
-turned-other : (m : Records) (id : ℕ) (t : Result InstructionOutcome Refusal) (other : ℕ) → eq_by_cmp nat_cmp other id ≡ false → get (records_by (effect_turn id t) m) other ≡ get m other
-turned-other m id (Ok made) other apart = changed-other m id (Stepped made) (get m id) other apart
-turned-other m id (Err why) other apart = refl
-
-pub others_stay : (w : World) (by id other : ℕ) → other ≢ id → get (after w (Step by id)).world.records other ≡ get w.records other
-others_stay w by id other apart = turned-other w.records id (turn (get w.records id)) other (unsigned_tied other id ∙ grind (arith, nat_tests, apart))
+  pub still : (w : World) (by id : ℕ) → is_running (get w.records id) ≡ false → (after w (Step by id)).world ≡ w
+  still w by id h = refused_keeps w (Step by id) (still_refused w by id h)
 
 -- ---- a request
-
--- what a request does to a procedure: it is loaded, or started, or nothing
-abbrev IsAskedFor : table.Effect → Type 0
-IsAskedFor (Loaded id image) = Unit {0}
-IsAskedFor (Changed id (Started arguments)) = Unit {0}
-IsAskedFor (Changed id (Stepped made)) = ⊥
-IsAskedFor (Kept why) = Unit {0}
-
-load_judged : (r : Result (List (Option Line)) LoadFault) (id : ℕ) (code : List ℕ) → IsAskedFor (effect_of_load r id code)
-load_judged (Ok lines) id code = tt
-load_judged (Err fault) id code = tt
-
-load_asked : (o : Option Rec) (full : Bool) (id : ℕ) (code : List ℕ) → IsAskedFor (effect_load o full id code)
-load_asked (Some r) full id code = tt
-load_asked None true id code = tt
-load_asked None false id code = load_judged (load_result code) id code
-
-activate_asked : (o : Option Rec) (id : ℕ) (arguments : List ℕ) → IsAskedFor (effect_activate o id arguments)
-activate_asked None id arguments = tt
-activate_asked (Some r) id arguments =
-    elim r.control.status as (λ s. IsAskedFor (effect_activate_by s id arguments)) [
-      | Inactive ↦ tt
-      | Running ↦ tt
-    ]
-
-served_asked : (request : Command) (origin : Origin) (m : Records) → IsAskedFor (served request origin m).on_records
-served_asked (command.Load id code) origin m = load_asked (get m id) (is_full m) id code
-served_asked (command.Activate id arguments) origin m = activate_asked (get m id) id arguments
-served_asked command.Status origin m = tt
-served_asked other origin m = tt
-
-accepted_asked : (r : Result Command RequestFault) (origin : Origin) (m : Records) → IsAskedFor (accepted r origin m).on_records
-accepted_asked (Ok request) origin m = served_asked request origin m
-accepted_asked (Err fault) origin m = tt
-
-received_asked : (r : Result Telecommand TcFault) (time : ℕ) (m : Records) → IsAskedFor (received r time m).on_records
-received_asked (Ok telecommand) time m = accepted_asked (command_of telecommand) (origin_of telecommand time) m
-received_asked (Err (Rejected rejection request)) time m = tt
-received_asked (Err (Discarded cause)) time m = tt
 
 module _ (m : Records) (q : ℕ) where
   abbrev IsKept : Records → Type 0
   IsKept n = IsKeptOrStarted (machine_of (get m q)) (machine_of (get n q))
 
-  -- a record that is put in has a machine that was started
-  put_started : (id : ℕ) (r : Rec) (arguments : List ℕ) → r.machine ≡ started arguments → IsKept (insert m id r)
-  put_started id r arguments is =
-      elim (eq_by_cmp nat_cmp q id) as (λ b. get (insert m id r) q ≡ cond b (Some r) (get m q) → IsKept (insert m id r)) [
-        | true ↦ λ here. inr (arguments, ap machine_of here ∙ ap Some is)
-        | false ↦ λ here. inl (ap machine_of here)
+  module _ (asked : (d : Directive) (id : ℕ) → IsRequest d → IsKept (records_by (effect_in d id m) m)) where
+    kept_by_command : (request : Command) (origin : Origin) → IsKept (records_by (command_effect request origin m).on_records m)
+    kept_by_command (command.Load id code) origin = asked (directive.Load code) id tt
+    kept_by_command (command.Activate id arguments) origin = asked (directive.Activate arguments) id tt
+    kept_by_command command.Status origin machine is = inl is
+    kept_by_command other origin machine is = inl is
+
+    kept_by_service : (r : Result Command RequestFault) (origin : Origin) → IsKept (records_by (service_effect r origin m).on_records m)
+    kept_by_service (Ok request) origin = kept_by_command request origin
+    kept_by_service (Err fault) origin machine is = inl is
+
+    kept_by_octets : (r : Result Telecommand TcFault) (time : ℕ) → IsKept (records_by (request_effect r time m).on_records m)
+    kept_by_octets (Ok telecommand) time = kept_by_service (command_of telecommand) (origin_of telecommand time)
+    kept_by_octets (Err (Rejected rejection request)) time machine is = inl is
+    kept_by_octets (Err (Discarded cause)) time machine is = inl is
+
+  -- ---- no effect makes a procedure go
+
+  abbrev Stays : Records → Type 0
+  Stays n = get m q ≢ None → get n q ≢ None
+
+  insert_stays : (id : ℕ) (r : Rec) → Stays (insert m id r)
+  insert_stays id r there gone =
+      elim (eq_by_cmp nat_cmp q id) as (λ b. get (insert m id r) q ≡ cond b (Some r) (get m q) → ⊥) [
+        | true ↦ λ here. let e : Some r ≡ None = sym here ∙ gone in cc
+        | false ↦ λ here. there (sym here ∙ gone)
       ] (get-insert nat_cmp_total m id r q)
 
-  start_there : (id : ℕ) (arguments : List ℕ) (o : Option Rec) → IsKept (put_changed o id (Started arguments) m)
-  start_there id arguments None = inl refl
-  start_there id arguments (Some r) = put_started id (changed (Started arguments) r) arguments refl
+  change_stays : (id : ℕ) (c : Change) (o : Option Rec) → Stays (with_change o id c m)
+  change_stays id c None there = there
+  change_stays id c (Some r) there = insert_stays id (record_by c r) there
 
-  kept_by : (d : table.Effect) → IsAskedFor d → IsKept (records_by d m)
-  kept_by (Loaded id image) h = put_started id (loaded image) [] refl
-  kept_by (Changed id (Started arguments)) h = start_there id arguments (get m id)
-  kept_by (Changed id (Stepped made)) h = absurd h
-  kept_by (Kept why) h = inl refl
+  pub stays : (effect : table.Effect) → Stays (records_by effect m)
+  stays (Loaded id image) there = insert_stays id (new_record image) there
+  stays (Changed id c) there = change_stays id c (get m id) there
+  stays (Kept why) there = there
 
-pub kept_or_started : (w : World) (by time : ℕ) (octets : List ℕ) (id : ℕ) → IsKeptOrStarted (machine_of (get w.records id)) (machine_of (get (after w (Request by time octets)).world.records id))
-kept_or_started w by time octets id = kept_by w.records id (received (telecommand_of w.apid octets) time w.records).on_records (received_asked (telecommand_of w.apid octets) time w.records)
+pub kept_or_started : ((d : Directive) (id q : ℕ) (m : Records) → IsRequest d → IsKeptOrStarted (machine_of (get m q)) (machine_of (get (records_by (effect_in d id m) m) q))) → (w : World) (by time : ℕ) (octets : List ℕ) (id : ℕ) → IsKeptOrStarted (machine_of (get w.records id)) (machine_of (get (after w (Request by time octets)).world.records id))
+kept_or_started law w by time octets id = kept_by_octets w.records id (λ d i asked. law d i id w.records asked) (telecommand_of w.apid octets) time

@@ -1,9 +1,11 @@
 -- One more step of a slice, and its last step.
 use Rattle.std.proofs.Common.{◌≡◌, ℕ, suc, ◌+◌, ◌-◌, ◌<◌, replicate, true, false, cond, sym, ap, ◌∙◌, arith}
-use Rattle.ocp_core.specs.declared.answers.StepOutcome.{StepOutcome}
-use Rattle.ocp_core.specs.World.{World, Step, After, after, replay_from}
-use Rattle.ocp_core.specs.Slice.{goes_on, outcome_in, slice_count, slice_last}
-use Rattle.ocp_core.proofs.Replays.{replay_from-steps}
+use Rattle.ocp_table.specs.declared.answers.StepOutcome.{StepOutcome}
+use Rattle.ocp_world.specs.World.{World, Step}
+use Rattle.ocp_world.specs.After.{After, after}
+use Rattle.ocp_world.specs.Replay.{replay_from}
+use Rattle.ocp_world.specs.Slice.{goes_on, outcome_in, slice_count, slice_last}
+use Rattle.ocp_world.proofs.Replays.{replay_from-steps}
 
 module _ (w : World) (by id n budget : ℕ) (within : n < budget) where
   abbrev here : World

@@ -1,15 +1,16 @@
 -- A slice of the state, against steps of the world.
 use Rattle.std.proofs.Common.{◌≡◌, ℕ, ◌+◌, ◌-◌, ◌<◌, Bool, true, false, replicate, cond, sym, ap, subst, ◌∙◌}
 use Rattle.std.specs.FinMap.{get}
-use Rattle.ocp_core.specs.World.{Stepped}
-use Rattle.ocp_core.specs.declared.answers.StepOutcome.{StepOutcome}
-use Rattle.ocp_core.specs.declared.answers.StepOutcome.TheVariants.{Ran}
-use Rattle.ocp_core.specs.World.{World, Step, after, replay_from}
-use Rattle.ocp_core.specs.Slice.{goes_on, is_on, is_running, outcome_in, slice_count, slice_last}
-use Rattle.ocp_core.proofs.Replays.{replay_from-steps}
-use Rattle.ocp_core.proofs.Slices.{count_more, count_end, last_more, last_end}
-use Rattle.ocp_core.specs.State.{IsWorld}
-use Rattle.ocp_core.specs.declared.state.State.{State}
+use Rattle.ocp_table.specs.declared.answers.StepOutcome.{StepOutcome}
+use Rattle.ocp_table.specs.declared.answers.StepOutcome.TheVariants.{Ran}
+use Rattle.ocp_world.specs.World.{World, Step}
+use Rattle.ocp_world.specs.After.{Stepped, after}
+use Rattle.ocp_world.specs.Replay.{replay_from}
+use Rattle.ocp_world.specs.Slice.{goes_on, is_on, is_running, outcome_in, slice_count, slice_last}
+use Rattle.ocp_world.proofs.Replays.{replay_from-steps}
+use Rattle.ocp_world.proofs.Slices.{count_more, count_end, last_more, last_end}
+use Rattle.ocp_world.specs.Mirror.State.{IsWorld}
+use Rattle.ocp_world.specs.declared.state.State.{State}
 
 module _ {A : Type 0} where
   -- n steps of a slice are made

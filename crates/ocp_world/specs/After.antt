@@ -3,9 +3,9 @@ use Rattle.std.specs.Prelude.{ℕ, ◌+◌, Bool, true, false, List, length, Res
 use Rattle.pus_fields.specs.TelecommandFaults.{telecommand_of}
 use Rattle.ocp_table.specs.declared.answers.StepOutcome.{StepOutcome}
 use Rattle.ocp_table.specs.declared.answers.StepOutcome.TheVariants as S
-use Rattle.ocp_table.specs.Effect.{records_by}
+use Rattle.ocp_table.specs.RequestTable as directive
 use Rattle.ocp_table.specs.Deciding.{effect_in}
-use Rattle.ocp_table.specs.Deciding as directive
+use Rattle.ocp_table.specs.Effects.{records_by}
 use Rattle.ocp_reports.specs.Packets.{packets}
 use Rattle.ocp_world.specs.declared.answers.EngineFault.{EngineFault}
 use Rattle.ocp_world.specs.declared.answers.EngineFault.TheVariants as engine

@@ -2,7 +2,7 @@
 use Rattle.std.specs.Prelude.{List}
 use Rattle.pus_fields.specs.declared.fault.Discard.{Discard}
 use Rattle.ocp_table.specs.declared.answers.StepOutcome.{StepOutcome}
-use Rattle.ocp_table.specs.Effect as table
+use Rattle.ocp_table.specs.Effects as table
 use Rattle.ocp_reports.specs.Origin.{Dispatch}
 
 -- octets are discarded; reports are sent, each to its destination at its time; or an instruction was

@@ -1,6 +1,6 @@
 -- What an instruction does.
-use Rattle.ocp_table.specs.Effect as table
-use Rattle.ocp_table.specs.Deciding.{step_outcome}
+use Rattle.ocp_table.specs.Effects as table
+use Rattle.ocp_table.specs.Effects.{step_outcome}
 use Rattle.ocp_world.specs.Effect.{Effect, Steps}
 
 -- an instruction of this effect on the records is answered by its outcome

@@ -3,7 +3,7 @@ pub mod Effect
 pub mod Requests
 pub mod Instructions
 pub mod After
+pub mod Answers
 pub mod Replay
 pub mod Slice
-pub mod Laws
 pub mod Mirror

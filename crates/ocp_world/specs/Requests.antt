@@ -1,5 +1,5 @@
 -- What a request does.
-use Rattle.std.specs.Prelude.{ℕ, List, [], ◌∷◌, Result, Ok, Err}
+use Rattle.std.specs.Prelude.{ℕ, List, [], ◌∷◌, Option, Some, None, Result, Ok, Err}
 use Rattle.pus_fields.specs.declared.fault.TcFault.{TcFault}
 use Rattle.pus_fields.specs.declared.fault.TcFault.TheVariants.{Discarded, Rejected}
 use Rattle.pus_fields.specs.Telecommand.{Telecommand}
@@ -7,6 +7,7 @@ use Rattle.obcp_types.specs.declared.failure.RequestFault.{RequestFault}
 use Rattle.obcp_types.specs.declared.failure.RequestFault.TheVariants as fault
 use Rattle.obcp_types.specs.declared.failure.AcceptanceFailure.{AcceptanceFailure}
 use Rattle.obcp_types.specs.declared.failure.AcceptanceFailure.TheVariants as acceptance
+use Rattle.obcp_types.specs.declared.failure.StartFailure.{StartFailure}
 use Rattle.obcp_messages.specs.declared.request.Request.{Request as Command}
 use Rattle.obcp_messages.specs.declared.request.Request.TheVariants as command
 use Rattle.obcp_messages.specs.Reading.{request_of}
@@ -14,11 +15,11 @@ use Rattle.obcp_messages.specs.declared.report.Report.{Report}
 use Rattle.obcp_messages.specs.declared.report.Report.TheVariants as report
 use Rattle.verification.specs.declared.outcome.Outcome.{Outcome}
 use Rattle.verification.specs.declared.outcome.Outcome.TheVariants as outcome
-use Rattle.ocp_table.specs.Rec.{Records}
-use Rattle.ocp_table.specs.Effect.{Loaded, Changed, Kept, Unasked, Failed}
-use Rattle.ocp_table.specs.Effect as table
-use Rattle.ocp_table.specs.Deciding.{effect_in, effect_of_load}
-use Rattle.ocp_table.specs.Deciding as directive
+use Rattle.ocp_table.specs.Records.{Records}
+use Rattle.ocp_table.specs.Effects.{Kept, Unasked, failure_of}
+use Rattle.ocp_table.specs.Effects as table
+use Rattle.ocp_table.specs.RequestTable as directive
+use Rattle.ocp_table.specs.Deciding.{effect_in}
 use Rattle.ocp_table.specs.Shown.{statuses_of}
 use Rattle.ocp_reports.specs.declared.origin.Origin.{Origin}
 use Rattle.ocp_reports.specs.Origin.{origin_of, origin_of_packet}
@@ -32,18 +33,16 @@ refusal_effect origin failure = record {
   reply = Sends (reports_of origin (outcome.Refused failure) []);
 }
 
--- what became of a request that was accepted
-abbrev pub outcome_by : table.Effect → Outcome
-outcome_by (Loaded id image) = outcome.Done
-outcome_by (Changed id change) = outcome.Done
-outcome_by (Kept Unasked) = outcome.Done
-outcome_by (Kept (Failed failure)) = outcome.NotStarted failure
+-- what became of a request that was accepted, by why its start failed, where it did
+abbrev pub outcome_by : Option StartFailure → Outcome
+outcome_by None = outcome.Done
+outcome_by (Some failure) = outcome.NotStarted failure
 
 -- an accepted request, with its answer report where it has one
 abbrev pub start_effect : Origin → List Report → table.Effect → Effect
 start_effect origin answer effect = record {
   on_records = effect;
-  reply = Sends (reports_of origin (outcome_by effect) answer);
+  reply = Sends (reports_of origin (outcome_by (failure_of effect)) answer);
 }
 
 -- the status report of all procedures
@@ -52,7 +51,8 @@ status_report m = report.Status (statuses_of m)
 
 -- the request to load, activate or report the status; the others are not served
 abbrev pub command_effect : Command → Origin → Records → Effect
-command_effect (command.Load id code) origin m = start_effect origin [] (effect_of_load id code m)
+command_effect (command.Load id code) origin m =
+    start_effect origin [] (effect_in (directive.Load code) id m)
 command_effect (command.Activate id arguments) origin m =
     start_effect origin [] (effect_in (directive.Activate arguments) id m)
 command_effect command.Status origin m = start_effect origin (status_report m ∷ []) (Kept Unasked)

@@ -1,7 +1,7 @@
 -- The world of an engine, and the events that can happen in it.
 use Rattle.std.specs.Prelude.{ℕ, List, replicate}
 use Rattle.std.specs.FinMap.{empty}
-use Rattle.ocp_table.specs.Rec.{Records}
+use Rattle.ocp_table.specs.Records.{Records}
 
 -- the application process, its procedures, the words of its pool, and how many reports it has sent
 pub record World : Type 0 where

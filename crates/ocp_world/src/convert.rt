@@ -1,8 +1,11 @@
 //! What is read of octets, and the status report.
 
-ghost use Rattle.std.specs.Prelude.{◌≡◌};
+ghost use Rattle.std.specs.Prelude.{◌≡◌, ℕ, List};
+ghost use Rattle.pus_fields.specs.TelecommandFaults.{telecommand_of};
+ghost use Rattle.ocp_world.specs.World.{World, Request as Asked};
 ghost use Rattle.ocp_world.specs.Requests.{command_of, status_report};
-ghost use Rattle.ocp_world.specs.Mirror.Answering.{discard_of};
+ghost use Rattle.ocp_world.specs.After.{after};
+ghost use Rattle.ocp_world.specs.Mirror.Answering.{discard_of, IsDiscard};
 
 use obcp_messages::{Report, Request, RequestFault, StatusRows, read_request};
 use ocp_table::Table;
@@ -17,9 +20,14 @@ pub fn command_of<'a>(telecommand: &Tc<'a>) -> Result<Request<'a>, RequestFault>
     read_request(telecommand)
 }
 
-/// Why octets are discarded, where they are.
+/// Why octets are discarded, as they were read, where they are: then the request is refused so in every world of this
+/// application process, and else it is accepted.
+#[tactic(auto, using(crate::proofs::Refusals::request_discard))]
 pub fn discard_of(read: &Result<Tc<'_>, TcFault>) -> Option<Discard>
-    ensures { result ≡ discard_of read.now }
+    ensures cause { result ≡ discard_of read.now }
+    ensures answer { (w : World) (by time : ℕ) (octets : List ℕ) →
+        read.now ≡ telecommand_of w.apid octets →
+        IsDiscard (after w (Asked by time octets)).answer result }
 {
     match read {
         Err(TcFault::Discarded(cause)) => Some(*cause),

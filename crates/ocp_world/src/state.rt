@@ -1,18 +1,18 @@
 //! What the engine keeps of its world.
 
-ghost use Rattle.std.specs.Prelude.{◌≡◌, ◌≤◌, ℕ, [], ◌∷◌, IfOk, length};
+ghost use Rattle.std.specs.Prelude.{◌≡◌, ◌≤◌, ℕ, List, [], ◌∷◌, IfOk, length};
 ghost use Rattle.std.specs.Option.{option_to_list};
 ghost use Rattle.std.specs.FinMap.{get};
-ghost use Rattle.obcp_types.specs.declared.failure.StartFailure.{StartFailure as Failure};
-ghost use Rattle.ocp_table.specs.Effect.{Kept, Unasked, Failed};
-ghost use Rattle.ocp_table.specs.Deciding.{effect_in, effect_of_load};
-ghost use Rattle.ocp_table.specs.Deciding as directive;
-ghost use Rattle.ocp_table.specs.Shown.{shown_at};
+ghost use Rattle.pus_fields.specs.TelecommandFaults.{telecommand_of};
+ghost use Rattle.ocp_table.specs.RequestTable as directive;
+ghost use Rattle.ocp_table.specs.Deciding.{effect_in};
+ghost use Rattle.ocp_table.specs.Effects.{Kept, Unasked, Failed};
+ghost use Rattle.ocp_table.specs.Shown.{view_at};
 ghost use Rattle.ocp_reports.specs.Reports.{reports_of};
-ghost use Rattle.ocp_world.specs.World.{World, opening, Step};
+ghost use Rattle.ocp_world.specs.World.{World, opening, Step, Request as Asked};
 ghost use Rattle.ocp_world.specs.Effect.{Sends};
-ghost use Rattle.ocp_world.specs.Requests.{refusal_effect, start_effect, command_effect, service_effect, request_effect, status_report};
-ghost use Rattle.ocp_world.specs.After.{Stepped, after};
+ghost use Rattle.ocp_world.specs.Requests.{refusal_effect, start_effect, command_effect, request_effect, status_report};
+ghost use Rattle.ocp_world.specs.After.{Stepped, after, effect_of};
 
 use crate::convert::{command_of, status_report};
 use crate::{EngineFault, Slice};
@@ -34,7 +34,7 @@ pub struct State<A: Allocator> {
 }
 
 impl<A: Allocator> State<A> {
-    ghost use Rattle.ocp_world.specs.Mirror.State.{IsWorld, Does};
+    ghost use Rattle.ocp_world.specs.Mirror.State.{IsWorld, Does, DoesIn};
     ghost use Rattle.ocp_world.specs.Mirror.Answering.{IsRefusal};
 
     /// The state in which no procedure is loaded, with a pool of any size.
@@ -50,14 +50,15 @@ impl<A: Allocator> State<A> {
 
     /// What is shown of a procedure.
     pub fn view(&self, id: u16) -> Option<View>
-        ensures { (w : World) → IsWorld w self.now → result ≡ shown_at (get w.records id) }
+        ensures { (w : World) → IsWorld w self.now → result ≡ view_at (get w.records id) }
     {
         self.table.view(id)
     }
 
     /// Why an instruction event is refused, where it is.
     pub fn refusal(&self, id: u16) -> Option<StepOutcome>
-        ensures { (w : World) (by : ℕ) → IsWorld w self.now → IsRefusal w (Step by id) result }
+        ensures { (w : World) (by : ℕ) → IsWorld w self.now →
+            IsRefusal (after w (Step by id)).answer result }
     {
         match self.table.failure(id, &Directive::Step) {
             Some(failure) => Some(StepOutcome::of_failure(failure)),
@@ -135,7 +136,7 @@ impl<A: Allocator> State<A> {
     ) -> Result<Reports<A>, EngineFault>
     where
         A: Copy,
-        ensures { Does self.old self.new result (λ m. start_effect origin [] (effect_of_load id code.now m)) }
+        ensures { Does self.old self.new result (λ m. start_effect origin [] (effect_in (directive.Load code.now) id m)) }
     {
         match self.table.check_load(alloc, id, code) {
             Ok(loading) => {
@@ -217,7 +218,9 @@ impl<A: Allocator> State<A> {
     ) -> Result<Reports<A>, EngineFault>
     where
         A: Copy,
-        ensures { Does self.old self.new result (request_effect read.entry time) }
+        ensures { (w : World) (by : ℕ) (octets : List ℕ) →
+            IsWorld w self.old → read.entry ≡ telecommand_of w.apid octets →
+            DoesIn w (effect_of w (Asked by time octets)) result self.new }
     {
         match read {
             Ok(telecommand) => {

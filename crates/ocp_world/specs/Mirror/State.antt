@@ -1,11 +1,11 @@
 -- Which worlds a state stands for, and what a request makes of it.
 use Rattle.std.specs.Prelude.{◌≡◌, ◌%◌, ℕ, List, Result, Ok, Err}
-use Rattle.ocp_table.specs.Rec.{Records}
+use Rattle.ocp_table.specs.Records.{Records}
 use Rattle.ocp_world.specs.declared.answers.EngineFault.{EngineFault}
 use Rattle.ocp_world.specs.World.{World}
 use Rattle.ocp_world.specs.Effect.{Effect}
 use Rattle.ocp_world.specs.After.{world_after, answer_by}
-use Rattle.ocp_world.specs.Mirror.Answering.{Answers}
+use Rattle.ocp_world.specs.Answers.{Answers}
 use Rattle.ocp_world.specs.declared.state.State.{State}
 
 module _ {A : Type 0} where
@@ -25,7 +25,8 @@ module _ {A : Type 0} where
   DoesIn w effect result new =
       Answers result (answer_by effect.reply w) × StandsAfter result w (world_after effect w) new
 
-  -- whatever world the state stood for, the result and the new state are those of what was decided in it
+  -- whatever world the state stood for, the result and the new state are those of what was decided
+  -- in it
   abbrev pub Does : State A → State A → Result (List (List ℕ)) EngineFault → (Records → Effect) → Type 0
   Does old new result decide =
       (w : World) → IsWorld w old → DoesIn w (decide w.records) result new

@@ -1,5 +1,5 @@
-use Rattle.ocp_core.proofs.Lawful.{others_stay}
-use Rattle.ocp_core.proofs.laws.an_instruction_changes_its_own_procedure.Goals as goal
+use Rattle.ocp_table.specs.RequestTable as directive
+use Rattle.ocp_world.proofs.laws.an_instruction_changes_its_own_procedure.Goals as goal
 
 pub returns : goal.returns
-returns c = others_stay
+returns c w by id other apart = c.a_directive_changes_its_own_procedure.ensures directive.Step id other w.records apart

@@ -1,5 +1,5 @@
-use Rattle.ocp_core.proofs.Slicing.{IsSliced-more, sliced_world, sliced_count, sliced_last}
-use Rattle.ocp_core.proofs.state.State.slice.Goals as goal
+use Rattle.ocp_world.proofs.Slicing.{IsSliced-more, sliced_world, sliced_count, sliced_last}
+use Rattle.ocp_world.proofs.state.State.slice.Goals as goal
 
 pub returns-then-not-goes_on-clause-world : goal.returns-then-not-goes_on-clause-world
 returns-then-not-goes_on-clause-world g c = sliced_world _ c.loop-count.self _ c.args.id c.args.budget c.loop-count.count c.loop-count.last c.step-last.result c.goes_on.result c.loop-count-test.true c.loop-count.invariant (record { world = c.step-last.ensures.world; answer = c.step-last.ensures.answer; goes = c.goes_on.ensures })

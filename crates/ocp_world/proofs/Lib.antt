@@ -1,0 +1,5 @@
+pub mod Replays
+pub mod Refusals
+pub mod Slices
+pub mod Slicing
+pub mod Lawful

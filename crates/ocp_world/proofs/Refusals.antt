@@ -1,0 +1,177 @@
+-- Which events are refused, and that a refused one leaves the world.
+use Rattle.std.proofs.Common.{◌≡◌, ℕ, Bool, true, false, List, Option, Some, None, refl, sym, ap, subst, ◌∙◌}
+use Rattle.std.specs.Prelude.{Result, Ok, Err, is_some}
+use Rattle.pus_fields.specs.declared.fault.Discard.{Discard}
+use Rattle.pus_fields.specs.declared.fault.TcFault.{TcFault}
+use Rattle.pus_fields.specs.declared.fault.TcFault.TheVariants.{Discarded, Rejected}
+use Rattle.pus_fields.specs.Telecommand.{Telecommand}
+use Rattle.pus_fields.specs.TelecommandFaults.{telecommand_of}
+use Rattle.obcp_types.specs.declared.failure.RequestFault.{RequestFault}
+use Rattle.obcp_types.specs.declared.failure.StartFailure.{StartFailure}
+use Rattle.obcp_types.specs.declared.failure.StartFailure.TheVariants as failure
+use Rattle.obcp_types.specs.declared.status.Status.TheVariants.{Inactive, Running, Held}
+use Rattle.obcp_messages.specs.declared.request.Request.{Request as Command}
+use Rattle.obcp_messages.specs.declared.request.Request.TheVariants as command
+use Rattle.ocp_table.specs.declared.answers.InstructionOutcome.{InstructionOutcome}
+use Rattle.ocp_table.specs.declared.answers.InstructionOutcome.TheVariants as did
+use Rattle.ocp_table.specs.declared.answers.StepOutcome.{StepOutcome}
+use Rattle.ocp_table.specs.declared.answers.StepOutcome.TheVariants as S
+use Rattle.ocp_table.specs.Records.{Rec, Records}
+use Rattle.ocp_table.specs.Effects.{Loaded, Changed, Kept, Started, Stepped as Instructed, Failed, step_outcome, failure_of}
+use Rattle.ocp_table.specs.Effects as table
+use Rattle.ocp_table.specs.RequestTable as directive
+use Rattle.ocp_table.specs.RequestTable.{transition}
+use Rattle.ocp_table.specs.Deciding.{effect_in, effect_on, effect_by, effect_of_step, outcome_at}
+use Rattle.ocp_reports.specs.declared.origin.Origin.{Origin}
+use Rattle.ocp_reports.specs.Origin.{origin_of}
+use Rattle.ocp_world.specs.World.{World, Event, Request, Step}
+use Rattle.ocp_world.specs.Requests.{command_effect, service_effect, request_effect, command_of}
+use Rattle.ocp_world.specs.Instructions.{instruction_effect}
+use Rattle.ocp_world.specs.declared.answers.EngineFault.TheVariants as engine
+use Rattle.ocp_world.specs.After.{Answer, Requested, Stepped, after, world_after, answer_by, is_accepted}
+use Rattle.ocp_world.specs.Mirror.Answering.{discard_of, IsDiscard, IsRefusal}
+
+true_false : true ≡ false → ⊥
+true_false e = cc
+
+-- ---- a request
+
+module _ (origin : Origin) (m : Records) (w : World) where
+  accepted_request : (request : Command) → is_accepted (answer_by (command_effect request origin m).reply w) ≡ true
+  accepted_request (command.Load id code) = refl
+  accepted_request (command.Activate id arguments) = refl
+  accepted_request command.Status = refl
+  accepted_request other = refl
+
+  accepted_service : (r : Result Command RequestFault) → is_accepted (answer_by (service_effect r origin m).reply w) ≡ true
+  accepted_service (Ok request) = accepted_request request
+  accepted_service (Err fault) = refl
+
+-- octets that are read are discarded, or an accepted request
+discard_read : (r : Result Telecommand TcFault) (time : ℕ) (m : Records) (w : World) → IsDiscard (answer_by (request_effect r time m).reply w) (discard_of r)
+discard_read (Ok telecommand) time m w = accepted_service (origin_of telecommand time) m w (command_of telecommand)
+discard_read (Err (Rejected rejection request)) time m w = refl
+discard_read (Err (Discarded cause)) time m w = refl
+
+pub request_discard : (r : Result Telecommand TcFault) (found : Option Discard) → found ≡ discard_of r → (w : World) (by time : ℕ) (octets : List ℕ) → r ≡ telecommand_of w.apid octets → IsDiscard (after w (Request by time octets)).answer found
+request_discard r found is w by time octets read =
+    let P : Option Discard → Type 0 = λ o. IsDiscard (after w (Request by time octets)).answer o in
+    subst P (ap discard_of (sym read) ∙ sym is) (discard_read (telecommand_of w.apid octets) time w.records w)
+
+kept_octets : (r : Result Telecommand TcFault) (time : ℕ) (w : World) → is_accepted (answer_by (request_effect r time w.records).reply w) ≡ false → world_after (request_effect r time w.records) w ≡ w
+kept_octets (Ok telecommand) time w h = absurd (true_false (sym (accepted_service (origin_of telecommand time) w.records w (command_of telecommand)) ∙ h))
+kept_octets (Err (Rejected rejection request)) time w h = absurd (true_false h)
+kept_octets (Err (Discarded cause)) time w h = refl
+
+-- ---- an instruction
+
+-- an instruction changes its own procedure by what was done, or it leaves all
+pub data IsInstruction (id : ℕ) : table.Effect → Type 0 where
+  changes : (outcome : InstructionOutcome) → IsInstruction id (Changed id (Instructed outcome))
+  fails : (failure : StartFailure) → IsInstruction id (Kept (Failed failure))
+
+step_by_outcome : (id : ℕ) (o : Option InstructionOutcome) → IsInstruction id (effect_of_step o id)
+step_by_outcome id None = fails _
+step_by_outcome id (Some outcome) = changes outcome
+
+step_on : (id : ℕ) (o : Option Rec) (full : Bool) → IsInstruction id (effect_on directive.Step id o full)
+step_on id None full = fails _
+step_on id (Some r) full =
+    elim r.control.status as (λ s. IsInstruction id (effect_by (transition directive.Step (Some s)) id (Some r) full)) [
+      | Inactive ↦ fails _
+      | Running ↦ step_by_outcome id (outcome_at (Some r))
+      | Held ↦ fails _
+    ]
+
+pub is_instruction : (m : Records) (id : ℕ) → IsInstruction id (effect_in directive.Step id m)
+is_instruction m id = step_on id _ _
+
+kept_step : (id : ℕ) (effect : table.Effect) → IsInstruction id effect → (w : World) → is_accepted (answer_by (instruction_effect effect).reply w) ≡ false → world_after (instruction_effect effect) w ≡ w
+kept_step id (Changed .id (Instructed did.Ran)) (changes .did.Ran) w h = absurd (true_false h)
+kept_step id (Changed .id (Instructed did.Ended)) (changes .did.Ended) w h = absurd (true_false h)
+kept_step id (Changed .id (Instructed (did.Faulted number))) (changes .(did.Faulted number)) w h = absurd (true_false h)
+kept_step id (Kept (Failed failure)) (fails .failure) w h = refl
+
+pub refused_keeps : (w : World) (e : Event) → is_accepted (after w e).answer ≡ false → (after w e).world ≡ w
+refused_keeps w (Request by time octets) h = kept_octets (telecommand_of w.apid octets) time w h
+refused_keeps w (Step by id) h = kept_step id (effect_in directive.Step id w.records) (is_instruction w.records id) w h
+
+-- ---- why an instruction event is refused
+
+failed_outcome : (failure : StartFailure) → is_accepted (Stepped (step_outcome (Kept (Failed failure)))) ≡ false
+failed_outcome failure.NotLoaded = refl
+failed_outcome other = refl
+
+pub refused_step : (id : ℕ) (effect : table.Effect) → IsInstruction id effect → is_some (failure_of effect) ≡ true → is_accepted (Stepped (step_outcome effect)) ≡ false
+refused_step id (Changed .id (Instructed outcome)) (changes .outcome) h = absurd (true_false (sym h))
+refused_step id (Kept (Failed failure)) (fails .failure) h = failed_outcome failure
+
+pub allowed_step : (id : ℕ) (effect : table.Effect) → IsInstruction id effect → failure_of effect ≡ None → is_accepted (Stepped (step_outcome effect)) ≡ true
+allowed_step id (Changed .id (Instructed did.Ran)) (changes .did.Ran) h = refl
+allowed_step id (Changed .id (Instructed did.Ended)) (changes .did.Ended) h = refl
+allowed_step id (Changed .id (Instructed (did.Faulted number))) (changes .(did.Faulted number)) h = refl
+allowed_step id (Kept (Failed failure)) (fails .failure) h = absurd (cc)
+
+pub failed_step : (id : ℕ) (effect : table.Effect) → IsInstruction id effect → (failure : StartFailure) → failure_of effect ≡ Some failure → effect ≡ Kept (Failed failure)
+failed_step id (Changed .id (Instructed outcome)) (changes .outcome) failure h = absurd (cc)
+failed_step id (Kept (Failed why)) (fails .why) failure h = ap (λ f. Kept (Failed f)) (cc)
+
+-- an instruction event that does not fail in the table is accepted
+pub refusal_none : (m : Records) (by id : ℕ) (w : World) → m ≡ w.records → (o : Option StartFailure) → o ≡ failure_of (effect_in directive.Step id m) → None ≡ o → IsRefusal (after w (Step by id)).answer None
+refusal_none m by id w same o told none = allowed_step id (effect_in directive.Step id w.records) (is_instruction w.records id) (ap (λ n. failure_of (effect_in directive.Step id n)) (sym same) ∙ sym told ∙ sym none)
+
+-- and one that fails there is refused so
+pub refusal_some : (m : Records) (by id : ℕ) (w : World) → m ≡ w.records → (o : Option StartFailure) → o ≡ failure_of (effect_in directive.Step id m) → (failure : StartFailure) → Some failure ≡ o → (outcome : StepOutcome) → outcome ≡ step_outcome (Kept (Failed failure)) → IsRefusal (after w (Step by id)).answer (Some outcome)
+refusal_some m by id w same o told failure some outcome is =
+    let effect : effect_in directive.Step id w.records ≡ Kept (Failed failure) = failed_step id (effect_in directive.Step id w.records) (is_instruction w.records id) failure (ap (λ n. failure_of (effect_in directive.Step id n)) (sym same) ∙ sym told ∙ sym some) in
+    (ap (λ d. is_accepted (Stepped (step_outcome d))) effect ∙ failed_outcome failure, ap Stepped is ∙ ap (λ d. Stepped (step_outcome d)) (sym effect))
+
+-- ---- no answer is that of a full journal
+
+abbrev is_full : Answer → Bool
+is_full (Requested (Ok reports)) = false
+is_full (Requested (Err engine.JournalFull)) = true
+is_full (Requested (Err (engine.Discarded cause))) = false
+is_full (Requested (Err engine.Memory)) = false
+is_full (Stepped S.JournalFull) = true
+is_full (Stepped S.Ran) = false
+is_full (Stepped S.Ended) = false
+is_full (Stepped (S.Faulted number)) = false
+is_full (Stepped S.NotLoaded) = false
+is_full (Stepped S.NotRunning) = false
+
+module _ (origin : Origin) (m : Records) (w : World) where
+  roomy_request : (request : Command) → is_full (answer_by (command_effect request origin m).reply w) ≡ false
+  roomy_request (command.Load id code) = refl
+  roomy_request (command.Activate id arguments) = refl
+  roomy_request command.Status = refl
+  roomy_request other = refl
+
+  roomy_service : (r : Result Command RequestFault) → is_full (answer_by (service_effect r origin m).reply w) ≡ false
+  roomy_service (Ok request) = roomy_request request
+  roomy_service (Err fault) = refl
+
+roomy_octets : (r : Result Telecommand TcFault) (time : ℕ) (m : Records) (w : World) → is_full (answer_by (request_effect r time m).reply w) ≡ false
+roomy_octets (Ok telecommand) time m w = roomy_service (origin_of telecommand time) m w (command_of telecommand)
+roomy_octets (Err (Rejected rejection request)) time m w = refl
+roomy_octets (Err (Discarded cause)) time m w = refl
+
+roomy_failure : (failure : StartFailure) → is_full (Stepped (step_outcome (Kept (Failed failure)))) ≡ false
+roomy_failure failure.NotLoaded = refl
+roomy_failure other = refl
+
+roomy_step : (id : ℕ) (effect : table.Effect) → IsInstruction id effect → is_full (Stepped (step_outcome effect)) ≡ false
+roomy_step id (Changed .id (Instructed did.Ran)) (changes .did.Ran) = refl
+roomy_step id (Changed .id (Instructed did.Ended)) (changes .did.Ended) = refl
+roomy_step id (Changed .id (Instructed (did.Faulted number))) (changes .(did.Faulted number)) = refl
+roomy_step id (Kept (Failed failure)) (fails .failure) = roomy_failure failure
+
+roomy : (w : World) (e : Event) → is_full (after w e).answer ≡ false
+roomy w (Request by time octets) = roomy_octets (telecommand_of w.apid octets) time w.records w
+roomy w (Step by id) = roomy_step id (effect_in directive.Step id w.records) (is_instruction w.records id)
+
+pub request_has_room : (w : World) (e : Event) → (after w e).answer ≡ Requested (Err engine.JournalFull) → ⊥
+request_has_room w e is = true_false (ap is_full (sym is) ∙ roomy w e)
+
+pub step_has_room : (w : World) (e : Event) → (after w e).answer ≡ Stepped S.JournalFull → ⊥
+step_has_room w e is = true_false (ap is_full (sym is) ∙ roomy w e)
