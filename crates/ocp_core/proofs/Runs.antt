@@ -1,51 +1,25 @@
 -- The events of a run: what each leaves, one more of them.
-use Rattle.std.proofs.Common.{◌≡◌, ℕ, zero, suc, ◌+◌, ◌<◌, Bool, true, false, cond, List, [], ◌∷◌, ◌++◌, Some, map, take, length, get_or, refl, sym, ap, subst, ◌∙◌}
+use Rattle.std.proofs.Common.{◌≡◌, ◌≢◌, ℕ, zero, suc, ◌+◌, ◌<◌, Bool, true, false, cond, List, [], ◌∷◌, ◌++◌, Some, map, take, length, get_or, refl, sym, ap, subst, ◌∙◌}
 use Rattle.std.specs.Prelude.{Result, Ok, Err, slice_get}
 use Rattle.std.specs.Option.{option_map}
-use Rattle.std.specs.FinMap.{get}
 use Rattle.std.proofs.lemmas.List.{take_more, map-append}
 use Rattle.std.proofs.lemmas.Option.{slice_get-get_or, slice_get-map}
-use Rattle.pus_fields.specs.declared.fault.TcFault.{TcFault}
-use Rattle.pus_fields.specs.declared.fault.TcFault.TheVariants.{Discarded, Rejected}
-use Rattle.pus_fields.specs.Telecommand.{Telecommand}
-use Rattle.pus_fields.specs.TelecommandFaults.{telecommand_of}
-use Rattle.ocp_table.specs.Deciding.{turn}
-use Rattle.ocp_table.specs.declared.answers.InstructionOutcome.{InstructionOutcome}
-use Rattle.ocp_table.specs.declared.answers.InstructionOutcome.TheVariants as made
-use Rattle.ocp_table.specs.declared.answers.Refusal.{Refusal}
-use Rattle.ocp_table.specs.declared.answers.Refusal.TheVariants as refusal
-use Rattle.ocp_core.specs.declared.answers.EngineFault.TheVariants as engine
-use Rattle.ocp_core.specs.declared.answers.StepOutcome.{StepOutcome}
-use Rattle.ocp_core.specs.declared.answers.StepOutcome.TheVariants as S
-use Rattle.ocp_core.specs.World.{World, Event, Request, Step, Answer, Requested, Stepped, after, world_after, answer_by, is_accepted, received, stepped, answers, replay_from}
+use Rattle.ocp_table.specs.declared.answers.StepOutcome.{StepOutcome}
+use Rattle.ocp_table.specs.declared.answers.StepOutcome.TheVariants as S
+use Rattle.ocp_world.specs.declared.answers.EngineFault.TheVariants as engine
+use Rattle.ocp_world.specs.World.{World, Event, Request, Step}
+use Rattle.ocp_world.specs.After.{Answer, Requested, Stepped, after, is_accepted}
+use Rattle.ocp_world.specs.Replay.{answers, replay_from}
 use Rattle.ocp_core.specs.Log.{Log, world_of, is_full, with_entry, entry_for, full_answer, answer_in, log_after}
 use Rattle.ocp_core.specs.declared.answers.RunRefusal.{RunRefusal}
 use Rattle.ocp_core.specs.declared.answers.RunRefusal.TheVariants as run
 use Rattle.ocp_core.specs.Running.{log_after_all, finds_full, HasRoom, IsRefusedBy, StopsAt}
 use Rattle.ocp_core.proofs.Replays.{world_of-with_entry, replay_from-append, answers-append}
-use Rattle.ocp_core.proofs.Journaling.{accepted_octets}
-
--- ---- a refused event leaves the world
 
 true_false : true ≡ false → ⊥
 true_false e = cc
 
-kept_octets : (r : Result Telecommand TcFault) (time : ℕ) (w : World) → is_accepted (answer_by (received r time w.records).reply w) ≡ false → world_after (received r time w.records) w ≡ w
-kept_octets (Ok telecommand) time w h = absurd (true_false (sym (accepted_octets (Ok telecommand) time w.records w refl) ∙ h))
-kept_octets (Err (Rejected rejection request)) time w h = absurd (true_false h)
-kept_octets (Err (Discarded cause)) time w h = refl
-
-kept_turn : (id : ℕ) (t : Result InstructionOutcome Refusal) (w : World) → is_accepted (answer_by (stepped id t).reply w) ≡ false → world_after (stepped id t) w ≡ w
-kept_turn id (Ok made.Ran) w h = absurd (true_false h)
-kept_turn id (Ok made.Ended) w h = absurd (true_false h)
-kept_turn id (Ok (made.Faulted number)) w h = absurd (true_false h)
-kept_turn id (Err why) w h = refl
-
-pub refused_keeps : (w : World) (e : Event) → is_accepted (after w e).answer ≡ false → (after w e).world ≡ w
-refused_keeps w (Request by time octets) h = kept_octets (telecommand_of w.apid octets) time w h
-refused_keeps w (Step by id) h = kept_turn id (turn (get w.records id)) w h
-
--- ---- an event that is not refused for want of room
+-- ---- an event that is not refused because the journal is full
 
 abbrev pub is_full_answer : Answer → Bool
 is_full_answer (Requested (Ok reports)) = false
@@ -59,26 +33,17 @@ is_full_answer (Stepped (S.Faulted number)) = false
 is_full_answer (Stepped S.NotLoaded) = false
 is_full_answer (Stepped S.NotRunning) = false
 
+pub not_full : (o : StepOutcome) → (o ≡ S.JournalFull → ⊥) → is_full_answer (Stepped o) ≡ false
+not_full S.Ran h = refl
+not_full S.Ended h = refl
+not_full (S.Faulted number) h = refl
+not_full S.NotLoaded h = refl
+not_full S.NotRunning h = refl
+not_full S.JournalFull h = absurd (h refl)
+
 is_full_answer-full : (e : Event) → is_full_answer (full_answer e) ≡ true
 is_full_answer-full (Request by time octets) = refl
 is_full_answer-full (Step by id) = refl
-
--- what happens in a world is not refused for want of room
-never_full_octets : (r : Result Telecommand TcFault) (time : ℕ) (w : World) → is_accepted (answer_by (received r time w.records).reply w) ≡ false → is_full_answer (answer_by (received r time w.records).reply w) ≡ false
-never_full_octets (Ok telecommand) time w h = absurd (true_false (sym (accepted_octets (Ok telecommand) time w.records w refl) ∙ h))
-never_full_octets (Err (Rejected rejection request)) time w h = refl
-never_full_octets (Err (Discarded cause)) time w h = refl
-
-never_full_turn : (id : ℕ) (t : Result InstructionOutcome Refusal) (w : World) → is_full_answer (answer_by (stepped id t).reply w) ≡ false
-never_full_turn id (Ok made.Ran) w = refl
-never_full_turn id (Ok made.Ended) w = refl
-never_full_turn id (Ok (made.Faulted number)) w = refl
-never_full_turn id (Err refusal.NotLoaded) w = refl
-never_full_turn id (Err refusal.NotRunning) w = refl
-
-never_full : (w : World) (e : Event) → is_accepted (after w e).answer ≡ false → is_full_answer (after w e).answer ≡ false
-never_full w (Request by time octets) h = never_full_octets (telecommand_of w.apid octets) time w h
-never_full w (Step by id) h = never_full_turn id (turn (get w.records id)) w
 
 is_accepted-full : (e : Event) → is_accepted (full_answer e) ≡ false
 is_accepted-full (Request by time octets) = refl
@@ -106,27 +71,30 @@ module _ (log : Log) (e : Event) where
         | false ↦ λ a. (a, refl)
       ] is
 
-  -- one that is answered with a full journal would be accepted
-  pub full_event : full_answer e ≡ answer_in log e → finds_full log e ≡ true
-  full_event is =
+  -- one that is answered with a full journal would be accepted, since no world answers so
+  pub full_event : full_answer e ≢ answer → full_answer e ≡ answer_in log e → finds_full log e ≡ true
+  full_event never is =
       elim (is_accepted answer) as (λ b. is_accepted answer ≡ b → full_answer e ≡ cond b (cond (is_full log) (full_answer e) answer) answer → cond b (is_full log) false ≡ true) [
         | true ↦ λ taken. elim (is_full log) as (λ f. full_answer e ≡ cond f (full_answer e) answer → f ≡ true) [
           | true ↦ λ a. refl
           | false ↦ λ a. absurd (true_false (sym taken ∙ ap is_accepted (sym a) ∙ is_accepted-full e))
         ]
-        | false ↦ λ taken a. absurd (true_false (sym (is_full_answer-full e) ∙ ap is_full_answer a ∙ never_full (world_of log) e taken))
+        | false ↦ λ taken a. absurd (never a)
       ] refl is
 
-  -- the journal that it leaves has the event's world
-  pub world_left : finds_full log e ≡ false → world_of (log_after log e) ≡ (after (world_of log) e).world
-  world_left =
+  -- the journal that it leaves has the event's world, since a refused event leaves the world
+  pub world_left : (is_accepted answer ≡ false → (after (world_of log) e).world ≡ world_of log) → finds_full log e ≡ false → world_of (log_after log e) ≡ (after (world_of log) e).world
+  world_left keeps =
       elim (is_accepted answer) as (λ b. is_accepted answer ≡ b → cond b (is_full log) false ≡ false → world_of (left b (is_full log)) ≡ (after (world_of log) e).world) [
         | true ↦ λ taken. elim (is_full log) as (λ f. f ≡ false → world_of (left true f) ≡ (after (world_of log) e).world) [
           | true ↦ λ full. absurd (true_false full)
           | false ↦ λ free. world_of-entry log e
         ]
-        | false ↦ λ taken free. sym (refused_keeps (world_of log) e taken)
+        | false ↦ λ taken free. sym (keeps taken)
       ] refl
+
+pub world_done : ((w : World) (e : Event) → is_accepted (after w e).answer ≡ false → (after w e).world ≡ w) → (log : Log) (e : Event) (new : Log) → new ≡ log_after log e → finds_full log e ≡ false → world_of new ≡ (after (world_of log) e).world
+world_done keeps log e new is free = ap world_of is ∙ world_left log e (keeps (world_of log) e) free
 
 -- ---- journals after events, one after another
 
@@ -161,8 +129,8 @@ module _ {E : Type 0} (event_of : E → Event) (start : Log) (events : List E) (
     room_more so_far free = subst (HasRoom start) (sym longer) (HasRoom-append start before (next ∷ []) so_far (ap (λ l. finds_full l next) (sym here) ∙ free, tt))
 
   module _ (log : Log) (here : world_of log ≡ replay_from (world_of start) before) where
-    pub world_more : (new : Log) → new ≡ log_after log next → finds_full log next ≡ false → world_of new ≡ replay_from (world_of start) (map event_of (take (i + 1) events))
-    world_more new is free = ap world_of is ∙ world_left log next free ∙ ap (λ w. (after w next).world) here ∙ sym (replay_from-append (world_of start) before (next ∷ [])) ∙ ap (replay_from (world_of start)) (sym longer)
+    pub world_more : (new : Log) → world_of new ≡ (after (world_of log) next).world → world_of new ≡ replay_from (world_of start) (map event_of (take (i + 1) events))
+    world_more new is = is ∙ ap (λ w. (after w next).world) here ∙ sym (replay_from-append (world_of start) before (next ∷ [])) ∙ ap (replay_from (world_of start)) (sym longer)
 
     pub told_more : {X : Type 0} (answer_of : X → Answer) (a : X) (told : List X) → answer_of a ≡ (after (world_of log) next).answer → map answer_of told ≡ answers (world_of start) before → map answer_of (told ++ a ∷ []) ≡ answers (world_of start) (map event_of (take (i + 1) events))
     told_more answer_of a told is so_far =
@@ -180,11 +148,3 @@ module _ {E : Type 0} (event_of : E → Event) (start : Log) (events : List E) (
       stops l run.Memory (suc index) e h = h
       stops l run.JournalFull zero e h = h
       stops l run.JournalFull (suc index) e h = h
-
-pub not_full : (o : StepOutcome) → (o ≡ S.JournalFull → ⊥) → is_full_answer (Stepped o) ≡ false
-not_full S.Ran h = refl
-not_full S.Ended h = refl
-not_full (S.Faulted number) h = refl
-not_full S.NotLoaded h = refl
-not_full S.NotRunning h = refl
-not_full S.JournalFull h = absurd (h refl)

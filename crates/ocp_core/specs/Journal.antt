@@ -5,7 +5,8 @@ use Rattle.ocp_core.specs.declared.event.Event as E
 use Rattle.ocp_core.specs.declared.event.Event.TheVariants as event
 use Rattle.ocp_core.specs.declared.answers.Answer as G
 use Rattle.ocp_core.specs.declared.answers.Answer.TheVariants as answer
-use Rattle.ocp_core.specs.World.{Event, Request, Step, Answer, Requested, Stepped}
+use Rattle.ocp_world.specs.World.{Event, Request, Step}
+use Rattle.ocp_world.specs.After.{Answer, Requested, Stepped}
 use Rattle.ocp_core.specs.Log.{Entry, Asked, Steps}
 
 abbrev pub event_of : E.Event → Event

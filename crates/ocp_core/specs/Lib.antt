@@ -1,10 +1,6 @@
-pub mod World
 pub mod Log
+pub mod Marks
 pub mod Slice
 pub mod Journal
-pub mod State
-pub mod Answering
 pub mod Running
-pub mod Codes
-pub mod Kept
-pub mod Laws
+pub mod Mirror

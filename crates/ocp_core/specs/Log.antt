@@ -1,9 +1,12 @@
--- What a contract sees of an engine: its journal and its parameters. The engine's world is the journal's replay.
+-- What a contract sees of an engine: its journal and its parameters. The engine's world is the
+-- journal's replay.
 use Rattle.std.specs.Prelude.{ℕ, List, [], ◌∷◌, ◌++◌, ◌==◌, Bool, if◌then◌else◌, length, replicate, Err}
 use Rattle.std.specs.List.{flat_map}
-use Rattle.ocp_core.specs.declared.answers.EngineFault.TheVariants as engine
-use Rattle.ocp_core.specs.declared.answers.StepOutcome.TheVariants as S
-use Rattle.ocp_core.specs.World.{World, Event, Request, Step, Answer, Requested, Stepped, after, replay, is_accepted}
+use Rattle.ocp_table.specs.declared.answers.StepOutcome.TheVariants as S
+use Rattle.ocp_world.specs.declared.answers.EngineFault.TheVariants as engine
+use Rattle.ocp_world.specs.World.{World, Event, Request, Step}
+use Rattle.ocp_world.specs.After.{Answer, Requested, Stepped, after, is_accepted}
+use Rattle.ocp_world.specs.Replay.{replay}
 
 -- a request with its seat and time, or so many instructions of one procedure with their seat
 pub data Entry : Type 0 where
@@ -18,7 +21,8 @@ events_of (Steps by id count) = replicate count (Step by id)
 abbrev pub expand : List Entry → List Event
 expand entries = flat_map events_of entries
 
--- the application process identifier, the number of pool words, the number of entries at most, and the entries
+-- the application process identifier, the number of pool words, the number of entries at most, and the
+-- entries
 pub record Log : Type 0 where
   pub apid : ℕ
   pub words : ℕ
@@ -27,10 +31,15 @@ pub record Log : Type 0 where
 
 -- a journal without entries
 abbrev pub empty_log : ℕ → ℕ → ℕ → Log
-empty_log apid words capacity = record { apid = apid; words = words; capacity = capacity; entries = [] }
+empty_log apid words capacity = record {
+  apid = apid;
+  words = words;
+  capacity = capacity;
+  entries = [];
+}
 
 unfoldable pub world_of : Log → World
-world_of log = replay log.apid (expand log.entries)
+world_of log = replay log.apid log.words (expand log.entries)
 
 abbrev pub is_full : Log → Bool
 is_full log = length log.entries == log.capacity
@@ -49,8 +58,13 @@ full_answer (Step by id) = Stepped S.JournalFull
 
 -- an event that would be accepted is refused where the journal is full
 abbrev pub answer_in : Log → Event → Answer
-answer_in log e = let answer = (after (world_of log) e).answer in if is_accepted answer then (if is_full log then full_answer e else answer) else answer
+answer_in log e =
+    let answer = (after (world_of log) e).answer in
+    if is_accepted answer then (if is_full log then full_answer e else answer) else answer
 
 -- an accepted event leaves one entry, and a refused one none
 abbrev pub log_after : Log → Event → Log
-log_after log e = if is_accepted (after (world_of log) e).answer then (if is_full log then log else with_entry log (entry_for e)) else log
+log_after log e =
+    if is_accepted (after (world_of log) e).answer
+    then (if is_full log then log else with_entry log (entry_for e))
+    else log

@@ -1,9 +1,10 @@
 -- What an event of a run does, and where a run ends.
 use Rattle.std.specs.Prelude.{◌≡◌, ℕ, zero, Bool, true, false, if◌then◌else◌, List, [], ◌∷◌, Option, Some, None, Result, Ok, Err}
+use Rattle.ocp_world.specs.World.{Event, Request, Step}
+use Rattle.ocp_world.specs.After.{after, is_accepted}
 use Rattle.ocp_core.specs.declared.answers.Answer as G
 use Rattle.ocp_core.specs.declared.answers.RunRefusal.{RunRefusal}
 use Rattle.ocp_core.specs.declared.answers.RunRefusal.TheVariants.{JournalFull, Memory}
-use Rattle.ocp_core.specs.World.{Event, Request, Step, after, is_accepted}
 use Rattle.ocp_core.specs.Log.{Log, world_of, is_full, answer_in, log_after}
 use Rattle.ocp_core.specs.Journal.{answer_of}
 
@@ -23,7 +24,8 @@ HasRoom log (e ∷ es) = (finds_full log e ≡ false) × HasRoom (log_after log 
 
 -- memory is taken for a request that is accepted; an instruction takes none
 abbrev pub TakesMemory : Log → Event → Type 0
-TakesMemory log (Request by time octets) = is_accepted (answer_in log (Request by time octets)) ≡ true
+TakesMemory log (Request by time octets) =
+    is_accepted (answer_in log (Request by time octets)) ≡ true
 TakesMemory log (Step by id) = ⊥
 
 -- the event is refused so
@@ -31,14 +33,21 @@ abbrev pub IsRefusedBy : Log → Event → RunRefusal → Type 0
 IsRefusedBy log e JournalFull = finds_full log e ≡ true
 IsRefusedBy log e Memory = TakesMemory log e
 
--- the answer and the journal left are those of the event, which does not find the journal full; or it is refused and
--- nothing is changed
+-- the answer, the world and the journal left are those of the event, which does not find the journal
+-- full
+pub record IsDone {A : Type 0} (old new : Log) (e : Event) (answer : G.Answer A) : Type 0 where
+  pub answered : answer_of answer ≡ (after (world_of old) e).answer
+  pub world : world_of new ≡ (after (world_of old) e).world
+  pub journal : new ≡ log_after old e
+  pub roomy : finds_full old e ≡ false
+
+-- the event is done; or it is refused and nothing is changed
 abbrev pub Applies : {A : Type 0} → Log → Log → Event → Result (G.Answer A) RunRefusal → Type 0
-Applies old new e (Ok answer) = (answer_of answer ≡ (after (world_of old) e).answer) × (new ≡ log_after old e) × (finds_full old e ≡ false)
+Applies old new e (Ok answer) = IsDone old new e answer
 Applies old new e (Err refusal) = IsRefusedBy old e refusal × (new ≡ old)
 
--- a run ends, with this journal, before the event of this index, which is refused so; for want of memory it may also end
--- before the first event, since room for all answers is taken there
+-- a run ends, with this journal, before the event of this index, which is refused so; out of memory it
+-- may also end before the first event, since room for all answers is taken there
 abbrev pub StopsAt : Log → RunRefusal → ℕ → Option Event → Type 0
 StopsAt log Memory zero e = Unit {0}
 StopsAt log refusal index (Some e) = IsRefusedBy log e refusal

@@ -2,16 +2,16 @@
 
 ghost use Rattle.std.specs.Prelude.{◌≡◌, ◌≤◌, ◌<◌, ◌-◌, ◌^◌, IfOk, OnOk, OnErr, length};
 ghost use Rattle.std.specs.FinMap.{get};
-ghost use Rattle.ocp_table.specs.Shown.{shown_at};
-ghost use Rattle.ocp_core.specs.World as world;
+ghost use Rattle.ocp_table.specs.Shown.{view_at};
+ghost use Rattle.ocp_world.specs.World as world;
+ghost use Rattle.ocp_world.specs.After.{Stepped};
+ghost use Rattle.ocp_world.specs.Answers.{Answers};
 ghost use Rattle.ocp_core.specs.Log.{empty_log, expand, world_of, answer_in, log_after};
 ghost use Rattle.ocp_core.specs.Slice.{slice_in, slice_log};
-ghost use Rattle.ocp_core.specs.Answering.{Answers};
 
-use crate::state::State;
-use crate::convert::discard_of;
 use crate::{EngineFault, Entry, Journal, Octets, Reports, Slice, StepOutcome};
 use ocp_table::View;
+use ocp_world::{State, discard_of};
 use pus_fields::read_tc;
 use space_packet::Apid;
 use std::alloc::{AllocError, Allocator, Global};
@@ -29,11 +29,11 @@ impl<A: Allocator> Model for Engine<A> {
 
     ghost Value = { Log };
 
-    ghost use Rattle.ocp_core.specs.Codes.{log_code};
+    ghost use Rattle.ocp_core.specs.Mirror.Codes.{log_code};
 
     ghost coded = { log_code };
 
-    ghost use Rattle.ocp_core.specs.State.{IsWorld};
+    ghost use Rattle.ocp_world.specs.Mirror.State.{IsWorld};
 
     ghost view = { λ e. e.journal };
 
@@ -101,7 +101,7 @@ impl<A: Allocator> Engine<A> {
     /// Does one instruction of a running procedure. Refused, in this order, where the procedure is not loaded, where it
     /// is not running, and where the journal is full; then nothing is changed.
     pub fn step(&mut self, by: u16, id: u16) -> StepOutcome
-        ensures answer { world.Stepped result ≡ answer_in self.old (world.Step by id) }
+        ensures answer { Stepped result ≡ answer_in self.old (world.Step by id) }
         ensures journal { self.new ≡ log_after self.old (world.Step by id) }
     {
         if let Some(refused) = self.state.refusal(id) {
@@ -145,7 +145,7 @@ impl<A: Allocator> Engine<A> {
 
     /// What is shown of a procedure, where it is loaded.
     pub fn view(&self, id: u16) -> Option<View>
-        ensures { result ≡ shown_at (get (world_of self.now).records id) }
+        ensures { result ≡ view_at (get (world_of self.now).records id) }
     {
         self.state.view(id)
     }

@@ -25,11 +25,11 @@ impl<A: Allocator> Model for Journal<A> {
 
     ghost Value = { Log };
 
-    ghost use Rattle.ocp_core.specs.Codes.{log_code};
+    ghost use Rattle.ocp_core.specs.Mirror.Codes.{log_code};
 
     ghost coded = { log_code };
 
-    ghost use Rattle.ocp_core.specs.Kept.{log_of, IsKept};
+    ghost use Rattle.ocp_core.specs.Mirror.Kept.{log_of, IsKept};
 
     ghost view = { log_of };
 

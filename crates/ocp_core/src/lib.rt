@@ -7,17 +7,11 @@ mod engine;
 mod event;
 mod journal;
 pub mod laws;
-mod octets;
-mod reporting;
 mod run;
-mod state;
-mod convert;
 
-pub use answers::{Answer, EngineFault, RunFault, RunRefusal, Slice, StepOutcome};
+pub use answers::{Answer, RunFault, RunRefusal};
 pub use engine::Engine;
 pub use event::{Entry, Event};
 pub use journal::Journal;
-pub use octets::{Octets, Reports};
-
-#[cfg(test)]
-mod tests;
+pub use ocp_reports::{Octets, Reports};
+pub use ocp_world::{EngineFault, Slice, StepOutcome};

@@ -1,11 +1,12 @@
 //! Lists of events.
 
 ghost use Rattle.std.specs.Prelude.{◌≡◌, IfOk, IfErr, OnOk, map, take, slice_get};
-ghost use Rattle.ocp_core.specs.World.{answers, replay_from};
+ghost use Rattle.ocp_world.specs.Replay.{answers, replay_from};
 ghost use Rattle.ocp_core.specs.Log.{world_of};
 ghost use Rattle.ocp_core.specs.Journal.{event_of, answer_of};
 ghost use Rattle.ocp_core.specs.Running.{Applies, HasRoom, StopsAt, log_after_all};
 
+use crate::laws::{refused_events_change_nothing, worlds_have_no_full_journal};
 use crate::{Answer, Engine, EngineFault, Event, RunFault, RunRefusal, StepOutcome};
 use std::alloc::Allocator;
 
@@ -16,6 +17,8 @@ impl<A: Allocator> Engine<A> {
         A: Copy,
         ensures { Applies self.old self.new (event_of event.entry) result }
     {
+        refused_events_change_nothing();
+        worlds_have_no_full_journal();
         match event {
             Event::Request { by, time, octets } => match self.request(alloc, by, time, octets) {
                 Ok(reports) => Ok(Answer::Requested(Ok(reports))),

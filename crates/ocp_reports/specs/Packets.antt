@@ -1,5 +1,6 @@
 -- The packets of reports, one after another.
 use Rattle.std.specs.Prelude.{ℕ, ◌+◌, ◌%◌, List, [], ◌∷◌}
+use Rattle.space_packet.specs.declared.range.TheConstants.{SEQUENCE_COUNTS}
 use Rattle.pus_fields.specs.Telemetry.{Telemetry, telemetry_octets}
 use Rattle.obcp_messages.specs.Report.{service_of, kind_of, report_data}
 use Rattle.ocp_reports.specs.Origin.{Dispatch}
@@ -8,7 +9,7 @@ use Rattle.ocp_reports.specs.Origin.{Dispatch}
 abbrev pub telemetry_of : ℕ → ℕ → Dispatch → Telemetry
 telemetry_of apid count dispatch = record {
   apid = apid;
-  count = count % 16384;
+  count = count % SEQUENCE_COUNTS;
   service = service_of dispatch.report;
   subtype = kind_of dispatch.report;
   destination = dispatch.destination;

@@ -11,12 +11,9 @@ ghost use Rattle.ocp_reports.specs.Packets.{packets, telemetry_of};
 use crate::{Octets, Origin, Reports};
 use obcp_messages::{Report, StartFault, write_report};
 use pus_fields::{Tm, WriteFault, write_tm};
-use space_packet::{Apid, SequenceCount};
+use space_packet::{Apid, SEQUENCE_COUNTS, SequenceCount};
 use std::alloc::{AllocError, Allocator};
 use verification::{Notice, Outcome, notices};
-
-// How many sequence counts there are: the count behind the last one is 0.
-const SEQUENCE_COUNTS: u16 = 16_384;
 
 /// The application process that sends reports, and the sequence count of its next one.
 #[derive(Clone, Copy)]

@@ -1,6 +1,6 @@
 use Rattle.std.proofs.Common.{◌≡◌, ◌≤◌, map, take, length, vec_len}
 use Rattle.std.specs.Prelude.{vec_capacity}
-use Rattle.ocp_core.specs.World.{answers, replay_from}
+use Rattle.ocp_world.specs.Replay.{answers, replay_from}
 use Rattle.ocp_core.specs.Log.{world_of}
 use Rattle.ocp_core.specs.Journal.{event_of, answer_of}
 use Rattle.ocp_core.specs.Running.{log_after_all, HasRoom}

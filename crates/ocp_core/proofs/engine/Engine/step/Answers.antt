@@ -1,5 +1,5 @@
 use Rattle.std.proofs.Common.{sym, ◌∙◌}
-use Rattle.ocp_core.specs.World.{Step}
+use Rattle.ocp_world.specs.World.{Step}
 use Rattle.ocp_core.proofs.Keeping.{IsWorld-with_entry}
 use Rattle.ocp_core.proofs.Journaling.{refused_answer, refused_log, full_answered, done_answer, done_log}
 use Rattle.ocp_core.proofs.engine.Engine.step.Goals as goal

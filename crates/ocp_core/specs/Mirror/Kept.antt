@@ -6,7 +6,12 @@ use Rattle.ocp_core.specs.declared.journal.Journal.TheInside.{Inside}
 
 module _ {A : Type 0} where
   abbrev pub log_of : Inside A → Log
-  log_of j = record { apid = j.apid; words = j.words; capacity = j.capacity; entries = map entry_of j.entries.items }
+  log_of j = record {
+    apid = j.apid;
+    words = j.words;
+    capacity = j.capacity;
+    entries = map entry_of j.entries.items;
+  }
 
   pub record IsKept (j : Inside A) : Type 0 where
     pub named : j.apid < 2047

@@ -1,0 +1,31 @@
+-- The marks of a journal: the answer that was given with each entry. A journal does not store them:
+-- they are those of the replay.
+use Rattle.std.specs.Prelude.{ℕ, zero, suc, List, [], ◌∷◌}
+use Rattle.ocp_table.specs.declared.answers.StepOutcome.{StepOutcome}
+use Rattle.ocp_table.specs.declared.answers.StepOutcome.TheVariants as S
+use Rattle.ocp_world.specs.World.{World, Request, Step, opening}
+use Rattle.ocp_world.specs.After.{Answer, Stepped, after}
+use Rattle.ocp_world.specs.Replay.{replay_from}
+use Rattle.ocp_world.specs.Slice.{outcome_in}
+use Rattle.ocp_core.specs.Log.{Entry, Asked, Steps, Log, events_of}
+
+-- the outcome of the last of so many instructions, or the one before them
+abbrev pub last_outcome : World → ℕ → ℕ → StepOutcome → ℕ → StepOutcome
+last_outcome w by id last zero = last
+last_outcome w by id last (suc count) =
+    let step = after w (Step by id) in
+    last_outcome step.world by id (outcome_in step.answer) count
+
+-- the mark of an entry, by the world before it: the reports of a request, or the outcome of the last
+-- instruction
+abbrev pub mark_in : World → Entry → Answer
+mark_in w (Asked by time octets) = (after w (Request by time octets)).answer
+mark_in w (Steps by id count) = Stepped (last_outcome w by id S.Ran count)
+
+abbrev pub marks_from : World → List Entry → List Answer
+marks_from w [] = []
+marks_from w (entry ∷ entries) =
+    mark_in w entry ∷ marks_from (replay_from w (events_of entry)) entries
+
+unfoldable pub marks : Log → List Answer
+marks log = marks_from (opening log.apid log.words) log.entries

@@ -1,0 +1,23 @@
+//! Laws on worlds, events and journals. The functions do nothing when they run: their contracts are the laws.
+ghost use Rattle.std.specs.Prelude.{◌≡◌, ◌++◌, ◌∷◌, [], ℕ, true, false};
+ghost use Rattle.ocp_world.specs.World.{Event, Step};
+ghost use Rattle.ocp_world.specs.After.{Stepped, after, is_accepted};
+ghost use Rattle.ocp_core.specs.Log.{Log, world_of, is_full, answer_in, log_after};
+ghost use Rattle.ocp_core.specs.Slice.{slice_in, slice_log};
+ghost use Rattle.ocp_core.specs.Marks.{marks};
+
+pub use ocp_world::laws::{
+    an_instruction_changes_its_own_procedure, only_running_procedures_step,
+    refused_events_change_nothing, requests_keep_or_start_machines, worlds_have_no_full_journal,
+};
+
+/// The mark of each new entry of a journal is the answer that was given with it, and the older marks stay.
+#[tactic(auto, using(crate::proofs::Marking::marks-event, crate::proofs::Marking::marks-slice))]
+pub fn entries_are_marked_by_their_answers()
+    ensures event { (log : Log) (e : Event) →
+        is_accepted (after (world_of log) e).answer ≡ true → is_full log ≡ false →
+        marks (log_after log e) ≡ marks log ++ answer_in log e ∷ [] }
+    ensures slice { (log : Log) (by id budget : ℕ) →
+        is_accepted (after (world_of log) (Step by id)).answer ≡ true → is_full log ≡ false →
+        marks (slice_log log by id budget) ≡ marks log ++ Stepped (slice_in log by id budget).last ∷ [] }
+{}
