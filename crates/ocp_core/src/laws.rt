@@ -12,7 +12,6 @@ pub use ocp_world::laws::{
 };
 
 /// The mark of each new entry of a journal is the answer that was given with it, and the older marks stay.
-#[tactic(auto, using(crate::proofs::Marking::marks-event, crate::proofs::Marking::marks-slice))]
 pub fn entries_are_marked_by_their_answers()
     ensures event { (log : Log) (e : Event) →
         is_accepted (after (world_of log) e).answer ≡ true → is_full log ≡ false →

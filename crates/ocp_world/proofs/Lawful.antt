@@ -38,7 +38,7 @@ not_running (Some r) h e =
 
 module _ (only : (id : ℕ) (m : Records) → status_of (get m id) ≢ Some Running → is_some (failure_of (effect_in directive.Step id m)) ≡ true) where
   pub still_refused : (w : World) (by id : ℕ) → is_running (get w.records id) ≡ false → is_accepted (after w (Step by id)).answer ≡ false
-  still_refused w by id h = refused_step id (effect_in directive.Step id w.records) (is_instruction w.records id) (only id w.records (not_running (get w.records id) h))
+  still_refused w by id h = refused_step (effect_in directive.Step id w.records) (is_instruction w.records id) (only id w.records (not_running (get w.records id) h))
 
   pub still : (w : World) (by id : ℕ) → is_running (get w.records id) ≡ false → (after w (Step by id)).world ≡ w
   still w by id h = refused_keeps w (Step by id) (still_refused w by id h)
@@ -53,17 +53,17 @@ module _ (m : Records) (q : ℕ) where
     kept_by_command : (request : Command) (origin : Origin) → IsKept (records_by (command_effect request origin m).on_records m)
     kept_by_command (command.Load id code) origin = asked (directive.Load code) id tt
     kept_by_command (command.Activate id arguments) origin = asked (directive.Activate arguments) id tt
-    kept_by_command command.Status origin machine is = inl is
-    kept_by_command other origin machine is = inl is
+    kept_by_command command.Status origin = λ machine is. inl is
+    kept_by_command other origin = λ machine is. inl is
 
     kept_by_service : (r : Result Command RequestFault) (origin : Origin) → IsKept (records_by (service_effect r origin m).on_records m)
     kept_by_service (Ok request) origin = kept_by_command request origin
-    kept_by_service (Err fault) origin machine is = inl is
+    kept_by_service (Err fault) origin = λ machine is. inl is
 
     kept_by_octets : (r : Result Telecommand TcFault) (time : ℕ) → IsKept (records_by (request_effect r time m).on_records m)
     kept_by_octets (Ok telecommand) time = kept_by_service (command_of telecommand) (origin_of telecommand time)
-    kept_by_octets (Err (Rejected rejection request)) time machine is = inl is
-    kept_by_octets (Err (Discarded cause)) time machine is = inl is
+    kept_by_octets (Err (Rejected rejection request)) time = λ machine is. inl is
+    kept_by_octets (Err (Discarded cause)) time = λ machine is. inl is
 
   -- ---- no effect makes a procedure go
 

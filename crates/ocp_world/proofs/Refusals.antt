@@ -17,11 +17,13 @@ use Rattle.ocp_table.specs.declared.answers.InstructionOutcome.TheVariants as di
 use Rattle.ocp_table.specs.declared.answers.StepOutcome.{StepOutcome}
 use Rattle.ocp_table.specs.declared.answers.StepOutcome.TheVariants as S
 use Rattle.ocp_table.specs.Records.{Rec, Records}
-use Rattle.ocp_table.specs.Effects.{Loaded, Changed, Kept, Started, Stepped as Instructed, Failed, step_outcome, failure_of}
+use Rattle.ocp_table.specs.Effects.{Loaded, Changed, Kept, Started, Stepped as Instructed, Unasked, Failed, step_outcome, failure_of}
 use Rattle.ocp_table.specs.Effects as table
 use Rattle.ocp_table.specs.RequestTable as directive
 use Rattle.ocp_table.specs.RequestTable.{transition}
+use Rattle.std.specs.FinMap.{get}
 use Rattle.ocp_table.specs.Deciding.{effect_in, effect_on, effect_by, effect_of_step, outcome_at}
+use Rattle.ocp_table.specs.Deciding.{is_full as is_full_table}
 use Rattle.ocp_reports.specs.declared.origin.Origin.{Origin}
 use Rattle.ocp_reports.specs.Origin.{origin_of}
 use Rattle.ocp_world.specs.World.{World, Event, Request, Step}
@@ -33,6 +35,9 @@ use Rattle.ocp_world.specs.Mirror.Answering.{discard_of, IsDiscard, IsRefusal}
 
 true_false : true ≡ false → ⊥
 true_false e = cc
+
+some_none : {X : Type 0} {x : X} → Some x ≡ None → ⊥
+some_none e = cc
 
 -- ---- a request
 
@@ -65,36 +70,42 @@ kept_octets (Err (Discarded cause)) time w h = refl
 
 -- ---- an instruction
 
--- an instruction changes its own procedure by what was done, or it leaves all
-pub data IsInstruction (id : ℕ) : table.Effect → Type 0 where
-  changes : (outcome : InstructionOutcome) → IsInstruction id (Changed id (Instructed outcome))
-  fails : (failure : StartFailure) → IsInstruction id (Kept (Failed failure))
+-- an instruction that is done changes a record, or it fails
+abbrev pub IsInstruction : table.Effect → Type 0
+IsInstruction (Loaded id image) = ⊥
+IsInstruction (Changed id (Started arguments)) = ⊥
+IsInstruction (Changed id (Instructed outcome)) = Unit {0}
+IsInstruction (Kept Unasked) = ⊥
+IsInstruction (Kept (Failed failure)) = Unit {0}
 
-step_by_outcome : (id : ℕ) (o : Option InstructionOutcome) → IsInstruction id (effect_of_step o id)
-step_by_outcome id None = fails _
-step_by_outcome id (Some outcome) = changes outcome
+step_by_outcome : (id : ℕ) (o : Option InstructionOutcome) → IsInstruction (effect_of_step o id)
+step_by_outcome id None = tt
+step_by_outcome id (Some outcome) = tt
 
-step_on : (id : ℕ) (o : Option Rec) (full : Bool) → IsInstruction id (effect_on directive.Step id o full)
-step_on id None full = fails _
+step_on : (id : ℕ) (o : Option Rec) (full : Bool) → IsInstruction (effect_on directive.Step id o full)
+step_on id None full = tt
 step_on id (Some r) full =
-    elim r.control.status as (λ s. IsInstruction id (effect_by (transition directive.Step (Some s)) id (Some r) full)) [
-      | Inactive ↦ fails _
+    elim r.control.status as (λ s. IsInstruction (effect_by (transition directive.Step (Some s)) id (Some r) full)) [
+      | Inactive ↦ tt
       | Running ↦ step_by_outcome id (outcome_at (Some r))
-      | Held ↦ fails _
+      | Held ↦ tt
     ]
 
-pub is_instruction : (m : Records) (id : ℕ) → IsInstruction id (effect_in directive.Step id m)
-is_instruction m id = step_on id _ _
+pub is_instruction : (m : Records) (id : ℕ) → IsInstruction (effect_in directive.Step id m)
+is_instruction m id = step_on id (get m id) (is_full_table m)
 
-kept_step : (id : ℕ) (effect : table.Effect) → IsInstruction id effect → (w : World) → is_accepted (answer_by (instruction_effect effect).reply w) ≡ false → world_after (instruction_effect effect) w ≡ w
-kept_step id (Changed .id (Instructed did.Ran)) (changes .did.Ran) w h = absurd (true_false h)
-kept_step id (Changed .id (Instructed did.Ended)) (changes .did.Ended) w h = absurd (true_false h)
-kept_step id (Changed .id (Instructed (did.Faulted number))) (changes .(did.Faulted number)) w h = absurd (true_false h)
-kept_step id (Kept (Failed failure)) (fails .failure) w h = refl
+kept_step : (effect : table.Effect) → IsInstruction effect → (w : World) → is_accepted (answer_by (instruction_effect effect).reply w) ≡ false → world_after (instruction_effect effect) w ≡ w
+kept_step (Loaded id image) is w h = absurd is
+kept_step (Changed id (Started arguments)) is w h = absurd is
+kept_step (Changed id (Instructed did.Ran)) is w h = absurd (true_false h)
+kept_step (Changed id (Instructed did.Ended)) is w h = absurd (true_false h)
+kept_step (Changed id (Instructed (did.Faulted number))) is w h = absurd (true_false h)
+kept_step (Kept Unasked) is w h = absurd is
+kept_step (Kept (Failed failure)) is w h = refl
 
 pub refused_keeps : (w : World) (e : Event) → is_accepted (after w e).answer ≡ false → (after w e).world ≡ w
 refused_keeps w (Request by time octets) h = kept_octets (telecommand_of w.apid octets) time w h
-refused_keeps w (Step by id) h = kept_step id (effect_in directive.Step id w.records) (is_instruction w.records id) w h
+refused_keeps w (Step by id) h = kept_step (effect_in directive.Step id w.records) (is_instruction w.records id) w h
 
 -- ---- why an instruction event is refused
 
@@ -102,28 +113,37 @@ failed_outcome : (failure : StartFailure) → is_accepted (Stepped (step_outcome
 failed_outcome failure.NotLoaded = refl
 failed_outcome other = refl
 
-pub refused_step : (id : ℕ) (effect : table.Effect) → IsInstruction id effect → is_some (failure_of effect) ≡ true → is_accepted (Stepped (step_outcome effect)) ≡ false
-refused_step id (Changed .id (Instructed outcome)) (changes .outcome) h = absurd (true_false (sym h))
-refused_step id (Kept (Failed failure)) (fails .failure) h = failed_outcome failure
+pub refused_step : (effect : table.Effect) → IsInstruction effect → is_some (failure_of effect) ≡ true → is_accepted (Stepped (step_outcome effect)) ≡ false
+refused_step (Loaded id image) is h = absurd is
+refused_step (Changed id (Started arguments)) is h = absurd is
+refused_step (Changed id (Instructed outcome)) is h = absurd (true_false (sym h))
+refused_step (Kept Unasked) is h = absurd is
+refused_step (Kept (Failed failure)) is h = failed_outcome failure
 
-pub allowed_step : (id : ℕ) (effect : table.Effect) → IsInstruction id effect → failure_of effect ≡ None → is_accepted (Stepped (step_outcome effect)) ≡ true
-allowed_step id (Changed .id (Instructed did.Ran)) (changes .did.Ran) h = refl
-allowed_step id (Changed .id (Instructed did.Ended)) (changes .did.Ended) h = refl
-allowed_step id (Changed .id (Instructed (did.Faulted number))) (changes .(did.Faulted number)) h = refl
-allowed_step id (Kept (Failed failure)) (fails .failure) h = absurd (cc)
+allowed_step : (effect : table.Effect) → IsInstruction effect → failure_of effect ≡ None → is_accepted (Stepped (step_outcome effect)) ≡ true
+allowed_step (Loaded id image) is h = absurd is
+allowed_step (Changed id (Started arguments)) is h = absurd is
+allowed_step (Changed id (Instructed did.Ran)) is h = refl
+allowed_step (Changed id (Instructed did.Ended)) is h = refl
+allowed_step (Changed id (Instructed (did.Faulted number))) is h = refl
+allowed_step (Kept Unasked) is h = absurd is
+allowed_step (Kept (Failed failure)) is h = absurd (some_none h)
 
-pub failed_step : (id : ℕ) (effect : table.Effect) → IsInstruction id effect → (failure : StartFailure) → failure_of effect ≡ Some failure → effect ≡ Kept (Failed failure)
-failed_step id (Changed .id (Instructed outcome)) (changes .outcome) failure h = absurd (cc)
-failed_step id (Kept (Failed why)) (fails .why) failure h = ap (λ f. Kept (Failed f)) (cc)
+failed_step : (effect : table.Effect) → IsInstruction effect → (failure : StartFailure) → failure_of effect ≡ Some failure → effect ≡ Kept (Failed failure)
+failed_step (Loaded id image) is failure h = absurd is
+failed_step (Changed id (Started arguments)) is failure h = absurd is
+failed_step (Changed id (Instructed outcome)) is failure h = absurd (some_none (sym h))
+failed_step (Kept Unasked) is failure h = absurd is
+failed_step (Kept (Failed why)) is failure h = ap (λ f. Kept (Failed f)) (cc)
 
 -- an instruction event that does not fail in the table is accepted
-pub refusal_none : (m : Records) (by id : ℕ) (w : World) → m ≡ w.records → (o : Option StartFailure) → o ≡ failure_of (effect_in directive.Step id m) → None ≡ o → IsRefusal (after w (Step by id)).answer None
-refusal_none m by id w same o told none = allowed_step id (effect_in directive.Step id w.records) (is_instruction w.records id) (ap (λ n. failure_of (effect_in directive.Step id n)) (sym same) ∙ sym told ∙ sym none)
+pub refusal_none : (m : Records) (by id : ℕ) (w : World) → m ≡ w.records → (o : Option StartFailure) → o ≡ failure_of (effect_in directive.Step id m) → o ≡ None → IsRefusal (after w (Step by id)).answer None
+refusal_none m by id w same o told none = allowed_step (effect_in directive.Step id w.records) (is_instruction w.records id) (ap (λ n. failure_of (effect_in directive.Step id n)) (sym same) ∙ sym told ∙ none)
 
 -- and one that fails there is refused so
-pub refusal_some : (m : Records) (by id : ℕ) (w : World) → m ≡ w.records → (o : Option StartFailure) → o ≡ failure_of (effect_in directive.Step id m) → (failure : StartFailure) → Some failure ≡ o → (outcome : StepOutcome) → outcome ≡ step_outcome (Kept (Failed failure)) → IsRefusal (after w (Step by id)).answer (Some outcome)
+pub refusal_some : (m : Records) (by id : ℕ) (w : World) → m ≡ w.records → (o : Option StartFailure) → o ≡ failure_of (effect_in directive.Step id m) → (failure : StartFailure) → o ≡ Some failure → (outcome : StepOutcome) → outcome ≡ step_outcome (Kept (Failed failure)) → IsRefusal (after w (Step by id)).answer (Some outcome)
 refusal_some m by id w same o told failure some outcome is =
-    let effect : effect_in directive.Step id w.records ≡ Kept (Failed failure) = failed_step id (effect_in directive.Step id w.records) (is_instruction w.records id) failure (ap (λ n. failure_of (effect_in directive.Step id n)) (sym same) ∙ sym told ∙ sym some) in
+    let effect : effect_in directive.Step id w.records ≡ Kept (Failed failure) = failed_step (effect_in directive.Step id w.records) (is_instruction w.records id) failure (ap (λ n. failure_of (effect_in directive.Step id n)) (sym same) ∙ sym told ∙ some) in
     (ap (λ d. is_accepted (Stepped (step_outcome d))) effect ∙ failed_outcome failure, ap Stepped is ∙ ap (λ d. Stepped (step_outcome d)) (sym effect))
 
 -- ---- no answer is that of a full journal
@@ -160,15 +180,18 @@ roomy_failure : (failure : StartFailure) → is_full (Stepped (step_outcome (Kep
 roomy_failure failure.NotLoaded = refl
 roomy_failure other = refl
 
-roomy_step : (id : ℕ) (effect : table.Effect) → IsInstruction id effect → is_full (Stepped (step_outcome effect)) ≡ false
-roomy_step id (Changed .id (Instructed did.Ran)) (changes .did.Ran) = refl
-roomy_step id (Changed .id (Instructed did.Ended)) (changes .did.Ended) = refl
-roomy_step id (Changed .id (Instructed (did.Faulted number))) (changes .(did.Faulted number)) = refl
-roomy_step id (Kept (Failed failure)) (fails .failure) = roomy_failure failure
+roomy_step : (effect : table.Effect) → IsInstruction effect → is_full (Stepped (step_outcome effect)) ≡ false
+roomy_step (Loaded id image) is = absurd is
+roomy_step (Changed id (Started arguments)) is = absurd is
+roomy_step (Changed id (Instructed did.Ran)) is = refl
+roomy_step (Changed id (Instructed did.Ended)) is = refl
+roomy_step (Changed id (Instructed (did.Faulted number))) is = refl
+roomy_step (Kept Unasked) is = absurd is
+roomy_step (Kept (Failed failure)) is = roomy_failure failure
 
 roomy : (w : World) (e : Event) → is_full (after w e).answer ≡ false
 roomy w (Request by time octets) = roomy_octets (telecommand_of w.apid octets) time w.records w
-roomy w (Step by id) = roomy_step id (effect_in directive.Step id w.records) (is_instruction w.records id)
+roomy w (Step by id) = roomy_step (effect_in directive.Step id w.records) (is_instruction w.records id)
 
 pub request_has_room : (w : World) (e : Event) → (after w e).answer ≡ Requested (Err engine.JournalFull) → ⊥
 request_has_room w e is = true_false (ap is_full (sym is) ∙ roomy w e)

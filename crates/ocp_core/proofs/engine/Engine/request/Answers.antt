@@ -37,6 +37,12 @@ invariant_of-self g c =
     let does = c.in-Ok-receive.ensures (world_of log) c.args.by c.args.octets.now c.self.invariant read in
     IsWorld-with_entry _ _ _ _ c.push.ensures (subst (λ octets. IsWorld (replay_from (world_of log) (Request c.args.by c.args.time octets ∷ [])) c.receive.new.self) (sym c.in-Ok.ensures) does.1)
 
+pub invariant_of-self-in-Err-receive : goal.invariant_of-self-in-Err-receive
+invariant_of-self-in-Err-receive g c =
+    let log = c.self.inside.journal in
+    let read = as_read log c.args.octets.now c.apid.result c.apid.ensures.value c.read_tc-read.result c.read_tc-read.ensures.value in
+    (c.in-Err.ensures (world_of log) c.args.by c.args.octets.now c.self.invariant read).1
+
 pub returns-in-Ok-receive-clause-answer : goal.returns-in-Ok-receive-clause-answer
 returns-in-Ok-receive-clause-answer g c =
     let log = c.self.inside.journal in
