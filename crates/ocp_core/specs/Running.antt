@@ -1,7 +1,7 @@
 -- What an event of a run does, and where a run ends.
 use Rattle.std.specs.Prelude.{◌≡◌, ℕ, zero, Bool, true, false, if◌then◌else◌, List, [], ◌∷◌, Option, Some, None, Result, Ok, Err}
 use Rattle.ocp_world.specs.World.{Event, Request, Step}
-use Rattle.ocp_world.specs.After.{after, is_accepted}
+use Rattle.ocp_world.specs.After.{Answer, after, is_accepted}
 use Rattle.ocp_core.specs.declared.answers.Answer as G
 use Rattle.ocp_core.specs.declared.answers.RunRefusal.{RunRefusal}
 use Rattle.ocp_core.specs.declared.answers.RunRefusal.TheVariants.{JournalFull, Memory}
@@ -35,15 +35,15 @@ IsRefusedBy log e Memory = TakesMemory log e
 
 -- the answer, the world and the journal left are those of the event, which does not find the journal
 -- full
-pub record IsDone {A : Type 0} (old new : Log) (e : Event) (answer : G.Answer A) : Type 0 where
-  pub answered : answer_of answer ≡ (after (world_of old) e).answer
+pub record IsDone (old new : Log) (e : Event) (answer : Answer) : Type 0 where
+  pub answered : answer ≡ (after (world_of old) e).answer
   pub world : world_of new ≡ (after (world_of old) e).world
   pub journal : new ≡ log_after old e
   pub roomy : finds_full old e ≡ false
 
 -- the event is done; or it is refused and nothing is changed
 abbrev pub Applies : {A : Type 0} → Log → Log → Event → Result (G.Answer A) RunRefusal → Type 0
-Applies old new e (Ok answer) = IsDone old new e answer
+Applies old new e (Ok answer) = IsDone old new e (answer_of answer)
 Applies old new e (Err refusal) = IsRefusedBy old e refusal × (new ≡ old)
 
 -- a run ends, with this journal, before the event of this index, which is refused so; out of memory it

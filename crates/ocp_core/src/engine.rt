@@ -72,7 +72,8 @@ impl<A: Allocator> Engine<A> {
     where
         A: Copy,
         ensures answer { Answers result (answer_in self.old (world.Request by time octets.now)) }
-        ensures journal { OnOk result (self.new ≡ log_after self.old (world.Request by time octets.now)) }
+        ensures journal { OnOk result
+            (self.new ≡ log_after self.old (world.Request by time octets.now)) }
         ensures err { OnErr result (self.new ≡ self.old) }
     {
         let read = read_tc(self.journal.apid(), octets);

@@ -18,5 +18,6 @@ pub fn entries_are_marked_by_their_answers()
         marks (log_after log e) ≡ marks log ++ answer_in log e ∷ [] }
     ensures slice { (log : Log) (by id budget : ℕ) →
         is_accepted (after (world_of log) (Step by id)).answer ≡ true → is_full log ≡ false →
-        marks (slice_log log by id budget) ≡ marks log ++ Stepped (slice_in log by id budget).last ∷ [] }
+        marks (slice_log log by id budget) ≡
+        marks log ++ Stepped (slice_in log by id budget).last ∷ [] }
 {}

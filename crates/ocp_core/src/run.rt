@@ -42,15 +42,26 @@ impl<A: Allocator> Engine<A> {
     pub fn run(&mut self, alloc: A, events: &[Event<'_>]) -> Result<Vec<Answer<A>, A>, RunFault<A>>
     where
         A: Copy,
-        ensures answers { IfOk result (λ v. map answer_of v.items ≡ answers (world_of self.old) (map event_of events.now)) }
-        ensures world { OnOk result (world_of self.new ≡ replay_from (world_of self.old) (map event_of events.now)) }
-        ensures journal { OnOk result (self.new ≡ log_after_all self.old (map event_of events.now)) }
+        ensures answers { IfOk result (λ v.
+            map answer_of v.items ≡ answers (world_of self.old) (map event_of events.now)) }
+        ensures world { OnOk result
+            (world_of self.new ≡ replay_from (world_of self.old) (map event_of events.now)) }
+        ensures journal { OnOk result
+            (self.new ≡ log_after_all self.old (map event_of events.now)) }
         ensures room { OnOk result (HasRoom self.old (map event_of events.now)) }
-        ensures answers_before { IfErr result (λ fault. map answer_of fault.answers.items ≡ answers (world_of self.old) (map event_of (take fault.index events.now))) }
-        ensures world_before { IfErr result (λ fault. world_of self.new ≡ replay_from (world_of self.old) (map event_of (take fault.index events.now))) }
-        ensures journal_before { IfErr result (λ fault. self.new ≡ log_after_all self.old (map event_of (take fault.index events.now))) }
-        ensures room_before { IfErr result (λ fault. HasRoom self.old (map event_of (take fault.index events.now))) }
-        ensures refused { IfErr result (λ fault. StopsAt self.new fault.refusal fault.index (slice_get (map event_of events.now) fault.index)) }
+        ensures answers_before { IfErr result (λ fault.
+            let before = map event_of (take fault.index events.now) in
+            map answer_of fault.answers.items ≡ answers (world_of self.old) before) }
+        ensures world_before { IfErr result (λ fault.
+            let before = map event_of (take fault.index events.now) in
+            world_of self.new ≡ replay_from (world_of self.old) before) }
+        ensures journal_before { IfErr result (λ fault.
+            self.new ≡ log_after_all self.old (map event_of (take fault.index events.now))) }
+        ensures room_before { IfErr result (λ fault.
+            HasRoom self.old (map event_of (take fault.index events.now))) }
+        ensures refused { IfErr result (λ fault.
+            let event = slice_get (map event_of events.now) fault.index in
+            StopsAt self.new fault.refusal fault.index event) }
     {
         let Ok(mut answers) = Vec::with_capacity(alloc, events.len()) else {
             return Err(RunFault {

@@ -1,6 +1,7 @@
-use super::*;
-use ocp_table::{Cause, Status};
-use pus_fields::Discard;
+//! Engines: the octets of their reports, and lists of events. Wanted octets are counted by hand from the text of the
+//! standards.
+use ocp_core::{Answer, Engine, EngineFault, Entry, Event, Reports, RunRefusal, StepOutcome};
+use ocp_table::Status;
 use std::test::Fail;
 
 // A load of `mov64 r0, 5`, `add64 r0, 2`, `exit` as procedure 7, with the flags acceptance and completion.
@@ -32,10 +33,6 @@ const ACTIVATE_ONE: [u8; 17] = [
     0x27,
 ];
 
-const STATUS_OF_ONE: [u8; 13] = [
-    0x19, 0x23, 0xc0, 0x02, 0x00, 0x06, 0x21, 0x12, 0x08, 0x00, 0x00, 0x6c, 0x90,
-];
-
 // Whether the packet at this index of the reports has these octets.
 fn is_packet(reports: &Reports, index: usize, wanted: &[u8]) -> bool {
     match reports.packets().get(index) {
@@ -45,7 +42,7 @@ fn is_packet(reports: &Reports, index: usize, wanted: &[u8]) -> bool {
 }
 
 #[test]
-fn three_instructions_end_with_seven(rt: HostRuntime) -> Result<(), Fail> {
+fn reports_of_a_load_and_an_activation(rt: HostRuntime) -> Result<(), Fail> {
     let mut engine = Engine::new(rt.alloc(), 0x123, 16, 100_000)?;
     let reports = engine.request(rt.alloc(), 0, 0, &LOAD_SEVEN)?;
     assert_eq!(rt; reports.len(), 2);
@@ -83,16 +80,6 @@ fn three_instructions_end_with_seven(rt: HostRuntime) -> Result<(), Fail> {
     );
     let slice = engine.slice(0, 7, 3);
     assert_eq!(rt; (slice.count, slice.last), (3, StepOutcome::Ended));
-    let view = engine.view(7).ok_or("loaded")?;
-    assert_eq!(rt;
-        (view.status, view.cause),
-        (Status::Inactive, Cause::Exited)
-    );
-    assert_eq!(rt; (view.place, view.depth), (2, 0));
-    assert_eq!(rt;
-        view.registers,
-        [7, 0x2000_0000, 0, 0, 0, 0, 0, 0, 0, 0, 0x1000_1000]
-    );
     assert_eq!(rt; (engine.events(), engine.room()), (5, 99_997));
     Ok(())
 }
@@ -132,167 +119,6 @@ fn status_is_reported_to_its_source(rt: HostRuntime) -> Result<(), Fail> {
             ]
         )
     );
-    Ok(())
-}
-
-#[test]
-fn octets_that_are_no_telecommand_are_discarded(rt: HostRuntime) -> Result<(), Fail> {
-    let mut engine = Engine::new(rt.alloc(), 0x123, 16, 1)?;
-    let fault = engine.request(rt.alloc(), 0, 0, &STATUS[..12]).err();
-    assert_eq!(rt; fault, Some(EngineFault::Discarded(Discard::Length)));
-    let fault = engine.request(rt.alloc(), 0, 0, &[]).err();
-    assert_eq!(rt; fault, Some(EngineFault::Discarded(Discard::Short)));
-    assert_eq!(rt; engine.events(), 0);
-    Ok(())
-}
-
-#[test]
-fn a_full_journal_refuses_each_kind_of_event(rt: HostRuntime) -> Result<(), Fail> {
-    let mut engine = Engine::new(rt.alloc(), 0x123, 16, 2)?;
-    assert_eq!(rt; engine.request(rt.alloc(), 0, 0, &LOAD_ONE)?.len(), 1);
-    assert_eq!(rt; engine.request(rt.alloc(), 0, 0, &ACTIVATE_ONE)?.len(), 1);
-    assert_eq!(rt; engine.step(0, 1), StepOutcome::JournalFull);
-    let slice = engine.slice(0, 1, 1);
-    assert_eq!(rt; (slice.count, slice.last), (0, StepOutcome::JournalFull));
-    let fault = engine.request(rt.alloc(), 0, 0, &STATUS_OF_ONE).err();
-    assert_eq!(rt; fault, Some(EngineFault::JournalFull));
-    assert_eq!(rt; engine.step(0, 2), StepOutcome::NotLoaded);
-    Ok(())
-}
-
-#[test]
-fn a_run_answers_each_event(rt: HostRuntime) -> Result<(), Fail> {
-    let mut engine = Engine::new(rt.alloc(), 0x123, 16, 3)?;
-    let events = [
-        Event::Request {
-            by: 0,
-            time: 0,
-            octets: &STATUS,
-        },
-        Event::Step { by: 0, id: 7 },
-    ];
-    let Ok(answers) = engine.run(rt.alloc(), &events) else {
-        return Err("room and memory".into());
-    };
-    assert_eq!(rt; answers.len(), 2);
-    match (&answers[0], &answers[1]) {
-        (Answer::Requested(Ok(reports)), Answer::Stepped(outcome)) => {
-            assert_eq!(rt; reports.len(), 3);
-            assert_eq!(rt; *outcome, StepOutcome::NotLoaded);
-        }
-        _ => return Err("reports and an outcome".into()),
-    }
-    Ok(())
-}
-
-// The load of `exit` as procedure 1, with another id and the error control that it then has.
-fn load_exit(id: u8, error_control: [u8; 2]) -> [u8; 25] {
-    let mut octets = LOAD_ONE;
-    octets[12] = id;
-    octets[23] = error_control[0];
-    octets[24] = error_control[1];
-    octets
-}
-
-// The error controls of the loads of `exit` as procedures 1 to 16.
-const ERROR_CONTROLS: [[u8; 2]; 16] = [
-    [0xe0, 0xb1],
-    [0x98, 0x4b],
-    [0x40, 0x02],
-    [0x69, 0xbf],
-    [0xb1, 0xf6],
-    [0xc9, 0x0c],
-    [0x11, 0x45],
-    [0x9a, 0x76],
-    [0x42, 0x3f],
-    [0x3a, 0xc5],
-    [0xe2, 0x8c],
-    [0xcb, 0x31],
-    [0x13, 0x78],
-    [0x6b, 0x82],
-    [0xb3, 0xcb],
-    [0x6d, 0xc5],
-];
-
-#[test]
-fn a_seventeenth_procedure_and_one_that_is_loaded_fail_to_start(
-    rt: HostRuntime,
-) -> Result<(), Fail> {
-    let mut engine = Engine::new(rt.alloc(), 0x123, 16, 18)?;
-    for id in 1..17 {
-        let octets = load_exit(id, ERROR_CONTROLS[usize::from(id) - 1]);
-        let reports = engine.request(rt.alloc(), 0, 0, &octets)?;
-        assert_eq!(rt; reports.len(), 1);
-    }
-    let reports = engine.request(rt.alloc(), 0, 0, &load_exit(17, [0xb5, 0x8c]))?;
-    assert_eq!(rt; reports.len(), 2);
-    assert!(rt;
-        is_packet(
-            &reports,
-            0,
-            &[
-                0x09, 0x23, 0xc0, 0x10, 0x00, 0x10, 0x20, 0x01, 0x01, 0x00, 0x00, 0x00, 0x00, 0x00,
-                0x00, 0x00, 0x00, 0x19, 0x23, 0xc0, 0x00, 0xa5, 0x66,
-            ]
-        )
-    );
-    assert!(rt;
-        is_packet(
-            &reports,
-            1,
-            &[
-                0x09, 0x23, 0xc0, 0x11, 0x00, 0x12, 0x20, 0x01, 0x04, 0x00, 0x00, 0x00, 0x00, 0x00,
-                0x00, 0x00, 0x00, 0x19, 0x23, 0xc0, 0x00, 0x00, 0x11, 0x1c, 0x45,
-            ]
-        )
-    );
-    let reports = engine.request(rt.alloc(), 0, 0, &LOAD_ONE)?;
-    assert_eq!(rt; reports.len(), 2);
-    assert!(rt;
-        is_packet(
-            &reports,
-            1,
-            &[
-                0x09, 0x23, 0xc0, 0x13, 0x00, 0x12, 0x20, 0x01, 0x04, 0x00, 0x00, 0x00, 0x00, 0x00,
-                0x00, 0x00, 0x00, 0x19, 0x23, 0xc0, 0x00, 0x00, 0x10, 0x67, 0x02,
-            ]
-        )
-    );
-    assert_eq!(rt; (engine.events(), engine.room()), (18, 0));
-    Ok(())
-}
-
-// A load of `mov64 r0, 1`, `ldxdw r0, [r2 + 0]`, `exit` as procedure 9, and its activation, without flags.
-const LOAD_NINE: [u8; 41] = [
-    0x19, 0x23, 0xc0, 0x00, 0x00, 0x22, 0x20, 0x12, 0x01, 0x00, 0x00, 0x00, 0x09, 0x00, 0x18, 0xb7,
-    0x00, 0x00, 0x00, 0x01, 0x00, 0x00, 0x00, 0x79, 0x20, 0x00, 0x00, 0x00, 0x00, 0x00, 0x00, 0x95,
-    0x00, 0x00, 0x00, 0x00, 0x00, 0x00, 0x00, 0xbd, 0x85,
-];
-
-const ACTIVATE_NINE: [u8; 17] = [
-    0x19, 0x23, 0xc0, 0x01, 0x00, 0x0a, 0x20, 0x12, 0x03, 0x00, 0x00, 0x00, 0x09, 0x00, 0x00, 0xb2,
-    0xa5,
-];
-
-#[test]
-fn a_fault_ends_a_procedure_where_it_stands(rt: HostRuntime) -> Result<(), Fail> {
-    let mut engine = Engine::new(rt.alloc(), 0x123, 16, 10)?;
-    assert_eq!(rt; engine.request(rt.alloc(), 0, 0, &LOAD_NINE)?.len(), 0);
-    assert_eq!(rt; engine.step(0, 9), StepOutcome::NotRunning);
-    assert_eq!(rt; engine.request(rt.alloc(), 0, 0, &ACTIVATE_NINE)?.len(), 0);
-    assert_eq!(rt; engine.step(0, 9), StepOutcome::Ran);
-    assert_eq!(rt; engine.step(0, 9), StepOutcome::Faulted(1));
-    assert_eq!(rt; engine.step(0, 9), StepOutcome::NotRunning);
-    let view = engine.view(9).ok_or("loaded")?;
-    assert_eq!(rt;
-        (view.status, view.cause, view.place),
-        (Status::Inactive, Cause::Fault(1), 1)
-    );
-    assert_eq!(rt;
-        view.registers,
-        [1, 0x2000_0000, 0, 0, 0, 0, 0, 0, 0, 0, 0x1000_1000]
-    );
-    assert_eq!(rt; engine.events(), 4);
     Ok(())
 }
 
@@ -373,6 +199,31 @@ fn failed_acceptances_are_reported(rt: HostRuntime) -> Result<(), Fail> {
         )?
     );
     assert_eq!(rt; engine.room(), 0);
+    Ok(())
+}
+
+#[test]
+fn a_run_answers_each_event(rt: HostRuntime) -> Result<(), Fail> {
+    let mut engine = Engine::new(rt.alloc(), 0x123, 16, 3)?;
+    let events = [
+        Event::Request {
+            by: 0,
+            time: 0,
+            octets: &STATUS,
+        },
+        Event::Step { by: 0, id: 7 },
+    ];
+    let Ok(answers) = engine.run(rt.alloc(), &events) else {
+        return Err("room and memory".into());
+    };
+    assert_eq!(rt; answers.len(), 2);
+    match (&answers[0], &answers[1]) {
+        (Answer::Requested(Ok(reports)), Answer::Stepped(outcome)) => {
+            assert_eq!(rt; reports.len(), 3);
+            assert_eq!(rt; *outcome, StepOutcome::NotLoaded);
+        }
+        _ => return Err("reports and an outcome".into()),
+    }
     Ok(())
 }
 

@@ -48,7 +48,10 @@ pub record After : Type 0 where
   pub answer : Answer
 
 abbrev pub after : World → Event → After
-after w e = record { world = world_after (effect_of w e) w; answer = answer_by (effect_of w e).reply w }
+after w e = record {
+  world = world_after (effect_of w e) w;
+  answer = answer_by (effect_of w e).reply w;
+}
 
 -- whether the answer is not that of an event which is refused and leaves the world as it was
 abbrev pub is_accepted : Answer → Bool

@@ -13,7 +13,8 @@ use ocp_table::laws::a_directive_changes_its_own_procedure;
 /// A refused event changes nothing at all.
 #[tactic(auto, using(crate::proofs::Refusals::refused_keeps))]
 pub fn refused_events_change_nothing()
-    ensures { (w : World) (e : Event) → is_accepted (after w e).answer ≡ false → (after w e).world ≡ w }
+    ensures { (w : World) (e : Event) →
+        is_accepted (after w e).answer ≡ false → (after w e).world ≡ w }
 {}
 
 /// Only a running procedure steps: an instruction of any other is refused and changes nothing.

@@ -68,8 +68,10 @@ impl<A: Allocator> State<A> {
 
     /// Does one instruction of a procedure.
     pub fn step(&mut self, id: u16) -> StepOutcome
-        ensures world { (w : World) (by : ℕ) → IsWorld w self.old → IsWorld (after w (Step by id)).world self.new }
-        ensures answer { (w : World) (by : ℕ) → IsWorld w self.old → Stepped result ≡ (after w (Step by id)).answer }
+        ensures world { (w : World) (by : ℕ) → IsWorld w self.old →
+            IsWorld (after w (Step by id)).world self.new }
+        ensures answer { (w : World) (by : ℕ) → IsWorld w self.old →
+            Stepped result ≡ (after w (Step by id)).answer }
     {
         self.table.instruction(id)
     }
@@ -85,8 +87,9 @@ impl<A: Allocator> State<A> {
     where
         A: Copy,
         ensures does { Does self.old self.new result (λ m. record {
-            on_records = Kept Unasked;
-            reply = Sends (reports_of origin outcome (option_to_list answer.now)) }) }
+          on_records = Kept Unasked;
+          reply = Sends (reports_of origin outcome (option_to_list answer.now));
+        }) }
         ensures table { self.new.table ≡ self.old.table }
     {
         let sender = Sender {
@@ -121,7 +124,8 @@ impl<A: Allocator> State<A> {
     ) -> Result<Reports<A>, EngineFault>
     where
         A: Copy,
-        ensures { Does self.old self.new result (λ m. start_effect origin [] (Kept (Failed failure))) }
+        ensures { Does self.old self.new result
+            (λ m. start_effect origin [] (Kept (Failed failure))) }
     {
         self.reply(alloc, origin, Outcome::NotStarted(failure), &None)
     }
@@ -136,7 +140,8 @@ impl<A: Allocator> State<A> {
     ) -> Result<Reports<A>, EngineFault>
     where
         A: Copy,
-        ensures { Does self.old self.new result (λ m. start_effect origin [] (effect_in (directive.Load code.now) id m)) }
+        ensures { Does self.old self.new result
+            (λ m. start_effect origin [] (effect_in (directive.Load code.now) id m)) }
     {
         match self.table.check_load(alloc, id, code) {
             Ok(loading) => {
@@ -175,7 +180,8 @@ impl<A: Allocator> State<A> {
     fn report_status(&mut self, alloc: A, origin: Origin) -> Result<Reports<A>, EngineFault>
     where
         A: Copy,
-        ensures { Does self.old self.new result (λ m. start_effect origin (status_report m ∷ []) (Kept Unasked)) }
+        ensures { Does self.old self.new result
+            (λ m. start_effect origin (status_report m ∷ []) (Kept Unasked)) }
     {
         let report = status_report(&self.table);
         self.reply(alloc, origin, Outcome::Done, &Some(report))

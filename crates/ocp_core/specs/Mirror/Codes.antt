@@ -19,7 +19,8 @@ stored_ok (Steps by id count) = refl
 abbrev pub entry_code : Coded Entry
 entry_code =
     code_by ((ℕ × (ℕ × List ℕ)) ⊎ (ℕ × (ℕ × ℕ)))
-    (coded⊎ (coded× coded_ℕ (coded× coded_ℕ (coded_list coded_ℕ))) (coded× coded_ℕ (coded× coded_ℕ coded_ℕ)))
+    (coded⊎ (coded× coded_ℕ (coded× coded_ℕ (coded_list coded_ℕ)))
+    (coded× coded_ℕ (coded× coded_ℕ coded_ℕ)))
     stored read_back stored_ok
 
 abbrev pub log_code : Coded Log

@@ -27,6 +27,7 @@ module _ {A : Type 0} where
 
   -- whatever world the state stood for, the result and the new state are those of what was decided
   -- in it
-  abbrev pub Does : State A → State A → Result (List (List ℕ)) EngineFault → (Records → Effect) → Type 0
+  abbrev pub Does : State A → State A → Result (List (List ℕ)) EngineFault
+      → (Records → Effect) → Type 0
   Does old new result decide =
       (w : World) → IsWorld w old → DoesIn w (decide w.records) result new

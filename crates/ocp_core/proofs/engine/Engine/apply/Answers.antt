@@ -10,7 +10,7 @@ pub returns-in-Ok : goal.returns-in-Ok
 returns-in-Ok g c =
     let e = Request c.in-Request.by c.in-Request.time c.in-Request.octets.now in
     let done = done_event c.args.self.now e (Requested (Ok c.in-Ok.reports)) (sym c.in-Ok.ensures.answer) refl in
-    subst (λ x. IsDone c.args.self.now c.request.new.self (event_of x) _) (sym c.in-Request.is)
+    subst (λ x. IsDone c.args.self.now c.request.new.self (event_of x) (Requested (Ok c.in-Ok.reports))) (sym c.in-Request.is)
     (record {
       answered = done.0;
       world = world_done c.refused_events_change_nothing.ensures c.args.self.now e c.request.new.self c.in-Ok.ensures.journal done.1;
@@ -22,7 +22,7 @@ pub returns-in_default : goal.returns-in_default
 returns-in_default g c =
     let e = Step c.in-Step.by c.in-Step.id in
     let done = done_event c.args.self.now e (Stepped c.step.result) c.step.ensures.answer (not_full c.step.result c.in_default.not-JournalFull) in
-    subst (λ x. IsDone c.args.self.now c.step.new.self (event_of x) _) (sym c.in-Step.is)
+    subst (λ x. IsDone c.args.self.now c.step.new.self (event_of x) (Stepped c.step.result)) (sym c.in-Step.is)
     (record {
       answered = done.0;
       world = world_done c.refused_events_change_nothing.ensures c.args.self.now e c.step.new.self c.step.ensures.journal done.1;
