@@ -7,3 +7,5 @@ mod engine;
 mod machine;
 #[cfg(test)]
 mod memory;
+#[cfg(test)]
+mod pool;
