@@ -10,4 +10,5 @@ pub mod machine;
 
 pub use answer::{Local, MachineFault, Need};
 pub use frame::{FRAME_OCTETS, Frame, MAX_LOCAL_CALLS};
-pub use machine::{MAX_SLOTS, Machine};
+pub use machine::Machine;
+pub use ocp_loader::MAX_SLOTS;
