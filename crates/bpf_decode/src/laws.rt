@@ -1,5 +1,5 @@
 // What holds of all instructions and all octets.
-ghost use Rattle.std.specs.Prelude.{◌≡◌, ◌⊎◌, ℕ, List, Ok};
+ghost use Rattle.std.specs.Prelude.{◌≡◌, ◌⊎◌, ℕ, List, Ok, Err};
 ghost use Rattle.bpf_types.specs.declared.line.Line.{Line};
 ghost use Rattle.bpf_types.specs.Line.{Spells, WritesFramePointer};
 ghost use Rattle.bpf_decode.specs.declared.fault.DecodeFault.{DecodeFault};
@@ -26,6 +26,12 @@ pub fn instructions_are_unique()
 pub fn instructions_are_decoded()
     ensures { (octets : List ℕ) (line : Line) → BeginsWith octets line → ¬ WritesFramePointer line →
         decode_result octets ≡ Ok line }
+{}
+
+/// Octets that begin with an instruction that writes R10 are refused as such.
+pub fn writes_of_the_frame_pointer_are_refused()
+    ensures { (octets : List ℕ) (line : Line) → BeginsWith octets line → WritesFramePointer line →
+        decode_result octets ≡ Err DecodeFault.WritesFramePointer }
 {}
 
 /// Octets begin with an instruction that may be loaded, or have a first fault.

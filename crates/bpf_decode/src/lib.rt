@@ -15,5 +15,6 @@ pub use fault::DecodeFault;
 pub use laws::{
     faults_are_unique, instructions_are_decoded, instructions_are_unique,
     octets_have_an_instruction_or_a_fault, spellings_are_unique,
+    writes_of_the_frame_pointer_are_refused,
 };
 pub use slots::decode_at;

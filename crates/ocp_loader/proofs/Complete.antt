@@ -45,24 +45,28 @@ slots_step image n lines l true w so_far d c =
     rw e (ap (slot_read image (suc n)) (line_step image n lines l true w so_far d c)
     ∙ ap (λ x. Ok (record { lines = x; second = false })) (append_assoc lines (Some l ∷ []) (None ∷ [])))
 
-reads : AreDecoded → (image : List ℕ) (before after : List Line) → image ≡ image_of (before ++ after) → All IsPlain after →
-    slots_read image (length (by_slot before)) ≡ Ok (record { lines = by_slot before; second = false }) →
-    slots_read image (length (by_slot (before ++ after))) ≡ Ok (record { lines = by_slot (before ++ after); second = false })
-reads decodes image before [] e plain so_far = subst (λ ls. slots_read image (length (by_slot ls)) ≡ Ok (record { lines = by_slot ls; second = false })) (sym (append_nil before)) so_far
-reads decodes image before (l ∷ after) e plain so_far =
-    let p : IsPlain l = All-head IsPlain l after plain in
+-- the slots of these lines were read
+abbrev pub HasRead : List ℕ → List Line → Type 0
+HasRead image ls = slots_read image (length (by_slot ls)) ≡ Ok (record { lines = by_slot ls; second = false })
+
+-- one line more
+pub line_reads : AreDecoded → (image : List ℕ) (before : List Line) (l : Line) (after : List Line) → image ≡ image_of (before ++ l ∷ after) → IsPlain l → HasRead image before → HasRead image (before ++ l ∷ [])
+line_reads decodes image before l after e p so_far =
     let n = length (by_slot before) in
-    let again : (before ++ l ∷ []) ++ after ≡ before ++ l ∷ after = append_assoc before (l ∷ []) after in
     let parts : image ≡ image_of before ++ (spelling l ++ image_of after) = e ∙ image_of-append before (l ∷ after) in
     let here : drop (8 * n) image ≡ spelling l ++ image_of after = ap (λ k. drop k image) (sym (length_image before)) ∙ ap (λ xs. drop (length (image_of before)) xs) parts ∙ drop_front (image_of before) (spelling l ++ image_of after) in
     let read : decode_result (drop (8 * n) image) ≡ Ok l = decodes (drop (8 * n) image) l (p.0, image_of after, here) p.1 in
     let next = slots_step image n (by_slot before) l (is_wide l) refl so_far read p.2 in
     let slots : by_slot (before ++ l ∷ []) ≡ by_slot before ++ slots_of l = by_slot-append before (l ∷ []) ∙ ap (λ xs. by_slot before ++ xs) (append_nil (slots_of l)) in
     let count : length (by_slot (before ++ l ∷ [])) ≡ n + length (slots_of l) = ap length slots ∙ length-append (by_slot before) (slots_of l) in
-    let done : slots_read image (length (by_slot (before ++ l ∷ []))) ≡ Ok (record { lines = by_slot (before ++ l ∷ []); second = false }) =
-    ap (slots_read image) count ∙ next ∙ ap (λ x. Ok (record { lines = x; second = false })) (sym slots) in
-    subst (λ ls. slots_read image (length (by_slot ls)) ≡ Ok (record { lines = by_slot ls; second = false })) again
-    (reads decodes image (before ++ l ∷ []) after (e ∙ ap image_of (sym again)) (All-tail IsPlain l after plain) done)
+    ap (slots_read image) count ∙ next ∙ ap (λ x. Ok (record { lines = x; second = false })) (sym slots)
+
+pub reads : AreDecoded → (image : List ℕ) (before after : List Line) → image ≡ image_of (before ++ after) → All IsPlain after → HasRead image before → HasRead image (before ++ after)
+reads decodes image before [] e plain so_far = subst (HasRead image) (sym (append_nil before)) so_far
+reads decodes image before (l ∷ after) e plain so_far =
+    let again : (before ++ l ∷ []) ++ after ≡ before ++ l ∷ after = append_assoc before (l ∷ []) after in
+    let done = line_reads decodes image before l after e (All-head IsPlain l after plain) so_far in
+    subst (HasRead image) again (reads decodes image (before ++ l ∷ []) after (e ∙ ap image_of (sym again)) (All-tail IsPlain l after plain) done)
 
 none_astray : (lines : List (Option Line)) (n : ℕ) → ((p : ℕ) → has_valid_target lines p (line_in lines p) ≡ true) → first_bad_target lines n ≡ None
 none_astray lines zero a = refl

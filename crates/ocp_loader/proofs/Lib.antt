@@ -10,3 +10,4 @@ pub mod First
 pub mod Line
 pub mod Listed
 mod InOrder
+mod Loaded

@@ -3,7 +3,7 @@ ghost use Rattle.std.specs.Prelude.{◌≡◌, ℕ, ◌<◌, ◌↔◌, ◌++◌
 ghost use Rattle.bpf_types.specs.declared.line.Line.{Line};
 ghost use Rattle.std.specs.List.{All};
 ghost use Rattle.bpf_types.specs.Line.{IsLine};
-ghost use Rattle.bpf_listing.specs.Listing.{image_of, NoneWritesFramePointer};
+ghost use Rattle.bpf_listing.specs.Listing.{image_of, IsImageOf, NoneWritesFramePointer};
 ghost use Rattle.ocp_loader.specs.declared.fault.LoadFault.{LoadFault};
 ghost use Rattle.ocp_loader.specs.Image.{by_slot, line_in};
 ghost use Rattle.ocp_loader.specs.Places.{IsAt, Continues, place_of};
@@ -11,7 +11,7 @@ ghost use Rattle.ocp_loader.specs.Admitted.{IsAdmitted, IsAdmittedAs};
 ghost use Rattle.ocp_loader.specs.LineAt.{line_of, IsPlace, IsLineAt};
 ghost use Rattle.ocp_loader.specs.LoadResult.{load_result};
 
-use bpf_decode::instructions_are_decoded;
+use bpf_decode::{instructions_are_decoded, writes_of_the_frame_pointer_are_refused};
 
 /// An image that may be run is judged to be its lines by slot; so an image that has a fault may not be run.
 pub fn faults_are_of_images_that_may_not_be_run()
@@ -21,6 +21,16 @@ pub fn faults_are_of_images_that_may_not_be_run()
         ¬ IsAdmitted image }
 {
     instructions_are_decoded();
+}
+
+/// An image of instructions that loads may be run: so of each image of instructions it is said whether it may be run, by
+/// its load result.
+pub fn images_that_load_may_be_run()
+    ensures { (image : List ℕ) (instructions : List Line) (lines : List (Option Line)) →
+        IsImageOf image instructions → load_result image ≡ Ok lines → IsAdmitted image }
+{
+    instructions_are_decoded();
+    writes_of_the_frame_pointer_are_refused();
 }
 
 /// The place of a line is the number of slots of the lines before it: a wide load has two, each other line has one.
