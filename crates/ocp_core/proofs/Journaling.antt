@@ -1,6 +1,6 @@
 -- An event's answer and its entry, by whether it is accepted and the journal is full.
 use Rattle.std.proofs.Common.{◌≡◌, ℕ, true, false, cond, List, [], ◌∷◌, Option, Some, None, refl, sym, ap, subst, ◌∙◌}
-use Rattle.std.specs.Prelude.{Result, Ok, Err}
+use Rattle.std.specs.Prelude.{Result, Err}
 use Rattle.pus_fields.specs.declared.fault.Discard.{Discard}
 use Rattle.pus_fields.specs.declared.fault.TcFault.{TcFault}
 use Rattle.pus_fields.specs.Telecommand.{Telecommand}
@@ -47,8 +47,8 @@ module _ (log now : Log) (same : log ≡ now) (e : Event) where
   done_log new taken free is = at (λ l. log_after l e) new (is ∙ ap (λ b. cond b log (with_entry log (entry_for e))) (sym free) ∙ ap (λ b. cond b (cond (is_full log) log (with_entry log (entry_for e))) log) (sym taken))
 
   -- the answer of an accepted event, where there is room
-  pub answered : (r : Result (List (List ℕ)) EngineFault) → is_accepted answer ≡ true → is_full log ≡ false → Answers r answer → Answers r (answer_in now e)
-  answered r taken free is = subst (Answers r) (done_answer answer taken free refl) is
+  pub answer_taken : (r : Result (List (List ℕ)) EngineFault) → is_accepted answer ≡ true → is_full log ≡ false → Answers r answer → Answers r (answer_in now e)
+  answer_taken r taken free is = subst (Answers r) (done_answer answer taken free refl) is
 
   -- a request that is discarded, and one that is accepted
   pub request_discarded : (found : Option Discard) → IsDiscard answer found → (cause : Discard) → found ≡ Some cause → Answers (Err (engine.Discarded cause)) (answer_in now e)

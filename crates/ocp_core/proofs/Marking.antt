@@ -3,10 +3,10 @@ use Rattle.std.proofs.Common.{◌≡◌, ℕ, zero, suc, true, false, cond, List
 use Rattle.ocp_table.specs.declared.answers.StepOutcome.{StepOutcome}
 use Rattle.ocp_table.specs.declared.answers.StepOutcome.TheVariants as S
 use Rattle.ocp_world.specs.World.{World, Event, Request, Step, opening}
-use Rattle.ocp_world.specs.After.{Answer, Requested, Stepped, After, after, is_accepted}
+use Rattle.ocp_world.specs.After.{Stepped, After, after, is_accepted}
 use Rattle.ocp_world.specs.Replay.{replay_from}
 use Rattle.ocp_world.specs.Slice.{outcome_in, goes_on, slice_count, slice_last}
-use Rattle.ocp_core.specs.Log.{Log, Entry, Asked, Steps, events_of, expand, with_entry, entry_for, world_of, is_full, answer_in, log_after, full_answer}
+use Rattle.ocp_core.specs.Log.{Log, Entry, Steps, events_of, expand, with_entry, entry_for, world_of, is_full, answer_in, log_after}
 use Rattle.ocp_core.specs.Slice.{slice_in, slice_log}
 use Rattle.ocp_core.specs.Marks.{last_outcome, mark_in, marks_from, marks}
 use Rattle.ocp_core.proofs.Replays.{replay_from-append}

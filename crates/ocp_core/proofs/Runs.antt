@@ -1,6 +1,6 @@
 -- The events of a run: what each leaves, one more of them.
 use Rattle.std.proofs.Common.{◌≡◌, ◌≢◌, ℕ, zero, suc, ◌+◌, ◌<◌, Bool, true, false, cond, List, [], ◌∷◌, ◌++◌, Some, map, take, length, get_or, refl, sym, ap, subst, ◌∙◌}
-use Rattle.std.specs.Prelude.{Result, Ok, Err, slice_get}
+use Rattle.std.specs.Prelude.{Ok, Err, slice_get}
 use Rattle.std.specs.Option.{option_map}
 use Rattle.std.proofs.lemmas.List.{take_more, map-append}
 use Rattle.std.proofs.lemmas.Option.{slice_get-get_or, slice_get-map}
@@ -140,8 +140,8 @@ module _ {E : Type 0} (event_of : E → Event) (start : Log) (events : List E) (
         ∙ ap (answers (world_of start)) (sym longer)
 
   -- a run that ends before this event
-  pub stopped : (log new : Log) (refusal : RunRefusal) → IsRefusedBy log next refusal × (new ≡ log) → StopsAt new refusal i (slice_get (map event_of events) i)
-  stopped log new refusal why = subst (StopsAt new refusal i) (sym next_at) (stops new refusal i next (subst (λ l. IsRefusedBy l next refusal) (sym why.1) why.0))
+  pub run_end : (log new : Log) (refusal : RunRefusal) → IsRefusedBy log next refusal × (new ≡ log) → StopsAt new refusal i (slice_get (map event_of events) i)
+  run_end log new refusal why = subst (StopsAt new refusal i) (sym next_at) (stops new refusal i next (subst (λ l. IsRefusedBy l next refusal) (sym why.1) why.0))
     where
       stops : (l : Log) (r : RunRefusal) (index : ℕ) (e : Event) → IsRefusedBy l e r → StopsAt l r index (Some e)
       stops l run.Memory zero e h = tt

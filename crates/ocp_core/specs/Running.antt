@@ -35,11 +35,11 @@ IsRefusedBy log e Memory = TakesMemory log e
 
 -- the answer, the world and the journal left are those of the event, which does not find the journal
 -- full
-pub record IsDone (old new : Log) (e : Event) (answer : Answer) : Type 0 where
-  pub answered : answer ≡ (after (world_of old) e).answer
+pub record IsDone (old new : Log) (e : Event) (given : Answer) : Type 0 where
+  pub answer : given ≡ (after (world_of old) e).answer
   pub world : world_of new ≡ (after (world_of old) e).world
   pub journal : new ≡ log_after old e
-  pub roomy : finds_full old e ≡ false
+  pub room : finds_full old e ≡ false
 
 -- the event is done; or it is refused and nothing is changed
 abbrev pub Applies : {A : Type 0} → Log → Log → Event → Result (G.Answer A) RunRefusal → Type 0

@@ -1,4 +1,4 @@
-use Rattle.std.proofs.Common.{◌≡◌, Ok, refl, sym, subst}
+use Rattle.std.proofs.Common.{Ok, refl, sym, subst}
 use Rattle.ocp_world.specs.World.{Request, Step}
 use Rattle.ocp_world.specs.After.{Requested, Stepped}
 use Rattle.ocp_core.specs.Running.{IsDone}
@@ -12,10 +12,10 @@ returns-in-Ok g c =
     let done = done_event c.args.self.now e (Requested (Ok c.in-Ok.reports)) (sym c.in-Ok.ensures.answer) refl in
     subst (λ x. IsDone c.args.self.now c.request.new.self (event_of x) (Requested (Ok c.in-Ok.reports))) (sym c.in-Request.is)
     (record {
-      answered = done.0;
+      answer = done.0;
       world = world_done c.refused_events_change_nothing.ensures c.args.self.now e c.request.new.self c.in-Ok.ensures.journal done.1;
       journal = c.in-Ok.ensures.journal;
-      roomy = done.1;
+      room = done.1;
     })
 
 pub returns-in_default : goal.returns-in_default
@@ -24,8 +24,8 @@ returns-in_default g c =
     let done = done_event c.args.self.now e (Stepped c.step.result) c.step.ensures.answer (not_full c.step.result c.in_default.not-JournalFull) in
     subst (λ x. IsDone c.args.self.now c.step.new.self (event_of x) (Stepped c.step.result)) (sym c.in-Step.is)
     (record {
-      answered = done.0;
+      answer = done.0;
       world = world_done c.refused_events_change_nothing.ensures c.args.self.now e c.step.new.self c.step.ensures.journal done.1;
       journal = c.step.ensures.journal;
-      roomy = done.1;
+      room = done.1;
     })

@@ -1,11 +1,11 @@
-use Rattle.std.proofs.Common.{◌≡◌, true, [], ◌∷◌, Ok, Err, refl, sym, ap, subst, ◌∙◌}
+use Rattle.std.proofs.Common.{[], ◌∷◌, Ok, Err, refl, sym, ap, subst, ◌∙◌}
 use Rattle.ocp_world.specs.World.{Request}
-use Rattle.ocp_world.specs.After.{after, is_accepted}
+use Rattle.ocp_world.specs.After.{is_accepted}
 use Rattle.ocp_world.specs.Replay.{replay_from}
 use Rattle.ocp_world.specs.Mirror.State.{IsWorld}
 use Rattle.ocp_core.specs.Log.{Asked, with_entry, world_of}
 use Rattle.ocp_core.proofs.Keeping.{IsWorld-with_entry}
-use Rattle.ocp_core.proofs.Journaling.{as_read, request_discarded, request_accepted, full_answered, done_answer, done_log, answered}
+use Rattle.ocp_core.proofs.Journaling.{as_read, request_discarded, request_accepted, full_answered, done_answer, done_log, answer_taken}
 use Rattle.ocp_core.proofs.engine.Engine.request.Goals as goal
 
 pub returns-in-Some-clause-answer : goal.returns-in-Some-clause-answer
@@ -49,7 +49,7 @@ returns-in-Ok-receive-clause-answer g c =
     let e = Request c.args.by c.args.time c.args.octets.now in
     let read = as_read log c.args.octets.now c.apid.result c.apid.ensures.value c.read_tc-read.result c.read_tc-read.ensures.value in
     let taken = request_accepted log c.args.self.now c.self.view_is e c.discard_of.result (c.discard_of.ensures.answer (world_of log) c.args.by c.args.time c.args.octets.now read) c.in_default.is in
-    answered log c.args.self.now c.self.view_is e (Ok c.in-Ok-receive.reports) taken (sym c.is_full.ensures ∙ c.if-is_full.false) (c.in-Ok-receive.ensures (world_of log) c.args.by c.args.octets.now c.self.invariant read).0
+    answer_taken log c.args.self.now c.self.view_is e (Ok c.in-Ok-receive.reports) taken (sym c.is_full.ensures ∙ c.if-is_full.false) (c.in-Ok-receive.ensures (world_of log) c.args.by c.args.octets.now c.self.invariant read).0
 
 pub returns-in-Ok-receive-clause-journal : goal.returns-in-Ok-receive-clause-journal
 returns-in-Ok-receive-clause-journal g c =
@@ -65,4 +65,4 @@ returns-in-Err-clause-answer g c =
     let e = Request c.args.by c.args.time c.args.octets.now in
     let read = as_read log c.args.octets.now c.apid.result c.apid.ensures.value c.read_tc-read.result c.read_tc-read.ensures.value in
     let taken = request_accepted log c.args.self.now c.self.view_is e c.discard_of.result (c.discard_of.ensures.answer (world_of log) c.args.by c.args.time c.args.octets.now read) c.in_default.is in
-    answered log c.args.self.now c.self.view_is e (Err c.in-Err.fault) taken (sym c.is_full.ensures ∙ c.if-is_full.false) (c.in-Err.ensures (world_of log) c.args.by c.args.octets.now c.self.invariant read).0
+    answer_taken log c.args.self.now c.self.view_is e (Err c.in-Err.fault) taken (sym c.is_full.ensures ∙ c.if-is_full.false) (c.in-Err.ensures (world_of log) c.args.by c.args.octets.now c.self.invariant read).0

@@ -17,10 +17,10 @@ loop-index-preserved g c =
     let events = c.args.events.now in
     let i = c.loop-index.index in
     record {
-      told = ap (map answer_of) c.push_reserved.ensures.items ∙ told_more event_of start events i _ within c.loop-index.self inv.world answer_of _ _ applied.answered inv.told;
+      told = ap (map answer_of) c.push_reserved.ensures.items ∙ told_more event_of start events i _ within c.loop-index.self inv.world answer_of _ _ applied.answer inv.told;
       world = world_more event_of start events i _ within c.loop-index.self inv.world c.apply.new.self applied.world;
       journal = log_more event_of start events i _ within c.loop-index.self inv.journal c.apply.new.self applied.journal;
-      roomy = room_more event_of start events i _ within c.loop-index.self inv.journal inv.roomy applied.roomy;
+      roomy = room_more event_of start events i _ within c.loop-index.self inv.journal inv.roomy applied.room;
       room = omega (arith, inv.room, c.push_reserved.ensures.capacity);
       count = omega (arith, inv.count, c.push_reserved.ensures.len);
     }
