@@ -1,3 +1,4 @@
-pub mod WordLemmas
-pub mod Numbers
+mod EmptyWords
 pub mod NumberLists
+pub mod Numbers
+pub mod WordLemmas

@@ -1,5 +1,5 @@
 -- The lines of a console script, and what each says.
-use Rattle.std.specs.Prelude.{ℕ, ◌-◌, ◌^◌, ◌&&◌, nat_le, nat_eq, if◌then◌else◌, List, [], ◌∷◌, length, Option, Some, None, codes}
+use Rattle.std.specs.Prelude.{ℕ, ◌-◌, ◌^◌, ◌&&◌, ◌==◌, Bool, false, nat_le, nat_eq, if◌then◌else◌, List, [], ◌∷◌, length, Option, Some, None, codes}
 use Rattle.std.specs.List.{starts_with}
 use Rattle.std.specs.Str.{bytes_eq}
 use Rattle.std.specs.Option.{option_map}
@@ -199,3 +199,29 @@ words_say (name ∷ words) = command_in name words
 unfoldable pub command_of : List ℕ → Option Said
 command_of line =
     if starts_with nat_eq line (codes "#") then Some Nothing else words_say (words_of line)
+
+-- ---- which lines take memory: those with a word in the place of hexadecimal digits
+
+-- `load <id> <hex>` and `activate <id> <hex>`
+abbrev pub verb_takes_octets : Word → List Word → Bool
+verb_takes_octets name words =
+    if bytes_eq name (codes "load") then length words == 2
+    else if bytes_eq name (codes "activate") then length words == 2
+    else false
+
+-- `send <ack> <verb> ..` with such a verb
+abbrev pub send_takes_octets : List Word → Bool
+send_takes_octets [] = false
+send_takes_octets (ack ∷ []) = false
+send_takes_octets (ack ∷ name ∷ words) = verb_takes_octets name words
+
+-- `up <hex>`, or such a `send`
+abbrev pub command_takes_octets : Word → List Word → Bool
+command_takes_octets name words =
+    if bytes_eq name (codes "up") then length words == 1
+    else if bytes_eq name (codes "send") then send_takes_octets words
+    else false
+
+abbrev pub takes_octets : List Word → Bool
+takes_octets [] = false
+takes_octets (name ∷ words) = command_takes_octets name words

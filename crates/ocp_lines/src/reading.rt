@@ -1,9 +1,9 @@
 //! Reading a line.
 
-ghost use Rattle.std.specs.Prelude.{◌≡◌, IfOk};
+ghost use Rattle.std.specs.Prelude.{◌≡◌, length, IfOk, OnErr, IsTrue};
 ghost use Rattle.std.specs.Option.{option_map};
 ghost use Rattle.ocp_lines.specs.Words.{words_of};
-ghost use Rattle.ocp_lines.specs.Grammar.{said_by, up_in, send_in, time_in, count_in, view_in, command_in, plain_command_in, command_of};
+ghost use Rattle.ocp_lines.specs.Grammar.{said_by, up_in, send_in, time_in, count_in, view_in, command_in, plain_command_in, command_of, takes_octets, send_takes_octets, command_takes_octets};
 
 use crate::command::{Command, Flags, MAX_STEPS, Steps};
 use crate::verbs::verb;
@@ -11,7 +11,9 @@ use crate::words::{next_word, no_word, number, octets, one_word, short, two_word
 use std::alloc::{AllocError, Allocator};
 
 fn up<A: Allocator>(alloc: A, arguments: &[u8]) -> Result<Option<Command<A>>, AllocError>
-    ensures { IfOk result (λ command. option_map said_by command ≡ up_in (words_of arguments.now)) }
+    ensures command { IfOk result
+        (λ command. option_map said_by command ≡ up_in (words_of arguments.now)) }
+    ensures memory { OnErr result (length (words_of arguments.now) ≡ 1) }
 {
     let Some(word) = word_or_none(arguments) else {
         return Ok(None);
@@ -23,8 +25,9 @@ fn up<A: Allocator>(alloc: A, arguments: &[u8]) -> Result<Option<Command<A>>, Al
 }
 
 fn send<A: Allocator>(alloc: A, arguments: &[u8]) -> Result<Option<Command<A>>, AllocError>
-    ensures { IfOk result
+    ensures command { IfOk result
         (λ command. option_map said_by command ≡ send_in (words_of arguments.now)) }
+    ensures memory { OnErr result (IsTrue (send_takes_octets (words_of arguments.now))) }
 {
     let Some((flags, rest)) = next_word(arguments) else {
         return Ok(None);
@@ -99,8 +102,10 @@ fn command<A: Allocator>(
     name: &[u8],
     arguments: &[u8],
 ) -> Result<Option<Command<A>>, AllocError>
-    ensures { IfOk result (λ command. option_map said_by command ≡
+    ensures command { IfOk result (λ command. option_map said_by command ≡
         command_in name.now (words_of arguments.now)) }
+    ensures memory { OnErr result
+        (IsTrue (command_takes_octets name.now (words_of arguments.now))) }
 {
     if name == b"up".as_slice() {
         up(alloc, arguments)
@@ -114,10 +119,11 @@ fn command<A: Allocator>(
 /// The command that a line says, without its newline, or none where it is no command. A line of
 /// spaces alone is blank, and one whose first octet is `#` a comment: both say nothing. Words are
 /// parted by spaces, numbers are decimal digits, and octets pairs of hexadecimal digits of both
-/// cases. Only memory is refused.
+/// cases. Only memory is refused, and only for a line with a word in the place of octets.
 #[tactic(auto, unfolding(crate::specs::Grammar::command_of))]
 pub fn read_command<A: Allocator>(alloc: A, line: &[u8]) -> Result<Option<Command<A>>, AllocError>
-    ensures { IfOk result (λ command. option_map said_by command ≡ command_of line.now) }
+    ensures command { IfOk result (λ command. option_map said_by command ≡ command_of line.now) }
+    ensures memory { OnErr result (IsTrue (takes_octets (words_of line.now))) }
 {
     if line.starts_with(b"#") {
         return Ok(Some(Command::Nothing));

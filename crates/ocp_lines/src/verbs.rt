@@ -1,9 +1,9 @@
 //! The verbs of a `send` line.
 
-ghost use Rattle.std.specs.Prelude.{◌≡◌, IfOk};
+ghost use Rattle.std.specs.Prelude.{◌≡◌, length, IfOk, OnErr, IsTrue};
 ghost use Rattle.std.specs.Option.{option_map};
 ghost use Rattle.ocp_lines.specs.Words.{words_of};
-ghost use Rattle.ocp_lines.specs.Grammar.{request_of, parameters_in, load_in, activate_in, communicate_in, id_in, step_in, plain_verb_in, verb_in};
+ghost use Rattle.ocp_lines.specs.Grammar.{request_of, parameters_in, load_in, activate_in, communicate_in, id_in, step_in, plain_verb_in, verb_in, verb_takes_octets};
 
 use crate::command::Verb;
 use crate::parameters::Parameters;
@@ -31,7 +31,9 @@ fn parameters(text: &[u8]) -> Option<Parameters>
 }
 
 fn load<A: Allocator>(alloc: A, arguments: &[u8]) -> Result<Option<Verb<A>>, AllocError>
-    ensures { IfOk result (λ verb. option_map request_of verb ≡ load_in (words_of arguments.now)) }
+    ensures verb { IfOk result
+        (λ verb. option_map request_of verb ≡ load_in (words_of arguments.now)) }
+    ensures memory { OnErr result (length (words_of arguments.now) ≡ 2) }
 {
     let Some((id, rest)) = next_word(arguments) else {
         return Ok(None);
@@ -46,8 +48,9 @@ fn load<A: Allocator>(alloc: A, arguments: &[u8]) -> Result<Option<Verb<A>>, All
 }
 
 fn activate<A: Allocator>(alloc: A, arguments: &[u8]) -> Result<Option<Verb<A>>, AllocError>
-    ensures { IfOk result
+    ensures verb { IfOk result
         (λ verb. option_map request_of verb ≡ activate_in (words_of arguments.now)) }
+    ensures memory { OnErr result (length (words_of arguments.now) ≡ 2) }
 {
     let Some((id, rest)) = next_word(arguments) else {
         return Ok(None);
@@ -93,8 +96,10 @@ pub(crate) fn verb<A: Allocator>(
     name: &[u8],
     arguments: &[u8],
 ) -> Result<Option<Verb<A>>, AllocError>
-    ensures { IfOk result
+    ensures verb { IfOk result
         (λ verb. option_map request_of verb ≡ verb_in name.now (words_of arguments.now)) }
+    ensures memory { OnErr result
+        (IsTrue (verb_takes_octets name.now (words_of arguments.now))) }
 {
     if name == b"load".as_slice() {
         load(alloc, arguments)

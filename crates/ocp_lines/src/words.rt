@@ -1,6 +1,6 @@
 //! The words of a line, and what they say.
 
-ghost use Rattle.std.specs.Prelude.{◌≡◌, ◌<◌, ◌≤◌, ◌^◌, ◌-◌, ◌∷◌, [], length, true, false, take, drop, slice_index, IfOk, IfSome, IfNone, MatchOption, IsTrue, ◌↔◌, ◌≢◌, ◌⊎◌};
+ghost use Rattle.std.specs.Prelude.{◌≡◌, ◌<◌, ◌≤◌, ◌^◌, ◌-◌, ◌∷◌, [], length, true, false, take, drop, slice_index, IfOk, OnErr, IfSome, IfNone, MatchOption, IsTrue, ◌↔◌, ◌≢◌, ◌⊎◌};
 ghost use Rattle.std.specs.List.{list_all};
 ghost use Rattle.ocp_lines.specs.Words.{words_of, is_solid, number_up_to, octets_up_to, value_of};
 ghost use Rattle.ocp_lines.specs.declared.octets.TheConstants.{MAX_OCTETS_LENGTH};
@@ -111,8 +111,12 @@ pub(crate) fn short(word: &[u8]) -> Option<u16>
 
 /// The octets that a hexadecimal word says, if they are at most 65,525.
 pub(crate) fn octets<A: Allocator>(alloc: A, word: &[u8]) -> Result<Option<Octets<A>>, AllocError>
-    ensures { IfOk result (λ octets. octets ≡ octets_up_to MAX_OCTETS_LENGTH word.now) }
+    ensures octets { IfOk result (λ octets. octets ≡ octets_up_to MAX_OCTETS_LENGTH word.now) }
+    ensures memory { OnErr result (word.now ≢ []) }
 {
+    if word.is_empty() {
+        return Ok(Octets::new(Vec::new(alloc)));
+    }
     match hex::decode(alloc, word) {
         Ok(items) => Ok(Octets::new(items)),
         Err(FromHexError::OutOfMemory) => Err(AllocError),
@@ -125,8 +129,12 @@ pub(crate) fn argument_octets<A: Allocator>(
     alloc: A,
     word: &[u8],
 ) -> Result<Option<Arguments<A>>, AllocError>
-    ensures { IfOk result (λ octets. octets ≡ octets_up_to MAX_ARGUMENTS_LENGTH word.now) }
+    ensures octets { IfOk result (λ octets. octets ≡ octets_up_to MAX_ARGUMENTS_LENGTH word.now) }
+    ensures memory { OnErr result (word.now ≢ []) }
 {
+    if word.is_empty() {
+        return Ok(Arguments::new(Vec::new(alloc)));
+    }
     match hex::decode(alloc, word) {
         Ok(items) => Ok(Arguments::new(items)),
         Err(FromHexError::OutOfMemory) => Err(AllocError),
