@@ -62,8 +62,10 @@ pub fn engine_call<A: Allocator, B: Allocator>(
 ) -> Result<Called, PoolFault>
     requires number { IsEngineCall number }
     requires place { machine.old.place < MAX_SLOTS }
-    ensures result { result ≡ result_of (engine_call number (read machine.old 1) (read machine.old 2) pool.old mailbox.old) }
-    ensures machine { IfOk result (λ called. machine.new ≡ state_after_engine_call machine.old (r0_of called) (r1_of called)) }
+    ensures result { result ≡ result_of
+        (engine_call number (read machine.old 1) (read machine.old 2) pool.old mailbox.old) }
+    ensures machine { IfOk result (λ called.
+        machine.new ≡ state_after_engine_call machine.old (r0_of called) (r1_of called)) }
     ensures pool { IfOk result (λ called. pool.new ≡ pool_after called pool.old) }
     ensures mailbox { IfOk result (λ called. mailbox.new ≡ mailbox_after called mailbox.old) }
     ensures machine_kept { OnErr result (machine.new ≡ machine.old) }

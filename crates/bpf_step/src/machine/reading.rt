@@ -19,9 +19,11 @@ impl<A: Allocator> Machine<A> {
     /// Reads octets of the memory from an address on, one into each of the slice. It refuses with AccessOutside
     /// where one of them is not there, and the slice keeps its octets.
     pub fn octets(&self, address: u64, octets: &mut [u8]) -> Result<(), AccessFault>
-        ensures ok { OnOk result (octets_at self.now.memory address (length octets.old) ≡ Some octets.new) }
+        ensures ok { OnOk result
+            (octets_at self.now.memory address (length octets.old) ≡ Some octets.new) }
         ensures err { IfErr result (λ fault. fault ≡ AccessOutside) }
-        ensures outside { OnErr result (octets_at self.now.memory address (length octets.old) ≡ None) }
+        ensures outside { OnErr result
+            (octets_at self.now.memory address (length octets.old) ≡ None) }
         ensures kept { OnErr result (octets.new ≡ octets.old) }
     {
         self.memory.octets(address, octets)
