@@ -71,7 +71,8 @@ impl<A: Allocator> Execution<A> {
     pub(crate) fn step(&mut self) -> InstructionOutcome
         ensures outcome { outcome_of (one_step self.old.image self.old.machine) ≡ Some result }
         ensures image { self.new.image ≡ self.old.image }
-        ensures machine { self.new.machine ≡ machine_by_outcome result self.old.image self.old.machine }
+        ensures machine { self.new.machine ≡
+            machine_by_outcome result self.old.image self.old.machine }
     {
         match self.machine.local_step(&self.program) {
             Local::Stepped => InstructionOutcome::Ran,
