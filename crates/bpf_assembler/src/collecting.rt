@@ -68,7 +68,8 @@ fn add<'a, A: Allocator + Clone>(table: &mut Table<'a, A>, text: &'a [u8]) -> Re
     requires room { table.old.place ≤ 2 * table.old.lines }
     ensures lines { (ws : List Written) →
         Knows table.old.labels table.old.rows.items table.old.lines table.old.place ws
-        → Adds text.now table.new.labels table.new.rows.items table.new.lines table.new.place ws result }
+        → Adds text.now table.new.labels table.new.rows.items table.new.lines table.new.place
+            ws result }
     ensures count { OnOk result (table.new.lines ≡ table.old.lines + 1) }
     ensures place { OnOk result (table.new.place ≤ table.old.place + 2) }
 {
@@ -101,7 +102,8 @@ pub fn collect<'a, A: Allocator + Clone>(
     table: &mut Table<'a, A>,
     text: &'a [u8],
 ) -> Result<(), AsmFault>
-    requires empty { Knows table.old.labels table.old.rows.items table.old.lines table.old.place [] }
+    requires empty { Knows table.old.labels table.old.rows.items
+        table.old.lines table.old.place [] }
     ensures { Collects text.now table.new.labels table.new.rows.items result }
 {
     let mut rest = text;

@@ -48,13 +48,13 @@ pub fn meanings_exclude_faults()
 /// Of a text that means instructions: a label has the place in the image of the next instruction, or at the end of the text
 /// the slot after the last one; and an instruction that names a label leads there, as the loader reads its distance.
 pub fn named_jumps_lead_to_their_labels()
-    ensures labels { (text : List ℕ) (ws : List Written) (ls : List Line) (name : List ℕ) (place : ℕ) →
-        IsWritten text ws → AreInstructions ws (entries_of 1 0 ws) ls →
+    ensures labels { (text : List ℕ) (ws : List Written) (ls : List Line) (name : List ℕ)
+        (place : ℕ) → IsWritten text ws → AreInstructions ws (entries_of 1 0 ws) ls →
         (label_place name 0 ws ≡ Some place) ↔ IsLabelAt name ws ls place }
-    ensures jumps { (text : List ℕ) (ws : List Written) (ls : List Line) (a b : List Statement) (s : Statement)
-        (c d : List Line) (l : Line) → IsWritten text ws → AreInstructions ws (entries_of 1 0 ws) ls →
-        statements ws ≡ a ++ s ∷ b → ls ≡ c ++ l ∷ d → length a ≡ length c →
-        IsMeantBy ws ls (place_of c) s.line s.name l }
+    ensures jumps { (text : List ℕ) (ws : List Written) (ls : List Line) (a b : List Statement)
+        (s : Statement) (c d : List Line) (l : Line) → IsWritten text ws →
+        AreInstructions ws (entries_of 1 0 ws) ls → statements ws ≡ a ++ s ∷ b →
+        ls ≡ c ++ l ∷ d → length a ≡ length c → IsMeantBy ws ls (place_of c) s.line s.name l }
 {
     places_are_counted_in_slots();
 }

@@ -27,7 +27,8 @@ pub fn run<R: Source, W: Sink, A: Allocator + Copy>(
     requires reads { R.failed_reads reader.old < 2 ^ 64 - 1 }
     requires writes { W.failed_writes writer.old < 2 ^ 64 - 1 }
     ensures transcript { IfSome (R.remaining reader.old) (λ script.
-        Prints (W.contents writer.old) (W.contents writer.new) (transcript settings script) result) }
+        Prints (W.contents writer.old) (W.contents writer.new)
+            (transcript settings script) result) }
     ensures reads { IfSome (R.remaining reader.old)
         (λ script. ReadsWhile IsWithin script (R.remaining reader.new)) }
     ensures read { IsErrOf result ConsoleFault.Read ↔

@@ -133,7 +133,8 @@ pub(crate) fn feed_all<W: Sink, A: Allocator + Copy>(
     ensures run { Answers (W.contents writer.old) (W.contents writer.new)
         (λ more. rest_of session.old (octets.now ++ more))
         (λ more. rest_of session.new more) result }
-    ensures taken { OnOk result (octets_so_far session.old + length octets.now ≤ octets_so_far session.new) }
+    ensures taken { OnOk result
+        (octets_so_far session.old + length octets.now ≤ octets_so_far session.new) }
     ensures took { (front : List ℕ) → HasTaken session.old.before session.old.line.items front →
         OnOk result (HasTaken session.new.before session.new.line.items (front ++ octets.now)) }
     ensures count { CountsWrites (W.failed_writes writer.old) (W.failed_writes writer.new) result }
@@ -152,7 +153,8 @@ pub(crate) fn finish<W: Sink, A: Allocator + Copy>(
     writer: &mut W,
 ) -> Result<(), ConsoleFault>
     requires { W.failed_writes writer.old < 2 ^ 64 - 1 }
-    ensures run { Prints (W.contents writer.old) (W.contents writer.new) (rest_of session.old []) result }
+    ensures run { Prints (W.contents writer.old) (W.contents writer.new)
+        (rest_of session.old []) result }
     ensures write { IsErrOf result ConsoleFault.Write ↔
         (W.failed_writes writer.old < W.failed_writes writer.new) }
     ensures no_read { IsErrOf result ConsoleFault.Read → ⊥ }
