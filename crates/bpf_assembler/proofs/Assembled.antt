@@ -43,7 +43,7 @@ some_entry ws [] octets r some e = by r.lines r.instructions r.image.octets
 some_entry ws (x ∷ es) octets r some e = absurd cc
 
 -- the line that was found is that of the instruction at the slot
-line_found : (number : ℕ) (ws : List Written) (es : List Entry) (slot n : ℕ) → es ≡ entries_of number 0 ws → es ≢ [] → IsLineUpTo es slot n → IsLineOfSlot es slot n
+pub line_found : (number : ℕ) (ws : List Written) (es : List Entry) (slot n : ℕ) → es ≡ entries_of number 0 ws → es ≢ [] → IsLineUpTo es slot n → IsLineOfSlot es slot n
 line_found number ws es slot n is some (inr h) = h
 line_found number ws [] slot n is some (inl h) = absurd (some refl)
 line_found number ws (e ∷ es) slot n is some (inl h) = let zero : e.place ≡ 0 = first_place number ws e es (sym is) in let behind : slot < e.place = h.1 0 e (omega arith) in absurd (omega arith)

@@ -6,3 +6,4 @@ pub mod FirstPass
 pub mod SecondPass
 pub mod Assembled
 pub mod Only
+pub mod Totality

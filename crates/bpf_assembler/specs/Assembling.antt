@@ -1,9 +1,12 @@
 -- What the assembler answers.
-use Rattle.std.specs.Prelude.{ℕ, List}
+use Rattle.std.specs.Prelude.{ℕ, List, IsOk}
 use Rattle.bpf_types.specs.declared.line.Line.{Line}
+use Rattle.bpf_listing.specs.Listing.{image_of}
+use Rattle.ocp_loader.specs.LoadResult.{load_result}
 use Rattle.ocp_loader.specs.Admitted.{IsAdmittedAs}
 use Rattle.bpf_assembler.specs.Text.{Means}
 use Rattle.bpf_assembler.specs.Faults.{IsFault}
+use Rattle.bpf_assembler.specs.declared.fault.Why.{Why}
 use Rattle.bpf_assembler.specs.declared.fault.AsmFault.{AsmFault}
 use Rattle.bpf_assembler.specs.declared.fault.AsmFault.TheVariants.{Memory, At}
 
@@ -17,3 +20,17 @@ pub record IsImageOfText (text image : List ℕ) : Type 0 where
 abbrev pub IsFaultOf : List ℕ → AsmFault → Type 0
 IsFaultOf text Memory = Unit {0}
 IsFaultOf text (At number y) = IsFault text number y
+
+-- ---- a text means instructions that may be run, or has a fault
+
+-- the text means instructions, whose image has no fault
+pub record HasMeaning (text : List ℕ) : Type 0 where
+  pub lines : List Line
+  pub means : Means text lines
+  pub loads : IsOk (load_result (image_of lines))
+
+-- the text has a fault in a line
+pub record HasSomeFault (text : List ℕ) : Type 0 where
+  pub line : ℕ
+  pub why : Why
+  pub fault : IsFault text line why

@@ -1,6 +1,6 @@
 //! Laws of assembly text.
 
-ghost use Rattle.std.specs.Prelude.{◌≡◌, ◌↔◌, ◌∷◌, ◌++◌, List, ℕ, Some, Err, length};
+ghost use Rattle.std.specs.Prelude.{◌≡◌, ◌↔◌, ◌⊎◌, ◌∷◌, ◌++◌, List, ℕ, Some, Err, length};
 ghost use Rattle.bpf_types.specs.declared.line.Line.{Line};
 ghost use Rattle.bpf_listing.specs.Listing.{image_of};
 ghost use Rattle.ocp_loader.specs.declared.fault.LoadFault.{LoadFault};
@@ -9,13 +9,17 @@ ghost use Rattle.ocp_loader.specs.LoadResult.{load_result};
 ghost use Rattle.ocp_loader.specs.Places.{place_of};
 ghost use Rattle.bpf_assembler.specs.Text.{Means, IsWritten, AreInstructions, entries_of, label_place};
 ghost use Rattle.bpf_assembler.specs.Faults.{IsFault};
+ghost use Rattle.bpf_assembler.specs.Assembling.{HasMeaning, HasSomeFault};
 ghost use Rattle.bpf_assembler.specs.Labels.{statements, IsLabelAt, IsMeantBy};
 ghost use Rattle.bpf_assembler.specs.declared.fault.Why.{Why};
 ghost use Rattle.bpf_assembler.specs.declared.fault.Why.TheVariants.{Load};
 ghost use Rattle.bpf_text.specs.Lines.{Written, Statement};
 
 use bpf_text::laws::readings_are_unique;
+use bpf_text::read_line;
 use ocp_loader::{faults_are_of_images_that_may_not_be_run, places_are_counted_in_slots};
+use text_lines::first_line;
+
 pub use text_lines::laws::texts_are_cut_at_newlines;
 
 /// A text means at most one list of instructions.
@@ -57,4 +61,19 @@ pub fn named_jumps_lead_to_their_labels()
         ls ≡ c ++ l ∷ d → length a ≡ length c → IsMeantBy ws ls (place_of c) s.line s.name l }
 {
     places_are_counted_in_slots();
+}
+
+/// Each text means instructions whose image has no fault, or has a fault itself; and not both. When it runs it reads the
+/// lines of the text, and keeps nothing of them.
+pub fn texts_have_a_meaning_or_a_fault(text: &[u8])
+    ensures one { HasMeaning text.now ⊎ HasSomeFault text.now }
+    ensures not_both { HasMeaning text.now → ¬ HasSomeFault text.now }
+{
+    meanings_exclude_faults();
+    let mut rest = text;
+    while !rest.is_empty() {
+        let (line, after) = first_line(rest);
+        let _read = read_line(line);
+        rest = after;
+    }
 }

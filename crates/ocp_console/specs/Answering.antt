@@ -7,7 +7,7 @@ use Rattle.pus_fields.specs.Acknowledgement.{flags}
 use Rattle.pus_fields.specs.Telecommand.{telecommand_octets}
 use Rattle.obcp_messages.specs.declared.request.Request.{Request}
 use Rattle.obcp_messages.specs.Request.{subtype_of, request_data}
-use Rattle.ocp_table.specs.Shown.{shown_at}
+use Rattle.ocp_table.specs.Shown.{view_at}
 use Rattle.ocp_world.specs.declared.answers.EngineFault.TheVariants as fault
 use Rattle.ocp_world.specs.After.{Answer, Requested, Stepped}
 use Rattle.ocp_world.specs.World as event
@@ -101,7 +101,7 @@ on_command state (Up octets) = on_octets state octets
 on_command state (Send ack request) = on_request state ack request
 on_command state (Time time) = (record state { time = time }, [])
 on_command state (Step id budget) = on_steps state id budget
-on_command state (View id) = (state, view_lines id (shown_at (get (world_of state.engine).records id)))
+on_command state (View id) = (state, view_lines id (view_at (get (world_of state.engine).records id)))
 on_command state Journal = (state, journal_line (length (expand state.engine.entries)))
 
 abbrev pub response : State → Option Said → Option (State × List ℕ)
