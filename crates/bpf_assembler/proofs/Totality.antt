@@ -145,7 +145,7 @@ resolved all place given (Some name) r = by (label_place name 0 all) refl
     by None e = inr (why.UnknownLabel, e)
     by (Some to) e = elim (in_range given (pos to -ℤ pos (place + 1)) r) [
       | inl q ↦ inl (with_target given place to, (to, e, q, refl))
-      | inr q ↦ inr (why.Range, to, e, q)
+      | inr q ↦ inr (why.Range, (to, e, q))
     ]
 
 abbrev SomeMiss : List Written → List Entry → Type 0

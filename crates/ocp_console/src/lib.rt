@@ -6,6 +6,7 @@ mod answering;
 mod console;
 pub mod laws;
 mod script;
+mod sending;
 mod session;
 mod steps;
 mod texts;

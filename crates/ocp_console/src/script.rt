@@ -28,7 +28,7 @@ pub fn run<R: Source, W: Sink, A: Allocator + Copy>(
     requires writes { W.failed_writes writer.old < 2 ^ 64 - 1 }
     ensures transcript { IfSome (R.remaining reader.old) (λ script.
         Prints (W.contents writer.old) (W.contents writer.new)
-            (transcript settings script) result) }
+        (transcript settings script) result) }
     ensures reads { IfSome (R.remaining reader.old)
         (λ script. ReadsWhile IsWithin script (R.remaining reader.new)) }
     ensures read { IsErrOf result ConsoleFault.Read ↔

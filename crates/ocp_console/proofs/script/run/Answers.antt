@@ -2,7 +2,7 @@ use Rattle.std.proofs.Common.{ℕ, [], ◌++◌, take, arith, ◌∙◌, ap, ref
 use Rattle.std.proofs.lemmas.Result.{err_from_is_err_and}
 use Rattle.ocp_console.specs.Mirror.Session.{rest_of}
 use Rattle.ocp_console.specs.Script.{transcript}
-use Rattle.ocp_console.proofs.Scripts.{not_begun, piece_answered, piece_failed, script_ended}
+use Rattle.ocp_console.proofs.Scripts.{not_begun, piece_answered, piece_failed, read_failed, script_ended}
 use Rattle.std.proofs.KnownBytes.{Consumes-nil, Consumes-trans}
 use Rattle.ocp_console.proofs.Taking.{nothing_taken, nothing_read, read_within, consumes_none, few_read}
 use Rattle.ocp_console.proofs.script.run.Goals as goal
@@ -54,3 +54,6 @@ pub returns-in_err-feed_all-clause-reads : goal.returns-in_err-feed_all-clause-r
 returns-in_err-feed_all-clause-reads g c =
     let s = c.loop-count.session in
     read_within _ _ _ s.before s.line.items (take c.in-Some.count c.read.new.buffer) s.few (omega (arith, s.short, s.line.ok.0)) s.one_line (few_read c.in-Some.count c.read.new.buffer (c.read.auto.buffer ∙ c.loop-count.invariant.room)) c.loop-count.invariant.took c.in-Some.ensures.octets.0
+
+pub returns-in_default-clause-transcript : goal.returns-in_default-clause-transcript
+returns-in_default-clause-transcript g c = read_failed _ _ _ _ (transcript c.args.settings) (rest_of c.loop-count.session) c.loop-count.invariant.answered
