@@ -1,5 +1,5 @@
 -- Each text means instructions or has a fault.
-use Rattle.std.proofs.Common.{◌≡◌, ◌≢◌, ◌<◌, ◌+◌, ◌++◌, ℕ, suc, zero, ℤ, pos, negsuc, ◌-ℤ◌, List, [], ◌∷◌, length, Option, Some, None, Result, Ok, Err, nat_le, Bool, true, false, ltb, is_ok, refl, sym, ap, ◌∙◌, subst, inl, inr, ◌⊎◌, arith, append_assoc, append-nil}
+use Rattle.std.proofs.Common.{◌≡◌, ◌<◌, ◌+◌, ◌++◌, ℕ, suc, zero, ℤ, pos, negsuc, ◌-ℤ◌, List, [], ◌∷◌, length, Option, Some, None, Result, Ok, Err, nat_le, Bool, true, false, ltb, is_ok, refl, sym, ap, ◌∙◌, subst, inl, inr, ◌⊎◌, arith, append_assoc, append-nil}
 use Rattle.std.specs.Prelude.{FitsSigned}
 use Rattle.std.specs.Int.{w16, w32}
 use Rattle.std.specs.List.{All}
@@ -12,14 +12,14 @@ use Rattle.ocp_loader.specs.declared.fault.LoadFault.{LoadFault}
 use Rattle.ocp_loader.specs.declared.fault.LoadFault.TheVariants.{EmptyCode}
 use Rattle.ocp_loader.specs.FaultNumbers.{number_of, slot_of}
 use Rattle.ocp_loader.specs.LoadResult.{load_result}
-use Rattle.bpf_text.specs.Lines.{Written, Writes, InRange, Statement}
+use Rattle.bpf_text.specs.Lines.{Written, InRange, Statement}
 use Rattle.bpf_text.specs.Judged.{JudgesLine, written_line}
 use Rattle.bpf_text.specs.declared.line.Parsed.{Parsed}
 use Rattle.bpf_text.specs.declared.line.LineFault.{LineFault}
 use Rattle.bpf_text.specs.declared.line.LineFault.TheVariants.{Syntax, Range}
 use Rattle.text_lines.specs.Lines.{line_texts}
 use Rattle.bpf_assembler.specs.Text.{EachWritten, label_place, IsNew, AreDistinct, Entry, entry_of, entries_of, slots, with_distance, with_target, IsInstruction, AreInstructions, IsWritten, Means}
-use Rattle.bpf_assembler.specs.Faults.{HasLineFault, MissesLabel, IsFirstMiss, IsLineOfSlot, IsLineOf, IsFault}
+use Rattle.bpf_assembler.specs.Faults.{HasLineFault, MissesLabel, IsFirstMiss, IsLineOf, IsFault}
 use Rattle.bpf_assembler.specs.Assembling.{HasMeaning, HasSomeFault}
 use Rattle.bpf_assembler.specs.Mirror.Passes.{IsLineUpTo}
 use Rattle.bpf_assembler.specs.declared.fault.Why.{Why}
@@ -52,28 +52,36 @@ new_or_not (Some name) ws = by (label_place name 0 ws) refl
     by (Some x) e = inr (λ n. let bad = sym e ∙ n in absurd cc)
 
 line_judged : (text rest line after : List ℕ) (r : Result Parsed LineFault) → Progress text rest → line_texts rest ≡ line ∷ line_texts after → JudgesLine line r → Progress text after ⊎ SomeLineFault text
-line_judged text rest line after (Err Syntax) t e j = inr (length t.done + 1, why.Syntax, record {
-  before = t.done;
-  line = line;
-  after = line_texts after;
-  lines = t.written;
-  order = t.whole ∙ ap (λ (ls : List (List ℕ)). t.done ++ ls) e;
-  counted = refl;
-  each = t.each;
-  distinct = t.distinct;
-  fault = j;
-})
-line_judged text rest line after (Err Range) t e j = inr (length t.done + 1, why.Range, record {
-  before = t.done;
-  line = line;
-  after = line_texts after;
-  lines = t.written;
-  order = t.whole ∙ ap (λ (ls : List (List ℕ)). t.done ++ ls) e;
-  counted = refl;
-  each = t.each;
-  distinct = t.distinct;
-  fault = j;
-})
+line_judged text rest line after (Err Syntax) t e j = inr (
+  length t.done + 1,
+  why.Syntax,
+  record {
+    before = t.done;
+    line = line;
+    after = line_texts after;
+    lines = t.written;
+    order = t.whole ∙ ap (λ (ls : List (List ℕ)). t.done ++ ls) e;
+    counted = refl;
+    each = t.each;
+    distinct = t.distinct;
+    fault = j;
+  },
+)
+line_judged text rest line after (Err Range) t e j = inr (
+  length t.done + 1,
+  why.Range,
+  record {
+    before = t.done;
+    line = line;
+    after = line_texts after;
+    lines = t.written;
+    order = t.whole ∙ ap (λ (ls : List (List ℕ)). t.done ++ ls) e;
+    counted = refl;
+    each = t.each;
+    distinct = t.distinct;
+    fault = j;
+  },
+)
 line_judged text rest line after (Ok p) t e j = by (new_or_not (written_line p).label t.written)
   where
     by : IsNew (written_line p).label t.written ⊎ ¬ IsNew (written_line p).label t.written → Progress text after ⊎ SomeLineFault text
@@ -84,17 +92,21 @@ line_judged text rest line after (Ok p) t e j = by (new_or_not (written_line p).
       each = written_after t.done t.written line (written_line p) t.each j.0 j.1;
       distinct = distinct_after [] t.written (written_line p) t.distinct new;
     })
-    by (inr old) = inr (length t.done + 1, why.DuplicateLabel, record {
-      before = t.done;
-      line = line;
-      after = line_texts after;
-      lines = t.written;
-      order = t.whole ∙ ap (λ (ls : List (List ℕ)). t.done ++ ls) e;
-      counted = refl;
-      each = t.each;
-      distinct = t.distinct;
-      fault = (written_line p, j.0, j.1, old);
-    })
+    by (inr old) = inr (
+      length t.done + 1,
+      why.DuplicateLabel,
+      record {
+        before = t.done;
+        line = line;
+        after = line_texts after;
+        lines = t.written;
+        order = t.whole ∙ ap (λ (ls : List (List ℕ)). t.done ++ ls) e;
+        counted = refl;
+        each = t.each;
+        distinct = t.distinct;
+        fault = (written_line p, j.0, j.1, old);
+      },
+    )
 
 pub line_read : (text rest line after : List ℕ) (r : Result Parsed LineFault) → Progress text rest ⊎ SomeLineFault text → line_texts rest ≡ line ∷ line_texts after → JudgesLine line r → Progress text after ⊎ SomeLineFault text
 line_read text rest line after r (inl t) e j = line_judged text rest line after r t e j
@@ -155,16 +167,20 @@ abbrev AreMeant : List Written → List Entry → Type 0
 AreMeant all entries = (ls : List Line) × AreInstructions all entries ls
 
 later_miss : (all : List Written) (e : Entry) (es : List Entry) (l : Line) → IsInstruction all e.place e.statement.line e.statement.name l → SomeMiss all es → SomeMiss all (e ∷ es)
-later_miss all e es l h (n, y, f) = (n, y, record {
-  before = e ∷ f.before;
-  entry = f.entry;
-  after = f.after;
-  earlier = l ∷ f.earlier;
-  order = ap (λ (xs : List Entry). e ∷ xs) f.order;
-  instructions = (h, f.instructions);
-  counted = f.counted;
-  miss = f.miss;
-})
+later_miss all e es l h (n, y, f) = (
+  n,
+  y,
+  record {
+    before = e ∷ f.before;
+    entry = f.entry;
+    after = f.after;
+    earlier = l ∷ f.earlier;
+    order = ap (λ (xs : List Entry). e ∷ xs) f.order;
+    instructions = (h, f.instructions);
+    counted = f.counted;
+    miss = f.miss;
+  },
+)
 
 one_entry : (all : List Written) (e : Entry) (es : List Entry) → IsLine e.statement.line → AreMeant all es ⊎ SomeMiss all es → AreMeant all (e ∷ es) ⊎ SomeMiss all (e ∷ es)
 one_entry all e es r rest = by (resolved all e.place e.statement.line e.statement.name r) rest
@@ -172,16 +188,20 @@ one_entry all e es r rest = by (resolved all e.place e.statement.line e.statemen
     by : ((l : Line) × IsInstruction all e.place e.statement.line e.statement.name l) ⊎ ((y : Why) × MissesLabel all e.place e.statement.line e.statement.name y) → AreMeant all es ⊎ SomeMiss all es → AreMeant all (e ∷ es) ⊎ SomeMiss all (e ∷ es)
     by (inl h) (inl k) = inl (h.0 ∷ k.0, (h.1, k.1))
     by (inl h) (inr k) = inr (later_miss all e es h.0 h.1 k)
-    by (inr h) k = inr (e.number, h.0, record {
-      before = [];
-      entry = e;
-      after = es;
-      earlier = [];
-      order = refl;
-      instructions = tt;
-      counted = refl;
-      miss = h.1;
-    })
+    by (inr h) k = inr (
+      e.number,
+      h.0,
+      record {
+        before = [];
+        entry = e;
+        after = es;
+        earlier = [];
+        order = refl;
+        instructions = tt;
+        counted = refl;
+        miss = h.1;
+      },
+    )
 
 all_entries : (all : List Written) (number place : ℕ) (ls : List (List ℕ)) (ws : List Written) → EachWritten ls ws → AreMeant all (entries_of number place ws) ⊎ SomeMiss all (entries_of number place ws)
 all_entries all number place [] [] h = inl ([], tt)
@@ -206,25 +226,31 @@ line_up_to [] slot = (0, inl (refl, λ k d lt. absurd (omega (arith, lt))))
 line_up_to (e ∷ es) slot = by (line_up_to es slot) (fits_below e.place slot)
   where
     by : (number : ℕ) × IsLineUpTo es slot number → (slot < e.place) ⊎ ¬ (slot < e.place) → (number : ℕ) × IsLineUpTo (e ∷ es) slot number
-    by (n, inr h) t = (n, inr (record {
-      before = e ∷ h.before;
-      entry = h.entry;
-      after = h.after;
-      order = ap (λ (xs : List Entry). e ∷ xs) h.order;
-      counted = h.counted;
-      reached = h.reached;
-      behind = h.behind;
-    }))
+    by (n, inr h) t = (
+      n,
+      inr (record {
+        before = e ∷ h.before;
+        entry = h.entry;
+        after = h.after;
+        order = ap (λ (xs : List Entry). e ∷ xs) h.order;
+        counted = h.counted;
+        reached = h.reached;
+        behind = h.behind;
+      }),
+    )
     by (n, inl h) (inl lt) = (n, inl (h.0, first_and_rest (λ x. slot < x.place) e es lt h.1))
-    by (n, inl h) (inr ge) = (e.number, inr (record {
-      before = [];
-      entry = e;
-      after = es;
-      order = refl;
-      counted = refl;
-      reached = omega (arith, ge);
-      behind = h.1;
-    }))
+    by (n, inl h) (inr ge) = (
+      e.number,
+      inr (record {
+        before = [];
+        entry = e;
+        after = es;
+        order = refl;
+        counted = refl;
+        reached = omega (arith, ge);
+        behind = h.1;
+      }),
+    )
 
 none_of_none : (all : List Written) (es : List Entry) (ls : List Line) → es ≡ [] → AreInstructions all es ls → ls ≡ []
 none_of_none all [] [] e h = refl

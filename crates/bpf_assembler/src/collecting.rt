@@ -69,7 +69,7 @@ fn add<'a, A: Allocator + Clone>(table: &mut Table<'a, A>, text: &'a [u8]) -> Re
     ensures lines { (ws : List Written) →
         Knows table.old.labels table.old.rows.items table.old.lines table.old.place ws
         → Adds text.now table.new.labels table.new.rows.items table.new.lines table.new.place
-            ws result }
+        ws result }
     ensures count { OnOk result (table.new.lines ≡ table.old.lines + 1) }
     ensures place { OnOk result (table.new.place ≤ table.old.place + 2) }
 {

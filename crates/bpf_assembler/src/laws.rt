@@ -19,7 +19,6 @@ use bpf_text::laws::readings_are_unique;
 use bpf_text::read_line;
 use ocp_loader::{faults_are_of_images_that_may_not_be_run, places_are_counted_in_slots};
 use text_lines::first_line;
-
 pub use text_lines::laws::texts_are_cut_at_newlines;
 
 /// A text means at most one list of instructions.
