@@ -1,5 +1,6 @@
 -- Lines of registers, one after the other.
 use Rattle.std.proofs.Common.{◌≡◌, ◌++◌, ◌<◌, ◌≤◌, ◌+◌, List, [], ◌∷◌, ℕ, length, take, get_or, sym, ap, ap₂, ◌∙◌, arith, append_assoc, append-nil}
+use Rattle.std.specs.Prelude.{codes}
 use Rattle.std.proofs.lemmas.List.{take_more, length-take-le, take_all}
 use Rattle.ocp_console.specs.Texts.{register_line, register_lines}
 
@@ -24,3 +25,13 @@ line_added registers index text head line new lt before is after =
 
 pub all_lines : (registers : List ℕ) (index : ℕ) (text head : List ℕ) → length registers ≤ index → text ≡ head ++ register_lines 0 (take index registers) → text ≡ head ++ register_lines 0 registers
 all_lines registers index text head le e = e ∙ ap (λ (t : List ℕ). head ++ register_lines 0 t) (take_all index registers le)
+
+-- the parts of a view's line
+pub view_parts : (id status cause place depth pending : List ℕ) → (id ++ (codes " " ++ (status ++ (codes " " ++ (cause ++ (codes " place " ++ (place ++ (codes " depth " ++ (depth ++ (codes " pending " ++ (pending))))))))))) ++ codes "\n"
+    ≡ id ++ (codes " " ++ (status ++ (codes " " ++ (cause ++ (codes " place " ++ (place ++ (codes " depth " ++ (depth ++ (codes " pending " ++ (pending ++ codes "\n"))))))))))
+view_parts id status cause place depth pending =
+    append_assoc id (codes " " ++ (status ++ (codes " " ++ (cause ++ (codes " place " ++ (place ++ (codes " depth " ++ (depth ++ (codes " pending " ++ (pending)))))))))) (codes "\n")
+    ∙ ap (λ (t : List ℕ). id ++ (codes " " ++ (t))) (append_assoc status (codes " " ++ (cause ++ (codes " place " ++ (place ++ (codes " depth " ++ (depth ++ (codes " pending " ++ (pending)))))))) (codes "\n"))
+    ∙ ap (λ (t : List ℕ). id ++ (codes " " ++ (status ++ (codes " " ++ (t))))) (append_assoc cause (codes " place " ++ (place ++ (codes " depth " ++ (depth ++ (codes " pending " ++ (pending)))))) (codes "\n"))
+    ∙ ap (λ (t : List ℕ). id ++ (codes " " ++ (status ++ (codes " " ++ (cause ++ (codes " place " ++ (t))))))) (append_assoc place (codes " depth " ++ (depth ++ (codes " pending " ++ (pending)))) (codes "\n"))
+    ∙ ap (λ (t : List ℕ). id ++ (codes " " ++ (status ++ (codes " " ++ (cause ++ (codes " place " ++ (place ++ (codes " depth " ++ (t))))))))) (append_assoc depth (codes " pending " ++ (pending)) (codes "\n"))

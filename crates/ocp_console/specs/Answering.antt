@@ -1,5 +1,5 @@
 -- What a line does, and what it prints.
-use Rattle.std.specs.Prelude.{ℕ, ◌+◌, ◌%◌, List, [], length, Option, Some, None, Ok, Err, codes}
+use Rattle.std.specs.Prelude.{ℕ, ◌+◌, ◌%◌, List, [], length, Option, Some, None, Ok, Err, codes, slice_get}
 use Rattle.std.specs.List.{flat_map}
 use Rattle.std.specs.FinMap.{get}
 use Rattle.space_packet.specs.declared.range.TheConstants.{SEQUENCE_COUNTS}
@@ -13,10 +13,10 @@ use Rattle.ocp_world.specs.After.{Answer, Requested, Stepped}
 use Rattle.ocp_world.specs.World as event
 use Rattle.ocp_core.specs.Log.{Log, empty_log, expand, world_of, answer_in, log_after}
 use Rattle.ocp_core.specs.Slice.{slice_in, slice_log}
-use Rattle.ocp_lines.specs.Grammar.{Said, Nothing, Up, Send, Time, Step, View, Journal, command_of}
+use Rattle.ocp_lines.specs.Grammar.{Said, Nothing, Up, Send, Time, Step, View, Pool, Journal, command_of}
 use Rattle.ocp_words.specs.declared.job.Settings.{Settings}
 use Rattle.ocp_console.specs.declared.console.Console.{Console}
-use Rattle.ocp_console.specs.Texts.{report_line, discard_line, step_line, view_lines, journal_line}
+use Rattle.ocp_console.specs.Texts.{report_line, discard_line, step_line, view_lines, pool_line, journal_line}
 
 -- What a console keeps from line to line: the engine, which is its journal; the application process identifier of the ground's
 -- telecommands; the time of the next requests; the ground count, which is the sequence count of the next telecommand.
@@ -102,6 +102,7 @@ on_command state (Send ack request) = on_request state ack request
 on_command state (Time time) = (record state { time = time }, [])
 on_command state (Step id budget) = on_steps state id budget
 on_command state (View id) = (state, view_lines id (view_at (get (world_of state.engine).records id)))
+on_command state (Pool index) = (state, pool_line index (slice_get (world_of state.engine).pool index))
 on_command state Journal = (state, journal_line (length (expand state.engine.entries)))
 
 abbrev pub response : State → Option Said → Option (State × List ℕ)

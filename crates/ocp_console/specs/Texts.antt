@@ -12,6 +12,8 @@ use Rattle.obcp_types.specs.declared.status.Status.{Status}
 use Rattle.obcp_types.specs.declared.status.Status.TheVariants as status
 use Rattle.ocp_table.specs.declared.control.Cause.{Cause}
 use Rattle.ocp_table.specs.declared.control.Cause.TheVariants as cause
+use Rattle.ocp_table.specs.declared.control.Pending.{Pending}
+use Rattle.ocp_table.specs.declared.control.Pending.TheVariants as pending
 use Rattle.ocp_table.specs.declared.view.View.{View}
 use Rattle.ocp_table.specs.declared.answers.StepOutcome.{StepOutcome}
 use Rattle.ocp_table.specs.declared.answers.StepOutcome.TheVariants as outcome
@@ -43,7 +45,9 @@ discard_line why = codes "discarded " ++ discard_name why ++ codes "\n"
 -- ---- steps
 
 abbrev pub outcome_text : StepOutcome → List ℕ
+outcome_text outcome.Broke = codes "Broke"
 outcome_text outcome.Ran = codes "Ran"
+outcome_text outcome.Called = codes "Called"
 outcome_text outcome.Ended = codes "Ended"
 outcome_text (outcome.Faulted number) = codes "Faulted " ++ decimal number
 outcome_text outcome.NotLoaded = codes "NotLoaded"
@@ -64,15 +68,26 @@ status_name status.Held = codes "held"
 abbrev pub cause_text : Cause → List ℕ
 cause_text cause.Nothing = codes "none"
 cause_text cause.Exited = codes "exited"
+cause_text cause.Stopped = codes "stopped"
+cause_text cause.Aborted = codes "aborted"
 cause_text (cause.Fault number) = codes "fault" ++ decimal number
+
+abbrev pub pending_text : Pending → List ℕ
+pending_text pending.Nothing = codes "none"
+pending_text (pending.Stop step) = codes "stop " ++ decimal step
+pending_text (pending.Suspend step) = codes "suspend " ++ decimal step
 
 -- `view <id> <status> <cause> place <place> depth <depth> pending <pending>`
 abbrev pub view_line : ℕ → View → List ℕ
-view_line id view = codes "view " ++ decimal id ++ codes " " ++ status_name view.status ++ codes " " ++ cause_text view.cause ++ codes " place " ++ decimal view.place ++ codes " depth " ++ decimal view.depth ++ codes " pending none\n"
+view_line id view = codes "view " ++ decimal id ++ codes " " ++ status_name view.status ++ codes " " ++ cause_text view.cause ++ codes " place " ++ decimal view.place ++ codes " depth " ++ decimal view.depth ++ codes " pending " ++ pending_text view.pending ++ codes "\n"
+
+-- 16 digits
+abbrev pub word_text : ℕ → List ℕ
+word_text word = encode_lower (to_be_bytes w64 word)
 
 -- `r<index> <16 digits>`
 abbrev pub register_line : ℕ → ℕ → List ℕ
-register_line index register = codes "r" ++ decimal index ++ codes " " ++ encode_lower (to_be_bytes w64 register) ++ codes "\n"
+register_line index register = codes "r" ++ decimal index ++ codes " " ++ word_text register ++ codes "\n"
 
 -- the lines of registers, the first of which has this index
 abbrev pub register_lines : ℕ → List ℕ → List ℕ
@@ -87,3 +102,10 @@ view_lines id (Some view) = view_line id view ++ register_lines 0 view.registers
 -- `journal <events>`
 abbrev pub journal_line : ℕ → List ℕ
 journal_line events = codes "journal " ++ decimal events ++ codes "\n"
+
+-- ---- the pool
+
+-- `pool <index> <16 digits>`, or that there is no such word
+abbrev pub pool_line : ℕ → Option ℕ → List ℕ
+pool_line index None = codes "pool " ++ decimal index ++ codes " BadPoolIndex\n"
+pool_line index (Some word) = codes "pool " ++ decimal index ++ codes " " ++ word_text word ++ codes "\n"

@@ -6,7 +6,7 @@ ghost use Rattle.pus_fields.specs.declared.writing.TheConstants.{MAX_TELECOMMAND
 ghost use Rattle.obcp_messages.specs.Request.{request_data};
 
 use crate::sending::telecommand;
-use crate::texts::{discard_text, journal_text, reports_text, step_text, view_text};
+use crate::texts::{discard_text, journal_text, pool_text, reports_text, step_text, view_text};
 use obcp_messages::{Arguments, Code, Request, Words};
 use ocp_core::{Engine, EngineFault};
 use ocp_lines::{Command, Flags, Verb};
@@ -117,6 +117,7 @@ impl<A: Allocator + Copy> Console<A> {
                 step_text(alloc, id, slice)
             }
             Command::View(id) => view_text(alloc, id, self.engine.view(id)),
+            Command::Pool(index) => pool_text(alloc, index, self.engine.pool_word(index)),
             Command::Journal => journal_text(alloc, self.engine.events()),
         }
     }

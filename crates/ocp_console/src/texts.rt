@@ -3,10 +3,10 @@
 ghost use Rattle.std.specs.Prelude.{◌≡◌, ◌++◌, IfOk, OnOk, string_bytes};
 ghost use Rattle.std.specs.Fmt.{decimal};
 ghost use Rattle.std.specs.List.{flat_map};
-ghost use Rattle.ocp_console.specs.Texts.{report_line, discard_name, discard_line, outcome_text, step_line, status_name, cause_text, view_line, register_line, register_lines, view_lines, journal_line};
+ghost use Rattle.ocp_console.specs.Texts.{report_line, discard_name, discard_line, outcome_text, step_line, status_name, cause_text, pending_text, view_line, pool_line, register_line, register_lines, view_lines, journal_line};
 
 use ocp_core::{Reports, Slice, StepOutcome};
-use ocp_table::{Cause, Status, View};
+use ocp_table::{Cause, Pending, Status, View};
 use pus_fields::{Discard, read_tm};
 use std::alloc::{AllocError, Allocator};
 
@@ -68,7 +68,9 @@ fn text_of_outcome<A: Allocator>(alloc: A, outcome: StepOutcome) -> Result<Strin
     ensures { IfOk result (λ text. string_bytes text ≡ outcome_text outcome) }
 {
     match outcome {
+        StepOutcome::Broke => String::from_str(alloc, "Broke"),
         StepOutcome::Ran => String::from_str(alloc, "Ran"),
+        StepOutcome::Called => String::from_str(alloc, "Called"),
         StepOutcome::Ended => String::from_str(alloc, "Ended"),
         StepOutcome::Faulted(number) => format!(in alloc; "Faulted {number}"),
         StepOutcome::NotLoaded => String::from_str(alloc, "NotLoaded"),
@@ -107,7 +109,19 @@ fn text_of_cause<A: Allocator>(alloc: A, cause: Cause) -> Result<String<A>, Allo
     match cause {
         Cause::Nothing => String::from_str(alloc, "none"),
         Cause::Exited => String::from_str(alloc, "exited"),
+        Cause::Stopped => String::from_str(alloc, "stopped"),
+        Cause::Aborted => String::from_str(alloc, "aborted"),
         Cause::Fault(number) => format!(in alloc; "fault{number}"),
+    }
+}
+
+fn text_of_pending<A: Allocator>(alloc: A, pending: Pending) -> Result<String<A>, AllocError>
+    ensures { IfOk result (λ text. string_bytes text ≡ pending_text pending) }
+{
+    match pending {
+        Pending::Nothing => String::from_str(alloc, "none"),
+        Pending::Stop(step) => format!(in alloc; "stop {step}"),
+        Pending::Suspend(step) => format!(in alloc; "suspend {step}"),
     }
 }
 
@@ -118,8 +132,9 @@ fn head_text<A: Allocator + Copy>(alloc: A, id: u16, view: &View) -> Result<Stri
     let cause = text_of_cause(alloc, view.cause)?;
     let place = view.place;
     let depth = view.depth;
+    let pending = text_of_pending(alloc, view.pending)?;
     let text = format!(in alloc;
-        "view {id} {status} {cause} place {place} depth {depth} pending none\n"
+        "view {id} {status} {cause} place {place} depth {depth} pending {pending}\n"
     )?;
     Ok(text)
 }
@@ -152,6 +167,22 @@ pub(crate) fn view_text<A: Allocator + Copy>(
         let line = register_text(alloc, index, *register)?;
         text.push_str(line.as_str())?;
     }
+    Ok(text)
+}
+
+/// The line of a word of the pool.
+pub(crate) fn pool_text<A: Allocator + Copy>(
+    alloc: A,
+    index: u64,
+    word: Option<u64>,
+) -> Result<String<A>, AllocError>
+    ensures { IfOk result (λ text. string_bytes text ≡ pool_line index word) }
+{
+    let Some(word) = word else {
+        return format!(in alloc; "pool {index} BadPoolIndex\n");
+    };
+    let digits = hex::encode(alloc, word.to_be_bytes())?;
+    let text = format!(in alloc; "pool {index} {digits}\n")?;
     Ok(text)
 }
 

@@ -15,5 +15,5 @@ module _ {A : Type 0} where
   pub IsWorld-with_entry : (log new : Log) (e : Entry) (s : State A) → new ≡ with_entry log e → IsWorld (replay_from (world_of log) (events_of e)) s → IsWorld (world_of new) s
   IsWorld-with_entry log new e s is stands = subst (λ w. IsWorld w s) (sym (ap world_of is ∙ world_of-with_entry log e)) stands
 
-  pub IsWorld-empty_log : (new : Log) (apid words capacity : ℕ) (s : State A) → new ≡ empty_log apid words capacity → ((n : ℕ) → IsWorld (opening apid n) s) → IsWorld (world_of new) s
-  IsWorld-empty_log new apid words capacity s is stands = subst (λ w. IsWorld w s) (sym (ap world_of is ∙ world_of-empty_log apid words capacity)) (stands words)
+  pub IsWorld-empty_log : (new : Log) (apid words capacity : ℕ) (s : State A) → new ≡ empty_log apid words capacity → IsWorld (opening apid words) s → IsWorld (world_of new) s
+  IsWorld-empty_log new apid words capacity s is stands = subst (λ w. IsWorld w s) (sym (ap world_of is ∙ world_of-empty_log apid words capacity)) stands

@@ -27,14 +27,18 @@ is_full_answer (Requested (Err engine.JournalFull)) = true
 is_full_answer (Requested (Err (engine.Discarded cause))) = false
 is_full_answer (Requested (Err engine.Memory)) = false
 is_full_answer (Stepped S.JournalFull) = true
+is_full_answer (Stepped S.Broke) = false
 is_full_answer (Stepped S.Ran) = false
+is_full_answer (Stepped S.Called) = false
 is_full_answer (Stepped S.Ended) = false
 is_full_answer (Stepped (S.Faulted number)) = false
 is_full_answer (Stepped S.NotLoaded) = false
 is_full_answer (Stepped S.NotRunning) = false
 
 pub not_full : (o : StepOutcome) → (o ≡ S.JournalFull → ⊥) → is_full_answer (Stepped o) ≡ false
+not_full S.Broke h = refl
 not_full S.Ran h = refl
+not_full S.Called h = refl
 not_full S.Ended h = refl
 not_full (S.Faulted number) h = refl
 not_full S.NotLoaded h = refl
@@ -81,6 +85,17 @@ module _ (log : Log) (e : Event) where
         ]
         | false ↦ λ taken a. absurd (never a)
       ] refl is
+
+  -- and leaves the journal
+  pub full_leaves : finds_full log e ≡ true → log_after log e ≡ log
+  full_leaves =
+      elim (is_accepted answer) as (λ b. cond b (is_full log) false ≡ true → left b (is_full log) ≡ log) [
+        | true ↦ elim (is_full log) as (λ f. f ≡ true → left true f ≡ log) [
+          | true ↦ λ h. refl
+          | false ↦ λ h. absurd (true_false (sym h))
+        ]
+        | false ↦ λ h. absurd (true_false (sym h))
+      ]
 
   -- the journal that it leaves has the event's world, since a refused event leaves the world
   pub world_left : (is_accepted answer ≡ false → (after (world_of log) e).world ≡ world_of log) → finds_full log e ≡ false → world_of (log_after log e) ≡ (after (world_of log) e).world

@@ -47,8 +47,9 @@ Applies old new e (Ok answer) = IsDone old new e (answer_of answer)
 Applies old new e (Err refusal) = IsRefusedBy old e refusal × (new ≡ old)
 
 -- a run ends, with this journal, before the event of this index, which is refused so; out of memory it
--- may also end before the first event, since room for all answers is taken there
+-- may also end before the first event, since room for all answers is taken there. A run of no events
+-- does not end before one.
 abbrev pub StopsAt : Log → RunRefusal → ℕ → Option Event → Type 0
-StopsAt log Memory zero e = Unit {0}
+StopsAt log Memory zero (Some e) = Unit {0}
 StopsAt log refusal index (Some e) = IsRefusedBy log e refusal
 StopsAt log refusal index None = ⊥

@@ -1,6 +1,6 @@
 //! The engine.
 
-ghost use Rattle.std.specs.Prelude.{◌≡◌, ◌≤◌, ◌<◌, ◌-◌, ◌^◌, IfOk, OnOk, OnErr, length};
+ghost use Rattle.std.specs.Prelude.{◌≡◌, ◌≤◌, ◌<◌, ◌-◌, ◌^◌, IfOk, OnOk, OnErr, length, slice_get};
 ghost use Rattle.std.specs.FinMap.{get};
 ghost use Rattle.ocp_table.specs.Shown.{view_at};
 ghost use Rattle.ocp_world.specs.World as world;
@@ -54,7 +54,7 @@ impl<A: Allocator> Engine<A> {
         ensures { IfOk result (λ engine. engine ≡ empty_log apid words capacity) }
     {
         let apid = Apid::new(apid).unwrap();
-        let state = State::new(alloc, apid)?;
+        let state = State::new(alloc, apid, words)?;
         let journal = Journal::new(alloc, apid, words, capacity)?;
         Ok(Engine { state, journal })
     }
@@ -149,6 +149,13 @@ impl<A: Allocator> Engine<A> {
         ensures { result ≡ view_at (get (world_of self.now).records id) }
     {
         self.state.view(id)
+    }
+
+    /// The pool word at an index, where there is one.
+    pub fn pool_word(&self, index: u64) -> Option<u64>
+        ensures { result ≡ slice_get (world_of self.now).pool index }
+    {
+        self.state.pool_word(index)
     }
 
     /// The journal.

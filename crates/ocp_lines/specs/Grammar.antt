@@ -17,7 +17,7 @@ use Rattle.ocp_lines.specs.declared.command.Verb.TheVariants as verb
 -- ---- what a line can say
 
 -- nothing, a packet's octets, a request with its acknowledgement flags, a time, some steps of a procedure, a view of one,
--- the number of events
+-- a word of the pool, the number of events
 pub data Said : Type 0 where
   Nothing : Said
   Up : List ℕ → Said
@@ -25,6 +25,7 @@ pub data Said : Type 0 where
   Time : ℕ → Said
   Step : ℕ → ℕ → Said
   View : ℕ → Said
+  Pool : ℕ → Said
   Journal : Said
 
 abbrev pub request_of : {A : Type 0} → Verb A → Request
@@ -45,6 +46,7 @@ said_by (command.Send flags verb) = Send flags.number (request_of verb)
 said_by (command.Time time) = Time time
 said_by (command.Step id steps) = Step id steps.number
 said_by (command.View id) = View id
+said_by (command.Pool index) = Pool index
 said_by command.Journal = Journal
 
 -- ---- how many words there are
@@ -175,12 +177,17 @@ count_in words = two_words (λ id count. both (short id) (steps count) (λ i n. 
 abbrev pub view_in : List Word → Option ℕ
 view_in words = one_word short words
 
+-- the index of `pool <index>`
+abbrev pub pool_in : List Word → Option ℕ
+pool_in words = one_word (number_up_to (2 ^ 64 - 1)) words
+
 -- the lines without octets
 abbrev pub plain_command_in : Word → List Word → Option Said
 plain_command_in name words =
     if bytes_eq name (codes "time") then option_map (λ time. Time time) (time_in words)
     else if bytes_eq name (codes "step") then option_map (λ p. Step p.0 p.1) (count_in words)
     else if bytes_eq name (codes "view") then option_map (λ id. View id) (view_in words)
+    else if bytes_eq name (codes "pool") then option_map (λ index. Pool index) (pool_in words)
     else if bytes_eq name (codes "journal") then no_word Journal words
     else None
 

@@ -55,6 +55,8 @@ pub enum Command<A: Allocator = Global> {
     Step { id: u16, steps: Steps },
     /// `view <id>`: a procedure's registers and status.
     View(u16),
+    /// `pool <index>`: a word of the pool.
+    Pool(u64),
     /// `journal`: how many events there were.
     Journal,
 }

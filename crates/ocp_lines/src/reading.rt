@@ -3,7 +3,7 @@
 ghost use Rattle.std.specs.Prelude.{◌≡◌, length, IfOk, OnErr, IsTrue};
 ghost use Rattle.std.specs.Option.{option_map};
 ghost use Rattle.ocp_lines.specs.Words.{words_of};
-ghost use Rattle.ocp_lines.specs.Grammar.{said_by, up_in, send_in, time_in, count_in, view_in, command_in, plain_command_in, command_of, takes_octets, send_takes_octets, command_takes_octets};
+ghost use Rattle.ocp_lines.specs.Grammar.{said_by, up_in, send_in, time_in, count_in, view_in, pool_in, command_in, plain_command_in, command_of, takes_octets, send_takes_octets, command_takes_octets};
 
 use crate::command::{Command, Flags, MAX_STEPS, Steps};
 use crate::verbs::verb;
@@ -78,6 +78,13 @@ fn view(arguments: &[u8]) -> Option<u16>
     short(one_word(arguments)?)
 }
 
+/// The index of a `pool` line.
+fn pool(arguments: &[u8]) -> Option<u64>
+    ensures { result ≡ pool_in (words_of arguments.now) }
+{
+    number(one_word(arguments)?, u64::MAX)
+}
+
 /// The command of this name with these arguments, which are no octets.
 fn plain_command<A: Allocator>(name: &[u8], arguments: &[u8]) -> Option<Command<A>>
     ensures { option_map said_by result ≡ plain_command_in name.now (words_of arguments.now) }
@@ -89,6 +96,8 @@ fn plain_command<A: Allocator>(name: &[u8], arguments: &[u8]) -> Option<Command<
         Some(Command::Step { id, steps })
     } else if name == b"view".as_slice() {
         Some(Command::View(view(arguments)?))
+    } else if name == b"pool".as_slice() {
+        Some(Command::Pool(pool(arguments)?))
     } else if name == b"journal".as_slice() && no_word(arguments) {
         Some(Command::Journal)
     } else {

@@ -50,6 +50,9 @@ fn each_fault_of_an_instruction_has_its_number_and_slot(rt: HostRuntime) -> Resu
     let reserved = [0x95, 0, 0, 0, 1, 0, 0, 0];
     let writes_r10 = [0xb7, 0x0a, 0, 0, 1, 0, 0, 0];
     let call_1 = [0x85, 0, 0, 0, 1, 0, 0, 0];
+    let call_5 = [0x85, 0, 0, 0, 5, 0, 0, 0];
+    let call_6 = [0x85, 0, 0, 0, 6, 0, 0, 0];
+    let call_0 = [0x85, 0, 0, 0, 0, 0, 0, 0];
     assert_eq!(rt; fault_of(alloc, &[MOV, WIDE])?, Some((4, 1)));
     assert_eq!(rt;
         fault_of(alloc, &[WIDE, ZEROS, unknown, EXIT])?,
@@ -61,7 +64,9 @@ fn each_fault_of_an_instruction_has_its_number_and_slot(rt: HostRuntime) -> Resu
         fault_of(alloc, &[MOV, MOV, writes_r10, EXIT])?,
         Some((8, 2))
     );
-    assert_eq!(rt; fault_of(alloc, &[MOV, call_1, EXIT])?, Some((9, 1)));
+    assert_eq!(rt; fault_of(alloc, &[call_1, call_5, EXIT])?, None);
+    assert_eq!(rt; fault_of(alloc, &[MOV, call_6, EXIT])?, Some((9, 1)));
+    assert_eq!(rt; fault_of(alloc, &[call_0, EXIT])?, Some((9, 0)));
     Ok(())
 }
 

@@ -1,8 +1,9 @@
 //! The engine calls.
-ghost use Rattle.std.specs.Prelude.{◌≡◌, ◌<◌, IfOk, OnErr};
+ghost use Rattle.std.specs.Prelude.{◌≡◌, ◌<◌, true, IfOk, OnErr};
+ghost use Rattle.ocp_loader.specs.Image.{is_engine_call};
 ghost use Rattle.bpf_step.specs.Machine.{read};
 ghost use Rattle.bpf_step.specs.Calls.{state_after_engine_call};
-ghost use Rattle.ocp_pool.specs.Call.{r0_of, r1_of, engine_call, result_of, pool_after, mailbox_after, pool_by, mailbox_by, IsEngineCall};
+ghost use Rattle.ocp_pool.specs.Call.{r0_of, r1_of, engine_call, result_of, pool_after, mailbox_after, pool_by, mailbox_by};
 
 use crate::call::{Called, PoolFault};
 use crate::mailbox::Mailbox;
@@ -18,7 +19,7 @@ fn call_of<A: Allocator>(
     pool: &mut Pool<A>,
     mailbox: &mut Mailbox,
 ) -> Option<Called>
-    requires { IsEngineCall number }
+    requires { is_engine_call number ≡ true }
     ensures result { result ≡ engine_call number r1 r2 pool.old mailbox.old }
     ensures pool { pool.new ≡ pool_by result pool.old }
     ensures mailbox { mailbox.new ≡ mailbox_by result mailbox.old }
@@ -60,7 +61,7 @@ pub fn engine_call<A: Allocator, B: Allocator>(
     pool: &mut Pool<B>,
     mailbox: &mut Mailbox,
 ) -> Result<Called, PoolFault>
-    requires number { IsEngineCall number }
+    requires number { is_engine_call number ≡ true }
     requires place { machine.old.place < MAX_SLOTS }
     ensures result { result ≡ result_of
         (engine_call number (read machine.old 1) (read machine.old 2) pool.old mailbox.old) }

@@ -1,29 +1,40 @@
 -- The walk through the decision: what holds of each form of effect holds of the effect of every directive.
-use Rattle.std.proofs.Common.{◌≡◌, ℕ, Bool, true, false, List, Option, Some, None, refl}
-use Rattle.std.specs.Prelude.{Result, Ok, Err}
+use Rattle.std.proofs.Common.{◌≡◌, ℕ, ◌+◌, ◌≤◌, Bool, true, false, cond, length, List, Option, Some, None, refl, arith}
+use Rattle.std.specs.Prelude.{Result, Ok, Err, nat_le}
+use Rattle.std.proofs.lemmas.Bool.Decides.{nat_tests}
 use Rattle.bpf_types.specs.declared.line.Line.{Line}
 use Rattle.obcp_types.specs.declared.status.Status.{Status}
 use Rattle.obcp_types.specs.declared.status.Status.TheVariants.{Inactive, Running, Held}
 use Rattle.obcp_types.specs.declared.failure.StartFailure.{StartFailure}
-use Rattle.obcp_types.specs.declared.failure.StartFailure.TheVariants.{AlreadyLoaded, TableFull, NotLoaded, NotInactive, NotRunning}
+use Rattle.obcp_types.specs.declared.failure.StartFailure.TheVariants.{AlreadyLoaded, TableFull, NotLoaded, NotInactive, NotActive, NotRunning, NotHeld, StopPending, MailboxFull}
 use Rattle.ocp_loader.specs.declared.fault.LoadFault.{LoadFault}
 use Rattle.ocp_loader.specs.LoadResult.{load_result}
-use Rattle.bpf_step.specs.Step.{one_step}
+use Rattle.ocp_pool.specs.declared.mailbox.TheConstants.{MAX_MAILBOX_WORDS}
+use Rattle.ocp_table.specs.declared.control.Cause.TheVariants.{Stopped, Aborted}
+use Rattle.ocp_table.specs.declared.control.Pending.{Pending}
+use Rattle.ocp_table.specs.declared.control.Pending.TheVariants as pending
 use Rattle.ocp_table.specs.declared.answers.InstructionOutcome.{InstructionOutcome}
 use Rattle.ocp_table.specs.Records.{Rec}
-use Rattle.ocp_table.specs.Effects.{Effect, Loaded, Changed, Kept, Started, Stepped, Failed}
-use Rattle.ocp_table.specs.RequestTable.{Directive, Load, Activate, Step, transition}
-use Rattle.ocp_table.specs.Deciding.{bad_code, effect_of_load, outcome_of, effect_of_step, effect_by, effect_on}
+use Rattle.ocp_table.specs.Effects.{Effect, Loaded, Unloaded, Changed, Kept, Started, Sent, Pended, Quit, Resumed, Stepped, Failed}
+use Rattle.ocp_table.specs.RequestTable.{Directive, Load, Unload, Activate, Stop, Suspend, Resume, Abort, Communicate, Step, Changes, Fails, sent, transition}
+use Rattle.ocp_table.specs.Deciding.{bad_code, effect_of_load, outcome_in, effect_of_step, effect_by, effect_on}
 
 -- what has to hold of each form, with what is known where it comes
 pub record Holds (P : Directive → Effect → Type 0) (id : ℕ) (o : Option Rec) (full : Bool) : Type 0 where
   pub failed : (d : Directive) (failure : StartFailure) → P d (Kept (Failed failure))
   pub loaded : (image : List ℕ) → o ≡ None → full ≡ false → P (Load image) (Loaded id image)
+  pub unloaded : (r : Rec) → o ≡ Some r → r.control.status ≡ Inactive → P Unload (Unloaded id)
   pub started : (arguments : List ℕ) (r : Rec) → o ≡ Some r → r.control.status ≡ Inactive → P (Activate arguments) (Changed id (Started arguments))
-  pub stepped : (outcome : InstructionOutcome) (r : Rec) → o ≡ Some r → r.control.status ≡ Running → outcome_of (one_step r.image r.machine) ≡ Some outcome → P Step (Changed id (Stepped outcome))
+  pub sends : (words : List ℕ) (r : Rec) → o ≡ Some r → length r.mailbox + length words ≤ MAX_MAILBOX_WORDS → P (Communicate words) (Changed id (Sent words))
+  pub stop_pends : (s : ℕ) (r : Rec) → o ≡ Some r → r.control.status ≡ Running → P (Stop s) (Changed id (Pended (pending.Stop s)))
+  pub suspend_pends : (s : ℕ) (r : Rec) → o ≡ Some r → r.control.status ≡ Running → P (Suspend s) (Changed id (Pended (pending.Suspend s)))
+  pub stopped : (s : ℕ) (r : Rec) → o ≡ Some r → r.control.status ≡ Held → P (Stop s) (Changed id (Quit Stopped))
+  pub aborted : (r : Rec) → o ≡ Some r → P Abort (Changed id (Quit Aborted))
+  pub resumed : (r : Rec) → o ≡ Some r → r.control.status ≡ Held → P Resume (Changed id Resumed)
+  pub stepped : (pool : List ℕ) (outcome : InstructionOutcome) (r : Rec) → o ≡ Some r → r.control.status ≡ Running → outcome_in r pool ≡ Some outcome → P (Step pool) (Changed id (Stepped outcome))
 
 each_load : (P : Effect → Type 0) (id : ℕ) (full : Bool) (result : Result (List (Option Line)) LoadFault) (image : List ℕ) → ((failure : StartFailure) → P (Kept (Failed failure))) → (full ≡ false → P (Loaded id image)) → P (effect_of_load full result id image)
-each_load P id true result image failed loaded = failed TableFull
+each_load P id true image result failed loaded = failed TableFull
 each_load P id false (Ok lines) image failed loaded = loaded refl
 each_load P id false (Err fault) image failed loaded = failed (bad_code fault)
 
@@ -31,19 +42,59 @@ each_step : (P : Effect → Type 0) (id : ℕ) (o : Option InstructionOutcome) �
 each_step P id (Some outcome) failed stepped = stepped outcome refl
 each_step P id None failed stepped = failed
 
-each_of : (P : Directive → Effect → Type 0) (id : ℕ) (r : Rec) (full : Bool) → Holds P id (Some r) full → (d : Directive) (s : Status) → r.control.status ≡ s → P d (effect_by (transition d (Some s)) id (Some r) full)
-each_of P id r full h (Load image) Inactive is = h.failed (Load image) AlreadyLoaded
-each_of P id r full h (Load image) Running is = h.failed (Load image) AlreadyLoaded
-each_of P id r full h (Load image) Held is = h.failed (Load image) AlreadyLoaded
-each_of P id r full h (Activate arguments) Inactive is = h.started arguments r refl is
-each_of P id r full h (Activate arguments) Running is = h.failed (Activate arguments) NotInactive
-each_of P id r full h (Activate arguments) Held is = h.failed (Activate arguments) NotInactive
-each_of P id r full h Step Inactive is = h.failed Step NotRunning
-each_of P id r full h Step Running is = each_step (P Step) id (outcome_of (one_step r.image r.machine)) (h.failed Step NotRunning) (λ outcome e. h.stepped outcome r refl is e)
-each_of P id r full h Step Held is = h.failed Step NotRunning
+each_sent : (P : Effect → Type 0) (id : ℕ) (o : Option Rec) (full : Bool) (words : List ℕ) (there : ℕ) → P (Kept (Failed MailboxFull)) → (there + length words ≤ MAX_MAILBOX_WORDS → P (Changed id (Sent words))) → P (effect_by (sent words there) id o full)
+each_sent P id o full words there failed fits =
+    elim (nat_le (there + length words) MAX_MAILBOX_WORDS) as (λ b. nat_le (there + length words) MAX_MAILBOX_WORDS ≡ b → P (effect_by (cond b (Changes (Sent words)) (Fails MailboxFull)) id o full)) [
+      | true ↦ λ is. fits (grind (arith, nat_tests))
+      | false ↦ λ is. failed
+    ] refl
+
+module _ (P : Directive → Effect → Type 0) (id : ℕ) (r : Rec) (full : Bool) (h : Holds P id (Some r) full) where
+  each_pending : (s : ℕ) (p : Pending) (there : ℕ) → r.control.status ≡ Running → P (Suspend s) (effect_by (transition (Suspend s) (Some Running) p there) id (Some r) full)
+  each_pending s pending.Nothing there is = h.suspend_pends s r refl is
+  each_pending s (pending.Suspend t) there is = h.suspend_pends s r refl is
+  each_pending s (pending.Stop t) there is = h.failed (Suspend s) StopPending
+
+  each_words : (words : List ℕ) → P (Communicate words) (effect_by (sent words (length r.mailbox)) id (Some r) full)
+  each_words words = each_sent (P (Communicate words)) id (Some r) full words (length r.mailbox) (h.failed (Communicate words) MailboxFull) (λ fits. h.sends words r refl fits)
+
+  each_of : (d : Directive) (s : Status) → r.control.status ≡ s → P d (effect_by (transition d (Some s) r.control.pending (length r.mailbox)) id (Some r) full)
+  each_of (Load image) Inactive is = h.failed (Load image) AlreadyLoaded
+  each_of (Load image) Running is = h.failed (Load image) AlreadyLoaded
+  each_of (Load image) Held is = h.failed (Load image) AlreadyLoaded
+  each_of Unload Inactive is = h.unloaded r refl is
+  each_of Unload Running is = h.failed Unload NotInactive
+  each_of Unload Held is = h.failed Unload NotInactive
+  each_of (Activate arguments) Inactive is = h.started arguments r refl is
+  each_of (Activate arguments) Running is = h.failed (Activate arguments) NotInactive
+  each_of (Activate arguments) Held is = h.failed (Activate arguments) NotInactive
+  each_of (Stop s) Inactive is = h.failed (Stop s) NotActive
+  each_of (Stop s) Running is = h.stop_pends s r refl is
+  each_of (Stop s) Held is = h.stopped s r refl is
+  each_of (Suspend s) Inactive is = h.failed (Suspend s) NotRunning
+  each_of (Suspend s) Running is = each_pending s r.control.pending (length r.mailbox) is
+  each_of (Suspend s) Held is = h.failed (Suspend s) NotRunning
+  each_of Resume Inactive is = h.failed Resume NotHeld
+  each_of Resume Running is = h.failed Resume NotHeld
+  each_of Resume Held is = h.resumed r refl is
+  each_of Abort Inactive is = h.failed Abort NotActive
+  each_of Abort Running is = h.aborted r refl
+  each_of Abort Held is = h.aborted r refl
+  each_of (Communicate words) Inactive is = h.failed (Communicate words) NotActive
+  each_of (Communicate words) Running is = each_words words
+  each_of (Communicate words) Held is = each_words words
+  each_of (Step pool) Inactive is = h.failed (Step pool) NotRunning
+  each_of (Step pool) Running is = each_step (P (Step pool)) id (outcome_in r pool) (h.failed (Step pool) NotRunning) (λ outcome e. h.stepped pool outcome r refl is e)
+  each_of (Step pool) Held is = h.failed (Step pool) NotRunning
 
 pub each : (P : Directive → Effect → Type 0) (id : ℕ) (o : Option Rec) (full : Bool) → Holds P id o full → (d : Directive) → P d (effect_on d id o full)
-each P id None full h (Load image) = each_load (P (Load image)) id full (load_result image) image (h.failed (Load image)) (h.loaded image refl)
-each P id None full h (Activate arguments) = h.failed (Activate arguments) NotLoaded
-each P id None full h Step = h.failed Step NotLoaded
 each P id (Some r) full h d = each_of P id r full h d r.control.status refl
+each P id None full h (Load image) = each_load (P (Load image)) id full (load_result image) image (h.failed (Load image)) (h.loaded image refl)
+each P id None full h Unload = h.failed Unload NotLoaded
+each P id None full h (Activate arguments) = h.failed (Activate arguments) NotLoaded
+each P id None full h (Stop s) = h.failed (Stop s) NotLoaded
+each P id None full h (Suspend s) = h.failed (Suspend s) NotLoaded
+each P id None full h Resume = h.failed Resume NotLoaded
+each P id None full h Abort = h.failed Abort NotLoaded
+each P id None full h (Communicate words) = h.failed (Communicate words) NotLoaded
+each P id None full h (Step pool) = h.failed (Step pool) NotLoaded

@@ -1,15 +1,16 @@
 -- What every directive does to the records, and what it leaves.
-use Rattle.std.proofs.Common.{◌≡◌, ◌≢◌, ℕ, Bool, true, false, cond, is_some, List, [], Option, Some, None, inl, inr, refl, sym, ap, ◌∙◌, arith}
+use Rattle.std.proofs.Common.{◌≡◌, ◌≢◌, ℕ, Bool, true, false, cond, is_some, List, [], Option, Some, None, inl, inr, refl, sym, ap, ◌∙◌, arith, length}
 use Rattle.std.specs.Prelude.{◌⊎◌}
 use Rattle.std.specs.Ordering.{eq_by_cmp, nat_cmp}
-use Rattle.std.specs.FinMap.{get, insert, get-insert}
+use Rattle.std.specs.FinMap.{get, insert, remove, get-insert, get-remove}
 use Rattle.std.specs.Cmp.{unsigned_tied, nat_cmp_total}
+use Rattle.std.proofs.lemmas.Bool.{eqb-true}
 use Rattle.std.proofs.lemmas.Bool.Decides.{nat_tests}
 use Rattle.obcp_types.specs.declared.status.Status.{Status}
 use Rattle.obcp_types.specs.declared.status.Status.TheVariants.{Inactive, Running, Held}
 use Rattle.bpf_step.specs.Machine.{State, started}
 use Rattle.ocp_table.specs.Records.{Rec, Records}
-use Rattle.ocp_table.specs.Effects.{Change, Started, record_by, new_record, with_change, records_by, failure_of}
+use Rattle.ocp_table.specs.Effects.{Change, Started, Sent, Resumed, record_by, new_record, with_change, records_by, failure_of}
 use Rattle.ocp_table.specs.RequestTable.{Directive, Step, transition}
 use Rattle.ocp_table.specs.Deciding.{effect_by, effect_on, effect_in, is_full, status_of}
 use Rattle.ocp_table.specs.Laws.{machine_of, IsKeptOrStarted, IsRequest}
@@ -24,23 +25,31 @@ with_change-other m id c (Some r) other apart = get-insert nat_cmp_total m id (r
 pub others_stay : (d : Directive) (id other : ℕ) (m : Records) → other ≢ id → get (records_by (effect_in d id m) m) other ≡ get m other
 others_stay d id other m differs =
     let apart : eq_by_cmp nat_cmp other id ≡ false = unsigned_tied other id ∙ grind (arith, nat_tests, differs) in
+    let by : (c : Change) → get (with_change (get m id) id c m) other ≡ get m other = λ c. with_change-other m id c (get m id) other apart in
     each (λ d e. get (records_by e m) other ≡ get m other) id (get m id) (is_full m) (record {
       failed = λ d failure. refl;
       loaded = λ image absent room. get-insert nat_cmp_total m id (new_record image) other ∙ ap (λ b. cond b (Some (new_record image)) (get m other)) apart;
-      started = λ arguments r here is. with_change-other m id (Started arguments) (get m id) other apart;
-      stepped = λ outcome r here is done. with_change-other m id _ (get m id) other apart;
+      unloaded = λ r here is. get-remove nat_cmp_total m id other ∙ ap (λ b. cond b None (get m other)) apart;
+      started = λ arguments r here is. by (Started arguments);
+      sends = λ words r here fits. by (Sent words);
+      stop_pends = λ s r here is. by _;
+      suspend_pends = λ s r here is. by _;
+      stopped = λ s r here is. by _;
+      aborted = λ r here. by _;
+      resumed = λ r here is. by Resumed;
+      stepped = λ pool outcome r here is done. by _;
     }) d
 
 -- ---- only a running procedure steps
 
-still_of : (r : Rec) (id : ℕ) (full : Bool) (s : Status) → s ≢ Running → is_some (failure_of (effect_by (transition Step (Some s)) id (Some r) full)) ≡ true
-still_of r id full Inactive still = refl
-still_of r id full Running still = absurd (still refl)
-still_of r id full Held still = refl
+still_of : (r : Rec) (id : ℕ) (full : Bool) (pool : List ℕ) (s : Status) → s ≢ Running → is_some (failure_of (effect_by (transition (Step pool) (Some s) r.control.pending (length r.mailbox)) id (Some r) full)) ≡ true
+still_of r id full pool Inactive still = refl
+still_of r id full pool Running still = absurd (still refl)
+still_of r id full pool Held still = refl
 
-pub still_fails : (id : ℕ) (o : Option Rec) (full : Bool) → status_of o ≢ Some Running → is_some (failure_of (effect_on Step id o full)) ≡ true
-still_fails id None full still = refl
-still_fails id (Some r) full still = still_of r id full r.control.status (λ is. still (ap Some is))
+pub still_fails : (id : ℕ) (o : Option Rec) (full : Bool) (pool : List ℕ) → status_of o ≢ Some Running → is_some (failure_of (effect_on (Step pool) id o full)) ≡ true
+still_fails id None full pool still = refl
+still_fails id (Some r) full pool still = still_of r id full pool r.control.status (λ is. still (ap Some is))
 
 -- ---- a request keeps or starts machines
 
@@ -51,6 +60,9 @@ module _ (m : Records) (q : ℕ) where
   same : IsFit m
   same machine is = inl is
 
+  of_some : (a b : State) → Some a ≡ Some b → a ≡ b
+  of_some a b e = cc
+
   -- a record that is put in has a machine that was started
   put_started : (id : ℕ) (r : Rec) (arguments : List ℕ) → r.machine ≡ started arguments → IsFit (insert m id r)
   put_started id r arguments start machine is =
@@ -58,19 +70,43 @@ module _ (m : Records) (q : ℕ) where
         | true ↦ λ here. inr (arguments, sym (of_some r.machine machine here) ∙ start)
         | false ↦ λ here. inl here
       ] (sym (ap machine_of (get-insert nat_cmp_total m id r q)) ∙ is)
-    where
-      of_some : (a b : State) → Some a ≡ Some b → a ≡ b
-      of_some a b e = cc
 
   start_there : (id : ℕ) (arguments : List ℕ) (o : Option Rec) → IsFit (with_change o id (Started arguments) m)
   start_there id arguments None = same
   start_there id arguments (Some r) = put_started id (record_by (Started arguments) r) arguments refl
 
+  -- a record that is put in has the machine that was there
+  put_same : (id : ℕ) (r new : Rec) → get m id ≡ Some r → new.machine ≡ r.machine → IsFit (insert m id new)
+  put_same id r new here kept machine is =
+      elim (eq_by_cmp nat_cmp q id) as (λ b. eq_by_cmp nat_cmp q id ≡ b → machine_of (cond b (Some new) (get m q)) ≡ Some machine → (machine_of (get m q) ≡ Some machine) ⊎ ((a : List ℕ) × (machine ≡ started a))) [
+        | true ↦ λ at now. inl (ap (λ k. machine_of (get m k)) (eqb-true q id (sym (unsigned_tied q id) ∙ at)) ∙ ap machine_of here ∙ ap Some (sym kept) ∙ now)
+        | false ↦ λ at now. inl now
+      ] refl (sym (ap machine_of (get-insert nat_cmp_total m id new q)) ∙ is)
+
+  keep_there : (id : ℕ) (c : Change) → ((r : Rec) → (record_by c r).machine ≡ r.machine) → (o : Option Rec) → get m id ≡ o → IsFit (with_change o id c m)
+  keep_there id c kept None is = same
+  keep_there id c kept (Some r) is = put_same id r (record_by c r) is (kept r)
+
+  drop_there : (id : ℕ) → IsFit (remove m id)
+  drop_there id machine is =
+      elim (eq_by_cmp nat_cmp q id) as (λ b. machine_of (cond b None (get m q)) ≡ Some machine → (machine_of (get m q) ≡ Some machine) ⊎ ((a : List ℕ) × (machine ≡ started a))) [
+        | true ↦ λ gone. absurd (cc)
+        | false ↦ λ here. inl here
+      ] (sym (ap machine_of (get-remove nat_cmp_total m id q)) ∙ is)
+
   pub kept_or_started : (d : Directive) (id : ℕ) → IsRequest d → IsFit (records_by (effect_in d id m) m)
   kept_or_started d id asked =
+      let keeps : (c : Change) → ((r : Rec) → (record_by c r).machine ≡ r.machine) → IsFit (with_change (get m id) id c m) = λ c kept. keep_there id c kept (get m id) refl in
       each (λ d e. IsRequest d → IsFit (records_by e m)) id (get m id) (is_full m) (record {
         failed = λ d failure a. same;
         loaded = λ image absent room a. put_started id (new_record image) [] refl;
+        unloaded = λ r here is a. drop_there id;
         started = λ arguments r here is a. start_there id arguments (get m id);
-        stepped = λ outcome r here is done a. absurd a;
+        sends = λ words r here fits a. keeps (Sent words) (λ r. refl);
+        stop_pends = λ s r here is a. keeps _ (λ r. refl);
+        suspend_pends = λ s r here is a. keeps _ (λ r. refl);
+        stopped = λ s r here is a. keeps _ (λ r. refl);
+        aborted = λ r here a. keeps _ (λ r. refl);
+        resumed = λ r here is a. keeps Resumed (λ r. refl);
+        stepped = λ pool outcome r here is done a. absurd a;
       }) d asked

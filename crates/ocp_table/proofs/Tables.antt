@@ -1,127 +1,226 @@
 -- What a directive does to the records, by the record that a look-up finds.
-use Rattle.std.proofs.Common.{◌≡◌, ℕ, ◌≤◌, ◌<◌, length, get_or, is_some, subst, Bool, true, false, Option, Some, None, cond, refl, sym, ap, ◌∙◌, arith}
-use Rattle.std.specs.Prelude.{IsSome, Ok, Err}
+use Rattle.std.proofs.Common.{◌≡◌, ℕ, ◌+◌, ◌≤◌, ◌<◌, length, get_or, is_some, subst, Bool, true, false, List, Option, Some, None, cond, refl, sym, ap, ◌∙◌, arith}
+use Rattle.std.specs.Prelude.{nat_le, IsSome}
 use Rattle.std.specs.FinMap as map
 use Rattle.slab.specs.Slab.{Slab, get, slab_len, with_value}
 use Rattle.obcp_types.specs.declared.status.Status.{Status}
 use Rattle.obcp_types.specs.declared.status.Status.TheVariants.{Inactive, Running, Held}
-use Rattle.obcp_types.specs.declared.failure.StartFailure.TheVariants.{NotLoaded}
-use Rattle.bpf_step.specs.Step.{one_step}
+use Rattle.obcp_types.specs.declared.failure.StartFailure.{StartFailure}
+use Rattle.obcp_types.specs.declared.failure.StartFailure.TheVariants.{NotLoaded, MailboxFull}
+use Rattle.ocp_pool.specs.declared.mailbox.TheConstants.{MAX_MAILBOX_WORDS}
+use Rattle.ocp_table.specs.declared.control.Pending.{Pending}
+use Rattle.ocp_table.specs.declared.control.Pending.TheVariants as pending
 use Rattle.ocp_table.specs.declared.table.TheConstants.{MAX_PROCEDURES}
 use Rattle.ocp_table.specs.declared.directive.Directive as D
 use Rattle.ocp_table.specs.declared.directive.Directive.TheVariants as directive
-use Rattle.ocp_table.specs.declared.answers.Done.TheVariants as done
 use Rattle.ocp_table.specs.declared.answers.InstructionOutcome.{InstructionOutcome}
 use Rattle.ocp_table.specs.Records.{Rec, Records}
-use Rattle.ocp_table.specs.Effects.{Effect, Loaded, Changed, Kept, record_after, records_by, with_change, failure_of}
-use Rattle.ocp_table.specs.RequestTable.{Step, transition, failure_by}
-use Rattle.ocp_table.specs.Deciding.{outcome_of, effect_of_step, effect_by, effect_on, effect_in, is_full, status_of}
-use Rattle.ocp_table.specs.Shown.{directive_of, Answers}
+use Rattle.ocp_table.specs.Effects.{Effect, Loaded, Unloaded, Changed, Kept, Sent, Failed, record_after, records_by, with_change, failure_of}
+use Rattle.ocp_table.specs.RequestTable.{Directive, Unload, Step, Decision, Loads, Unloads, Changes, Steps, Fails, sent, transition, failure_by}
+use Rattle.ocp_table.specs.Deciding.{outcome_in, effect_of_step, decision_on, effect_by, effect_on, effect_in, is_full}
+use Rattle.ocp_table.specs.Shown.{directive_of}
 use Rattle.ocp_table.specs.Mirror.Contents.{IsSound}
 use Rattle.std.proofs.lemmas.Bool.Decides.{nat_tests}
 use Rattle.std.proofs.lemmas.List.Sums.{sum_by-set}
 use Rattle.slab.proofs.SlabLemmas.{ContainsKey-within}
 use Rattle.ocp_table.proofs.ContentsLemmas.{insert-same, IsDistinct-with_value}
 
+-- ---- requests
+
+-- what a request comes to
+abbrev IsOfRequest : Decision → Type 0
+IsOfRequest (Loads image) = ⊥
+IsOfRequest Unloads = ⊥
+IsOfRequest (Steps pool) = ⊥
+IsOfRequest decision = Unit {0}
+
+of_sent : (words : List ℕ) (there : ℕ) → IsOfRequest (sent words there)
+of_sent words there =
+    elim (nat_le (there + length words) MAX_MAILBOX_WORDS) as (λ b. IsOfRequest (cond b (Changes (Sent words)) (Fails MailboxFull))) [
+      | true ↦ tt
+      | false ↦ tt
+    ]
+
+of_request : (d : D.Directive) (s : Status) (p : Pending) (there : ℕ) → IsOfRequest (transition (directive_of d) (Some s) p there)
+of_request (directive.Activate arguments) Inactive p there = tt
+of_request (directive.Activate arguments) Running p there = tt
+of_request (directive.Activate arguments) Held p there = tt
+of_request (directive.Stop s) Inactive p there = tt
+of_request (directive.Stop s) Running p there = tt
+of_request (directive.Stop s) Held p there = tt
+of_request (directive.Suspend s) Inactive p there = tt
+of_request (directive.Suspend s) Running pending.Nothing there = tt
+of_request (directive.Suspend s) Running (pending.Stop t) there = tt
+of_request (directive.Suspend s) Running (pending.Suspend t) there = tt
+of_request (directive.Suspend s) Held p there = tt
+of_request directive.Resume Inactive p there = tt
+of_request directive.Resume Running p there = tt
+of_request directive.Resume Held p there = tt
+of_request directive.Abort Inactive p there = tt
+of_request directive.Abort Running p there = tt
+of_request directive.Abort Held p there = tt
+of_request (directive.Communicate words) Inactive p there = tt
+of_request (directive.Communicate words) Running p there = of_sent words.now there
+of_request (directive.Communicate words) Held p there = of_sent words.now there
+
+absent : (d : D.Directive) → decision_on (directive_of d) None ≡ Fails NotLoaded
+absent (directive.Activate arguments) = refl
+absent (directive.Stop s) = refl
+absent (directive.Suspend s) = refl
+absent directive.Resume = refl
+absent directive.Abort = refl
+absent (directive.Communicate words) = refl
+
 -- ---- no procedure has the id
 
-pub absent-answers : (d : D.Directive) (id : ℕ) (full : Bool) (o : Option Rec) → o ≡ None → Answers (Err NotLoaded) (effect_on (directive_of d) id o full)
-absent-answers (directive.Activate arguments) id full None is = refl
-absent-answers directive.Step id full None is = refl
-absent-answers d id full (Some r) is = absurd (cc)
+pub absent-decision : (d : D.Directive) (o : Option Rec) → o ≡ None → decision_on (directive_of d) o ≡ Fails NotLoaded
+absent-decision d o is = ap (decision_on (directive_of d)) is ∙ absent d
 
-pub absent-records : (d : D.Directive) (id : ℕ) (full : Bool) (m : Records) (o : Option Rec) → o ≡ None → m ≡ records_by (effect_on (directive_of d) id o full) m
-absent-records (directive.Activate arguments) id full m None is = refl
-absent-records directive.Step id full m None is = refl
-absent-records d id full m (Some r) is = absurd (cc)
+pub absent-effect : (d : D.Directive) (id : ℕ) (m : Records) → map.get m id ≡ None → effect_in (directive_of d) id m ≡ Kept (Failed NotLoaded)
+absent-effect d id m is = ap (λ o. effect_on (directive_of d) id o (is_full m)) is ∙ ap (λ e. effect_by e id None (is_full m)) (absent d)
 
-pub absent-table : (d : D.Directive) (o : Option Rec) → o ≡ None → Some NotLoaded ≡ failure_by (transition (directive_of d) (status_of o))
-absent-table (directive.Activate arguments) None is = refl
-absent-table directive.Step None is = refl
-absent-table d (Some r) is = absurd (cc)
+pub absent-step : (pool : List ℕ) (id : ℕ) (m : Records) → map.get m id ≡ None → effect_in (Step pool) id m ≡ Kept (Failed NotLoaded)
+absent-step pool id m is = ap (λ o. effect_on (Step pool) id o (is_full m)) is
 
-pub absent-effect : (d : D.Directive) (id : ℕ) (full : Bool) (o : Option Rec) → o ≡ None → Some NotLoaded ≡ failure_of (effect_on (directive_of d) id o full)
-absent-effect (directive.Activate arguments) id full None is = refl
-absent-effect directive.Step id full None is = refl
-absent-effect d id full (Some r) is = absurd (cc)
+pub absent-unload : (id : ℕ) (m : Records) → map.get m id ≡ None → effect_in Unload id m ≡ Kept (Failed NotLoaded)
+absent-unload id m is = ap (λ o. effect_on Unload id o (is_full m)) is
+
+-- whether the table is full is asked by a load alone
+abbrev IsNoLoad : Decision → Type 0
+IsNoLoad (Loads image) = ⊥
+IsNoLoad decision = Unit {0}
+
+no_load : (e : Decision) → IsOfRequest e → IsNoLoad e
+no_load (Loads image) h = h
+no_load (Steps pool) h = tt
+no_load Unloads h = tt
+no_load (Changes change) h = tt
+no_load (Fails failure) h = tt
+
+no_load-step : (pool : List ℕ) (s : Status) (p : Pending) (there : ℕ) → IsNoLoad (transition (Step pool) (Some s) p there)
+no_load-step pool Inactive p there = tt
+no_load-step pool Running p there = tt
+no_load-step pool Held p there = tt
+
+no_load-unload : (s : Status) (p : Pending) (there : ℕ) → IsNoLoad (transition Unload (Some s) p there)
+no_load-unload Inactive p there = tt
+no_load-unload Running p there = tt
+no_load-unload Held p there = tt
+
+same_room : (e : Decision) (id : ℕ) (o : Option Rec) (full : Bool) → IsNoLoad e → effect_by e id o true ≡ effect_by e id o full
+same_room (Loads image) id o full h = absurd h
+same_room Unloads id o full h = refl
+same_room (Changes change) id o full h = refl
+same_room (Steps pool) id o full h = refl
+same_room (Fails failure) id o full h = refl
+
+-- ---- an unload
+
+pub same_unload : (m : Records) (n id : ℕ) (r : Rec) → map.get m id ≡ Some r → n ≡ id → effect_on Unload n (Some r) true ≡ effect_in Unload id m
+same_unload m n id r here named =
+    ap (λ i. effect_on Unload i (Some r) true) named
+    ∙ same_room (decision_on Unload (Some r)) id (Some r) (is_full m) (no_load-unload r.control.status r.control.pending (length r.mailbox))
+    ∙ ap (λ o. effect_on Unload id o (is_full m)) (sym here)
+
+unload_of : (id : ℕ) (r : Rec) (s : Status) → None ≡ failure_by (transition Unload (Some s) r.control.pending (length r.mailbox)) → effect_by (transition Unload (Some s) r.control.pending (length r.mailbox)) id (Some r) true ≡ Unloaded id
+unload_of id r Inactive h = refl
+unload_of id r Running h = absurd (cc)
+unload_of id r Held h = absurd (cc)
+
+-- an unload that does not fail
+pub unloads : (id : ℕ) (r : Rec) → None ≡ failure_by (decision_on Unload (Some r)) → effect_on Unload id (Some r) true ≡ Unloaded id
+unloads id r h = unload_of id r r.control.status h
+
+unload_fails_of : (id : ℕ) (r : Rec) (f : StartFailure) (s : Status) → Some f ≡ failure_by (transition Unload (Some s) r.control.pending (length r.mailbox)) → effect_by (transition Unload (Some s) r.control.pending (length r.mailbox)) id (Some r) true ≡ Kept (Failed f)
+unload_fails_of id r f Inactive h = absurd (cc)
+unload_fails_of id r f Running h = cc
+unload_fails_of id r f Held h = cc
+
+-- and one that does
+pub unload_fails : (id : ℕ) (r : Rec) (f : StartFailure) → Some f ≡ failure_by (decision_on Unload (Some r)) → effect_on Unload id (Some r) true ≡ Kept (Failed f)
+unload_fails id r f h = unload_fails_of id r f r.control.status h
 
 -- ---- what is decided of a record that is there
 
--- whether the table is full is not asked
-room_of : (d : D.Directive) (id : ℕ) (r : Rec) (full : Bool) (s : Status) → effect_by (transition (directive_of d) (Some s)) id (Some r) true ≡ effect_by (transition (directive_of d) (Some s)) id (Some r) full
-room_of (directive.Activate arguments) id r full Inactive = refl
-room_of (directive.Activate arguments) id r full Running = refl
-room_of (directive.Activate arguments) id r full Held = refl
-room_of directive.Step id r full Inactive = refl
-room_of directive.Step id r full Running = refl
-room_of directive.Step id r full Held = refl
+same_for : (d : Directive) (m : Records) (n id : ℕ) (r : Rec) → IsNoLoad (decision_on d (Some r)) → map.get m id ≡ Some r → n ≡ id → effect_on d n (Some r) true ≡ effect_in d id m
+same_for d m n id r h here named =
+    ap (λ i. effect_on d i (Some r) true) named
+    ∙ same_room (decision_on d (Some r)) id (Some r) (is_full m) h
+    ∙ ap (λ o. effect_on d id o (is_full m)) (sym here)
+
+request_no_load : (d : D.Directive) (r : Rec) → IsNoLoad (decision_on (directive_of d) (Some r))
+request_no_load d r = no_load (decision_on (directive_of d) (Some r)) (of_request d r.control.status r.control.pending (length r.mailbox))
 
 pub same_effect : (d : D.Directive) (m : Records) (n id : ℕ) (r : Rec) → map.get m id ≡ Some r → n ≡ id → effect_on (directive_of d) n (Some r) true ≡ effect_in (directive_of d) id m
-same_effect d m n id r here named =
-    ap (λ i. effect_on (directive_of d) i (Some r) true) named
-    ∙ room_of d id r (is_full m) r.control.status
-    ∙ ap (λ o. effect_on (directive_of d) id o (is_full m)) (sym here)
+same_effect d m n id r here named = same_for (directive_of d) m n id r (request_no_load d r) here named
+
+pub same_step : (pool : List ℕ) (m : Records) (n id : ℕ) (r : Rec) → map.get m id ≡ Some r → n ≡ id → effect_on (Step pool) n (Some r) true ≡ effect_in (Step pool) id m
+same_step pool m n id r here named = same_for (Step pool) m n id r (no_load-step pool r.control.status r.control.pending (length r.mailbox)) here named
+
+-- the request table alone decides whether it fails
+table_decides : (e : Decision) (id : ℕ) (o : Option Rec) → IsOfRequest e → failure_by e ≡ failure_of (effect_by e id o true)
+table_decides (Loads image) id o h = absurd h
+table_decides Unloads id o h = absurd h
+table_decides (Changes change) id o h = refl
+table_decides (Steps pool) id o h = absurd h
+table_decides (Fails failure) id o h = refl
+
+pub decided_by_table : (d : D.Directive) (id : ℕ) (r : Rec) → failure_by (decision_on (directive_of d) (Some r)) ≡ failure_of (effect_on (directive_of d) id (Some r) true)
+decided_by_table d id r = table_decides (decision_on (directive_of d) (Some r)) id (Some r) (of_request d r.control.status r.control.pending (length r.mailbox))
 
 failure_of_step : (o : Option InstructionOutcome) (id : ℕ) → IsSome o → None ≡ failure_of (effect_of_step o id)
 failure_of_step (Some outcome) id is = refl
 failure_of_step None id is = absurd (cc)
 
--- the request table alone decides whether it fails
-table_decides : (d : D.Directive) (id : ℕ) (r : Rec) (s : Status) → IsSome (outcome_of (one_step r.image r.machine)) → failure_by (transition (directive_of d) (Some s)) ≡ failure_of (effect_by (transition (directive_of d) (Some s)) id (Some r) true)
-table_decides (directive.Activate arguments) id r Inactive able = refl
-table_decides (directive.Activate arguments) id r Running able = refl
-table_decides (directive.Activate arguments) id r Held able = refl
-table_decides directive.Step id r Inactive able = refl
-table_decides directive.Step id r Running able = failure_of_step (outcome_of (one_step r.image r.machine)) id able
-table_decides directive.Step id r Held able = refl
+step_decides : (pool : List ℕ) (id : ℕ) (r : Rec) (s : Status) → IsSome (outcome_in r pool) → failure_by (transition (Step pool) (Some s) r.control.pending (length r.mailbox)) ≡ failure_of (effect_by (transition (Step pool) (Some s) r.control.pending (length r.mailbox)) id (Some r) true)
+step_decides pool id r Inactive able = refl
+step_decides pool id r Running able = failure_of_step (outcome_in r pool) id able
+step_decides pool id r Held able = refl
 
-pub decided_by_table : (d : D.Directive) (id : ℕ) (r : Rec) → IsSome (outcome_of (one_step r.image r.machine)) → failure_by (transition (directive_of d) (Some r.control.status)) ≡ failure_of (effect_on (directive_of d) id (Some r) true)
-decided_by_table d id r able = table_decides d id r r.control.status able
+pub step_decided_by_table : (pool : List ℕ) (id : ℕ) (r : Rec) → IsSome (outcome_in r pool) → failure_by (decision_on (Step pool) (Some r)) ≡ failure_of (effect_on (Step pool) id (Some r) true)
+step_decided_by_table pool id r able = step_decides pool id r r.control.status able
 
 -- ---- what it changes
 
+-- a change of the record of this procedure, or none
 abbrev IsAbout : ℕ → Effect → Type 0
 IsAbout q (Loaded id image) = ⊥
+IsAbout q (Unloaded id) = ⊥
 IsAbout q (Changed id change) = id ≡ q
 IsAbout q (Kept why) = Unit {0}
+
+-- the record that is there, changed, is all that the effect changed
+pub records_by-held : (m : Records) (id : ℕ) (r : Rec) (e : Effect) → map.get m id ≡ Some r → IsAbout id e → map.insert m id (record_after e r) ≡ records_by e m
+records_by-held m id r (Loaded i image) here is = absurd is
+records_by-held m id r (Unloaded i) here is = absurd is
+records_by-held m id r (Changed i change) here is = sym (ap (λ k. with_change (map.get m k) k change m) is ∙ ap (λ o. with_change o id change m) here)
+records_by-held m id r (Kept why) here is = insert-same m id r here
+
+about_request : (e : Decision) (q : ℕ) (o : Option Rec) → IsOfRequest e → IsAbout q (effect_by e q o true)
+about_request (Loads image) q o h = absurd h
+about_request Unloads q o h = absurd h
+about_request (Changes change) q o h = refl
+about_request (Steps pool) q o h = absurd h
+about_request (Fails failure) q o h = tt
+
+pub records-after : (d : D.Directive) (m : Records) (n id : ℕ) (r new : Rec) → map.get m id ≡ Some r → n ≡ id → new ≡ record_after (effect_on (directive_of d) n (Some r) true) r → map.insert m id new ≡ records_by (effect_in (directive_of d) id m) m
+records-after d m n id r new here named is =
+    ap (map.insert m id) (is ∙ ap (λ e. record_after e r) (same_effect d m n id r here named))
+    ∙ records_by-held m id r (effect_in (directive_of d) id m) here (subst (IsAbout id) (same_effect d m id id r here refl) (about_request (decision_on (directive_of d) (Some r)) id (Some r) (of_request d r.control.status r.control.pending (length r.mailbox))))
 
 about_step : (q : ℕ) (o : Option InstructionOutcome) → IsAbout q (effect_of_step o q)
 about_step q (Some outcome) = refl
 about_step q None = tt
 
-about_of : (d : D.Directive) (q : ℕ) (r : Rec) (s : Status) → IsAbout q (effect_by (transition (directive_of d) (Some s)) q (Some r) true)
-about_of (directive.Activate arguments) q r Inactive = refl
-about_of (directive.Activate arguments) q r Running = tt
-about_of (directive.Activate arguments) q r Held = tt
-about_of directive.Step q r Inactive = tt
-about_of directive.Step q r Running = about_step q (outcome_of (one_step r.image r.machine))
-about_of directive.Step q r Held = tt
+about_step_of : (pool : List ℕ) (q : ℕ) (r : Rec) (s : Status) → IsAbout q (effect_by (transition (Step pool) (Some s) r.control.pending (length r.mailbox)) q (Some r) true)
+about_step_of pool q r Inactive = tt
+about_step_of pool q r Running = about_step q (outcome_in r pool)
+about_step_of pool q r Held = tt
 
--- the record that is there, changed, is all that the effect changed
-records_by-held : (m : Records) (id : ℕ) (r : Rec) (e : Effect) → map.get m id ≡ Some r → IsAbout id e → map.insert m id (record_after e r) ≡ records_by e m
-records_by-held m id r (Loaded i image) here is = absurd is
-records_by-held m id r (Changed i change) here is = sym (ap (λ k. with_change (map.get m k) k change m) is ∙ ap (λ o. with_change o id change m) here)
-records_by-held m id r (Kept why) here is = insert-same m id r here
-
-pub records-after : (d : D.Directive) (m : Records) (n id : ℕ) (r new : Rec) → map.get m id ≡ Some r → n ≡ id → new ≡ record_after (effect_on (directive_of d) n (Some r) true) r → map.insert m id new ≡ records_by (effect_in (directive_of d) id m) m
-records-after d m n id r new here named is =
-    ap (map.insert m id) (is ∙ ap (λ e. record_after e r) (same_effect d m n id r here named))
-    ∙ records_by-held m id r (effect_in (directive_of d) id m) here (subst (IsAbout id) (same_effect d m id id r here refl) (about_of d id r r.control.status))
-
--- ---- an instruction event is not answered as a start
-
-not_started_step : (o : Option InstructionOutcome) (id : ℕ) → Answers (Ok done.Started) (effect_of_step o id) → ⊥
-not_started_step (Some outcome) id h = h
-not_started_step None id h = h
-
-not_started_of : (id : ℕ) (r : Rec) (full : Bool) (s : Status) → Answers (Ok done.Started) (effect_by (transition Step (Some s)) id (Some r) full) → ⊥
-not_started_of id r full Inactive h = h
-not_started_of id r full Running h = not_started_step (outcome_of (one_step r.image r.machine)) id h
-not_started_of id r full Held h = h
-
-pub not_started : (id : ℕ) (o : Option Rec) (full : Bool) → Answers (Ok done.Started) (effect_on Step id o full) → ⊥
-not_started id None full h = h
-not_started id (Some r) full h = not_started_of id r full r.control.status h
+pub records_after_step : (pool : List ℕ) (m : Records) (n id : ℕ) (r new : Rec) → map.get m id ≡ Some r → n ≡ id → new ≡ record_after (effect_on (Step pool) n (Some r) true) r → map.insert m id new ≡ records_by (effect_in (Step pool) id m) m
+records_after_step pool m n id r new here named is =
+    ap (map.insert m id) (is ∙ ap (λ e. record_after e r) (same_step pool m n id r here named))
+    ∙ records_by-held m id r (effect_in (Step pool) id m) here (subst (IsAbout id) (same_step pool m id id r here refl) (about_step_of pool id r r.control.status))
 
 -- ---- the slab
 

@@ -1,5 +1,6 @@
 -- What effect a directive has, by the request table, the record of its procedure, and whether the table is full.
-use Rattle.std.specs.Prelude.{ℕ, Bool, true, false, List, Option, Some, None, Result, Ok, Err, nat_le}
+use Rattle.std.specs.Prelude.{ℕ, ◌==◌, Bool, true, false, if◌then◌else◌, List, length, Option, Some, None, Result, Ok, Err, nat_le}
+use Rattle.std.specs.List.{list_any}
 use Rattle.std.specs.FinMap.{get, len}
 use Rattle.bpf_types.specs.declared.line.Line.{Line}
 use Rattle.obcp_types.specs.declared.status.Status.{Status}
@@ -9,14 +10,20 @@ use Rattle.ocp_loader.specs.declared.fault.LoadFault.{LoadFault}
 use Rattle.ocp_loader.specs.FaultNumbers.{number_of, slot_of}
 use Rattle.ocp_loader.specs.LoadResult.{load_result}
 use Rattle.bpf_step.specs.declared.answer.Need.TheVariants as need
-use Rattle.bpf_step.specs.Machine.{Outcome, Next, Needs, NoInstruction, fault_number}
+use Rattle.bpf_step.specs.Machine.{State, Outcome, Next, Needs, NoInstruction, read, fault_number}
 use Rattle.bpf_step.specs.Step.{one_step}
+use Rattle.ocp_pool.specs.declared.call.Called.{Called as Call}
+use Rattle.ocp_pool.specs.declared.call.PoolFault.TheVariants.{BadPoolIndex}
+use Rattle.ocp_pool.specs.Call.{engine_call}
+use Rattle.ocp_pool.specs.Call as pool
 use Rattle.ocp_table.specs.declared.table.TheConstants.{MAX_PROCEDURES}
+use Rattle.ocp_table.specs.declared.control.Pending.{Pending}
+use Rattle.ocp_table.specs.declared.control.Pending.TheVariants as pending
 use Rattle.ocp_table.specs.declared.answers.InstructionOutcome.{InstructionOutcome}
-use Rattle.ocp_table.specs.declared.answers.InstructionOutcome.TheVariants.{Ran, Ended, Faulted}
+use Rattle.ocp_table.specs.declared.answers.InstructionOutcome.TheVariants.{Broke, Ran, Called, Ended, Faulted}
 use Rattle.ocp_table.specs.Records.{Rec, Records}
-use Rattle.ocp_table.specs.Effects.{Effect, Loaded, Changed, Kept, Stepped, Failed}
-use Rattle.ocp_table.specs.RequestTable.{Directive, Decision, Loads, Changes, Steps, Fails, transition}
+use Rattle.ocp_table.specs.Effects.{Effect, Loaded, Unloaded, Changed, Kept, Stepped, Failed}
+use Rattle.ocp_table.specs.RequestTable.{Directive, Decision, Loads, Unloads, Changes, Steps, Fails, transition}
 
 -- ---- an image is loaded
 
@@ -33,20 +40,36 @@ effect_of_load true result id image = Kept (Failed TableFull)
 effect_of_load false (Ok lines) id image = Loaded id image
 effect_of_load false (Err fault) id image = Kept (Failed (bad_code fault))
 
--- ---- an instruction is done
+-- ---- an instruction event
 
--- what the outcome of a machine is for its procedure. A place without an instruction and a numbered call have none: no
--- procedure of a table stands there, since they do not come in an image that may be run.
-abbrev pub outcome_of : Outcome → Option InstructionOutcome
-outcome_of (Next s) = Some Ran
-outcome_of (Needs need.LastExit) = Some Ended
-outcome_of (Needs (need.Fault fault)) = Some (Faulted (fault_number fault))
-outcome_of (Needs (need.Call number)) = None
-outcome_of NoInstruction = None
+-- what an engine call is for its procedure: one that finds no word of the pool is a fault
+abbrev pub outcome_of_call : Option Call → InstructionOutcome
+outcome_of_call (Some call) = Called call
+outcome_of_call None = Faulted (pool.fault_number BadPoolIndex)
 
-abbrev pub outcome_at : Option Rec → Option InstructionOutcome
-outcome_at None = None
-outcome_at (Some r) = outcome_of (one_step r.image r.machine)
+-- what the outcome of a machine is for its procedure. A place without an instruction has none: no procedure of a table
+-- stands there, since it does not come in an image that may be run.
+abbrev pub outcome_of : Outcome → State → List ℕ → List ℕ → Option InstructionOutcome
+outcome_of (Next s) machine pool mailbox = Some Ran
+outcome_of (Needs need.LastExit) machine pool mailbox = Some Ended
+outcome_of (Needs (need.Fault fault)) machine pool mailbox = Some (Faulted (fault_number fault))
+outcome_of (Needs (need.Call number)) machine pool mailbox =
+    Some (outcome_of_call (engine_call number (read machine 1) (read machine 2) pool mailbox))
+outcome_of NoInstruction machine pool mailbox = None
+
+-- a breakpoint stands at the place, and the pass flag is off
+abbrev pub breaks_at : Bool → List ℕ → ℕ → Bool
+breaks_at true breakpoints place = false
+breaks_at false breakpoints place = list_any (λ at. at == place) breakpoints
+
+abbrev pub outcome_in : Rec → List ℕ → Option InstructionOutcome
+outcome_in r pool =
+    if breaks_at r.control.pass r.breakpoints r.machine.place then Some Broke
+    else outcome_of (one_step r.image r.machine) r.machine pool r.mailbox
+
+abbrev pub outcome_at : Option Rec → List ℕ → Option InstructionOutcome
+outcome_at None pool = None
+outcome_at (Some r) pool = outcome_in r pool
 
 -- where there is none the procedure does not run
 abbrev pub effect_of_step : Option InstructionOutcome → ℕ → Effect
@@ -55,19 +78,32 @@ effect_of_step None id = Kept (Failed NotRunning)
 
 -- ---- a directive
 
+-- what the request table asks of a record
 abbrev pub status_of : Option Rec → Option Status
 status_of None = None
 status_of (Some r) = Some r.control.status
 
+abbrev pub pending_of : Option Rec → Pending
+pending_of None = pending.Nothing
+pending_of (Some r) = r.control.pending
+
+abbrev pub words_of : Option Rec → ℕ
+words_of None = 0
+words_of (Some r) = length r.mailbox
+
+abbrev pub decision_on : Directive → Option Rec → Decision
+decision_on directive o = transition directive (status_of o) (pending_of o) (words_of o)
+
 abbrev pub effect_by : Decision → ℕ → Option Rec → Bool → Effect
 effect_by (Loads image) id o full = effect_of_load full (load_result image) id image
+effect_by Unloads id o full = Unloaded id
 effect_by (Changes change) id o full = Changed id change
-effect_by Steps id o full = effect_of_step (outcome_at o) id
+effect_by (Steps pool) id o full = effect_of_step (outcome_at o pool) id
 effect_by (Fails failure) id o full = Kept (Failed failure)
 
 -- by the record of the procedure, where it is loaded
 abbrev pub effect_on : Directive → ℕ → Option Rec → Bool → Effect
-effect_on directive id o full = effect_by (transition directive (status_of o)) id o full
+effect_on directive id o full = effect_by (decision_on directive o) id o full
 
 -- in these records
 abbrev pub effect_in : Directive → ℕ → Records → Effect

@@ -1,24 +1,35 @@
 -- What an event does to the records, with all values that it writes. Each part of a record follows from it by cases.
-use Rattle.std.specs.Prelude.{ℕ, List, [], Option, Some, None, Result, Ok, Err}
-use Rattle.std.specs.FinMap.{get, insert}
+use Rattle.std.specs.Prelude.{ℕ, ◌==◌, ◌||◌, Bool, true, false, if◌then◌else◌, List, [], ◌++◌, Option, Some, None, Result, Ok, Err}
+use Rattle.std.specs.FinMap.{get, insert, remove}
 use Rattle.obcp_types.specs.declared.failure.StartFailure.{StartFailure}
 use Rattle.obcp_types.specs.declared.failure.StartFailure.TheVariants as failure
-use Rattle.obcp_types.specs.declared.status.Status.TheVariants.{Inactive, Running}
+use Rattle.obcp_types.specs.declared.status.Status.TheVariants.{Inactive, Running, Held}
 use Rattle.bpf_step.specs.Machine.{State, Outcome, Next, Needs, NoInstruction}
 use Rattle.bpf_step.specs.Machine.{started}
 use Rattle.bpf_step.specs.Step.{one_step}
+use Rattle.bpf_step.specs.Calls.{state_after_engine_call}
+use Rattle.ocp_pool.specs.declared.call.Called.{Called as Call}
+use Rattle.ocp_pool.specs.declared.call.Called.TheVariants as call
+use Rattle.ocp_pool.specs.Call.{r0_of, r1_of, pool_after, mailbox_after}
 use Rattle.ocp_table.specs.declared.control.Control.{Control}
 use Rattle.ocp_table.specs.declared.control.Cause.{Cause}
 use Rattle.ocp_table.specs.declared.control.Cause.TheVariants as cause
+use Rattle.ocp_table.specs.declared.control.Pending.{Pending}
+use Rattle.ocp_table.specs.declared.control.Pending.TheVariants as pending
 use Rattle.ocp_table.specs.declared.answers.InstructionOutcome.{InstructionOutcome}
-use Rattle.ocp_table.specs.declared.answers.InstructionOutcome.TheVariants.{Ran, Ended, Faulted}
+use Rattle.ocp_table.specs.declared.answers.InstructionOutcome.TheVariants.{Broke, Ran, Called, Ended, Faulted}
 use Rattle.ocp_table.specs.declared.answers.StepOutcome.{StepOutcome}
 use Rattle.ocp_table.specs.declared.answers.StepOutcome.TheVariants as step
 use Rattle.ocp_table.specs.Records.{Rec, Records}
 
--- what an event does to the record of its procedure
+-- what an event does to the record of its procedure: it is started with arguments, sent words, a stop or suspend becomes
+-- pending, it is made inactive, it runs on, or an instruction event is done
 pub data Change : Type 0 where
   Started : List ℕ → Change
+  Sent : List ℕ → Change
+  Pended : Pending → Change
+  Quit : Cause → Change
+  Resumed : Change
   Stepped : InstructionOutcome → Change
 
 -- why an event leaves all records: nothing was asked of a procedure, or what was asked failed
@@ -28,6 +39,7 @@ pub data Why : Type 0 where
 
 pub data Effect : Type 0 where
   Loaded : ℕ → List ℕ → Effect
+  Unloaded : ℕ → Effect
   Changed : ℕ → Change → Effect
   Kept : Why → Effect
 
@@ -41,27 +53,71 @@ machine_after NoInstruction m = m
 
 abbrev pub machine_by_outcome : InstructionOutcome → List ℕ → State → State
 machine_by_outcome Ran image m = machine_after (one_step image m) m
-machine_by_outcome Ended image m = m
-machine_by_outcome (Faulted number) image m = m
+machine_by_outcome (Called call) image m = state_after_engine_call m (r0_of call) (r1_of call)
+machine_by_outcome outcome image m = m
 
 abbrev pub machine_by : Change → List ℕ → State → State
 machine_by (Started arguments) image m = started arguments
 machine_by (Stepped outcome) image m = machine_by_outcome outcome image m
+machine_by change image m = m
 
--- the control of a running procedure, and of one that became inactive
+abbrev pub mailbox_by_outcome : InstructionOutcome → List ℕ → List ℕ
+mailbox_by_outcome (Called call) mailbox = mailbox_after call mailbox
+mailbox_by_outcome outcome mailbox = mailbox
+
+abbrev pub mailbox_by : Change → List ℕ → List ℕ
+mailbox_by (Started arguments) mailbox = []
+mailbox_by (Sent words) mailbox = mailbox ++ words
+mailbox_by (Stepped outcome) mailbox = mailbox_by_outcome outcome mailbox
+mailbox_by change mailbox = mailbox
+
+-- the control of a procedure that was started, and of one that became inactive: nothing is pending
 abbrev pub running : Control
-running = record { status = Running; cause = cause.Nothing }
+running =
+    record { status = Running; pending = pending.Nothing; pass = false; cause = cause.Nothing }
 
 abbrev pub inactive : Cause → Control
-inactive cause = record { status = Inactive; cause = cause }
+inactive cause =
+    record { status = Inactive; pending = pending.Nothing; pass = false; cause = cause }
+
+-- a procedure that becomes held: at a breakpoint what is pending stays, at the end of a step it is done
+abbrev pub held : Pending → Control → Control
+held pending c = record { status = Held; pending = pending; pass = false; cause = c.cause }
+
+-- an instruction was done: the pass flag goes off
+abbrev pub passed : Control → Control
+passed c = record { status = c.status; pending = c.pending; pass = false; cause = c.cause }
+
+-- a pending stop or suspend at the end of any step (0) or of this one is done when a step ends
+abbrev pub matches : ℕ → ℕ → Bool
+matches wanted step = (wanted == 0) || (wanted == step)
+
+-- the end of a step
+abbrev pub control_at_step_end : Pending → ℕ → Control → Control
+control_at_step_end pending.Nothing k c = passed c
+control_at_step_end (pending.Stop s) k c = if matches s k then inactive cause.Stopped else passed c
+control_at_step_end (pending.Suspend s) k c =
+    if matches s k then held pending.Nothing c else passed c
+
+abbrev pub control_by_call : Call → Control → Control
+control_by_call (call.StepEnd k) c = control_at_step_end c.pending k c
+control_by_call other c = passed c
 
 abbrev pub control_by_outcome : InstructionOutcome → Control → Control
-control_by_outcome Ran c = c
+control_by_outcome Broke c = held c.pending c
+control_by_outcome Ran c = passed c
+control_by_outcome (Called call) c = control_by_call call c
 control_by_outcome Ended c = inactive cause.Exited
 control_by_outcome (Faulted number) c = inactive (cause.Fault number)
 
 abbrev pub control_by : Change → Control → Control
 control_by (Started arguments) c = running
+control_by (Sent words) c = c
+control_by (Pended pending) c =
+    record { status = c.status; pending = pending; pass = c.pass; cause = c.cause }
+control_by (Quit cause) c = inactive cause
+control_by Resumed c =
+    record { status = Running; pending = c.pending; pass = true; cause = c.cause }
 control_by (Stepped outcome) c = control_by_outcome outcome c
 
 -- ---- records after an effect
@@ -70,18 +126,27 @@ abbrev pub record_by : Change → Rec → Rec
 record_by change r = record {
   image = r.image;
   machine = machine_by change r.image r.machine;
+  mailbox = mailbox_by change r.mailbox;
   control = control_by change r.control;
+  breakpoints = r.breakpoints;
+  traced = r.traced;
 }
 
 -- a procedure that was loaded
 abbrev pub new_record : List ℕ → Rec
-new_record image = record { image = image; machine = started []; control = inactive cause.Nothing }
+new_record image = record {
+  image = image;
+  machine = started [];
+  mailbox = [];
+  control = inactive cause.Nothing;
+  breakpoints = [];
+  traced = false;
+}
 
--- what an effect leaves of the record of its procedure, where that is loaded already
+-- what an effect leaves of the record of its procedure, where that is loaded and stays
 abbrev pub record_after : Effect → Rec → Rec
-record_after (Loaded id image) r = r
 record_after (Changed id change) r = record_by change r
-record_after (Kept why) r = r
+record_after effect r = r
 
 -- the records with the changed record of a procedure that is loaded
 abbrev pub with_change : Option Rec → ℕ → Change → Records → Records
@@ -90,8 +155,50 @@ with_change (Some r) id change m = insert m id (record_by change r)
 
 abbrev pub records_by : Effect → Records → Records
 records_by (Loaded id image) m = insert m id (new_record image)
+records_by (Unloaded id) m = remove m id
 records_by (Changed id change) m = with_change (get m id) id change m
 records_by (Kept why) m = m
+
+-- ---- what is set apart from requests
+
+abbrev pub with_breakpoints : List ℕ → Rec → Rec
+with_breakpoints breakpoints r = record {
+  image = r.image;
+  machine = r.machine;
+  mailbox = r.mailbox;
+  control = r.control;
+  breakpoints = breakpoints;
+  traced = r.traced;
+}
+
+abbrev pub with_traced : Bool → Rec → Rec
+with_traced traced r = record {
+  image = r.image;
+  machine = r.machine;
+  mailbox = r.mailbox;
+  control = r.control;
+  breakpoints = r.breakpoints;
+  traced = traced;
+}
+
+-- the records with what is set in the record of a procedure that is loaded
+abbrev pub records_with : Option Rec → ℕ → (Rec → Rec) → Records → Records
+records_with None id set m = m
+records_with (Some r) id set m = insert m id (set r)
+
+-- ---- the pool after an effect
+
+abbrev pub pool_by_outcome : InstructionOutcome → List ℕ → List ℕ
+pool_by_outcome (Called call) pool = pool_after call pool
+pool_by_outcome outcome pool = pool
+
+abbrev pub pool_by_change : Change → List ℕ → List ℕ
+pool_by_change (Stepped outcome) pool = pool_by_outcome outcome pool
+pool_by_change change pool = pool
+
+abbrev pub pool_by : Effect → List ℕ → List ℕ
+pool_by (Changed id change) pool = pool_by_change change pool
+pool_by effect pool = pool
 
 -- ---- answers
 
@@ -109,11 +216,13 @@ abbrev pub start_result : Effect → Result (Unit {0}) StartFailure
 start_result effect = result_of (failure_of effect)
 
 abbrev pub step_outcome_of : InstructionOutcome → StepOutcome
+step_outcome_of Broke = step.Broke
 step_outcome_of Ran = step.Ran
+step_outcome_of (Called call) = step.Called
 step_outcome_of Ended = step.Ended
 step_outcome_of (Faulted number) = step.Faulted number
 
--- the answer to an instruction event: where no instruction is done, the procedure is not loaded or does not run
+-- the answer to an instruction event: where none is done, the procedure is not loaded or does not run
 abbrev pub step_outcome : Effect → StepOutcome
 step_outcome (Changed id (Stepped outcome)) = step_outcome_of outcome
 step_outcome (Kept (Failed failure.NotLoaded)) = step.NotLoaded

@@ -2,7 +2,7 @@
 use Rattle.std.specs.Prelude.{◌≡◌, ◌⊎◌, List, ℕ, Option, Some, None}
 use Rattle.bpf_step.specs.Machine.{State, started}
 use Rattle.ocp_table.specs.Records.{Rec}
-use Rattle.ocp_table.specs.RequestTable.{Directive, Load, Activate, Step}
+use Rattle.ocp_table.specs.RequestTable.{Directive, Step}
 
 -- the machine of a procedure, where it is loaded
 abbrev pub machine_of : Option Rec → Option State
@@ -17,6 +17,5 @@ IsKeptOrStarted old new =
 
 -- a directive of a request: it is no instruction event
 abbrev pub IsRequest : Directive → Type 0
-IsRequest (Load image) = Unit {0}
-IsRequest (Activate arguments) = Unit {0}
-IsRequest Step = ⊥
+IsRequest (Step pool) = ⊥
+IsRequest directive = Unit {0}

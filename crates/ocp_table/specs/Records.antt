@@ -1,5 +1,5 @@
 -- A procedure's record, as a record of parts.
-use Rattle.std.specs.Prelude.{ℕ, List, IsOk}
+use Rattle.std.specs.Prelude.{ℕ, Bool, List, IsOk}
 use Rattle.std.specs.Ordering.{nat_cmp}
 use Rattle.std.specs.FinMap.{FinMap}
 use Rattle.ocp_loader.specs.LoadResult.{load_result}
@@ -19,11 +19,16 @@ pub record IsAdmittedAt (image : List ℕ) (machine : State) : Type 0 where
   pub begins : IsPlace image 0
   pub stands : StandsIn image machine
 
--- the control is what requests and the end of a run set: the status, and why the procedure became inactive
+-- the mailbox has the words that the procedure was sent and has not taken, the oldest first; the control is what requests
+-- and instructions set: the status, what is pending, the pass flag, and why the procedure became inactive; the breakpoints
+-- are places of the program
 pub record Rec : Type 0 where
   pub image : List ℕ
   pub machine : State
+  pub mailbox : List ℕ
   pub control : Control
+  pub breakpoints : List ℕ
+  pub traced : Bool
 
 -- the records, each under the id of its procedure
 abbrev pub Records : Type 0

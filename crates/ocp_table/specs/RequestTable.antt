@@ -1,39 +1,84 @@
 -- The request table: what each request, and an instruction event, does to a procedure that is not loaded (None), inactive,
--- running or held. `Deciding` says what effect that has, and `Effects` what the effect makes of the records.
-use Rattle.std.specs.Prelude.{List, ℕ, Option, Some, None}
+-- running or held, with p pending and n words in its mailbox. `Deciding` says what effect that has, and
+-- `Effects` what the effect makes of the records.
+use Rattle.std.specs.Prelude.{ℕ, ◌+◌, nat_le, if◌then◌else◌, List, length, Option, Some, None}
 use Rattle.obcp_types.specs.declared.status.Status.{Status}
 use Rattle.obcp_types.specs.declared.status.Status.TheVariants.{Inactive, Running, Held}
 use Rattle.obcp_types.specs.declared.failure.StartFailure.{StartFailure}
-use Rattle.obcp_types.specs.declared.failure.StartFailure.TheVariants.{AlreadyLoaded, NotLoaded, NotInactive, NotRunning}
-use Rattle.ocp_table.specs.Effects.{Change, Started}
+use Rattle.obcp_types.specs.declared.failure.StartFailure.TheVariants.{AlreadyLoaded, NotLoaded, NotInactive, NotActive, NotRunning, NotHeld, StopPending, MailboxFull}
+use Rattle.ocp_pool.specs.declared.mailbox.TheConstants.{MAX_MAILBOX_WORDS}
+use Rattle.ocp_table.specs.declared.control.Cause.TheVariants.{Stopped, Aborted}
+use Rattle.ocp_table.specs.declared.control.Pending.{Pending}
+use Rattle.ocp_table.specs.declared.control.Pending.TheVariants as pending
+use Rattle.ocp_table.specs.Effects.{Change, Started, Sent, Pended, Quit, Resumed}
 
--- what is asked of a procedure: to load an image, to start with arguments, to do its next instruction
+-- what is asked of a procedure: to load an image, to be dropped, to start with arguments, to stop or to be held at the end
+-- of a step (0 is any), to run on, to end at once, to take words, to do its next instruction, with the pool as it stands
 pub data Directive : Type 0 where
   Load : List ℕ → Directive
+  Unload : Directive
   Activate : List ℕ → Directive
-  Step : Directive
+  Stop : ℕ → Directive
+  Suspend : ℕ → Directive
+  Resume : Directive
+  Abort : Directive
+  Communicate : List ℕ → Directive
+  Step : List ℕ → Directive
 
--- what becomes of it: the image is loaded, unless the table is full or it may not be run; the record is changed; the next
--- instruction is done; or it fails
+-- what becomes of it: the image is loaded, unless the table is full or it may not be run; the record is dropped, or
+-- changed; the next instruction is done; or it fails
 pub data Decision : Type 0 where
   Loads : List ℕ → Decision
+  Unloads : Decision
   Changes : Change → Decision
-  Steps : Decision
+  Steps : List ℕ → Decision
   Fails : StartFailure → Decision
 
-abbrev pub transition : Directive → Option Status → Decision
-transition (Load image) None = Loads image
-transition (Load image) (Some Inactive) = Fails AlreadyLoaded
-transition (Load image) (Some Running) = Fails AlreadyLoaded
-transition (Load image) (Some Held) = Fails AlreadyLoaded
-transition (Activate arguments) None = Fails NotLoaded
-transition (Activate arguments) (Some Inactive) = Changes (Started arguments)
-transition (Activate arguments) (Some Running) = Fails NotInactive
-transition (Activate arguments) (Some Held) = Fails NotInactive
-transition Step None = Fails NotLoaded
-transition Step (Some Inactive) = Fails NotRunning
-transition Step (Some Running) = Steps
-transition Step (Some Held) = Fails NotRunning
+-- words are appended, or none of them
+abbrev pub sent : List ℕ → ℕ → Decision
+sent words there =
+    if nat_le (there + length words) MAX_MAILBOX_WORDS then Changes (Sent words)
+    else Fails MailboxFull
+
+abbrev pub transition : Directive → Option Status → Pending → ℕ → Decision
+transition (Load image) None p n = Loads image
+transition (Load image) (Some Inactive) p n = Fails AlreadyLoaded
+transition (Load image) (Some Running) p n = Fails AlreadyLoaded
+transition (Load image) (Some Held) p n = Fails AlreadyLoaded
+transition Unload None p n = Fails NotLoaded
+transition Unload (Some Inactive) p n = Unloads
+transition Unload (Some Running) p n = Fails NotInactive
+transition Unload (Some Held) p n = Fails NotInactive
+transition (Activate arguments) None p n = Fails NotLoaded
+transition (Activate arguments) (Some Inactive) p n = Changes (Started arguments)
+transition (Activate arguments) (Some Running) p n = Fails NotInactive
+transition (Activate arguments) (Some Held) p n = Fails NotInactive
+transition (Stop s) None p n = Fails NotLoaded
+transition (Stop s) (Some Inactive) p n = Fails NotActive
+transition (Stop s) (Some Running) p n = Changes (Pended (pending.Stop s))
+transition (Stop s) (Some Held) p n = Changes (Quit Stopped)
+transition (Suspend s) None p n = Fails NotLoaded
+transition (Suspend s) (Some Inactive) p n = Fails NotRunning
+transition (Suspend s) (Some Running) pending.Nothing n = Changes (Pended (pending.Suspend s))
+transition (Suspend s) (Some Running) (pending.Suspend t) n = Changes (Pended (pending.Suspend s))
+transition (Suspend s) (Some Running) (pending.Stop t) n = Fails StopPending
+transition (Suspend s) (Some Held) p n = Fails NotRunning
+transition Resume None p n = Fails NotLoaded
+transition Resume (Some Inactive) p n = Fails NotHeld
+transition Resume (Some Running) p n = Fails NotHeld
+transition Resume (Some Held) p n = Changes Resumed
+transition Abort None p n = Fails NotLoaded
+transition Abort (Some Inactive) p n = Fails NotActive
+transition Abort (Some Running) p n = Changes (Quit Aborted)
+transition Abort (Some Held) p n = Changes (Quit Aborted)
+transition (Communicate words) None p n = Fails NotLoaded
+transition (Communicate words) (Some Inactive) p n = Fails NotActive
+transition (Communicate words) (Some Running) p n = sent words n
+transition (Communicate words) (Some Held) p n = sent words n
+transition (Step pool) None p n = Fails NotLoaded
+transition (Step pool) (Some Inactive) p n = Fails NotRunning
+transition (Step pool) (Some Running) p n = Steps pool
+transition (Step pool) (Some Held) p n = Fails NotRunning
 
 -- why it fails by the table, where it does
 abbrev pub failure_by : Decision → Option StartFailure

@@ -7,12 +7,11 @@ use Rattle.ocp_regions.specs.declared.regions.TheConstants.{ARGUMENT_OCTETS}
 use Rattle.ocp_table.specs.declared.view.View.{View}
 use Rattle.ocp_table.specs.declared.directive.Directive as D
 use Rattle.ocp_table.specs.declared.directive.Directive.TheVariants as directive
-use Rattle.ocp_table.specs.declared.answers.Done.{Done}
-use Rattle.ocp_table.specs.declared.answers.Done.TheVariants as done
+use Rattle.ocp_table.specs.declared.answers.InstructionOutcome.{InstructionOutcome}
 use Rattle.ocp_table.specs.declared.record.Record.{Record}
 use Rattle.ocp_table.specs.Records.{Rec, Records}
-use Rattle.ocp_table.specs.Effects.{Effect, Changed, Kept, Started, Stepped, Failed, new_record}
-use Rattle.ocp_table.specs.RequestTable.{Directive, Activate, Step}
+use Rattle.ocp_table.specs.Effects.{Effect, Changed, Kept, Stepped, Failed, new_record}
+use Rattle.ocp_table.specs.RequestTable.{Directive, Activate, Stop, Suspend, Resume, Abort, Communicate}
 use Rattle.ocp_table.specs.Deciding.{effect_on}
 
 -- ---- what contracts see
@@ -22,7 +21,14 @@ module _ {A : Type 0} where
   id_of r = r.id
 
   abbrev pub shown : Record A → Rec
-  shown r = record { image = r.execution.image; machine = r.execution.machine; control = r.control }
+  shown r = record {
+    image = r.execution.image;
+    machine = r.execution.machine;
+    mailbox = r.mailbox;
+    control = r.control;
+    breakpoints = r.breakpoints.items;
+    traced = r.traced;
+  }
 
   -- a record that a load of this image under this id makes
   pub record IsLoading (r : Record A) (id : ℕ) (image : List ℕ) : Type 0 where
@@ -31,23 +37,26 @@ module _ {A : Type 0} where
 
 abbrev pub directive_of : D.Directive → Directive
 directive_of (directive.Activate arguments) = Activate arguments.now
-directive_of directive.Step = Step
+directive_of (directive.Stop s) = Stop s
+directive_of (directive.Suspend s) = Suspend s
+directive_of directive.Resume = Resume
+directive_of directive.Abort = Abort
+directive_of (directive.Communicate words) = Communicate words.now
 
 -- the effect of a directive on a record of the table, in which whether the table is full is not asked
-abbrev pub effect_of_record : {A : Type 0} → D.Directive → Record A → Effect
-effect_of_record d r = effect_on (directive_of d) (id_of r) (Some (shown r)) true
+abbrev pub effect_of_record : {A : Type 0} → Directive → Record A → Effect
+effect_of_record directive r = effect_on directive (id_of r) (Some (shown r)) true
 
 -- arguments that the machine's memory has room for
 abbrev pub HasFewArguments : Directive → Type 0
 HasFewArguments (Activate arguments) = length arguments ≤ ARGUMENT_OCTETS
 HasFewArguments other = Unit {0}
 
--- what a directive is answered, by its effect
-abbrev pub Answers : Result Done StartFailure → Effect → Type 0
-Answers (Ok done.Started) (Changed id (Started arguments)) = Unit {0}
-Answers (Ok (done.Stepped outcome)) (Changed id (Stepped what)) = outcome ≡ what
-Answers (Err failure) (Kept (Failed why)) = failure ≡ why
-Answers _ _ = ⊥
+-- what an instruction event is answered, by its effect
+abbrev pub AnswersStep : Result InstructionOutcome StartFailure → Effect → Type 0
+AnswersStep (Ok outcome) (Changed id (Stepped what)) = outcome ≡ what
+AnswersStep (Err failure) (Kept (Failed why)) = failure ≡ why
+AnswersStep _ _ = ⊥
 
 -- ---- what readers show
 
@@ -58,6 +67,7 @@ view_of r = record {
   cause = r.control.cause;
   place = r.machine.place;
   depth = length r.machine.frames;
+  pending = r.control.pending;
   registers = r.machine.registers;
 }
 

@@ -1,9 +1,14 @@
 use obcp_types::StartFailure;
+use ocp_pool::Called;
 
-/// What an instruction did to a running procedure.
-#[derive(Clone, Copy, PartialEq, Eq, Debug)]
+/// What an instruction event did to a running procedure.
+#[derive(Clone, Copy)]
 pub enum InstructionOutcome {
+    /// A breakpoint stands at the place: the procedure is held, and nothing was run.
+    Broke,
     Ran,
+    /// An engine call was answered.
+    Called(Called),
     /// The last exit: the procedure is inactive.
     Ended,
     /// The number of the machine's fault: the procedure is inactive.
@@ -14,7 +19,11 @@ pub enum InstructionOutcome {
 /// never answers the last one.
 #[derive(Clone, Copy, PartialEq, Eq, Debug)]
 pub enum StepOutcome {
+    /// A breakpoint stands at the place: the procedure is held, and nothing was run.
+    Broke,
     Ran,
+    /// An engine call was answered.
+    Called,
     /// The last exit: the procedure is inactive.
     Ended,
     /// The number of the machine's fault: the procedure is inactive.
@@ -22,13 +31,6 @@ pub enum StepOutcome {
     NotLoaded,
     NotRunning,
     JournalFull,
-}
-
-/// What was done, where a directive did not fail.
-#[derive(Clone, Copy)]
-pub enum Done {
-    Started,
-    Stepped(InstructionOutcome),
 }
 
 /// Why nothing is loaded: the start of the request failed, or memory was refused.
@@ -39,22 +41,21 @@ pub enum LoadFailure {
 }
 
 impl StepOutcome {
-    ghost use Rattle.std.specs.Prelude.{◌≡◌, ◌≢◌, Ok};
-    ghost use Rattle.ocp_table.specs.declared.answers.Done.TheVariants.{Started};
+    ghost use Rattle.std.specs.Prelude.{◌≡◌};
     ghost use Rattle.ocp_table.specs.Effects.{Effect, Kept, Failed, step_outcome};
-    ghost use Rattle.ocp_table.specs.Shown.{Answers};
+    ghost use Rattle.ocp_table.specs.Shown.{AnswersStep};
 
     /// That of an instruction event which was answered so.
     #[inline(always)]
-    pub(crate) fn of(answer: Result<Done, StartFailure>) -> StepOutcome
-        requires { answer ≢ Ok Started }
-        ensures { (effect : Effect) → Answers answer effect → result ≡ step_outcome effect }
+    pub(crate) fn of(answer: Result<InstructionOutcome, StartFailure>) -> StepOutcome
+        ensures { (effect : Effect) → AnswersStep answer effect → result ≡ step_outcome effect }
     {
         match answer {
-            Ok(Done::Started) => unreachable!(),
-            Ok(Done::Stepped(InstructionOutcome::Ran)) => StepOutcome::Ran,
-            Ok(Done::Stepped(InstructionOutcome::Ended)) => StepOutcome::Ended,
-            Ok(Done::Stepped(InstructionOutcome::Faulted(number))) => StepOutcome::Faulted(number),
+            Ok(InstructionOutcome::Broke) => StepOutcome::Broke,
+            Ok(InstructionOutcome::Ran) => StepOutcome::Ran,
+            Ok(InstructionOutcome::Called(_)) => StepOutcome::Called,
+            Ok(InstructionOutcome::Ended) => StepOutcome::Ended,
+            Ok(InstructionOutcome::Faulted(number)) => StepOutcome::Faulted(number),
             Err(failure) => StepOutcome::of_failure(failure),
         }
     }

@@ -1,43 +1,119 @@
+use crate::InstructionOutcome;
 use obcp_types::Status;
+use ocp_pool::Called;
 
 /// How a procedure became inactive after its last start.
 #[derive(Clone, Copy, PartialEq, Eq, Debug)]
 pub enum Cause {
-    /// It was not started, or it runs.
+    /// It was not started, or it is active.
     Nothing,
     Exited,
-    /// The number of the machine's fault.
+    Stopped,
+    Aborted,
+    /// The number of the fault.
     Fault(u8),
 }
 
-/// What requests and the end of a run set.
+/// What is done at the end of a step: of any step where the number is 0, and else of that one.
+#[derive(Clone, Copy, PartialEq, Eq, Debug)]
+pub enum Pending {
+    Nothing,
+    Stop(u16),
+    Suspend(u16),
+}
+
+/// What requests and instructions set.
 #[derive(Clone, Copy)]
 pub struct Control {
     pub status: Status,
+    pub pending: Pending,
+    /// The next instruction is done although a breakpoint stands at its place.
+    pub pass: bool,
     pub cause: Cause,
 }
 
-impl Control {
-    ghost use Rattle.std.specs.Prelude.{◌≡◌};
-    ghost use Rattle.ocp_table.specs.Effects.{running, inactive};
+// Whether what is pending for a step is done at the end of this one.
+fn matches(wanted: u16, step: u16) -> bool
+    ensures { result ≡ matches wanted step }
+{
+    wanted == 0 || wanted == step
+}
 
-    /// That of a procedure that runs.
+ghost use Rattle.std.specs.Prelude.{◌≡◌};
+ghost use Rattle.ocp_table.specs.Effects.{matches};
+
+impl Control {
+    ghost use Rattle.ocp_table.specs.Effects.{running, inactive, held, passed, control_at_step_end, control_by_call, control_by_outcome};
+
+    /// That of a procedure that was started.
     pub(crate) fn running() -> Control
         ensures { result ≡ running }
     {
         Control {
             status: Status::Running,
+            pending: Pending::Nothing,
+            pass: false,
             cause: Cause::Nothing,
         }
     }
 
-    /// That of a procedure that became inactive.
+    /// That of a procedure that became inactive: nothing is pending.
     pub(crate) fn inactive(cause: Cause) -> Control
         ensures { result ≡ inactive cause }
     {
         Control {
             status: Status::Inactive,
+            pending: Pending::Nothing,
+            pass: false,
             cause,
+        }
+    }
+
+    // That of a procedure that becomes held.
+    fn held(self, pending: Pending) -> Control
+        ensures { result ≡ held pending self }
+    {
+        Control {
+            status: Status::Held,
+            pending,
+            pass: false,
+            cause: self.cause,
+        }
+    }
+
+    // After an instruction.
+    fn passed(self) -> Control
+        ensures { result ≡ passed self }
+    {
+        Control {
+            pass: false,
+            ..self
+        }
+    }
+
+    // After the end of a step.
+    fn at_step_end(self, step: u16) -> Control
+        ensures { result ≡ control_at_step_end self.pending step self }
+    {
+        match self.pending {
+            Pending::Stop(wanted) if matches(wanted, step) => Control::inactive(Cause::Stopped),
+            Pending::Suspend(wanted) if matches(wanted, step) => self.held(Pending::Nothing),
+            _ => self.passed(),
+        }
+    }
+
+    /// After an instruction event.
+    #[inline(always)]
+    pub(crate) fn after(self, outcome: InstructionOutcome) -> Control
+        ensures { result ≡ control_by_outcome outcome self }
+    {
+        match outcome {
+            InstructionOutcome::Broke => self.held(self.pending),
+            InstructionOutcome::Ran => self.passed(),
+            InstructionOutcome::Called(Called::StepEnd(step)) => self.at_step_end(step),
+            InstructionOutcome::Called(_) => self.passed(),
+            InstructionOutcome::Ended => Control::inactive(Cause::Exited),
+            InstructionOutcome::Faulted(number) => Control::inactive(Cause::Fault(number)),
         }
     }
 }

@@ -1,6 +1,7 @@
 use crate::InstructionOutcome;
 use bpf_step::{Local, Machine, Need};
 use ocp_loader::{Program, places_lead_to_places};
+use ocp_pool::{Mailbox, Pool, engine_call};
 use ocp_regions::ARGUMENT_OCTETS;
 use std::alloc::Allocator;
 use std::marker::Model;
@@ -29,12 +30,12 @@ impl<A: Allocator> Model for Execution<A> {
 }
 
 impl<A: Allocator> Execution<A> {
-    ghost use Rattle.std.specs.Prelude.{◌≡◌, ◌≤◌, [], Some, IsSome, IsOk, length};
+    ghost use Rattle.std.specs.Prelude.{◌≡◌, ◌≤◌, ℕ, List, [], Some, IsSome, IsOk, length};
     ghost use Rattle.ocp_loader.specs.LoadResult.{load_result};
     ghost use Rattle.ocp_loader.specs.LineAt.{IsPlace};
     ghost use Rattle.bpf_step.specs.Machine.{started};
     ghost use Rattle.bpf_step.specs.Step.{one_step};
-    ghost use Rattle.ocp_table.specs.Effects.{machine_by_outcome};
+    ghost use Rattle.ocp_table.specs.Effects.{machine_by_outcome, mailbox_by_outcome, pool_by_outcome};
     ghost use Rattle.ocp_table.specs.Deciding.{outcome_of};
 
     /// A new machine at a program's first instruction.
@@ -57,28 +58,39 @@ impl<A: Allocator> Execution<A> {
         self.machine.start(arguments);
     }
 
-    /// There is an instruction to do, and it is no numbered call. The function does nothing when it runs.
+    /// There is an instruction to do. The function does nothing when it runs.
     #[inline(always)]
     pub(crate) fn has_instruction(&self)
-        ensures { IsSome (outcome_of (one_step self.now.image self.now.machine)) }
+        ensures { (pool mailbox : List ℕ) →
+            IsSome
+            (outcome_of (one_step self.now.image self.now.machine) self.now.machine pool mailbox) }
     {
         let _machine = &self.machine;
-        places_lead_to_places();
     }
 
-    /// Does one instruction. There always is one, and it is no numbered call.
+    /// Does one instruction. There always is one.
     #[inline(always)]
-    pub(crate) fn step(&mut self) -> InstructionOutcome
-        ensures outcome { outcome_of (one_step self.old.image self.old.machine) ≡ Some result }
+    pub(crate) fn step(&mut self, pool: &mut Pool<A>, mailbox: &mut Mailbox) -> InstructionOutcome
+        ensures outcome { Some result ≡
+            outcome_of (one_step self.old.image self.old.machine) self.old.machine pool.old
+            mailbox.old }
+        ensures pool { pool.new ≡ pool_by_outcome result pool.old }
+        ensures mailbox { mailbox.new ≡ mailbox_by_outcome result mailbox.old }
         ensures image { self.new.image ≡ self.old.image }
         ensures machine { self.new.machine ≡
             machine_by_outcome result self.old.image self.old.machine }
     {
+        places_lead_to_places();
         match self.machine.local_step(&self.program) {
             Local::Stepped => InstructionOutcome::Ran,
             Local::NeedsEngine(Need::LastExit) => InstructionOutcome::Ended,
             Local::NeedsEngine(Need::Fault(fault)) => InstructionOutcome::Faulted(fault.number()),
-            Local::NeedsEngine(Need::Call(_)) => unreachable!(),
+            Local::NeedsEngine(Need::Call(number)) => {
+                match engine_call(number, &mut self.machine, pool, mailbox) {
+                    Ok(called) => InstructionOutcome::Called(called),
+                    Err(fault) => InstructionOutcome::Faulted(fault.number()),
+                }
+            }
         }
     }
 

@@ -1,5 +1,5 @@
 //! Laws on effects and records. The functions do nothing when they run: their contracts are the laws.
-ghost use Rattle.std.specs.Prelude.{◌≡◌, ◌≢◌, ℕ, true, Some, is_some};
+ghost use Rattle.std.specs.Prelude.{◌≡◌, ◌≢◌, ℕ, List, true, Some, is_some};
 ghost use Rattle.std.specs.FinMap.{get};
 ghost use Rattle.obcp_types.specs.declared.failure.StartFailure.{StartFailure as Failure};
 ghost use Rattle.obcp_types.specs.declared.status.Status.TheVariants.{Running};
@@ -23,8 +23,8 @@ pub fn a_directive_changes_its_own_procedure()
 
 /// Only a running procedure steps: an instruction of any other fails.
 pub fn only_running_procedures_step()
-    ensures { (id : ℕ) (m : Records) →
-        status_of (get m id) ≢ Some Running → is_some (failure_of (effect_in Step id m)) ≡ true }
+    ensures { (id : ℕ) (m : Records) (pool : List ℕ) → status_of (get m id) ≢ Some Running →
+        is_some (failure_of (effect_in (Step pool) id m)) ≡ true }
 {}
 
 /// A request leaves each procedure's machine, or starts it anew: it is never changed in the midst of its run.

@@ -11,11 +11,12 @@ mod record;
 mod table;
 mod view;
 
-pub use answers::{Done, InstructionOutcome, LoadFailure, StepOutcome};
-pub use control::{Cause, Control};
+pub use answers::{InstructionOutcome, LoadFailure, StepOutcome};
+pub use control::{Cause, Control, Pending};
 pub use directive::Directive;
 pub use execution::Execution;
 pub use obcp_types::{StartFailure, Status, StatusRow};
-pub use record::Record;
+pub use ocp_pool::{Called, Mailbox, Pool};
+pub use record::{MAX_BREAKPOINTS, Record};
 pub use table::{MAX_PROCEDURES, Table};
 pub use view::View;

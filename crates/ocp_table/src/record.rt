@@ -1,24 +1,31 @@
-use crate::{Cause, Control, Directive, Done, Execution, InstructionOutcome, View};
-use obcp_types::StartFailure;
+use crate::{Cause, Control, Directive, Execution, InstructionOutcome, Pending, View};
+use arrayvec::ArrayVec;
+use obcp_types::{StartFailure, Status};
+use ocp_pool::{Mailbox, Pool};
 use std::alloc::Allocator;
+
+/// How many breakpoints a procedure has at most.
+pub const MAX_BREAKPOINTS: usize = 8;
 
 /// A procedure under its id.
 #[derive(Drop)]
 pub struct Record<A: Allocator> {
     pub id: u16,
     pub execution: Execution<A>,
+    pub mailbox: Mailbox,
     pub control: Control,
+    pub breakpoints: ArrayVec<u16, MAX_BREAKPOINTS>,
+    pub traced: bool,
 }
 
 impl<A: Allocator> Record<A> {
-    ghost use Rattle.std.specs.Prelude.{◌≡◌, ◌≤◌, [], Some, length, true};
+    ghost use Rattle.std.specs.Prelude.{◌≡◌, ◌≤◌, [], None, Some, Ok, Err, length, true};
     ghost use Rattle.obcp_types.specs.declared.status.Status.TheVariants.{Running};
     ghost use Rattle.bpf_step.specs.Machine.{started};
-    ghost use Rattle.ocp_table.specs.Effects.{Started, Stepped, new_record, record_by, record_after, failure_of};
-    ghost use Rattle.ocp_table.specs.RequestTable.{transition, failure_by};
-    ghost use Rattle.ocp_table.specs.Deciding.{outcome_at};
-    ghost use Rattle.ocp_table.specs.Shown.{shown, view_of, directive_of, effect_of_record, Answers, HasFewArguments};
-    ghost use Rattle.ocp_regions.specs.declared.regions.TheConstants.{ARGUMENT_OCTETS};
+    ghost use Rattle.ocp_table.specs.Effects.{Started, Stepped, new_record, record_by, record_after, failure_of, start_result, pool_by_outcome};
+    ghost use Rattle.ocp_table.specs.RequestTable.{failure_by};
+    ghost use Rattle.ocp_table.specs.Deciding.{decision_on, outcome_in};
+    ghost use Rattle.ocp_table.specs.Shown.{shown, view_of, directive_of, effect_of_record, HasFewArguments};
 
     /// A procedure that was loaded.
     pub(crate) fn new(id: u16, execution: Execution<A>) -> Self
@@ -29,68 +36,152 @@ impl<A: Allocator> Record<A> {
         Record {
             id,
             execution,
+            mailbox: Mailbox::new(),
             control: Control::inactive(Cause::Nothing),
+            breakpoints: ArrayVec::new(),
+            traced: false,
         }
     }
 
     /// Decides: why a directive fails.
-    #[inline(always)]
     pub(crate) fn failure(&self, directive: &Directive<'_>) -> Option<StartFailure>
         ensures table { result ≡
-            failure_by (transition (directive_of directive.now) (Some self.now.control.status)) }
-        ensures effect { result ≡ failure_of (effect_of_record directive.now self.now) }
+            failure_by (decision_on (directive_of directive.now) (Some (shown self.now))) }
+        ensures effect { result ≡
+            failure_of (effect_of_record (directive_of directive.now) self.now) }
     {
-        self.execution.has_instruction();
-        directive.failure(self.control.status)
+        directive.failure(self.control, &self.mailbox)
     }
 
     /// Enacts a directive, or fails and changes nothing.
-    #[inline(always)]
-    pub(crate) fn apply(&mut self, directive: Directive<'_>) -> Result<Done, StartFailure>
-        requires { HasFewArguments (directive_of directive) }
-        ensures answer { Answers result (effect_of_record directive.entry self.old) }
+    pub(crate) fn apply(&mut self, directive: &Directive<'_>) -> Result<(), StartFailure>
+        requires { HasFewArguments (directive_of directive.now) }
+        ensures answer { result ≡
+            start_result (effect_of_record (directive_of directive.now) self.old) }
         ensures record { shown self.new ≡
-            record_after (effect_of_record directive.entry self.old) (shown self.old) }
+            record_after (effect_of_record (directive_of directive.now) self.old) (shown self.old) }
         ensures id { self.new.id ≡ self.old.id }
     {
-        if let Some(failure) = self.failure(&directive) {
+        if let Some(failure) = self.failure(directive) {
             return Err(failure);
         }
+        self.enact(directive);
+        Ok(())
+    }
+
+    // Enacts a directive that does not fail.
+    fn enact(&mut self, directive: &Directive<'_>)
+        requires few { HasFewArguments (directive_of directive.now) }
+        requires decided { failure_by (decision_on (directive_of directive.now)
+            (Some (shown self.old))) ≡ None }
+        ensures record { shown self.new ≡
+            record_after (effect_of_record (directive_of directive.now) self.old) (shown self.old) }
+        ensures id { self.new.id ≡ self.old.id }
+    {
         match directive {
             Directive::Activate(arguments) => {
-                self.start(arguments);
-                Ok(Done::Started)
+                self.execution.start(arguments);
+                self.mailbox.clear();
+                self.control = Control::running();
             }
-            Directive::Step => Ok(Done::Stepped(self.step())),
+            Directive::Stop(step) => match self.control.status {
+                Status::Held => self.control = Control::inactive(Cause::Stopped),
+                _ => self.control.pending = Pending::Stop(*step),
+            },
+            Directive::Suspend(step) => self.control.pending = Pending::Suspend(*step),
+            Directive::Resume => {
+                self.control.status = Status::Running;
+                self.control.pass = true;
+            }
+            Directive::Abort => self.control = Control::inactive(Cause::Aborted),
+            Directive::Communicate(words) => self.mailbox.append(words),
         }
     }
 
-    // Starts the procedure from its first instruction.
-    fn start(&mut self, arguments: &[u8])
-        requires { length arguments.now ≤ ARGUMENT_OCTETS }
-        ensures record { shown self.new ≡ record_by (Started arguments.now) (shown self.old) }
-        ensures id { self.new.id ≡ self.old.id }
+    /// Decides: why an unload fails.
+    pub(crate) fn unload_failure(&self) -> Option<StartFailure>
+        ensures table { result ≡ failure_by (decision_on Unload (Some (shown self.now))) }
+        ensures effect { result ≡ failure_of (effect_of_record Unload self.now) }
     {
-        self.execution.start(arguments);
-        self.control = Control::running();
+        match self.control.status {
+            Status::Inactive => None,
+            Status::Running | Status::Held => Some(StartFailure::NotInactive),
+        }
     }
 
-    // Does one instruction of a running procedure.
+    /// Decides: why an instruction event fails.
+    pub(crate) fn step_failure(&self) -> Option<StartFailure>
+        ensures table { (pool : List ℕ) →
+            result ≡ failure_by (decision_on (Step pool) (Some (shown self.now))) }
+        ensures effect { (pool : List ℕ) →
+            result ≡ failure_of (effect_of_record (Step pool) self.now) }
+    {
+        self.execution.has_instruction();
+        match self.control.status {
+            Status::Running => None,
+            Status::Inactive | Status::Held => Some(StartFailure::NotRunning),
+        }
+    }
+
+    /// The instruction event of a running procedure, or it fails and changes nothing.
     #[inline(always)]
-    fn step(&mut self) -> InstructionOutcome
-        ensures outcome { outcome_at (Some (shown self.old)) ≡ Some result }
-        ensures record { shown self.new ≡ record_by (Stepped result) (shown self.old) }
+    pub(crate) fn step(&mut self, pool: &mut Pool<A>) -> Result<InstructionOutcome, StartFailure>
+        ensures answer { AnswersStep result (effect_of_record (Step pool.old) self.old) }
+        ensures record { shown self.new ≡
+            record_after (effect_of_record (Step pool.old) self.old) (shown self.old) }
+        ensures pool { pool.new ≡ pool_by (effect_of_record (Step pool.old) self.old) pool.old }
         ensures id { self.new.id ≡ self.old.id }
     {
-        let outcome = self.execution.step();
-        match outcome {
-            InstructionOutcome::Ran => {}
-            InstructionOutcome::Ended => self.control = Control::inactive(Cause::Exited),
-            InstructionOutcome::Faulted(number) => {
-                self.control = Control::inactive(Cause::Fault(number));
-            }
+        match self.control.status {
+            Status::Running => Ok(self.instruction(pool)),
+            Status::Inactive | Status::Held => Err(StartFailure::NotRunning),
         }
+    }
+
+    // The instruction event of a running procedure.
+    #[inline(always)]
+    fn instruction(&mut self, pool: &mut Pool<A>) -> InstructionOutcome
+        ensures outcome { outcome_in (shown self.old) pool.old ≡ Some result }
+        ensures record { shown self.new ≡ record_by (Stepped result) (shown self.old) }
+        ensures pool { pool.new ≡ pool_by_outcome result pool.old }
+        ensures id { self.new.id ≡ self.old.id }
+    {
+        if self.breaks() {
+            self.control = self.control.after(InstructionOutcome::Broke);
+            return InstructionOutcome::Broke;
+        }
+        let outcome = self.execution.step(pool, &mut self.mailbox);
+        self.control = self.control.after(outcome);
         outcome
+    }
+
+    // Whether a breakpoint stands at the place, and the pass flag is off.
+    #[inline(always)]
+    fn breaks(&self) -> bool
+        ensures { result ≡
+            breaks_at self.now.control.pass self.now.breakpoints.items
+            self.now.execution.machine.place }
+    {
+        if self.control.pass {
+            return false;
+        }
+        stands_in(self.breakpoints.as_slice(), self.execution.place())
+    }
+
+    /// Sets the breakpoints.
+    pub(crate) fn set_breakpoints(&mut self, breakpoints: ArrayVec<u16, MAX_BREAKPOINTS>)
+        ensures record { shown self.new ≡ with_breakpoints breakpoints.items (shown self.old) }
+        ensures id { self.new.id ≡ self.old.id }
+    {
+        self.breakpoints = breakpoints;
+    }
+
+    /// Sets the trace flag.
+    pub(crate) fn set_traced(&mut self, traced: bool)
+        ensures record { shown self.new ≡ with_traced traced (shown self.old) }
+        ensures id { self.new.id ≡ self.old.id }
+    {
+        self.traced = traced;
     }
 
     /// What is shown of the procedure.
@@ -102,7 +193,23 @@ impl<A: Allocator> Record<A> {
             cause: self.control.cause,
             place: self.execution.place(),
             depth: self.execution.depth(),
+            pending: self.control.pending,
             registers: self.execution.registers(),
         }
     }
 }
+
+// Whether a breakpoint is this place.
+#[inline(always)]
+fn stands_in(breakpoints: &[u16], place: u16) -> bool
+    ensures { result ≡ list_any (λ at. at == place) breakpoints.now }
+{
+    breakpoints.iter().any(|at| *at == place)
+}
+
+ghost use Rattle.std.specs.Prelude.{◌≡◌, ◌==◌, ℕ, List};
+ghost use Rattle.std.specs.List.{list_any};
+ghost use Rattle.ocp_table.specs.Effects.{pool_by, with_breakpoints, with_traced};
+ghost use Rattle.ocp_table.specs.RequestTable.{Unload, Step};
+ghost use Rattle.ocp_table.specs.Deciding.{breaks_at};
+ghost use Rattle.ocp_table.specs.Shown.{AnswersStep};

@@ -1,4 +1,4 @@
-use crate::Cause;
+use crate::{Cause, Pending};
 use obcp_types::Status;
 
 /// What is shown of a procedure.
@@ -10,5 +10,6 @@ pub struct View {
     pub place: u16,
     /// How many local calls have not returned.
     pub depth: usize,
+    pub pending: Pending,
     pub registers: [u64; 11],
 }

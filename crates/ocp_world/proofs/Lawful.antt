@@ -1,9 +1,7 @@
 -- Laws on worlds and events, lifted from those on records.
-use Rattle.std.proofs.Common.{◌≡◌, ◌≢◌, ℕ, true, false, cond, List, Option, Some, None, inl, sym, ap, ◌∙◌}
+use Rattle.std.proofs.Common.{◌≡◌, ◌≢◌, ℕ, true, false, List, Option, Some, None, inl, sym, ap, ◌∙◌}
 use Rattle.std.specs.Prelude.{Result, Ok, Err, is_some}
-use Rattle.std.specs.Ordering.{eq_by_cmp, nat_cmp}
-use Rattle.std.specs.FinMap.{get, insert, get-insert}
-use Rattle.std.specs.Cmp.{nat_cmp_total}
+use Rattle.std.specs.FinMap.{get}
 use Rattle.pus_fields.specs.declared.fault.TcFault.{TcFault}
 use Rattle.pus_fields.specs.declared.fault.TcFault.TheVariants.{Discarded, Rejected}
 use Rattle.pus_fields.specs.Telecommand.{Telecommand}
@@ -13,8 +11,7 @@ use Rattle.obcp_types.specs.declared.status.Status.TheVariants.{Running}
 use Rattle.obcp_messages.specs.declared.request.Request.{Request as Command}
 use Rattle.obcp_messages.specs.declared.request.Request.TheVariants as command
 use Rattle.ocp_table.specs.Records.{Rec, Records}
-use Rattle.ocp_table.specs.Effects.{Change, Loaded, Changed, Kept, new_record, record_by, with_change, records_by, failure_of}
-use Rattle.ocp_table.specs.Effects as table
+use Rattle.ocp_table.specs.Effects.{records_by, failure_of}
 use Rattle.ocp_table.specs.RequestTable as directive
 use Rattle.ocp_table.specs.RequestTable.{Directive}
 use Rattle.ocp_table.specs.Deciding.{effect_in, status_of}
@@ -36,9 +33,9 @@ not_running (Some r) h e =
     let on : true ≡ false = sym (ap is_running_status same) ∙ h in
     cc
 
-module _ (only : (id : ℕ) (m : Records) → status_of (get m id) ≢ Some Running → is_some (failure_of (effect_in directive.Step id m)) ≡ true) where
+module _ (only : (id : ℕ) (m : Records) (pool : List ℕ) → status_of (get m id) ≢ Some Running → is_some (failure_of (effect_in (directive.Step pool) id m)) ≡ true) where
   pub still_refused : (w : World) (by id : ℕ) → is_running (get w.records id) ≡ false → is_accepted (after w (Step by id)).answer ≡ false
-  still_refused w by id h = refused_step (effect_in directive.Step id w.records) (is_instruction w.records id) (only id w.records (not_running (get w.records id) h))
+  still_refused w by id h = refused_step (effect_in (directive.Step w.pool) id w.records) (is_instruction w.pool w.records id) (only id w.records w.pool (not_running (get w.records id) h))
 
   pub still : (w : World) (by id : ℕ) → is_running (get w.records id) ≡ false → (after w (Step by id)).world ≡ w
   still w by id h = refused_keeps w (Step by id) (still_refused w by id h)
@@ -52,9 +49,14 @@ module _ (m : Records) (q : ℕ) where
   module _ (asked : (d : Directive) (id : ℕ) → IsRequest d → IsKept (records_by (effect_in d id m) m)) where
     kept_by_command : (request : Command) (origin : Origin) → IsKept (records_by (command_effect request origin m).on_records m)
     kept_by_command (command.Load id code) origin = asked (directive.Load code) id tt
+    kept_by_command (command.Unload id) origin = asked directive.Unload id tt
     kept_by_command (command.Activate id arguments) origin = asked (directive.Activate arguments) id tt
+    kept_by_command (command.Stop id step) origin = asked (directive.Stop step) id tt
+    kept_by_command (command.Suspend id step) origin = asked (directive.Suspend step) id tt
+    kept_by_command (command.Resume id) origin = asked directive.Resume id tt
+    kept_by_command (command.Communicate id words) origin = asked (directive.Communicate words) id tt
     kept_by_command command.Status origin = λ machine is. inl is
-    kept_by_command other origin = λ machine is. inl is
+    kept_by_command (command.Abort id) origin = asked directive.Abort id tt
 
     kept_by_service : (r : Result Command RequestFault) (origin : Origin) → IsKept (records_by (service_effect r origin m).on_records m)
     kept_by_service (Ok request) origin = kept_by_command request origin
@@ -64,27 +66,6 @@ module _ (m : Records) (q : ℕ) where
     kept_by_octets (Ok telecommand) time = kept_by_service (command_of telecommand) (origin_of telecommand time)
     kept_by_octets (Err (Rejected rejection request)) time = λ machine is. inl is
     kept_by_octets (Err (Discarded cause)) time = λ machine is. inl is
-
-  -- ---- no effect makes a procedure go
-
-  abbrev Stays : Records → Type 0
-  Stays n = get m q ≢ None → get n q ≢ None
-
-  insert_stays : (id : ℕ) (r : Rec) → Stays (insert m id r)
-  insert_stays id r there gone =
-      elim (eq_by_cmp nat_cmp q id) as (λ b. get (insert m id r) q ≡ cond b (Some r) (get m q) → ⊥) [
-        | true ↦ λ here. let e : Some r ≡ None = sym here ∙ gone in cc
-        | false ↦ λ here. there (sym here ∙ gone)
-      ] (get-insert nat_cmp_total m id r q)
-
-  change_stays : (id : ℕ) (c : Change) (o : Option Rec) → Stays (with_change o id c m)
-  change_stays id c None there = there
-  change_stays id c (Some r) there = insert_stays id (record_by c r) there
-
-  pub stays : (effect : table.Effect) → Stays (records_by effect m)
-  stays (Loaded id image) there = insert_stays id (new_record image) there
-  stays (Changed id c) there = change_stays id c (get m id) there
-  stays (Kept why) there = there
 
 pub kept_or_started : ((d : Directive) (id q : ℕ) (m : Records) → IsRequest d → IsKeptOrStarted (machine_of (get m q)) (machine_of (get (records_by (effect_in d id m) m) q))) → (w : World) (by time : ℕ) (octets : List ℕ) (id : ℕ) → IsKeptOrStarted (machine_of (get w.records id)) (machine_of (get (after w (Request by time octets)).world.records id))
 kept_or_started law w by time octets id = kept_by_octets w.records id (λ d i asked. law d i id w.records asked) (telecommand_of w.apid octets) time

@@ -1,5 +1,6 @@
 pub mod Replays
 pub mod Refusals
+pub mod Calm
 pub mod Slices
 pub mod Slicing
 pub mod Lawful

@@ -1,6 +1,6 @@
 -- Which events are refused, and that a refused one leaves the world.
-use Rattle.std.proofs.Common.{◌≡◌, ℕ, Bool, true, false, List, Option, Some, None, refl, sym, ap, subst, ◌∙◌}
-use Rattle.std.specs.Prelude.{Result, Ok, Err, is_some}
+use Rattle.std.proofs.Common.{◌≡◌, ℕ, Bool, true, false, List, [], length, Option, Some, None, refl, sym, ap, subst, ◌∙◌}
+use Rattle.std.specs.Prelude.{Result, Ok, Err, is_some, is_none}
 use Rattle.pus_fields.specs.declared.fault.Discard.{Discard}
 use Rattle.pus_fields.specs.declared.fault.TcFault.{TcFault}
 use Rattle.pus_fields.specs.declared.fault.TcFault.TheVariants.{Discarded, Rejected}
@@ -17,12 +17,12 @@ use Rattle.ocp_table.specs.declared.answers.InstructionOutcome.TheVariants as di
 use Rattle.ocp_table.specs.declared.answers.StepOutcome.{StepOutcome}
 use Rattle.ocp_table.specs.declared.answers.StepOutcome.TheVariants as S
 use Rattle.ocp_table.specs.Records.{Rec, Records}
-use Rattle.ocp_table.specs.Effects.{Loaded, Changed, Kept, Started, Stepped as Instructed, Unasked, Failed, step_outcome, failure_of}
+use Rattle.ocp_table.specs.Effects.{Loaded, Unloaded, Changed, Kept, Started, Stepped as Instructed, Unasked, Failed, step_outcome, failure_of}
 use Rattle.ocp_table.specs.Effects as table
 use Rattle.ocp_table.specs.RequestTable as directive
-use Rattle.ocp_table.specs.RequestTable.{transition}
+use Rattle.ocp_table.specs.RequestTable.{transition, failure_by}
 use Rattle.std.specs.FinMap.{get}
-use Rattle.ocp_table.specs.Deciding.{effect_in, effect_on, effect_by, effect_of_step, outcome_at}
+use Rattle.ocp_table.specs.Deciding.{effect_in, effect_on, effect_by, effect_of_step, outcome_at, decision_on}
 use Rattle.ocp_table.specs.Deciding.{is_full as is_full_table}
 use Rattle.ocp_reports.specs.declared.origin.Origin.{Origin}
 use Rattle.ocp_reports.specs.Origin.{origin_of}
@@ -31,6 +31,7 @@ use Rattle.ocp_world.specs.Requests.{command_effect, service_effect, request_eff
 use Rattle.ocp_world.specs.Instructions.{instruction_effect}
 use Rattle.ocp_world.specs.declared.answers.EngineFault.TheVariants as engine
 use Rattle.ocp_world.specs.After.{Answer, Requested, Stepped, after, world_after, answer_by, is_accepted}
+use Rattle.ocp_world.specs.Slice.{is_running, is_running_status}
 use Rattle.ocp_world.specs.Mirror.Answering.{discard_of, IsDiscard, IsRefusal}
 
 true_false : true ≡ false → ⊥
@@ -44,8 +45,6 @@ some_none e = cc
 module _ (origin : Origin) (m : Records) (w : World) where
   accepted_request : (request : Command) → is_accepted (answer_by (command_effect request origin m).reply w) ≡ true
   accepted_request (command.Load id code) = refl
-  accepted_request (command.Activate id arguments) = refl
-  accepted_request command.Status = refl
   accepted_request other = refl
 
   accepted_service : (r : Result Command RequestFault) → is_accepted (answer_by (service_effect r origin m).reply w) ≡ true
@@ -73,8 +72,9 @@ kept_octets (Err (Discarded cause)) time w h = refl
 -- an instruction that is done changes a record, or it fails
 abbrev pub IsInstruction : table.Effect → Type 0
 IsInstruction (Loaded id image) = ⊥
-IsInstruction (Changed id (Started arguments)) = ⊥
+IsInstruction (Unloaded id) = ⊥
 IsInstruction (Changed id (Instructed outcome)) = Unit {0}
+IsInstruction (Changed id change) = ⊥
 IsInstruction (Kept Unasked) = ⊥
 IsInstruction (Kept (Failed failure)) = Unit {0}
 
@@ -82,30 +82,34 @@ step_by_outcome : (id : ℕ) (o : Option InstructionOutcome) → IsInstruction (
 step_by_outcome id None = tt
 step_by_outcome id (Some outcome) = tt
 
-step_on : (id : ℕ) (o : Option Rec) (full : Bool) → IsInstruction (effect_on directive.Step id o full)
-step_on id None full = tt
-step_on id (Some r) full =
-    elim r.control.status as (λ s. IsInstruction (effect_by (transition directive.Step (Some s)) id (Some r) full)) [
+step_on : (pool : List ℕ) (id : ℕ) (o : Option Rec) (full : Bool) → IsInstruction (effect_on (directive.Step pool) id o full)
+step_on pool id None full = tt
+step_on pool id (Some r) full =
+    elim r.control.status as (λ s. IsInstruction (effect_by (transition (directive.Step pool) (Some s) r.control.pending (length r.mailbox)) id (Some r) full)) [
       | Inactive ↦ tt
-      | Running ↦ step_by_outcome id (outcome_at (Some r))
+      | Running ↦ step_by_outcome id (outcome_at (Some r) pool)
       | Held ↦ tt
     ]
 
-pub is_instruction : (m : Records) (id : ℕ) → IsInstruction (effect_in directive.Step id m)
-is_instruction m id = step_on id (get m id) (is_full_table m)
+pub is_instruction : (pool : List ℕ) (m : Records) (id : ℕ) → IsInstruction (effect_in (directive.Step pool) id m)
+is_instruction pool m id = step_on pool id (get m id) (is_full_table m)
 
 kept_step : (effect : table.Effect) → IsInstruction effect → (w : World) → is_accepted (answer_by (instruction_effect effect).reply w) ≡ false → world_after (instruction_effect effect) w ≡ w
 kept_step (Loaded id image) is w h = absurd is
-kept_step (Changed id (Started arguments)) is w h = absurd is
+kept_step (Unloaded id) is w h = absurd is
+kept_step (Changed id (Instructed did.Broke)) is w h = absurd (true_false h)
 kept_step (Changed id (Instructed did.Ran)) is w h = absurd (true_false h)
+kept_step (Changed id (Instructed (did.Called call))) is w h = absurd (true_false h)
 kept_step (Changed id (Instructed did.Ended)) is w h = absurd (true_false h)
 kept_step (Changed id (Instructed (did.Faulted number))) is w h = absurd (true_false h)
+kept_step (Changed id (Started arguments)) is w h = absurd is
+kept_step (Changed id change) is w h = absurd is
 kept_step (Kept Unasked) is w h = absurd is
 kept_step (Kept (Failed failure)) is w h = refl
 
 pub refused_keeps : (w : World) (e : Event) → is_accepted (after w e).answer ≡ false → (after w e).world ≡ w
 refused_keeps w (Request by time octets) h = kept_octets (telecommand_of w.apid octets) time w h
-refused_keeps w (Step by id) h = kept_step (effect_in directive.Step id w.records) (is_instruction w.records id) w h
+refused_keeps w (Step by id) h = kept_step (effect_in (directive.Step w.pool) id w.records) (is_instruction w.pool w.records id) w h
 
 -- ---- why an instruction event is refused
 
@@ -115,36 +119,49 @@ failed_outcome other = refl
 
 pub refused_step : (effect : table.Effect) → IsInstruction effect → is_some (failure_of effect) ≡ true → is_accepted (Stepped (step_outcome effect)) ≡ false
 refused_step (Loaded id image) is h = absurd is
-refused_step (Changed id (Started arguments)) is h = absurd is
+refused_step (Unloaded id) is h = absurd is
 refused_step (Changed id (Instructed outcome)) is h = absurd (true_false (sym h))
+refused_step (Changed id change) is h = absurd is
 refused_step (Kept Unasked) is h = absurd is
 refused_step (Kept (Failed failure)) is h = failed_outcome failure
 
 allowed_step : (effect : table.Effect) → IsInstruction effect → failure_of effect ≡ None → is_accepted (Stepped (step_outcome effect)) ≡ true
 allowed_step (Loaded id image) is h = absurd is
-allowed_step (Changed id (Started arguments)) is h = absurd is
+allowed_step (Unloaded id) is h = absurd is
+allowed_step (Changed id (Instructed did.Broke)) is h = refl
 allowed_step (Changed id (Instructed did.Ran)) is h = refl
+allowed_step (Changed id (Instructed (did.Called call))) is h = refl
 allowed_step (Changed id (Instructed did.Ended)) is h = refl
 allowed_step (Changed id (Instructed (did.Faulted number))) is h = refl
+allowed_step (Changed id (Started arguments)) is h = absurd is
+allowed_step (Changed id change) is h = absurd is
 allowed_step (Kept Unasked) is h = absurd is
 allowed_step (Kept (Failed failure)) is h = absurd (some_none h)
 
 failed_step : (effect : table.Effect) → IsInstruction effect → (failure : StartFailure) → failure_of effect ≡ Some failure → effect ≡ Kept (Failed failure)
 failed_step (Loaded id image) is failure h = absurd is
-failed_step (Changed id (Started arguments)) is failure h = absurd is
+failed_step (Unloaded id) is failure h = absurd is
 failed_step (Changed id (Instructed outcome)) is failure h = absurd (some_none (sym h))
+failed_step (Changed id change) is failure h = absurd is
 failed_step (Kept Unasked) is failure h = absurd is
 failed_step (Kept (Failed why)) is failure h = ap (λ f. Kept (Failed f)) (cc)
 
--- an instruction event that does not fail in the table is accepted
-pub refusal_none : (m : Records) (by id : ℕ) (w : World) → m ≡ w.records → (o : Option StartFailure) → o ≡ failure_of (effect_in directive.Step id m) → o ≡ None → IsRefusal (after w (Step by id)).answer None
-refusal_none m by id w same o told none = allowed_step (effect_in directive.Step id w.records) (is_instruction w.records id) (ap (λ n. failure_of (effect_in directive.Step id n)) (sym same) ∙ sym told ∙ none)
+module _ (m : Records) (by id : ℕ) (w : World) (same : m ≡ w.records) (o : Option StartFailure) (told : (pool : List ℕ) → o ≡ failure_of (effect_in (directive.Step pool) id m)) where
+  abbrev effect : table.Effect
+  effect = effect_in (directive.Step w.pool) id w.records
 
--- and one that fails there is refused so
-pub refusal_some : (m : Records) (by id : ℕ) (w : World) → m ≡ w.records → (o : Option StartFailure) → o ≡ failure_of (effect_in directive.Step id m) → (failure : StartFailure) → o ≡ Some failure → (outcome : StepOutcome) → outcome ≡ step_outcome (Kept (Failed failure)) → IsRefusal (after w (Step by id)).answer (Some outcome)
-refusal_some m by id w same o told failure some outcome is =
-    let effect : effect_in directive.Step id w.records ≡ Kept (Failed failure) = failed_step (effect_in directive.Step id w.records) (is_instruction w.records id) failure (ap (λ n. failure_of (effect_in directive.Step id n)) (sym same) ∙ sym told ∙ some) in
-    (ap (λ d. is_accepted (Stepped (step_outcome d))) effect ∙ failed_outcome failure, ap Stepped is ∙ ap (λ d. Stepped (step_outcome d)) (sym effect))
+  told_here : failure_of effect ≡ o
+  told_here = ap (λ n. failure_of (effect_in (directive.Step w.pool) id n)) (sym same) ∙ sym (told w.pool)
+
+  -- an instruction event that does not fail in the table is accepted
+  pub refusal_none : o ≡ None → IsRefusal (after w (Step by id)).answer None
+  refusal_none none = allowed_step effect (is_instruction w.pool w.records id) (told_here ∙ none)
+
+  -- and one that fails there is refused so
+  pub refusal_some : (failure : StartFailure) → o ≡ Some failure → (outcome : StepOutcome) → outcome ≡ step_outcome (Kept (Failed failure)) → IsRefusal (after w (Step by id)).answer (Some outcome)
+  refusal_some failure some outcome is =
+      let fails : effect ≡ Kept (Failed failure) = failed_step effect (is_instruction w.pool w.records id) failure (told_here ∙ some) in
+      (ap (λ d. is_accepted (Stepped (step_outcome d))) fails ∙ failed_outcome failure, ap Stepped is ∙ ap (λ d. Stepped (step_outcome d)) (sym fails))
 
 -- ---- no answer is that of a full journal
 
@@ -154,7 +171,9 @@ is_full (Requested (Err engine.JournalFull)) = true
 is_full (Requested (Err (engine.Discarded cause))) = false
 is_full (Requested (Err engine.Memory)) = false
 is_full (Stepped S.JournalFull) = true
+is_full (Stepped S.Broke) = false
 is_full (Stepped S.Ran) = false
+is_full (Stepped S.Called) = false
 is_full (Stepped S.Ended) = false
 is_full (Stepped (S.Faulted number)) = false
 is_full (Stepped S.NotLoaded) = false
@@ -163,8 +182,6 @@ is_full (Stepped S.NotRunning) = false
 module _ (origin : Origin) (m : Records) (w : World) where
   roomy_request : (request : Command) → is_full (answer_by (command_effect request origin m).reply w) ≡ false
   roomy_request (command.Load id code) = refl
-  roomy_request (command.Activate id arguments) = refl
-  roomy_request command.Status = refl
   roomy_request other = refl
 
   roomy_service : (r : Result Command RequestFault) → is_full (answer_by (service_effect r origin m).reply w) ≡ false
@@ -182,19 +199,37 @@ roomy_failure other = refl
 
 roomy_step : (effect : table.Effect) → IsInstruction effect → is_full (Stepped (step_outcome effect)) ≡ false
 roomy_step (Loaded id image) is = absurd is
-roomy_step (Changed id (Started arguments)) is = absurd is
+roomy_step (Unloaded id) is = absurd is
+roomy_step (Changed id (Instructed did.Broke)) is = refl
 roomy_step (Changed id (Instructed did.Ran)) is = refl
+roomy_step (Changed id (Instructed (did.Called call))) is = refl
 roomy_step (Changed id (Instructed did.Ended)) is = refl
 roomy_step (Changed id (Instructed (did.Faulted number))) is = refl
+roomy_step (Changed id (Started arguments)) is = absurd is
+roomy_step (Changed id change) is = absurd is
 roomy_step (Kept Unasked) is = absurd is
 roomy_step (Kept (Failed failure)) is = roomy_failure failure
 
 roomy : (w : World) (e : Event) → is_full (after w e).answer ≡ false
 roomy w (Request by time octets) = roomy_octets (telecommand_of w.apid octets) time w.records w
-roomy w (Step by id) = roomy_step (effect_in directive.Step id w.records) (is_instruction w.records id)
+roomy w (Step by id) = roomy_step (effect_in (directive.Step w.pool) id w.records) (is_instruction w.pool w.records id)
 
 pub request_has_room : (w : World) (e : Event) → (after w e).answer ≡ Requested (Err engine.JournalFull) → ⊥
 request_has_room w e is = true_false (ap is_full (sym is) ∙ roomy w e)
 
 pub step_has_room : (w : World) (e : Event) → (after w e).answer ≡ Stepped S.JournalFull → ⊥
 step_has_room w e is = true_false (ap is_full (sym is) ∙ roomy w e)
+
+-- ---- whether a procedure runs
+
+step_runs : (pool : List ℕ) (o : Option Rec) → is_running o ≡ is_none (failure_by (decision_on (directive.Step pool) o))
+step_runs pool None = refl
+step_runs pool (Some r) =
+    elim r.control.status as (λ s. is_running_status s ≡ is_none (failure_by (transition (directive.Step pool) (Some s) r.control.pending (length r.mailbox)))) [
+      | Inactive ↦ refl
+      | Running ↦ refl
+      | Held ↦ refl
+    ]
+
+pub running_steps : (m : Records) (id : ℕ) (w : World) → m ≡ w.records → (o : Option StartFailure) → ((pool : List ℕ) → o ≡ failure_by (decision_on (directive.Step pool) (get m id))) → is_none o ≡ is_running (get w.records id)
+running_steps m id w same o told = ap is_none (told []) ∙ sym (step_runs [] (get m id)) ∙ ap (λ n. is_running (get n id)) same

@@ -5,7 +5,7 @@ use Rattle.ocp_table.specs.declared.answers.StepOutcome.{StepOutcome}
 use Rattle.ocp_table.specs.declared.answers.StepOutcome.TheVariants as S
 use Rattle.ocp_table.specs.RequestTable as directive
 use Rattle.ocp_table.specs.Deciding.{effect_in}
-use Rattle.ocp_table.specs.Effects.{records_by}
+use Rattle.ocp_table.specs.Effects.{records_by, pool_by}
 use Rattle.ocp_reports.specs.Packets.{packets}
 use Rattle.ocp_world.specs.declared.answers.EngineFault.{EngineFault}
 use Rattle.ocp_world.specs.declared.answers.EngineFault.TheVariants as engine
@@ -17,7 +17,7 @@ use Rattle.ocp_world.specs.Instructions.{instruction_effect}
 -- what an event does in a world
 abbrev pub effect_of : World → Event → Effect
 effect_of w (Request by time octets) = request_effect (telecommand_of w.apid octets) time w.records
-effect_of w (Step by id) = instruction_effect (effect_in directive.Step id w.records)
+effect_of w (Step by id) = instruction_effect (effect_in (directive.Step w.pool) id w.records)
 
 -- the reports of a request, each a whole packet, or the outcome of an instruction
 pub data Answer : Type 0 where
@@ -39,7 +39,7 @@ abbrev pub world_after : Effect → World → World
 world_after effect w = record {
   apid = w.apid;
   records = records_by effect.on_records w.records;
-  pool = w.pool;
+  pool = pool_by effect.on_records w.pool;
   reports = reports_by effect.reply w.reports;
 }
 
@@ -57,7 +57,9 @@ after w e = record {
 abbrev pub is_accepted : Answer → Bool
 is_accepted (Requested (Ok reports)) = true
 is_accepted (Requested (Err fault)) = false
+is_accepted (Stepped S.Broke) = true
 is_accepted (Stepped S.Ran) = true
+is_accepted (Stepped S.Called) = true
 is_accepted (Stepped S.Ended) = true
 is_accepted (Stepped (S.Faulted number)) = true
 is_accepted (Stepped S.NotLoaded) = false

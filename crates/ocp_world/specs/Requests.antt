@@ -4,7 +4,6 @@ use Rattle.pus_fields.specs.declared.fault.TcFault.{TcFault}
 use Rattle.pus_fields.specs.declared.fault.TcFault.TheVariants.{Discarded, Rejected}
 use Rattle.pus_fields.specs.Telecommand.{Telecommand}
 use Rattle.obcp_types.specs.declared.failure.RequestFault.{RequestFault}
-use Rattle.obcp_types.specs.declared.failure.RequestFault.TheVariants as fault
 use Rattle.obcp_types.specs.declared.failure.AcceptanceFailure.{AcceptanceFailure}
 use Rattle.obcp_types.specs.declared.failure.AcceptanceFailure.TheVariants as acceptance
 use Rattle.obcp_types.specs.declared.failure.StartFailure.{StartFailure}
@@ -18,6 +17,7 @@ use Rattle.verification.specs.declared.outcome.Outcome.TheVariants as outcome
 use Rattle.ocp_table.specs.Records.{Records}
 use Rattle.ocp_table.specs.Effects.{Kept, Unasked, failure_of}
 use Rattle.ocp_table.specs.Effects as table
+use Rattle.ocp_table.specs.RequestTable.{Directive}
 use Rattle.ocp_table.specs.RequestTable as directive
 use Rattle.ocp_table.specs.Deciding.{effect_in}
 use Rattle.ocp_table.specs.Shown.{statuses_of}
@@ -49,14 +49,23 @@ start_effect origin answer effect = record {
 abbrev pub status_report : Records → Report
 status_report m = report.Status (statuses_of m)
 
--- the request to load, activate or report the status; the others are not served
+-- what is asked of one procedure
+abbrev pub directive_effect : Origin → Directive → ℕ → Records → Effect
+directive_effect origin asked id m = start_effect origin [] (effect_in asked id m)
+
 abbrev pub command_effect : Command → Origin → Records → Effect
-command_effect (command.Load id code) origin m =
-    start_effect origin [] (effect_in (directive.Load code) id m)
+command_effect (command.Load id code) origin m = directive_effect origin (directive.Load code) id m
+command_effect (command.Unload id) origin m = directive_effect origin directive.Unload id m
 command_effect (command.Activate id arguments) origin m =
-    start_effect origin [] (effect_in (directive.Activate arguments) id m)
+    directive_effect origin (directive.Activate arguments) id m
+command_effect (command.Stop id step) origin m = directive_effect origin (directive.Stop step) id m
+command_effect (command.Suspend id step) origin m =
+    directive_effect origin (directive.Suspend step) id m
+command_effect (command.Resume id) origin m = directive_effect origin directive.Resume id m
+command_effect (command.Communicate id words) origin m =
+    directive_effect origin (directive.Communicate words) id m
 command_effect command.Status origin m = start_effect origin (status_report m ∷ []) (Kept Unasked)
-command_effect other origin m = refusal_effect origin (acceptance.Request fault.Subtype)
+command_effect (command.Abort id) origin m = directive_effect origin directive.Abort id m
 
 -- the request of a telecommand
 unfoldable pub command_of : Telecommand → Result Command RequestFault

@@ -20,7 +20,9 @@ is_running (Some r) = is_running_status r.control.status
 
 -- whether a slice goes on after this outcome, as long as the procedure runs
 abbrev pub is_on : StepOutcome → Bool
+is_on S.Broke = false
 is_on S.Ran = true
+is_on S.Called = true
 is_on S.Ended = false
 is_on (S.Faulted number) = false
 is_on S.NotLoaded = false

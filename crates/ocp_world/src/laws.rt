@@ -1,5 +1,5 @@
 //! Laws on worlds and events. The functions do nothing when they run: their contracts are the laws.
-ghost use Rattle.std.specs.Prelude.{◌≡◌, ◌≢◌, ℕ, false, List, None, Err};
+ghost use Rattle.std.specs.Prelude.{◌≡◌, ◌≢◌, ℕ, false, List, Err};
 ghost use Rattle.std.specs.FinMap.{get};
 ghost use Rattle.ocp_world.specs.World.{World, Event, Request, Step};
 ghost use Rattle.ocp_world.specs.After.{Requested, Stepped, after, is_accepted};
@@ -35,15 +35,12 @@ pub fn an_instruction_changes_its_own_procedure()
     a_directive_changes_its_own_procedure();
 }
 
-/// A request leaves each procedure's machine, or starts it anew: it is never changed in the midst of its run. No request
-/// that is served makes a procedure go.
+/// A request leaves each procedure's machine, or starts it anew, or the procedure goes: it is never changed in the midst
+/// of its run.
 pub fn requests_keep_or_start_machines()
-    ensures machine { (w : World) (by time : ℕ) (octets : List ℕ) (id : ℕ) →
+    ensures { (w : World) (by time : ℕ) (octets : List ℕ) (id : ℕ) →
         let next = (after w (Request by time octets)).world in
         IsKeptOrStarted (machine_of (get w.records id)) (machine_of (get next.records id)) }
-    ensures loaded { (w : World) (by time : ℕ) (octets : List ℕ) (id : ℕ) →
-        let next = (after w (Request by time octets)).world in
-        get w.records id ≢ None → get next.records id ≢ None }
 {
     ocp_table::laws::requests_keep_or_start_machines();
 }

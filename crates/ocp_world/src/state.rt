@@ -1,23 +1,23 @@
 //! What the engine keeps of its world.
 
-ghost use Rattle.std.specs.Prelude.{◌≡◌, ◌≤◌, ℕ, List, [], ◌∷◌, IfOk, length};
+ghost use Rattle.std.specs.Prelude.{◌≡◌, ◌≤◌, ℕ, List, [], ◌∷◌, IfOk, slice_get};
 ghost use Rattle.std.specs.Option.{option_to_list};
 ghost use Rattle.std.specs.FinMap.{get};
 ghost use Rattle.pus_fields.specs.TelecommandFaults.{telecommand_of};
 ghost use Rattle.ocp_table.specs.RequestTable as directive;
-ghost use Rattle.ocp_table.specs.Deciding.{effect_in};
 ghost use Rattle.ocp_table.specs.Effects.{Kept, Unasked, Failed};
-ghost use Rattle.ocp_table.specs.Shown.{view_at};
+ghost use Rattle.ocp_table.specs.Shown.{view_at, directive_of, HasFewArguments};
 ghost use Rattle.ocp_reports.specs.Reports.{reports_of};
 ghost use Rattle.ocp_world.specs.World.{World, opening, Step, Request as Asked};
 ghost use Rattle.ocp_world.specs.Effect.{Sends};
-ghost use Rattle.ocp_world.specs.Requests.{refusal_effect, start_effect, command_effect, request_effect, status_report};
+ghost use Rattle.ocp_world.specs.Requests.{refusal_effect, start_effect, directive_effect, command_effect, request_effect, status_report};
 ghost use Rattle.ocp_world.specs.After.{Stepped, after, effect_of};
 
 use crate::convert::{command_of, status_report};
 use crate::{EngineFault, Slice};
 use obcp_messages::{Report, Request};
-use obcp_types::{AcceptanceFailure, RequestFault, StartFailure};
+use obcp_types::{AcceptanceFailure, StartFailure};
+use ocp_pool::{MAX_POOL_WORDS, Pool};
 use ocp_reports::{Origin, Reports, Sender, count_after};
 use ocp_table::{Directive, LoadFailure, StepOutcome, Table, View};
 use pus_fields::{Tc, TcFault};
@@ -25,11 +25,12 @@ use space_packet::{Apid, SequenceCount};
 use std::alloc::{AllocError, Allocator};
 use verification::Outcome;
 
-/// The procedures, the application process identifier, and the sequence count of the next report.
+/// The procedures, the pool, the application process identifier, and the sequence count of the next report.
 #[derive(Drop)]
 pub struct State<A: Allocator> {
     pub(crate) apid: Apid,
     pub(crate) table: Table<A>,
+    pub(crate) pool: Pool<A>,
     pub(crate) count: SequenceCount,
 }
 
@@ -37,13 +38,18 @@ impl<A: Allocator> State<A> {
     ghost use Rattle.ocp_world.specs.Mirror.State.{IsWorld, Does, DoesIn};
     ghost use Rattle.ocp_world.specs.Mirror.Answering.{IsRefusal};
 
-    /// The state in which no procedure is loaded, with a pool of any size.
-    pub fn new(alloc: A, apid: Apid) -> Result<Self, AllocError>
-        ensures { IfOk result (λ state. (words : ℕ) → IsWorld (opening apid words) state) }
+    /// The state in which no procedure is loaded, with so many pool words, all of them 0.
+    pub fn new(alloc: A, apid: Apid, words: u16) -> Result<Self, AllocError>
+    where
+        A: Copy,
+        requires some { 1 ≤ words }
+        requires few { words ≤ MAX_POOL_WORDS }
+        ensures { IfOk result (IsWorld (opening apid words)) }
     {
         Ok(State {
             apid,
             table: Table::new(alloc)?,
+            pool: Pool::new(alloc, words)?,
             count: first_count(),
         })
     }
@@ -60,7 +66,7 @@ impl<A: Allocator> State<A> {
         ensures { (w : World) (by : ℕ) → IsWorld w self.now →
             IsRefusal (after w (Step by id)).answer result }
     {
-        match self.table.failure(id, &Directive::Step) {
+        match self.table.step_failure(id) {
             Some(failure) => Some(StepOutcome::of_failure(failure)),
             None => None,
         }
@@ -73,7 +79,14 @@ impl<A: Allocator> State<A> {
         ensures answer { (w : World) (by : ℕ) → IsWorld w self.old →
             Stepped result ≡ (after w (Step by id)).answer }
     {
-        self.table.instruction(id)
+        self.table.instruction(id, &mut self.pool)
+    }
+
+    /// The pool word at an index, where there is one.
+    pub fn pool_word(&self, index: u64) -> Option<u64>
+        ensures { (w : World) → IsWorld w self.now → result ≡ slice_get w.pool index }
+    {
+        self.pool.get(index)
     }
 
     // Sends the reports of a request that changes no procedure.
@@ -91,6 +104,7 @@ impl<A: Allocator> State<A> {
           reply = Sends (reports_of origin outcome (option_to_list answer.now));
         }) }
         ensures table { self.new.table ≡ self.old.table }
+        ensures pool { self.new.pool ≡ self.old.pool }
     {
         let sender = Sender {
             apid: self.apid,
@@ -141,7 +155,7 @@ impl<A: Allocator> State<A> {
     where
         A: Copy,
         ensures { Does self.old self.new result
-            (λ m. start_effect origin [] (effect_in (directive.Load code.now) id m)) }
+            (λ m. directive_effect origin (directive.Load code.now) id m) }
     {
         match self.table.check_load(alloc, id, code) {
             Ok(loading) => {
@@ -154,25 +168,42 @@ impl<A: Allocator> State<A> {
         }
     }
 
-    // Activates a procedure.
-    fn activate(
+    // Unloads a procedure.
+    #[tactic(auto, using(crate::proofs::Calm::unload_leaves_pool))]
+    fn unload(&mut self, alloc: A, origin: Origin, id: u16) -> Result<Reports<A>, EngineFault>
+    where
+        A: Copy,
+        ensures { Does self.old self.new result
+            (λ m. directive_effect origin directive.Unload id m) }
+    {
+        if let Some(failure) = self.table.unload_failure(id) {
+            return self.fail(alloc, origin, failure);
+        }
+        let reports = self.reply(alloc, origin, Outcome::Done, &None)?;
+        self.table.unload(id).unwrap();
+        Ok(reports)
+    }
+
+    // Does what a request asks of a loaded procedure.
+    #[tactic(auto, using(crate::proofs::Calm::directive_leaves_pool))]
+    fn direct(
         &mut self,
         alloc: A,
         origin: Origin,
         id: u16,
-        arguments: &[u8],
+        directive: Directive<'_>,
     ) -> Result<Reports<A>, EngineFault>
     where
         A: Copy,
-        requires { length arguments.now ≤ 256 }
+        requires { HasFewArguments (directive_of directive) }
         ensures { Does self.old self.new result
-            (λ m. start_effect origin [] (effect_in (directive.Activate arguments.now) id m)) }
+            (λ m. directive_effect origin (directive_of directive.entry) id m) }
     {
-        if let Some(failure) = self.table.failure(id, &Directive::Activate(arguments)) {
+        if let Some(failure) = self.table.failure(id, &directive) {
             return self.fail(alloc, origin, failure);
         }
         let reports = self.reply(alloc, origin, Outcome::Done, &None)?;
-        self.table.activate(id, arguments).unwrap();
+        self.table.apply(id, directive).unwrap();
         Ok(reports)
     }
 
@@ -200,18 +231,20 @@ impl<A: Allocator> State<A> {
     {
         match request {
             Request::Load { id, code } => self.load(alloc, origin, id, code.octets()),
-            Request::Activate { id, arguments } => self.activate(
-                alloc,
-                origin,
-                id,
-                arguments.octets(),
-            ),
+            Request::Unload { id } => self.unload(alloc, origin, id),
+            Request::Activate { id, arguments } => {
+                self.direct(alloc, origin, id, Directive::Activate(arguments.octets()))
+            }
+            Request::Stop { id, step } => self.direct(alloc, origin, id, Directive::Stop(step)),
+            Request::Suspend { id, step } => {
+                self.direct(alloc, origin, id, Directive::Suspend(step))
+            }
+            Request::Resume { id } => self.direct(alloc, origin, id, Directive::Resume),
+            Request::Communicate { id, words } => {
+                self.direct(alloc, origin, id, Directive::Communicate(words.as_slice()))
+            }
             Request::Status => self.report_status(alloc, origin),
-            _ => self.refuse(
-                alloc,
-                origin,
-                AcceptanceFailure::Request(RequestFault::Subtype),
-            ),
+            Request::Abort { id } => self.direct(alloc, origin, id, Directive::Abort),
         }
     }
 
@@ -262,15 +295,26 @@ impl<A: Allocator> State<A> {
     ghost use Rattle.ocp_world.specs.Replay.{replay_from};
     ghost use Rattle.ocp_world.specs.Slice.{is_on, is_running, slice_count, slice_last};
 
+    // Whether a procedure runs.
+    fn is_running(&self, id: u16) -> bool
+        ensures { (w : World) → IsWorld w self.now → result ≡ is_running (get w.records id) }
+    {
+        match self.table.step_failure(id) {
+            Some(_) => false,
+            None => true,
+        }
+    }
+
     // Whether a slice goes on after this outcome.
     fn goes_on(&self, id: u16, outcome: StepOutcome) -> bool
         ensures { (w : World) → IsWorld w self.now →
             result ≡ (if is_on outcome then is_running (get w.records id) else false) }
     {
-        if outcome != StepOutcome::Ran {
-            return false;
+        match outcome {
+            StepOutcome::Ran => self.is_running(id),
+            StepOutcome::Called => self.is_running(id),
+            _ => false,
         }
-        self.table.failure(id, &Directive::Step).is_none()
     }
 
     /// Does instructions of one procedure until the budget is used or it no longer goes on.

@@ -1,12 +1,15 @@
 -- How records are stored, for the models whose value holds one.
-use Rattle.std.specs.Prelude.{ℕ, List, refl}
-use Rattle.std.specs.Coded.{Coded, code_by, coded×, coded_ℕ, coded_list}
+use Rattle.std.specs.Prelude.{ℕ, Bool, List, refl}
+use Rattle.std.specs.Coded.{Coded, code_by, coded×, coded_ℕ, coded_bool, coded_list}
 use Rattle.std.specs.FinMap.{code}
 use Rattle.bpf_step.specs.Machine.{State}
 use Rattle.bpf_step.specs.Mirror.Codes.{state_code}
 use Rattle.ocp_table.specs.declared.control.Control.{Control}
 use Rattle.ocp_table.specs.contracts.control.Control as C
 use Rattle.ocp_table.specs.Records.{Execution, Rec, Records}
+
+abbrev pub octets : Coded (List ℕ)
+octets = coded_list coded_ℕ
 
 abbrev pub execution_code : Coded Execution
 execution_code =
@@ -17,10 +20,18 @@ execution_code =
 
 abbrev pub rec_code : Coded Rec
 rec_code =
-    code_by (List ℕ × (State × Control))
-    (coded× (coded_list coded_ℕ) (coded× state_code (C.the_row).coded))
-    (λ r. (r.image, (r.machine, r.control)))
-    (λ p. record { image = p.0; machine = p.1.0; control = p.1.1 })
+    code_by (List ℕ × (State × (List ℕ × (Control × (List ℕ × Bool)))))
+    (coded× octets (coded× state_code (coded× octets
+    (coded× (C.the_row).coded (coded× octets coded_bool)))))
+    (λ r. (r.image, (r.machine, (r.mailbox, (r.control, (r.breakpoints, r.traced))))))
+    (λ p. record {
+      image = p.0;
+      machine = p.1.0;
+      mailbox = p.1.1.0;
+      control = p.1.1.1.0;
+      breakpoints = p.1.1.1.1.0;
+      traced = p.1.1.1.1.1;
+    })
     (λ _. refl)
 
 abbrev pub records_code : Coded Records

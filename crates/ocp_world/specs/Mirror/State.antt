@@ -9,10 +9,10 @@ use Rattle.ocp_world.specs.Answers.{Answers}
 use Rattle.ocp_world.specs.declared.state.State.{State}
 
 module _ {A : Type 0} where
-  -- nothing reads or writes the pool yet, so a state stands for worlds of any pool
   pub record IsWorld (w : World) (s : State A) : Type 0 where
     pub apid : s.apid ≡ w.apid
     pub records : s.table ≡ w.records
+    pub pool : s.pool ≡ w.pool
     pub count : s.count ≡ w.reports % 16384
 
   -- the state stands for the next world, or where the request has no reports for the old one

@@ -1,9 +1,10 @@
-use Rattle.std.proofs.Common.{Ok, refl, sym, subst}
+use Rattle.std.proofs.Common.{◌≡◌, Ok, refl, sym, subst, true, ◌∙◌}
 use Rattle.ocp_world.specs.World.{Request, Step}
 use Rattle.ocp_world.specs.After.{Requested, Stepped}
-use Rattle.ocp_core.specs.Running.{IsDone}
+use Rattle.ocp_core.specs.Log.{world_of}
+use Rattle.ocp_core.specs.Running.{IsDone, finds_full}
 use Rattle.ocp_core.specs.Journal.{event_of}
-use Rattle.ocp_core.proofs.Runs.{done_event, not_full, world_done}
+use Rattle.ocp_core.proofs.Runs.{done_event, full_event, full_leaves, not_full, world_done}
 use Rattle.ocp_core.proofs.engine.Engine.apply.Goals as goal
 
 pub returns-in-Ok : goal.returns-in-Ok
@@ -29,3 +30,10 @@ returns-in_default g c =
       journal = c.step.ensures.journal;
       room = done.1;
     })
+
+pub returns-in-JournalFull : goal.returns-in-JournalFull
+returns-in-JournalFull g c =
+    let e = Step c.in-Step.by c.in-Step.id in
+    let full = full_event c.args.self.now e (λ is. c.worlds_have_no_full_journal.ensures.step (world_of c.args.self.now) e (sym is)) c.in-JournalFull.ensures.answer in
+    subst (λ x. (finds_full c.args.self.now (event_of x) ≡ true) × (c.step.new.self ≡ c.args.self.now)) (sym c.in-Step.is)
+    (full, c.in-JournalFull.ensures.journal ∙ full_leaves c.args.self.now e full)

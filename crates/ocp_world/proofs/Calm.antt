@@ -1,0 +1,102 @@
+-- A request leaves the pool.
+use Rattle.std.proofs.Common.{◌≡◌, ℕ, ◌+◌, Bool, true, false, cond, List, length, Option, Some, None, refl}
+use Rattle.std.specs.Prelude.{Result, Ok, Err, nat_le}
+use Rattle.std.specs.FinMap.{get}
+use Rattle.bpf_types.specs.declared.line.Line.{Line}
+use Rattle.obcp_types.specs.declared.status.Status.{Status}
+use Rattle.obcp_types.specs.declared.status.Status.TheVariants.{Inactive, Running, Held}
+use Rattle.obcp_types.specs.declared.failure.StartFailure.TheVariants.{MailboxFull}
+use Rattle.ocp_pool.specs.declared.mailbox.TheConstants.{MAX_MAILBOX_WORDS}
+use Rattle.ocp_loader.specs.declared.fault.LoadFault.{LoadFault}
+use Rattle.ocp_loader.specs.LoadResult.{load_result}
+use Rattle.ocp_table.specs.declared.control.Pending.{Pending}
+use Rattle.ocp_table.specs.declared.control.Pending.TheVariants as pending
+use Rattle.ocp_table.specs.Records.{Rec, Records}
+use Rattle.ocp_table.specs.Effects.{Loaded, Unloaded, Changed, Kept, Started, Sent, Pended, Quit, Resumed, Stepped, pool_by}
+use Rattle.ocp_table.specs.Effects as table
+use Rattle.ocp_table.specs.RequestTable.{Directive, Load, Unload, Activate, Stop, Suspend, Resume, Abort, Communicate, Step, Decision, Loads, Unloads, Changes, Steps, Fails, transition, sent}
+use Rattle.ocp_table.specs.Deciding.{effect_in, effect_by, effect_of_load, decision_on, status_of, pending_of, words_of, is_full}
+use Rattle.ocp_table.specs.Shown.{directive_of}
+use Rattle.ocp_table.specs.declared.directive.Directive as D
+use Rattle.ocp_table.specs.declared.directive.Directive.TheVariants as asked
+use Rattle.ocp_table.specs.Laws.{IsRequest}
+
+-- the change is not that of an instruction
+abbrev IsCalm : table.Change → Type 0
+IsCalm (Stepped outcome) = ⊥
+IsCalm change = Unit {0}
+
+abbrev IsCalmDecision : Decision → Type 0
+IsCalmDecision (Changes change) = IsCalm change
+IsCalmDecision (Steps pool) = ⊥
+IsCalmDecision decision = Unit {0}
+
+calm_sent : (words : List ℕ) (there : ℕ) → IsCalmDecision (sent words there)
+calm_sent words there = elim (nat_le (there + length words) MAX_MAILBOX_WORDS) as (λ b. IsCalmDecision (cond b (Changes (Sent words)) (Fails MailboxFull))) [ true ↦ tt | false ↦ tt ]
+
+calm : (d : Directive) → IsRequest d → (s : Option Status) (p : Pending) (there : ℕ) → IsCalmDecision (transition d s p there)
+calm (Load image) h None p there = tt
+calm (Load image) h (Some Inactive) p there = tt
+calm (Load image) h (Some Running) p there = tt
+calm (Load image) h (Some Held) p there = tt
+calm Unload h None p there = tt
+calm Unload h (Some Inactive) p there = tt
+calm Unload h (Some Running) p there = tt
+calm Unload h (Some Held) p there = tt
+calm (Activate arguments) h None p there = tt
+calm (Activate arguments) h (Some Inactive) p there = tt
+calm (Activate arguments) h (Some Running) p there = tt
+calm (Activate arguments) h (Some Held) p there = tt
+calm (Stop k) h None p there = tt
+calm (Stop k) h (Some Inactive) p there = tt
+calm (Stop k) h (Some Running) p there = tt
+calm (Stop k) h (Some Held) p there = tt
+calm (Suspend k) h None p there = tt
+calm (Suspend k) h (Some Inactive) p there = tt
+calm (Suspend k) h (Some Running) pending.Nothing there = tt
+calm (Suspend k) h (Some Running) (pending.Suspend t) there = tt
+calm (Suspend k) h (Some Running) (pending.Stop t) there = tt
+calm (Suspend k) h (Some Held) p there = tt
+calm Resume h None p there = tt
+calm Resume h (Some Inactive) p there = tt
+calm Resume h (Some Running) p there = tt
+calm Resume h (Some Held) p there = tt
+calm Abort h None p there = tt
+calm Abort h (Some Inactive) p there = tt
+calm Abort h (Some Running) p there = tt
+calm Abort h (Some Held) p there = tt
+calm (Communicate words) h None p there = tt
+calm (Communicate words) h (Some Inactive) p there = tt
+calm (Communicate words) h (Some Running) p there = calm_sent words there
+calm (Communicate words) h (Some Held) p there = calm_sent words there
+calm (Step pool) h s p there = absurd h
+
+pool_by_load : (full : Bool) (r : Result (List (Option Line)) LoadFault) (id : ℕ) (image : List ℕ) (pool : List ℕ) → pool_by (effect_of_load full r id image) pool ≡ pool
+pool_by_load true r id image pool = refl
+pool_by_load false (Ok lines) id image pool = refl
+pool_by_load false (Err fault) id image pool = refl
+
+pool_by_decision : (d : Decision) → IsCalmDecision d → (id : ℕ) (o : Option Rec) (full : Bool) (pool : List ℕ) → pool_by (effect_by d id o full) pool ≡ pool
+pool_by_decision (Loads image) h id o full pool = pool_by_load full (load_result image) id image pool
+pool_by_decision Unloads h id o full pool = refl
+pool_by_decision (Changes (Stepped outcome)) h id o full pool = absurd h
+pool_by_decision (Changes change) h id o full pool = refl
+pool_by_decision (Steps words) h id o full pool = absurd h
+pool_by_decision (Fails failure) h id o full pool = refl
+
+pub request_leaves_pool : (d : Directive) → IsRequest d → (id : ℕ) (m : Records) (pool : List ℕ) → pool_by (effect_in d id m) pool ≡ pool
+request_leaves_pool d h id m pool = pool_by_decision (decision_on d (get m id)) (calm d h (status_of (get m id)) (pending_of (get m id)) (words_of (get m id))) id (get m id) (is_full m) pool
+
+pub unload_leaves_pool : (id : ℕ) (m : Records) (pool : List ℕ) → pool_by (effect_in Unload id m) pool ≡ pool
+unload_leaves_pool id m pool = request_leaves_pool Unload tt id m pool
+
+is_request : (d : D.Directive) → IsRequest (directive_of d)
+is_request (asked.Activate arguments) = tt
+is_request (asked.Stop k) = tt
+is_request (asked.Suspend k) = tt
+is_request asked.Resume = tt
+is_request asked.Abort = tt
+is_request (asked.Communicate words) = tt
+
+pub directive_leaves_pool : (d : D.Directive) (id : ℕ) (m : Records) (pool : List ℕ) → pool_by (effect_in (directive_of d) id m) pool ≡ pool
+directive_leaves_pool d id m pool = request_leaves_pool (directive_of d) (is_request d) id m pool
