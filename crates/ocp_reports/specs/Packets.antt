@@ -1,7 +1,8 @@
 -- The packets of reports, one after another.
-use Rattle.std.specs.Prelude.{ℕ, ◌+◌, ◌%◌, List, [], ◌∷◌}
+use Rattle.std.specs.Prelude.{ℕ, ◌+◌, ◌%◌, List, [], ◌∷◌, IsOk}
 use Rattle.space_packet.specs.declared.range.TheConstants.{SEQUENCE_COUNTS}
 use Rattle.pus_fields.specs.Telemetry.{Telemetry, telemetry_octets}
+use Rattle.pus_fields.specs.TelemetryFaults as reading
 use Rattle.obcp_messages.specs.Report.{service_of, kind_of, report_data}
 use Rattle.ocp_reports.specs.Origin.{Dispatch}
 
@@ -22,3 +23,7 @@ abbrev pub packets : ℕ → ℕ → List Dispatch → List (List ℕ)
 packets apid count [] = []
 packets apid count (dispatch ∷ dispatches) =
     telemetry_octets (telemetry_of apid count dispatch) ∷ packets apid (count + 1) dispatches
+
+-- the octets are a packet that is read as telemetry
+abbrev pub IsTelemetryPacket : List ℕ → Type 0
+IsTelemetryPacket octets = IsOk (reading.telemetry_of octets)

@@ -54,9 +54,17 @@ impl<A: Allocator> Model for Reports<A> {
     ghost Value = { List (List ℕ) };
 
     ghost view = { λ r. r.packets.items };
+
+    ghost use Rattle.std.specs.Prelude.{All};
+    ghost use Rattle.ocp_reports.specs.Packets.{IsTelemetryPacket};
+
+    ghost invariant = { λ r. All IsTelemetryPacket r.packets.items };
 }
 
 impl<A: Allocator> Reports<A> {
+    ghost use Rattle.std.specs.Prelude.{All};
+    ghost use Rattle.ocp_reports.specs.Packets.{IsTelemetryPacket};
+
     pub(crate) fn new(alloc: A) -> Self
         ensures { result ≡ [] }
     {
@@ -67,6 +75,7 @@ impl<A: Allocator> Reports<A> {
 
     /// Adds a packet. Where there is no memory, nothing changes.
     pub(crate) fn push(&mut self, packet: Octets<A>) -> Result<(), AllocError>
+        requires { IsTelemetryPacket packet }
         ensures ok { OnOk result (self.new ≡ self.old ++ packet ∷ []) }
         ensures err { OnErr result (self.new ≡ self.old) }
     {
@@ -87,8 +96,10 @@ impl<A: Allocator> Reports<A> {
         self.packets.is_empty()
     }
 
+    /// The packets, each of which is read as telemetry.
     pub fn packets(&self) -> &[Octets<A>]
-        ensures { result.now ≡ self.now }
+        ensures value { result.now ≡ self.now }
+        ensures telemetry { All IsTelemetryPacket self.now }
     {
         self.packets.as_slice()
     }

@@ -6,11 +6,11 @@ ghost use Rattle.obcp_messages.specs.declared.report.Report.{Report as Sent};
 ghost use Rattle.pus_fields.specs.Telemetry.{telemetry_octets};
 ghost use Rattle.ocp_reports.specs.Origin.{dispatch_of};
 ghost use Rattle.ocp_reports.specs.Reports.{report_of, dispatch_of_notice, reports_of};
-ghost use Rattle.ocp_reports.specs.Packets.{packets, telemetry_of};
+ghost use Rattle.ocp_reports.specs.Packets.{packets, telemetry_of, IsTelemetryPacket};
 
 use crate::{Octets, Origin, Reports};
 use obcp_messages::{Report, StartFault, write_report};
-use pus_fields::{Tm, WriteFault, write_tm};
+use pus_fields::{Tm, WriteFault, telemetry_octets_are_read_back, write_tm};
 use space_packet::{Apid, SEQUENCE_COUNTS, SequenceCount};
 use std::alloc::{AllocError, Allocator};
 use verification::{Notice, Outcome, notices};
@@ -64,10 +64,12 @@ impl Sender {
         before: usize,
         report: &Report,
     ) -> Result<Octets<A>, AllocError>
-        ensures { let count = self.now.count + before in
+        ensures octets { let count = self.now.count + before in
             IfOk result (λ p. p ≡
             telemetry_octets (telemetry_of self.now.apid count (dispatch_of origin report.now))) }
+        ensures telemetry { IfOk result IsTelemetryPacket }
     {
+        telemetry_octets_are_read_back();
         let mut data = Vec::new(alloc);
         write_report(report, &mut data)?;
         let telemetry = Tm::new(
