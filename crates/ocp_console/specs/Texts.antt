@@ -1,5 +1,5 @@
 -- What is printed of reports, steps and procedures.
-use Rattle.std.specs.Prelude.{ℕ, ◌+◌, List, [], ◌∷◌, ◌++◌, Result, Ok, Err, Option, Some, None, codes}
+use Rattle.std.specs.Prelude.{◌≡◌, ℕ, ◌+◌, List, [], ◌∷◌, ◌++◌, Result, Ok, Err, Option, Some, None, codes}
 use Rattle.std.specs.Fmt.{decimal}
 use Rattle.std.specs.Int.{w64, to_be_bytes}
 use Rattle.hex.specs.Hex.{encode_lower}
@@ -31,6 +31,12 @@ line_of (Err fault) = []
 -- the line of a report: each packet that the engine sends is telemetry
 abbrev pub report_line : List ℕ → List ℕ
 report_line packet = line_of (telemetry_of packet)
+
+-- a packet has a line: that of the telemetry that it is read as
+pub record HasLine (packet : List ℕ) : Type 0 where
+  pub said : Telemetry
+  pub read : telemetry_of packet ≡ Ok said
+  pub line : report_line packet ≡ telemetry_line said
 
 abbrev pub discard_name : Discard → List ℕ
 discard_name discard.Short = codes "Short"

@@ -1,3 +1,15 @@
-//! Laws of what the commands write.
+//! Laws of what is written.
+
+ghost use Rattle.std.specs.Prelude.{All};
+ghost use Rattle.ocp_console.specs.Texts.{HasLine};
 
 pub use ocp_commands::laws::{assemblies_are_unique, listings_are_unique};
+use ocp_core::Reports;
+use std::alloc::Allocator;
+
+/// Each report of the engine has its line: it is read as telemetry, and its line is that of this telemetry.
+pub fn reports_have_their_lines<A: Allocator>(reports: &Reports<A>)
+    ensures { All HasLine reports.now }
+{
+    let _packets = reports.packets();
+}
