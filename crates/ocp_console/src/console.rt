@@ -122,3 +122,6 @@ impl<A: Allocator + Copy> Console<A> {
         }
     }
 }
+
+#[cfg(test)]
+mod tests;
