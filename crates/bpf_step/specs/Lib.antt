@@ -3,5 +3,6 @@ pub mod Machine
 pub mod Access
 pub mod Calls
 pub mod Step
+pub mod Runs
 pub mod Reach
 pub mod Mirror
