@@ -5,19 +5,27 @@ use Rattle.ocp_core.specs.declared.event.Event as E
 use Rattle.ocp_core.specs.declared.event.Event.TheVariants as event
 use Rattle.ocp_core.specs.declared.answers.Answer as G
 use Rattle.ocp_core.specs.declared.answers.Answer.TheVariants as answer
-use Rattle.ocp_world.specs.World.{Event, Request, Step}
-use Rattle.ocp_world.specs.After.{Answer, Requested, Stepped}
-use Rattle.ocp_core.specs.Log.{Entry, Asked, Steps}
+use Rattle.ocp_debug.specs.declared.command.Command.TheVariants as command
+use Rattle.ocp_world.specs.World.{Event, Request, Step, Debug}
+use Rattle.ocp_world.specs.After.{Answer, Requested, Stepped, Commanded}
+use Rattle.ocp_core.specs.Log.{Entry, Asked, Steps, Debugged}
 
 abbrev pub event_of : E.Event → Event
 event_of (event.Request by time octets) = Request by time octets.now
 event_of (event.Step by id) = Step by id
+event_of (event.SetBreak by id place) = Debug by id (command.SetBreak place)
+event_of (event.ClearBreak by id place) = Debug by id (command.ClearBreak place)
+event_of (event.Trace by id on) = Debug by id (command.SetTrace on)
 
 module _ {A : Type 0} where
   abbrev pub entry_of : N.Entry A → Entry
   entry_of (entry.Request by time octets) = Asked by time octets
   entry_of (entry.Steps by id count) = Steps by id count
+  entry_of (entry.SetBreak by id place) = Debugged by id (command.SetBreak place)
+  entry_of (entry.ClearBreak by id place) = Debugged by id (command.ClearBreak place)
+  entry_of (entry.Trace by id on) = Debugged by id (command.SetTrace on)
 
   abbrev pub answer_of : G.Answer A → Answer
   answer_of (answer.Requested reports) = Requested reports
   answer_of (answer.Stepped outcome) = Stepped outcome
+  answer_of (answer.Commanded result) = Commanded result

@@ -4,18 +4,23 @@ use Rattle.std.specs.Prelude.{ℕ, List, [], ◌∷◌, ◌++◌, ◌==◌, Bool
 use Rattle.std.specs.List.{flat_map}
 use Rattle.ocp_table.specs.declared.answers.StepOutcome.TheVariants as S
 use Rattle.ocp_world.specs.declared.answers.EngineFault.TheVariants as engine
-use Rattle.ocp_world.specs.World.{World, Event, Request, Step}
-use Rattle.ocp_world.specs.After.{Answer, Requested, Stepped, after, is_accepted}
+use Rattle.ocp_debug.specs.declared.command.Command.{Command}
+use Rattle.ocp_debug.specs.declared.command.DebugFault.TheVariants as debug
+use Rattle.ocp_world.specs.World.{World, Event, Request, Step, Debug}
+use Rattle.ocp_world.specs.After.{Answer, Requested, Stepped, Commanded, after, is_accepted}
 use Rattle.ocp_world.specs.Replay.{replay}
 
--- a request with its seat and time, or so many instructions of one procedure with their seat
+-- a request with its seat and time; so many instructions of one procedure with their seat; or a debugger's
+-- command to a procedure with its seat
 pub data Entry : Type 0 where
   Asked : ℕ → ℕ → List ℕ → Entry
   Steps : ℕ → ℕ → ℕ → Entry
+  Debugged : ℕ → ℕ → Command → Entry
 
 abbrev pub events_of : Entry → List Event
 events_of (Asked by time octets) = Request by time octets ∷ []
 events_of (Steps by id count) = replicate count (Step by id)
+events_of (Debugged by id command) = Debug by id command ∷ []
 
 -- the single events of a journal
 abbrev pub expand : List Entry → List Event
@@ -51,10 +56,12 @@ with_entry log entry = record log { entries = log.entries ++ entry ∷ [] }
 abbrev pub entry_for : Event → Entry
 entry_for (Request by time octets) = Asked by time octets
 entry_for (Step by id) = Steps by id 1
+entry_for (Debug by id command) = Debugged by id command
 
 abbrev pub full_answer : Event → Answer
 full_answer (Request by time octets) = Requested (Err engine.JournalFull)
 full_answer (Step by id) = Stepped S.JournalFull
+full_answer (Debug by id command) = Commanded (Err debug.JournalFull)
 
 -- an event that would be accepted is refused where the journal is full
 abbrev pub answer_in : Log → Event → Answer

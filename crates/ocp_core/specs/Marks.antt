@@ -3,11 +3,11 @@
 use Rattle.std.specs.Prelude.{ℕ, zero, suc, List, [], ◌∷◌}
 use Rattle.ocp_table.specs.declared.answers.StepOutcome.{StepOutcome}
 use Rattle.ocp_table.specs.declared.answers.StepOutcome.TheVariants as S
-use Rattle.ocp_world.specs.World.{World, Request, Step, opening}
+use Rattle.ocp_world.specs.World.{World, Request, Step, Debug, opening}
 use Rattle.ocp_world.specs.After.{Answer, Stepped, after}
 use Rattle.ocp_world.specs.Replay.{replay_from}
 use Rattle.ocp_world.specs.Slice.{outcome_in}
-use Rattle.ocp_core.specs.Log.{Entry, Asked, Steps, Log, events_of}
+use Rattle.ocp_core.specs.Log.{Entry, Asked, Steps, Debugged, Log, events_of}
 
 -- the outcome of the last of so many instructions, or the one before them
 abbrev pub last_outcome : World → ℕ → ℕ → StepOutcome → ℕ → StepOutcome
@@ -21,6 +21,7 @@ last_outcome w by id last (suc count) =
 abbrev pub mark_in : World → Entry → Answer
 mark_in w (Asked by time octets) = (after w (Request by time octets)).answer
 mark_in w (Steps by id count) = Stepped (last_outcome w by id S.Ran count)
+mark_in w (Debugged by id command) = (after w (Debug by id command)).answer
 
 abbrev pub marks_from : World → List Entry → List Answer
 marks_from w [] = []

@@ -1,5 +1,6 @@
 -- What an event does to the records, with all values that it writes. Each part of a record follows from it by cases.
-use Rattle.std.specs.Prelude.{ℕ, ◌==◌, ◌||◌, Bool, true, false, if◌then◌else◌, List, [], ◌++◌, Option, Some, None, Result, Ok, Err}
+use Rattle.std.specs.Prelude.{ℕ, ◌==◌, ◌||◌, Bool, true, false, not, nat_lt, if◌then◌else◌, List, [], ◌∷◌, ◌++◌, Option, Some, None, Result, Ok, Err}
+use Rattle.std.specs.List.{filter}
 use Rattle.std.specs.FinMap.{get, insert, remove}
 use Rattle.obcp_types.specs.declared.failure.StartFailure.{StartFailure}
 use Rattle.obcp_types.specs.declared.failure.StartFailure.TheVariants as failure
@@ -23,7 +24,8 @@ use Rattle.ocp_table.specs.declared.answers.StepOutcome.TheVariants as step
 use Rattle.ocp_table.specs.Records.{Rec, Records}
 
 -- what an event does to the record of its procedure: it is started with arguments, sent words, a stop or suspend becomes
--- pending, it is made inactive, it runs on, or an instruction event is done
+-- pending, it is made inactive, it runs on, an instruction event is done, or a debugger sets or clears a breakpoint or sets
+-- the trace flag
 pub data Change : Type 0 where
   Started : List ℕ → Change
   Sent : List ℕ → Change
@@ -31,6 +33,9 @@ pub data Change : Type 0 where
   Quit : Cause → Change
   Resumed : Change
   Stepped : InstructionOutcome → Change
+  BreakSet : ℕ → Change
+  BreakCleared : ℕ → Change
+  TraceSet : Bool → Change
 
 -- why an event leaves all records: nothing was asked of a procedure, or what was asked failed
 pub data Why : Type 0 where
@@ -119,6 +124,28 @@ control_by (Quit cause) c = inactive cause
 control_by Resumed c =
     record { status = Running; pending = c.pending; pass = true; cause = c.cause }
 control_by (Stepped outcome) c = control_by_outcome outcome c
+control_by (BreakSet place) c = c
+control_by (BreakCleared place) c = c
+control_by (TraceSet on) c = c
+
+-- the breakpoints with one more place, in rising order
+pub with_breakpoint : ℕ → List ℕ → List ℕ
+with_breakpoint place [] = place ∷ []
+with_breakpoint place (at ∷ ats) =
+    if nat_lt place at then place ∷ at ∷ ats else at ∷ with_breakpoint place ats
+
+-- the breakpoints but this place
+abbrev pub without_breakpoint : ℕ → List ℕ → List ℕ
+without_breakpoint place breakpoints = filter (λ at. not (at == place)) breakpoints
+
+abbrev pub breakpoints_by : Change → List ℕ → List ℕ
+breakpoints_by (BreakSet place) breakpoints = with_breakpoint place breakpoints
+breakpoints_by (BreakCleared place) breakpoints = without_breakpoint place breakpoints
+breakpoints_by change breakpoints = breakpoints
+
+abbrev pub traced_by : Change → Bool → Bool
+traced_by (TraceSet on) traced = on
+traced_by change traced = traced
 
 -- ---- records after an effect
 
@@ -128,8 +155,8 @@ record_by change r = record {
   machine = machine_by change r.image r.machine;
   mailbox = mailbox_by change r.mailbox;
   control = control_by change r.control;
-  breakpoints = r.breakpoints;
-  traced = r.traced;
+  breakpoints = breakpoints_by change r.breakpoints;
+  traced = traced_by change r.traced;
 }
 
 -- a procedure that was loaded

@@ -1,39 +1,46 @@
 -- The world after an event, and the answer.
-use Rattle.std.specs.Prelude.{ℕ, ◌+◌, Bool, true, false, List, length, Result, Ok, Err}
+use Rattle.std.specs.Prelude.{ℕ, ◌+◌, Bool, true, false, List, ◌++◌, length, Result, Ok, Err}
 use Rattle.pus_fields.specs.TelecommandFaults.{telecommand_of}
 use Rattle.ocp_table.specs.declared.answers.StepOutcome.{StepOutcome}
 use Rattle.ocp_table.specs.declared.answers.StepOutcome.TheVariants as S
 use Rattle.ocp_table.specs.RequestTable as directive
 use Rattle.ocp_table.specs.Deciding.{effect_in}
 use Rattle.ocp_table.specs.Effects.{records_by, pool_by}
+use Rattle.ocp_debug.specs.declared.command.DebugFault.{DebugFault}
+use Rattle.ocp_debug.specs.Traces.{traces_by}
 use Rattle.ocp_reports.specs.Packets.{packets}
 use Rattle.ocp_world.specs.declared.answers.EngineFault.{EngineFault}
 use Rattle.ocp_world.specs.declared.answers.EngineFault.TheVariants as engine
-use Rattle.ocp_world.specs.World.{World, Event, Request, Step}
-use Rattle.ocp_world.specs.Effect.{Effect, Reply, Discards, Sends, Steps}
+use Rattle.ocp_world.specs.World.{World, Event, Request, Step, Debug}
+use Rattle.ocp_world.specs.Effect.{Effect, Reply, Discards, Sends, Steps, Commands}
 use Rattle.ocp_world.specs.Requests.{request_effect}
-use Rattle.ocp_world.specs.Instructions.{instruction_effect}
+use Rattle.ocp_world.specs.Instructions.{instruction_effect, debug_effect}
 
 -- what an event does in a world
 abbrev pub effect_of : World → Event → Effect
 effect_of w (Request by time octets) = request_effect (telecommand_of w.apid octets) time w.records
 effect_of w (Step by id) = instruction_effect (effect_in (directive.Step w.pool) id w.records)
+effect_of w (Debug by id command) = debug_effect command id w.records
 
--- the reports of a request, each a whole packet, or the outcome of an instruction
+-- the reports of a request, each a whole packet; the outcome of an instruction; or the result of a
+-- debugger's command
 pub data Answer : Type 0 where
   Requested : Result (List (List ℕ)) EngineFault → Answer
   Stepped : StepOutcome → Answer
+  Commanded : Result (Unit {0}) DebugFault → Answer
 
 abbrev pub answer_by : Reply → World → Answer
 answer_by (Discards cause) w = Requested (Err (engine.Discarded cause))
 answer_by (Sends dispatches) w = Requested (Ok (packets w.apid w.reports dispatches))
 answer_by (Steps outcome) w = Stepped outcome
+answer_by (Commands result) w = Commanded result
 
 -- the reports so far
 abbrev pub reports_by : Reply → ℕ → ℕ
 reports_by (Discards cause) n = n
 reports_by (Sends dispatches) n = n + length dispatches
 reports_by (Steps outcome) n = n
+reports_by (Commands result) n = n
 
 abbrev pub world_after : Effect → World → World
 world_after effect w = record {
@@ -41,6 +48,7 @@ world_after effect w = record {
   records = records_by effect.on_records w.records;
   pool = pool_by effect.on_records w.pool;
   reports = reports_by effect.reply w.reports;
+  traces = w.traces ++ traces_by effect.on_records w.records;
 }
 
 pub record After : Type 0 where
@@ -65,3 +73,5 @@ is_accepted (Stepped (S.Faulted number)) = true
 is_accepted (Stepped S.NotLoaded) = false
 is_accepted (Stepped S.NotRunning) = false
 is_accepted (Stepped S.JournalFull) = false
+is_accepted (Commanded (Ok done)) = true
+is_accepted (Commanded (Err fault)) = false

@@ -1,16 +1,18 @@
 -- What an event does: to the records, and what is answered.
-use Rattle.std.specs.Prelude.{List}
+use Rattle.std.specs.Prelude.{List, Result}
 use Rattle.pus_fields.specs.declared.fault.Discard.{Discard}
 use Rattle.ocp_table.specs.declared.answers.StepOutcome.{StepOutcome}
 use Rattle.ocp_table.specs.Effects as table
+use Rattle.ocp_debug.specs.declared.command.DebugFault.{DebugFault}
 use Rattle.ocp_reports.specs.Origin.{Dispatch}
 
--- octets are discarded; reports are sent, each to its destination at its time; or an instruction was
--- asked for
+-- octets are discarded; reports are sent, each to its destination at its time; an instruction was asked
+-- for; or a debugger's command was
 pub data Reply : Type 0 where
   Discards : Discard → Reply
   Sends : List Dispatch → Reply
   Steps : StepOutcome → Reply
+  Commands : Result (Unit {0}) DebugFault → Reply
 
 pub record Effect : Type 0 where
   pub on_records : table.Effect

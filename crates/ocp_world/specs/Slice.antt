@@ -7,7 +7,7 @@ use Rattle.ocp_table.specs.Records.{Rec}
 use Rattle.ocp_table.specs.declared.answers.StepOutcome.{StepOutcome}
 use Rattle.ocp_table.specs.declared.answers.StepOutcome.TheVariants as S
 use Rattle.ocp_world.specs.World.{World, Step}
-use Rattle.ocp_world.specs.After.{After, Answer, Requested, Stepped, after}
+use Rattle.ocp_world.specs.After.{After, Answer, Requested, Stepped, Commanded, after}
 
 abbrev pub is_running_status : Status → Bool
 is_running_status Inactive = false
@@ -33,6 +33,7 @@ is_on S.JournalFull = false
 abbrev pub outcome_in : Answer → StepOutcome
 outcome_in (Stepped outcome) = outcome
 outcome_in (Requested reports) = S.JournalFull
+outcome_in (Commanded result) = S.JournalFull
 
 abbrev pub goes_on : After → ℕ → Bool
 goes_on a id = if is_on (outcome_in a.answer) then is_running (get a.world.records id) else false

@@ -1,6 +1,7 @@
 -- Which worlds a state stands for, and what a request makes of it.
 use Rattle.std.specs.Prelude.{◌≡◌, ◌%◌, ℕ, List, Result, Ok, Err}
 use Rattle.ocp_table.specs.Records.{Records}
+use Rattle.ocp_debug.specs.Traces.{kept}
 use Rattle.ocp_world.specs.declared.answers.EngineFault.{EngineFault}
 use Rattle.ocp_world.specs.World.{World}
 use Rattle.ocp_world.specs.Effect.{Effect}
@@ -14,6 +15,7 @@ module _ {A : Type 0} where
     pub records : s.table ≡ w.records
     pub pool : s.pool ≡ w.pool
     pub count : s.count ≡ w.reports % 16384
+  pub ring : s.ring ≡ kept w.traces
 
   -- the state stands for the next world, or where the request has no reports for the old one
   abbrev pub StandsAfter : Result (List (List ℕ)) EngineFault → World → World → State A → Type 0

@@ -1,0 +1,16 @@
+-- What a debugger reads of a procedure's memory.
+use Rattle.std.specs.Prelude.{ℕ, List, Option, Some, None, Result, Ok, Err}
+use Rattle.ocp_regions.specs.Memory.{octets_at}
+use Rattle.ocp_table.specs.Records.{Rec}
+use Rattle.ocp_debug.specs.declared.command.DebugFault.{DebugFault}
+use Rattle.ocp_debug.specs.declared.command.DebugFault.TheVariants.{NotLoaded, OutsideMemory}
+
+-- octets that all lie in the memory
+abbrev pub read_octets : Option (List ℕ) → Result (List ℕ) DebugFault
+read_octets (Some octets) = Ok octets
+read_octets None = Err OutsideMemory
+
+-- so many octets from an address on, of a procedure that is loaded
+abbrev pub memory_at : Option Rec → ℕ → ℕ → Result (List ℕ) DebugFault
+memory_at None address count = Err NotLoaded
+memory_at (Some r) address count = read_octets (octets_at r.machine.memory address count)

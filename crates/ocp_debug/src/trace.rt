@@ -1,0 +1,19 @@
+//! Trace records.
+
+use bpf_types::Line;
+use ocp_table::StepOutcome;
+
+/// How many trace records are kept, the last ones.
+pub const TRACE_RECORDS: usize = 256;
+
+/// What is kept of one instruction of a traced procedure.
+#[derive(Clone, Copy, PartialEq, Eq, Debug)]
+pub struct Trace {
+    pub id: u16,
+    /// The slot of the instruction.
+    pub place: u16,
+    pub outcome: StepOutcome,
+    /// R0 to R10 after the instruction.
+    pub registers: [u64; 11],
+    pub line: Line,
+}
