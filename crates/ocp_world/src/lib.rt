@@ -5,6 +5,7 @@
 mod answers;
 mod convert;
 pub mod laws;
+mod slice;
 mod state;
 
 pub use answers::{EngineFault, Slice};

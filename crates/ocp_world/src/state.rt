@@ -14,7 +14,7 @@ ghost use Rattle.ocp_world.specs.Requests.{refusal_effect, start_effect, directi
 ghost use Rattle.ocp_world.specs.After.{Stepped, after, effect_of};
 
 use crate::convert::{command_of, status_report};
-use crate::{EngineFault, Slice};
+use crate::EngineFault;
 use obcp_messages::{Report, Request};
 use obcp_types::{AcceptanceFailure, StartFailure};
 use ocp_pool::{MAX_POOL_WORDS, Pool};
@@ -286,60 +286,5 @@ fn first_count() -> SequenceCount
     match SequenceCount::new(0) {
         Some(count) => count,
         None => unreachable!(),
-    }
-}
-
-impl<A: Allocator> State<A> {
-    ghost use Rattle.std.specs.Prelude.{if◌then◌else◌, false, replicate};
-    ghost use Rattle.ocp_world.specs.Mirror.State.{IsWorld};
-    ghost use Rattle.ocp_world.specs.Replay.{replay_from};
-    ghost use Rattle.ocp_world.specs.Slice.{is_on, is_running, slice_count, slice_last};
-
-    // Whether a procedure runs.
-    fn is_running(&self, id: u16) -> bool
-        ensures { (w : World) → IsWorld w self.now → result ≡ is_running (get w.records id) }
-    {
-        match self.table.step_failure(id) {
-            Some(_) => false,
-            None => true,
-        }
-    }
-
-    // Whether a slice goes on after this outcome.
-    fn goes_on(&self, id: u16, outcome: StepOutcome) -> bool
-        ensures { (w : World) → IsWorld w self.now →
-            result ≡ (if is_on outcome then is_running (get w.records id) else false) }
-    {
-        match outcome {
-            StepOutcome::Ran => self.is_running(id),
-            StepOutcome::Called => self.is_running(id),
-            _ => false,
-        }
-    }
-
-    /// Does instructions of one procedure until the budget is used or it no longer goes on.
-    pub fn slice(&mut self, id: u16, budget: u32) -> Slice
-        requires { 1 ≤ budget }
-        ensures world { (w : World) (by : ℕ) → IsWorld w self.old →
-            IsWorld (replay_from w (replicate result.count (Step by id))) self.new }
-        ensures count { (w : World) (by : ℕ) → IsWorld w self.old →
-            result.count ≡ slice_count w by id budget }
-        ensures last { (w : World) (by : ℕ) → IsWorld w self.old →
-            result.last ≡ slice_last w by id StepOutcome.Ran budget }
-    {
-        let mut last = StepOutcome::Ran;
-        for count in 0..budget {
-            last = self.step(id);
-            if !self.goes_on(id, last) {
-                return Slice {
-                    count: count + 1,
-                    last,
-                };
-            }
-        }
-        Slice {
-            count: budget,
-            last,
-        }
     }
 }

@@ -1,0 +1,64 @@
+//! Slices: instructions of one procedure, one after another.
+
+ghost use Rattle.std.specs.Prelude.{◌≡◌, ◌≤◌, ℕ};
+ghost use Rattle.std.specs.FinMap.{get};
+ghost use Rattle.ocp_world.specs.World.{World, Step};
+
+use crate::{Slice, State};
+use ocp_table::StepOutcome;
+use std::alloc::Allocator;
+
+impl<A: Allocator> State<A> {
+    ghost use Rattle.std.specs.Prelude.{if◌then◌else◌, false, replicate};
+    ghost use Rattle.ocp_world.specs.Mirror.State.{IsWorld};
+    ghost use Rattle.ocp_world.specs.Replay.{replay_from};
+    ghost use Rattle.ocp_world.specs.Slice.{is_on, is_running, slice_count, slice_last};
+
+    // Whether a procedure runs.
+    fn is_running(&self, id: u16) -> bool
+        ensures { (w : World) → IsWorld w self.now → result ≡ is_running (get w.records id) }
+    {
+        match self.table.step_failure(id) {
+            Some(_) => false,
+            None => true,
+        }
+    }
+
+    // Whether a slice goes on after this outcome.
+    fn goes_on(&self, id: u16, outcome: StepOutcome) -> bool
+        ensures { (w : World) → IsWorld w self.now →
+            result ≡ (if is_on outcome then is_running (get w.records id) else false) }
+    {
+        match outcome {
+            StepOutcome::Ran => self.is_running(id),
+            StepOutcome::Called => self.is_running(id),
+            _ => false,
+        }
+    }
+
+    /// Does instructions of one procedure until the budget is used or it no longer goes on.
+    pub fn slice(&mut self, id: u16, budget: u32) -> Slice
+        requires { 1 ≤ budget }
+        ensures world { (w : World) (by : ℕ) → IsWorld w self.old →
+            IsWorld (replay_from w (replicate result.count (Step by id))) self.new }
+        ensures count { (w : World) (by : ℕ) → IsWorld w self.old →
+            result.count ≡ slice_count w by id budget }
+        ensures last { (w : World) (by : ℕ) → IsWorld w self.old →
+            result.last ≡ slice_last w by id StepOutcome.Ran budget }
+    {
+        let mut last = StepOutcome::Ran;
+        for count in 0..budget {
+            last = self.step(id);
+            if !self.goes_on(id, last) {
+                return Slice {
+                    count: count + 1,
+                    last,
+                };
+            }
+        }
+        Slice {
+            count: budget,
+            last,
+        }
+    }
+}
