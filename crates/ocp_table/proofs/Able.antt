@@ -15,7 +15,8 @@ use Rattle.bpf_step.specs.Step.{step, step_of, one_step}
 use Rattle.ocp_table.specs.declared.answers.InstructionOutcome.{InstructionOutcome}
 use Rattle.ocp_table.specs.declared.answers.InstructionOutcome.TheVariants.{Broke}
 use Rattle.ocp_table.specs.Records.{Rec}
-use Rattle.ocp_table.specs.Deciding.{outcome_of, outcome_in, breaks_at}
+use Rattle.bpf_step.specs.Runs.{breaks_at}
+use Rattle.ocp_table.specs.Deciding.{outcome_of, outcome_in}
 
 module _ (m : State) (pool mailbox : List ℕ) where
   able_loads : (s : State) (dst : ℕ) (f : ℕ → ℕ) (r : Result ℕ AccessFault) → IsSome (outcome_of (loads s dst f r) m pool mailbox)

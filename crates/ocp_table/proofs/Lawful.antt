@@ -10,10 +10,10 @@ use Rattle.obcp_types.specs.declared.status.Status.{Status}
 use Rattle.obcp_types.specs.declared.status.Status.TheVariants.{Inactive, Running, Held}
 use Rattle.bpf_step.specs.Machine.{State, started}
 use Rattle.ocp_table.specs.Records.{Rec, Records}
-use Rattle.ocp_table.specs.Effects.{Change, Started, Sent, Resumed, record_by, new_record, with_change, records_by, failure_of}
+use Rattle.ocp_table.specs.Effects.{Change, Changed, Started, Sent, Resumed, BreakSet, BreakCleared, TraceSet, record_by, new_record, with_change, records_by, failure_of}
 use Rattle.ocp_table.specs.RequestTable.{Directive, Step, transition}
 use Rattle.ocp_table.specs.Deciding.{effect_by, effect_on, effect_in, is_full, status_of}
-use Rattle.ocp_table.specs.Laws.{machine_of, IsKeptOrStarted, IsRequest}
+use Rattle.ocp_table.specs.Laws.{machine_of, run_of, IsKeptOrStarted, IsRequest, IsDebugging, LeavesMachines}
 use Rattle.ocp_table.proofs.Each.{each}
 
 -- ---- every other record stays
@@ -110,3 +110,41 @@ module _ (m : Records) (q : ℕ) where
         resumed = λ r here is a. keeps Resumed (λ r. refl);
         stepped = λ pool outcome r here is done a. absurd a;
       }) d asked
+
+-- ---- a part of each record stays
+
+module _ {X : Type 0} (part : Option Rec → X) (m : Records) (q : ℕ) where
+  -- where a change leaves the part in every record
+  part_stays : (id : ℕ) (c : Change) → ((r : Rec) → part (Some (record_by c r)) ≡ part (Some r)) → (o : Option Rec) → get m id ≡ o → part (get (with_change o id c m) q) ≡ part (get m q)
+  part_stays id c kept None is = refl
+  part_stays id c kept (Some r) is =
+      ap part (get-insert nat_cmp_total m id (record_by c r) q)
+      ∙ elim (eq_by_cmp nat_cmp q id) as (λ b. eq_by_cmp nat_cmp q id ≡ b → part (cond b (Some (record_by c r)) (get m q)) ≡ part (get m q)) [
+        | true ↦ λ at. kept r ∙ ap part (sym is) ∙ ap (λ k. part (get m k)) (sym (eqb-true q id (sym (unsigned_tied q id) ∙ at)))
+        | false ↦ λ at. refl
+      ] refl
+
+-- ---- what leaves machines and runs
+
+pub machines_stay : (m : Records) (q : ℕ) (d : Directive) (id : ℕ) → LeavesMachines d → machine_of (get (records_by (effect_in d id m) m) q) ≡ machine_of (get m q)
+machines_stay m q d id leaves =
+    let keeps : (c : Change) → ((r : Rec) → (record_by c r).machine ≡ r.machine) → machine_of (get (with_change (get m id) id c m) q) ≡ machine_of (get m q) = λ c kept. part_stays machine_of m q id c (λ r. ap Some (kept r)) (get m id) refl in
+    each (λ d e. LeavesMachines d → machine_of (get (records_by e m) q) ≡ machine_of (get m q)) id (get m id) (is_full m) (record {
+      failed = λ d failure a. refl;
+      loaded = λ image absent room a. absurd a;
+      unloaded = λ r here is a. absurd a;
+      started = λ arguments r here is a. absurd a;
+      sends = λ words r here fits a. keeps (Sent words) (λ r. refl);
+      stop_pends = λ s r here is a. keeps _ (λ r. refl);
+      suspend_pends = λ s r here is a. keeps _ (λ r. refl);
+      stopped = λ s r here is a. keeps _ (λ r. refl);
+      aborted = λ r here a. keeps _ (λ r. refl);
+      resumed = λ r here is a. keeps Resumed (λ r. refl);
+      stepped = λ pool outcome r here is done a. absurd a;
+    }) d leaves
+
+pub runs_stay : (m : Records) (q : ℕ) (c : Change) (id : ℕ) → IsDebugging c → run_of (get (records_by (Changed id c) m) q) ≡ run_of (get m q)
+runs_stay m q (BreakSet place) id is = part_stays run_of m q id (BreakSet place) (λ r. refl) (get m id) refl
+runs_stay m q (BreakCleared place) id is = part_stays run_of m q id (BreakCleared place) (λ r. refl) (get m id) refl
+runs_stay m q (TraceSet on) id is = part_stays run_of m q id (TraceSet on) (λ r. refl) (get m id) refl
+runs_stay m q c id is = absurd is

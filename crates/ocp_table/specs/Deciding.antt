@@ -1,6 +1,5 @@
 -- What effect a directive has, by the request table, the record of its procedure, and whether the table is full.
-use Rattle.std.specs.Prelude.{ℕ, ◌==◌, Bool, true, false, if◌then◌else◌, List, length, Option, Some, None, Result, Ok, Err, nat_le}
-use Rattle.std.specs.List.{list_any}
+use Rattle.std.specs.Prelude.{ℕ, Bool, true, false, if◌then◌else◌, List, length, Option, Some, None, Result, Ok, Err, nat_le}
 use Rattle.std.specs.FinMap.{get, len}
 use Rattle.bpf_types.specs.declared.line.Line.{Line}
 use Rattle.obcp_types.specs.declared.status.Status.{Status}
@@ -12,6 +11,7 @@ use Rattle.ocp_loader.specs.LoadResult.{load_result}
 use Rattle.bpf_step.specs.declared.answer.Need.TheVariants as need
 use Rattle.bpf_step.specs.Machine.{State, Outcome, Next, Needs, NoInstruction, read, fault_number}
 use Rattle.bpf_step.specs.Step.{one_step}
+use Rattle.bpf_step.specs.Runs.{breaks_at}
 use Rattle.ocp_pool.specs.declared.call.Called.{Called as Call}
 use Rattle.ocp_pool.specs.declared.call.PoolFault.TheVariants.{BadPoolIndex}
 use Rattle.ocp_pool.specs.Call.{engine_call}
@@ -57,11 +57,7 @@ outcome_of (Needs (need.Call number)) machine pool mailbox =
     Some (outcome_of_call (engine_call number (read machine 1) (read machine 2) pool mailbox))
 outcome_of NoInstruction machine pool mailbox = None
 
--- a breakpoint stands at the place, and the pass flag is off
-abbrev pub breaks_at : Bool → List ℕ → ℕ → Bool
-breaks_at true breakpoints place = false
-breaks_at false breakpoints place = list_any (λ at. at == place) breakpoints
-
+-- a breakpoint that stands at the place holds the procedure, unless the pass flag is on
 abbrev pub outcome_in : Rec → List ℕ → Option InstructionOutcome
 outcome_in r pool =
     if breaks_at r.control.pass r.breakpoints r.machine.place then Some Broke

@@ -1,8 +1,10 @@
 -- What the laws of the table say.
 use Rattle.std.specs.Prelude.{◌≡◌, ◌⊎◌, List, ℕ, Option, Some, None}
 use Rattle.bpf_step.specs.Machine.{State, started}
+use Rattle.ocp_table.specs.declared.control.Control.{Control}
 use Rattle.ocp_table.specs.Records.{Rec}
-use Rattle.ocp_table.specs.RequestTable.{Directive, Step}
+use Rattle.ocp_table.specs.Effects.{Change, BreakSet, BreakCleared, TraceSet}
+use Rattle.ocp_table.specs.RequestTable.{Directive, Load, Unload, Activate, Step}
 
 -- the machine of a procedure, where it is loaded
 abbrev pub machine_of : Option Rec → Option State
@@ -19,3 +21,35 @@ IsKeptOrStarted old new =
 abbrev pub IsRequest : Directive → Type 0
 IsRequest (Step pool) = ⊥
 IsRequest directive = Unit {0}
+
+-- a directive that loads, drops and starts no procedure, and does no instruction
+abbrev pub LeavesMachines : Directive → Type 0
+LeavesMachines (Load image) = ⊥
+LeavesMachines Unload = ⊥
+LeavesMachines (Activate arguments) = ⊥
+LeavesMachines (Step pool) = ⊥
+LeavesMachines directive = Unit {0}
+
+-- what a procedure runs by: all of its record but the breakpoints and the trace flag
+pub record Run : Type 0 where
+  pub image : List ℕ
+  pub machine : State
+  pub mailbox : List ℕ
+  pub control : Control
+
+-- that of a procedure, where it is loaded
+abbrev pub run_of : Option Rec → Option Run
+run_of None = None
+run_of (Some r) = Some (record {
+  image = r.image;
+  machine = r.machine;
+  mailbox = r.mailbox;
+  control = r.control;
+})
+
+-- a change that a debugger makes
+abbrev pub IsDebugging : Change → Type 0
+IsDebugging (BreakSet place) = Unit {0}
+IsDebugging (BreakCleared place) = Unit {0}
+IsDebugging (TraceSet on) = Unit {0}
+IsDebugging change = ⊥

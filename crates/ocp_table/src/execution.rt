@@ -1,8 +1,9 @@
 use crate::InstructionOutcome;
 use bpf_step::{Local, Machine, Need};
+use bpf_types::Line;
 use ocp_loader::{Program, places_lead_to_places};
 use ocp_pool::{Mailbox, Pool, engine_call};
-use ocp_regions::ARGUMENT_OCTETS;
+use ocp_regions::{ARGUMENT_OCTETS, AccessFault};
 use std::alloc::Allocator;
 use std::marker::Model;
 
@@ -30,9 +31,11 @@ impl<A: Allocator> Model for Execution<A> {
 }
 
 impl<A: Allocator> Execution<A> {
-    ghost use Rattle.std.specs.Prelude.{◌≡◌, ◌≤◌, ℕ, List, [], Some, IsSome, IsOk, length};
+    ghost use Rattle.std.specs.Prelude.{◌≡◌, ◌≤◌, ℕ, List, [], None, Some, IsSome, IsOk, IfErr, OnOk, OnErr, length};
     ghost use Rattle.ocp_loader.specs.LoadResult.{load_result};
-    ghost use Rattle.ocp_loader.specs.LineAt.{IsPlace};
+    ghost use Rattle.ocp_loader.specs.LineAt.{IsPlace, line_of};
+    ghost use Rattle.ocp_regions.specs.Memory.{octets_at};
+    ghost use Rattle.ocp_regions.specs.declared.fault.AccessFault.TheVariants.{AccessOutside};
     ghost use Rattle.bpf_step.specs.Machine.{started};
     ghost use Rattle.bpf_step.specs.Step.{one_step};
     ghost use Rattle.ocp_table.specs.Effects.{machine_by_outcome, mailbox_by_outcome, pool_by_outcome};
@@ -106,6 +109,26 @@ impl<A: Allocator> Execution<A> {
         ensures { result ≡ length self.now.machine.frames }
     {
         self.machine.depth()
+    }
+
+    /// The line whose first slot this is; none at the second slot of a wide load or behind the code.
+    pub fn line_at(&self, slot: u16) -> Option<Line>
+        ensures { result ≡ line_of self.now.image slot }
+    {
+        self.program.line_at(slot)
+    }
+
+    /// Reads octets of the memory from an address on, one into each of the slice. It refuses with AccessOutside where one of
+    /// them is not there, and the slice keeps its octets.
+    pub fn octets(&self, address: u64, octets: &mut [u8]) -> Result<(), AccessFault>
+        ensures ok { OnOk result
+            (octets_at self.now.machine.memory address (length octets.old) ≡ Some octets.new) }
+        ensures err { IfErr result (λ fault. fault ≡ AccessOutside) }
+        ensures outside { OnErr result
+            (octets_at self.now.machine.memory address (length octets.old) ≡ None) }
+        ensures kept { OnErr result (octets.new ≡ octets.old) }
+    {
+        self.machine.octets(address, octets)
     }
 
     /// R0 to R10.

@@ -4,10 +4,10 @@ ghost use Rattle.std.specs.FinMap.{get};
 ghost use Rattle.obcp_types.specs.declared.failure.StartFailure.{StartFailure as Failure};
 ghost use Rattle.obcp_types.specs.declared.status.Status.TheVariants.{Running};
 ghost use Rattle.ocp_table.specs.Records.{Records};
-ghost use Rattle.ocp_table.specs.Effects.{Effect, records_by, failure_of};
+ghost use Rattle.ocp_table.specs.Effects.{Effect, Change, Changed, records_by, failure_of};
 ghost use Rattle.ocp_table.specs.RequestTable.{Directive as Asked, Step};
 ghost use Rattle.ocp_table.specs.Deciding.{effect_in, status_of};
-ghost use Rattle.ocp_table.specs.Laws.{machine_of, IsRequest, IsKeptOrStarted};
+ghost use Rattle.ocp_table.specs.Laws.{machine_of, run_of, IsRequest, IsKeptOrStarted, IsDebugging, LeavesMachines};
 
 /// What fails changes nothing at all.
 pub fn failures_change_nothing()
@@ -33,4 +33,16 @@ pub fn requests_keep_or_start_machines()
         IsKeptOrStarted
         (machine_of (get m q))
         (machine_of (get (records_by (effect_in directive id m) m) q)) }
+{}
+
+/// A request that loads, drops and starts no procedure leaves each procedure's machine.
+pub fn other_requests_keep_machines()
+    ensures { (directive : Asked) (id q : ℕ) (m : Records) → LeavesMachines directive →
+        machine_of (get (records_by (effect_in directive id m) m) q) ≡ machine_of (get m q) }
+{}
+
+/// What a debugger changes leaves each procedure's image, machine, mailbox and control.
+pub fn debugging_keeps_runs()
+    ensures { (change : Change) (id q : ℕ) (m : Records) → IsDebugging change →
+        run_of (get (records_by (Changed id change) m) q) ≡ run_of (get m q) }
 {}

@@ -211,5 +211,5 @@ ghost use Rattle.std.specs.Prelude.{◌≡◌, ◌==◌, ℕ, List};
 ghost use Rattle.std.specs.List.{list_any};
 ghost use Rattle.ocp_table.specs.Effects.{pool_by, with_breakpoints, with_traced};
 ghost use Rattle.ocp_table.specs.RequestTable.{Unload, Step};
-ghost use Rattle.ocp_table.specs.Deciding.{breaks_at};
+ghost use Rattle.bpf_step.specs.Runs.{breaks_at};
 ghost use Rattle.ocp_table.specs.Shown.{AnswersStep};
