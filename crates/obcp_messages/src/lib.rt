@@ -27,6 +27,3 @@ pub use report::{BAD_CODE, PlainCode, Report, STATUS_REPORT, StartFault, VERIFIC
 pub use request::{Request, SERVICE};
 pub use rows::{MAX_ROWS, StatusRows};
 pub use writing::{write_report, write_request};
-
-#[cfg(test)]
-mod tests;

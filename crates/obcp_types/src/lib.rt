@@ -7,6 +7,3 @@ mod status;
 
 pub use failure::{AcceptanceFailure, RequestFault, StartFailure};
 pub use status::{Status, StatusRow};
-
-#[cfg(test)]
-mod tests;

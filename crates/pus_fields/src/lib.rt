@@ -24,6 +24,3 @@ pub use reading::{read_tc, read_tm};
 pub use telecommand::Tc;
 pub use telemetry::Tm;
 pub use writing::{MAX_TELECOMMAND_DATA, MAX_TELEMETRY_DATA, write_tc, write_tm};
-
-#[cfg(test)]
-mod tests;

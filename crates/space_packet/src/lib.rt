@@ -18,6 +18,3 @@ pub use primary::{Primary, SequenceFlags};
 pub use range::{APIDS, Apid, IDLE_APID, SEQUENCE_COUNTS, SequenceCount};
 pub use reading::{HEADER_LENGTH, read};
 pub use writing::{MAX_DATA_LENGTH, write};
-
-#[cfg(test)]
-mod tests;

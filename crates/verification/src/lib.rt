@@ -9,6 +9,3 @@ pub use choosing::notices;
 pub use notice::{Notice, NoticeList};
 pub use obcp_types::{AcceptanceFailure, StartFailure};
 pub use outcome::Outcome;
-
-#[cfg(test)]
-mod tests;
