@@ -2,7 +2,7 @@
 use Rattle.std.proofs.Common.{◌≡◌, ℕ, ◌+◌, ◌≤◌, ◌<◌, length, get_or, is_some, subst, Bool, true, false, List, Option, Some, None, cond, refl, sym, ap, ◌∙◌, arith}
 use Rattle.std.specs.Prelude.{nat_le, IsSome}
 use Rattle.std.specs.FinMap as map
-use Rattle.slab.specs.Slab.{Slab, get, slab_len, with_value}
+use Rattle.slab.specs.Slab.{Slab, Updates, get, slab_len, with_value}
 use Rattle.obcp_types.specs.declared.status.Status.{Status}
 use Rattle.obcp_types.specs.declared.status.Status.TheVariants.{Inactive, Running, Held}
 use Rattle.obcp_types.specs.declared.failure.StartFailure.{StartFailure}
@@ -23,7 +23,7 @@ use Rattle.ocp_table.specs.Mirror.Contents.{IsSound}
 use Rattle.std.proofs.lemmas.Bool.Decides.{nat_tests}
 use Rattle.std.proofs.lemmas.List.Sums.{sum_by-set}
 use Rattle.slab.proofs.SlabLemmas.{ContainsKey-within}
-use Rattle.ocp_table.proofs.ContentsLemmas.{insert-same, IsDistinct-with_value}
+use Rattle.ocp_table.proofs.ContentsLemmas.{insert-same, IsDistinct-with_value, IsDistinct-removed}
 
 -- ---- requests
 
@@ -241,4 +241,11 @@ module _ {T : Type 0} where
     distinct = IsDistinct-with_value id_of id_of s k old new sound.distinct at named;
     few = subst (λ n. n ≤ MAX_PROCEDURES) (sym (slab_len-with_value s k old new at)) sound.few;
     room = sound.room;
+  }
+
+  pub IsSound-removed : (id_of : T → ℕ) (s t : Slab T) (k : ℕ) → IsSound id_of s → Updates s t k None → slab_len t + 1 ≡ slab_len s → t.capacity ≡ s.capacity → IsSound id_of t
+  IsSound-removed id_of s t k sound u fewer same = record {
+    distinct = IsDistinct-removed id_of (λ (x : T). x) s t k sound.distinct u;
+    few = let few = sound.few in omega arith;
+    room = subst (λ n. MAX_PROCEDURES ≤ n) (sym same) sound.room;
   }

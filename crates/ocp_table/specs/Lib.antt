@@ -3,5 +3,6 @@ pub mod Effects
 pub mod RequestTable
 pub mod Deciding
 pub mod Shown
+pub mod Snapshots
 pub mod Laws
 pub mod Mirror

@@ -4,13 +4,15 @@ use bpf_types::Line;
 use ocp_loader::{Program, places_lead_to_places};
 use ocp_pool::{Mailbox, Pool, engine_call};
 use ocp_regions::{ARGUMENT_OCTETS, AccessFault};
-use std::alloc::Allocator;
+use std::alloc::{AllocError, Allocator};
 use std::marker::Model;
+use std::sync::Arc;
 
-/// A program and the machine that runs it. The machine always stands at an instruction of the program.
+/// A program, which may be shared, and the machine that runs it. The machine always stands at an instruction of the
+/// program.
 #[derive(Drop)]
 pub struct Execution<A: Allocator> {
-    program: Program<A>,
+    program: Arc<Program<A>, A>,
     machine: Machine<A>,
 }
 
@@ -24,32 +26,95 @@ impl<A: Allocator> Model for Execution<A> {
     ghost coded = { execution_code };
 
     ghost use Rattle.ocp_table.specs.Records.{IsAdmittedAt};
+    ghost use Rattle.std.specs.Arc.{arc_value};
 
-    ghost view = { λ e. record { image = e.program; machine = e.machine } };
+    ghost view = { λ e. record { image = arc_value e.program; machine = e.machine } };
 
-    ghost invariant = { λ e. IsAdmittedAt e.program e.machine };
+    ghost invariant = { λ e. IsAdmittedAt (arc_value e.program) e.machine };
 }
 
 impl<A: Allocator> Execution<A> {
-    ghost use Rattle.std.specs.Prelude.{◌≡◌, ◌≤◌, ℕ, List, [], None, Some, IsSome, IsOk, IfErr, OnOk, OnErr, length};
+    ghost use Rattle.std.specs.Prelude.{◌≡◌, ◌≤◌, ◌↔◌, ℕ, List, [], None, Some, IfOk, IsSome, IsOk, IsTrue, IfErr, OnOk, OnErr, length};
     ghost use Rattle.ocp_loader.specs.LoadResult.{load_result};
     ghost use Rattle.ocp_loader.specs.LineAt.{IsPlace, line_of};
     ghost use Rattle.ocp_regions.specs.Memory.{octets_at};
     ghost use Rattle.ocp_regions.specs.declared.fault.AccessFault.TheVariants.{AccessOutside};
     ghost use Rattle.bpf_step.specs.Machine.{started};
-    ghost use Rattle.bpf_step.specs.Step.{one_step};
+    ghost use Rattle.bpf_step.specs.Step.{one_step, StandsIn};
+    ghost use Rattle.bpf_step.specs.Runs.{local_run, local_count};
     ghost use Rattle.ocp_table.specs.Effects.{machine_by_outcome, mailbox_by_outcome, pool_by_outcome};
     ghost use Rattle.ocp_table.specs.Deciding.{outcome_of};
 
     /// A new machine at a program's first instruction.
-    pub(crate) fn new(program: Program<A>, machine: Machine<A>) -> Self
+    pub(crate) fn new(
+        alloc: A,
+        program: Program<A>,
+        machine: Machine<A>,
+    ) -> Result<Self, AllocError>
         requires admitted { IsOk (load_result program) }
         requires place { IsPlace program 0 }
         requires machine { machine ≡ started [] }
-        ensures image { result.image ≡ program }
-        ensures machine { result.machine ≡ started [] }
+        ensures { IfOk result (λ e. e ≡ record { image = program; machine = started [] }) }
     {
-        Execution { program, machine }
+        Ok(Execution {
+            program: Arc::new(alloc, program)?,
+            machine,
+        })
+    }
+
+    /// The same program, which is shared, and a machine like this one.
+    pub(crate) fn share(&self, alloc: A) -> Result<Self, AllocError>
+    where
+        A: Copy,
+        ensures { IfOk result (λ e. e ≡ self.now) }
+    {
+        Ok(Execution {
+            program: Arc::try_clone(&self.program)?,
+            machine: self.machine.copy(alloc)?,
+        })
+    }
+
+    /// A machine like this one.
+    pub(crate) fn machine(&self, alloc: A) -> Result<Machine<A>, AllocError>
+    where
+        A: Copy,
+        ensures { IfOk result (λ machine. machine ≡ self.now.machine) }
+    {
+        self.machine.copy(alloc)
+    }
+
+    /// Whether the images and the machines are the same.
+    pub(crate) fn is_same(&self, other: &Execution<A>) -> bool
+        ensures { IsTrue result ↔ (self.now ≡ other.now) }
+    {
+        self.machine.is_same(&other.machine) && self.program.is_same(&other.program)
+    }
+
+    /// Lets a machine like this one do instructions that need no engine, at most so many, and says how many it did.
+    pub(crate) fn run(
+        &self,
+        machine: &mut Machine<A>,
+        breakpoints: &[u16],
+        pass: bool,
+        budget: u32,
+    ) -> u32
+        requires { machine.old ≡ self.now.machine }
+        ensures ran { local_run self.now.image breakpoints.now pass self.now.machine result ≡
+            Some machine.new }
+        ensures count { result ≡
+            local_count self.now.image breakpoints.now pass self.now.machine budget }
+        ensures stands { StandsIn self.now.image machine.new }
+    {
+        machine.run(&self.program, breakpoints, pass, budget)
+    }
+
+    /// Puts another machine in the place of this one.
+    pub(crate) fn settle(&mut self, machine: Machine<A>)
+        requires { StandsIn self.old.image machine }
+        ensures image { self.new.image ≡ self.old.image }
+        ensures machine { self.new.machine ≡ machine }
+    {
+        self.machine = machine;
     }
 
     /// Starts the machine anew with at most 256 octets of arguments.

@@ -8,6 +8,7 @@ mod directive;
 mod execution;
 pub mod laws;
 mod record;
+mod snapshot;
 mod table;
 mod view;
 
@@ -18,5 +19,6 @@ pub use execution::Execution;
 pub use obcp_types::{StartFailure, Status, StatusRow};
 pub use ocp_pool::{Called, Mailbox, Pool};
 pub use record::{MAX_BREAKPOINTS, Record};
+pub use snapshot::Snapshot;
 pub use table::{MAX_PROCEDURES, Table};
 pub use view::View;

@@ -1,5 +1,6 @@
 use crate::{Cause, Control, Directive, Execution, InstructionOutcome, Pending, View};
 use arrayvec::ArrayVec;
+use bpf_step::Machine;
 use obcp_types::{StartFailure, Status};
 use ocp_pool::{Mailbox, Pool};
 use std::alloc::Allocator;
@@ -184,6 +185,16 @@ impl<A: Allocator> Record<A> {
         self.traced = traced;
     }
 
+    /// Puts back a machine that did instructions apart: the pass flag goes off.
+    pub(crate) fn settle(&mut self, machine: Machine<A>)
+        requires { StandsIn self.old.execution.image machine }
+        ensures record { shown self.new ≡ settled machine (shown self.old) }
+        ensures id { self.new.id ≡ self.old.id }
+    {
+        self.execution.settle(machine);
+        self.control.pass = false;
+    }
+
     /// What is shown of the procedure.
     pub(crate) fn view(&self) -> View
         ensures { result ≡ view_of (shown self.now) }
@@ -212,4 +223,6 @@ ghost use Rattle.std.specs.List.{list_any};
 ghost use Rattle.ocp_table.specs.Effects.{pool_by, with_breakpoints, with_traced};
 ghost use Rattle.ocp_table.specs.RequestTable.{Unload, Step};
 ghost use Rattle.bpf_step.specs.Runs.{breaks_at};
+ghost use Rattle.ocp_table.specs.Snapshots.{settled};
+ghost use Rattle.bpf_step.specs.Step.{StandsIn};
 ghost use Rattle.ocp_table.specs.Shown.{AnswersStep};

@@ -7,6 +7,7 @@ use Rattle.bpf_step.specs.Mirror.Codes.{state_code}
 use Rattle.ocp_table.specs.declared.control.Control.{Control}
 use Rattle.ocp_table.specs.contracts.control.Control as C
 use Rattle.ocp_table.specs.Records.{Execution, Rec, Records}
+use Rattle.ocp_table.specs.Snapshots.{Snapshot}
 
 abbrev pub octets : Coded (List ℕ)
 octets = coded_list coded_ℕ
@@ -36,3 +37,17 @@ rec_code =
 
 abbrev pub records_code : Coded Records
 records_code = code coded_ℕ rec_code
+
+abbrev pub snapshot_code : Coded Snapshot
+snapshot_code =
+    code_by (Execution × (List ℕ × (Bool × Bool)))
+    (coded× execution_code (coded× octets (coded× coded_bool coded_bool)))
+    (λ s. (record { image = s.image; machine = s.machine }, (s.breakpoints, (s.pass, s.traced))))
+    (λ p. record {
+      image = p.0.image;
+      machine = p.0.machine;
+      breakpoints = p.1.0;
+      pass = p.1.1.0;
+      traced = p.1.1.1;
+    })
+    (λ _. refl)

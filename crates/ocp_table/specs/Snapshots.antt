@@ -1,0 +1,64 @@
+-- What is taken of a running procedure to run it apart, and how its machine is put back.
+use Rattle.std.specs.Prelude.{◌≡◌, ℕ, zero, suc, Bool, true, false, List, Option, Some, None}
+use Rattle.obcp_types.specs.declared.status.Status.{Status}
+use Rattle.obcp_types.specs.declared.status.Status.TheVariants.{Inactive, Running, Held}
+use Rattle.bpf_step.specs.Machine.{State}
+use Rattle.bpf_step.specs.Step.{StandsIn}
+use Rattle.bpf_step.specs.Runs.{local_run, local_count}
+use Rattle.ocp_table.specs.Records.{Rec}
+use Rattle.ocp_table.specs.Effects.{passed}
+
+-- image, machine, breakpoints, pass flag and trace flag of a procedure that runs
+pub record Snapshot : Type 0 where
+  pub image : List ℕ
+  pub machine : State
+  pub breakpoints : List ℕ
+  pub pass : Bool
+  pub traced : Bool
+
+abbrev pub snapshot_of : Rec → Snapshot
+snapshot_of r = record {
+  image = r.image;
+  machine = r.machine;
+  breakpoints = r.breakpoints;
+  pass = r.control.pass;
+  traced = r.traced;
+}
+
+abbrev pub snapshot_by : Status → Rec → Option Snapshot
+snapshot_by Inactive r = None
+snapshot_by Running r = Some (snapshot_of r)
+snapshot_by Held r = None
+
+-- of a procedure that is loaded and runs
+abbrev pub snapshot_at : Option Rec → Option Snapshot
+snapshot_at None = None
+snapshot_at (Some r) = snapshot_by r.control.status r
+
+-- the machine after so many instructions that it does by itself
+abbrev pub run_of : Snapshot → ℕ → Option State
+run_of s count = local_run s.image s.breakpoints s.pass s.machine count
+
+-- how many it does by itself, up to a budget: none where it is traced
+abbrev pub count_by : Bool → Snapshot → ℕ → ℕ
+count_by true s budget = 0
+count_by false s budget = local_count s.image s.breakpoints s.pass s.machine budget
+
+abbrev pub count_of : Snapshot → ℕ → ℕ
+count_of s budget = count_by s.traced s budget
+
+-- another machine is put back, and the pass flag goes off
+abbrev pub settled : State → Rec → Rec
+settled machine r = record {
+  image = r.image;
+  machine = machine;
+  mailbox = r.mailbox;
+  control = passed r.control;
+  breakpoints = r.breakpoints;
+  traced = r.traced;
+}
+
+-- the machine and its saved places stand at instructions of the procedure, where it is loaded
+abbrev pub StandsAt : Option Rec → State → Type 0
+StandsAt None machine = Unit {0}
+StandsAt (Some r) machine = StandsIn r.image machine

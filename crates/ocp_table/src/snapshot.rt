@@ -1,0 +1,115 @@
+//! What is taken of a running procedure to run it apart.
+
+use crate::{Execution, MAX_BREAKPOINTS, Record};
+use arrayvec::ArrayVec;
+use bpf_step::Machine;
+use obcp_types::Status;
+use std::alloc::{AllocError, Allocator, Global};
+use std::marker::Model;
+
+/// A running procedure as it stood: the shared program, a copy of the machine, the breakpoints, the pass flag and the
+/// trace flag.
+#[derive(Drop)]
+pub struct Snapshot<A: Allocator = Global> {
+    execution: Execution<A>,
+    breakpoints: ArrayVec<u16, MAX_BREAKPOINTS>,
+    pass: bool,
+    traced: bool,
+}
+
+impl<A: Allocator> Model for Snapshot<A> {
+    ghost use Rattle.ocp_table.specs.Snapshots.{Snapshot as Taken};
+
+    ghost Value = { Taken };
+
+    ghost use Rattle.ocp_table.specs.Mirror.Codes.{snapshot_code};
+
+    ghost coded = { snapshot_code };
+
+    ghost view = { λ s. record {
+      image = s.execution.image;
+      machine = s.execution.machine;
+      breakpoints = s.breakpoints.items;
+      pass = s.pass;
+      traced = s.traced;
+    } };
+}
+
+impl<A: Allocator> Snapshot<A> {
+    ghost use Rattle.std.specs.Prelude.{◌≡◌, ◌↔◌, IfOk, IsTrue, Some, None};
+    ghost use Rattle.bpf_step.specs.Step.{StandsIn};
+    ghost use Rattle.ocp_table.specs.Shown.{shown};
+    ghost use Rattle.ocp_table.specs.Snapshots.{snapshot_of, snapshot_at, run_of, count_of};
+
+    /// That of a procedure.
+    fn of(alloc: A, procedure: &Record<A>) -> Result<Self, AllocError>
+    where
+        A: Copy,
+        ensures { IfOk result (λ s. s ≡ snapshot_of (shown procedure.now)) }
+    {
+        Ok(Snapshot {
+            execution: procedure.execution.share(alloc)?,
+            breakpoints: procedure.breakpoints.clone()?,
+            pass: procedure.control.pass,
+            traced: procedure.traced,
+        })
+    }
+
+    /// That of a procedure, where it runs.
+    pub(crate) fn take(alloc: A, procedure: &Record<A>) -> Result<Option<Self>, AllocError>
+    where
+        A: Copy,
+        ensures { IfOk result (λ s. s ≡ snapshot_at (Some (shown procedure.now))) }
+    {
+        match procedure.control.status {
+            Status::Running => {
+                let snapshot = Snapshot::of(alloc, procedure)?;
+                Ok(Some(snapshot))
+            }
+            Status::Inactive | Status::Held => Ok(None),
+        }
+    }
+
+    /// Whether the procedure's parts are still the same.
+    fn is_of(&self, procedure: &Record<A>) -> bool
+        ensures { IsTrue result ↔ (snapshot_of (shown procedure.now) ≡ self.now) }
+    {
+        self.pass == procedure.control.pass
+            && self.traced == procedure.traced
+            && self.breakpoints.as_slice() == procedure.breakpoints.as_slice()
+            && self.execution.is_same(&procedure.execution)
+    }
+
+    /// Whether the procedure still runs, and its parts are the same.
+    pub(crate) fn is_at(&self, procedure: &Record<A>) -> bool
+        ensures { IsTrue result ↔ (snapshot_at (Some (shown procedure.now)) ≡ Some self.now) }
+    {
+        match procedure.control.status {
+            Status::Running => self.is_of(procedure),
+            Status::Inactive | Status::Held => false,
+        }
+    }
+
+    /// A machine as it stood.
+    pub fn machine(&self, alloc: A) -> Result<Machine<A>, AllocError>
+    where
+        A: Copy,
+        ensures { IfOk result (λ machine. machine ≡ self.now.machine) }
+    {
+        self.execution.machine(alloc)
+    }
+
+    /// Lets a machine as it stood do instructions that need no engine, at most so many, and says how many it did: none
+    /// where the procedure is traced. It stops before the first instruction that needs the engine, and before a
+    /// breakpoint, which the pass flag lets the first instruction pass.
+    pub fn run(&self, machine: &mut Machine<A>, budget: u32) -> u32
+        requires { machine.old ≡ self.now.machine }
+        ensures ran { run_of self.now result ≡ Some machine.new }
+        ensures count { result ≡ count_of self.now budget }
+        ensures stands { StandsIn self.now.image machine.new }
+    {
+        let budget = if self.traced { 0 } else { budget };
+        self.execution
+            .run(machine, self.breakpoints.as_slice(), self.pass, budget)
+    }
+}
