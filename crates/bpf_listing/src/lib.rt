@@ -20,4 +20,5 @@ pub use laws::{
 };
 pub use mnemonic::{Access, Jump, Mnemonic, mnemonic_of};
 pub use reading::read_line;
-pub use writing::line_text;
+pub use text::Text;
+pub use writing::{line_text, text_of};

@@ -22,7 +22,7 @@ impl Model for Text {
 
 impl Text {
     /// The empty text.
-    pub fn new() -> Self
+    pub(crate) fn new() -> Self
         ensures { result ≡ [] }
     {
         Text {
@@ -31,7 +31,7 @@ impl Text {
     }
 
     /// A text that begins with this piece.
-    pub fn from_piece(piece: &[u8]) -> Self
+    pub(crate) fn from_piece(piece: &[u8]) -> Self
         requires { length piece.now ≤ 64 }
         ensures { result ≡ piece.now }
     {
@@ -49,7 +49,7 @@ impl Text {
     }
 
     /// Appends a piece of text.
-    pub fn push_all(&mut self, piece: &[u8])
+    pub(crate) fn push_all(&mut self, piece: &[u8])
         requires { length self.old + length piece.now ≤ 64 }
         ensures items { self.new ≡ self.old ++ piece.now }
         ensures len { length self.new ≡ length self.old + length piece.now }
@@ -60,7 +60,7 @@ impl Text {
 
 impl Text {
     /// Appends a number in decimal digits.
-    pub fn push_number(&mut self, number: u32)
+    pub(crate) fn push_number(&mut self, number: u32)
         requires { length self.old + 10 ≤ 64 }
         ensures items { self.new ≡ self.old ++ decimal number }
         ensures len { length self.new ≤ length self.old + 10 }
@@ -70,7 +70,7 @@ impl Text {
     }
 
     /// Appends a number in decimal digits, with a sign where it is negative.
-    pub fn push_signed(&mut self, number: i32)
+    pub(crate) fn push_signed(&mut self, number: i32)
         requires { length self.old + 11 ≤ 64 }
         ensures items { self.new ≡ self.old ++ signed_decimal number }
         ensures len { length self.new ≤ length self.old + 11 }
@@ -80,7 +80,7 @@ impl Text {
     }
 
     /// Appends a number in decimal digits, always with its sign.
-    pub fn push_with_sign(&mut self, number: i32)
+    pub(crate) fn push_with_sign(&mut self, number: i32)
         requires { length self.old + 11 ≤ 64 }
         ensures items { self.new ≡ self.old ++ with_sign number }
         ensures len { length self.new ≤ length self.old + 11 }
@@ -90,7 +90,7 @@ impl Text {
     }
 
     /// Appends a register.
-    pub fn push_register(&mut self, reg: Reg)
+    pub(crate) fn push_register(&mut self, reg: Reg)
         requires { length self.old + 11 ≤ 64 }
         ensures items { self.new ≡ self.old ++ register reg }
         ensures len { length self.new ≤ length self.old + 11 }
@@ -100,7 +100,7 @@ impl Text {
     }
 
     /// Appends the last `count` hexadecimal digits of a number, in lower case.
-    pub fn push_hex(&mut self, count: u8, number: u64)
+    pub(crate) fn push_hex(&mut self, count: u8, number: u64)
         requires { length self.old + count ≤ 64 }
         ensures items { self.new ≡ self.old ++ hex_digits count number }
         ensures len { length self.new ≡ length self.old + count }

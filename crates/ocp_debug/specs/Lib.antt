@@ -1,3 +1,5 @@
 pub mod Commands
 pub mod Memory
 pub mod Traces
+pub mod Texts
+pub mod Mirror

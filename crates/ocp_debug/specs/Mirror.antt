@@ -1,0 +1,3 @@
+pub mod Breakpoints
+pub mod Ring
+pub mod Tracing

@@ -1,0 +1,21 @@
+//! Laws on commands and traces. The functions do nothing when they run: their contracts are the laws.
+ghost use Rattle.std.specs.Prelude.{◌≡◌, ◌++◌, ℕ, List};
+ghost use Rattle.std.specs.FinMap.{get};
+ghost use Rattle.ocp_table.specs.Records.{Records};
+ghost use Rattle.ocp_table.specs.Effects.{records_by};
+ghost use Rattle.ocp_table.specs.Laws.{run_of};
+ghost use Rattle.ocp_debug.specs.Commands.{command_effect};
+ghost use Rattle.ocp_debug.specs.Traces.{kept};
+ghost use Rattle.ocp_debug.specs.declared.command.Command.{Command as Asked};
+ghost use Rattle.ocp_debug.specs.declared.trace.Trace.{Trace as Made};
+
+/// Whether records are given up one after another or all at once, the same ones are kept.
+pub fn keeping_is_kept_up()
+    ensures { (old new : List Made) → kept (kept old ++ new) ≡ kept (old ++ new) }
+{}
+
+/// A debugger's command leaves each procedure's image, machine, mailbox and control.
+pub fn commands_keep_runs()
+    ensures { (command : Asked) (id q : ℕ) (m : Records) →
+        run_of (get (records_by (command_effect command id m) m) q) ≡ run_of (get m q) }
+{}

@@ -1,0 +1,95 @@
+//! The trace records that are kept.
+ghost use Rattle.std.specs.Prelude.{◌≡◌, ◌≤◌, ◌<◌, ◌++◌, ◌∷◌, [], IfOk, OnOk, OnErr, length, option_to_list, vec_capacity};
+ghost use Rattle.std.specs.List.{flat_map};
+ghost use Rattle.ocp_debug.specs.Traces.{kept};
+ghost use Rattle.ocp_debug.specs.Texts.{trace_line};
+
+use crate::texts::line_of;
+use crate::{TRACE_RECORDS, Trace};
+use circular_buffer::HeapCircularBuffer;
+use std::alloc::{AllocError, Allocator, Global};
+use std::marker::Model;
+
+/// The last 256 trace records, the oldest first. Contracts see them as a list.
+#[derive(Drop)]
+pub struct TraceRing<A: Allocator = Global> {
+    records: HeapCircularBuffer<Trace, A>,
+}
+
+impl<A: Allocator> Model for TraceRing<A> {
+    ghost use Rattle.std.specs.Prelude.{List};
+    ghost use Rattle.ocp_debug.specs.declared.trace.Trace.{Trace as Kept};
+
+    ghost Value = { List Kept };
+
+    ghost view = { λ r. r.records.items };
+
+    ghost use Rattle.ocp_debug.specs.Mirror.Ring.{IsTraceBuffer};
+
+    ghost invariant = { λ r. IsTraceBuffer r.records };
+}
+
+impl<A: Allocator> TraceRing<A> {
+    /// A ring without records, with room for all that it may keep.
+    pub fn new(alloc: A) -> Result<Self, AllocError>
+        ensures { IfOk result (λ ring. ring ≡ []) }
+    {
+        let records = HeapCircularBuffer::with_capacity(alloc, TRACE_RECORDS)?;
+        Ok(TraceRing { records })
+    }
+
+    /// How many records are kept.
+    pub fn len(&self) -> usize
+        ensures value { result ≡ length self.now }
+        ensures few { result ≤ TRACE_RECORDS }
+    {
+        self.records.len()
+    }
+
+    /// Adds a record. A full ring gives up its oldest one.
+    pub fn push(&mut self, trace: Trace)
+        ensures { self.new ≡ kept (self.old ++ trace ∷ []) }
+    {
+        self.records.push_back(trace);
+    }
+
+    /// Adds the record that an event made, if it made one.
+    pub(crate) fn note(&mut self, trace: Option<Trace>)
+        ensures { self.new ≡ kept (self.old ++ option_to_list trace) }
+    {
+        if let Some(trace) = trace {
+            self.push(trace);
+        }
+    }
+
+    /// How many octets the lines have.
+    fn lines_len(&self) -> usize
+        ensures { result ≡ length (flat_map trace_line self.now) }
+    {
+        let mut len = 0;
+        for trace in &self.records {
+            len += line_of(trace).len();
+        }
+        len
+    }
+
+    /// Appends the line of each record, the oldest first.
+    ///
+    /// The only refusal is that of memory, and comes only where the lines do not fit into the capacity that `output` has. It
+    /// leaves `output` as it was.
+    pub fn write_lines<B: Allocator>(&self, output: &mut Vec<u8, B>) -> Result<(), AllocError>
+        ensures ok { OnOk result
+            (output.new.items ≡ output.old.items ++ flat_map trace_line self.now) }
+        ensures err { OnErr result (output.new.items ≡ output.old.items) }
+        ensures memory { OnErr result
+            (vec_capacity output.old < length (output.old.items ++ flat_map trace_line self.now)) }
+        ensures same_capacity { OnErr result (vec_capacity output.new ≡ vec_capacity output.old) }
+        ensures capacity { vec_capacity output.old ≤ vec_capacity output.new }
+    {
+        output.reserve(self.lines_len())?;
+        for trace in &self.records {
+            line_of(trace).append_to(output)?;
+        }
+        Ok(())
+    }
+}

@@ -1,0 +1,91 @@
+//! The instruction event, and the trace record that it makes.
+ghost use Rattle.std.specs.Prelude.{◌≡◌, ◌++◌, option_to_list};
+ghost use Rattle.std.specs.FinMap.{get};
+ghost use Rattle.ocp_table.specs.Effects.{records_by, pool_by, step_outcome};
+ghost use Rattle.ocp_table.specs.RequestTable.{Step};
+ghost use Rattle.ocp_table.specs.Deciding.{effect_in};
+ghost use Rattle.ocp_debug.specs.Traces.{kept, traces_by};
+ghost use Rattle.ocp_debug.specs.Mirror.Tracing.{next_at, leaves_trace, trace_after};
+
+use crate::{StepOutcome, Trace, TraceRing};
+use bpf_types::Line;
+use ocp_table::{Pool, Table};
+use std::alloc::Allocator;
+
+/// The next instruction of a traced procedure.
+#[derive(Clone, Copy)]
+pub(crate) struct Next {
+    place: u16,
+    line: Line,
+}
+
+/// The next instruction, where the procedure is traced.
+fn next_at<A: Allocator>(table: &Table<A>, id: u16) -> Option<Next>
+    ensures { result ≡ next_at (get table.now id) }
+{
+    let record = table.record(id)?;
+    if !record.traced {
+        return None;
+    }
+    let place = record.execution.place();
+    let line = record.execution.line_at(place)?;
+    Some(Next { place, line })
+}
+
+/// Whether an instruction was done.
+fn leaves_trace(outcome: StepOutcome) -> bool
+    ensures { result ≡ leaves_trace outcome }
+{
+    match outcome {
+        StepOutcome::Ran | StepOutcome::Called | StepOutcome::Ended | StepOutcome::Faulted(_) => {
+            true
+        }
+        StepOutcome::Broke
+        | StepOutcome::NotLoaded
+        | StepOutcome::NotRunning
+        | StepOutcome::JournalFull => false,
+    }
+}
+
+/// The trace record of this instruction, by its outcome and the table after it.
+fn trace_after<A: Allocator>(
+    table: &Table<A>,
+    id: u16,
+    next: Option<Next>,
+    outcome: StepOutcome,
+) -> Option<Trace>
+    ensures { result ≡ trace_after id next outcome (get table.now id) }
+{
+    let next = next?;
+    if !leaves_trace(outcome) {
+        return None;
+    }
+    let record = table.record(id)?;
+    Some(Trace {
+        id,
+        place: next.place,
+        outcome,
+        registers: record.execution.registers(),
+        line: next.line,
+    })
+}
+
+/// The instruction event of a running procedure: its next instruction is done, or a breakpoint holds it. It is refused as not
+/// loaded, or as not running, and then changes nothing. An instruction of a traced procedure leaves its record in the ring.
+pub fn instruction<A: Allocator>(
+    table: &mut Table<A>,
+    id: u16,
+    pool: &mut Pool<A>,
+    ring: &mut TraceRing<A>,
+) -> StepOutcome
+    ensures answer { result ≡ step_outcome (effect_in (Step pool.old) id table.old) }
+    ensures records { table.new ≡ records_by (effect_in (Step pool.old) id table.old) table.old }
+    ensures pool { pool.new ≡ pool_by (effect_in (Step pool.old) id table.old) pool.old }
+    ensures ring { ring.new ≡
+        kept (ring.old ++ traces_by (effect_in (Step pool.old) id table.old) table.old) }
+{
+    let next = next_at(table, id);
+    let outcome = table.instruction(id, pool);
+    ring.note(trace_after(table, id, next, outcome));
+    outcome
+}

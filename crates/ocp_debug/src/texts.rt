@@ -1,0 +1,150 @@
+//! What is printed of procedures and of trace records.
+ghost use Rattle.std.specs.Prelude.{◌≡◌, ◌≤◌, ◌<◌, ◌+◌, ◌*◌, ◌++◌, length, vec_capacity, OnOk, OnErr, Some, None};
+ghost use Rattle.ocp_debug.specs.Texts.{view_line, register_line, register_lines, view_lines, words_text, trace_line, debug_fault_name};
+
+use crate::text::Text;
+use crate::{DebugFault, Trace, View};
+use std::alloc::{AllocError, Allocator};
+
+/// The line of a procedure's status.
+fn head_of(id: u16, view: &View) -> Text
+    ensures items { result ≡ view_line id view.now }
+    ensures len { length result ≤ 90 }
+{
+    let mut text = Text::new();
+    text.push_all(b"view ");
+    text.push_number(id);
+    text.push_all(b" ");
+    text.push_status(view.status);
+    text.push_all(b" ");
+    text.push_cause(view.cause);
+    text.push_all(b" place ");
+    text.push_number(view.place);
+    text.push_all(b" depth ");
+    text.push_number(view.depth);
+    text.push_all(b" pending ");
+    text.push_pending(view.pending);
+    text.push_all(b"\n");
+    text
+}
+
+/// Appends the line of a register.
+fn push_register(text: &mut Text, index: u8, register: u64)
+    requires { length text.old + 22 ≤ 384 }
+    ensures items { text.new ≡ text.old ++ register_line index register }
+    ensures len { length text.new ≤ length text.old + 22 }
+{
+    text.push_all(b"r");
+    text.push_number(index);
+    text.push_all(b" ");
+    text.push_word(register);
+    text.push_all(b"\n");
+}
+
+/// The lines of a procedure's status and registers.
+fn lines_of(id: u16, view: &View) -> Text
+    ensures { result ≡ view_lines id (Some view.now) }
+{
+    let mut text = head_of(id, view);
+    let mut index = 0;
+    for register in &view.registers {
+        push_register(&mut text, index, *register);
+        index += 1;
+    }
+    text
+}
+
+/// The line of a procedure that is not loaded.
+fn absent_line(id: u16) -> Text
+    ensures { result ≡ view_lines id None }
+{
+    let mut text = Text::new();
+    text.push_all(b"view ");
+    text.push_number(id);
+    text.push_all(b" NotLoaded\n");
+    text
+}
+
+/// Appends the lines of a view: the status and the eleven registers, or that the procedure is not loaded.
+///
+/// The only refusal is that of memory, and comes only where the text does not fit into the capacity that `output` has. It
+/// leaves `output` as it was.
+pub fn view_text<B: Allocator>(
+    id: u16,
+    view: Option<View>,
+    output: &mut Vec<u8, B>,
+) -> Result<(), AllocError>
+    ensures ok { OnOk result (output.new.items ≡ output.old.items ++ view_lines id view) }
+    ensures err { OnErr result (output.new.items ≡ output.old.items) }
+    ensures memory { OnErr result
+        (vec_capacity output.old < length (output.old.items ++ view_lines id view)) }
+    ensures same_capacity { OnErr result (vec_capacity output.new ≡ vec_capacity output.old) }
+    ensures capacity { vec_capacity output.old ≤ vec_capacity output.new }
+{
+    let text = match &view {
+        Some(view) => lines_of(id, view),
+        None => absent_line(id),
+    };
+    text.append_to(output)
+}
+
+/// The line of a trace record.
+pub(crate) fn line_of(trace: &Trace) -> Text
+    ensures items { result ≡ trace_line trace.now }
+    ensures len { length result ≤ 266 }
+{
+    let mut text = Text::new();
+    text.push_all(b"trace ");
+    text.push_number(trace.id);
+    text.push_all(b" ");
+    text.push_number(trace.place);
+    text.push_all(b" ");
+    text.push_outcome(trace.outcome);
+    push_words(&mut text, &trace.registers);
+    text.push_all(b" ");
+    text.push_all(bpf_listing::text_of(trace.line).as_slice());
+    text.push_all(b"\n");
+    text
+}
+
+/// Appends words, each with a space in front.
+fn push_words(text: &mut Text, words: &[u64])
+    requires { length text.old + 17 * length words.now ≤ 384 }
+    ensures items { text.new ≡ text.old ++ words_text words.now }
+    ensures len { length text.new ≤ length text.old + 17 * length words.now }
+{
+    for word in words {
+        text.push_all(b" ");
+        text.push_word(*word);
+    }
+}
+
+/// Appends the line of a trace record.
+///
+/// The only refusal is that of memory, and comes only where the text does not fit into the capacity that `output` has. It
+/// leaves `output` as it was.
+pub fn trace_text<B: Allocator>(trace: &Trace, output: &mut Vec<u8, B>) -> Result<(), AllocError>
+    ensures ok { OnOk result (output.new.items ≡ output.old.items ++ trace_line trace.now) }
+    ensures err { OnErr result (output.new.items ≡ output.old.items) }
+    ensures memory { OnErr result
+        (vec_capacity output.old < length (output.old.items ++ trace_line trace.now)) }
+    ensures same_capacity { OnErr result (vec_capacity output.new ≡ vec_capacity output.old) }
+    ensures capacity { vec_capacity output.old ≤ vec_capacity output.new }
+{
+    line_of(trace).append_to(output)
+}
+
+/// The name of a refusal.
+pub fn fault_name(fault: DebugFault) -> &'static str
+    ensures { result.now ≡ debug_fault_name fault }
+{
+    match fault {
+        DebugFault::NotLoaded => "NotLoaded",
+        DebugFault::NotAnInstruction => "NotAnInstruction",
+        DebugFault::AlreadySet => "AlreadySet",
+        DebugFault::BreaksFull => "BreaksFull",
+        DebugFault::NotSet => "NotSet",
+        DebugFault::JournalFull => "JournalFull",
+        DebugFault::OutsideMemory => "OutsideMemory",
+    }
+}
