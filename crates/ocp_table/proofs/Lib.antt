@@ -4,3 +4,4 @@ pub mod Each
 pub mod Lawful
 pub mod Tables
 pub mod Rows
+pub mod Slicing

@@ -4,5 +4,6 @@ pub mod RequestTable
 pub mod Deciding
 pub mod Shown
 pub mod Snapshots
+pub mod Slices
 pub mod Laws
 pub mod Mirror

@@ -33,6 +33,15 @@ pub enum StepOutcome {
     JournalFull,
 }
 
+/// What became of a slice.
+#[derive(Clone, Copy, PartialEq, Eq, Debug)]
+pub struct Slice {
+    /// How many instruction events there were.
+    pub count: u32,
+    /// The outcome of the last one.
+    pub last: StepOutcome,
+}
+
 /// Why nothing is loaded: the start of the request failed, or memory was refused.
 #[derive(Clone, Copy, PartialEq, Eq, Debug)]
 pub enum LoadFailure {
@@ -44,6 +53,7 @@ impl StepOutcome {
     ghost use Rattle.std.specs.Prelude.{◌≡◌};
     ghost use Rattle.ocp_table.specs.Effects.{Effect, Kept, Failed, step_outcome};
     ghost use Rattle.ocp_table.specs.Shown.{AnswersStep};
+    ghost use Rattle.ocp_table.specs.Slices.{is_on};
 
     /// That of an instruction event which was answered so.
     #[inline(always)]
@@ -58,6 +68,14 @@ impl StepOutcome {
             Ok(InstructionOutcome::Faulted(number)) => StepOutcome::Faulted(number),
             Err(failure) => StepOutcome::of_failure(failure),
         }
+    }
+
+    /// Whether a slice goes on after it, as long as the procedure runs.
+    #[inline(always)]
+    pub(crate) fn is_on(self) -> bool
+        ensures { result ≡ is_on self }
+    {
+        matches!(self, StepOutcome::Ran | StepOutcome::Called)
     }
 
     /// That of an instruction event which failed so.

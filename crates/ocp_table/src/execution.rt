@@ -162,6 +162,19 @@ impl<A: Allocator> Execution<A> {
         }
     }
 
+    /// Does instructions that need no engine, at most so many, and says how many. It stops before a breakpoint, which the
+    /// pass flag lets the first instruction pass.
+    #[inline(always)]
+    pub(crate) fn advance(&mut self, breakpoints: &[u16], pass: bool, budget: u32) -> u32
+        ensures ran { local_run self.old.image breakpoints.now pass self.old.machine result ≡
+            Some self.new.machine }
+        ensures count { result ≡
+            local_count self.old.image breakpoints.now pass self.old.machine budget }
+        ensures image { self.new.image ≡ self.old.image }
+    {
+        self.machine.run(&self.program, breakpoints, pass, budget)
+    }
+
     /// The slot of the next instruction.
     pub fn place(&self) -> u16
         ensures { result ≡ self.now.machine.place }

@@ -1,12 +1,15 @@
 //! Laws on effects and records. The functions do nothing when they run: their contracts are the laws.
 ghost use Rattle.std.specs.Prelude.{◌≡◌, ◌≢◌, ℕ, List, true, Some, is_some};
-ghost use Rattle.std.specs.FinMap.{get};
+ghost use Rattle.std.specs.FinMap.{get, insert};
 ghost use Rattle.obcp_types.specs.declared.failure.StartFailure.{StartFailure as Failure};
 ghost use Rattle.obcp_types.specs.declared.status.Status.TheVariants.{Running};
-ghost use Rattle.ocp_table.specs.Records.{Records};
+ghost use Rattle.bpf_step.specs.Machine.{State};
+ghost use Rattle.ocp_table.specs.declared.answers.StepOutcome.{StepOutcome};
+ghost use Rattle.ocp_table.specs.Records.{Rec, Records};
 ghost use Rattle.ocp_table.specs.Effects.{Effect, Change, Changed, records_by, failure_of};
 ghost use Rattle.ocp_table.specs.RequestTable.{Directive as Asked, Step};
 ghost use Rattle.ocp_table.specs.Deciding.{effect_in, status_of};
+ghost use Rattle.ocp_table.specs.Slices.{RunsBy, Leads, with_machine, last_ran};
 ghost use Rattle.ocp_table.specs.Laws.{machine_of, run_of, IsRequest, IsKeptOrStarted, IsDebugging, LeavesMachines};
 
 /// What fails changes nothing at all.
@@ -45,4 +48,16 @@ pub fn other_requests_keep_machines()
 pub fn debugging_keeps_runs()
     ensures { (change : Change) (id q : ℕ) (m : Records) → IsDebugging change →
         run_of (get (records_by (Changed id change) m) q) ≡ run_of (get m q) }
+{}
+
+/// Instructions that a machine does by itself are as many instruction events of its procedure: each is answered so, and a
+/// slice goes on after it. They move the machine, and the pass flag goes off with the first.
+pub fn local_instructions_are_events()
+    ensures { (m : Records) (pool : List ℕ) (id n : ℕ) (r : Rec) (machine : State)
+        (last : StepOutcome) → RunsBy m id r n machine →
+        Leads id n
+        (record { records = m; pool = pool })
+        last
+        (record { records = insert m id (with_machine n machine r); pool = pool })
+        (last_ran n last) }
 {}

@@ -8,11 +8,12 @@ mod directive;
 mod execution;
 pub mod laws;
 mod record;
+mod slice;
 mod snapshot;
 mod table;
 mod view;
 
-pub use answers::{InstructionOutcome, LoadFailure, StepOutcome};
+pub use answers::{InstructionOutcome, LoadFailure, Slice, StepOutcome};
 pub use control::{Cause, Control, Pending};
 pub use directive::Directive;
 pub use execution::Execution;

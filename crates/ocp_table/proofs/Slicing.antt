@@ -1,0 +1,363 @@
+-- Slices, event by event and by stretches that a machine does by itself.
+use Rattle.std.proofs.Common.{◌≡◌, ℕ, zero, suc, ◌+◌, ◌-◌, ◌<◌, ◌≤◌, Bool, true, false, cond, List, length, Option, Some, None, refl, sym, ap, subst, ◌∙◌, add-one, arith}
+use Rattle.std.proofs.Math.Nat.{zero-add, suc-add}
+use Rattle.std.specs.Prelude.{◌==◌, ◌&&◌, option_and_then, is_some}
+use Rattle.std.proofs.lemmas.Bool.Decides.{nat_tests}
+use Rattle.std.proofs.lemmas.Option.{same_Some}
+use Rattle.std.specs.Ordering.{nat_cmp, eq_by_cmp}
+use Rattle.std.specs.Cmp.{nat_cmp_total, unsigned_tied}
+use Rattle.std.specs.FinMap as map
+use Rattle.obcp_types.specs.declared.status.Status.{Status}
+use Rattle.obcp_types.specs.declared.status.Status.TheVariants.{Inactive, Running, Held}
+use Rattle.obcp_types.specs.declared.failure.StartFailure.{StartFailure}
+use Rattle.obcp_types.specs.declared.failure.StartFailure.TheVariants.{NotRunning}
+use Rattle.bpf_step.specs.Machine.{State, Outcome, Next, Needs, NoInstruction}
+use Rattle.bpf_step.specs.Step.{one_step}
+use Rattle.bpf_step.specs.Runs.{next_of, breaks_at, local_next, local_run, local_count}
+use Rattle.ocp_table.specs.declared.control.Control.{Control}
+use Rattle.ocp_table.specs.declared.answers.StepOutcome.{StepOutcome}
+use Rattle.ocp_table.specs.declared.answers.StepOutcome.TheVariants as S
+use Rattle.ocp_table.specs.declared.answers.InstructionOutcome.{InstructionOutcome}
+use Rattle.ocp_table.specs.declared.answers.InstructionOutcome.TheVariants.{Broke, Ran}
+use Rattle.ocp_table.specs.Records.{Rec, Records}
+use Rattle.ocp_table.specs.Effects.{Effect, Changed, Kept, Stepped, Failed, passed, records_by, pool_by, record_after, with_change, machine_after, step_outcome}
+use Rattle.ocp_table.specs.RequestTable.{Step, transition}
+use Rattle.ocp_table.specs.Deciding.{outcome_of, outcome_in, effect_in, effect_by, effect_on, effect_of_step, is_full}
+use Rattle.ocp_table.specs.declared.record.Record.{Record}
+use Rattle.ocp_table.specs.declared.answers.Slice.{Slice}
+use Rattle.ocp_table.specs.Shown.{shown, effect_of_record}
+use Rattle.ocp_table.specs.Slices.{IsSlice, Store, store_after, store_after_events, answer_to, goes_on, is_running, is_running_status, is_on, slice_count, slice_last, control_after, with_machine, RunsBy, last_ran, Leads}
+use Rattle.ocp_table.proofs.ContentsLemmas.{insert-same}
+use Rattle.ocp_table.proofs.Tables.{absent-step, same_step, records_after_step}
+
+-- ---- events one after another
+
+events-on : (id n k : ℕ) (s : Store) → store_after_events id (n + k) s ≡ store_after_events id k (store_after_events id n s)
+events-on id zero k s = rw zero-add refl
+events-on id (suc n) k s = rw suc-add (events-on id n k (store_after id s))
+
+-- no event
+pub leads-none : (id : ℕ) (s : Store) (last : StepOutcome) → Leads id 0 s last s last
+leads-none id s last = record {
+  store = refl;
+  count = λ b. let same : 0 + b ≡ b = omega arith in ap (slice_count id s) same ∙ sym (omega arith);
+  outcome = λ b. let same : 0 + b ≡ b = omega arith in ap (slice_last id s last) same;
+}
+
+-- one event after which the slice goes on
+pub leads-one : (id : ℕ) (s : Store) (last : StepOutcome) → goes_on id s ≡ true → Leads id 1 s last (store_after id s) (answer_to id s)
+leads-one id s last on = record {
+  store = refl;
+  count = λ b. let more : 1 + b ≡ suc b = omega arith in
+      ap (slice_count id s) more ∙ ap (λ t. cond t (suc (slice_count id (store_after id s) b)) 1) on ∙ omega arith;
+  outcome = λ b. let more : 1 + b ≡ suc b = omega arith in
+      ap (slice_last id s last) more ∙ ap (λ t. cond t (slice_last id (store_after id s) (answer_to id s) b) (answer_to id s)) on;
+}
+
+-- one stretch after another
+pub leads-on : (id n k : ℕ) (s t u : Store) (a b c : StepOutcome) → Leads id n s a t b → Leads id k t b u c → Leads id (n + k) s a u c
+leads-on id n k s t u a b c first more = record {
+  store = events-on id n k s ∙ ap (store_after_events id k) first.store ∙ more.store;
+  count = λ budget. let joined : n + k + budget ≡ n + (k + budget) = omega arith in
+      ap (slice_count id s) joined ∙ first.count (k + budget) ∙ ap (λ x. n + x) (more.count budget) ∙ omega arith;
+  outcome = λ budget. let joined : n + k + budget ≡ n + (k + budget) = omega arith in
+      ap (slice_last id s a) joined ∙ first.outcome (k + budget) ∙ more.outcome budget;
+}
+
+-- ---- one instruction that the machine does by itself
+
+get-put : (m : Records) (id : ℕ) (r : Rec) → map.get (map.insert m id r) id ≡ Some r
+get-put m id r =
+    let same : eq_by_cmp nat_cmp id id ≡ true = unsigned_tied id id ∙ grind (arith, nat_tests) in
+    map.get-insert nat_cmp_total m id r id ∙ ap (λ b. cond b (Some r) (map.get m id)) same
+
+put-put : (m : Records) (id : ℕ) (r t : Rec) → map.insert (map.insert m id r) id t ≡ map.insert m id t
+put-put m id r t = map.same_map nat_cmp_total map.nat_cmp-IsAntisymmetric _ _ (λ q.
+    map.get-insert nat_cmp_total (map.insert m id r) id t q
+    ∙ ap (λ o. cond (eq_by_cmp nat_cmp q id) (Some t) o) (map.get-insert nat_cmp_total m id r q)
+    ∙ elim (eq_by_cmp nat_cmp q id) as (λ b. cond b (Some t) (cond b (Some r) (map.get m q)) ≡ cond b (Some t) (map.get m q)) [
+      | true ↦ refl
+      | false ↦ refl
+    ]
+    ∙ sym (map.get-insert nat_cmp_total m id t q))
+
+-- a next state is an instruction that was run
+ran_of : (o : Outcome) (s t : State) (pool mailbox : List ℕ) → next_of o ≡ Some t → (outcome_of o s pool mailbox ≡ Some Ran) × (machine_after o s ≡ t)
+ran_of (Next u) s t pool mailbox h = (refl, same_Some u t h)
+ran_of (Needs need) s t pool mailbox h = absurd (cc)
+ran_of NoInstruction s t pool mailbox h = absurd (cc)
+
+ran_in : (r : Rec) (pool : List ℕ) (t : State) → local_next r.image r.breakpoints r.control.pass r.machine ≡ Some t → (outcome_in r pool ≡ Some Ran) × (machine_after (one_step r.image r.machine) r.machine ≡ t)
+ran_in r pool t h =
+    elim (breaks_at r.control.pass r.breakpoints r.machine.place) as (λ b. cond b None (next_of (one_step r.image r.machine)) ≡ Some t → (cond {A = Option InstructionOutcome} b (Some Broke) (outcome_of (one_step r.image r.machine) r.machine pool r.mailbox) ≡ Some Ran) × (machine_after (one_step r.image r.machine) r.machine ≡ t)) [
+      | true ↦ λ k. absurd (cc)
+      | false ↦ λ k. ran_of (one_step r.image r.machine) r.machine t pool r.mailbox k
+    ] h
+
+-- the record after it
+abbrev ran_on : Rec → State → Rec
+ran_on r t = record {
+  image = r.image;
+  machine = t;
+  mailbox = r.mailbox;
+  control = passed r.control;
+  breakpoints = r.breakpoints;
+  traced = r.traced;
+}
+
+module _ (m : Records) (pool : List ℕ) (id : ℕ) where
+  abbrev here : Store
+  here = record { records = m; pool = pool }
+
+  abbrev at : Rec → Store
+  at r = record { records = map.insert m id r; pool = pool }
+
+  abbrev by_effect : Effect → Store
+  by_effect e = record { records = records_by e m; pool = pool_by e pool }
+
+  abbrev by_change : Option Rec → Store
+  by_change o = record { records = with_change o id (Stepped Ran) m; pool = pool }
+
+  module _ (r : Rec) (t : State) (held : map.get m id ≡ Some r) (running : r.control.status ≡ Running) (next : local_next r.image r.breakpoints r.control.pass r.machine ≡ Some t) where
+    effect_ran : effect_in (Step pool) id m ≡ Changed id (Stepped Ran)
+    effect_ran =
+        ap (λ o. effect_on (Step pool) id o (is_full m)) held
+        ∙ ap (λ s. effect_by (transition (Step pool) (Some s) r.control.pending (length r.mailbox)) id (Some r) (is_full m)) running
+        ∙ ap (λ o. effect_of_step o id) (ran_in r pool t next).0
+
+    store_ran : store_after id here ≡ at (ran_on r t)
+    store_ran =
+        ap by_effect effect_ran
+        ∙ ap by_change held
+        ∙ ap (λ x. at (ran_on r x)) (ran_in r pool t next).1
+
+    answer_ran : answer_to id here ≡ S.Ran
+    answer_ran = ap step_outcome effect_ran
+
+    goes_ran : goes_on id here ≡ true
+    goes_ran =
+        ap (λ a. cond (is_on a) (is_running (map.get (store_after id here).records id)) false) answer_ran
+        ∙ ap (λ s. is_running (map.get (s.records) id)) store_ran
+        ∙ ap is_running (get-put m id (ran_on r t))
+        ∙ ap is_running_status running
+
+    one_local : (last : StepOutcome) → Leads id 1 here last (at (ran_on r t)) S.Ran
+    one_local last = subst (λ o. Leads id 1 here last (at (ran_on r t)) o) answer_ran (subst (λ s. Leads id 1 here last s (answer_to id here)) store_ran (leads-one id here last goes_ran))
+
+-- ---- a stretch of them
+
+pass_after : (n : ℕ) (c : Control) → (control_after n c).pass ≡ (c.pass && (n == 0))
+pass_after zero c = elim c.pass as (λ b. b ≡ (b && true)) [
+  | true ↦ refl
+  | false ↦ refl
+]
+pass_after (suc n) c =
+    let off : (suc n == 0) ≡ false = grind (arith, nat_tests) in
+    sym (ap (λ b. c.pass && b) off ∙ elim c.pass as (λ b. (b && false) ≡ false) [
+      | true ↦ refl
+      | false ↦ refl
+    ])
+
+status_after : (n : ℕ) (c : Control) → (control_after n c).status ≡ c.status
+status_after zero c = refl
+status_after (suc n) c = refl
+
+passed_after : (n : ℕ) (c : Control) → passed (control_after n c) ≡ passed c
+passed_after zero c = refl
+passed_after (suc n) c = refl
+
+module _ (m : Records) (pool : List ℕ) (id : ℕ) (r : Rec) (held : map.get m id ≡ Some r) (running : r.control.status ≡ Running) (last : StepOutcome) where
+  abbrev ran_for : ℕ → Option State
+  ran_for n = local_run r.image r.breakpoints r.control.pass r.machine n
+
+  abbrev after : ℕ → State → Store
+  after n t = record { records = map.insert m id (with_machine n t r); pool = pool }
+
+  one_more : (n : ℕ) (s t : State) → local_next r.image r.breakpoints (r.control.pass && (n == 0)) s ≡ Some t → Leads id 1 (after n s) (last_ran n last) (after (suc n) t) S.Ran
+  one_more n s t next =
+      let q = with_machine n s r in
+      let led : Leads id 1 (after n s) (last_ran n last) (record { records = map.insert (map.insert m id q) id (ran_on q t); pool = pool }) S.Ran =
+      one_local (map.insert m id q) pool id q t (get-put m id q) (status_after n r.control ∙ running) (ap (λ b. local_next r.image r.breakpoints b s) (pass_after n r.control) ∙ next) (last_ran n last) in
+      let same : map.insert (map.insert m id q) id (ran_on q t) ≡ map.insert m id (with_machine (suc n) t r) =
+      put-put m id q (ran_on q t) ∙ ap (λ c. map.insert m id (record { image = r.image; machine = t; mailbox = r.mailbox; control = c; breakpoints = r.breakpoints; traced = r.traced })) (passed_after n r.control) in
+      subst (λ x. Leads id 1 (after n s) (last_ran n last) (record { records = x; pool = pool }) S.Ran) same led
+
+  pub local_leads : (n : ℕ) (t : State) → ran_for n ≡ Some t → Leads id n (record { records = m; pool = pool }) last (after n t) (last_ran n last)
+  local_leads zero t h =
+      let same : map.insert m id (with_machine 0 t r) ≡ m = ap (λ x. map.insert m id (with_machine 0 x r)) (sym (same_Some r.machine t h)) ∙ insert-same m id r held in
+      subst (λ x. Leads id 0 (record { records = m; pool = pool }) last (record { records = x; pool = pool }) last) (sym same) (leads-none id (record { records = m; pool = pool }) last)
+  local_leads (suc n) t h =
+      elim (ran_for n) as (λ o. ran_for n ≡ o → option_and_then (local_next r.image r.breakpoints (r.control.pass && (n == 0))) o ≡ Some t → Leads id (suc n) (record { records = m; pool = pool }) last (after (suc n) t) S.Ran) [
+        | None ↦ λ is k. absurd (cc)
+        | Some s ↦ λ is k. subst (λ x. Leads id x (record { records = m; pool = pool }) last (after (suc n) t) S.Ran) (add-one n)
+            (leads-on id n 1 (record { records = m; pool = pool }) (after n s) (after (suc n) t) last (last_ran n last) S.Ran (local_leads n s is) (one_more n s t k))
+      ] refl h
+
+pub local_events : (m : Records) (pool : List ℕ) (id n : ℕ) (r : Rec) (t : State) (last : StepOutcome) → RunsBy m id r n t → Leads id n (record { records = m; pool = pool }) last (record { records = map.insert m id (with_machine n t r); pool = pool }) (last_ran n last)
+local_events m pool id n r t last is = local_leads m pool id r is.held is.running last n t is.ran
+
+-- a count is within its budget
+pub local_count_within : (image breakpoints : List ℕ) (pass : Bool) (s : State) (budget : ℕ) → local_count image breakpoints pass s budget ≤ budget
+local_count_within image breakpoints pass s zero = omega arith
+local_count_within image breakpoints pass s (suc n) =
+    elim (is_some (local_run image breakpoints pass s (suc n))) as (λ b. cond b (suc n) (local_count image breakpoints pass s n) ≤ suc n) [
+      | true ↦ omega arith
+      | false ↦ omega (arith, local_count_within image breakpoints pass s n)
+    ]
+
+-- ---- a slice of a record
+
+pub ran_some : (n : ℕ) (last : StepOutcome) → 1 ≤ n → last_ran n last ≡ S.Ran
+ran_some zero last h = absurd (omega (arith, h))
+ran_some (suc n) last h = refl
+
+module _ {A : Type 0} where
+  -- so many events are made, and the slice goes on
+  pub record IsSliced (old now : Record A) (pool left : List ℕ) (n : ℕ) (last : StepOutcome) : Type 0 where
+    pub running : now.control.status ≡ Running
+    pub named : now.id ≡ old.id
+    pub leads : (m : Records) → map.get m old.id ≡ Some (shown old) → Leads old.id n (record { records = m; pool = pool }) S.Ran (record { records = map.insert m old.id (shown now); pool = left }) last
+
+  pub sliced-none : (r : Record A) (pool : List ℕ) → r.control.status ≡ Running → IsSliced r r pool pool 0 S.Ran
+  sliced-none r pool running = record {
+    running = running;
+    named = refl;
+    leads = λ m held. subst (λ x. Leads r.id 0 (record { records = m; pool = pool }) S.Ran (record { records = x; pool = pool }) S.Ran) (sym (insert-same m r.id (shown r) held)) (leads-none r.id (record { records = m; pool = pool }) S.Ran);
+  }
+
+  -- a stretch that the machine does by itself
+  pub sliced-run : (old now next : Record A) (pool left : List ℕ) (n k : ℕ) (last : StepOutcome) (t : State) → IsSliced old now pool left n last → local_run now.execution.image now.breakpoints.items now.control.pass now.execution.machine k ≡ Some t → shown next ≡ with_machine k t (shown now) → next.id ≡ now.id → IsSliced old next pool left (n + k) (last_ran k last)
+  sliced-run old now next pool left n k last t so_far ran made same = record {
+    running = ap (λ r. r.control.status) made ∙ status_after k now.control ∙ so_far.running;
+    named = same ∙ so_far.named;
+    leads = λ m held.
+        let id = old.id in
+        let held_now = get-put m id (shown now) in
+        let on = local_leads (map.insert m id (shown now)) left id (shown now) held_now so_far.running last k t ran in
+        let same_records : map.insert (map.insert m id (shown now)) id (with_machine k t (shown now)) ≡ map.insert m id (shown next) =
+        put-put m id (shown now) (with_machine k t (shown now)) ∙ ap (map.insert m id) (sym made) in
+        leads-on id n k _ _ _ S.Ran last (last_ran k last) (so_far.leads m held)
+        (subst (λ x. Leads id k (record { records = map.insert m id (shown now); pool = left }) last (record { records = x; pool = left }) (last_ran k last)) same_records on);
+  }
+
+  -- one event, as the call ensures it
+  pub record IsEvent (now next : Record A) (pool left : List ℕ) (o : StepOutcome) : Type 0 where
+    pub answer : o ≡ step_outcome (effect_of_record (Step pool) now)
+    pub made : shown next ≡ record_after (effect_of_record (Step pool) now) (shown now)
+    pub pooled : left ≡ pool_by (effect_of_record (Step pool) now) pool
+    pub same : next.id ≡ now.id
+
+  module _ (now next : Record A) (pool left : List ℕ) (o : StepOutcome) (event : IsEvent now next pool left o) (m : Records) (id : ℕ) (held : map.get m id ≡ Some (shown now)) (named : now.id ≡ id) where
+    store_event : store_after id (record { records = m; pool = pool }) ≡ record { records = map.insert m id (shown next); pool = left }
+    store_event =
+        let records = sym (records_after_step pool m now.id id (shown now) (shown next) held named event.made) in
+        let pools = ap (λ e. pool_by e pool) (sym (same_step pool m now.id id (shown now) held named)) ∙ sym event.pooled in
+        λ i. record { records = records i; pool = pools i }
+
+    answer_event : answer_to id (record { records = m; pool = pool }) ≡ o
+    answer_event = ap step_outcome (sym (same_step pool m now.id id (shown now) held named)) ∙ sym event.answer
+
+    goes_event : goes_on id (record { records = m; pool = pool }) ≡ cond (is_on o) (is_running_status next.control.status) false
+    goes_event =
+        ap (λ a. cond (is_on a) (is_running (map.get (store_after id (record { records = m; pool = pool })).records id)) false) answer_event
+        ∙ ap (λ s. cond (is_on o) (is_running (map.get s.records id)) false) store_event
+        ∙ ap (λ x. cond (is_on o) (is_running x) false) (get-put m id (shown next))
+
+  module _ (old now next : Record A) (pool before left : List ℕ) (n : ℕ) (last o : StepOutcome) (so_far : IsSliced old now pool before n last) (event : IsEvent now next before left o) where
+    runs_on : (b r : Bool) → cond b r false ≡ true → r ≡ true
+    runs_on true r h = h
+    runs_on false r h = absurd (cc)
+
+    running_is : (s : Status) → is_running_status s ≡ true → s ≡ Running
+    running_is Inactive h = absurd (cc)
+    running_is Running h = refl
+    running_is Held h = absurd (cc)
+
+    -- after which the slice goes on
+    pub sliced-event : cond (is_on o) (is_running_status next.control.status) false ≡ true → IsSliced old next pool left (n + 1) o
+    sliced-event on = record {
+      running = running_is next.control.status (runs_on (is_on o) (is_running_status next.control.status) on);
+      named = event.same ∙ so_far.named;
+      leads = λ m held.
+          let id = old.id in
+          let q = map.insert m id (shown now) in
+          let held_now = get-put m id (shown now) in
+          let one = leads-one id (record { records = q; pool = before }) last (goes_event now next before left o event q id held_now so_far.named ∙ on) in
+          let same : store_after id (record { records = q; pool = before }) ≡ record { records = map.insert m id (shown next); pool = left } =
+          store_event now next before left o event q id held_now so_far.named ∙ ap (λ x. record { records = x; pool = left }) (put-put m id (shown now) (shown next)) in
+          leads-on id n 1 _ _ _ S.Ran last o (so_far.leads m held)
+          (subst (λ x. Leads id 1 (record { records = q; pool = before }) last (record { records = map.insert m id (shown next); pool = left }) x) (answer_event now next before left o event q id held_now so_far.named)
+          (subst (λ x. Leads id 1 (record { records = q; pool = before }) last x (answer_to id (record { records = q; pool = before }))) same one));
+    }
+
+    -- after which it does not
+    pub sliced-end : (budget : ℕ) → n < budget → cond (is_on o) (is_running_status next.control.status) false ≡ false → (m : Records) → map.get m old.id ≡ Some (shown old) → IsSlice old.id m pool budget (record { count = n + 1; last = o }) (shown next) left
+    sliced-end budget within off m held =
+        let id = old.id in
+        let q = map.insert m id (shown now) in
+        let held_now = get-put m id (shown now) in
+        let start : Store = record { records = m; pool = pool } in
+        let there : Store = record { records = q; pool = before } in
+        let led = so_far.leads m held in
+        let stops : goes_on id there ≡ false = goes_event now next before left o event q id held_now so_far.named ∙ off in
+        let split : budget ≡ n + suc (budget - (n + 1)) = omega arith in
+        let answered = answer_event now next before left o event q id held_now so_far.named in
+        record {
+          count = sym (ap (slice_count id start) split ∙ led.count (suc (budget - (n + 1))) ∙ ap (λ b. n + cond b (suc (slice_count id (store_after id there) (budget - (n + 1)))) 1) stops);
+          last = sym (ap (slice_last id start S.Ran) split ∙ led.outcome (suc (budget - (n + 1))) ∙ ap (λ b. cond b (slice_last id (store_after id there) (answer_to id there) (budget - (n + 1))) (answer_to id there)) stops ∙ answered);
+          store = events-on id n 1 start ∙ ap (store_after id) led.store ∙ store_event now next before left o event q id held_now so_far.named ∙ ap (λ x. record { records = x; pool = left }) (put-put m id (shown now) (shown next));
+        }
+
+  -- the budget is used
+  pub sliced-whole : (old now : Record A) (pool left : List ℕ) (n : ℕ) (last : StepOutcome) → IsSliced old now pool left n last → (m : Records) → map.get m old.id ≡ Some (shown old) → IsSlice old.id m pool n (record { count = n; last = last }) (shown now) left
+  sliced-whole old now pool left n last so_far m held =
+      let led = so_far.leads m held in
+      let whole : n ≡ n + 0 = omega arith in
+      record {
+        count = sym (ap (slice_count old.id (record { records = m; pool = pool })) whole ∙ led.count 0 ∙ sym whole);
+        last = sym (ap (slice_last old.id (record { records = m; pool = pool }) S.Ran) whole ∙ led.outcome 0);
+        store = led.store;
+      }
+
+-- ---- a slice of a procedure that does not run, or that is not loaded
+
+still_of : (pool : List ℕ) (id : ℕ) (r : Rec) (full : Bool) (s : Status) → is_running_status s ≡ false → effect_by (transition (Step pool) (Some s) r.control.pending (length r.mailbox)) id (Some r) full ≡ Kept (Failed NotRunning)
+still_of pool id r full Inactive off = refl
+still_of pool id r full Running off = absurd (cc)
+still_of pool id r full Held off = refl
+
+-- a refused event is all that the slice has
+refused : (id : ℕ) (m : Records) (pool : List ℕ) (budget : ℕ) (failure : StartFailure) (o : StepOutcome) (r : Rec) → effect_in (Step pool) id m ≡ Kept (Failed failure) → step_outcome (Kept (Failed failure)) ≡ o → is_on o ≡ false → 1 ≤ budget → map.insert m id r ≡ m → IsSlice id m pool budget (record { count = 1; last = o }) r pool
+refused id m pool zero failure o r is answers off some same = absurd (omega (arith, some))
+refused id m pool (suc budget) failure o r is answers off some same =
+    let start : Store = record { records = m; pool = pool } in
+    let answer : answer_to id start ≡ o = ap step_outcome is ∙ answers in
+    let stops : goes_on id start ≡ false = ap (λ a. cond (is_on a) (is_running (map.get (store_after id start).records id)) false) answer ∙ ap (λ b. cond b (is_running (map.get (store_after id start).records id)) false) off in
+    record {
+      count = sym (ap (λ b. cond b (suc (slice_count id (store_after id start) budget)) 1) stops);
+      last = sym (ap (λ b. cond b (slice_last id (store_after id start) (answer_to id start) budget) (answer_to id start)) stops ∙ answer);
+      store = ap (by_effect m pool id) is ∙ ap (λ x. record { records = x; pool = pool }) (sym same);
+    }
+
+pub still-slice : (id : ℕ) (m : Records) (pool : List ℕ) (budget : ℕ) (r : Rec) → map.get m id ≡ Some r → is_running_status r.control.status ≡ false → 1 ≤ budget → IsSlice id m pool budget (record { count = 1; last = S.NotRunning }) r pool
+still-slice id m pool budget r held off some =
+    let is : effect_in (Step pool) id m ≡ Kept (Failed NotRunning) = ap (λ o. effect_on (Step pool) id o (is_full m)) held ∙ still_of pool id r (is_full m) r.control.status off in
+    refused id m pool budget NotRunning S.NotRunning r is refl refl some (insert-same m id r held)
+
+-- what a slice of a procedure that is not loaded comes to
+pub absent-count : (id : ℕ) (m : Records) (pool : List ℕ) (budget : ℕ) → map.get m id ≡ None → 1 ≤ budget → 1 ≡ slice_count id (record { records = m; pool = pool }) budget
+absent-count id m pool zero absent some = absurd (omega (arith, some))
+absent-count id m pool (suc budget) absent some =
+    let start : Store = record { records = m; pool = pool } in
+    let answer : answer_to id start ≡ S.NotLoaded = ap step_outcome (absent-step pool id m absent) in
+    sym (ap (λ a. cond (cond (is_on a) (is_running (map.get (store_after id start).records id)) false) (suc (slice_count id (store_after id start) budget)) 1) answer)
+
+pub absent-last : (id : ℕ) (m : Records) (pool : List ℕ) (budget : ℕ) → map.get m id ≡ None → 1 ≤ budget → S.NotLoaded ≡ slice_last id (record { records = m; pool = pool }) S.Ran budget
+absent-last id m pool zero absent some = absurd (omega (arith, some))
+absent-last id m pool (suc budget) absent some =
+    let start : Store = record { records = m; pool = pool } in
+    let answer : answer_to id start ≡ S.NotLoaded = ap step_outcome (absent-step pool id m absent) in
+    sym (ap (λ a. cond (cond (is_on a) (is_running (map.get (store_after id start).records id)) false) (slice_last id (store_after id start) (answer_to id start) budget) (answer_to id start)) answer ∙ answer)
+
+pub absent-store : (id : ℕ) (m : Records) (pool : List ℕ) → map.get m id ≡ None → store_after_events id 1 (record { records = m; pool = pool }) ≡ record { records = m; pool = pool }
+absent-store id m pool absent = ap (by_effect m pool id) (absent-step pool id m absent)

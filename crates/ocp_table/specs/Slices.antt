@@ -1,0 +1,132 @@
+-- A slice: instruction events of one procedure, one after another, up to a budget, until it no longer runs.
+use Rattle.std.specs.Prelude.{◌≡◌, ◌+◌, ℕ, zero, suc, Bool, true, false, if◌then◌else◌, List, Option, Some, None}
+use Rattle.std.specs.FinMap.{get, insert}
+use Rattle.obcp_types.specs.declared.status.Status.{Status}
+use Rattle.obcp_types.specs.declared.status.Status.TheVariants.{Inactive, Running, Held}
+use Rattle.bpf_step.specs.Machine.{State}
+use Rattle.bpf_step.specs.Runs.{local_run}
+use Rattle.ocp_table.specs.declared.control.Control.{Control}
+use Rattle.ocp_table.specs.declared.answers.Slice.{Slice}
+use Rattle.ocp_table.specs.declared.answers.StepOutcome.{StepOutcome}
+use Rattle.ocp_table.specs.declared.answers.StepOutcome.TheVariants as S
+use Rattle.ocp_table.specs.Records.{Rec, Records}
+use Rattle.ocp_table.specs.Effects.{Effect, passed, records_by, pool_by, step_outcome}
+use Rattle.ocp_table.specs.RequestTable.{Step}
+use Rattle.ocp_table.specs.Deciding.{effect_in}
+
+-- ---- one event
+
+-- what instruction events read and write
+pub record Store : Type 0 where
+  pub records : Records
+  pub pool : List ℕ
+
+abbrev pub effect_of_event : ℕ → Store → Effect
+effect_of_event id s = effect_in (Step s.pool) id s.records
+
+abbrev pub store_after : ℕ → Store → Store
+store_after id s = record {
+  records = records_by (effect_of_event id s) s.records;
+  pool = pool_by (effect_of_event id s) s.pool;
+}
+
+abbrev pub answer_to : ℕ → Store → StepOutcome
+answer_to id s = step_outcome (effect_of_event id s)
+
+-- ---- whether a slice goes on
+
+abbrev pub is_running_status : Status → Bool
+is_running_status Inactive = false
+is_running_status Running = true
+is_running_status Held = false
+
+abbrev pub is_running : Option Rec → Bool
+is_running None = false
+is_running (Some r) = is_running_status r.control.status
+
+abbrev pub is_traced : Option Rec → Bool
+is_traced None = false
+is_traced (Some r) = r.traced
+
+-- whether a slice goes on after this outcome, as long as the procedure runs
+abbrev pub is_on : StepOutcome → Bool
+is_on S.Broke = false
+is_on S.Ran = true
+is_on S.Called = true
+is_on S.Ended = false
+is_on (S.Faulted number) = false
+is_on S.NotLoaded = false
+is_on S.NotRunning = false
+is_on S.JournalFull = false
+
+-- whether it goes on after the next event
+abbrev pub goes_on : ℕ → Store → Bool
+goes_on id s =
+    if is_on (answer_to id s) then is_running (get (store_after id s).records id) else false
+
+-- ---- a slice
+
+abbrev pub store_after_events : ℕ → ℕ → Store → Store
+store_after_events id zero s = s
+store_after_events id (suc n) s = store_after_events id n (store_after id s)
+
+-- how many events there are
+abbrev pub slice_count : ℕ → Store → ℕ → ℕ
+slice_count id s zero = 0
+slice_count id s (suc budget) =
+    if goes_on id s then suc (slice_count id (store_after id s) budget) else 1
+
+-- the answer to the last one
+abbrev pub slice_last : ℕ → Store → StepOutcome → ℕ → StepOutcome
+slice_last id s last zero = last
+slice_last id s last (suc budget) =
+    if goes_on id s then slice_last id (store_after id s) (answer_to id s) budget
+    else answer_to id s
+
+-- a slice of the procedure that these records hold under this id, with its count and its last
+-- outcome, leaves this record and this pool
+pub record IsSlice (id : ℕ) (m : Records) (pool : List ℕ) (budget : ℕ) (slice : Slice) (r : Rec)
+    (left : List ℕ) : Type 0 where
+  pub count : slice.count ≡ slice_count id (record { records = m; pool = pool }) budget
+  pub last : slice.last ≡ slice_last id (record { records = m; pool = pool }) S.Ran budget
+  pub store : store_after_events id slice.count (record { records = m; pool = pool }) ≡
+      record { records = insert m id r; pool = left }
+
+-- ---- instructions that a machine does by itself
+
+-- the pass flag goes off with the first of them
+abbrev pub control_after : ℕ → Control → Control
+control_after zero c = c
+control_after (suc n) c = passed c
+
+-- a record after so many of them, which left the machine so
+abbrev pub with_machine : ℕ → State → Rec → Rec
+with_machine n machine r = record {
+  image = r.image;
+  machine = machine;
+  mailbox = r.mailbox;
+  control = control_after n r.control;
+  breakpoints = r.breakpoints;
+  traced = r.traced;
+}
+
+-- the procedure under this id runs, and its machine does so many instructions by itself, which leave
+-- it so
+pub record RunsBy (m : Records) (id : ℕ) (r : Rec) (n : ℕ) (machine : State) : Type 0 where
+  pub held : get m id ≡ Some r
+  pub running : r.control.status ≡ Running
+  pub ran : local_run r.image r.breakpoints r.control.pass r.machine n ≡ Some machine
+
+-- the answer to the last of so many events that are answered so, after this one
+abbrev pub last_ran : ℕ → StepOutcome → StepOutcome
+last_ran zero last = last
+last_ran (suc n) last = S.Ran
+
+-- so many events lead from a store to another, after each of them a slice goes on, and the last
+-- outcome so far becomes another
+pub record Leads (id n : ℕ) (s : Store) (last : StepOutcome) (t : Store) (next : StepOutcome)
+    : Type 0 where
+  pub store : store_after_events id n s ≡ t
+  pub count : (budget : ℕ) → slice_count id s (n + budget) ≡ n + slice_count id t budget
+  pub outcome : (budget : ℕ) →
+      slice_last id s last (n + budget) ≡ slice_last id t next budget

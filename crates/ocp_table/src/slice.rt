@@ -1,0 +1,111 @@
+//! A slice of a procedure that is found once.
+ghost use Rattle.std.specs.Prelude.{◌≡◌, ◌≤◌, Some, if◌then◌else◌, false};
+ghost use Rattle.std.specs.FinMap.{get};
+ghost use Rattle.obcp_types.specs.declared.status.Status.TheVariants.{Running};
+ghost use Rattle.bpf_step.specs.Runs.{local_run};
+ghost use Rattle.ocp_table.specs.Records.{Records};
+ghost use Rattle.ocp_table.specs.Effects.{record_after, pool_by, step_outcome};
+ghost use Rattle.ocp_table.specs.RequestTable.{Step};
+ghost use Rattle.ocp_table.specs.Shown.{shown, effect_of_record};
+ghost use Rattle.ocp_table.specs.Slices.{is_on, is_running_status, with_machine, IsSlice};
+
+use crate::{Pool, Record, Slice, Status, StepOutcome};
+use std::alloc::Allocator;
+
+impl<A: Allocator> Record<A> {
+    // Whether the procedure runs.
+    #[inline(always)]
+    fn is_running(&self) -> bool
+        ensures { result ≡ is_running_status self.now.control.status }
+    {
+        match self.control.status {
+            Status::Running => true,
+            Status::Inactive | Status::Held => false,
+        }
+    }
+
+    // Does instructions that need no engine, at most so many, and says how many.
+    #[inline(always)]
+    #[tactic(auto, using(crate::proofs::Slicing::local_count_within))]
+    fn run(&mut self, budget: u32) -> u32
+        ensures ran { local_run self.old.execution.image self.old.breakpoints.items
+            self.old.control.pass self.old.execution.machine result ≡
+            Some self.new.execution.machine }
+        ensures record { shown self.new ≡
+            with_machine result self.new.execution.machine (shown self.old) }
+        ensures within { result ≤ budget }
+        ensures id { self.new.id ≡ self.old.id }
+    {
+        let pass = self.control.pass;
+        let count = self
+            .execution
+            .advance(self.breakpoints.as_slice(), pass, budget);
+        if count > 0 {
+            self.control.pass = false;
+        }
+        count
+    }
+
+    // One instruction event.
+    #[inline(never)]
+    fn event(&mut self, pool: &mut Pool<A>) -> StepOutcome
+        ensures answer { result ≡ step_outcome (effect_of_record (Step pool.old) self.old) }
+        ensures record { shown self.new ≡
+            record_after (effect_of_record (Step pool.old) self.old) (shown self.old) }
+        ensures pool { pool.new ≡ pool_by (effect_of_record (Step pool.old) self.old) pool.old }
+        ensures id { self.new.id ≡ self.old.id }
+    {
+        StepOutcome::of(self.step(pool))
+    }
+
+    // Whether a slice goes on after this outcome.
+    #[inline(always)]
+    fn goes_on(&self, last: StepOutcome) -> bool
+        ensures { result ≡
+            (if is_on last then is_running_status self.now.control.status else false) }
+    {
+        last.is_on() && self.is_running()
+    }
+
+    // A slice of a running procedure: what needs no engine is done in stretches, and what does as an event.
+    fn run_slice(&mut self, pool: &mut Pool<A>, budget: u32) -> Slice
+        requires running { self.old.control.status ≡ Running }
+        ensures slice { (m : Records) → get m self.old.id ≡ Some (shown self.old) →
+            IsSlice self.old.id m pool.old budget result (shown self.new) pool.new }
+        ensures id { self.new.id ≡ self.old.id }
+    {
+        let mut count = 0;
+        let mut last = StepOutcome::Ran;
+        while count < budget {
+            count += self.run(budget - count);
+            if count == budget {
+                return Slice {
+                    count,
+                    last: StepOutcome::Ran,
+                };
+            }
+            last = self.event(pool);
+            count += 1;
+            if !self.goes_on(last) {
+                return Slice { count, last };
+            }
+        }
+        Slice { count, last }
+    }
+
+    /// Does instructions until the budget is used or the procedure no longer goes on.
+    pub(crate) fn slice(&mut self, pool: &mut Pool<A>, budget: u32) -> Slice
+        requires { 1 ≤ budget }
+        ensures slice { (m : Records) → get m self.old.id ≡ Some (shown self.old) →
+            IsSlice self.old.id m pool.old budget result (shown self.new) pool.new }
+        ensures id { self.new.id ≡ self.old.id }
+    {
+        if self.is_running() {
+            return self.run_slice(pool, budget);
+        }
+        Slice {
+            count: 1,
+            last: StepOutcome::NotRunning,
+        }
+    }
+}
