@@ -9,8 +9,6 @@ pub mod laws;
 pub mod listings;
 mod resolving;
 mod table;
-#[cfg(test)]
-mod tests;
 
 pub use assembling::{Image, assemble};
 pub use fault::{AsmFault, Why};

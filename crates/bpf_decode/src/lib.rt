@@ -7,8 +7,6 @@ mod fault;
 mod laws;
 mod rows;
 mod slots;
-#[cfg(test)]
-mod tests;
 
 pub use encoding::{Slots, encode};
 pub use fault::DecodeFault;

@@ -7,8 +7,6 @@ mod mnemonic;
 mod names;
 mod reading;
 mod scan;
-#[cfg(test)]
-mod tests;
 mod text;
 mod writing;
 

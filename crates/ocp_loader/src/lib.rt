@@ -7,8 +7,6 @@ mod laws;
 mod listing;
 mod program;
 mod read;
-#[cfg(test)]
-mod tests;
 
 pub use bpf_listing::images_are_unique;
 pub use fault::LoadFault;

@@ -1,11 +1,8 @@
-//! Tests of public calls that no script of the program reaches. The crate has no code of its own.
+//! Tests of public calls of the pool and of the engine that no script of the program reaches. The crate has no code of its
+//! own.
 #![tactic(auto)]
 
 #[cfg(test)]
 mod engine;
-#[cfg(test)]
-mod machine;
-#[cfg(test)]
-mod memory;
 #[cfg(test)]
 mod pool;

@@ -1,6 +1,8 @@
-use crate::{DisassembleFault, Jump, Mnemonic, disassemble, line_text, mnemonic_of, read_line};
 use bpf_decode::DecodeFault;
-use std::test::*;
+use bpf_listing::{
+    DisassembleFault, Jump, Mnemonic, disassemble, line_text, mnemonic_of, read_line,
+};
+use std::test::Fail;
 
 /// An instruction of each mnemonic and operand form, by its opcode of RFC 9669; then numbers at the ends of their ranges.
 const IMAGE: &[u8] = b"\
