@@ -1,7 +1,8 @@
--- A request leaves the pool.
-use Rattle.std.proofs.Common.{◌≡◌, ℕ, ◌+◌, Bool, true, false, cond, List, length, Option, Some, None, refl}
+-- A request leaves the pool and makes no trace record.
+use Rattle.std.proofs.Common.{◌≡◌, ℕ, ◌+◌, Bool, true, false, cond, List, length, Option, Some, None, refl, ap, ◌∙◌, [], ◌++◌}
 use Rattle.std.specs.Prelude.{Result, Ok, Err, nat_le}
 use Rattle.std.specs.FinMap.{get}
+use Rattle.std.proofs.lemmas.List.{append-nil}
 use Rattle.bpf_types.specs.declared.line.Line.{Line}
 use Rattle.obcp_types.specs.declared.status.Status.{Status}
 use Rattle.obcp_types.specs.declared.status.Status.TheVariants.{Inactive, Running, Held}
@@ -20,6 +21,8 @@ use Rattle.ocp_table.specs.Shown.{directive_of}
 use Rattle.ocp_table.specs.declared.directive.Directive as D
 use Rattle.ocp_table.specs.declared.directive.Directive.TheVariants as asked
 use Rattle.ocp_table.specs.Laws.{IsRequest}
+use Rattle.ocp_debug.specs.declared.trace.Trace.{Trace}
+use Rattle.ocp_debug.specs.Traces.{traces_by}
 
 -- the change is not that of an instruction
 abbrev IsCalm : table.Change → Type 0
@@ -100,3 +103,31 @@ is_request (asked.Communicate words) = tt
 
 pub directive_leaves_pool : (d : D.Directive) (id : ℕ) (m : Records) (pool : List ℕ) → pool_by (effect_in (directive_of d) id m) pool ≡ pool
 directive_leaves_pool d id m pool = request_leaves_pool (directive_of d) (is_request d) id m pool
+
+-- ---- the trace records
+
+traces_by_load : (full : Bool) (r : Result (List (Option Line)) LoadFault) (id : ℕ) (image : List ℕ) (m : Records) → traces_by (effect_of_load full r id image) m ≡ []
+traces_by_load true r id image m = refl
+traces_by_load false (Ok lines) id image m = refl
+traces_by_load false (Err fault) id image m = refl
+
+traces_by_decision : (d : Decision) → IsCalmDecision d → (id : ℕ) (o : Option Rec) (full : Bool) (m : Records) → traces_by (effect_by d id o full) m ≡ []
+traces_by_decision (Loads image) h id o full m = traces_by_load full (load_result image) id image m
+traces_by_decision Unloads h id o full m = refl
+traces_by_decision (Changes (Stepped outcome)) h id o full m = absurd h
+traces_by_decision (Changes change) h id o full m = refl
+traces_by_decision (Steps words) h id o full m = absurd h
+traces_by_decision (Fails failure) h id o full m = refl
+
+pub request_makes_no_trace : (d : Directive) → IsRequest d → (id : ℕ) (m : Records) → traces_by (effect_in d id m) m ≡ []
+request_makes_no_trace d h id m = traces_by_decision (decision_on d (get m id)) (calm d h (status_of (get m id)) (pending_of (get m id)) (words_of (get m id))) id (get m id) (is_full m) m
+
+-- the trace records and no further one
+pub no_more : (traces more : List Trace) → more ≡ [] → traces ++ more ≡ traces
+no_more traces more none = ap (λ ts. traces ++ ts) none ∙ append-nil traces
+
+pub unload_keeps_traces : (id : ℕ) (m : Records) (traces : List Trace) → traces ++ traces_by (effect_in Unload id m) m ≡ traces
+unload_keeps_traces id m traces = no_more traces _ (request_makes_no_trace Unload tt id m)
+
+pub directive_keeps_traces : (d : D.Directive) (id : ℕ) (m : Records) (traces : List Trace) → traces ++ traces_by (effect_in (directive_of d) id m) m ≡ traces
+directive_keeps_traces d id m traces = no_more traces _ (request_makes_no_trace (directive_of d) (is_request d) id m)

@@ -1,6 +1,8 @@
 -- Laws on worlds and events, lifted from those on records.
-use Rattle.std.proofs.Common.{◌≡◌, ◌≢◌, ℕ, true, false, List, Option, Some, None, inl, sym, ap, ◌∙◌}
-use Rattle.std.specs.Prelude.{Result, Ok, Err, is_some}
+use Rattle.std.proofs.Common.{◌≡◌, ◌≢◌, ℕ, Bool, true, false, List, [], ◌∷◌, ◌++◌, Option, Some, None, inl, refl, sym, ap, ◌∙◌, arith}
+use Rattle.std.specs.Prelude.{Result, Ok, Err, is_some, ◌==◌, ◌&&◌}
+use Rattle.std.proofs.lemmas.Bool.Decides.{nat_tests}
+use Rattle.std.proofs.lemmas.List.{append-nil, append_assoc}
 use Rattle.std.specs.FinMap.{get}
 use Rattle.pus_fields.specs.declared.fault.TcFault.{TcFault}
 use Rattle.pus_fields.specs.declared.fault.TcFault.TheVariants.{Discarded, Rejected}
@@ -11,18 +13,27 @@ use Rattle.obcp_types.specs.declared.status.Status.TheVariants.{Running}
 use Rattle.obcp_messages.specs.declared.request.Request.{Request as Command}
 use Rattle.obcp_messages.specs.declared.request.Request.TheVariants as command
 use Rattle.ocp_table.specs.Records.{Rec, Records}
-use Rattle.ocp_table.specs.Effects.{records_by, failure_of}
+use Rattle.ocp_table.specs.Effects.{Change, Changed, records_by, pool_by, failure_of}
 use Rattle.ocp_table.specs.RequestTable as directive
 use Rattle.ocp_table.specs.RequestTable.{Directive}
 use Rattle.ocp_table.specs.Deciding.{effect_in, status_of}
-use Rattle.ocp_table.specs.Laws.{machine_of, IsRequest, IsKeptOrStarted}
+use Rattle.ocp_table.specs.Laws.{machine_of, Run, run_of, IsRequest, IsKeptOrStarted, IsDebugging, LeavesMachines}
+use Rattle.ocp_debug.specs.declared.command.Command.{Command as DebugCommand}
+use Rattle.ocp_debug.specs.declared.command.Command.TheVariants.{SetBreak, ClearBreak, SetTrace}
+use Rattle.ocp_debug.specs.declared.command.DebugFault.{DebugFault}
+use Rattle.ocp_debug.specs.declared.trace.Trace.{Trace}
+use Rattle.ocp_debug.specs.Traces.{traces_by}
+use Rattle.ocp_debug.specs.Commands.{change_of, effect_by as debug_effect_by, fault_on}
 use Rattle.ocp_reports.specs.declared.origin.Origin.{Origin}
 use Rattle.ocp_reports.specs.Origin.{origin_of}
-use Rattle.ocp_world.specs.World.{World, Request, Step}
+use Rattle.ocp_world.specs.World.{World, Event, Request, Step, Debug}
 use Rattle.ocp_world.specs.Requests.{command_effect, service_effect, request_effect, command_of}
-use Rattle.ocp_world.specs.After.{after, is_accepted}
+use Rattle.ocp_world.specs.After.{after, effect_of, is_accepted}
+use Rattle.ocp_world.specs.Replay.{replay_from}
+use Rattle.ocp_world.specs.Laws.{is_start_of, is_start_in, is_start_by, may_change_machine, IsAppended}
 use Rattle.ocp_world.specs.Slice.{is_running, is_running_status}
 use Rattle.ocp_world.proofs.Refusals.{is_instruction, refused_step, refused_keeps}
+use Rattle.ocp_world.proofs.Calm.{request_makes_no_trace, no_more}
 
 -- ---- only a running procedure steps
 
@@ -69,3 +80,125 @@ module _ (m : Records) (q : ℕ) where
 
 pub kept_or_started : ((d : Directive) (id q : ℕ) (m : Records) → IsRequest d → IsKeptOrStarted (machine_of (get m q)) (machine_of (get (records_by (effect_in d id m) m) q))) → (w : World) (by time : ℕ) (octets : List ℕ) (id : ℕ) → IsKeptOrStarted (machine_of (get w.records id)) (machine_of (get (after w (Request by time octets)).world.records id))
 kept_or_started law w by time octets id = kept_by_octets w.records id (λ d i asked. law d i id w.records asked) (telecommand_of w.apid octets) time
+
+-- ---- what changes machines
+
+true_false : true ≡ false → ⊥
+true_false e = cc
+
+apart : (a b : ℕ) → (a == b) ≡ false → b ≢ a
+apart a b h e = grind (arith, nat_tests, h, e)
+
+debugging : (command : DebugCommand) → IsDebugging (change_of command)
+debugging (SetBreak place) = tt
+debugging (ClearBreak place) = tt
+debugging (SetTrace on) = tt
+
+-- a record that runs so
+rec_of : Option Run → Option Rec
+rec_of None = None
+rec_of (Some run) = Some (record { image = run.image; machine = run.machine; mailbox = run.mailbox; control = run.control; breakpoints = []; traced = false })
+
+machine_of-run : (o : Option Rec) → machine_of o ≡ machine_of (rec_of (run_of o))
+unfolding rec_of
+machine_of-run None = refl
+machine_of-run (Some r) = refl
+
+module _ (debugs : (change : Change) (id q : ℕ) (m : Records) → IsDebugging change → run_of (get (records_by (Changed id change) m) q) ≡ run_of (get m q)) where
+  pub run_kept : (fault : Option DebugFault) (command : DebugCommand) (own id : ℕ) (m : Records) → run_of (get (records_by (debug_effect_by fault command own) m) id) ≡ run_of (get m id)
+  run_kept None command own id m = debugs (change_of command) own id m (debugging command)
+  run_kept (Some fault) command own id m = refl
+
+  machine_kept : (fault : Option DebugFault) (command : DebugCommand) (own id : ℕ) (m : Records) → machine_of (get (records_by (debug_effect_by fault command own) m) id) ≡ machine_of (get m id)
+  machine_kept fault command own id m =
+      machine_of-run (get (records_by (debug_effect_by fault command own) m) id) ∙ ap (λ o. machine_of (rec_of o)) (run_kept fault command own id m) ∙ sym (machine_of-run (get m id))
+
+  module _ (others : (d : Directive) (id other : ℕ) (m : Records) → other ≢ id → get (records_by (effect_in d id m) m) other ≡ get m other) (leaves : (d : Directive) (id q : ℕ) (m : Records) → LeavesMachines d → machine_of (get (records_by (effect_in d id m) m) q) ≡ machine_of (get m q)) (only : (id : ℕ) (m : Records) (pool : List ℕ) → status_of (get m id) ≢ Some Running → is_some (failure_of (effect_in (directive.Step pool) id m)) ≡ true) where
+    module _ (m : Records) (id : ℕ) where
+      abbrev Stays : Records → Type 0
+      Stays n = machine_of (get n id) ≡ machine_of (get m id)
+
+      other_stays : (d : Directive) (own : ℕ) → (own == id) ≡ false → Stays (records_by (effect_in d own m) m)
+      other_stays d own h = ap machine_of (others d own id m (apart own id h))
+
+      stays_by_command : (request : Command) (origin : Origin) → is_start_of id request ≡ false → Stays (records_by (command_effect request origin m).on_records m)
+      stays_by_command (command.Load own code) origin h = other_stays (directive.Load code) own h
+      stays_by_command (command.Unload own) origin h = other_stays directive.Unload own h
+      stays_by_command (command.Activate own arguments) origin h = other_stays (directive.Activate arguments) own h
+      stays_by_command (command.Stop own step) origin h = leaves (directive.Stop step) own id m tt
+      stays_by_command (command.Suspend own step) origin h = leaves (directive.Suspend step) own id m tt
+      stays_by_command (command.Resume own) origin h = leaves directive.Resume own id m tt
+      stays_by_command (command.Communicate own words) origin h = leaves (directive.Communicate words) own id m tt
+      stays_by_command command.Status origin h = refl
+      stays_by_command (command.Abort own) origin h = leaves directive.Abort own id m tt
+
+      stays_by_service : (r : Result Command RequestFault) (origin : Origin) → is_start_in id r ≡ false → Stays (records_by (service_effect r origin m).on_records m)
+      stays_by_service (Ok request) origin h = stays_by_command request origin h
+      stays_by_service (Err fault) origin h = refl
+
+      stays_by_octets : (r : Result Telecommand TcFault) (time : ℕ) → is_start_by id r ≡ false → Stays (records_by (request_effect r time m).on_records m)
+      stays_by_octets (Ok telecommand) time h = stays_by_service (command_of telecommand) (origin_of telecommand time) h
+      stays_by_octets (Err (Rejected rejection request)) time h = refl
+      stays_by_octets (Err (Discarded cause)) time h = refl
+
+    stays_by_step : (w : World) (by own id : ℕ) (same : Bool) → (own == id) ≡ same → (same && is_running (get w.records own)) ≡ false → machine_of (get (after w (Step by own)).world.records id) ≡ machine_of (get w.records id)
+    stays_by_step w by own id true is h = ap (λ v. machine_of (get v.records id)) (still only w by own h)
+    stays_by_step w by own id false is h = other_stays w.records id (directive.Step w.pool) own is
+
+    pub machines_stay : (w : World) (e : Event) (id : ℕ) → may_change_machine w e id ≡ false → machine_of (get (after w e).world.records id) ≡ machine_of (get w.records id)
+    machines_stay w (Request by time octets) id h = stays_by_octets w.records id (telecommand_of w.apid octets) time h
+    machines_stay w (Step by own) id h = stays_by_step w by own id (own == id) refl h
+    machines_stay w (Debug by own command) id h = machine_kept (fault_on command (get w.records own)) command own id w.records
+
+-- ---- what a debugger's command leaves
+
+pool_kept : (fault : Option DebugFault) (command : DebugCommand) (own : ℕ) (pool : List ℕ) → pool_by (debug_effect_by fault command own) pool ≡ pool
+pool_kept None (SetBreak place) own pool = refl
+pool_kept None (ClearBreak place) own pool = refl
+pool_kept None (SetTrace on) own pool = refl
+pool_kept (Some fault) command own pool = refl
+
+no_trace_by_command : (fault : Option DebugFault) (command : DebugCommand) (own : ℕ) (m : Records) → traces_by (debug_effect_by fault command own) m ≡ []
+no_trace_by_command None (SetBreak place) own m = refl
+no_trace_by_command None (ClearBreak place) own m = refl
+no_trace_by_command None (SetTrace on) own m = refl
+no_trace_by_command (Some fault) command own m = refl
+
+pub command_keeps_pool : (w : World) (by own : ℕ) (command : DebugCommand) → (after w (Debug by own command)).world.pool ≡ w.pool
+command_keeps_pool w by own command = pool_kept (fault_on command (get w.records own)) command own w.pool
+
+pub command_keeps_traces : (w : World) (by own : ℕ) (command : DebugCommand) → (after w (Debug by own command)).world.traces ≡ w.traces
+command_keeps_traces w by own command = no_more w.traces _ (no_trace_by_command (fault_on command (get w.records own)) command own w.records)
+
+-- ---- trace records
+
+no_trace_by_request : (request : Command) (origin : Origin) (m : Records) → traces_by (command_effect request origin m).on_records m ≡ []
+no_trace_by_request (command.Load id code) origin m = request_makes_no_trace (directive.Load code) tt id m
+no_trace_by_request (command.Unload id) origin m = request_makes_no_trace directive.Unload tt id m
+no_trace_by_request (command.Activate id arguments) origin m = request_makes_no_trace (directive.Activate arguments) tt id m
+no_trace_by_request (command.Stop id step) origin m = request_makes_no_trace (directive.Stop step) tt id m
+no_trace_by_request (command.Suspend id step) origin m = request_makes_no_trace (directive.Suspend step) tt id m
+no_trace_by_request (command.Resume id) origin m = request_makes_no_trace directive.Resume tt id m
+no_trace_by_request (command.Communicate id words) origin m = request_makes_no_trace (directive.Communicate words) tt id m
+no_trace_by_request command.Status origin m = refl
+no_trace_by_request (command.Abort id) origin m = request_makes_no_trace directive.Abort tt id m
+
+no_trace_by_service : (r : Result Command RequestFault) (origin : Origin) (m : Records) → traces_by (service_effect r origin m).on_records m ≡ []
+no_trace_by_service (Ok request) origin m = no_trace_by_request request origin m
+no_trace_by_service (Err fault) origin m = refl
+
+no_trace_by_octets : (r : Result Telecommand TcFault) (time : ℕ) (m : Records) → traces_by (request_effect r time m).on_records m ≡ []
+no_trace_by_octets (Ok telecommand) time m = no_trace_by_service (command_of telecommand) (origin_of telecommand time) m
+no_trace_by_octets (Err (Rejected rejection request)) time m = refl
+no_trace_by_octets (Err (Discarded cause)) time m = refl
+
+pub request_keeps_traces : (w : World) (by time : ℕ) (octets : List ℕ) → (after w (Request by time octets)).world.traces ≡ w.traces
+request_keeps_traces w by time octets = no_more w.traces _ (no_trace_by_octets (telecommand_of w.apid octets) time w.records)
+
+-- trace records after events are those before and more
+pub traces_appended : (w : World) (es : List Event) → IsAppended w.traces (replay_from w es).traces
+traces_appended w [] = ([], sym (append-nil w.traces))
+traces_appended w (e ∷ es) =
+    let made = traces_by (effect_of w e).on_records w.records in
+    let rest = traces_appended (after w e).world es in
+    (made ++ rest.0, rest.1 ∙ append_assoc w.traces made rest.0)

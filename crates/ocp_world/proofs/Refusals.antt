@@ -1,6 +1,7 @@
 -- Which events are refused, and that a refused one leaves the world.
-use Rattle.std.proofs.Common.{◌≡◌, ℕ, Bool, true, false, List, [], length, Option, Some, None, refl, sym, ap, subst, ◌∙◌}
-use Rattle.std.specs.Prelude.{Result, Ok, Err, is_some, is_none}
+use Rattle.std.proofs.Common.{◌≡◌, ℕ, Bool, true, false, cond, List, [], ◌++◌, length, Option, Some, None, refl, sym, ap, subst, ◌∙◌}
+use Rattle.std.specs.Prelude.{Result, Ok, Err, is_some, is_none, not, nat_le}
+use Rattle.std.proofs.lemmas.List.{append-nil}
 use Rattle.pus_fields.specs.declared.fault.Discard.{Discard}
 use Rattle.pus_fields.specs.declared.fault.TcFault.{TcFault}
 use Rattle.pus_fields.specs.declared.fault.TcFault.TheVariants.{Discarded, Rejected}
@@ -24,21 +25,33 @@ use Rattle.ocp_table.specs.RequestTable.{transition, failure_by}
 use Rattle.std.specs.FinMap.{get}
 use Rattle.ocp_table.specs.Deciding.{effect_in, effect_on, effect_by, effect_of_step, outcome_at, decision_on}
 use Rattle.ocp_table.specs.Deciding.{is_full as is_full_table}
+use Rattle.ocp_loader.specs.LineAt.{line_of}
+use Rattle.ocp_table.specs.declared.record.TheConstants.{MAX_BREAKPOINTS}
+use Rattle.ocp_debug.specs.declared.command.Command.{Command as DebugCommand}
+use Rattle.ocp_debug.specs.declared.command.Command.TheVariants.{SetBreak, ClearBreak, SetTrace}
+use Rattle.ocp_debug.specs.declared.command.DebugFault.{DebugFault}
+use Rattle.ocp_debug.specs.declared.command.DebugFault.TheVariants as debug
+use Rattle.ocp_debug.specs.Commands.{is_set, set_fault, fault_in, fault_on, effect_by as debug_effect_by, result_of}
 use Rattle.ocp_reports.specs.declared.origin.Origin.{Origin}
 use Rattle.ocp_reports.specs.Origin.{origin_of}
-use Rattle.ocp_world.specs.World.{World, Event, Request, Step}
+use Rattle.ocp_world.specs.World.{World, Event, Request, Step, Debug}
+use Rattle.ocp_world.specs.Effect.{Effect, Reply, Commands}
 use Rattle.ocp_world.specs.Requests.{command_effect, service_effect, request_effect, command_of}
 use Rattle.ocp_world.specs.Instructions.{instruction_effect}
 use Rattle.ocp_world.specs.declared.answers.EngineFault.TheVariants as engine
-use Rattle.ocp_world.specs.After.{Answer, Requested, Stepped, after, world_after, answer_by, is_accepted}
+use Rattle.ocp_world.specs.After.{Answer, Requested, Stepped, Commanded, after, world_after, answer_by, is_accepted}
 use Rattle.ocp_world.specs.Slice.{is_running, is_running_status}
-use Rattle.ocp_world.specs.Mirror.Answering.{discard_of, IsDiscard, IsRefusal}
+use Rattle.ocp_world.specs.Mirror.Answering.{discard_of, IsDiscard, IsRefusal, IsDebugFault}
 
 true_false : true ≡ false → ⊥
 true_false e = cc
 
 some_none : {X : Type 0} {x : X} → Some x ≡ None → ⊥
 some_none e = cc
+
+-- a world with no further trace record
+same_traces : (w : World) → record w { traces = w.traces ++ [] } ≡ w
+same_traces w i = record w { traces = append-nil w.traces i }
 
 -- ---- a request
 
@@ -65,7 +78,7 @@ request_discard r found is w by time octets read =
 kept_octets : (r : Result Telecommand TcFault) (time : ℕ) (w : World) → is_accepted (answer_by (request_effect r time w.records).reply w) ≡ false → world_after (request_effect r time w.records) w ≡ w
 kept_octets (Ok telecommand) time w h = absurd (true_false (sym (accepted_service (origin_of telecommand time) w.records w (command_of telecommand)) ∙ h))
 kept_octets (Err (Rejected rejection request)) time w h = absurd (true_false h)
-kept_octets (Err (Discarded cause)) time w h = refl
+kept_octets (Err (Discarded cause)) time w h = same_traces w
 
 -- ---- an instruction
 
@@ -105,11 +118,32 @@ kept_step (Changed id (Instructed (did.Faulted number))) is w h = absurd (true_f
 kept_step (Changed id (Started arguments)) is w h = absurd is
 kept_step (Changed id change) is w h = absurd is
 kept_step (Kept Unasked) is w h = absurd is
-kept_step (Kept (Failed failure)) is w h = refl
+kept_step (Kept (Failed failure)) is w h = same_traces w
+
+-- ---- a debugger's command
+
+-- what a command does, by why it is refused, where it is
+abbrev debug_effect_of : Option DebugFault → DebugCommand → ℕ → Effect
+debug_effect_of fault command id = record { on_records = debug_effect_by fault command id; reply = Commands (result_of fault) }
+
+kept_debug : (fault : Option DebugFault) (command : DebugCommand) (id : ℕ) (w : World) → is_accepted (Commanded (result_of fault)) ≡ false → world_after (debug_effect_of fault command id) w ≡ w
+kept_debug None command id w h = absurd (true_false h)
+kept_debug (Some fault) command id w h = same_traces w
+
+debug_decided : (fault : Option DebugFault) → IsDebugFault (Commanded (result_of fault)) fault
+debug_decided None = refl
+debug_decided (Some fault) = refl
+
+-- a command is refused for the fault that was found, or it is accepted
+pub debug_fault : (found : Option DebugFault) (command : DebugCommand) (id : ℕ) (m : Records) (w : World) (by : ℕ) → m ≡ w.records → found ≡ fault_on command (get m id) → IsDebugFault (after w (Debug by id command)).answer found
+debug_fault found command id m w by same is =
+    let here : found ≡ fault_on command (get w.records id) = is ∙ ap (λ n. fault_on command (get n id)) same in
+    subst (λ o. IsDebugFault (after w (Debug by id command)).answer o) (sym here) (debug_decided (fault_on command (get w.records id)))
 
 pub refused_keeps : (w : World) (e : Event) → is_accepted (after w e).answer ≡ false → (after w e).world ≡ w
 refused_keeps w (Request by time octets) h = kept_octets (telecommand_of w.apid octets) time w h
 refused_keeps w (Step by id) h = kept_step (effect_in (directive.Step w.pool) id w.records) (is_instruction w.pool w.records id) w h
+refused_keeps w (Debug by id command) h = kept_debug (fault_on command (get w.records id)) command id w h
 
 -- ---- why an instruction event is refused
 
@@ -178,6 +212,14 @@ is_full (Stepped S.Ended) = false
 is_full (Stepped (S.Faulted number)) = false
 is_full (Stepped S.NotLoaded) = false
 is_full (Stepped S.NotRunning) = false
+is_full (Commanded (Ok done)) = false
+is_full (Commanded (Err debug.JournalFull)) = true
+is_full (Commanded (Err debug.NotLoaded)) = false
+is_full (Commanded (Err debug.NotAnInstruction)) = false
+is_full (Commanded (Err debug.AlreadySet)) = false
+is_full (Commanded (Err debug.BreaksFull)) = false
+is_full (Commanded (Err debug.NotSet)) = false
+is_full (Commanded (Err debug.OutsideMemory)) = false
 
 module _ (origin : Origin) (m : Records) (w : World) where
   roomy_request : (request : Command) → is_full (answer_by (command_effect request origin m).reply w) ≡ false
@@ -210,15 +252,39 @@ roomy_step (Changed id change) is = absurd is
 roomy_step (Kept Unasked) is = absurd is
 roomy_step (Kept (Failed failure)) is = roomy_failure failure
 
+-- a fault of a command that a world decides is not that the journal is full
+abbrev IsRoomy : Option DebugFault → Type 0
+IsRoomy fault = is_full (Commanded (result_of fault)) ≡ false
+
+roomy_place : (there set full : Bool) → IsRoomy (cond (not there) (Some debug.NotAnInstruction) (cond set (Some debug.AlreadySet) (cond full (Some debug.BreaksFull) None)))
+roomy_place false set full = refl
+roomy_place true true full = refl
+roomy_place true false true = refl
+roomy_place true false false = refl
+
+roomy_unset : (set : Bool) → IsRoomy (cond set None (Some debug.NotSet))
+roomy_unset true = refl
+roomy_unset false = refl
+
+roomy_fault : (command : DebugCommand) (o : Option Rec) → IsRoomy (fault_on command o)
+roomy_fault command None = refl
+roomy_fault (SetBreak place) (Some r) = roomy_place (is_some (line_of r.image place)) (is_set place r.breakpoints) (nat_le MAX_BREAKPOINTS (length r.breakpoints))
+roomy_fault (ClearBreak place) (Some r) = roomy_unset (is_set place r.breakpoints)
+roomy_fault (SetTrace on) (Some r) = refl
+
 roomy : (w : World) (e : Event) → is_full (after w e).answer ≡ false
 roomy w (Request by time octets) = roomy_octets (telecommand_of w.apid octets) time w.records w
 roomy w (Step by id) = roomy_step (effect_in (directive.Step w.pool) id w.records) (is_instruction w.pool w.records id)
+roomy w (Debug by id command) = roomy_fault command (get w.records id)
 
 pub request_has_room : (w : World) (e : Event) → (after w e).answer ≡ Requested (Err engine.JournalFull) → ⊥
 request_has_room w e is = true_false (ap is_full (sym is) ∙ roomy w e)
 
 pub step_has_room : (w : World) (e : Event) → (after w e).answer ≡ Stepped S.JournalFull → ⊥
 step_has_room w e is = true_false (ap is_full (sym is) ∙ roomy w e)
+
+pub command_has_room : (w : World) (e : Event) → (after w e).answer ≡ Commanded (Err debug.JournalFull) → ⊥
+command_has_room w e is = true_false (ap is_full (sym is) ∙ roomy w e)
 
 -- ---- whether a procedure runs
 

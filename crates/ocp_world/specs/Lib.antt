@@ -6,4 +6,5 @@ pub mod After
 pub mod Answers
 pub mod Replay
 pub mod Slice
+pub mod Laws
 pub mod Mirror

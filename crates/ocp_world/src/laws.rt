@@ -1,14 +1,20 @@
 //! Laws on worlds and events. The functions do nothing when they run: their contracts are the laws.
 ghost use Rattle.std.specs.Prelude.{◌≡◌, ◌≢◌, ℕ, false, List, Err};
 ghost use Rattle.std.specs.FinMap.{get};
-ghost use Rattle.ocp_world.specs.World.{World, Event, Request, Step};
-ghost use Rattle.ocp_world.specs.After.{Requested, Stepped, after, is_accepted};
+ghost use Rattle.ocp_debug.specs.declared.command.Command.{Command as Asked};
+ghost use Rattle.ocp_debug.specs.declared.command.DebugFault.TheVariants as debug;
+ghost use Rattle.ocp_world.specs.World.{World, Event, Request, Step, Debug};
+ghost use Rattle.ocp_world.specs.After.{Requested, Stepped, Commanded, after, is_accepted};
+ghost use Rattle.ocp_world.specs.Replay.{replay_from};
+ghost use Rattle.ocp_world.specs.Laws.{may_change_machine, IsAppended};
 ghost use Rattle.ocp_world.specs.declared.answers.EngineFault.TheVariants.{JournalFull};
 ghost use Rattle.ocp_table.specs.declared.answers.StepOutcome.TheVariants as outcome;
 ghost use Rattle.ocp_world.specs.Slice.{is_running};
-ghost use Rattle.ocp_table.specs.Laws.{machine_of, IsKeptOrStarted};
+ghost use Rattle.ocp_table.specs.Laws.{machine_of, run_of, IsKeptOrStarted};
 
-use ocp_table::laws::a_directive_changes_its_own_procedure;
+use ocp_table::laws::{
+    a_directive_changes_its_own_procedure, debugging_keeps_runs, other_requests_keep_machines,
+};
 
 /// A refused event changes nothing at all.
 #[tactic(auto, using(crate::proofs::Refusals::refused_keeps))]
@@ -45,9 +51,48 @@ pub fn requests_keep_or_start_machines()
     ocp_table::laws::requests_keep_or_start_machines();
 }
 
+/// Each event but a load, an unload and an activation leaves the machine of every procedure, apart from the instruction of a
+/// running procedure, which changes its own.
+pub fn only_starts_and_own_instructions_change_machines()
+    ensures { (w : World) (e : Event) (id : ℕ) →
+        may_change_machine w e id ≡ false →
+        machine_of (get (after w e).world.records id) ≡ machine_of (get w.records id) }
+{
+    a_directive_changes_its_own_procedure();
+    ocp_table::laws::only_running_procedures_step();
+    other_requests_keep_machines();
+    debugging_keeps_runs();
+}
+
+/// A debugger's command leaves all of each procedure but its breakpoints and its trace flag, and the pool, the count of
+/// reports and the trace records.
+pub fn a_debugger_changes_breakpoints_and_trace_flags_alone()
+    ensures procedures { (w : World) (by own id : ℕ) (command : Asked) →
+        let next = (after w (Debug by own command)).world in
+        run_of (get next.records id) ≡ run_of (get w.records id) }
+    ensures pool { (w : World) (by own : ℕ) (command : Asked) →
+        (after w (Debug by own command)).world.pool ≡ w.pool }
+    ensures reports { (w : World) (by own : ℕ) (command : Asked) →
+        (after w (Debug by own command)).world.reports ≡ w.reports }
+    ensures traces { (w : World) (by own : ℕ) (command : Asked) →
+        (after w (Debug by own command)).world.traces ≡ w.traces }
+{
+    debugging_keeps_runs();
+}
+
+/// Trace records are only ever appended, and by instructions alone.
+pub fn trace_records_are_appended_by_instructions()
+    ensures appended { (w : World) (es : List Event) →
+        IsAppended w.traces (replay_from w es).traces }
+    ensures request { (w : World) (by time : ℕ) (octets : List ℕ) →
+        (after w (Request by time octets)).world.traces ≡ w.traces }
+{}
+
 /// No world answers that the journal is full: a world has none.
-#[tactic(auto, using(crate::proofs::Refusals::request_has_room, crate::proofs::Refusals::step_has_room))]
+#[tactic(auto, using(crate::proofs::Refusals::request_has_room, crate::proofs::Refusals::step_has_room, crate::proofs::Refusals::command_has_room))]
 pub fn worlds_have_no_full_journal()
     ensures request { (w : World) (e : Event) → (after w e).answer ≢ Requested (Err JournalFull) }
     ensures step { (w : World) (e : Event) → (after w e).answer ≢ Stepped outcome.JournalFull }
+    ensures command { (w : World) (e : Event) →
+        (after w e).answer ≢ Commanded (Err debug.JournalFull) }
 {}

@@ -10,5 +10,6 @@ mod state;
 
 pub use answers::{EngineFault, Slice};
 pub use convert::discard_of;
+pub use ocp_debug::{Command, DebugFault};
 pub use ocp_table::StepOutcome;
 pub use state::State;

@@ -1,22 +1,28 @@
 //! What the engine keeps of its world.
 
-ghost use Rattle.std.specs.Prelude.{◌≡◌, ◌≤◌, ℕ, List, [], ◌∷◌, IfOk, slice_get};
+ghost use Rattle.std.specs.Prelude.{◌≡◌, ◌≤◌, ◌<◌, ℕ, List, [], ◌∷◌, ◌++◌, length, vec_capacity, Ok, Err, IfOk, OnOk, OnErr, slice_get};
+ghost use Rattle.std.specs.List.{flat_map};
 ghost use Rattle.std.specs.Option.{option_to_list};
 ghost use Rattle.std.specs.FinMap.{get};
 ghost use Rattle.pus_fields.specs.TelecommandFaults.{telecommand_of};
 ghost use Rattle.ocp_table.specs.RequestTable as directive;
 ghost use Rattle.ocp_table.specs.Effects.{Kept, Unasked, Failed};
 ghost use Rattle.ocp_table.specs.Shown.{view_at, directive_of, HasFewArguments};
+ghost use Rattle.ocp_debug.specs.declared.command.DebugFault.{DebugFault as Fault};
+ghost use Rattle.ocp_debug.specs.Memory.{memory_at};
+ghost use Rattle.ocp_debug.specs.Traces.{kept};
+ghost use Rattle.ocp_debug.specs.Texts.{trace_line};
 ghost use Rattle.ocp_reports.specs.Reports.{reports_of};
-ghost use Rattle.ocp_world.specs.World.{World, opening, Step, Request as Asked};
+ghost use Rattle.ocp_world.specs.World.{World, opening, Step, Debug, Request as Asked};
 ghost use Rattle.ocp_world.specs.Effect.{Sends};
 ghost use Rattle.ocp_world.specs.Requests.{refusal_effect, start_effect, directive_effect, command_effect, request_effect, status_report};
-ghost use Rattle.ocp_world.specs.After.{Stepped, after, effect_of};
+ghost use Rattle.ocp_world.specs.After.{Stepped, Commanded, after, effect_of};
 
-use crate::convert::{command_of, status_report};
 use crate::EngineFault;
+use crate::convert::{command_of, status_report};
 use obcp_messages::{Report, Request};
 use obcp_types::{AcceptanceFailure, StartFailure};
+use ocp_debug::{Command, DebugFault, TraceRing};
 use ocp_pool::{MAX_POOL_WORDS, Pool};
 use ocp_reports::{Origin, Reports, Sender, count_after};
 use ocp_table::{Directive, LoadFailure, StepOutcome, Table, View};
@@ -25,18 +31,20 @@ use space_packet::{Apid, SequenceCount};
 use std::alloc::{AllocError, Allocator};
 use verification::Outcome;
 
-/// The procedures, the pool, the application process identifier, and the sequence count of the next report.
+/// The procedures, the pool, the application process identifier, the sequence count of the next report, and the last trace
+/// records.
 #[derive(Drop)]
 pub struct State<A: Allocator> {
     pub(crate) apid: Apid,
     pub(crate) table: Table<A>,
     pub(crate) pool: Pool<A>,
     pub(crate) count: SequenceCount,
+    pub(crate) ring: TraceRing<A>,
 }
 
 impl<A: Allocator> State<A> {
     ghost use Rattle.ocp_world.specs.Mirror.State.{IsWorld, Does, DoesIn};
-    ghost use Rattle.ocp_world.specs.Mirror.Answering.{IsRefusal};
+    ghost use Rattle.ocp_world.specs.Mirror.Answering.{IsRefusal, IsDebugFault};
 
     /// The state in which no procedure is loaded, with so many pool words, all of them 0.
     pub fn new(alloc: A, apid: Apid, words: u16) -> Result<Self, AllocError>
@@ -51,6 +59,7 @@ impl<A: Allocator> State<A> {
             table: Table::new(alloc)?,
             pool: Pool::new(alloc, words)?,
             count: first_count(),
+            ring: TraceRing::new(alloc)?,
         })
     }
 
@@ -79,7 +88,53 @@ impl<A: Allocator> State<A> {
         ensures answer { (w : World) (by : ℕ) → IsWorld w self.old →
             Stepped result ≡ (after w (Step by id)).answer }
     {
-        self.table.instruction(id, &mut self.pool)
+        ocp_debug::laws::keeping_is_kept_up();
+        ocp_debug::instruction(&mut self.table, id, &mut self.pool, &mut self.ring)
+    }
+
+    /// Why a debugger's command is refused, where it is.
+    pub fn fault_of(&self, id: u16, command: Command) -> Option<DebugFault>
+        ensures { (w : World) (by : ℕ) → IsWorld w self.now →
+            IsDebugFault (after w (Debug by id command)).answer result }
+    {
+        ocp_debug::fault_of(&self.table, id, command)
+    }
+
+    /// Does a debugger's command.
+    pub fn command(&mut self, id: u16, command: Command) -> Result<(), DebugFault>
+        ensures world { (w : World) (by : ℕ) → IsWorld w self.old →
+            IsWorld (after w (Debug by id command)).world self.new }
+        ensures answer { (w : World) (by : ℕ) → IsWorld w self.old →
+            Commanded result ≡ (after w (Debug by id command)).answer }
+    {
+        ocp_debug::apply(&mut self.table, id, command)
+    }
+
+    /// Reads octets of a procedure's memory from an address on. Where they do not all lie in it, or no procedure has this
+    /// id, the octets handed in stay.
+    pub fn memory(&self, id: u16, address: u64, octets: &mut [u8]) -> Result<(), DebugFault>
+        ensures ok { (w : World) → IsWorld w self.now → OnOk result
+            (memory_at (get w.records id) address (length octets.old) ≡ Ok octets.new) }
+        ensures fault { (w : World) (fault : Fault) → IsWorld w self.now → result ≡ Err fault →
+            memory_at (get w.records id) address (length octets.old) ≡ Err fault }
+        ensures err { OnErr result (octets.new ≡ octets.old) }
+        ensures length { length octets.new ≡ length octets.old }
+    {
+        ocp_debug::memory(&self.table, id, address, octets)
+    }
+
+    /// Appends the lines of the last 256 trace records. The only refusal is that of memory, and comes only where the lines do
+    /// not fit into the capacity that the output has; the output then stays as it was.
+    pub fn write_traces<B: Allocator>(&self, output: &mut Vec<u8, B>) -> Result<(), AllocError>
+        ensures ok { (w : World) → IsWorld w self.now → OnOk result
+            (output.new.items ≡ output.old.items ++ flat_map trace_line (kept w.traces)) }
+        ensures err { OnErr result (output.new.items ≡ output.old.items) }
+        ensures memory { (w : World) → IsWorld w self.now → OnErr result (vec_capacity output.old <
+            length (output.old.items ++ flat_map trace_line (kept w.traces))) }
+        ensures same_capacity { OnErr result (vec_capacity output.new ≡ vec_capacity output.old) }
+        ensures capacity { vec_capacity output.old ≤ vec_capacity output.new }
+    {
+        self.ring.write_lines(output)
     }
 
     /// The pool word at an index, where there is one.
@@ -105,6 +160,7 @@ impl<A: Allocator> State<A> {
         }) }
         ensures table { self.new.table ≡ self.old.table }
         ensures pool { self.new.pool ≡ self.old.pool }
+        ensures ring { self.new.ring ≡ self.old.ring }
     {
         let sender = Sender {
             apid: self.apid,

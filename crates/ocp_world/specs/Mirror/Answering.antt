@@ -5,8 +5,9 @@ use Rattle.pus_fields.specs.declared.fault.TcFault.{TcFault}
 use Rattle.pus_fields.specs.declared.fault.TcFault.TheVariants as fault
 use Rattle.pus_fields.specs.Telecommand.{Telecommand}
 use Rattle.ocp_table.specs.declared.answers.StepOutcome.{StepOutcome}
+use Rattle.ocp_debug.specs.declared.command.DebugFault.{DebugFault}
 use Rattle.ocp_world.specs.declared.answers.EngineFault.TheVariants as engine
-use Rattle.ocp_world.specs.After.{Answer, Requested, Stepped, is_accepted}
+use Rattle.ocp_world.specs.After.{Answer, Requested, Stepped, Commanded, is_accepted}
 
 -- why octets are discarded, where they are
 abbrev pub discard_of : Result Telecommand TcFault → Option Discard
@@ -23,3 +24,8 @@ IsDiscard answer (Some cause) = answer ≡ Requested (Err (engine.Discarded caus
 abbrev pub IsRefusal : Answer → Option StepOutcome → Type 0
 IsRefusal answer None = is_accepted answer ≡ true
 IsRefusal answer (Some outcome) = (is_accepted answer ≡ false) × (Stepped outcome ≡ answer)
+
+-- a debugger's command is refused so, or it is accepted
+abbrev pub IsDebugFault : Answer → Option DebugFault → Type 0
+IsDebugFault answer None = is_accepted answer ≡ true
+IsDebugFault answer (Some fault) = answer ≡ Commanded (Err fault)

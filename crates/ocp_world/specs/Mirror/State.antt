@@ -15,7 +15,7 @@ module _ {A : Type 0} where
     pub records : s.table ≡ w.records
     pub pool : s.pool ≡ w.pool
     pub count : s.count ≡ w.reports % 16384
-  pub ring : s.ring ≡ kept w.traces
+    pub ring : s.ring ≡ kept w.traces
 
   -- the state stands for the next world, or where the request has no reports for the old one
   abbrev pub StandsAfter : Result (List (List ℕ)) EngineFault → World → World → State A → Type 0
