@@ -1,4 +1,3 @@
-pub mod Value
 pub mod Machine
 pub mod Access
 pub mod Calls

@@ -2,9 +2,7 @@
 #![tactic(auto)]
 
 pub mod answer;
-pub mod arithmetic;
 pub mod frame;
-pub mod jump;
 pub mod laws;
 pub mod machine;
 

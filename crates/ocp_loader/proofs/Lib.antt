@@ -9,5 +9,6 @@ pub mod Complete
 pub mod First
 pub mod Line
 pub mod Listed
+pub mod Stood
 mod InOrder
 mod Loaded

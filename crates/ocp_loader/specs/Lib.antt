@@ -5,4 +5,5 @@ pub mod Admitted
 pub mod Faults
 pub mod FaultNumbers
 pub mod LoadResult
+pub mod Ops
 pub mod Mirror

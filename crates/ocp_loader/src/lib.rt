@@ -5,6 +5,7 @@ mod check;
 mod fault;
 mod laws;
 mod listing;
+mod ops;
 mod program;
 mod read;
 

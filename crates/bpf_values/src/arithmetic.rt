@@ -2,7 +2,7 @@
 ghost use Rattle.std.specs.Prelude.{◌≡◌, ◌<◌, ◌%◌, ◌^◌, int_div, int_rem};
 ghost use Rattle.std.specs.Int.{w8, w16, cast_signed};
 ghost use Rattle.bpf_types.specs.declared.line.Width.TheVariants.{W32, W64};
-ghost use Rattle.bpf_step.specs.Value.{signed, unsigned, alu_result, value, negation, sign_extension, byte_order_result};
+ghost use Rattle.bpf_values.specs.Value.{signed, unsigned, alu_result, value, negation, sign_extension, byte_order_result};
 
 use bpf_types::{Extension, Operation, Order, SwapWidth, Width};
 

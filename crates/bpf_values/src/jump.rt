@@ -1,7 +1,7 @@
 //! The tests of conditional jumps (RFC 9669, section 4.3).
 ghost use Rattle.std.specs.Prelude.{◌≡◌, ◌↔◌, IsTrue};
 ghost use Rattle.bpf_types.specs.declared.line.Width.TheVariants.{W32, W64};
-ghost use Rattle.bpf_step.specs.Value.{passes, is_taken, Holds, IsTaken};
+ghost use Rattle.bpf_values.specs.Value.{passes, is_taken, Holds, IsTaken};
 
 use crate::arithmetic::low;
 use bpf_types::{Comparison, Width};

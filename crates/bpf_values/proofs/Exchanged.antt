@@ -7,7 +7,7 @@ use Rattle.bpf_types.specs.declared.line.Order.TheVariants.{Little, Big, Swap}
 use Rattle.bpf_types.specs.declared.line.SwapWidth.{SwapWidth}
 use Rattle.bpf_types.specs.declared.line.SwapWidth.TheVariants.{Bits16, Bits32, Bits64}
 use Rattle.ocp_regions.specs.Memory.{number_of, low_octets}
-use Rattle.bpf_step.specs.Value.{byte_order_result, octets_kept, read_in}
+use Rattle.bpf_values.specs.Value.{byte_order_result, octets_kept, read_in}
 
 -- the octets of a number, each by its own division
 two : (a b a' b' : ℕ) → a ≡ a' → b ≡ b' → a ∷ b ∷ [] ≡ a' ∷ b' ∷ []
