@@ -3,3 +3,10 @@ pub mod Keeping
 pub mod Journaling
 pub mod Runs
 pub mod Marking
+pub mod Owned
+pub mod Honest
+pub mod Carried
+pub mod Factorisation
+pub mod Pools
+pub mod Mailboxes
+pub mod Exchanges

@@ -3,4 +3,10 @@ pub mod Marks
 pub mod Slice
 pub mod Journal
 pub mod Running
+pub mod History
+pub mod Own
+pub mod Alone
+pub mod Pool
+pub mod Mailbox
+pub mod Exchange
 pub mod Mirror

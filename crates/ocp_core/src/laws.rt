@@ -6,6 +6,14 @@ ghost use Rattle.ocp_core.specs.Log.{Log, world_of, is_full, answer_in, log_afte
 ghost use Rattle.ocp_core.specs.Slice.{slice_in, slice_log};
 ghost use Rattle.ocp_core.specs.Marks.{marks};
 
+mod procedures;
+
+pub use procedures::{
+    engine_calls_answer_from_the_pool, instructions_of_two_procedures_change_places,
+    machines_follow_from_their_own_events, the_pool_follows_from_its_operations,
+    words_are_taken_in_the_order_sent,
+};
+
 pub use ocp_world::laws::{
     an_instruction_changes_its_own_procedure, only_running_procedures_step,
     refused_events_change_nothing, requests_keep_or_start_machines, worlds_have_no_full_journal,

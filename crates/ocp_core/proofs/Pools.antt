@@ -1,0 +1,247 @@
+-- The pool of a replay, and the answers of engine calls.
+use Rattle.std.proofs.Common.{◌≡◌, ◌≤◌, ◌<◌, ◌+◌, ℕ, ℤ, List, [], ◌∷◌, ◌++◌, Option, Some, None, Bool, true, false, cond, inl, inr, refl, sym, ap, subst, ◌∙◌, replicate, length, arith}
+use Rattle.std.specs.Prelude.{◌==◌, ◌↔◌, ◌%◌, ◌^◌, slice_get, slice_index, slice_set, unsigned_abs}
+use Rattle.std.specs.FinMap.{get}
+use Rattle.std.proofs.lemmas.Bool.{eqb-true}
+use Rattle.std.proofs.lemmas.Bool.Decides.{nat_tests}
+use Rattle.std.proofs.lemmas.Option.{slice_get_past, slice_get_cases, slice_get_within, slice_get-get_or, get_or_from_slice_get}
+use Rattle.std.proofs.lemmas.List.{get_or-set_same, length-set}
+use Rattle.bpf_step.specs.declared.answer.MachineFault.{MachineFault}
+use Rattle.bpf_step.specs.declared.answer.MachineFault.TheVariants.{AccessOutside, WriteToArguments, CallDepth}
+use Rattle.bpf_step.specs.declared.answer.Need.TheVariants as need
+use Rattle.bpf_step.specs.Machine.{Outcome, Next, Needs, NoInstruction, read, fault_number}
+use Rattle.bpf_step.specs.Runs.{breaks_at}
+use Rattle.bpf_step.specs.Step.{one_step}
+use Rattle.ocp_pool.specs.declared.call.Called.{Called as Call}
+use Rattle.ocp_pool.specs.declared.call.Called.TheVariants.{NextParam, StepEnd}
+use Rattle.ocp_pool.specs.declared.call.PoolOperation.{PoolOperation}
+use Rattle.ocp_pool.specs.Call.{engine_call, pool_get, pool_set, pool_add, pool_with, pool_after_operation}
+use Rattle.ocp_table.specs.declared.answers.InstructionOutcome.{InstructionOutcome}
+use Rattle.ocp_table.specs.declared.answers.InstructionOutcome.TheVariants.{Broke, Called, Faulted}
+use Rattle.ocp_table.specs.Records.{Rec}
+use Rattle.ocp_table.specs.Effects.{Effect, Changed, Change, Stepped, pool_by, pool_by_change, pool_by_outcome}
+use Rattle.ocp_table.specs.RequestTable.{Step, transition}
+use Rattle.ocp_table.specs.Deciding.{outcome_in, outcome_of, outcome_of_call, effect_on, effect_by, effect_of_step, is_full}
+use Rattle.ocp_world.specs.World.{World, opening}
+use Rattle.ocp_world.specs.Replay.{replay}
+use Rattle.ocp_core.specs.History.{Does}
+use Rattle.ocp_core.specs.Pool.{operation_by, operation_by_change, operation_by_outcome, with_operation, add_operation, operations, pool_from, pool_after, PoolIsOfOperations, IsAnswered, CallsAreAnswered, AnswersWord, CallsAnswerWords, IsOutside, FaultsOutside}
+use Rattle.ocp_core.proofs.Honest.{IsNext, IsHonest, honest_in}
+use Rattle.ocp_core.proofs.Carried.{carried}
+
+-- ---- the pool
+
+pool_from-append : (pool : List ℕ) (xs ys : List PoolOperation) → pool_from pool (xs ++ ys) ≡ pool_from (pool_from pool xs) ys
+pool_from-append pool [] ys = refl
+pool_from-append pool (x ∷ xs) ys = pool_from-append (pool_with x pool) xs ys
+
+pool_by_outcome-operation : (outcome : InstructionOutcome) (pool : List ℕ) → pool_by_outcome outcome pool ≡ pool_after_operation (operation_by_outcome outcome) pool
+pool_by_outcome-operation (Called call) pool = refl
+pool_by_outcome-operation outcome pool = refl
+
+pool_by_change-operation : (change : Change) (pool : List ℕ) → pool_by_change change pool ≡ pool_after_operation (operation_by_change change) pool
+pool_by_change-operation (Stepped outcome) pool = pool_by_outcome-operation outcome pool
+pool_by_change-operation change pool = refl
+
+pool_by-operation : (effect : Effect) (pool : List ℕ) → pool_by effect pool ≡ pool_after_operation (operation_by effect) pool
+pool_by-operation (Changed id change) pool = pool_by_change-operation change pool
+pool_by-operation effect pool = refl
+
+one_more : (start pool : List ℕ) (os : List PoolOperation) (o : Option PoolOperation) → pool ≡ pool_from start os → pool_after_operation o pool ≡ pool_from start (with_operation o os)
+one_more start pool os None is = is
+one_more start pool os (Some o) is = ap (pool_with o) is ∙ sym (pool_from-append start os (o ∷ []))
+
+pub pool_is : PoolIsOfOperations
+pool_is apid words es = carried {T = ℕ} add_operation (λ effect t. t) (λ w os t. w.pool ≡ pool_from (replicate words 0) os)
+    (λ w os t effect honest is. pool_by-operation effect.on_records w.pool ∙ one_more (replicate words 0) w.pool os (operation_by effect.on_records) is)
+    (opening apid words) [] 0 es refl
+
+-- ---- what an instruction event is for its procedure
+
+-- it is that of the record's next instruction
+pub next_of : (w : World) (id : ℕ) (outcome : InstructionOutcome) → Does w id outcome → IsNext (get w.records id) w.pool outcome
+next_of w id outcome is = subst (IsHonest w.records w.pool) is (honest_in w.records w.pool (Step w.pool) id refl)
+
+-- and that instruction is done
+does_next : (w : World) (id : ℕ) (outcome : InstructionOutcome) → IsNext (get w.records id) w.pool outcome → Does w id outcome
+does_next w id outcome is =
+    ap (λ o. effect_on (Step w.pool) id o (is_full w.records)) is.is
+    ∙ ap (λ s. effect_by (transition (Step w.pool) (Some s) is.rec.control.pending (length is.rec.mailbox)) id (Some is.rec) (is_full w.records)) is.runs
+    ∙ ap (λ o. effect_of_step o id) is.next
+
+-- ---- an engine call that was answered
+
+module _ (r : Rec) (pool : List ℕ) where
+  -- an outcome other than a breakpoint is that of the machine's instruction
+  module _ (outcome : InstructionOutcome) where
+    abbrev result : Option InstructionOutcome
+    result = outcome_of (one_step r.image r.machine) r.machine pool r.mailbox
+
+    abbrev IsOfMachine : Type 0
+    IsOfMachine = (breaks_at r.control.pass r.breakpoints r.machine.place ≡ false) × (result ≡ Some outcome)
+
+    not_held : (b : Bool) → breaks_at r.control.pass r.breakpoints r.machine.place ≡ b → (Some Broke ≡ Some outcome → ⊥) → cond b (Some Broke) result ≡ Some outcome → IsOfMachine
+    not_held true is differs e = absurd (differs e)
+    not_held false is differs e = (is, e)
+
+    of_machine : (Some Broke ≡ Some outcome → ⊥) → outcome_in r pool ≡ Some outcome → IsOfMachine
+    of_machine differs e = not_held (breaks_at r.control.pass r.breakpoints r.machine.place) refl differs e
+
+  abbrev answer_of : ℤ → Option Call
+  answer_of number = engine_call number (read r.machine 1) (read r.machine 2) pool r.mailbox
+
+  answered_call : (call : Call) (c : Option Call) → Some (outcome_of_call c) ≡ Some (Called call) → c ≡ Some call
+  answered_call call (Some other) e = cc
+  answered_call call None e = cc
+
+  answered_need : (call : Call) (l : Outcome) → outcome_of l r.machine pool r.mailbox ≡ Some (Called call) → (number : ℤ) × (l ≡ Needs (need.Call number)) × (answer_of number ≡ Some call)
+  answered_need call (Next s) e = cc
+  answered_need call (Needs need.LastExit) e = cc
+  answered_need call (Needs (need.Fault fault)) e = cc
+  answered_need call (Needs (need.Call number)) e = (number, refl, answered_call call (answer_of number) e)
+  answered_need call NoInstruction e = cc
+
+pub answered : (o : Option Rec) (pool : List ℕ) (call : Call) → IsNext o pool (Called call) → IsAnswered o pool call
+answered o pool call is =
+    let of : IsOfMachine is.rec pool (Called call) = of_machine is.rec pool (Called call) (λ e. cc) is.next in
+    let found = answered_need is.rec pool call (one_step is.rec.image is.rec.machine) of.1 in
+    record { number = found.0; calls = record { rec = is.rec; is = is.is; runs = is.runs; passes = of.0; calls = found.1 }; given = found.2 }
+
+pub calls_are_answered : CallsAreAnswered
+calls_are_answered apid words es id call does =
+    subst (λ p. IsAnswered (get (replay apid words es).records id) p call) (pool_is apid words es)
+    (answered (get (replay apid words es).records id) (replay apid words es).pool call (next_of (replay apid words es) id (Called call) does))
+
+-- ---- the words that calls answer
+
+abbrev AnswersWordIf : List ℕ → Option Call → Type 0
+AnswersWordIf pool None = Unit {0}
+AnswersWordIf pool (Some call) = AnswersWord pool call
+
+set_gives : (pool : List ℕ) (index word value : ℕ) → slice_get pool index ≡ Some word → slice_get (slice_set pool index ((slice_index pool index + value) % 2 ^ 64)) index ≡ Some ((word + value) % 2 ^ 64)
+set_gives pool index word value is =
+    let within : index < length pool = slice_get_within pool index word is in
+    let there : slice_index pool index ≡ word = get_or_from_slice_get pool index word 0 is in
+    let new = (slice_index pool index + value) % 2 ^ 64 in
+    slice_get-get_or (slice_set pool index new) index 0 (subst (λ n. index < n) (sym (length-set pool index new)) within)
+    ∙ ap Some (get_or-set_same pool index new 0 within ∙ ap (λ old. (old + value) % 2 ^ 64) there)
+
+module _ (number : ℤ) (r1 r2 : ℕ) (pool mailbox : List ℕ) where
+  word_get : (o : Option ℕ) → slice_get pool r1 ≡ o → AnswersWordIf pool (pool_get r1 o)
+  word_get None is = tt
+  word_get (Some word) is = is
+
+  word_set : (o : Option ℕ) → slice_get pool r1 ≡ o → AnswersWordIf pool (pool_set r1 r2 o)
+  word_set None is = tt
+  word_set (Some word) is = is
+
+  word_add : (o : Option ℕ) → slice_get pool r1 ≡ o → AnswersWordIf pool (pool_add r1 r2 o)
+  word_add None is = tt
+  word_add (Some word) is = set_gives pool r1 word r2 is
+
+  either : (b : Bool) (x y : Option Call) → AnswersWordIf pool x → AnswersWordIf pool y → AnswersWordIf pool (cond b x y)
+  either true x y p q = p
+  either false x y p q = q
+
+  gives_word : AnswersWordIf pool (engine_call number r1 r2 pool mailbox)
+  gives_word =
+      either (unsigned_abs number == 1) _ _ (word_get (slice_get pool r1) refl)
+      (either (unsigned_abs number == 2) _ _ (word_set (slice_get pool r1) refl)
+      (either (unsigned_abs number == 3) _ _ (word_add (slice_get pool r1) refl)
+      (either (unsigned_abs number == 4) _ _ tt tt)))
+
+answers_word : (o : Option Rec) (pool : List ℕ) (call : Call) → IsAnswered o pool call → AnswersWord pool call
+answers_word o pool call a = subst (AnswersWordIf pool) a.given (gives_word a.number (read a.calls.rec.machine 1) (read a.calls.rec.machine 2) pool a.calls.rec.mailbox)
+
+pub calls_answer_words : CallsAnswerWords
+calls_answer_words apid words es id call does = answers_word (get (replay apid words es).records id) (pool_after words (operations apid words es)) call (calls_are_answered apid words es id call does)
+
+-- ---- fault 4
+
+past : (xs : List ℕ) (i : ℕ) → slice_get xs i ≡ None → length xs ≤ i
+past xs i none = elim (slice_get_cases xs i).1 [
+  | inl found ↦ absurd (let e : Some found.0 ≡ None = sym found.2 ∙ none in cc)
+  | inr beyond ↦ beyond.0
+]
+
+-- a call of this number finds no word
+record FindsNone (k r1 : ℕ) (pool : List ℕ) : Type 0 where
+  first : 1 ≤ k
+  last : k ≤ 3
+  none : slice_get pool r1 ≡ None
+
+module _ (r1 r2 : ℕ) (pool mailbox : List ℕ) where
+  none_get : (o : Option ℕ) → pool_get r1 o ≡ None → o ≡ None
+  none_get None e = refl
+  none_get (Some word) e = cc
+
+  none_set : (o : Option ℕ) → pool_set r1 r2 o ≡ None → o ≡ None
+  none_set None e = refl
+  none_set (Some word) e = cc
+
+  none_add : (o : Option ℕ) → pool_add r1 r2 o ≡ None → o ≡ None
+  none_add None e = refl
+  none_add (Some word) e = cc
+
+  abbrev by_number : ℕ → Bool → Bool → Bool → Bool → Option Call
+  by_number k a b c d = cond a (pool_get r1 (slice_get pool r1)) (cond b (pool_set r1 r2 (slice_get pool r1)) (cond c (pool_add r1 r2 (slice_get pool r1)) (cond d (Some (NextParam (slice_get mailbox 0))) (Some (StepEnd (r1 % 2 ^ 16))))))
+
+  finds_none_by : (k : ℕ) (a b c d : Bool) → (k == 1) ≡ a → (k == 2) ≡ b → (k == 3) ≡ c → by_number k a b c d ≡ None → FindsNone k r1 pool
+  finds_none_by k true b c d is _ _ e = record { first = omega (arith, eqb-true k 1 is); last = omega (arith, eqb-true k 1 is); none = none_get (slice_get pool r1) e }
+  finds_none_by k false true c d _ is _ e = record { first = omega (arith, eqb-true k 2 is); last = omega (arith, eqb-true k 2 is); none = none_set (slice_get pool r1) e }
+  finds_none_by k false false true d _ _ is e = record { first = omega (arith, eqb-true k 3 is); last = omega (arith, eqb-true k 3 is); none = none_add (slice_get pool r1) e }
+  finds_none_by k false false false true _ _ _ e = cc
+  finds_none_by k false false false false _ _ _ e = cc
+
+  finds_none : (number : ℤ) → engine_call number r1 r2 pool mailbox ≡ None → FindsNone (unsigned_abs number) r1 pool
+  finds_none number e = finds_none_by (unsigned_abs number) (unsigned_abs number == 1) (unsigned_abs number == 2) (unsigned_abs number == 3) (unsigned_abs number == 4) refl refl refl e
+
+  none_by : (k : ℕ) (a b c d : Bool) → (k == 1) ≡ a → (k == 2) ≡ b → (k == 3) ≡ c → FindsNone k r1 pool → by_number k a b c d ≡ None
+  none_by k true b c d _ _ _ is = ap (pool_get r1) is.none
+  none_by k false true c d _ _ _ is = ap (pool_set r1 r2) is.none
+  none_by k false false true d _ _ _ is = ap (pool_add r1 r2) is.none
+  none_by k false false false d is_1 is_2 is_3 is = absurd (grind (arith, nat_tests, is.first, is.last, is_1, is_2, is_3))
+
+  gives_none : (number : ℤ) → FindsNone (unsigned_abs number) r1 pool → engine_call number r1 r2 pool mailbox ≡ None
+  gives_none number is = none_by (unsigned_abs number) (unsigned_abs number == 1) (unsigned_abs number == 2) (unsigned_abs number == 3) (unsigned_abs number == 4) refl refl refl is
+
+module _ (r : Rec) (pool : List ℕ) where
+  no_fault_4 : (fault : MachineFault) → Some (Faulted (fault_number fault)) ≡ Some (Faulted 4) → ⊥
+  no_fault_4 AccessOutside e = cc
+  no_fault_4 WriteToArguments e = cc
+  no_fault_4 CallDepth e = cc
+
+  outside_call : (c : Option Call) → Some (outcome_of_call c) ≡ Some (Faulted 4) → c ≡ None
+  outside_call (Some call) e = cc
+  outside_call None e = refl
+
+  outside_need : (l : Outcome) → outcome_of l r.machine pool r.mailbox ≡ Some (Faulted 4) → (number : ℤ) × (l ≡ Needs (need.Call number)) × (answer_of r pool number ≡ None)
+  outside_need (Next s) e = cc
+  outside_need (Needs need.LastExit) e = cc
+  outside_need (Needs (need.Fault fault)) e = absurd (no_fault_4 fault e)
+  outside_need (Needs (need.Call number)) e = (number, refl, outside_call (answer_of r pool number) e)
+  outside_need NoInstruction e = cc
+
+outside : (o : Option Rec) (pool : List ℕ) → IsNext o pool (Faulted 4) → IsOutside o pool
+outside o pool is =
+    let of : IsOfMachine is.rec pool (Faulted 4) = of_machine is.rec pool (Faulted 4) (λ e. cc) is.next in
+    let found = outside_need is.rec pool (one_step is.rec.image is.rec.machine) of.1 in
+    let none = finds_none (read is.rec.machine 1) (read is.rec.machine 2) pool is.rec.mailbox found.0 found.2 in
+    record { number = found.0; calls = record { rec = is.rec; is = is.is; runs = is.runs; passes = of.0; calls = found.1 }; first = none.first; last = none.last; outside = past pool (read is.rec.machine 1) none.none }
+
+faults : (o : Option Rec) (pool : List ℕ) → IsOutside o pool → IsNext o pool (Faulted 4)
+faults o pool is =
+    let r = is.calls.rec in
+    let none : answer_of r pool is.number ≡ None = gives_none (read r.machine 1) (read r.machine 2) pool r.mailbox is.number (record { first = is.first; last = is.last; none = slice_get_past pool (read r.machine 1) is.outside }) in
+    record {
+      rec = r;
+      is = is.calls.is;
+      runs = is.calls.runs;
+      next = ap (λ b. cond b (Some Broke) (outcome_of (one_step r.image r.machine) r.machine pool r.mailbox)) is.calls.passes ∙ ap (λ l. outcome_of l r.machine pool r.mailbox) is.calls.calls ∙ ap (λ c. Some (outcome_of_call c)) none;
+    }
+
+pub faults_outside : FaultsOutside
+faults_outside apid words es id =
+    let w = replay apid words es in
+    subst (λ p. Does w id (Faulted 4) ↔ IsOutside (get w.records id) p) (pool_is apid words es)
+    ((λ does. outside (get w.records id) w.pool (next_of w id (Faulted 4) does)), (λ is. does_next w id (Faulted 4) (faults (get w.records id) w.pool is)))

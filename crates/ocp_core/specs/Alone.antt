@@ -1,0 +1,42 @@
+-- A machine by itself: what its image and its own events make of it. No world, pool, mailbox or other procedure is
+-- seen.
+use Rattle.std.specs.Prelude.{◌≡◌, ℕ, List, [], ◌∷◌, Option, Some, None}
+use Rattle.std.specs.FinMap.{get}
+use Rattle.bpf_step.specs.Machine.{State, started}
+use Rattle.bpf_step.specs.Step.{one_step}
+use Rattle.bpf_step.specs.Calls.{state_after_engine_call}
+use Rattle.ocp_table.specs.Effects.{machine_after}
+use Rattle.ocp_table.specs.Laws.{machine_of}
+use Rattle.ocp_world.specs.World.{Event}
+use Rattle.ocp_world.specs.Replay.{replay}
+use Rattle.ocp_core.specs.Own.{Own, Start, Local, Call, own_events, image_after}
+
+-- a start begins anew; an instruction is the image's at the machine's place; an engine call puts its answers in, and
+-- the place goes one slot on
+abbrev pub state_by : List ℕ → Own → State → State
+state_by image (Start arguments) s = started arguments
+state_by image Local s = machine_after (one_step image s) s
+state_by image (Call number r0 r1) s = state_after_engine_call s r0 r1
+
+abbrev pub alone_from : List ℕ → State → List Own → State
+alone_from image s [] = s
+alone_from image s (event ∷ events) = alone_from image (state_by image event s) events
+
+-- the machine of an image after its own events
+abbrev pub alone : List ℕ → List Own → State
+alone image own = alone_from image (started []) own
+
+-- where there is an image
+abbrev pub alone_if : Option (List ℕ) → List Own → Option State
+alone_if None own = None
+alone_if (Some image) own = Some (alone image own)
+
+-- the machine of a procedure after events of a new engine, by its own events alone
+abbrev pub alone_after : ℕ → ℕ → List Event → ℕ → Option State
+alone_after apid words es id = alone_if (image_after apid words es id) (own_events apid words es id)
+
+-- the law: each procedure's machine in the world, where it is loaded, is its machine alone
+abbrev pub IsFactored : Type 0
+IsFactored =
+    (apid words : ℕ) (es : List Event) (id : ℕ) →
+    machine_of (get (replay apid words es).records id) ≡ alone_after apid words es id

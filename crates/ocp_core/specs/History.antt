@@ -1,0 +1,26 @@
+-- What the events of a list did to the records of a world, one effect each, in order.
+use Rattle.std.specs.Prelude.{◌≡◌, ℕ, List, [], ◌∷◌}
+use Rattle.ocp_table.specs.declared.answers.InstructionOutcome.{InstructionOutcome}
+use Rattle.ocp_table.specs.RequestTable as directive
+use Rattle.ocp_table.specs.Deciding.{effect_in}
+use Rattle.ocp_table.specs.Effects.{Effect, Changed, Stepped}
+use Rattle.ocp_world.specs.World.{World, Event, opening}
+use Rattle.ocp_world.specs.After.{effect_of, after}
+
+abbrev pub history_from : World → List Event → List Effect
+history_from w [] = []
+history_from w (e ∷ es) = (effect_of w e).on_records ∷ history_from (after w e).world es
+
+-- from a new engine with this application process and so many pool words
+abbrev pub history : ℕ → ℕ → List Event → List Effect
+history apid words es = history_from (opening apid words) es
+
+-- what is gathered from effects, the first one first
+abbrev pub gather : {S : Type 0} → (Effect → S → S) → S → List Effect → S
+gather add s [] = s
+gather add s (effect ∷ effects) = gather add (add effect s) effects
+
+-- an instruction event of the procedure would be this for it
+abbrev pub Does : World → ℕ → InstructionOutcome → Type 0
+Does w id outcome =
+    effect_in (directive.Step w.pool) id w.records ≡ Changed id (Stepped outcome)
