@@ -11,11 +11,12 @@ use Rattle.ocp_world.specs.declared.answers.EngineFault.{EngineFault}
 use Rattle.ocp_world.specs.declared.answers.EngineFault.TheVariants as engine
 use Rattle.ocp_world.specs.declared.answers.Slice.{Slice}
 use Rattle.ocp_world.specs.World.{World, Event, Step}
-use Rattle.ocp_world.specs.After.{Answer, Requested, Stepped, after, is_accepted}
+use Rattle.ocp_debug.specs.declared.command.DebugFault.{DebugFault}
+use Rattle.ocp_world.specs.After.{Answer, Requested, Stepped, Commanded, after, is_accepted}
 use Rattle.ocp_world.specs.Answers.{Answers}
 use Rattle.ocp_world.specs.Replay.{replay_from}
 use Rattle.ocp_world.specs.Slice.{outcome_in, slice_count, slice_last}
-use Rattle.ocp_world.specs.Mirror.Answering.{IsDiscard}
+use Rattle.ocp_world.specs.Mirror.Answering.{IsDiscard, IsDebugFault}
 use Rattle.ocp_core.specs.Log.{Log, Steps, world_of, is_full, with_entry, entry_for, full_answer, answer_in, log_after, expand}
 use Rattle.ocp_core.specs.Slice.{slice_in, slice_log}
 
@@ -58,6 +59,13 @@ module _ (log now : Log) (same : log ≡ now) (e : Event) where
 
   pub request_accepted : (found : Option Discard) → IsDiscard answer found → found ≡ None → is_accepted answer ≡ true
   request_accepted found is none = subst (IsDiscard answer) none is
+
+  -- a debugger's command that is refused
+  pub command_refused : (fault : DebugFault) → IsDebugFault answer (Some fault) → Commanded (Err fault) ≡ answer_in now e
+  command_refused fault is = refused_answer (Commanded (Err fault)) (ap is_accepted is) (sym is)
+
+  pub command_refused_log : (fault : DebugFault) → IsDebugFault answer (Some fault) → now ≡ log_after now e
+  command_refused_log fault is = refused_log (ap is_accepted is)
 
 -- ---- a slice of a log
 

@@ -2,7 +2,7 @@
 use Rattle.std.proofs.Common.{◌≡◌, ℕ, zero, suc, true, false, cond, List, [], ◌∷◌, ◌++◌, refl, sym, ap, ◌∙◌}
 use Rattle.ocp_table.specs.declared.answers.StepOutcome.{StepOutcome}
 use Rattle.ocp_table.specs.declared.answers.StepOutcome.TheVariants as S
-use Rattle.ocp_world.specs.World.{World, Event, Request, Step, opening}
+use Rattle.ocp_world.specs.World.{World, Event, Request, Step, Debug, opening}
 use Rattle.ocp_world.specs.After.{Stepped, After, after, is_accepted}
 use Rattle.ocp_world.specs.Replay.{replay_from}
 use Rattle.ocp_world.specs.Slice.{outcome_in, goes_on, slice_count, slice_last}
@@ -26,6 +26,7 @@ marks-with_entry log e = marks_from-append (opening log.apid log.words) log.entr
 event_mark : (w : World) (e : Event) → mark_in w (entry_for e) ≡ (after w e).answer
 event_mark w (Request by time octets) = refl
 event_mark w (Step by id) = refl
+event_mark w (Debug by id command) = refl
 
 pub marks-event : (log : Log) (e : Event) → is_accepted (after (world_of log) e).answer ≡ true → is_full log ≡ false → marks (log_after log e) ≡ marks log ++ answer_in log e ∷ []
 marks-event log e taken free =

@@ -7,8 +7,10 @@ use Rattle.std.proofs.lemmas.Option.{slice_get-get_or, slice_get-map}
 use Rattle.ocp_table.specs.declared.answers.StepOutcome.{StepOutcome}
 use Rattle.ocp_table.specs.declared.answers.StepOutcome.TheVariants as S
 use Rattle.ocp_world.specs.declared.answers.EngineFault.TheVariants as engine
-use Rattle.ocp_world.specs.World.{World, Event, Request, Step}
-use Rattle.ocp_world.specs.After.{Answer, Requested, Stepped, after, is_accepted}
+use Rattle.ocp_debug.specs.declared.command.DebugFault.{DebugFault}
+use Rattle.ocp_debug.specs.declared.command.DebugFault.TheVariants as debug
+use Rattle.ocp_world.specs.World.{World, Event, Request, Step, Debug}
+use Rattle.ocp_world.specs.After.{Answer, Requested, Stepped, Commanded, after, is_accepted}
 use Rattle.ocp_world.specs.Replay.{answers, replay_from}
 use Rattle.ocp_core.specs.Log.{Log, world_of, is_full, with_entry, entry_for, full_answer, answer_in, log_after}
 use Rattle.ocp_core.specs.declared.answers.RunRefusal.{RunRefusal}
@@ -34,6 +36,14 @@ is_full_answer (Stepped S.Ended) = false
 is_full_answer (Stepped (S.Faulted number)) = false
 is_full_answer (Stepped S.NotLoaded) = false
 is_full_answer (Stepped S.NotRunning) = false
+is_full_answer (Commanded (Ok done)) = false
+is_full_answer (Commanded (Err debug.JournalFull)) = true
+is_full_answer (Commanded (Err debug.NotLoaded)) = false
+is_full_answer (Commanded (Err debug.NotAnInstruction)) = false
+is_full_answer (Commanded (Err debug.AlreadySet)) = false
+is_full_answer (Commanded (Err debug.BreaksFull)) = false
+is_full_answer (Commanded (Err debug.NotSet)) = false
+is_full_answer (Commanded (Err debug.OutsideMemory)) = false
 
 pub not_full : (o : StepOutcome) → (o ≡ S.JournalFull → ⊥) → is_full_answer (Stepped o) ≡ false
 not_full S.Broke h = refl
@@ -45,17 +55,29 @@ not_full S.NotLoaded h = refl
 not_full S.NotRunning h = refl
 not_full S.JournalFull h = absurd (h refl)
 
+pub not_full_fault : (fault : DebugFault) → (fault ≡ debug.JournalFull → ⊥) → is_full_answer (Commanded (Err fault)) ≡ false
+not_full_fault debug.NotLoaded h = refl
+not_full_fault debug.NotAnInstruction h = refl
+not_full_fault debug.AlreadySet h = refl
+not_full_fault debug.BreaksFull h = refl
+not_full_fault debug.NotSet h = refl
+not_full_fault debug.OutsideMemory h = refl
+not_full_fault debug.JournalFull h = absurd (h refl)
+
 is_full_answer-full : (e : Event) → is_full_answer (full_answer e) ≡ true
 is_full_answer-full (Request by time octets) = refl
 is_full_answer-full (Step by id) = refl
+is_full_answer-full (Debug by id command) = refl
 
 is_accepted-full : (e : Event) → is_accepted (full_answer e) ≡ false
 is_accepted-full (Request by time octets) = refl
 is_accepted-full (Step by id) = refl
+is_accepted-full (Debug by id command) = refl
 
 world_of-entry : (log : Log) (e : Event) → world_of (with_entry log (entry_for e)) ≡ (after (world_of log) e).world
 world_of-entry log (Request by time octets) = world_of-with_entry log (entry_for (Request by time octets))
 world_of-entry log (Step by id) = world_of-with_entry log (entry_for (Step by id))
+world_of-entry log (Debug by id command) = world_of-with_entry log (entry_for (Debug by id command))
 
 module _ (log : Log) (e : Event) where
   abbrev answer : Answer

@@ -1,6 +1,6 @@
 //! What a run answers.
 
-use crate::{EngineFault, Reports, StepOutcome};
+use crate::{DebugFault, EngineFault, Reports, StepOutcome};
 use std::alloc::{Allocator, Global};
 
 /// What an event of a run was answered.
@@ -8,6 +8,7 @@ use std::alloc::{Allocator, Global};
 pub enum Answer<A: Allocator = Global> {
     Requested(Result<Reports<A>, EngineFault>),
     Stepped(StepOutcome),
+    Commanded(Result<(), DebugFault>),
 }
 
 /// Why a run ended before an event.

@@ -15,8 +15,10 @@ pub use procedures::{
 };
 
 pub use ocp_world::laws::{
-    an_instruction_changes_its_own_procedure, only_running_procedures_step,
-    refused_events_change_nothing, requests_keep_or_start_machines, worlds_have_no_full_journal,
+    a_debugger_changes_breakpoints_and_trace_flags_alone, an_instruction_changes_its_own_procedure,
+    only_running_procedures_step, only_starts_and_own_instructions_change_machines,
+    refused_events_change_nothing, requests_keep_or_start_machines,
+    trace_records_are_appended_by_instructions, worlds_have_no_full_journal,
 };
 
 /// The mark of each new entry of a journal is the answer that was given with it, and the older marks stay.

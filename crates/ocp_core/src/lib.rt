@@ -1,8 +1,9 @@
-//! The engine: requests as telecommand packets, instructions of the procedures that they load, and a journal whose replay
-//! is the engine's state.
+//! The engine: requests as telecommand packets, instructions of the procedures that they load, a debugger's commands, and a
+//! journal whose replay is the engine's state.
 #![tactic(auto)]
 
 mod answers;
+mod debugger;
 mod engine;
 mod event;
 mod journal;
@@ -14,4 +15,4 @@ pub use engine::Engine;
 pub use event::{Entry, Event};
 pub use journal::Journal;
 pub use ocp_reports::{Octets, Reports};
-pub use ocp_world::{EngineFault, Slice, StepOutcome};
+pub use ocp_world::{Command, DebugFault, EngineFault, Slice, StepOutcome};

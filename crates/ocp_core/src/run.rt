@@ -1,13 +1,16 @@
 //! Lists of events.
 
 ghost use Rattle.std.specs.Prelude.{◌≡◌, IfOk, IfErr, OnOk, map, take, slice_get};
+ghost use Rattle.ocp_world.specs.World.{Debug};
 ghost use Rattle.ocp_world.specs.Replay.{answers, replay_from};
 ghost use Rattle.ocp_core.specs.Log.{world_of};
 ghost use Rattle.ocp_core.specs.Journal.{event_of, answer_of};
 ghost use Rattle.ocp_core.specs.Running.{Applies, HasRoom, StopsAt, log_after_all};
 
 use crate::laws::{refused_events_change_nothing, worlds_have_no_full_journal};
-use crate::{Answer, Engine, EngineFault, Event, RunFault, RunRefusal, StepOutcome};
+use crate::{
+    Answer, Command, DebugFault, Engine, EngineFault, Event, RunFault, RunRefusal, StepOutcome,
+};
 use std::alloc::Allocator;
 
 impl<A: Allocator> Engine<A> {
@@ -32,6 +35,26 @@ impl<A: Allocator> Engine<A> {
                 StepOutcome::JournalFull => Err(RunRefusal::JournalFull),
                 outcome => Ok(Answer::Stepped(outcome)),
             },
+            Event::SetBreak { by, id, place } => {
+                self.apply_command(by, id, Command::SetBreak(place))
+            }
+            Event::ClearBreak { by, id, place } => {
+                self.apply_command(by, id, Command::ClearBreak(place))
+            }
+            Event::Trace { by, id, on } => self.apply_command(by, id, Command::SetTrace(on)),
+        }
+    }
+
+    // Does a debugger's command as an event.
+    fn apply_command(&mut self, by: u16, id: u16, command: Command) -> Result<Answer<A>, RunRefusal>
+        ensures { Applies self.old self.new (Debug by id command) result }
+    {
+        refused_events_change_nothing();
+        worlds_have_no_full_journal();
+        match self.command(by, id, command) {
+            Ok(()) => Ok(Answer::Commanded(Ok(()))),
+            Err(DebugFault::JournalFull) => Err(RunRefusal::JournalFull),
+            Err(fault) => Ok(Answer::Commanded(Err(fault))),
         }
     }
 
