@@ -9,7 +9,7 @@ use Rattle.ocp_table.specs.declared.answers.StepOutcome.{StepOutcome}
 use Rattle.ocp_table.specs.declared.answers.StepOutcome.TheVariants as S
 use Rattle.ocp_world.specs.declared.answers.EngineFault.{EngineFault}
 use Rattle.ocp_world.specs.declared.answers.EngineFault.TheVariants as engine
-use Rattle.ocp_world.specs.declared.answers.Slice.{Slice}
+use Rattle.ocp_table.specs.declared.answers.Slice.{Slice}
 use Rattle.ocp_world.specs.World.{World, Event, Step}
 use Rattle.ocp_debug.specs.declared.command.DebugFault.{DebugFault}
 use Rattle.ocp_world.specs.After.{Answer, Requested, Stepped, Commanded, after, is_accepted}

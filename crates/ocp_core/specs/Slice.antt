@@ -1,7 +1,7 @@
 -- A slice of an engine: instructions of one procedure, as one entry of its journal.
 use Rattle.std.specs.Prelude.{ℕ, if◌then◌else◌}
 use Rattle.ocp_table.specs.declared.answers.StepOutcome.TheVariants as S
-use Rattle.ocp_world.specs.declared.answers.Slice.{Slice}
+use Rattle.ocp_table.specs.declared.answers.Slice.{Slice}
 use Rattle.ocp_world.specs.World.{Step}
 use Rattle.ocp_world.specs.After.{after, is_accepted}
 use Rattle.ocp_world.specs.Slice.{outcome_in, slice_count, slice_last}

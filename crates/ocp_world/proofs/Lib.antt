@@ -4,3 +4,4 @@ pub mod Calm
 pub mod Slices
 pub mod Slicing
 pub mod Lawful
+pub mod Stretches

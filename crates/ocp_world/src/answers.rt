@@ -3,7 +3,6 @@
 ghost use Rattle.std.specs.Prelude.{◌≡◌};
 ghost use Rattle.ocp_world.specs.declared.answers.EngineFault.TheVariants.{Memory};
 
-use ocp_table::StepOutcome;
 use pus_fields::Discard;
 use std::alloc::AllocError;
 
@@ -23,13 +22,4 @@ impl From<AllocError> for EngineFault {
     fn from(_error: AllocError) -> Self {
         EngineFault::Memory
     }
-}
-
-/// What became of a slice.
-#[derive(Clone, Copy, PartialEq, Eq, Debug)]
-pub struct Slice {
-    /// How many instructions were done.
-    pub count: u32,
-    /// The outcome of the last instruction event.
-    pub last: StepOutcome,
 }

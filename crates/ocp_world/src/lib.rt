@@ -8,8 +8,8 @@ pub mod laws;
 mod slice;
 mod state;
 
-pub use answers::{EngineFault, Slice};
+pub use answers::EngineFault;
 pub use convert::discard_of;
 pub use ocp_debug::{Command, DebugFault};
-pub use ocp_table::StepOutcome;
+pub use ocp_table::{Slice, StepOutcome};
 pub use state::State;

@@ -36,8 +36,8 @@ impl<A: Allocator> State<A> {
         }
     }
 
-    /// Does instructions of one procedure until the budget is used or it no longer goes on.
-    pub fn slice(&mut self, id: u16, budget: u32) -> Slice
+    // The slice of a traced procedure: each instruction makes a trace record.
+    fn slice_by_steps(&mut self, id: u16, budget: u32) -> Slice
         requires { 1 ≤ budget }
         ensures world { (w : World) (by : ℕ) → IsWorld w self.old →
             IsWorld (replay_from w (replicate result.count (Step by id))) self.new }
@@ -59,6 +59,22 @@ impl<A: Allocator> State<A> {
         Slice {
             count: budget,
             last,
+        }
+    }
+
+    /// Does instructions of one procedure until the budget is used or it no longer goes on.
+    pub fn slice(&mut self, id: u16, budget: u32) -> Slice
+        requires { 1 ≤ budget }
+        ensures world { (w : World) (by : ℕ) → IsWorld w self.old →
+            IsWorld (replay_from w (replicate result.count (Step by id))) self.new }
+        ensures count { (w : World) (by : ℕ) → IsWorld w self.old →
+            result.count ≡ slice_count w by id budget }
+        ensures last { (w : World) (by : ℕ) → IsWorld w self.old →
+            result.last ≡ slice_last w by id StepOutcome.Ran budget }
+    {
+        match self.table.slice(id, &mut self.pool, budget) {
+            Some(slice) => slice,
+            None => self.slice_by_steps(id, budget),
         }
     }
 }

@@ -1,14 +1,12 @@
-use Rattle.ocp_world.proofs.Slicing.{IsSliced-more, sliced_world, sliced_count, sliced_last}
+use Rattle.std.proofs.Common.{refl}
+use Rattle.ocp_world.proofs.Stretches.{sliced, sliced_count, sliced_last}
 use Rattle.ocp_world.proofs.state.State.slice.Goals as goal
 
-pub returns-then-not-goes_on-clause-world : goal.returns-then-not-goes_on-clause-world
-returns-then-not-goes_on-clause-world g c = sliced_world _ c.loop-count.self _ c.args.id c.args.budget c.loop-count.count c.loop-count.last c.step-last.result c.goes_on.result c.loop-count-test.true c.loop-count.invariant (record { world = c.step-last.ensures.world; answer = c.step-last.ensures.answer; goes = c.goes_on.ensures })
+pub returns-in-Some-clause-world : goal.returns-in-Some-clause-world
+returns-in-Some-clause-world g c = sliced c.args.self.now _ c.args.id c.in-Some.slice.count c.in-Some.ensures.untraced c.in-Some.ensures.store refl refl refl
 
-pub returns-then-not-goes_on-clause-count : goal.returns-then-not-goes_on-clause-count
-returns-then-not-goes_on-clause-count g c w by stands = sliced_count c.args.self.now c.loop-count.self c.step-last.new.self c.args.id c.args.budget c.loop-count.count c.loop-count.last c.step-last.result c.goes_on.result c.loop-count-test.true c.loop-count.invariant (record { world = c.step-last.ensures.world; answer = c.step-last.ensures.answer; goes = c.goes_on.ensures }) w by stands c.if-not-goes_on.true
+pub returns-in-Some-clause-count : goal.returns-in-Some-clause-count
+returns-in-Some-clause-count g c = sliced_count c.args.self.now c.args.id c.args.budget c.in-Some.slice.count c.in-Some.ensures.count
 
-pub returns-then-not-goes_on-clause-last : goal.returns-then-not-goes_on-clause-last
-returns-then-not-goes_on-clause-last g c w by stands = sliced_last c.args.self.now c.loop-count.self c.step-last.new.self c.args.id c.args.budget c.loop-count.count c.loop-count.last c.step-last.result c.goes_on.result c.loop-count-test.true c.loop-count.invariant (record { world = c.step-last.ensures.world; answer = c.step-last.ensures.answer; goes = c.goes_on.ensures }) w by stands c.if-not-goes_on.true
-
-pub loop-count-preserved : goal.loop-count-preserved
-loop-count-preserved g c = IsSliced-more c.args.self.now c.loop-count.self c.step-last.new.self c.args.id c.args.budget c.loop-count.count c.loop-count.last c.step-last.result c.goes_on.result c.loop-count-test.true c.loop-count.invariant (record { world = c.step-last.ensures.world; answer = c.step-last.ensures.answer; goes = c.goes_on.ensures }) c.if-not-goes_on.false
+pub returns-in-Some-clause-last : goal.returns-in-Some-clause-last
+returns-in-Some-clause-last g c = sliced_last c.args.self.now c.args.id c.args.budget _ c.in-Some.slice.last c.in-Some.ensures.last

@@ -1,0 +1,133 @@
+-- A slice of a procedure that the table finds once, against steps of the world.
+use Rattle.std.proofs.Common.{◌≡◌, ℕ, zero, suc, Bool, true, false, cond, List, [], ◌++◌, ◌%◌, replicate, length, Option, Some, None, refl, sym, ap, ◌∙◌, arith}
+use Rattle.std.proofs.lemmas.List.{append-nil}
+use Rattle.std.proofs.lemmas.Bool.Decides.{nat_tests}
+use Rattle.std.specs.Ordering.{nat_cmp, eq_by_cmp}
+use Rattle.std.specs.Cmp.{nat_cmp_total, unsigned_tied}
+use Rattle.std.specs.FinMap.{get, insert, get-insert}
+use Rattle.obcp_types.specs.declared.status.Status.{Status}
+use Rattle.obcp_types.specs.declared.status.Status.TheVariants.{Inactive, Running, Held}
+use Rattle.ocp_table.specs.declared.answers.InstructionOutcome.{InstructionOutcome}
+use Rattle.ocp_table.specs.declared.answers.InstructionOutcome.TheVariants.{Broke, Ran, Called, Ended, Faulted}
+use Rattle.ocp_table.specs.declared.answers.StepOutcome.{StepOutcome}
+use Rattle.ocp_table.specs.Records.{Rec, Records}
+use Rattle.ocp_table.specs.Effects.{Effect, Changed, Stepped, record_by, records_by, with_change}
+use Rattle.ocp_table.specs.RequestTable as directive
+use Rattle.ocp_table.specs.RequestTable.{transition}
+use Rattle.ocp_table.specs.Deciding.{effect_in, effect_on, effect_by, effect_of_step, outcome_in, is_full}
+use Rattle.ocp_table.specs.Slices.{Store, is_traced, store_after_events}
+use Rattle.ocp_table.specs.Slices as table
+use Rattle.ocp_debug.specs.declared.trace.Trace.{Trace}
+use Rattle.ocp_debug.specs.Traces.{kept, traces_by, traces_by_change, traces_of, traces_if}
+use Rattle.ocp_world.specs.declared.state.State.{State}
+use Rattle.ocp_world.specs.Mirror.State.{IsWorld}
+use Rattle.ocp_world.specs.World.{World, Step}
+use Rattle.ocp_world.specs.After.{after}
+use Rattle.ocp_world.specs.Replay.{replay_from}
+use Rattle.ocp_world.specs.Slice.{slice_count, slice_last, goes_on, outcome_in as answer_in}
+
+abbrev pub store_of : World → Store
+store_of w = record { records = w.records; pool = w.pool }
+
+-- ---- the slice of a world is that of its store
+
+pub same_count : (w : World) (by id budget : ℕ) → slice_count w by id budget ≡ table.slice_count id (store_of w) budget
+same_count w by id zero = refl
+same_count w by id (suc budget) = ap (λ n. cond (goes_on (after w (Step by id)) id) (suc n) 1) (same_count (after w (Step by id)).world by id budget)
+
+pub same_last : (w : World) (by id : ℕ) (last : StepOutcome) (budget : ℕ) → slice_last w by id last budget ≡ table.slice_last id (store_of w) last budget
+same_last w by id last zero = refl
+same_last w by id last (suc budget) =
+    let a = after w (Step by id) in
+    ap (λ o. cond (goes_on a id) o (answer_in a.answer)) (same_last a.world by id (answer_in a.answer) budget)
+
+-- ---- the world after its steps
+
+module _ (by id : ℕ) where
+  abbrev steps : ℕ → World → World
+  steps n w = replay_from w (replicate n (Step by id))
+
+  pub same_store : (n : ℕ) (w : World) → store_of (steps n w) ≡ store_after_events id n (store_of w)
+  same_store zero w = refl
+  same_store (suc n) w = same_store n (after w (Step by id)).world
+
+  pub same_apid : (n : ℕ) (w : World) → (steps n w).apid ≡ w.apid
+  same_apid zero w = refl
+  same_apid (suc n) w = same_apid n (after w (Step by id)).world
+
+  pub same_reports : (n : ℕ) (w : World) → (steps n w).reports ≡ w.reports
+  same_reports zero w = refl
+  same_reports (suc n) w = same_reports n (after w (Step by id)).world
+
+-- ---- a procedure that is not traced makes no trace records, and is not traced afterwards
+
+no_traces_of : (id : ℕ) (outcome : InstructionOutcome) (r : Rec) → r.traced ≡ false → traces_of id outcome r ≡ []
+no_traces_of id Broke r off = refl
+no_traces_of id Ran r off = ap (λ b. traces_if b id Ran r) off
+no_traces_of id (Called call) r off = ap (λ b. traces_if b id (Called call) r) off
+no_traces_of id Ended r off = ap (λ b. traces_if b id Ended r) off
+no_traces_of id (Faulted number) r off = ap (λ b. traces_if b id (Faulted number) r) off
+
+-- what an event of a procedure leaves that is not traced
+record IsUntraced (id : ℕ) (m : Records) (e : Effect) : Type 0 where
+  pub none : traces_by e m ≡ []
+  pub still : is_traced (get (records_by e m) id) ≡ false
+
+module _ (id : ℕ) (m : Records) (pool : List ℕ) where
+  got : (r : Rec) → get (insert m id r) id ≡ Some r
+  got r =
+      let same : eq_by_cmp nat_cmp id id ≡ true = unsigned_tied id id ∙ grind (arith, nat_tests) in
+      get-insert nat_cmp_total m id r id ∙ ap (λ b. cond b (Some r) (get m id)) same
+
+  untraced_outcome : (r : Rec) → get m id ≡ Some r → r.traced ≡ false → (o : Option InstructionOutcome) → IsUntraced id m (effect_of_step o id)
+  untraced_outcome r held off None = record { none = refl; still = ap is_traced held ∙ off }
+  untraced_outcome r held off (Some outcome) = record {
+    none = ap (traces_by_change id (Stepped outcome)) held ∙ no_traces_of id outcome r off;
+    still = ap (λ o. is_traced (get (with_change o id (Stepped outcome) m) id)) held ∙ ap is_traced (got (record_by (Stepped outcome) r)) ∙ off;
+  }
+
+  untraced_status : (r : Rec) → get m id ≡ Some r → r.traced ≡ false → (s : Status) → IsUntraced id m (effect_by (transition (directive.Step pool) (Some s) r.control.pending (length r.mailbox)) id (Some r) (is_full m))
+  untraced_status r held off Inactive = record { none = refl; still = ap is_traced held ∙ off }
+  untraced_status r held off Running = untraced_outcome r held off (outcome_in r pool)
+  untraced_status r held off Held = record { none = refl; still = ap is_traced held ∙ off }
+
+  untraced_record : (o : Option Rec) → get m id ≡ o → is_traced o ≡ false → IsUntraced id m (effect_on (directive.Step pool) id o (is_full m))
+  untraced_record None held off = record { none = refl; still = ap is_traced held }
+  untraced_record (Some r) held off = untraced_status r held off r.control.status
+
+  untraced : is_traced (get m id) ≡ false → IsUntraced id m (effect_in (directive.Step pool) id m)
+  untraced off = untraced_record (get m id) refl off
+
+pub same_traces : (by id n : ℕ) (w : World) → is_traced (get w.records id) ≡ false → (replay_from w (replicate n (Step by id))).traces ≡ w.traces
+same_traces by id zero w off = refl
+same_traces by id (suc n) w off =
+    let event = untraced id w.records w.pool off in
+    same_traces by id n (after w (Step by id)).world event.still
+    ∙ ap (λ t. w.traces ++ t) event.none
+    ∙ append-nil w.traces
+
+-- ---- the state after a slice that its table did
+
+module _ {A : Type 0} where
+  pub sliced : (old now : State A) (id n : ℕ) → is_traced (get old.table id) ≡ false → store_after_events id n (record { records = old.table; pool = old.pool }) ≡ record { records = now.table; pool = now.pool } → now.apid ≡ old.apid → now.count ≡ old.count → now.ring ≡ old.ring → (w : World) (by : ℕ) → IsWorld w old → IsWorld (replay_from w (replicate n (Step by id))) now
+  sliced old now id n off done apid count ring w by stands =
+      let start : store_of w ≡ record { records = old.table; pool = old.pool } = λ i. record { records = sym stands.records i; pool = sym stands.pool i } in
+      let whole : store_of (replay_from w (replicate n (Step by id))) ≡ record { records = now.table; pool = now.pool } = same_store by id n w ∙ ap (store_after_events id n) start ∙ done in
+      let same_off : is_traced (get w.records id) ≡ false = ap (λ m. is_traced (get m id)) (sym stands.records) ∙ off in
+      record {
+        apid = apid ∙ stands.apid ∙ sym (same_apid by id n w);
+        records = sym (ap (λ s. s.records) whole);
+        pool = sym (ap (λ s. s.pool) whole);
+        count = count ∙ stands.count ∙ ap (λ k. k % 16384) (sym (same_reports by id n w));
+        ring = ring ∙ stands.ring ∙ ap kept (sym (same_traces by id n w same_off));
+      }
+
+  pub sliced_count : (old : State A) (id budget k : ℕ) → k ≡ table.slice_count id (record { records = old.table; pool = old.pool }) budget → (w : World) (by : ℕ) → IsWorld w old → k ≡ slice_count w by id budget
+  sliced_count old id budget k is w by stands =
+      let start : record { records = old.table; pool = old.pool } ≡ store_of w = λ i. record { records = stands.records i; pool = stands.pool i } in
+      is ∙ ap (λ s. table.slice_count id s budget) start ∙ sym (same_count w by id budget)
+
+  pub sliced_last : (old : State A) (id budget : ℕ) (last o : StepOutcome) → o ≡ table.slice_last id (record { records = old.table; pool = old.pool }) last budget → (w : World) (by : ℕ) → IsWorld w old → o ≡ slice_last w by id last budget
+  sliced_last old id budget last o is w by stands =
+      let start : record { records = old.table; pool = old.pool } ≡ store_of w = λ i. record { records = stands.records i; pool = stands.pool i } in
+      is ∙ ap (λ s. table.slice_last id s last budget) start ∙ sym (same_last w by id last budget)
