@@ -9,6 +9,8 @@ ghost use Rattle.ocp_debug.specs.Traces.{kept};
 ghost use Rattle.ocp_debug.specs.declared.command.Command.{Command as Asked};
 ghost use Rattle.ocp_debug.specs.declared.trace.Trace.{Trace as Made};
 
+use ocp_table::laws::debugging_keeps_runs;
+
 /// Whether records are given up one after another or all at once, the same ones are kept.
 pub fn keeping_is_kept_up()
     ensures { (old new : List Made) → kept (kept old ++ new) ≡ kept (old ++ new) }
@@ -18,4 +20,6 @@ pub fn keeping_is_kept_up()
 pub fn commands_keep_runs()
     ensures { (command : Asked) (id q : ℕ) (m : Records) →
         run_of (get (records_by (command_effect command id m) m) q) ≡ run_of (get m q) }
-{}
+{
+    debugging_keeps_runs();
+}

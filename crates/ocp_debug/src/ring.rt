@@ -53,10 +53,18 @@ impl<A: Allocator> TraceRing<A> {
         self.records.push_back(trace);
     }
 
+    // There are no more records than are kept. The function does nothing when it runs.
+    fn has_few(&self)
+        ensures { length self.now ≤ TRACE_RECORDS }
+    {
+        let _records = &self.records;
+    }
+
     /// Adds the record that an event made, if it made one.
     pub(crate) fn note(&mut self, trace: Option<Trace>)
         ensures { self.new ≡ kept (self.old ++ option_to_list trace) }
     {
+        self.has_few();
         if let Some(trace) = trace {
             self.push(trace);
         }
@@ -88,7 +96,7 @@ impl<A: Allocator> TraceRing<A> {
     {
         output.reserve(self.lines_len())?;
         for trace in &self.records {
-            line_of(trace).append_to(output)?;
+            line_of(trace).append_within(output);
         }
         Ok(())
     }

@@ -61,7 +61,17 @@ impl Text {
         ensures capacity { vec_capacity output.old ≤ vec_capacity output.new }
     {
         output.reserve(self.len())?;
-        output.extend_from_slice(self.octets.as_slice())
+        self.append_within(output);
+        Ok(())
+    }
+
+    /// Appends the octets to a vector that has room for them.
+    pub(crate) fn append_within<B: Allocator>(&self, output: &mut Vec<u8, B>)
+        requires { length output.old.items + length self.now ≤ vec_capacity output.old }
+        ensures items { output.new.items ≡ output.old.items ++ self.now }
+        ensures capacity { vec_capacity output.old ≤ vec_capacity output.new }
+    {
+        let _has_room = output.extend_from_slice(self.octets.as_slice());
     }
 }
 

@@ -129,7 +129,7 @@ control_by (BreakCleared place) c = c
 control_by (TraceSet on) c = c
 
 -- the breakpoints with one more place, in rising order
-pub with_breakpoint : ℕ → List ℕ → List ℕ
+abbrev pub with_breakpoint : ℕ → List ℕ → List ℕ
 with_breakpoint place [] = place ∷ []
 with_breakpoint place (at ∷ ats) =
     if nat_lt place at then place ∷ at ∷ ats else at ∷ with_breakpoint place ats

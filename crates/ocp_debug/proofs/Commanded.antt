@@ -1,0 +1,27 @@
+-- What a debugger's command makes of the records.
+use Rattle.std.proofs.Common.{◌≡◌, ℕ, List, Option, Some, None, refl, ap, sym, ◌∙◌}
+use Rattle.std.specs.FinMap.{get, insert}
+use Rattle.ocp_table.specs.Records.{Rec, Records}
+use Rattle.ocp_table.specs.Effects.{Change, Changed, records_by, record_by, records_with, with_breakpoints, with_breakpoint, with_change}
+use Rattle.ocp_debug.specs.declared.command.Command.{Command}
+use Rattle.ocp_debug.specs.declared.command.Command.TheVariants.{SetBreak, ClearBreak, SetTrace}
+use Rattle.ocp_table.specs.Laws.{Run, run_of, IsDebugging}
+use Rattle.ocp_debug.specs.declared.command.DebugFault.{DebugFault}
+use Rattle.ocp_debug.specs.Commands.{change_of, effect_by}
+
+-- what is set in the record that is there is all that changes
+pub set_there : (m : Records) (id : ℕ) (r : Rec) (command : Command) (set : Rec → Rec) → get m id ≡ Some r → set r ≡ record_by (change_of command) r →
+    records_with (get m id) id set m ≡ records_by (Changed id (change_of command)) m
+set_there m id r command set here same =
+    ap (λ o. records_with o id set m) here ∙ ap (insert m id) same ∙ sym (ap (λ o. with_change o id (change_of command) m) here)
+
+is_debugging : (command : Command) → IsDebugging (change_of command)
+is_debugging (SetBreak place) = tt
+is_debugging (ClearBreak place) = tt
+is_debugging (SetTrace on) = tt
+
+-- what holds of a debugger's changes holds of its commands
+pub runs_kept : (id q : ℕ) (m : Records) → ((change : Change) → IsDebugging change → run_of (get (records_by (Changed id change) m) q) ≡ run_of (get m q)) →
+    (fault : Option DebugFault) (command : Command) → run_of (get (records_by (effect_by fault command id) m) q) ≡ run_of (get m q)
+runs_kept id q m law None command = law (change_of command) (is_debugging command)
+runs_kept id q m law (Some fault) command = refl

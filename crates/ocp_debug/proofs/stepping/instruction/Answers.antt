@@ -1,0 +1,20 @@
+use Rattle.std.proofs.Common.{◌++◌, ap, ◌∙◌}
+use Rattle.std.specs.Prelude.{option_to_list}
+use Rattle.std.specs.FinMap.{get}
+use Rattle.ocp_table.specs.Effects.{records_by, step_outcome}
+use Rattle.ocp_table.specs.RequestTable.{Step}
+use Rattle.ocp_table.specs.Deciding.{effect_in}
+use Rattle.ocp_debug.specs.Traces.{kept}
+use Rattle.ocp_debug.specs.Mirror.Tracing.{next_at, trace_after}
+use Rattle.ocp_debug.proofs.Tracing.{traced}
+use Rattle.ocp_debug.proofs.stepping.instruction.Goals as goal
+
+pub returns-clause-ring : goal.returns-clause-ring
+returns-clause-ring g c =
+    c.note.ensures
+    ∙ ap (λ made. kept (c.args.ring.now ++ made))
+    (ap option_to_list c.trace_after.ensures
+    ∙ ap (λ next. option_to_list (trace_after c.args.id next c.instruction-outcome.result (get c.instruction-outcome.new.self c.args.id))) c.next_at-next.ensures
+    ∙ ap (λ outcome. option_to_list (trace_after c.args.id (next_at (get c.args.table.now c.args.id)) outcome (get c.instruction-outcome.new.self c.args.id))) c.instruction-outcome.ensures.answer
+    ∙ ap (λ after. option_to_list (trace_after c.args.id (next_at (get c.args.table.now c.args.id)) (step_outcome (effect_in (Step c.args.pool.now) c.args.id c.args.table.now)) (get after c.args.id))) c.instruction-outcome.ensures.records
+    ∙ traced c.args.pool.now c.args.id c.args.table.now)
