@@ -1,5 +1,5 @@
 -- A machine that stands at an instruction has an outcome.
-use Rattle.std.proofs.Common.{◌≡◌, ◌<◌, ℕ, ℤ, Bool, true, false, cond, List, Option, Some, None, refl}
+use Rattle.std.proofs.Common.{◌≡◌, ◌<◌, ℕ, ℤ, Bool, true, false, cond, List, Option, Some, None, refl, sym, ap, ◌∙◌}
 use Rattle.std.specs.Prelude.{Result, Ok, Err, IsSome, IsOk}
 use Rattle.bpf_types.specs.declared.line.Line.{Line}
 use Rattle.bpf_types.specs.declared.line.Line.TheVariants as line
@@ -8,15 +8,19 @@ use Rattle.ocp_regions.specs.declared.fault.AccessFault.{AccessFault}
 use Rattle.ocp_loader.specs.LineAt.{line_of, IsPlace, IsLineAt}
 use Rattle.ocp_loader.specs.declared.program.TheConstants.{MAX_SLOTS}
 use Rattle.bpf_step.specs.declared.frame.Frame.{Frame}
-use Rattle.bpf_step.specs.Machine.{State}
+use Rattle.bpf_step.specs.declared.answer.Local.TheVariants as local
+use Rattle.bpf_step.specs.declared.answer.Need.{Need}
+use Rattle.bpf_step.specs.declared.answer.Need.TheVariants as need
+use Rattle.bpf_step.specs.Machine.{State, Outcome, Next, Needs, NoInstruction, read}
 use Rattle.bpf_step.specs.Access.{loads, stores}
 use Rattle.bpf_step.specs.Calls.{calls, exits}
-use Rattle.bpf_step.specs.Step.{step, step_of, one_step}
+use Rattle.bpf_step.specs.Step.{step, step_of, one_step, Gives}
+use Rattle.ocp_pool.specs.Call.{engine_call}
 use Rattle.ocp_table.specs.declared.answers.InstructionOutcome.{InstructionOutcome}
 use Rattle.ocp_table.specs.declared.answers.InstructionOutcome.TheVariants.{Broke}
 use Rattle.ocp_table.specs.Records.{Rec}
 use Rattle.bpf_step.specs.Runs.{breaks_at}
-use Rattle.ocp_table.specs.Deciding.{outcome_of, outcome_in}
+use Rattle.ocp_table.specs.Deciding.{outcome_of, outcome_of_call, outcome_in}
 
 module _ (m : State) (pool mailbox : List ℕ) where
   able_loads : (s : State) (dst : ℕ) (f : ℕ → ℕ) (r : Result ℕ AccessFault) → IsSome (outcome_of (loads s dst f r) m pool mailbox)
@@ -50,6 +54,15 @@ module _ (m : State) (pool mailbox : List ℕ) where
         | Some l ↦ λ here. able_step l s
         | None ↦ λ here. absurd (cc)
       ] place
+
+-- a machine that needs an engine call is as before it, and the call is its outcome
+pub needs_call : (asked : Need) (number : ℤ) (old new : State) (o : Outcome) (pool mailbox : List ℕ) → asked ≡ need.Call number → Gives (local.NeedsEngine asked) old new o →
+    outcome_of o old pool mailbox ≡ Some (outcome_of_call (engine_call number (read new 1) (read new 2) pool mailbox))
+needs_call asked number old new (Next s) pool mailbox is given = absurd given
+needs_call asked number old new NoInstruction pool mailbox is given = absurd given
+needs_call asked number old new (Needs found) pool mailbox is given =
+    ap (λ k. outcome_of (Needs k) old pool mailbox) (sym given.0 ∙ is)
+    ∙ ap (λ s. Some (outcome_of_call (engine_call number (read s 1) (read s 2) pool mailbox))) (sym given.1)
 
 -- with breakpoints or without
 pub able_in : (r : Rec) (pool : List ℕ) → IsSome (outcome_of (one_step r.image r.machine) r.machine pool r.mailbox) → IsSome (outcome_in r pool)

@@ -1,8 +1,13 @@
-use Rattle.std.proofs.Common.{◌<◌, ◌+◌, arith, subst, sym}
+use Rattle.std.proofs.Common.{◌≡◌, ◌<◌, ◌+◌, Some, arith, rules, subst, sym, ap, ◌∙◌}
 use Rattle.std.specs.Prelude.{IsOk}
 use Rattle.ocp_loader.specs.LoadResult.{load_result}
 use Rattle.ocp_loader.specs.declared.program.TheConstants.{MAX_SLOTS}
-use Rattle.ocp_table.proofs.Able.{lines_of, small_place}
+use Rattle.bpf_step.specs.Machine.{read}
+use Rattle.bpf_step.specs.Step.{one_step}
+use Rattle.ocp_pool.specs.Call.{engine_call}
+use Rattle.ocp_table.specs.Deciding.{outcome_of, outcome_of_call}
+use Rattle.ocp_table.proofs.Able.{lines_of, small_place, needs_call}
+use Rattle.ocp_table.proofs.execution.Execution.step.Goals.{in-Ok, in-Err}
 use Rattle.ocp_table.proofs.execution.Execution.step.Goals as goal
 
 pub engine_call-requires-clause-place : goal.engine_call-requires-clause-place
@@ -10,3 +15,11 @@ engine_call-requires-clause-place g c =
     let lines = lines_of (load_result c.deref.result.now) (subst (λ i. IsOk (load_result i)) (sym c.deref.ensures) c.self.invariant.admitted) in
     let next : c.local_step.new.self.place + 1 < MAX_SLOTS = small_place c.deref.result.now _ (λ l is. c.places_lead_to_places.ensures.slots _ lines.0 _ l lines.1 is) ((rw c.in-NeedsEngine-Call.field-0-is at c.in-NeedsEngine-Call.ensures.may_finish).0) in
     omega (arith, next)
+
+pub returns-after-engine_call-clause-outcome : goal.returns-after-engine_call-clause-outcome
+returns-after-engine_call-clause-outcome g c =
+    let needs = needs_call c.in-NeedsEngine-Call.field-0 c.in-NeedsEngine-Call.number c.self.inside.machine c.local_step.new.self (one_step c.deref.result.now c.self.inside.machine) c.args.pool.now c.args.mailbox.now c.in-NeedsEngine-Call.field-0-is c.in-NeedsEngine-Call.ensures.answer in
+    let image : one_step c.args.self.now.image c.args.self.now.machine ≡ one_step c.deref.result.now c.self.inside.machine = search rules in
+    let answered : Some c.match-engine_call.result ≡ Some (outcome_of_call (engine_call c.in-NeedsEngine-Call.number (read c.local_step.new.self 1) (read c.local_step.new.self 2) c.args.pool.now c.args.mailbox.now)) = search rules in
+    let there : c.args.self.now.machine ≡ c.self.inside.machine = search rules in
+    answered ∙ sym needs ∙ sym (ap (λ o. outcome_of o c.self.inside.machine c.args.pool.now c.args.mailbox.now) image) ∙ ap (λ m. outcome_of (one_step c.args.self.now.image c.args.self.now.machine) m c.args.pool.now c.args.mailbox.now) (sym there)
