@@ -1,4 +1,5 @@
 mod EmptyWords
+pub mod Hexadecimals
 pub mod NumberLists
 pub mod Numbers
 pub mod WordLemmas

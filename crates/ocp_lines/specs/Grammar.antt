@@ -1,13 +1,13 @@
 -- The lines of a console script, and what each says.
-use Rattle.std.specs.Prelude.{ℕ, ◌-◌, ◌^◌, ◌&&◌, ◌==◌, Bool, false, nat_le, nat_eq, if◌then◌else◌, List, [], ◌∷◌, length, Option, Some, None, codes}
+use Rattle.std.specs.Prelude.{ℕ, ◌-◌, ◌^◌, ◌&&◌, ◌==◌, Bool, true, false, nat_le, nat_eq, if◌then◌else◌, List, [], ◌∷◌, length, Option, Some, None, codes}
 use Rattle.std.specs.List.{starts_with}
 use Rattle.std.specs.Str.{bytes_eq}
 use Rattle.std.specs.Option.{option_map}
-use Rattle.ocp_lines.specs.Words.{Word, words_of, number_up_to, octets_up_to}
+use Rattle.ocp_lines.specs.Words.{Word, words_of, number_up_to, octets_up_to, address_in}
 use Rattle.obcp_messages.specs.declared.request.Request.{Request}
 use Rattle.obcp_messages.specs.declared.request.Request.TheVariants.{Load, Unload, Activate, Stop, Suspend, Resume, Abort, Communicate, Status}
 use Rattle.obcp_messages.specs.declared.payload.TheConstants.{MAX_ARGUMENTS_LENGTH, MAX_WORDS}
-use Rattle.ocp_lines.specs.declared.command.TheConstants.{MAX_STEPS}
+use Rattle.ocp_lines.specs.declared.command.TheConstants.{MAX_STEPS, MAX_MEMORY_LENGTH}
 use Rattle.ocp_lines.specs.declared.octets.TheConstants.{MAX_OCTETS_LENGTH}
 use Rattle.ocp_lines.specs.declared.command.Command.{Command}
 use Rattle.ocp_lines.specs.declared.command.Command.TheVariants as command
@@ -16,15 +16,22 @@ use Rattle.ocp_lines.specs.declared.command.Verb.TheVariants as verb
 
 -- ---- what a line can say
 
--- nothing, a packet's octets, a request with its acknowledgement flags, a time, some steps of a procedure, a view of one,
--- a word of the pool, the number of events
+-- nothing, a packet's octets, a request with its acknowledgement flags, a time, some steps of a
+-- procedure; of a procedure and a place that a breakpoint is set or cleared there, of a procedure
+-- whether it is traced, the trace records that are kept, a view of a procedure, so many octets of its
+-- memory from an address on; a word of the pool, the number of events
 pub data Said : Type 0 where
   Nothing : Said
   Up : List ℕ → Said
   Send : ℕ → Request → Said
   Time : ℕ → Said
   Step : ℕ → ℕ → Said
+  Break : ℕ → ℕ → Said
+  Unbreak : ℕ → ℕ → Said
+  Trace : ℕ → Bool → Said
+  Traces : Said
   View : ℕ → Said
+  Memory : ℕ → ℕ → ℕ → Said
   Pool : ℕ → Said
   Journal : Said
 
@@ -45,7 +52,12 @@ said_by (command.Up octets) = Up octets
 said_by (command.Send flags verb) = Send flags.number (request_of verb)
 said_by (command.Time time) = Time time
 said_by (command.Step id steps) = Step id steps.number
+said_by (command.Break id place) = Break id place
+said_by (command.Unbreak id place) = Unbreak id place
+said_by (command.Trace id on) = Trace id on
+said_by command.Traces = Traces
 said_by (command.View id) = View id
+said_by (command.Memory id address count) = Memory id address count.number
 said_by (command.Pool index) = Pool index
 said_by command.Journal = Journal
 
@@ -66,6 +78,13 @@ two_words f (word ∷ []) = None
 two_words f (word ∷ next ∷ []) = f word next
 two_words f (word ∷ next ∷ other ∷ words) = None
 
+abbrev pub three_words : {X : Type 0} → (Word → Word → Word → Option X) → List Word → Option X
+three_words f [] = None
+three_words f (word ∷ []) = None
+three_words f (word ∷ next ∷ []) = None
+three_words f (word ∷ next ∷ last ∷ []) = f word next last
+three_words f (word ∷ next ∷ last ∷ other ∷ words) = None
+
 -- a first word, and those behind it
 abbrev pub first_word : {X : Type 0} → (Word → List Word → Option X) → List Word → Option X
 first_word f [] = None
@@ -82,11 +101,21 @@ both None b f = None
 both (Some x) None f = None
 both (Some x) (Some y) f = Some (f x y)
 
+abbrev pub three : {X Y Z R : Type 0} → Option X → Option Y → Option Z → (X → Y → Z → R) → Option R
+three None b c f = None
+three (Some x) None c f = None
+three (Some x) (Some y) None f = None
+three (Some x) (Some y) (Some z) f = Some (f x y z)
+
 -- ---- what the words say
 
 -- an identifier, a place or a step
 abbrev pub short : Word → Option ℕ
 short word = number_up_to (2 ^ 16 - 1) word
+
+-- an identifier, and a place or a step
+abbrev pub two_shorts : List Word → Option (ℕ × ℕ)
+two_shorts words = two_words (λ id next. both (short id) (short next) (λ i n. (i, n))) words
 
 abbrev pub numbers : List Word → Option (List ℕ)
 numbers [] = Some []
@@ -109,6 +138,17 @@ from_one (Some n) = if nat_le 1 n then Some n else None
 abbrev pub steps : Word → Option ℕ
 steps word = from_one (number_up_to MAX_STEPS word)
 
+-- a number of octets, 1 to 256
+abbrev pub octet_count : Word → Option ℕ
+octet_count word = from_one (number_up_to MAX_MEMORY_LENGTH word)
+
+-- `on` or `off`
+abbrev pub switch : Word → Option Bool
+switch word =
+    if bytes_eq word (codes "on") then Some true
+    else if bytes_eq word (codes "off") then Some false
+    else None
+
 -- ---- the verbs of `send`
 
 -- `load <id> [<hex>]`
@@ -126,10 +166,6 @@ activate_in words = first_word (λ id rest.
 abbrev pub id_in : List Word → Option ℕ
 id_in words = one_word short words
 
--- the identifier and the step of `stop <id> <step>` and `suspend <id> <step>`
-abbrev pub step_in : List Word → Option (ℕ × ℕ)
-step_in words = two_words (λ id step. both (short id) (short step) (λ i s. (i, s))) words
-
 -- `communicate <id>` with 1 to 8 numbers
 abbrev pub communicate_in : List Word → Option Request
 communicate_in words =
@@ -139,8 +175,8 @@ communicate_in words =
 abbrev pub plain_verb_in : Word → List Word → Option Request
 plain_verb_in name words =
     if bytes_eq name (codes "unload") then option_map (λ id. Unload id) (id_in words)
-    else if bytes_eq name (codes "stop") then option_map (λ p. Stop p.0 p.1) (step_in words)
-    else if bytes_eq name (codes "suspend") then option_map (λ p. Suspend p.0 p.1) (step_in words)
+    else if bytes_eq name (codes "stop") then option_map (λ p. Stop p.0 p.1) (two_shorts words)
+    else if bytes_eq name (codes "suspend") then option_map (λ p. Suspend p.0 p.1) (two_shorts words)
     else if bytes_eq name (codes "resume") then option_map (λ id. Resume id) (id_in words)
     else if bytes_eq name (codes "abort") then option_map (λ id. Abort id) (id_in words)
     else if bytes_eq name (codes "communicate") then communicate_in words
@@ -177,19 +213,44 @@ count_in words = two_words (λ id count. both (short id) (steps count) (λ i n. 
 abbrev pub view_in : List Word → Option ℕ
 view_in words = one_word short words
 
+-- the identifier and the switch of `trace <id> on` and `trace <id> off`
+abbrev pub switch_in : List Word → Option (ℕ × Bool)
+switch_in words = two_words (λ id word. both (short id) (switch word) (λ i on. (i, on))) words
+
+-- `trace` alone, or with an identifier and a switch
+abbrev pub trace_in : List Word → Option Said
+trace_in [] = Some Traces
+trace_in (id ∷ words) = option_map (λ p. Trace p.0 p.1) (switch_in (id ∷ words))
+
+-- the identifier, the address and the number of `mem <id> <address> <length>`
+abbrev pub memory_in : List Word → Option (ℕ × ℕ × ℕ)
+memory_in words = three_words (λ id address count.
+    three (short id) (address_in address) (octet_count count) (λ i a n. (i, a, n))) words
+
 -- the index of `pool <index>`
 abbrev pub pool_in : List Word → Option ℕ
 pool_in words = one_word (number_up_to (2 ^ 64 - 1)) words
+
+-- the debugger's lines
+abbrev pub debugger_command_in : Word → List Word → Option Said
+debugger_command_in name words =
+    if bytes_eq name (codes "break") then option_map (λ p. Break p.0 p.1) (two_shorts words)
+    else if bytes_eq name (codes "unbreak") then
+    option_map (λ p. Unbreak p.0 p.1) (two_shorts words)
+    else if bytes_eq name (codes "trace") then trace_in words
+    else if bytes_eq name (codes "view") then option_map (λ id. View id) (view_in words)
+    else if bytes_eq name (codes "mem") then
+    option_map (λ p. Memory p.0 p.1 p.2) (memory_in words)
+    else None
 
 -- the lines without octets
 abbrev pub plain_command_in : Word → List Word → Option Said
 plain_command_in name words =
     if bytes_eq name (codes "time") then option_map (λ time. Time time) (time_in words)
     else if bytes_eq name (codes "step") then option_map (λ p. Step p.0 p.1) (count_in words)
-    else if bytes_eq name (codes "view") then option_map (λ id. View id) (view_in words)
     else if bytes_eq name (codes "pool") then option_map (λ index. Pool index) (pool_in words)
     else if bytes_eq name (codes "journal") then no_word Journal words
-    else None
+    else debugger_command_in name words
 
 abbrev pub command_in : Word → List Word → Option Said
 command_in name words =

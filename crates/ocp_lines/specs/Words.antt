@@ -1,8 +1,8 @@
 -- The words of a line.
-use Rattle.std.specs.Prelude.{ℕ, ◌+◌, ◌*◌, ◌-◌, ◌==◌, ◌&&◌, nat_le, Bool, true, false, not, if◌then◌else◌, List, [], ◌∷◌, length, Option, Some, None, filter, fold}
-use Rattle.std.specs.List.{list_all}
+use Rattle.std.specs.Prelude.{ℕ, ◌+◌, ◌*◌, ◌-◌, ◌==◌, ◌&&◌, nat_le, nat_eq, Bool, true, false, not, if◌then◌else◌, List, [], ◌∷◌, length, drop, Option, Some, None, filter, fold, codes}
+use Rattle.std.specs.List.{list_all, starts_with}
 use Rattle.std.specs.Result.{result_ok}
-use Rattle.hex.specs.Hex.{decode_of}
+use Rattle.hex.specs.Hex.{decode_of, hex_digit_value}
 
 abbrev pub Word : Type 0
 Word = List ℕ
@@ -51,3 +51,28 @@ at_most most (Some octets) = if nat_le (length octets) most then Some octets els
 -- hexadecimal digits of both cases, an even number of them: at most so many octets
 abbrev pub octets_up_to : ℕ → Word → Option (List ℕ)
 octets_up_to most word = at_most most (result_ok (decode_of word))
+
+-- the most digits of an address
+abbrev pub max_address_digits : ℕ
+max_address_digits = 16
+
+-- a number with one more hexadecimal digit behind it
+abbrev pub with_digit : Option ℕ → Option ℕ → Option ℕ
+with_digit None digit = None
+with_digit (Some value) None = None
+with_digit (Some value) (Some digit) = Some (value * 16 + digit)
+
+-- the number that hexadecimal digits of both cases say, or none where an octet is no such digit
+abbrev pub hexadecimal : List ℕ → Option ℕ
+hexadecimal digits = fold (λ value digit. with_digit value (hex_digit_value digit)) (Some 0) digits
+
+-- the number that 1 to 16 hexadecimal digits say
+abbrev pub sixteen_digits : List ℕ → Option ℕ
+sixteen_digits digits =
+    if nat_le 1 (length digits) && nat_le (length digits) max_address_digits
+    then hexadecimal digits else None
+
+-- an address: `0x` and 1 to 16 hexadecimal digits of both cases
+abbrev pub address_in : Word → Option ℕ
+address_in word =
+    if starts_with nat_eq word (codes "0x") then sixteen_digits (drop 2 word) else None

@@ -1,7 +1,7 @@
 //! What a line says.
 
 ghost use Rattle.std.specs.Prelude.{◌<◌, ◌≤◌};
-ghost use Rattle.ocp_lines.specs.declared.command.TheConstants.{MAX_STEPS};
+ghost use Rattle.ocp_lines.specs.declared.command.TheConstants.{MAX_STEPS, MAX_MEMORY_LENGTH};
 
 use crate::arguments::Arguments;
 use crate::octets::Octets;
@@ -40,6 +40,17 @@ pub struct Steps {
     pub ghost in_range: { number ≤ MAX_STEPS },
 }
 
+/// The most octets of a `mem` line.
+pub const MAX_MEMORY_LENGTH: u16 = 256;
+
+/// How many octets a `mem` line asks for.
+#[derive(Clone, Copy)]
+pub struct MemoryLength {
+    pub number: u16,
+    pub ghost some: { 1 ≤ number },
+    pub ghost in_range: { number ≤ MAX_MEMORY_LENGTH },
+}
+
 /// What a line says.
 #[derive(Drop)]
 pub enum Command<A: Allocator = Global> {
@@ -48,13 +59,42 @@ pub enum Command<A: Allocator = Global> {
     /// `up [<hex>]`: these octets reach the engine.
     Up(Octets<A>),
     /// `send <ack> <verb> ..`: a telecommand with these acknowledgement flags.
-    Send { flags: Flags, verb: Verb<A> },
+    Send {
+        flags: Flags,
+        verb: Verb<A>,
+    },
     /// `time <u32>`: the time of later requests.
     Time(u32),
     /// `step <id> <n>`: up to so many instructions of a procedure.
-    Step { id: u16, steps: Steps },
+    Step {
+        id: u16,
+        steps: Steps,
+    },
+    /// `break <id> <place>`: a breakpoint at the slot of an instruction.
+    Break {
+        id: u16,
+        place: u16,
+    },
+    /// `unbreak <id> <place>`: no breakpoint at this slot.
+    Unbreak {
+        id: u16,
+        place: u16,
+    },
+    /// `trace <id> on` and `trace <id> off`: whether each instruction leaves a trace record.
+    Trace {
+        id: u16,
+        on: bool,
+    },
+    /// `trace`: the trace records that are kept.
+    Traces,
     /// `view <id>`: a procedure's registers and status.
     View(u16),
+    /// `mem <id> <address> <length>`: so many octets of a procedure's memory.
+    Memory {
+        id: u16,
+        address: u64,
+        length: MemoryLength,
+    },
     /// `pool <index>`: a word of the pool.
     Pool(u64),
     /// `journal`: how many events there were.

@@ -3,11 +3,14 @@
 ghost use Rattle.std.specs.Prelude.{◌≡◌, length, IfOk, OnErr, IsTrue};
 ghost use Rattle.std.specs.Option.{option_map};
 ghost use Rattle.ocp_lines.specs.Words.{words_of};
-ghost use Rattle.ocp_lines.specs.Grammar.{said_by, up_in, send_in, time_in, count_in, view_in, pool_in, command_in, plain_command_in, command_of, takes_octets, send_takes_octets, command_takes_octets};
+ghost use Rattle.ocp_lines.specs.Grammar.{said_by, up_in, send_in, time_in, count_in, view_in, pool_in, switch, trace_in, memory_in, debugger_command_in, plain_command_in, command_in, command_of, takes_octets, send_takes_octets, command_takes_octets};
 
-use crate::command::{Command, Flags, MAX_STEPS, Steps};
+use crate::command::{Command, Flags, MAX_MEMORY_LENGTH, MAX_STEPS, MemoryLength, Steps};
 use crate::verbs::verb;
-use crate::words::{next_word, no_word, number, octets, one_word, short, two_words, word_or_none};
+use crate::words::{
+    address, next_word, no_word, number, octets, one_word, short, three_words, two_shorts,
+    two_words, word_or_none,
+};
 use std::alloc::{AllocError, Allocator};
 
 fn up<A: Allocator>(alloc: A, arguments: &[u8]) -> Result<Option<Command<A>>, AllocError>
@@ -78,11 +81,83 @@ fn view(arguments: &[u8]) -> Option<u16>
     short(one_word(arguments)?)
 }
 
+/// Whether a word is `on` or `off`.
+fn switch(word: &[u8]) -> Option<bool>
+    ensures { result ≡ switch word.now }
+{
+    if word == b"on".as_slice() {
+        Some(true)
+    } else if word == b"off".as_slice() {
+        Some(false)
+    } else {
+        None
+    }
+}
+
+fn trace<A: Allocator>(arguments: &[u8]) -> Option<Command<A>>
+    ensures { option_map said_by result ≡ trace_in (words_of arguments.now) }
+{
+    if no_word(arguments) {
+        return Some(Command::Traces);
+    }
+    let (id, word) = two_words(arguments)?;
+    let id = short(id)?;
+    let on = switch(word)?;
+    Some(Command::Trace { id, on })
+}
+
+/// The identifier, the address and the number of a `mem` line.
+fn memory(arguments: &[u8]) -> Option<(u16, u64, MemoryLength)>
+    ensures { option_map (λ found. (found.0, found.1, found.2.number)) result ≡
+        memory_in (words_of arguments.now) }
+{
+    let (id, place, length) = three_words(arguments)?;
+    let id = short(id)?;
+    let place = address(place)?;
+    let length = number(length, u64::from(MAX_MEMORY_LENGTH))?;
+    if length == 0 {
+        return None;
+    }
+    Some((
+        id,
+        place,
+        MemoryLength {
+            number: length as u16,
+        },
+    ))
+}
+
 /// The index of a `pool` line.
 fn pool(arguments: &[u8]) -> Option<u64>
     ensures { result ≡ pool_in (words_of arguments.now) }
 {
     number(one_word(arguments)?, u64::MAX)
+}
+
+/// The debugger's command of this name with these arguments.
+fn debugger_command<A: Allocator>(name: &[u8], arguments: &[u8]) -> Option<Command<A>>
+    ensures { option_map said_by result ≡ debugger_command_in name.now (words_of arguments.now) }
+{
+    if name == b"break".as_slice() {
+        let (id, place) = two_shorts(arguments)?;
+        Some(Command::Break { id, place })
+    } else if name == b"unbreak".as_slice() {
+        let (id, place) = two_shorts(arguments)?;
+        Some(Command::Unbreak { id, place })
+    } else if name == b"trace".as_slice() {
+        trace(arguments)
+    } else if name == b"view".as_slice() {
+        Some(Command::View(view(arguments)?))
+    } else if name == b"mem".as_slice() {
+        let (id, address, length) = memory(arguments)?;
+        Some(Command::Memory {
+            id,
+            address,
+            length,
+        })
+    } else {
+        None
+    }
 }
 
 /// The command of this name with these arguments, which are no octets.
@@ -94,14 +169,12 @@ fn plain_command<A: Allocator>(name: &[u8], arguments: &[u8]) -> Option<Command<
     } else if name == b"step".as_slice() {
         let (id, steps) = steps(arguments)?;
         Some(Command::Step { id, steps })
-    } else if name == b"view".as_slice() {
-        Some(Command::View(view(arguments)?))
     } else if name == b"pool".as_slice() {
         Some(Command::Pool(pool(arguments)?))
-    } else if name == b"journal".as_slice() && no_word(arguments) {
-        Some(Command::Journal)
+    } else if name == b"journal".as_slice() {
+        no_word(arguments).then_some(Command::Journal)
     } else {
-        None
+        debugger_command(name, arguments)
     }
 }
 

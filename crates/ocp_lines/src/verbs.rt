@@ -3,12 +3,12 @@
 ghost use Rattle.std.specs.Prelude.{◌≡◌, length, IfOk, OnErr, IsTrue};
 ghost use Rattle.std.specs.Option.{option_map};
 ghost use Rattle.ocp_lines.specs.Words.{words_of};
-ghost use Rattle.ocp_lines.specs.Grammar.{request_of, parameters_in, load_in, activate_in, communicate_in, id_in, step_in, plain_verb_in, verb_in, verb_takes_octets};
+ghost use Rattle.ocp_lines.specs.Grammar.{request_of, parameters_in, load_in, activate_in, communicate_in, id_in, plain_verb_in, verb_in, verb_takes_octets};
 
 use crate::command::Verb;
 use crate::parameters::Parameters;
 use crate::words::{
-    argument_octets, next_word, no_word, number, octets, one_word, short, two_words, word_or_none,
+    argument_octets, next_word, no_word, number, octets, one_word, short, two_shorts, word_or_none,
 };
 use arrayvec::ArrayVec;
 use std::alloc::{AllocError, Allocator};
@@ -80,16 +80,6 @@ fn alone(arguments: &[u8]) -> Option<u16>
     short(one_word(arguments)?)
 }
 
-/// The identifier and the step of a verb that has both.
-fn with_step(arguments: &[u8]) -> Option<(u16, u16)>
-    ensures { result ≡ step_in (words_of arguments.now) }
-{
-    let (id, step) = two_words(arguments)?;
-    let id = short(id)?;
-    let step = short(step)?;
-    Some((id, step))
-}
-
 /// The verb of this name with these arguments.
 pub(crate) fn verb<A: Allocator>(
     alloc: A,
@@ -119,10 +109,10 @@ fn plain_verb<A: Allocator>(name: &[u8], arguments: &[u8]) -> Option<Verb<A>>
             id: alone(arguments)?,
         })
     } else if name == b"stop".as_slice() {
-        let (id, step) = with_step(arguments)?;
+        let (id, step) = two_shorts(arguments)?;
         Some(Verb::Stop { id, step })
     } else if name == b"suspend".as_slice() {
-        let (id, step) = with_step(arguments)?;
+        let (id, step) = two_shorts(arguments)?;
         Some(Verb::Suspend { id, step })
     } else if name == b"resume".as_slice() {
         Some(Verb::Resume {

@@ -2,7 +2,9 @@
 
 ghost use Rattle.std.specs.Prelude.{◌≡◌, ◌<◌, ◌≤◌, ◌^◌, ◌-◌, ◌∷◌, [], length, true, false, take, drop, slice_index, IfOk, OnErr, IfSome, IfNone, MatchOption, IsTrue, ◌↔◌, ◌≢◌, ◌⊎◌};
 ghost use Rattle.std.specs.List.{list_all};
-ghost use Rattle.ocp_lines.specs.Words.{words_of, is_solid, number_up_to, octets_up_to, value_of};
+ghost use Rattle.hex.specs.Hex.{hex_digit_value};
+ghost use Rattle.ocp_lines.specs.Words.{words_of, is_solid, number_up_to, octets_up_to, value_of, max_address_digits, hexadecimal, address_in};
+ghost use Rattle.ocp_lines.specs.Grammar.{two_shorts};
 ghost use Rattle.ocp_lines.specs.declared.octets.TheConstants.{MAX_OCTETS_LENGTH};
 ghost use Rattle.obcp_messages.specs.declared.payload.TheConstants.{MAX_ARGUMENTS_LENGTH};
 
@@ -10,6 +12,9 @@ use crate::arguments::Arguments;
 use crate::octets::Octets;
 use hex::FromHexError;
 use std::alloc::{AllocError, Allocator};
+
+/// The most hexadecimal digits of an address.
+const MAX_ADDRESS_DIGITS: usize = 16;
 
 /// How many octets stand before the first space.
 fn word_length(text: &[u8]) -> usize
@@ -67,6 +72,17 @@ pub(crate) fn two_words(text: &[u8]) -> Option<(&[u8], &[u8])>
     Some((word, next))
 }
 
+/// The three words of a text.
+pub(crate) fn three_words(text: &[u8]) -> Option<(&[u8], &[u8], &[u8])>
+    ensures some { IfSome result
+        (λ found. words_of text.now ≡ found.0.now ∷ found.1.now ∷ found.2.now ∷ []) }
+    ensures none { IfNone result (length (words_of text.now) ≢ 3) }
+{
+    let (word, rest) = next_word(text)?;
+    let (next, last) = two_words(rest)?;
+    Some((word, next, last))
+}
+
 /// The one word of a text, or the empty word where there is none.
 pub(crate) fn word_or_none(text: &[u8]) -> Option<&[u8]>
     ensures some { IfSome result (λ word. (words_of text.now ≡ word.now ∷ [])
@@ -107,6 +123,51 @@ pub(crate) fn short(word: &[u8]) -> Option<u16>
 {
     let value = number(word, u64::from(u16::MAX))?;
     Some(value as u16)
+}
+
+/// The numbers that two words say, if each has at most 16 bits.
+pub(crate) fn two_shorts(text: &[u8]) -> Option<(u16, u16)>
+    ensures { result ≡ two_shorts (words_of text.now) }
+{
+    let (word, next) = two_words(text)?;
+    let value = short(word)?;
+    Some((value, short(next)?))
+}
+
+/// What a hexadecimal digit is worth, in either case.
+fn digit(octet: u8) -> Option<u8>
+    ensures value { result ≡ hex_digit_value octet }
+    ensures bound { IfSome result (λ digit. digit < 16) }
+{
+    match octet {
+        b'0'..=b'9' => Some(octet - b'0'),
+        b'a'..=b'f' => Some(octet - b'a' + 10),
+        b'A'..=b'F' => Some(octet - b'A' + 10),
+        _ => None,
+    }
+}
+
+/// The number that hexadecimal digits say.
+fn hexadecimal(digits: &[u8]) -> Option<u64>
+    requires { length digits.now ≤ max_address_digits }
+    ensures { result ≡ hexadecimal digits.now }
+{
+    let mut value = 0u64;
+    for octet in digits {
+        value = value * 16 + u64::from(digit(*octet)?);
+    }
+    Some(value)
+}
+
+/// The address that a word says: `0x` and 1 to 16 hexadecimal digits.
+pub(crate) fn address(word: &[u8]) -> Option<u64>
+    ensures { result ≡ address_in word.now }
+{
+    let digits = word.strip_prefix(b"0x".as_slice())?;
+    if digits.is_empty() || digits.len() > MAX_ADDRESS_DIGITS {
+        return None;
+    }
+    hexadecimal(digits)
 }
 
 /// The octets that a hexadecimal word says, if they are at most 65,525.
