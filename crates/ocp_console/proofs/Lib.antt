@@ -1,6 +1,5 @@
 pub mod Cutting
 pub mod Runs
 pub mod Scripts
-pub mod TextLemmas
 pub mod Requests
 pub mod Taking

@@ -1,5 +1,5 @@
 -- What a line does, and what it prints.
-use Rattle.std.specs.Prelude.{ℕ, ◌+◌, ◌%◌, List, [], length, Option, Some, None, Ok, Err, codes, slice_get}
+use Rattle.std.specs.Prelude.{ℕ, ◌+◌, ◌%◌, List, [], length, Option, Some, None, Result, Ok, Err, codes, slice_get}
 use Rattle.std.specs.List.{flat_map}
 use Rattle.std.specs.FinMap.{get}
 use Rattle.space_packet.specs.declared.range.TheConstants.{SEQUENCE_COUNTS}
@@ -8,18 +8,25 @@ use Rattle.pus_fields.specs.Telecommand.{telecommand_octets}
 use Rattle.obcp_messages.specs.declared.request.Request.{Request}
 use Rattle.obcp_messages.specs.Request.{subtype_of, request_data}
 use Rattle.ocp_table.specs.Shown.{view_at}
+use Rattle.ocp_debug.specs.declared.command.Command.{Command}
+use Rattle.ocp_debug.specs.declared.command.Command.TheVariants.{SetBreak, ClearBreak, SetTrace}
+use Rattle.ocp_debug.specs.declared.command.DebugFault.{DebugFault}
+use Rattle.ocp_debug.specs.Memory.{memory_at}
+use Rattle.ocp_debug.specs.Traces.{kept}
+use Rattle.ocp_debug.specs.Texts.{view_lines, trace_line}
 use Rattle.ocp_world.specs.declared.answers.EngineFault.TheVariants as fault
-use Rattle.ocp_world.specs.After.{Answer, Requested, Stepped}
+use Rattle.ocp_world.specs.After.{Answer, Requested, Stepped, Commanded}
 use Rattle.ocp_world.specs.World as event
 use Rattle.ocp_core.specs.Log.{Log, empty_log, expand, world_of, answer_in, log_after}
 use Rattle.ocp_core.specs.Slice.{slice_in, slice_log}
-use Rattle.ocp_lines.specs.Grammar.{Said, Nothing, Up, Send, Time, Step, View, Pool, Journal, command_of}
+use Rattle.ocp_lines.specs.Grammar.{Said, Nothing, Up, Send, Time, Step, Break, Unbreak, Trace, Traces, View, Memory, Pool, Journal, command_of}
 use Rattle.ocp_words.specs.declared.job.Settings.{Settings}
 use Rattle.ocp_console.specs.declared.console.Console.{Console}
-use Rattle.ocp_console.specs.Texts.{report_line, discard_line, step_line, view_lines, pool_line, journal_line}
+use Rattle.ocp_console.specs.Texts.{report_line, discard_line, step_line, break_line, unbreak_line, switch_line, memory_line, pool_line, journal_line}
 
--- What a console keeps from line to line: the engine, which is its journal; the application process identifier of the ground's
--- telecommands; the time of the next requests; the ground count, which is the sequence count of the next telecommand.
+-- What a console keeps from line to line: the engine, which is its journal; the application process
+-- identifier of the ground's telecommands; the time of the next requests; the ground count, which is
+-- the sequence count of the next telecommand.
 pub record State : Type 0 where
   pub engine : Log
   pub apid : ℕ
@@ -47,6 +54,7 @@ answer_text (Requested (Err (fault.Discarded why))) = discard_line why
 answer_text (Requested (Err fault.JournalFull)) = codes "refused JournalFull\n"
 answer_text (Requested (Err fault.Memory)) = []
 answer_text (Stepped outcome) = []
+answer_text (Commanded result) = []
 
 -- the event that these octets reach the engine, by the console's seat 0
 abbrev pub arrival : State → List ℕ → event.Event
@@ -57,6 +65,7 @@ abbrev pub log_by_answer : Answer → Log → Log → Log
 log_by_answer (Requested (Ok reports)) old new = new
 log_by_answer (Requested (Err fault)) old new = old
 log_by_answer (Stepped outcome) old new = old
+log_by_answer (Commanded result) old new = old
 
 -- these octets reach the engine
 abbrev pub on_octets : State → List ℕ → State × List ℕ
@@ -83,14 +92,47 @@ with_next_count state = record state { count = (state.count + 1) % SEQUENCE_COUN
 
 -- a telecommand of this request reaches the engine
 abbrev pub on_request : State → ℕ → Request → State × List ℕ
-on_request state ack request = on_octets (with_next_count state) (telecommand state.apid state.count ack request)
+on_request state ack request =
+    on_octets (with_next_count state) (telecommand state.apid state.count ack request)
+
+-- ---- the debugger
+
+-- what is printed of a command: the line of its result
+abbrev pub command_text : (Result (Unit {0}) DebugFault → List ℕ) → Answer → List ℕ
+command_text line (Commanded result) = line result
+command_text line (Requested result) = []
+command_text line (Stepped outcome) = []
+
+-- a command to a procedure, by the console's seat 0, with the line of its result
+abbrev pub on_debug :
+    State → ℕ → Command → (Result (Unit {0}) DebugFault → List ℕ) → State × List ℕ
+on_debug state id command line =
+    let event = event.Debug 0 id command in (
+      record state { engine = log_after state.engine event },
+      command_text line (answer_in state.engine event),
+    )
+
+-- the lines of the trace records that are kept, the oldest first
+abbrev pub trace_lines : State → List ℕ
+trace_lines state = flat_map trace_line (kept (world_of state.engine).traces)
+
+-- the lines of a procedure
+abbrev pub view_text : State → ℕ → List ℕ
+view_text state id = view_lines id (view_at (get (world_of state.engine).records id))
+
+-- the line of so many octets of a procedure's memory
+abbrev pub memory_text : State → ℕ → ℕ → ℕ → List ℕ
+memory_text state id address count =
+    memory_line id address (memory_at (get (world_of state.engine).records id) address count)
 
 -- ---- the other lines
 
 abbrev pub on_steps : State → ℕ → ℕ → State × List ℕ
 on_steps state id budget =
-    let slice = slice_in state.engine 0 id budget in
-    (record state { engine = slice_log state.engine 0 id budget }, step_line id slice.count slice.last)
+    let slice = slice_in state.engine 0 id budget in (
+      record state { engine = slice_log state.engine 0 id budget },
+      step_line id slice.count slice.last,
+    )
 
 -- ---- each line
 
@@ -101,7 +143,12 @@ on_command state (Up octets) = on_octets state octets
 on_command state (Send ack request) = on_request state ack request
 on_command state (Time time) = (record state { time = time }, [])
 on_command state (Step id budget) = on_steps state id budget
-on_command state (View id) = (state, view_lines id (view_at (get (world_of state.engine).records id)))
+on_command state (Break id place) = on_debug state id (SetBreak place) (break_line id place)
+on_command state (Unbreak id place) = on_debug state id (ClearBreak place) (unbreak_line id place)
+on_command state (Trace id on) = on_debug state id (SetTrace on) (switch_line id on)
+on_command state Traces = (state, trace_lines state)
+on_command state (View id) = (state, view_text state id)
+on_command state (Memory id address count) = (state, memory_text state id address count)
 on_command state (Pool index) = (state, pool_line index (slice_get (world_of state.engine).pool index))
 on_command state Journal = (state, journal_line (length (expand state.engine.entries)))
 

@@ -1,6 +1,6 @@
 //! What a line does, and what it prints.
 
-ghost use Rattle.std.specs.Prelude.{◌≡◌, IfOk, MatchOption, Some, None, string_bytes};
+ghost use Rattle.std.specs.Prelude.{◌≡◌, IfOk, MatchOption, Some, None};
 ghost use Rattle.ocp_console.specs.Answering.{state_of, respond};
 
 use crate::console::Console;
@@ -13,11 +13,11 @@ pub(crate) fn answer<A: Allocator + Copy>(
     alloc: A,
     console: &mut Console<A>,
     line: &[u8],
-) -> Result<Option<String<A>>, AllocError>
+) -> Result<Option<Vec<u8, A>>, AllocError>
     ensures { IfOk result
         (λ printed. MatchOption printed (respond (state_of console.old) line.now ≡ None)
-        (λ text. respond (state_of console.old) line.now ≡
-        Some (state_of console.new, string_bytes text))) }
+        (λ output. respond (state_of console.old) line.now ≡
+        Some (state_of console.new, output.items))) }
 {
     match read_command(alloc, line)? {
         None => Ok(None),

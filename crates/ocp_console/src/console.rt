@@ -1,15 +1,17 @@
 //! What a console keeps from line to line, and what each line does to it.
 
-ghost use Rattle.std.specs.Prelude.{◌≡◌, ◌<◌, ◌≤◌, length, IfOk, string_bytes};
+ghost use Rattle.std.specs.Prelude.{◌≡◌, ◌<◌, ◌≤◌, length, IfOk};
 ghost use Rattle.space_packet.specs.declared.range.TheConstants.{IDLE_APID};
 ghost use Rattle.pus_fields.specs.declared.writing.TheConstants.{MAX_TELECOMMAND_DATA};
 ghost use Rattle.obcp_messages.specs.Request.{request_data};
 
+use crate::debugging::{break_text, no_octets_text, octets_text, switch_text, unbreak_text};
 use crate::sending::telecommand;
-use crate::texts::{discard_text, journal_text, pool_text, reports_text, step_text, view_text};
+use crate::texts::{discard_text, journal_text, pool_text, refusal_text, reports_text, step_text};
 use obcp_messages::{Arguments, Code, Request, Words};
 use ocp_core::{Engine, EngineFault};
-use ocp_lines::{Command, Flags, Verb};
+use ocp_debug::view_text;
+use ocp_lines::{Command, Flags, MAX_MEMORY_LENGTH, MemoryLength, Verb};
 use ocp_words::Settings;
 use space_packet::{Apid, SequenceCount};
 use std::alloc::{AllocError, Allocator};
@@ -29,7 +31,7 @@ pub(crate) struct Console<A: Allocator> {
 
 impl<A: Allocator + Copy> Console<A> {
     ghost use Rattle.ocp_lines.specs.Grammar.{said_by, request_of};
-    ghost use Rattle.ocp_console.specs.Answering.{state_of, opening, on_octets, on_request, on_command};
+    ghost use Rattle.ocp_console.specs.Answering.{state_of, opening, on_octets, on_request, trace_lines, view_text, memory_text, on_command};
 
     /// A console on a new engine.
     pub fn new(alloc: A, settings: Settings) -> Result<Console<A>, AllocError>
@@ -45,24 +47,24 @@ impl<A: Allocator + Copy> Console<A> {
     }
 
     /// These octets reach the engine.
-    fn receive(&mut self, alloc: A, octets: &[u8]) -> Result<String<A>, AllocError>
+    fn receive(&mut self, alloc: A, octets: &[u8]) -> Result<Vec<u8, A>, AllocError>
         ensures { IfOk result
-            (λ text. (state_of self.new, string_bytes text) ≡
+            (λ output. (state_of self.new, output.items) ≡
             on_octets (state_of self.old) octets.now) }
     {
         match self.engine.request(alloc, 0, self.time, octets) {
             Ok(reports) => reports_text(alloc, &reports),
             Err(EngineFault::Discarded(why)) => discard_text(alloc, why),
-            Err(EngineFault::JournalFull) => String::from_str(alloc, "refused JournalFull\n"),
+            Err(EngineFault::JournalFull) => refusal_text(alloc),
             Err(EngineFault::Memory) => Err(AllocError),
         }
     }
 
     /// A telecommand of this request reaches the engine.
-    fn ask(&mut self, alloc: A, flags: Flags, request: &Request) -> Result<String<A>, AllocError>
+    fn ask(&mut self, alloc: A, flags: Flags, request: &Request) -> Result<Vec<u8, A>, AllocError>
         requires { length (request_data request.now) ≤ MAX_TELECOMMAND_DATA }
         ensures { IfOk result
-            (λ text. (state_of self.new, string_bytes text) ≡
+            (λ output. (state_of self.new, output.items) ≡
             on_request (state_of self.old) flags.number request.now) }
     {
         let packet = telecommand(alloc, self.apid, self.count, flags, request)?;
@@ -71,9 +73,9 @@ impl<A: Allocator + Copy> Console<A> {
     }
 
     /// What a `send` line does.
-    fn send(&mut self, alloc: A, flags: Flags, verb: Verb<A>) -> Result<String<A>, AllocError>
+    fn send(&mut self, alloc: A, flags: Flags, verb: Verb<A>) -> Result<Vec<u8, A>, AllocError>
         ensures { IfOk result
-            (λ text. (state_of self.new, string_bytes text) ≡
+            (λ output. (state_of self.new, output.items) ≡
             on_request (state_of self.old) flags.number (request_of verb)) }
     {
         match verb {
@@ -98,25 +100,80 @@ impl<A: Allocator + Copy> Console<A> {
         }
     }
 
+    /// What a `trace` line prints.
+    fn traces(&self, alloc: A) -> Result<Vec<u8, A>, AllocError>
+        ensures { IfOk result (λ output. output.items ≡ trace_lines (state_of self.now)) }
+    {
+        let mut output = Vec::new(alloc);
+        self.engine.trace_lines(&mut output)?;
+        Ok(output)
+    }
+
+    /// What a `view` line prints.
+    fn view(&self, alloc: A, id: u16) -> Result<Vec<u8, A>, AllocError>
+        ensures { IfOk result (λ output. output.items ≡ view_text (state_of self.now) id) }
+    {
+        let mut output = Vec::new(alloc);
+        view_text(id, self.engine.view(id), &mut output)?;
+        Ok(output)
+    }
+
+    /// What a `mem` line prints.
+    fn memory(
+        &self,
+        alloc: A,
+        id: u16,
+        address: u64,
+        length: MemoryLength,
+    ) -> Result<Vec<u8, A>, AllocError>
+        ensures { IfOk result (λ output. output.items ≡
+            memory_text (state_of self.now) id address length.number) }
+    {
+        let mut room = [0; MAX_MEMORY_LENGTH as usize];
+        let octets = &mut room[..usize::from(length.number)];
+        match self.engine.memory(id, address, octets) {
+            Ok(()) => octets_text(alloc, id, address, octets),
+            Err(fault) => no_octets_text(alloc, id, address, fault),
+        }
+    }
+
     /// Does what a line says, and gives what it prints.
-    pub fn obey(&mut self, alloc: A, command: Command<A>) -> Result<String<A>, AllocError>
+    pub fn obey(&mut self, alloc: A, command: Command<A>) -> Result<Vec<u8, A>, AllocError>
         ensures { IfOk result
-            (λ text. (state_of self.new, string_bytes text) ≡
+            (λ output. (state_of self.new, output.items) ≡
             on_command (state_of self.old) (said_by command)) }
     {
         match command {
-            Command::Nothing => Ok(String::new(alloc)),
+            Command::Nothing => Ok(Vec::new(alloc)),
             Command::Up(octets) => self.receive(alloc, octets.as_slice()),
             Command::Send { flags, verb } => self.send(alloc, flags, verb),
             Command::Time(time) => {
                 self.time = time;
-                Ok(String::new(alloc))
+                Ok(Vec::new(alloc))
             }
             Command::Step { id, steps } => {
                 let slice = self.engine.slice(0, id, steps.number);
                 step_text(alloc, id, slice)
             }
-            Command::View(id) => view_text(alloc, id, self.engine.view(id)),
+            Command::Break { id, place } => {
+                let answer = self.engine.set_break(0, id, place);
+                break_text(alloc, id, place, answer)
+            }
+            Command::Unbreak { id, place } => {
+                let answer = self.engine.clear_break(0, id, place);
+                unbreak_text(alloc, id, place, answer)
+            }
+            Command::Trace { id, on } => {
+                let answer = self.engine.trace(0, id, on);
+                switch_text(alloc, id, on, answer)
+            }
+            Command::Traces => self.traces(alloc),
+            Command::View(id) => self.view(alloc, id),
+            Command::Memory {
+                id,
+                address,
+                length,
+            } => self.memory(alloc, id, address, length),
             Command::Pool(index) => pool_text(alloc, index, self.engine.pool_word(index)),
             Command::Journal => journal_text(alloc, self.engine.events()),
         }

@@ -4,6 +4,7 @@
 
 mod answering;
 mod console;
+mod debugging;
 pub mod laws;
 mod script;
 mod sending;

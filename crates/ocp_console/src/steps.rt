@@ -73,7 +73,7 @@ fn line_answer<W: Sink, A: Allocator + Copy>(
             "Syntax",
             ConsoleFault::Syntax(before + 1),
         )),
-        Some(printed) => write_whole(writer, printed.as_bytes()),
+        Some(printed) => write_whole(writer, printed.as_slice()),
     }
 }
 

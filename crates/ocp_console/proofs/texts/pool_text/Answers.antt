@@ -6,4 +6,4 @@ use Rattle.ocp_console.proofs.texts.pool_text.Goals as goal
 pub returns : goal.returns
 returns g c =
     let text : string_bytes c.in_ok-text.text ≡ pool_line c.args.index (Some c.in-Some.word) = c.in_ok-text.ensures.ok ∙ rw (c.in_ok-digits.ensures, c.to_be_bytes.ensures) (simp append_assoc) in
-    text ∙ ap (pool_line c.args.index) (sym c.in-Some.is)
+    ap (λ v. v.items) c.into_bytes-2.ensures.value ∙ text ∙ ap (pool_line c.args.index) (sym c.in-Some.is)
