@@ -1,5 +1,5 @@
 use Rattle.std.proofs.Common.{◌≡◌, ℕ, List, Ok, Err, Result, refl, ap}
-use Rattle.std.specs.Prelude.{All, IsOk}
+use Rattle.std.specs.Prelude.{IsOk}
 use Rattle.pus_fields.specs.Telemetry.{Telemetry}
 use Rattle.pus_fields.specs.TelemetryFaults.{telemetry_of}
 use Rattle.pus_fields.specs.declared.fault.TmFault.{TmFault}
