@@ -19,7 +19,8 @@ use Rattle.bpf_assembler.specs.declared.fault.Why.TheVariants as why
 abbrev pub HasFault : List Written → List ℕ → Why → Type 0
 HasFault before line why.Syntax = (w : Written) → ¬ Writes line w
 HasFault before line why.Range = (w : Written) × Writes line w × ¬ InRange w.body
-HasFault before line why.DuplicateLabel = (w : Written) × Writes line w × InRange w.body × ¬ IsNew w.label before
+HasFault before line why.DuplicateLabel =
+    (w : Written) × Writes line w × InRange w.body × ¬ IsNew w.label before
 HasFault before line why.UnknownLabel = ⊥
 HasFault before line (why.Load fault) = ⊥
 
@@ -40,11 +41,13 @@ pub record HasLineFault (text : List ℕ) (number : ℕ) (y : Why) : Type 0 wher
 -- the instruction names a label that is none, or one that is too far
 abbrev pub MissesLabel : List Written → ℕ → Line → Option (List ℕ) → Why → Type 0
 MissesLabel all place given (Some name) why.UnknownLabel = label_place name 0 all ≡ None
-MissesLabel all place given (Some name) why.Range = (to : ℕ) × (label_place name 0 all ≡ Some to) × ¬ IsLine (with_target given place to)
+MissesLabel all place given (Some name) why.Range =
+    (to : ℕ) × (label_place name 0 all ≡ Some to) × ¬ IsLine (with_target given place to)
 MissesLabel all place given name y = ⊥
 
 -- the first of these instructions that misses its label is of the line of this number
-pub record IsFirstMiss (all : List Written) (entries : List Entry) (number : ℕ) (y : Why) : Type 0 where
+pub record IsFirstMiss (all : List Written) (entries : List Entry) (number : ℕ)
+    (y : Why) : Type 0 where
   pub before : List Entry
   pub entry : Entry
   pub after : List Entry
@@ -61,7 +64,8 @@ pub record HasNameFault (text : List ℕ) (number : ℕ) (y : Why) : Type 0 wher
 
 -- ---- faults of the image, where the text means instructions
 
--- the line of this number has the last of these instructions whose place is no greater than the slot
+-- the line of this number has the last of these instructions whose place is no greater than the
+-- slot
 pub record IsLineOfSlot (entries : List Entry) (slot number : ℕ) : Type 0 where
   pub before : List Entry
   pub entry : Entry
@@ -91,7 +95,8 @@ IsLoadFault text number y = ⊥
 
 -- ---- the fault of a text
 
--- The first line that has a fault by itself and by the labels before it; where no line has one, the first instruction that
--- misses its label; where none does, the fault of the image.
+-- The first line that has a fault by itself and by the labels before it; where no line has one, the
+-- first instruction that misses its label; where none does, the fault of the image.
 abbrev pub IsFault : List ℕ → ℕ → Why → Type 0
-IsFault text number y = HasLineFault text number y ⊎ HasNameFault text number y ⊎ IsLoadFault text number y
+IsFault text number y =
+    HasLineFault text number y ⊎ HasNameFault text number y ⊎ IsLoadFault text number y

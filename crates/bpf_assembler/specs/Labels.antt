@@ -16,8 +16,9 @@ abbrev pub statements : List Written → List Statement
 statements [] = []
 statements (w ∷ ws) = and_then w.body (statements ws)
 
--- The name is the label of one of these lines, and its place in the image is the number of slots of the instructions that
--- are written before it: so it is that of the next instruction, or at the end of the text the slot after the last one.
+-- The name is the label of one of these lines, and its place in the image is the number of slots of
+-- the instructions that are written before it: so it is that of the next instruction, or at the end
+-- of the text the slot after the last one.
 pub record IsLabelAt (name : List ℕ) (ws : List Written) (ls : List Line) (place : ℕ) : Type 0 where
   pub before : List Written
   pub line : Written
@@ -26,7 +27,10 @@ pub record IsLabelAt (name : List ℕ) (ws : List Written) (ls : List Line) (pla
   pub label : line.label ≡ Some name
   pub slots : place ≡ place_of (take (length (statements before)) ls)
 
--- the instruction at a slot of the image is as it is written; or it has the distance that leads to the label it names
+-- the instruction at a slot of the image is as it is written; or it has the distance that leads to
+-- the label it names
 abbrev pub IsMeantBy : List Written → List Line → ℕ → Line → Option (List ℕ) → Line → Type 0
 IsMeantBy ws ls slot given None l = l ≡ given
-IsMeantBy ws ls slot given (Some name) l = (to : ℕ) × IsLabelAt name ws ls to × (l ≡ with_distance given (pos to -ℤ pos (slot + 1))) × (target_of slot l ≡ Some (pos to))
+IsMeantBy ws ls slot given (Some name) l =
+    (to : ℕ) × IsLabelAt name ws ls to × (l ≡ with_distance given (pos to -ℤ pos (slot + 1)))
+    × (target_of slot l ≡ Some (pos to))

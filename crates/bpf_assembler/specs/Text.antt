@@ -28,10 +28,12 @@ abbrev pub has_label : List ℕ → Option (List ℕ) → Bool
 has_label name None = false
 has_label name (Some label) = bytes_eq label name
 
--- the place of the name's label in these lines, of which the first begins at this place: that of the next instruction
+-- the place of the name's label in these lines, of which the first begins at this place: that of
+-- the next instruction
 abbrev pub label_place : List ℕ → ℕ → List Written → Option ℕ
 label_place name place [] = None
-label_place name place (w ∷ ws) = if has_label name w.label then Some place else label_place name (place + slots w.body) ws
+label_place name place (w ∷ ws) =
+    if has_label name w.label then Some place else label_place name (place + slots w.body) ws
 
 -- the slot after these lines, of which the first begins at this place
 abbrev pub end_of : ℕ → List Written → ℕ
@@ -63,31 +65,36 @@ entry_of number place (Some s) = record { number = number; place = place; statem
 -- the instructions of these lines, of which the first has this number and begins at this place
 abbrev pub entries_of : ℕ → ℕ → List Written → List Entry
 entries_of number place [] = []
-entries_of number place (w ∷ ws) = entry_of number place w.body ++ entries_of (number + 1) (place + slots w.body) ws
+entries_of number place (w ∷ ws) =
+    entry_of number place w.body ++ entries_of (number + 1) (place + slots w.body) ws
 
 -- the jump or the local call, with this distance
 abbrev pub with_distance : Line → ℤ → Line
 with_distance (line.Jump old) distance = line.Jump distance
 with_distance (line.LongJump old) distance = line.LongJump distance
-with_distance (line.JumpIf width comparison dst operand old) distance = line.JumpIf width comparison dst operand distance
+with_distance (line.JumpIf width comparison dst operand old) distance =
+    line.JumpIf width comparison dst operand distance
 with_distance (line.CallLocal old) distance = line.CallLocal distance
 with_distance l distance = l
 
--- the jump or the local call at a place, going to another place: distances count from the next slot (RFC 9669, section 4.3)
+-- the jump or the local call at a place, going to another place: distances count from the next slot
+-- (RFC 9669, section 4.3)
 abbrev pub with_target : Line → ℕ → ℕ → Line
 with_target l place to = with_distance l (pos to -ℤ pos (place + 1))
 
--- the instruction at a place is the line: as it is written, or going to the place of the label that it names, where
--- its distance is in range
+-- the instruction at a place is the line: as it is written, or going to the place of the label that
+-- it names, where its distance is in range
 abbrev pub IsInstruction : List Written → ℕ → Line → Option (List ℕ) → Line → Type 0
 IsInstruction all place given None l = l ≡ given
-IsInstruction all place given (Some name) l = (to : ℕ) × (label_place name 0 all ≡ Some to) × IsLine l × (l ≡ with_target given place to)
+IsInstruction all place given (Some name) l =
+    (to : ℕ) × (label_place name 0 all ≡ Some to) × IsLine l × (l ≡ with_target given place to)
 
 abbrev pub AreInstructions : List Written → List Entry → List Line → Type 0
 AreInstructions all [] [] = Unit {0}
 AreInstructions all [] (l ∷ ls) = ⊥
 AreInstructions all (e ∷ es) [] = ⊥
-AreInstructions all (e ∷ es) (l ∷ ls) = IsInstruction all e.place e.statement.line e.statement.name l × AreInstructions all es ls
+AreInstructions all (e ∷ es) (l ∷ ls) =
+    IsInstruction all e.place e.statement.line e.statement.name l × AreInstructions all es ls
 
 -- the lines of the text are written so, and no label stands twice
 pub record IsWritten (text : List ℕ) (ws : List Written) : Type 0 where

@@ -7,8 +7,8 @@ use Rattle.bpf_decode.specs.declared.fault.DecodeFault.{DecodeFault}
 use Rattle.bpf_decode.specs.declared.fault.DecodeFault.TheVariants as fault
 use Rattle.bpf_decode.specs.Decoding.{BeginsWith, HasBadRegister}
 
--- what each fault says, whatever else holds: a wide load with no second slot, an opcode of no row, a register over 10,
--- octets that spell no instruction, an instruction that writes R10
+-- what each fault says, whatever else holds: a wide load with no second slot, an opcode of no row,
+-- a register over 10, octets that spell no instruction, an instruction that writes R10
 abbrev pub Has : DecodeFault → List ℕ → Type 0
 Has fault.CutWide octets = (slice_index octets 0 ≡ 0x18) × (length octets < 16)
 Has fault.UnknownOpcode octets = (l : Line) → (first_slot l).opcode ≢ slice_index octets 0
@@ -20,9 +20,14 @@ Has fault.WritesFramePointer octets = (l : Line) × BeginsWith octets l × Write
 abbrev pub IsFirst : DecodeFault → List ℕ → Type 0
 IsFirst fault.CutWide octets = Has fault.CutWide octets
 IsFirst fault.UnknownOpcode octets = ¬ Has fault.CutWide octets × Has fault.UnknownOpcode octets
-IsFirst fault.BadRegister octets = ¬ Has fault.CutWide octets × ¬ Has fault.UnknownOpcode octets × Has fault.BadRegister octets
-IsFirst fault.ReservedField octets = ¬ Has fault.CutWide octets × ¬ Has fault.UnknownOpcode octets × ¬ Has fault.BadRegister octets × Has fault.ReservedField octets
-IsFirst fault.WritesFramePointer octets = ¬ Has fault.CutWide octets × ¬ Has fault.UnknownOpcode octets × ¬ Has fault.BadRegister octets × ¬ Has fault.ReservedField octets × Has fault.WritesFramePointer octets
+IsFirst fault.BadRegister octets =
+    ¬ Has fault.CutWide octets × ¬ Has fault.UnknownOpcode octets × Has fault.BadRegister octets
+IsFirst fault.ReservedField octets =
+    ¬ Has fault.CutWide octets × ¬ Has fault.UnknownOpcode octets × ¬ Has fault.BadRegister octets
+    × Has fault.ReservedField octets
+IsFirst fault.WritesFramePointer octets =
+    ¬ Has fault.CutWide octets × ¬ Has fault.UnknownOpcode octets × ¬ Has fault.BadRegister octets
+    × ¬ Has fault.ReservedField octets × Has fault.WritesFramePointer octets
 
 -- the numbers are octets
 abbrev pub AreOctets : List ℕ → Type 0

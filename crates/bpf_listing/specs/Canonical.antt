@@ -1,5 +1,5 @@
--- The canonical text of an instruction, without a newline: its mnemonic, which ends in 32 or 64 where the instruction
--- has a class, one space, and its operands, parted by a comma and a space.
+-- The canonical text of an instruction, without a newline: its mnemonic, which ends in 32 or 64
+-- where the instruction has a class, one space, and its operands, parted by a comma and a space.
 use Rattle.std.specs.Prelude.{ℕ, ◌/◌, ◌%◌, zero, suc, ℤ, pos, negsuc, List, [], ◌∷◌, ◌++◌, codes, false}
 use Rattle.std.specs.Fmt.{decimal, signed_decimal, digit_glyph}
 use Rattle.bpf_types.specs.declared.line.Line.{Line}
@@ -100,16 +100,32 @@ hex_digits (suc count) n = hex_digits count (n / 16) ++ digit_glyph false (n % 1
 
 -- the text of an instruction
 abbrev pub canonical : Line → List ℕ
-canonical (line.Arithmetic width operation dst operand) = operation_name operation ++ width_name width ++ codes " " ++ register dst ++ codes ", " ++ operand_text operand
+canonical (line.Arithmetic width operation dst operand) =
+    operation_name operation ++ width_name width ++ codes " " ++ register dst ++ codes ", "
+    ++ operand_text operand
 canonical (line.Negate width dst) = codes "neg" ++ width_name width ++ codes " " ++ register dst
-canonical (line.MoveExtended extension dst src) = codes "movsx" ++ width_name (extension_width extension) ++ codes " " ++ register dst ++ codes ", " ++ register src ++ codes ", " ++ decimal (extension_bits extension)
-canonical (line.ByteOrder order width dst) = order_name order ++ codes " " ++ register dst ++ codes ", " ++ decimal (swap_width_bits width)
-canonical (line.LoadWide dst value) = codes "lddw " ++ register dst ++ codes ", 0x" ++ hex_digits 16 value
-canonical (line.Load size dst base offset) = codes "ldx" ++ size_name size ++ codes " " ++ register dst ++ codes ", " ++ place_text base offset
-canonical (line.LoadExtended size dst base offset) = codes "ldxs" ++ signed_size_name size ++ codes " " ++ register dst ++ codes ", " ++ place_text base offset
-canonical (line.Store size base offset src) = codes "stx" ++ size_name size ++ codes " " ++ place_text base offset ++ codes ", " ++ register src
-canonical (line.StoreImmediate size base offset value) = codes "st" ++ size_name size ++ codes " " ++ place_text base offset ++ codes ", " ++ signed_decimal value
-canonical (line.JumpIf width comparison dst operand distance) = comparison_name comparison ++ width_name width ++ codes " " ++ register dst ++ codes ", " ++ operand_text operand ++ codes ", " ++ with_sign distance
+canonical (line.MoveExtended extension dst src) =
+    codes "movsx" ++ width_name (extension_width extension) ++ codes " " ++ register dst
+    ++ codes ", " ++ register src ++ codes ", " ++ decimal (extension_bits extension)
+canonical (line.ByteOrder order width dst) =
+    order_name order ++ codes " " ++ register dst ++ codes ", " ++ decimal (swap_width_bits width)
+canonical (line.LoadWide dst value) =
+    codes "lddw " ++ register dst ++ codes ", 0x" ++ hex_digits 16 value
+canonical (line.Load size dst base offset) =
+    codes "ldx" ++ size_name size ++ codes " " ++ register dst ++ codes ", "
+    ++ place_text base offset
+canonical (line.LoadExtended size dst base offset) =
+    codes "ldxs" ++ signed_size_name size ++ codes " " ++ register dst ++ codes ", "
+    ++ place_text base offset
+canonical (line.Store size base offset src) =
+    codes "stx" ++ size_name size ++ codes " " ++ place_text base offset ++ codes ", "
+    ++ register src
+canonical (line.StoreImmediate size base offset value) =
+    codes "st" ++ size_name size ++ codes " " ++ place_text base offset ++ codes ", "
+    ++ signed_decimal value
+canonical (line.JumpIf width comparison dst operand distance) =
+    comparison_name comparison ++ width_name width ++ codes " " ++ register dst ++ codes ", "
+    ++ operand_text operand ++ codes ", " ++ with_sign distance
 canonical (line.Jump distance) = codes "ja " ++ with_sign distance
 canonical (line.LongJump distance) = codes "ja32 " ++ with_sign distance
 canonical (line.Call number) = codes "call " ++ signed_decimal number

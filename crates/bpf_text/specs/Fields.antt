@@ -7,17 +7,20 @@ use Rattle.bpf_text.specs.Tokens.{is_word, AllWord}
 
 -- r0 to r10
 abbrev pub IsRegister : List ℕ → ℕ → Type 0
-IsRegister token n = ((n < 10) × (token ≡ codes "r" ++ (48 + n) ∷ [])) ⊎ ((n ≡ 10) × (token ≡ codes "r10"))
+IsRegister token n =
+    ((n < 10) × (token ≡ codes "r" ++ (48 + n) ∷ [])) ⊎ ((n ≡ 10) × (token ≡ codes "r10"))
 
 -- a numeral, with - in front or not
 abbrev pub IsInteger : List ℕ → ℤ → Type 0
 IsInteger token z =
     ((n : ℕ) × IsNumeral token n × (z ≡ pos n))
-    ⊎ ((digits : List ℕ) × (n : ℕ) × (token ≡ codes "-" ++ digits) × IsNumeral digits n × (z ≡ pos 0 -ℤ pos n))
+    ⊎ ((digits : List ℕ) × (n : ℕ) × (token ≡ codes "-" ++ digits) × IsNumeral digits n
+    × (z ≡ pos 0 -ℤ pos n))
 
 -- a number of 32 bits without a sign stands for the signed one of the same bits
 abbrev pub as_signed : ℤ → ℤ
-as_signed z = if int_le (pos 2147483648) z && int_lt z (pos 4294967296) then z -ℤ pos 4294967296 else z
+as_signed z =
+    if int_le (pos 2147483648) z && int_lt z (pos 4294967296) then z -ℤ pos 4294967296 else z
 
 -- an immediate: a number of the signed or of the unsigned range
 abbrev pub IsImmediate : List ℕ → ℤ → Type 0
@@ -31,7 +34,8 @@ IsSecond token (Register src) = IsRegister token src
 -- a sign and a numeral
 abbrev pub IsDistance : List ℕ → ℤ → Type 0
 IsDistance token z = (digits : List ℕ) × (n : ℕ) × IsNumeral digits n
-    × (((token ≡ codes "+" ++ digits) × (z ≡ pos n)) ⊎ ((token ≡ codes "-" ++ digits) × (z ≡ pos 0 -ℤ pos n)))
+    × (((token ≡ codes "+" ++ digits) × (z ≡ pos n))
+    ⊎ ((token ≡ codes "-" ++ digits) × (z ≡ pos 0 -ℤ pos n)))
 
 -- an offset, which is zero where it is left out
 abbrev pub IsOffset : Option (List ℕ) → ℤ → Type 0
@@ -47,7 +51,8 @@ abbrev pub IsName : List ℕ → Type 0
 IsName [] = ⊥
 IsName (octet ∷ octets) = IsFirst octet × AllWord octets × (length octets < 32)
 
--- what stands in place of a distance: the distance itself, or a label's name, for which the line has distance 0
+-- what stands in place of a distance: the distance itself, or a label's name, for which the line
+-- has distance 0
 abbrev pub IsTarget : List ℕ → ℤ × Option (List ℕ) → Type 0
 IsTarget token (distance, None) = IsDistance token distance
 IsTarget token (distance, Some name) = IsName token × (name ≡ token) × (distance ≡ pos 0)

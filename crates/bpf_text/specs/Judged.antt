@@ -23,15 +23,23 @@ target_of p = (p.0, text_of p.1)
 
 -- of the operands of one mnemonic
 abbrev pub Judges : Mnemonic → List (List ℕ) → Result Source LineFault → Type 0
-Judges m tokens (Ok s) = (mnemonic_of s.line ≡ m) × IsOperands s.line (text_of s.name) None tokens × IsLine s.line
-Judges m tokens (Err Syntax) = (l : Line) → (name : Option (List ℕ)) → (odd : Option ℕ) → mnemonic_of l ≡ m → ¬ IsOperands l name odd tokens
-Judges m tokens (Err Range) = (l : Line) × (name : Option (List ℕ)) × (odd : Option ℕ) × (mnemonic_of l ≡ m) × IsOperands l name odd tokens × ¬ (IsLine l × (odd ≡ None))
+Judges m tokens (Ok s) =
+    (mnemonic_of s.line ≡ m) × IsOperands s.line (text_of s.name) None tokens × IsLine s.line
+Judges m tokens (Err Syntax) =
+    (l : Line) → (name : Option (List ℕ)) → (odd : Option ℕ) → mnemonic_of l ≡ m →
+    ¬ IsOperands l name odd tokens
+Judges m tokens (Err Range) =
+    (l : Line) × (name : Option (List ℕ)) × (odd : Option ℕ) × (mnemonic_of l ≡ m)
+    × IsOperands l name odd tokens × ¬ (IsLine l × (odd ≡ None))
 
 -- of an instruction
 abbrev pub JudgesForm : List (List ℕ) → Result Source LineFault → Type 0
 JudgesForm tokens (Ok s) = IsForm s.line (text_of s.name) None tokens × IsLine s.line
-JudgesForm tokens (Err Syntax) = (l : Line) → (name : Option (List ℕ)) → (odd : Option ℕ) → ¬ IsForm l name odd tokens
-JudgesForm tokens (Err Range) = (l : Line) × (name : Option (List ℕ)) × (odd : Option ℕ) × IsForm l name odd tokens × ¬ (IsLine l × (odd ≡ None))
+JudgesForm tokens (Err Syntax) =
+    (l : Line) → (name : Option (List ℕ)) → (odd : Option ℕ) → ¬ IsForm l name odd tokens
+JudgesForm tokens (Err Range) =
+    (l : Line) × (name : Option (List ℕ)) × (odd : Option ℕ) × IsForm l name odd tokens
+    × ¬ (IsLine l × (odd ≡ None))
 
 abbrev pub statement_of : Option Source → Option Statement
 statement_of None = None
@@ -53,6 +61,10 @@ JudgesBody tokens (Err Syntax) = (s : Option Statement) → ¬ IsBody s tokens
 JudgesBody tokens (Err Range) = (s : Option Statement) × IsBody s tokens × ¬ InRange s
 
 abbrev pub JudgesTokens : List (List ℕ) → Result Parsed LineFault → Type 0
-JudgesTokens tokens (Ok p) = HasLabel (written_line p).label (written_line p).body tokens × InRange (written_line p).body
-JudgesTokens tokens (Err Syntax) = (label : Option (List ℕ)) → (body : Option Statement) → ¬ HasLabel label body tokens
-JudgesTokens tokens (Err Range) = (label : Option (List ℕ)) × (body : Option Statement) × HasLabel label body tokens × ¬ InRange body
+JudgesTokens tokens (Ok p) =
+    HasLabel (written_line p).label (written_line p).body tokens × InRange (written_line p).body
+JudgesTokens tokens (Err Syntax) =
+    (label : Option (List ℕ)) → (body : Option Statement) → ¬ HasLabel label body tokens
+JudgesTokens tokens (Err Range) =
+    (label : Option (List ℕ)) × (body : Option Statement) × HasLabel label body tokens
+    × ¬ InRange body

@@ -1,5 +1,5 @@
--- A request as a function of its data, field by field, with the first fault. `IsRequestData` is what
--- it means: `read_request` answers by both.
+-- A request as a function of its data, field by field, with the first fault. `IsRequestData` is
+-- what it means: `read_request` answers by both.
 use Rattle.std.specs.Prelude.{ℕ, Bool, ◌+◌, ◌*◌, ◌==◌, ◌&&◌, nat_le, if◌then◌else◌, List, length, drop, slice_index, Result, Ok, Err}
 use Rattle.byteorder.specs.Endian.{big_number}
 use Rattle.obcp_messages.specs.Fields.{numbers}

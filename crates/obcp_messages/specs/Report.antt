@@ -1,5 +1,5 @@
--- Reports of service 1 (request verification, ECSS-E-ST-70-41C, 6.1 and 8.1) and the status report of
--- service 18.
+-- Reports of service 1 (request verification, ECSS-E-ST-70-41C, 6.1 and 8.1) and the status report
+-- of service 18.
 use Rattle.std.specs.Prelude.{◌≡◌, ◌≢◌, ◌≤◌, ◌<◌, ◌^◌, ℕ, List, ◌++◌, length, All}
 use Rattle.std.specs.List.{flat_map}
 use Rattle.byteorder.specs.Endian.{big_bytes}

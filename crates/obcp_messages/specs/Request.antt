@@ -1,5 +1,5 @@
--- Requests of service 18 (ECSS-E-ST-70-41C, 6.18 and 8.18; subtype numbers and field widths are this
--- product's own profile).
+-- Requests of service 18 (ECSS-E-ST-70-41C, 6.18 and 8.18; subtype numbers and field widths are
+-- this product's own profile).
 use Rattle.std.specs.Prelude.{◌≡◌, ◌≢◌, ◌≤◌, ◌<◌, ◌^◌, ℕ, List, [], ◌++◌, length, All}
 use Rattle.std.specs.List.{flat_map}
 use Rattle.byteorder.specs.Endian.{big_bytes}

@@ -5,11 +5,15 @@ use Rattle.ocp_ports.specs.declared.fault.ConsoleFault.{ConsoleFault}
 use Rattle.ocp_ports.specs.declared.fault.ConsoleFault.TheVariants as faults
 use Rattle.ocp_ports.specs.Printing.{PrintsPrefix}
 
--- A command's meaning: `Gives output done` says that the output is `output`; where `done` is false it is the line of a fault.
--- Its whole output went out, and the command answers so; or a write failed, and a prefix of it went out; or a read failed or memory ran out, and nothing went out.
-abbrev pub Writes : (List ℕ → Bool → Type 0) → Option (List ℕ) → Option (List ℕ) → Result Bool ConsoleFault → Type 0
+-- A command's meaning: `Gives output done` says that the output is `output`; where `done` is false
+-- it is the line of a fault.
+-- Its whole output went out, and the command answers so; or a write failed, and a prefix of it went
+-- out; or a read failed or memory ran out, and nothing went out.
+abbrev pub Writes : (List ℕ → Bool → Type 0) → Option (List ℕ) → Option (List ℕ) →
+    Result Bool ConsoleFault → Type 0
 Writes Gives old new (Ok done) = (output : List ℕ) × Gives output done × Appends old new output
-Writes Gives old new (Err faults.Write) = (output : List ℕ) × (done : Bool) × Gives output done × PrintsPrefix old new output
+Writes Gives old new (Err faults.Write) =
+    (output : List ℕ) × (done : Bool) × Gives output done × PrintsPrefix old new output
 Writes Gives old new (Err faults.Read) = Keeps old new
 Writes Gives old new (Err faults.Memory) = Keeps old new
 Writes Gives old new (Err faults.TooManyLines) = ⊥

@@ -25,7 +25,8 @@ abbrev pub digits_of : List ℕ → List ℕ
 digits_of [] = []
 digits_of (octet ∷ octets) = onto_digits octet (digits_of octets)
 
--- the image that a text says: pairs of hexadecimal digits of both cases, and behind them spaces and newlines
+-- the image that a text says: pairs of hexadecimal digits of both cases, and behind them spaces and
+-- newlines
 abbrev pub image_in : List ℕ → Option (List ℕ)
 image_in text = result_ok (decode_of (digits_of text))
 
@@ -44,7 +45,8 @@ abbrev pub list_fault_line : ListFault → List ℕ
 list_fault_line fault.TooLong = error_line 0 (codes "TooLong")
 list_fault_line fault.Hex = error_line 0 (codes "Hex")
 list_fault_line fault.Ragged = error_line 0 (codes "Ragged")
-list_fault_line (fault.Decode why slot) = error_line slot (codes "Decode " ++ decimal (decode_number why))
+list_fault_line (fault.Decode why slot) =
+    error_line slot (codes "Decode " ++ decimal (decode_number why))
 
 -- the image of an input that is not too long
 pub record HasImage (input image : List ℕ) : Type 0 where
@@ -56,11 +58,14 @@ abbrev pub HasListFault : List ℕ → ListFault → Type 0
 HasListFault input fault.TooLong = max_input < length input
 HasListFault input fault.Hex = (IsShort input) × (image_in input ≡ None)
 HasListFault input fault.Ragged = (image : List ℕ) × HasImage input image × (length image % 8 ≢ 0)
-HasListFault input (fault.Decode why slot) = (image : List ℕ) × HasImage input image × (length image % 8 ≡ 0) × HasFaultAt image slot why
+HasListFault input (fault.Decode why slot) =
+    (image : List ℕ) × HasImage input image × (length image % 8 ≡ 0) × HasFaultAt image slot why
 
 -- ---- the output
 
--- what `list` writes of an input, and whether it is a listing: else it is the line of the first fault
+-- what `list` writes of an input, and whether it is a listing: else it is the line of the first
+-- fault
 abbrev pub Lists : List ℕ → List ℕ → Bool → Type 0
 Lists input output true = (image : List ℕ) × HasImage input image × IsListed image [] output
-Lists input output false = (why : ListFault) × HasListFault input why × (output ≡ list_fault_line why)
+Lists input output false =
+    (why : ListFault) × HasListFault input why × (output ≡ list_fault_line why)

@@ -4,7 +4,9 @@ use Rattle.std.specs.Io.KnownBytes.{Consumes, Appends, Keeps, IsAtEnd}
 
 -- the read gave the next octets, none only at the end; one that failed took nothing
 abbrev pub Takes : Option (List ℕ) → Option (List ℕ) → Option ℕ → List ℕ → Type 0
-Takes old new r buffer = MatchOption r (Keeps old new) (λ count. Consumes old new (take count buffer) × (count ≡ 0 → 0 < length buffer → IsAtEnd new))
+Takes old new r buffer =
+    MatchOption r (Keeps old new)
+    (λ count. Consumes old new (take count buffer) × (count ≡ 0 → 0 < length buffer → IsAtEnd new))
 
 -- the write put a prefix; one that failed put nothing
 abbrev pub Puts : Option (List ℕ) → Option (List ℕ) → Option ℕ → List ℕ → Type 0

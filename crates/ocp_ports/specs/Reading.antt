@@ -10,8 +10,10 @@ max_input = 1048576
 abbrev pub max_chunk : ℕ
 max_chunk = 4096
 
--- What was read of an input before the last read is within a limit. That read gave the octets `last`, and so many are left.
-pub record ReadsWhile (IsWithin : List ℕ → Type 0) (input : List ℕ) (left : Option (List ℕ)) : Type 0 where
+-- What was read of an input before the last read is within a limit. That read gave the octets
+-- `last`, and so many are left.
+pub record ReadsWhile (IsWithin : List ℕ → Type 0) (input : List ℕ)
+    (left : Option (List ℕ)) : Type 0 where
   pub before : List ℕ
   pub last : List ℕ
   pub rest : List ℕ

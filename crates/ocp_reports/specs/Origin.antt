@@ -13,8 +13,8 @@ origin_of tc time = record {
   time = time;
 }
 
--- that of a packet whose secondary header is not read: its reports go to destination 0, and no report
--- of success is asked for
+-- that of a packet whose secondary header is not read: its reports go to destination 0, and no
+-- report of success is asked for
 abbrev pub origin_of_packet : List ℕ → ℕ → Origin
 origin_of_packet request time = record {
   request = request;

@@ -12,7 +12,8 @@ use Rattle.ocp_words.specs.declared.job.WordsFault.TheVariants.{Usage, Memory}
 
 -- the option's text is this number, which has so many bits
 abbrev pub HasNumber : ℕ → Text → List Row → ℕ → Type 0
-HasNumber bits id rows n = (text : Text) × (one_of id rows ≡ Some text) × ParsesUnsigned {E = Unit {0}} bits 10 text (Ok n)
+HasNumber bits id rows n =
+    (text : Text) × (one_of id rows ≡ Some text) × ParsesUnsigned {E = Unit {0}} bits 10 text (Ok n)
 
 -- the settings are the numbers that stand in these rows
 pub record HasSettings (rows : List Row) (s : Settings) : Type 0 where

@@ -1,5 +1,6 @@
--- Error control (ECSS-E-ST-70-41C, annex B): a list of bits is a polynomial over two values, the highest coefficient first. The
--- control is the remainder of the division of the message by x^16 + x^12 + x^5 + 1.
+-- Error control (ECSS-E-ST-70-41C, annex B): a list of bits is a polynomial over two values, the
+-- highest coefficient first. The control is the remainder of the division of the message by x^16 +
+-- x^12 + x^5 + 1.
 use Rattle.std.specs.Prelude.{◌≡◌, ℕ, zero, suc, ◌+◌, ◌*◌, ◌/◌, if◌then◌else◌, ◌%◌, ◌^◌, ◌==◌, Bool, true, false, List, [], ◌∷◌, ◌++◌, length, take, drop, map}
 
 -- ---- polynomials over two values

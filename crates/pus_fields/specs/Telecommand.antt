@@ -28,14 +28,15 @@ pub record IsTelecommandInRange (tc : Telecommand) : Type 0 where
   pub subtype : tc.subtype < 2 ^ 8
   pub source : tc.source < 2 ^ 16
 
--- the request identifier, the first four octets of an unsegmented telecommand with a secondary header:
--- version number 0 (3 bits), type 1 (1), secondary header flag 1 (1), application process identifier
--- (11), sequence flags 11 (2), sequence count (14)
+-- the request identifier, the first four octets of an unsegmented telecommand with a secondary
+-- header:
+-- version number 0 (3 bits), type 1 (1), secondary header flag 1 (1), application process
+-- identifier (11), sequence flags 11 (2), sequence count (14)
 abbrev pub request_id : ℕ → ℕ → List ℕ
 request_id apid count = big_bytes 2 (2 ^ 12 + 2 ^ 11 + apid) ++ big_bytes 2 (3 * 2 ^ 14 + count)
 
--- the secondary header, 5 octets: version number 2 (4 bits), acknowledgement flags (4), service type
--- (8), message subtype (8), source identifier (16)
+-- the secondary header, 5 octets: version number 2 (4 bits), acknowledgement flags (4), service
+-- type (8), message subtype (8), source identifier (16)
 abbrev pub telecommand_secondary : Telecommand → List ℕ
 telecommand_secondary tc =
     big_bytes 1 (2 * 2 ^ 4 + flags_of tc.ack) ++ big_bytes 1 tc.service ++ big_bytes 1 tc.subtype
@@ -51,8 +52,8 @@ telecommand_header tc = record {
   count = tc.count;
 }
 
--- the octets are the packet of this telecommand: its data field is the secondary header, the payload
--- and the error control of all octets before it
+-- the octets are the packet of this telecommand: its data field is the secondary header, the
+-- payload and the error control of all octets before it
 pub record IsTelecommand (octets : List ℕ) (tc : Telecommand) : Type 0 where
   pub in_range : IsTelecommandInRange tc
   pub control : ℕ

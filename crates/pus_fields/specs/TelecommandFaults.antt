@@ -1,4 +1,5 @@
--- What can be wrong with octets that are to be a telecommand, in order: the first fault is the answer.
+-- What can be wrong with octets that are to be a telecommand, in order: the first fault is the
+-- answer.
 use Rattle.std.specs.Prelude.{◌≡◌, ◌≢◌, ℕ, ◌-◌, ◌%◌, ◌^◌, ◌==◌, not, true, false, List, length, take, drop, slice_index, slice_range, if◌then◌else◌, Result, Ok, Err, Option, Some, None}
 use Rattle.byteorder.specs.Endian.{big_number}
 use Rattle.space_packet.specs.declared.primary.Primary.{Primary}

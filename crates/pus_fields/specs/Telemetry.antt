@@ -25,8 +25,9 @@ pub record IsTelemetryInRange (tm : Telemetry) : Type 0 where
   pub destination : tm.destination < 2 ^ 16
   pub time : tm.time < 2 ^ 32
 
--- the secondary header, 11 octets: version number 2 (4 bits), time reference status 0 (4), service type
--- (8), message subtype (8), message type counter 0 (16), destination identifier (16), time (32)
+-- the secondary header, 11 octets: version number 2 (4 bits), time reference status 0 (4), service
+-- type (8), message subtype (8), message type counter 0 (16), destination identifier (16), time
+-- (32)
 abbrev pub telemetry_secondary : Telemetry → List ℕ
 telemetry_secondary tm =
     big_bytes 1 (2 * 2 ^ 4) ++ big_bytes 1 tm.service ++ big_bytes 1 tm.subtype ++ big_bytes 2 0
@@ -42,8 +43,8 @@ telemetry_header tm = record {
   count = tm.count;
 }
 
--- the octets are the packet of this telemetry: its data field is the secondary header, the payload and
--- the error control of all octets before it
+-- the octets are the packet of this telemetry: its data field is the secondary header, the payload
+-- and the error control of all octets before it
 pub record IsTelemetry (octets : List ℕ) (tm : Telemetry) : Type 0 where
   pub in_range : IsTelemetryInRange tm
   pub control : ℕ

@@ -12,7 +12,8 @@ use Rattle.pus_fields.specs.declared.fault.Rejection.TheVariants as reason
 use Rattle.pus_fields.specs.Telemetry.{Telemetry}
 use Rattle.pus_fields.specs.Rejections.{IsPacketWith, IsRejected, IsSound, rejection_of}
 
--- the time reference status, the lower 4 bits of the first octet, or the message type counter is not 0
+-- the time reference status, the lower 4 bits of the first octet, or the message type counter is
+-- not 0
 abbrev pub IsOtherProfile : List ℕ → Type 0
 IsOtherProfile field = (slice_index field 0 % 2 ^ 4 ≢ 0) ⊎ (big_number 2 (drop 3 field) ≢ 0)
 

@@ -1,5 +1,6 @@
 -- The space packet (CCSDS 133.0-B, "Packet structure"): its first six octets are one number of 48
--- bits, whose parts are the fields of the primary header, and the octets that remain are the data field.
+-- bits, whose parts are the fields of the primary header, and the octets that remain are the data
+-- field.
 use Rattle.std.specs.Prelude.{◌≡◌, ◌≢◌, ◌≤◌, ◌<◌, ℕ, ◌+◌, ◌*◌, ◌/◌, ◌%◌, ◌^◌, Bool, true, false, List, length, drop, take, fold}
 use Rattle.std.specs.Prelude.{◌-◌, ◌++◌, ◌==◌, not, if◌then◌else◌, nat_lt, Result, Ok, Err}
 use Rattle.std.specs.Int.{to_be_bytes, w16}
@@ -13,7 +14,8 @@ use Rattle.space_packet.specs.declared.fault.PacketFault.TheVariants.{Short, Ver
 abbrev pub IsOctet : ℕ → Type 0
 IsOctet n = n < 2 ^ 8
 
--- the first six octets as one number, the first octet the most significant: below 2 ^ 48, since each is below 256
+-- the first six octets as one number, the first octet the most significant: below 2 ^ 48, since
+-- each is below 256
 abbrev pub head : List ℕ → ℕ
 head octets = fold (λ n octet. n * 256 + octet) 0 (take 6 octets)
 

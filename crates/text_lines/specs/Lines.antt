@@ -16,7 +16,8 @@ onto octet (Open line ∷ lines) = Open (octet ∷ line) ∷ lines
 -- a text cut at each newline
 abbrev pub lines_of : List ℕ → List Line
 lines_of [] = []
-lines_of (octet ∷ octets) = if octet == 10 then Ended [] ∷ lines_of octets else onto octet (lines_of octets)
+lines_of (octet ∷ octets) =
+    if octet == 10 then Ended [] ∷ lines_of octets else onto octet (lines_of octets)
 
 -- the octets of a line, a carriage return included and the newline not
 abbrev pub octets_of : Line → List ℕ

@@ -22,8 +22,8 @@ wants_completion ack = flags_of ack / 8 % 2 == 1
 abbrev pub optional_report : Bool → Notice → List Notice
 optional_report wanted notice = if wanted then notice ∷ [] else []
 
--- acceptance, start, the answer's place and completion; a failed acceptance or start is sent whatever
--- the flags are, and ends the list
+-- acceptance, start, the answer's place and completion; a failed acceptance or start is sent
+-- whatever the flags are, and ends the list
 abbrev pub reports_of_outcome : Ack → Outcome → List Notice
 reports_of_outcome ack (O.Refused failure) = NotAccepted failure ∷ []
 reports_of_outcome ack (O.NotStarted failure) =

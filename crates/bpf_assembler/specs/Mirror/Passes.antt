@@ -26,10 +26,16 @@ AreLabels m ws = (name : List ℕ) → label_at m name ≡ label_place name 0 ws
 
 -- what a row stands for
 abbrev pub entry : Row → Entry
-entry row = record { number = row.number; place = row.place; statement = record { line = row.line; name = text_of row.name; odd = None } }
+entry row =
+    record {
+      number = row.number;
+      place = row.place;
+      statement = record { line = row.line; name = text_of row.name; odd = None };
+    }
 
 -- what is known of the lines so far
-pub record Knows (m : BTreeMap (Bor (List ℕ)) ℕ) (rs : List Row) (n p : ℕ) (ws : List Written) : Type 0 where
+pub record Knows (m : BTreeMap (Bor (List ℕ)) ℕ) (rs : List Row) (n p : ℕ)
+    (ws : List Written) : Type 0 where
   pub labels : AreLabels m ws
   pub rows : map entry rs ≡ entries_of 1 0 ws
   pub count : n ≡ length ws
@@ -37,20 +43,26 @@ pub record Knows (m : BTreeMap (Bor (List ℕ)) ℕ) (rs : List Row) (n p : ℕ)
   pub distinct : AreDistinct [] ws
 
 -- the label is new and known from now on; or it is not new
-abbrev pub PutsLabel : Option (List ℕ) → BTreeMap (Bor (List ℕ)) ℕ → List Written → Result Bool AsmFault → Type 0
-PutsLabel label new ws (Ok true) = IsNew label ws × ((body : Option Statement) → AreLabels new (ws ++ record { label = label; body = body } ∷ []))
+abbrev pub PutsLabel : Option (List ℕ) → BTreeMap (Bor (List ℕ)) ℕ → List Written →
+    Result Bool AsmFault → Type 0
+PutsLabel label new ws (Ok true) =
+    IsNew label ws × ((body : Option Statement) →
+    AreLabels new (ws ++ record { label = label; body = body } ∷ []))
 PutsLabel label new ws (Ok false) = ¬ IsNew label ws
 PutsLabel label new ws (Err Memory) = Unit {0}
 PutsLabel label new ws (Err (At number y)) = ⊥
 
 -- one more line is written, and known; or it is at fault
-abbrev pub Adds : List ℕ → BTreeMap (Bor (List ℕ)) ℕ → List Row → ℕ → ℕ → List Written → Result Unit AsmFault → Type 0
-Adds text m rows count place ws (Ok u) = (w : Written) × Writes text w × InRange w.body × Knows m rows count place (ws ++ w ∷ [])
+abbrev pub Adds : List ℕ → BTreeMap (Bor (List ℕ)) ℕ → List Row → ℕ → ℕ → List Written →
+    Result Unit AsmFault → Type 0
+Adds text m rows count place ws (Ok u) =
+    (w : Written) × Writes text w × InRange w.body × Knows m rows count place (ws ++ w ∷ [])
 Adds text m rows count place ws (Err Memory) = Unit {0}
 Adds text m rows count place ws (Err (At n y)) = (n ≡ length ws + 1) × HasFault ws text y
 
 -- the first pass is done: the text is lines that are written so, and known
-pub record IsCollected (text : List ℕ) (m : BTreeMap (Bor (List ℕ)) ℕ) (rs : List Row) : Type 0 where
+pub record IsCollected (text : List ℕ) (m : BTreeMap (Bor (List ℕ)) ℕ)
+    (rs : List Row) : Type 0 where
   pub lines : List Written
   pub written : IsWritten text lines
   pub labels : AreLabels m lines
@@ -68,7 +80,8 @@ Collects text m rows (Err (At n y)) = HasLineFault text n y
 abbrev pub Resolves : List Written → Entry → Result Line AsmFault → Type 0
 Resolves ws e (Ok l) = IsInstruction ws e.place e.statement.line e.statement.name l
 Resolves ws e (Err Memory) = ⊥
-Resolves ws e (Err (At n y)) = (n ≡ e.number) × MissesLabel ws e.place e.statement.line e.statement.name y
+Resolves ws e (Err (At n y)) =
+    (n ≡ e.number) × MissesLabel ws e.place e.statement.line e.statement.name y
 
 -- the octets are the image of the instructions
 pub record AreResolved (ws : List Written) (entries : List Entry) (octets : List ℕ) : Type 0 where
@@ -76,16 +89,19 @@ pub record AreResolved (ws : List Written) (entries : List Entry) (octets : List
   pub instructions : AreInstructions ws entries lines
   pub image : IsImageOf octets lines
 
-abbrev pub ResolvesAll : List Written → List Entry → {Z : Type 0} → (Z → List ℕ) → Result Z AsmFault → Type 0
+abbrev pub ResolvesAll : List Written → List Entry → {Z : Type 0} → (Z → List ℕ) →
+    Result Z AsmFault → Type 0
 ResolvesAll ws es octets (Ok v) = AreResolved ws es (octets v)
 ResolvesAll ws es octets (Err Memory) = Unit {0}
 ResolvesAll ws es octets (Err (At n y)) = IsFirstMiss ws es n y
 
 -- ---- the line of a fault of the image
 
--- the line of the last instruction whose place is no greater than the slot, or 0 where there is none
+-- the line of the last instruction whose place is no greater than the slot, or 0 where there is
+-- none
 abbrev pub IsLineUpTo : List Entry → ℕ → ℕ → Type 0
-IsLineUpTo entries slot number = ((number ≡ 0) × All (λ e. slot < e.place) entries) ⊎ IsLineOfSlot entries slot number
+IsLineUpTo entries slot number =
+    ((number ≡ 0) × All (λ e. slot < e.place) entries) ⊎ IsLineOfSlot entries slot number
 
 -- the fault of the image, as it is reported
 abbrev pub IsReported : List Entry → LoadFault → AsmFault → Type 0
@@ -93,4 +109,5 @@ IsReported entries load.Memory f = f ≡ Memory
 IsReported entries load.EmptyCode f = f ≡ At 0 (why.Load load.EmptyCode)
 IsReported entries load.RaggedCode f = f ≡ At 0 (why.Load load.RaggedCode)
 IsReported entries load.TooLong f = f ≡ At 0 (why.Load load.TooLong)
-IsReported entries fault f = (number : ℕ) × (f ≡ At number (why.Load fault)) × IsLineUpTo entries (slot_of fault) number
+IsReported entries fault f =
+    (number : ℕ) × (f ≡ At number (why.Load fault)) × IsLineUpTo entries (slot_of fault) number

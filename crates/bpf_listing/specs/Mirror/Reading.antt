@@ -1,5 +1,5 @@
--- What is read of an instruction's text before the text is compared with the canonical one: its first word, and the
--- first three numbers behind it.
+-- What is read of an instruction's text before the text is compared with the canonical one: its
+-- first word, and the first three numbers behind it.
 use Rattle.std.specs.Prelude.{◌≡◌, ◌≢◌, ℕ, ◌+◌, ◌-◌, ◌*◌, ◌%◌, ◌^◌, ℤ, pos, negsuc, unsigned_abs, Bool, true, false, ◌&&◌, nat_lt, nat_le, ◌==◌, if◌then◌else◌, List, [], ◌∷◌, codes, length, drop, slice_index, slice_set}
 use Rattle.bpf_types.specs.declared.line.Line.{Line}
 use Rattle.bpf_types.specs.declared.line.Line.TheVariants as line
@@ -50,7 +50,9 @@ is_digit o = nat_le 48 o && nat_le o 57
 -- the scan at an octet that is no digit: where a number ends here, it is kept
 abbrev pub past_other : Scan → ℕ → Scan
 past_other s o = record {
-  fields = if s.inside && nat_lt s.count 3 then slice_set s.fields s.count (record { mark = s.mark; number = s.number }) else s.fields;
+  fields =
+      if s.inside && nat_lt s.count 3
+      then slice_set s.fields s.count (record { mark = s.mark; number = s.number }) else s.fields;
   count = if s.inside && nat_lt s.count 3 then s.count + 1 else s.count;
   mark = o;
   number = 0;
@@ -60,7 +62,13 @@ past_other s o = record {
 -- the scan behind one more octet
 abbrev pub past_octet : Scan → ℕ → Scan
 past_octet s o = if is_digit o
-    then record { fields = s.fields; count = s.count; mark = s.mark; number = (s.number * 10 + (o - 48)) % 2 ^ 64; inside = true }
+    then record {
+      fields = s.fields;
+      count = s.count;
+      mark = s.mark;
+      number = (s.number * 10 + (o - 48)) % 2 ^ 64;
+      inside = true;
+    }
     else past_other s o
 
 abbrev pub past_octets : Scan → List ℕ → Scan
@@ -71,7 +79,14 @@ abbrev pub no_field : Field
 no_field = record { mark = 32; number = 0 }
 
 abbrev pub start : Scan
-start = record { fields = no_field ∷ no_field ∷ no_field ∷ []; count = 0; mark = 32; number = 0; inside = false }
+start =
+    record {
+      fields = no_field ∷ no_field ∷ no_field ∷ [];
+      count = 0;
+      mark = 32;
+      number = 0;
+      inside = false;
+    }
 
 -- the first three numbers of a text, each with the octet in front of it
 abbrev pub fields_in : List ℕ → List Field
@@ -106,18 +121,33 @@ operand_field (Register n) = record { mark = 114; number = n }
 
 -- the mnemonic m, the numbers f, g and h and the octets os are those of the instruction's text
 abbrev pub Shows : Line → Mnemonic → Field → Field → Field → List ℕ → Type 0
-Shows (line.Arithmetic width o dst operand) m f g h os = (m ≡ word.Arithmetic width o) × (f.number ≡ dst) × (g ≡ operand_field operand)
+Shows (line.Arithmetic width o dst operand) m f g h os =
+    (m ≡ word.Arithmetic width o) × (f.number ≡ dst) × (g ≡ operand_field operand)
 Shows (line.Negate width dst) m f g h os = (m ≡ word.Negate width) × (f.number ≡ dst)
-Shows (line.MoveExtended e dst src) m f g h os = (m ≡ word.MoveExtended (extension_width e)) × (f.number ≡ dst) × (g.number ≡ src) × (h.number ≡ extension_bits e)
-Shows (line.ByteOrder o s dst) m f g h os = (m ≡ word.ByteOrder o) × (f.number ≡ dst) × (g.number ≡ swap_width_bits s)
-Shows (line.LoadWide dst value) m f g h os = (m ≡ word.LoadWide) × (f.number ≡ dst) × (hex_on 0 (drop (length os - 16) os) ≡ value)
-Shows (line.JumpIf width t dst operand z) m f g h os = (m ≡ word.Jump (jump.If width t)) × (f.number ≡ dst) × (g ≡ operand_field operand) × (h ≡ signed_field z)
+Shows (line.MoveExtended e dst src) m f g h os =
+    (m ≡ word.MoveExtended (extension_width e)) × (f.number ≡ dst) × (g.number ≡ src)
+    × (h.number ≡ extension_bits e)
+Shows (line.ByteOrder o s dst) m f g h os =
+    (m ≡ word.ByteOrder o) × (f.number ≡ dst) × (g.number ≡ swap_width_bits s)
+Shows (line.LoadWide dst value) m f g h os =
+    (m ≡ word.LoadWide) × (f.number ≡ dst) × (hex_on 0 (drop (length os - 16) os) ≡ value)
+Shows (line.JumpIf width t dst operand z) m f g h os =
+    (m ≡ word.Jump (jump.If width t)) × (f.number ≡ dst) × (g ≡ operand_field operand)
+    × (h ≡ signed_field z)
 Shows (line.Jump z) m f g h os = (m ≡ word.Jump jump.Short) × (f ≡ signed_field z)
 Shows (line.LongJump z) m f g h os = (m ≡ word.Jump jump.Long) × (f ≡ signed_field z)
-Shows (line.Call z) m f g h os = (m ≡ word.Jump jump.Call) × (f ≡ number_field z) × (slice_index os 0 ≢ 108)
-Shows (line.CallLocal z) m f g h os = (m ≡ word.Jump jump.Call) × (f ≡ signed_field z) × (slice_index os 0 ≡ 108)
+Shows (line.Call z) m f g h os =
+    (m ≡ word.Jump jump.Call) × (f ≡ number_field z) × (slice_index os 0 ≢ 108)
+Shows (line.CallLocal z) m f g h os =
+    (m ≡ word.Jump jump.Call) × (f ≡ signed_field z) × (slice_index os 0 ≡ 108)
 Shows line.Exit m f g h os = m ≡ word.Jump jump.Exit
-Shows (line.Load s dst base z) m f g h os = (m ≡ word.Access (access.Load s)) × (f.number ≡ dst) × (g.number ≡ base) × (h ≡ signed_field z)
-Shows (line.LoadExtended s dst base z) m f g h os = (m ≡ word.Access (access.LoadExtended s)) × (f.number ≡ dst) × (g.number ≡ base) × (h ≡ signed_field z)
-Shows (line.Store s base z src) m f g h os = (m ≡ word.Access (access.Store s)) × (f.number ≡ base) × (g ≡ signed_field z) × (h.number ≡ src)
-Shows (line.StoreImmediate s base z y) m f g h os = (m ≡ word.Access (access.StoreImmediate s)) × (f.number ≡ base) × (g ≡ signed_field z) × (h ≡ number_field y)
+Shows (line.Load s dst base z) m f g h os =
+    (m ≡ word.Access (access.Load s)) × (f.number ≡ dst) × (g.number ≡ base) × (h ≡ signed_field z)
+Shows (line.LoadExtended s dst base z) m f g h os =
+    (m ≡ word.Access (access.LoadExtended s)) × (f.number ≡ dst) × (g.number ≡ base)
+    × (h ≡ signed_field z)
+Shows (line.Store s base z src) m f g h os =
+    (m ≡ word.Access (access.Store s)) × (f.number ≡ base) × (g ≡ signed_field z) × (h.number ≡ src)
+Shows (line.StoreImmediate s base z y) m f g h os =
+    (m ≡ word.Access (access.StoreImmediate s)) × (f.number ≡ base) × (g ≡ signed_field z)
+    × (h ≡ number_field y)

@@ -3,8 +3,10 @@ use Rattle.std.specs.Prelude.{◌≡◌, Result, Ok, Err}
 use Rattle.bpf_text.specs.declared.line.LineFault.{LineFault}
 use Rattle.bpf_text.specs.declared.line.LineFault.TheVariants.{Syntax, Range}
 
--- what was read is written so, and in its range; or nothing is written so; or something is, and out of its range
-abbrev pub Gives : {V : Type 0} → {W : Type 0} → (V → W) → (W → Type 0) → (W → Type 0) → Result V LineFault → Type 0
+-- what was read is written so, and in its range; or nothing is written so; or something is, and out
+-- of its range
+abbrev pub Gives : {V : Type 0} → {W : Type 0} → (V → W) → (W → Type 0) → (W → Type 0) →
+    Result V LineFault → Type 0
 Gives {V} {W} view Is Fits (Ok v) = Is (view v) × Fits (view v)
 Gives {V} {W} view Is Fits (Err Syntax) = (w : W) → ¬ Is w
 Gives {V} {W} view Is Fits (Err Range) = (w : W) × Is w × ¬ Fits w
@@ -16,7 +18,8 @@ Narrows {V} Fits w (Err Syntax) = ⊥
 Narrows {V} Fits w (Err Range) = ¬ Fits w
 
 -- two readings together, where Syntax comes before Range
-abbrev pub both_of : {V : Type 0} → {W : Type 0} → Result V LineFault → Result W LineFault → Result (V × W) LineFault
+abbrev pub both_of : {V : Type 0} → {W : Type 0} → Result V LineFault → Result W LineFault →
+    Result (V × W) LineFault
 both_of (Err Syntax) second = Err Syntax
 both_of (Err Range) (Err Syntax) = Err Syntax
 both_of (Err Range) (Err Range) = Err Range

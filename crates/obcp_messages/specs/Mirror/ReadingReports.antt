@@ -1,5 +1,5 @@
--- A report as a function of its data, field by field, with the first fault. `IsReportData` is what it
--- means: `read_report` answers by both.
+-- A report as a function of its data, field by field, with the first fault. `IsReportData` is what
+-- it means: `read_report` answers by both.
 use Rattle.std.specs.Prelude.{ℕ, zero, suc, Bool, true, ◌+◌, ◌*◌, ◌==◌, ◌&&◌, nat_le, nat_lt, if◌then◌else◌, List, [], ◌∷◌, length, take, drop, slice_index, Option, Some, None, Result, Ok, Err}
 use Rattle.byteorder.specs.Endian.{big_number}
 use Rattle.obcp_types.specs.declared.status.StatusRow.{StatusRow}
