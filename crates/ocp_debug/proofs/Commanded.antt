@@ -1,4 +1,4 @@
--- What a debugger's command makes of the records.
+-- What a debugger's command leaves.
 use Rattle.std.proofs.Common.{◌≡◌, ℕ, List, Option, Some, None, refl, ap, sym, ◌∙◌}
 use Rattle.std.specs.FinMap.{get, insert}
 use Rattle.ocp_table.specs.Records.{Rec, Records}
@@ -8,12 +8,6 @@ use Rattle.ocp_debug.specs.declared.command.Command.TheVariants.{SetBreak, Clear
 use Rattle.ocp_table.specs.Laws.{Run, run_of, IsDebugging}
 use Rattle.ocp_debug.specs.declared.command.DebugFault.{DebugFault}
 use Rattle.ocp_debug.specs.Commands.{change_of, effect_by}
-
--- what is set in the record that is there is all that changes
-pub set_there : (m : Records) (id : ℕ) (r : Rec) (command : Command) (set : Rec → Rec) → get m id ≡ Some r → set r ≡ record_by (change_of command) r →
-    records_with (get m id) id set m ≡ records_by (Changed id (change_of command)) m
-set_there m id r command set here same =
-    ap (λ o. records_with o id set m) here ∙ ap (insert m id) same ∙ sym (ap (λ o. with_change o id (change_of command) m) here)
 
 is_debugging : (command : Command) → IsDebugging (change_of command)
 is_debugging (SetBreak place) = tt
