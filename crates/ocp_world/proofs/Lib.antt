@@ -5,3 +5,4 @@ pub mod Slices
 pub mod Slicing
 pub mod Lawful
 pub mod Stretches
+pub mod Settling

@@ -5,7 +5,7 @@ use Rattle.ocp_world.specs.After.{after}
 use Rattle.ocp_world.specs.Replay.{replay_from}
 
 -- one more step at the end
-steps-suc : (w : World) (by id n : ℕ) → replay_from w (replicate (suc n) (Step by id)) ≡ (after (replay_from w (replicate n (Step by id))) (Step by id)).world
+pub steps-suc : (w : World) (by id n : ℕ) → replay_from w (replicate (suc n) (Step by id)) ≡ (after (replay_from w (replicate n (Step by id))) (Step by id)).world
 steps-suc w by id zero = refl
 steps-suc w by id (suc n) = steps-suc (after w (Step by id)).world by id n
 

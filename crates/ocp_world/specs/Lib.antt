@@ -6,5 +6,6 @@ pub mod After
 pub mod Answers
 pub mod Replay
 pub mod Slice
+pub mod Settled
 pub mod Laws
 pub mod Mirror

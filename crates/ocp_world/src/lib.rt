@@ -5,6 +5,7 @@
 mod answers;
 mod convert;
 pub mod laws;
+mod settle;
 mod slice;
 mod state;
 
@@ -12,4 +13,5 @@ pub use answers::EngineFault;
 pub use convert::discard_of;
 pub use ocp_debug::{Command, DebugFault};
 pub use ocp_table::{Slice, StepOutcome};
+pub use settle::instructions_done_alone_are_events;
 pub use state::State;

@@ -1,0 +1,29 @@
+-- What instructions that a machine does by itself make of a world.
+use Rattle.std.specs.Prelude.{◌≡◌, ◌≤◌, ℕ, false, Some}
+use Rattle.std.specs.FinMap.{get, insert}
+use Rattle.obcp_types.specs.declared.status.Status.TheVariants.{Running}
+use Rattle.bpf_step.specs.Machine.{State}
+use Rattle.bpf_step.specs.Runs.{local_run}
+use Rattle.ocp_table.specs.Records.{Rec}
+use Rattle.ocp_table.specs.Effects.{records_with}
+use Rattle.ocp_table.specs.Snapshots.{settled}
+use Rattle.ocp_world.specs.World.{World}
+
+-- the world in which this machine is put back into a procedure, and its pass flag is off
+abbrev pub world_settled : ℕ → State → World → World
+world_settled id machine w = record {
+  apid = w.apid;
+  records = records_with (get w.records id) id (settled machine) w.records;
+  pool = w.pool;
+  reports = w.reports;
+  traces = w.traces;
+}
+
+-- the procedure under this id runs and is not traced, and its machine does so many instructions by itself,
+-- at least one, which leave it so
+pub record RunsAlone (w : World) (id : ℕ) (r : Rec) (n : ℕ) (machine : State) : Type 0 where
+  pub held : get w.records id ≡ Some r
+  pub running : r.control.status ≡ Running
+  pub untraced : r.traced ≡ false
+  pub some : 1 ≤ n
+  pub ran : local_run r.image r.breakpoints r.control.pass r.machine n ≡ Some machine

@@ -1,0 +1,59 @@
+//! A procedure that runs apart.
+
+ghost use Rattle.std.specs.Prelude.{◌≡◌, ◌↔◌, ℕ, IfOk, IsTrue, Some, replicate};
+ghost use Rattle.std.specs.FinMap.{get};
+ghost use Rattle.ocp_table.specs.Snapshots.{snapshot_at, StandsAt};
+ghost use Rattle.bpf_step.specs.Machine.{State as Machined};
+ghost use Rattle.ocp_table.specs.Records.{Rec};
+ghost use Rattle.ocp_table.specs.declared.answers.StepOutcome.TheVariants as outcome;
+ghost use Rattle.ocp_world.specs.World.{World, Step};
+ghost use Rattle.ocp_world.specs.After.{Stepped};
+ghost use Rattle.ocp_world.specs.Replay.{replay_from, answers};
+ghost use Rattle.ocp_world.specs.Settled.{world_settled, RunsAlone};
+
+use crate::State;
+use bpf_step::Machine;
+use ocp_table::Snapshot;
+use std::alloc::{AllocError, Allocator};
+
+impl<A: Allocator> State<A> {
+    ghost use Rattle.ocp_world.specs.Mirror.State.{IsWorld};
+
+    /// What is taken of a procedure to run it apart, where it is loaded and runs.
+    pub fn snapshot(&self, alloc: A, id: u16) -> Result<Option<Snapshot<A>>, AllocError>
+    where
+        A: Copy,
+        ensures { (w : World) → IsWorld w self.now →
+            IfOk result (λ s. s ≡ snapshot_at (get w.records id)) }
+    {
+        self.table.snapshot(alloc, id)
+    }
+
+    /// Whether a procedure is loaded and runs, and its parts are the same by value as when they were taken.
+    pub fn is_at(&self, id: u16, snapshot: &Snapshot<A>) -> bool
+        ensures { (w : World) → IsWorld w self.now →
+            IsTrue result ↔ (snapshot_at (get w.records id) ≡ Some snapshot.now) }
+    {
+        self.table.is_at(id, snapshot)
+    }
+
+    /// Puts back the machine of a procedure, which did instructions apart.
+    pub fn settle(&mut self, id: u16, machine: Machine<A>)
+        requires { StandsAt (get self.old.table id) machine }
+        ensures { (w : World) → IsWorld w self.old → IsWorld (world_settled id machine w) self.new }
+    {
+        self.table.settle(id, machine);
+    }
+}
+
+/// Instructions that a machine does by itself are as many instruction events of its procedure, where that runs and is not
+/// traced: each is answered so, and they move the machine alone and set the pass flag off. The function does nothing when it
+/// runs: its contract is the law.
+pub fn instructions_done_alone_are_events()
+    ensures world { (w : World) (by id n : ℕ) (r : Rec) (machine : Machined) →
+        RunsAlone w id r n machine →
+        replay_from w (replicate n (Step by id)) ≡ world_settled id machine w }
+    ensures answers { (w : World) (by id n : ℕ) (r : Rec) (machine : Machined) →
+        RunsAlone w id r n machine →
+        answers w (replicate n (Step by id)) ≡ replicate n (Stepped outcome.Ran) }
+{}
