@@ -10,3 +10,4 @@ pub mod Factorisation
 pub mod Pools
 pub mod Mailboxes
 pub mod Exchanges
+pub mod Committing

@@ -9,4 +9,6 @@ pub mod Alone
 pub mod Pool
 pub mod Mailbox
 pub mod Exchange
+pub mod Tickets
+pub mod Commits
 pub mod Mirror

@@ -25,3 +25,17 @@ pub struct RunFault<A: Allocator = Global> {
     pub index: usize,
     pub answers: Vec<Answer<A>, A>,
 }
+
+/// What became of a work. The first three change nothing, and come in this order.
+#[derive(Clone, Copy, PartialEq, Eq, Debug)]
+pub enum CommitOutcome {
+    /// It has no instruction.
+    Empty,
+    /// Its procedure is not loaded or does not run, or its program, machine, breakpoints, pass flag or trace flag are not
+    /// those that the work began with.
+    Stale,
+    /// There is no room for a further journal entry.
+    JournalFull,
+    /// So many instructions were done.
+    Committed(u32),
+}

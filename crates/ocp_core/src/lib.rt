@@ -3,16 +3,19 @@
 #![tactic(auto)]
 
 mod answers;
+mod commit;
 mod debugger;
 mod engine;
 mod event;
 mod journal;
 pub mod laws;
 mod run;
+mod ticket;
 
-pub use answers::{Answer, RunFault, RunRefusal};
+pub use answers::{Answer, CommitOutcome, RunFault, RunRefusal};
 pub use engine::Engine;
 pub use event::{Entry, Event};
 pub use journal::Journal;
 pub use ocp_reports::{Octets, Reports};
 pub use ocp_world::{Command, DebugFault, EngineFault, Slice, StepOutcome};
+pub use ticket::{Ticket, Work};

@@ -6,3 +6,5 @@
 mod engine;
 #[cfg(test)]
 mod pool;
+#[cfg(test)]
+mod ticket;

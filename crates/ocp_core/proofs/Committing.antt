@@ -1,0 +1,109 @@
+-- A work that is committed.
+use Rattle.std.proofs.Common.{◌≡◌, ◌≤◌, ℕ, zero, suc, Bool, true, false, List, [], ◌∷◌, Option, Some, None, replicate, refl, sym, ap, subst, ◌∙◌, arith}
+use Rattle.std.specs.FinMap.{get}
+use Rattle.obcp_types.specs.declared.status.Status.{Status}
+use Rattle.obcp_types.specs.declared.status.Status.TheVariants.{Inactive, Running, Held}
+use Rattle.bpf_step.specs.Machine.{State as Machined}
+use Rattle.bpf_step.specs.Step.{StandsIn}
+use Rattle.ocp_table.specs.Records.{Rec, Records}
+use Rattle.ocp_table.specs.Snapshots.{Snapshot, snapshot_of, snapshot_by, snapshot_at, run_of, StandsAt}
+use Rattle.ocp_world.specs.World.{World, Step}
+use Rattle.ocp_world.specs.After.{Answer, Stepped, after}
+use Rattle.ocp_world.specs.Replay.{replay_from, answers}
+use Rattle.ocp_world.specs.Slice.{outcome_in}
+use Rattle.ocp_table.specs.declared.answers.StepOutcome.TheVariants as S
+use Rattle.ocp_world.specs.Settled.{RunsAlone, world_settled}
+use Rattle.ocp_world.specs.Mirror.State.{IsWorld}
+use Rattle.ocp_world.specs.declared.state.State.{State}
+use Rattle.ocp_core.specs.Log.{Log, Entry, Steps, with_entry, world_of}
+use Rattle.ocp_core.specs.Marks.{last_outcome}
+use Rattle.ocp_core.specs.Tickets.{Worked, IsRun}
+use Rattle.ocp_core.specs.Commits.{IsFresh}
+use Rattle.ocp_core.proofs.Replays.{world_of-with_entry}
+use Rattle.ocp_core.proofs.Keeping.{IsWorld-with_entry}
+
+-- ---- the procedure that a snapshot is of
+
+snapshot_some : (s : Status) (r : Rec) (base : Snapshot) → snapshot_by s r ≡ Some base → (s ≡ Running) × (snapshot_of r ≡ base)
+snapshot_some Inactive r base is = absurd (cc)
+snapshot_some Running r base is = (refl, cc)
+snapshot_some Held r base is = absurd (cc)
+
+-- it is loaded, it runs, and has these parts
+record IsOf (o : Option Rec) (base : Snapshot) : Type 0 where
+  r : Rec
+  held : o ≡ Some r
+  running : r.control.status ≡ Running
+  same : snapshot_of r ≡ base
+
+is_of : (o : Option Rec) (base : Snapshot) → snapshot_at o ≡ Some base → IsOf o base
+is_of None base is = absurd (cc)
+is_of (Some r) base is =
+    let found = snapshot_some r.control.status r base is in
+    record { r = r; held = refl; running = found.0; same = found.1 }
+
+untraced_by : (b : Bool) (n : ℕ) → (b ≡ true → n ≡ 0) → (n ≡ 0 → ⊥) → b ≡ false
+untraced_by true n none some = absurd (some (none refl))
+untraced_by false n none some = refl
+
+at_least_one : (n : ℕ) → (n ≡ 0 → ⊥) → 1 ≤ n
+at_least_one zero some = absurd (some refl)
+at_least_one (suc n) some = omega arith
+
+-- ---- its instructions are events
+
+alone : (log : Log) (w : Worked) → (some : w.count ≡ 0 → ⊥) (fresh : IsFresh log w) (run : IsRun w) (found : IsOf (get (world_of log).records w.id) w.base) → RunsAlone (world_of log) w.id found.r w.count w.end
+alone log w some fresh run found = record {
+  held = found.held;
+  running = found.running;
+  untraced = ap (λ s. s.traced) found.same ∙ untraced_by w.base.traced w.count run.untraced some;
+  some = at_least_one w.count some;
+  ran = subst (λ s. run_of s w.count ≡ Some w.end) (sym found.same) run.ran;
+}
+
+-- the machine that is put back stands in the procedure
+stands_at : (o : Option Rec) (base : Snapshot) (machine : Machined) → IsOf o base → StandsIn base.image machine → StandsAt o machine
+stands_at o base machine found stands =
+    subst (λ x. StandsAt x machine) (sym found.held) (subst (λ s. StandsIn s.image machine) (sym found.same) stands)
+
+-- what the law says of the instructions of a run
+abbrev pub AreEvents : Type 0
+AreEvents = (v : World) (by id n : ℕ) (r : Rec) (machine : Machined) → RunsAlone v id r n machine → replay_from v (replicate n (Step by id)) ≡ world_settled id machine v
+
+pub events_settle : AreEvents → (log : Log) (by : ℕ) (w : Worked) → (w.count ≡ 0 → ⊥) → IsFresh log w → IsRun w → replay_from (world_of log) (replicate w.count (Step by w.id)) ≡ world_settled w.id w.end (world_of log)
+events_settle law log by w some fresh run =
+    let found = is_of (get (world_of log).records w.id) w.base fresh in
+    law (world_of log) by w.id w.count found.r w.end (alone log w some fresh run found)
+
+pub world_committed : AreEvents → (log new : Log) (by : ℕ) (w : Worked) → (w.count ≡ 0 → ⊥) → IsFresh log w → IsRun w → new ≡ with_entry log (Steps by w.id w.count) → world_of new ≡ world_settled w.id w.end (world_of log)
+world_committed law log new by w some fresh run is =
+    ap world_of is ∙ world_of-with_entry log (Steps by w.id w.count) ∙ events_settle law log by w some fresh run
+
+module _ {A : Type 0} where
+  pub may_settle : (log : Log) (w : Worked) (s : State A) → IsWorld (world_of log) s → IsFresh log w → IsRun w → StandsAt (get s.table w.id) w.end
+  may_settle log w s stands fresh run =
+      subst (λ m. StandsAt (get m w.id) w.end) (sym stands.records)
+      (stands_at (get (world_of log).records w.id) w.base w.end (is_of (get (world_of log).records w.id) w.base fresh) run.stands)
+
+  -- the state after a commit stands for the new journal's world
+  pub IsWorld-committed : AreEvents → (log new : Log) (by : ℕ) (w : Worked) (s : State A) → (w.count ≡ 0 → ⊥) → IsFresh log w → IsRun w → new ≡ with_entry log (Steps by w.id w.count) → IsWorld (world_settled w.id w.end (world_of log)) s → IsWorld (world_of new) s
+  IsWorld-committed law log new by w s some fresh run is stands =
+      IsWorld-with_entry log new (Steps by w.id w.count) s is
+      (subst (λ v. IsWorld v s) (sym (events_settle law log by w some fresh run)) stands)
+
+-- ---- the mark of its entry
+
+head_of : (x y : Answer) (xs ys : List Answer) → x ∷ xs ≡ y ∷ ys → x ≡ y
+head_of x y xs ys is = cc
+
+tail_of : (x y : Answer) (xs ys : List Answer) → x ∷ xs ≡ y ∷ ys → xs ≡ ys
+tail_of x y xs ys is = cc
+
+-- instructions that are all answered so have that as their last outcome
+pub last_of_run : (w : World) (by id n : ℕ) → answers w (replicate n (Step by id)) ≡ replicate n (Stepped S.Ran) → last_outcome w by id S.Ran n ≡ S.Ran
+last_of_run w by id zero all = refl
+last_of_run w by id (suc n) all =
+    let first = after w (Step by id) in
+    let answered = head_of first.answer (Stepped S.Ran) (answers first.world (replicate n (Step by id))) (replicate n (Stepped S.Ran)) all in
+    let rest = tail_of first.answer (Stepped S.Ran) (answers first.world (replicate n (Step by id))) (replicate n (Stepped S.Ran)) all in
+    ap (λ a. last_outcome first.world by id (outcome_in a) n) answered ∙ last_of_run first.world by id n rest

@@ -1,0 +1,30 @@
+-- When a work is committed, and what that leaves.
+use Rattle.std.specs.Prelude.{◌≡◌, ◌≢◌, ℕ, true, false, Some}
+use Rattle.std.specs.FinMap.{get}
+use Rattle.ocp_table.specs.Snapshots.{snapshot_at}
+use Rattle.ocp_world.specs.Settled.{world_settled}
+use Rattle.ocp_core.specs.declared.answers.CommitOutcome.{CommitOutcome}
+use Rattle.ocp_core.specs.declared.answers.CommitOutcome.TheVariants.{Empty, Stale, JournalFull, Committed}
+use Rattle.ocp_core.specs.Log.{Log, Steps, world_of, is_full, with_entry}
+use Rattle.ocp_core.specs.Tickets.{Worked}
+
+-- the procedure is loaded and runs, and its image, machine, breakpoints, pass flag and trace flag are what
+-- the work began with
+abbrev pub IsFresh : Log → Worked → Type 0
+IsFresh log w = snapshot_at (get (world_of log).records w.id) ≡ Some w.base
+
+-- the instructions are one entry, and leave the machine of the work, with the pass flag off
+pub record IsCommitted (old new : Log) (by : ℕ) (w : Worked) : Type 0 where
+  pub journal : new ≡ with_entry old (Steps by w.id w.count)
+  pub world : world_of new ≡ world_settled w.id w.end (world_of old)
+
+-- a work without instructions is refused as empty, one whose procedure has changed as stale, and then one
+-- that finds the journal full; nothing is changed
+abbrev pub Commits : Log → Log → ℕ → Worked → CommitOutcome → Type 0
+Commits old new by w Empty = (w.count ≡ 0) × (new ≡ old)
+Commits old new by w Stale = (w.count ≢ 0) × (IsFresh old w → ⊥) × (new ≡ old)
+Commits old new by w JournalFull =
+    (w.count ≢ 0) × IsFresh old w × (is_full old ≡ true) × (new ≡ old)
+Commits old new by w (Committed count) =
+    (w.count ≢ 0) × IsFresh old w × (is_full old ≡ false) × (count ≡ w.count)
+    × IsCommitted old new by w
