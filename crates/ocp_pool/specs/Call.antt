@@ -1,4 +1,5 @@
--- The engine calls, on lists: what a call did, what it answers, and what it does to pool and mailbox.
+-- The engine calls, on lists: what a call did, what it answers, and what it does to pool and
+-- mailbox.
 use Rattle.std.specs.Prelude.{ℕ, ◌+◌, ◌%◌, ◌^◌, ℤ, ◌==◌, if◌then◌else◌, List, drop, slice_get, slice_index, slice_set, unsigned_abs, Option, Some, None, Result, Ok, Err}
 use Rattle.ocp_pool.specs.declared.call.Called.{Called}
 use Rattle.ocp_pool.specs.declared.call.Called.TheVariants.{PoolGet, PoolSet, PoolAdd, NextParam, StepEnd}
@@ -22,7 +23,8 @@ abbrev pub pool_add : ℕ → ℕ → Option ℕ → Option Called
 pool_add r1 r2 (Some old) = Some (PoolAdd r1 r2 ((old + r2) % 2 ^ 64))
 pool_add r1 r2 None = None
 
--- what the call of a number, 1 to 5, does, by R1, R2, the pool's words and the mailbox's words; none where the index is no pool word's
+-- what the call of a number, 1 to 5, does, by R1, R2, the pool's words and the mailbox's words;
+-- none where the index is no pool word's
 abbrev pub engine_call : ℤ → ℕ → ℕ → List ℕ → List ℕ → Option Called
 engine_call number r1 r2 pool mailbox =
     if unsigned_abs number == 1 then pool_get r1 (slice_get pool r1)
