@@ -37,7 +37,7 @@ others false k m h =
     let whole : 0 + m ≡ m = omega arith in
     rw whole (mod-eq_of_lt h)
 
-bits-number : (p : List Bool) → bits (length p) (number_of_bits p) ≡ p
+pub bits-number : (p : List Bool) → bits (length p) (number_of_bits p) ≡ p
 unfolding number_of_bits
 bits-number [] = refl
 bits-number (b ∷ p) =

@@ -3,6 +3,8 @@ pub mod Division
 pub mod Bits
 pub mod Steps
 pub mod Function
+pub mod Eight
+pub mod Remainders
 pub mod Written
 pub mod Fields
 pub mod ReadTelecommand

@@ -1,8 +1,12 @@
 //! The error control: the remainder of a division of polynomials.
 
-ghost use Rattle.std.specs.Prelude.{◌≡◌, ◌<◌, ◌^◌, ℕ, [], ◌∷◌, ◌++◌, List, Bool, true, false};
-ghost use Rattle.pus_fields.specs.ErrorControl.{IsErrorControl, IsRemainder, error_control, bits};
-ghost use Rattle.pus_fields.specs.Mirror.Register.{dividend, shifted_bits};
+ghost use Rattle.std.specs.Prelude.{◌≡◌, ◌<◌, ◌+◌, ◌*◌, ◌^◌, ℕ, [], ◌∷◌, ◌++◌, List, Bool, true, false};
+ghost use Rattle.pus_fields.specs.ErrorControl.{IsErrorControl, IsRemainder, error_control, bits, octet_bits, zeros as no_bits};
+ghost use Rattle.pus_fields.specs.Mirror.Register.{dividend, shifted_bits, shifts};
+
+mod remainders;
+
+use remainders::REMAINDERS;
 
 /// x^12 + x^5 + 1
 const LOW: u16 = 0x1021;
@@ -32,6 +36,47 @@ fn register_after_octet(register: u16, octet: u8) -> u16
     next
 }
 
+/// The remainder of an octet with so many octets of zeros and 16 zero bits behind it.
+#[inline(always)]
+fn remainder(octet: u8, zeros: usize) -> u16
+    requires { zeros < 8 }
+    ensures { bits 16 result ≡ shifts (8 + 8 * zeros) (bits 8 octet ++ no_bits 8) }
+{
+    REMAINDERS[zeros][usize::from(octet)]
+}
+
+/// The register after eight octets: the sum of their remainders, with the register's octets added to the first two.
+#[inline(always)]
+fn register_after_eight(register: u16, octets: &[u8; 8]) -> u16
+    ensures { (rest remainder : List Bool) →
+        IsRemainder (dividend (bits 16 result) rest) remainder →
+        IsRemainder (dividend (bits 16 register) (octet_bits octets.now ++ rest)) remainder }
+{
+    let first = octets[0] ^ (register / 256) as u8;
+    let second = octets[1] ^ (register % 256) as u8;
+    remainder(first, 7)
+        ^ remainder(second, 6)
+        ^ remainder(octets[2], 5)
+        ^ remainder(octets[3], 4)
+        ^ remainder(octets[4], 3)
+        ^ remainder(octets[5], 2)
+        ^ remainder(octets[6], 1)
+        ^ remainder(octets[7], 0)
+}
+
+/// The register after so many octets as there are.
+fn register_after_octets(register: u16, octets: &[u8]) -> u16
+    ensures { (remainder : List Bool) →
+        IsRemainder (dividend (bits 16 result) []) remainder →
+        IsRemainder (dividend (bits 16 register) (octet_bits octets.now)) remainder }
+{
+    let mut next = register;
+    for octet in octets {
+        next = register_after_octet(next, *octet);
+    }
+    next
+}
+
 /// The error control of the octets (ECSS-E-ST-70-41C, annex B): the remainder of the polynomial of their
 /// bits, with 16 zeros behind and the first 16 inverted, by x^16 + x^12 + x^5 + 1.
 pub fn crc16(octets: &[u8]) -> u16
@@ -40,8 +85,10 @@ pub fn crc16(octets: &[u8]) -> u16
     ensures only { (other : ℕ) → other < 2 ^ 16 → IsErrorControl octets.now other → other ≡ result }
 {
     let mut register = 0xffff;
-    for octet in octets {
-        register = register_after_octet(register, *octet);
+    let mut rest = octets;
+    while let Some((eight, others)) = rest.split_first_chunk::<8>() {
+        register = register_after_eight(register, eight);
+        rest = others;
     }
-    register
+    register_after_octets(register, rest)
 }
