@@ -1,4 +1,5 @@
--- What an event does to the records, with all values that it writes. Each part of a record follows from it by cases.
+-- What an event does to the records, with all values that it writes. Each part of a record follows
+-- from it by cases.
 use Rattle.std.specs.Prelude.{ℕ, ◌==◌, ◌||◌, Bool, true, false, not, nat_lt, if◌then◌else◌, List, [], ◌∷◌, ◌++◌, Option, Some, None, Result, Ok, Err}
 use Rattle.std.specs.List.{filter}
 use Rattle.std.specs.FinMap.{get, insert, remove}
@@ -23,9 +24,9 @@ use Rattle.ocp_table.specs.declared.answers.StepOutcome.{StepOutcome}
 use Rattle.ocp_table.specs.declared.answers.StepOutcome.TheVariants as step
 use Rattle.ocp_table.specs.Records.{Rec, Records}
 
--- what an event does to the record of its procedure: it is started with arguments, sent words, a stop or suspend becomes
--- pending, it is made inactive, it runs on, an instruction event is done, or a debugger sets or clears a breakpoint or sets
--- the trace flag
+-- what an event does to the record of its procedure: it is started with arguments, sent words, a stop
+-- or suspend becomes pending, it is made inactive, it runs on, an instruction event is done, or a
+-- debugger sets or clears a breakpoint or sets the trace flag
 pub data Change : Type 0 where
   Started : List ℕ → Change
   Sent : List ℕ → Change
@@ -85,7 +86,8 @@ abbrev pub inactive : Cause → Control
 inactive cause =
     record { status = Inactive; pending = pending.Nothing; pass = false; cause = cause }
 
--- a procedure that becomes held: at a breakpoint what is pending stays, at the end of a step it is done
+-- a procedure that becomes held: at a breakpoint what is pending stays, at the end of a step it is
+-- done
 abbrev pub held : Pending → Control → Control
 held pending c = record { status = Held; pending = pending; pass = false; cause = c.cause }
 
@@ -249,7 +251,8 @@ step_outcome_of (Called call) = step.Called
 step_outcome_of Ended = step.Ended
 step_outcome_of (Faulted number) = step.Faulted number
 
--- the answer to an instruction event: where none is done, the procedure is not loaded or does not run
+-- the answer to an instruction event: where none is done, the procedure is not loaded or does not
+-- run
 abbrev pub step_outcome : Effect → StepOutcome
 step_outcome (Changed id (Stepped outcome)) = step_outcome_of outcome
 step_outcome (Kept (Failed failure.NotLoaded)) = step.NotLoaded

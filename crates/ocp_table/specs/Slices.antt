@@ -1,4 +1,5 @@
--- A slice: instruction events of one procedure, one after another, up to a budget, until it no longer runs.
+-- A slice: instruction events of one procedure, one after another, up to a budget, until it no longer
+-- runs.
 use Rattle.std.specs.Prelude.{◌≡◌, ◌+◌, ℕ, zero, suc, Bool, true, false, if◌then◌else◌, List, Option, Some, None}
 use Rattle.std.specs.FinMap.{get, insert}
 use Rattle.obcp_types.specs.declared.status.Status.{Status}
@@ -110,8 +111,8 @@ with_machine n machine r = record {
   traced = r.traced;
 }
 
--- the procedure under this id runs, and its machine does so many instructions by itself, which leave
--- it so
+-- the procedure under this id runs, and its machine does so many instructions by itself, which
+-- leave it so
 pub record RunsBy (m : Records) (id : ℕ) (r : Rec) (n : ℕ) (machine : State) : Type 0 where
   pub held : get m id ≡ Some r
   pub running : r.control.status ≡ Running
