@@ -11,3 +11,4 @@ pub mod Pools
 pub mod Mailboxes
 pub mod Exchanges
 pub mod Committing
+pub mod Replaying

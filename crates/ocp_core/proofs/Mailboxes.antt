@@ -124,8 +124,9 @@ module _ (r : Rec) (ts ss : List ℕ) (posted : ts ++ r.mailbox ≡ ss) (word : 
 
   none_is_left_of : (word ≡ None) ↔ (ts ≡ ss)
   none_is_left_of = (
-      (λ none. sym (append-nil ts) ∙ ap (λ xs. ts ++ xs) (sym (all_taken r.mailbox (sym oldest ∙ none))) ∙ posted),
-      (λ same. oldest ∙ none_left r.mailbox (let e : length (ts ++ r.mailbox) ≡ length ts = ap length (posted ∙ sym same) in omega (arith, sym (length-append ts r.mailbox) ∙ e))))
+    (λ none. sym (append-nil ts) ∙ ap (λ xs. ts ++ xs) (sym (all_taken r.mailbox (sym oldest ∙ none))) ∙ posted),
+    (λ same. oldest ∙ none_left r.mailbox (let e : length (ts ++ r.mailbox) ≡ length ts = ap length (posted ∙ sym same) in omega (arith, sym (length-append ts r.mailbox) ∙ e))),
+  )
 
 module _ (o : Option Rec) (pool ts ss : List ℕ) (word : Option ℕ) (next : IsNext o pool (Called (NextParam word))) (posted : IsPosted o ts ss) where
   posted_there : ts ++ next.rec.mailbox ≡ ss

@@ -40,7 +40,7 @@ pub record IsExchanged (w : World) (one two : Event) (es : List Event) : Type 0 
   pub given : answers w (one ∷ two ∷ es) ≡ first ∷ second ∷ later
   pub exchanged : answers w (two ∷ one ∷ es) ≡ second ∷ first ∷ later
   pub world : IsSameButTraces w one two
-    (replay_from w (one ∷ two ∷ es)) (replay_from w (two ∷ one ∷ es))
+      (replay_from w (one ∷ two ∷ es)) (replay_from w (two ∷ one ∷ es))
 
 -- the law, in every world and for all events that follow
 abbrev pub MayBeExchanged : Type 0
@@ -59,7 +59,7 @@ pub record IsExchangedIn (w : World) (before : List Event) (one two : Event) (es
   pub given : answers w (before ++ one ∷ two ∷ es) ≡ earlier ++ first ∷ second ∷ later
   pub exchanged : answers w (before ++ two ∷ one ∷ es) ≡ earlier ++ second ∷ first ∷ later
   pub world : IsSameButTraces (replay_from w before) one two
-    (replay_from w (before ++ one ∷ two ∷ es)) (replay_from w (before ++ two ∷ one ∷ es))
+      (replay_from w (before ++ one ∷ two ∷ es)) (replay_from w (before ++ two ∷ one ∷ es))
 
 abbrev pub MayBeExchangedInLists : Type 0
 MayBeExchangedInLists =

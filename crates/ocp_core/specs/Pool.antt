@@ -75,7 +75,7 @@ pub record IsAnswered (o : Option Rec) (pool : List ℕ) (call : Call) : Type 0 
   pub number : ℤ
   pub calls : Calls o number
   pub given : engine_call number (read calls.rec.machine 1) (read calls.rec.machine 2)
-    pool calls.rec.mailbox ≡ Some call
+      pool calls.rec.mailbox ≡ Some call
 
 -- the law: each engine call is so answered, on the pool of the operations before it
 abbrev pub CallsAreAnswered : Type 0

@@ -39,9 +39,11 @@ impl<A: Allocator> Model for Journal<A> {
 impl<A: Allocator> Journal<A> {
     ghost use Rattle.ocp_core.specs.Journal.{entry_of};
 
-    /// A journal without entries, with room for so many.
+    /// A journal without entries, with room for so many, of an engine with 1 to 256 pool words.
     pub fn new(alloc: A, apid: Apid, words: u16, capacity: u32) -> Result<Self, AllocError>
         requires apid { apid < 2047 }
+        requires words_from { 1 ≤ words }
+        requires words_to { words ≤ 256 }
         requires capacity { capacity ≤ 1000000 }
         ensures { IfOk result (λ journal. journal ≡ empty_log apid words capacity) }
     {
@@ -64,7 +66,9 @@ impl<A: Allocator> Journal<A> {
 
     /// The number of the engine's pool words.
     pub fn words(&self) -> u16
-        ensures { result ≡ self.now.words }
+        ensures value { result ≡ self.now.words }
+        ensures some { 1 ≤ result }
+        ensures few { result ≤ 256 }
     {
         self.words
     }

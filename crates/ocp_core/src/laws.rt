@@ -8,17 +8,16 @@ ghost use Rattle.ocp_core.specs.Marks.{marks};
 
 mod procedures;
 
-pub use procedures::{
-    engine_calls_answer_from_the_pool, instructions_of_two_procedures_change_places,
-    machines_follow_from_their_own_events, the_pool_follows_from_its_operations,
-    words_are_taken_in_the_order_sent,
-};
-
 pub use ocp_world::laws::{
     a_debugger_changes_breakpoints_and_trace_flags_alone, an_instruction_changes_its_own_procedure,
     only_running_procedures_step, only_starts_and_own_instructions_change_machines,
     refused_events_change_nothing, requests_keep_or_start_machines,
     trace_records_are_appended_by_instructions, worlds_have_no_full_journal,
+};
+pub use procedures::{
+    engine_calls_answer_from_the_pool, instructions_of_two_procedures_change_places,
+    machines_follow_from_their_own_events, the_pool_follows_from_its_operations,
+    words_are_taken_in_the_order_sent,
 };
 
 /// The mark of each new entry of a journal is the answer that was given with it, and the older marks stay.

@@ -9,6 +9,7 @@ mod engine;
 mod event;
 mod journal;
 pub mod laws;
+mod replay;
 mod run;
 mod ticket;
 
@@ -18,4 +19,5 @@ pub use event::{Entry, Event};
 pub use journal::Journal;
 pub use ocp_reports::{Octets, Reports};
 pub use ocp_world::{Command, DebugFault, EngineFault, Slice, StepOutcome};
+pub use replay::replay_one;
 pub use ticket::{Ticket, Work};

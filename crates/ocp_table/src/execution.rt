@@ -75,7 +75,7 @@ impl<A: Allocator> Execution<A> {
     }
 
     /// A machine like this one.
-    pub(crate) fn machine(&self, alloc: A) -> Result<Machine<A>, AllocError>
+    pub fn machine(&self, alloc: A) -> Result<Machine<A>, AllocError>
     where
         A: Copy,
         ensures { IfOk result (λ machine. machine ≡ self.now.machine) }

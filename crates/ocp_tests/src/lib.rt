@@ -7,4 +7,6 @@ mod engine;
 #[cfg(test)]
 mod pool;
 #[cfg(test)]
+mod replays;
+#[cfg(test)]
 mod ticket;

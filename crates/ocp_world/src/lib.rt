@@ -5,6 +5,7 @@
 mod answers;
 mod convert;
 pub mod laws;
+mod machine;
 mod settle;
 mod slice;
 mod state;

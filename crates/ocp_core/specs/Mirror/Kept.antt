@@ -15,6 +15,8 @@ module _ {A : Type 0} where
 
   pub record IsKept (j : Inside A) : Type 0 where
     pub named : j.apid < 2047
+    pub words_from : 1 ≤ j.words
+    pub words_to : j.words ≤ 256
     pub few : vec_len j.entries ≤ j.capacity
     pub room : j.capacity ≤ vec_capacity j.entries
     pub limit : j.capacity ≤ 1000000

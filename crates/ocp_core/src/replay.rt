@@ -1,0 +1,102 @@
+//! One procedure of a journal, by itself.
+
+ghost use Rattle.std.specs.Prelude.{◌≡◌, ◌<◌, ℕ, IfOk, OnOk, replicate};
+ghost use Rattle.std.specs.FinMap.{get};
+ghost use Rattle.ocp_table.specs.Laws.{machine_of};
+ghost use Rattle.ocp_world.specs.World.{World, Request as Asked, Step};
+ghost use Rattle.ocp_world.specs.After.{after};
+ghost use Rattle.ocp_world.specs.Replay.{replay_from};
+ghost use Rattle.ocp_world.specs.Mirror.State.{IsWorld};
+ghost use Rattle.ocp_core.specs.Log.{events_of, expand, world_of};
+ghost use Rattle.ocp_core.specs.Journal.{entry_of};
+ghost use Rattle.ocp_core.specs.Alone.{alone_after};
+
+use crate::laws::{machines_follow_from_their_own_events, refused_events_change_nothing};
+use crate::{Command, EngineFault, Entry, Journal};
+use bpf_step::Machine;
+use ocp_world::State;
+use pus_fields::read_tc;
+use space_packet::Apid;
+use std::alloc::{AllocError, Allocator};
+
+// Does a request.
+fn request<A: Allocator + Copy>(
+    state: &mut State<A>,
+    alloc: A,
+    apid: Apid,
+    time: u32,
+    octets: &[u8],
+) -> Result<(), AllocError>
+    requires { apid < 2047 }
+    ensures { (w : World) (by : ℕ) → IsWorld w state.old → w.apid ≡ apid →
+        OnOk result (IsWorld (after w (Asked by time octets.now)).world state.new) }
+{
+    refused_events_change_nothing();
+    match state.receive(alloc, time, read_tc(apid, octets)) {
+        Ok(_reports) => Ok(()),
+        Err(EngineFault::Discarded(_cause)) => Ok(()),
+        Err(EngineFault::JournalFull) => Ok(()),
+        Err(EngineFault::Memory) => Err(AllocError),
+    }
+}
+
+// Does so many instructions of a procedure.
+fn steps<A: Allocator>(state: &mut State<A>, id: u16, count: u32)
+    ensures { (w : World) (by : ℕ) → IsWorld w state.old →
+        IsWorld (replay_from w (replicate count (Step by id))) state.new }
+{
+    for _done in 0..count {
+        state.step(id);
+    }
+}
+
+// Does the events of an entry.
+fn enter<A: Allocator + Copy, B: Allocator>(
+    state: &mut State<A>,
+    alloc: A,
+    apid: Apid,
+    entry: &Entry<B>,
+) -> Result<(), AllocError>
+    requires { apid < 2047 }
+    ensures { (w : World) → IsWorld w state.old → w.apid ≡ apid →
+        OnOk result (IsWorld (replay_from w (events_of (entry_of entry.now))) state.new) }
+{
+    match entry {
+        Entry::Request { time, octets, .. } => {
+            request(state, alloc, apid, *time, octets.as_slice())?;
+        }
+        Entry::Steps { id, count, .. } => steps(state, *id, *count),
+        Entry::SetBreak { id, place, .. } => {
+            let _result = state.command(*id, Command::SetBreak(*place));
+        }
+        Entry::ClearBreak { id, place, .. } => {
+            let _result = state.command(*id, Command::ClearBreak(*place));
+        }
+        Entry::Trace { id, on, .. } => {
+            let _result = state.command(*id, Command::SetTrace(*on));
+        }
+    }
+    Ok(())
+}
+
+/// The machine of a procedure at the end of a journal, where it is loaded there. It is the machine of the journal's replay,
+/// and the one that its image and its own events make: its starts, its instructions, and the answers of its engine calls.
+/// The only refusal is that of memory.
+pub fn replay_one<A: Allocator + Copy, B: Allocator>(
+    alloc: A,
+    journal: &Journal<B>,
+    id: u16,
+) -> Result<Option<Machine<A>>, AllocError>
+    ensures replay { IfOk result (λ machine.
+        machine ≡ machine_of (get (world_of journal.now).records id)) }
+    ensures alone { IfOk result (λ machine. machine ≡
+        alone_after journal.now.apid journal.now.words (expand journal.now.entries) id) }
+{
+    machines_follow_from_their_own_events();
+    let apid = journal.apid();
+    let mut state = State::new(alloc, apid, journal.words())?;
+    for entry in journal.entries() {
+        enter(&mut state, alloc, apid, entry)?;
+    }
+    state.machine(alloc, id)
+}
