@@ -1,0 +1,50 @@
+-- What contracts see of a book and of a seat.
+use Rattle.std.specs.Prelude.{◌≡◌, ◌<◌, ◌+◌, ℕ, List, [], ◌++◌, length, Option}
+use Rattle.ocp_core.specs.Log.{Log, Entry}
+use Rattle.ocp_slices.specs.declared.seat.SeatFault.{SeatFault}
+use Rattle.ocp_slices.specs.declared.seat.SeatFault.TheVariants.{SeatsFull, Memory}
+
+-- the engine, the number of its entries at the start, the number of seats handed out, the procedure taken
+-- last by any seat, and how many entries came since the start
+pub record Booked : Type 0 where
+  pub engine : Log
+  pub start : ℕ
+  pub seats : ℕ
+  pub taken : Option ℕ
+  pub count : ℕ
+
+-- a seat's number, its receipts, and the amount of its share
+pub record Seated : Type 0 where
+  pub number : ℕ
+  pub receipts : List Entry
+  pub share : ℕ
+
+-- the seat gained these receipts
+pub record Gained (old new : Seated) (entries : List Entry) : Type 0 where
+  pub number : new.number ≡ old.number
+  pub receipts : new.receipts ≡ old.receipts ++ entries
+  pub share : new.share ≡ old.share + length entries
+
+-- the engine's journal gained these entries, and what else the book keeps stays
+pub record Changed (old new : Booked) (entries : List Entry) : Type 0 where
+  pub start : new.start ≡ old.start
+  pub seats : new.seats ≡ old.seats
+  pub taken : new.taken ≡ old.taken
+  pub count : new.count ≡ old.count + length entries
+
+-- the book handed out its next seat
+pub record HandedOut (old new : Booked) (seat : Seated) : Type 0 where
+  pub below : old.seats < 64
+  pub engine : new.engine ≡ old.engine
+  pub start : new.start ≡ old.start
+  pub seats : new.seats ≡ old.seats + 1
+  pub taken : new.taken ≡ old.taken
+  pub count : new.count ≡ old.count
+  pub number : seat.number ≡ old.seats + 1
+  pub receipts : seat.receipts ≡ []
+  pub share : seat.share ≡ 0
+
+-- why no seat is handed out; memory only where there is one
+abbrev pub RefusesSeat : Booked → SeatFault → Type 0
+RefusesSeat old SeatsFull = old.seats ≡ 64
+RefusesSeat old Memory = old.seats < 64

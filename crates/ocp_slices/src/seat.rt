@@ -1,0 +1,86 @@
+//! Seats.
+
+ghost use Rattle.std.specs.Prelude.{◌≡◌, ℕ, map};
+
+use ocp_core::Entry;
+use std::alloc::{AllocError, Allocator, Global};
+use std::marker::{Brand, Model};
+use std::sync::ledger::{Ledger, Share};
+
+/// How many seats one book hands out.
+pub const MAX_SEATS: u16 = 64;
+
+/// Which shared engine it is, and how many entries it has room for after its start.
+pub trait Naming: Ledger {
+    ghost room: { ℕ };
+}
+
+impl Naming for Brand {
+    ghost room = { 0 };
+}
+
+/// A seat at a shared engine: its number, its part in the count of the engine's entries, and a receipt for each entry that
+/// its calls appended.
+#[derive(Drop)]
+pub struct Seat<L: Naming, A: Allocator = Global> {
+    pub(crate) number: u16,
+    pub(crate) share: Share<L>,
+    pub(crate) receipts: Vec<Entry<A>, A>,
+}
+
+impl<L: Naming, A: Allocator> Model for Seat<L, A> {
+    ghost use Rattle.std.specs.Prelude.{◌≡◌, ◌≤◌, length, map, vec_len, vec_capacity};
+    ghost use Rattle.ocp_core.specs.Journal.{entry_of};
+    ghost use Rattle.ocp_slices.specs.Seats.{Seated};
+
+    ghost Value = { Seated };
+
+    ghost use Rattle.ocp_slices.specs.Mirror.Codes.{seated_code};
+
+    ghost coded = { seated_code };
+
+    ghost view = { λ s. record {
+      number = s.number;
+      receipts = map entry_of s.receipts.items;
+      share = s.share.amount;
+    } };
+
+    ghost invariant = { λ s. (s.share.parts ≡ 1) × (s.share.amount ≡ vec_len s.receipts)
+        × (L.room ≤ vec_capacity s.receipts) };
+}
+
+impl<L: Naming, A: Allocator> Seat<L, A> {
+    ghost use Rattle.ocp_core.specs.Journal.{entry_of};
+
+    /// 1, 2 and so on, in the order in which seats are handed out.
+    pub fn number(&self) -> u16
+        ensures { result ≡ self.now.number }
+    {
+        self.number
+    }
+
+    /// One for each entry that the seat's calls appended, the oldest first.
+    pub fn receipts(&self) -> &[Entry<A>]
+        ensures { map entry_of result.now ≡ self.now.receipts }
+    {
+        self.receipts.as_slice()
+    }
+}
+
+/// Why no seat is handed out, in this order.
+#[derive(Clone, Copy, PartialEq, Eq, Debug)]
+pub enum SeatFault {
+    /// All are handed out.
+    SeatsFull,
+    Memory,
+}
+
+impl From<AllocError> for SeatFault {
+    ghost use Rattle.ocp_slices.specs.declared.seat.SeatFault.TheVariants.{Memory};
+
+    ghost from_gives = { λ _ r. r ≡ Memory };
+
+    fn from(_error: AllocError) -> Self {
+        SeatFault::Memory
+    }
+}
