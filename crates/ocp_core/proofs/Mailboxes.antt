@@ -142,11 +142,11 @@ module _ (o : Option Rec) (pool ts ss : List ℕ) (word : Option ℕ) (next : Is
   none_exactly = none_is_left_of next.rec ts ss posted_there word oldest_there
 
 pub words_come_in_order : WordsComeInOrder
-words_come_in_order apid words es q word does =
+words_come_in_order apid words es by q word does =
     let w = replay apid words es in
-    in_order (get w.records q) w.pool (taken apid words es q) (sent apid words es q) word (next_of w q (Called (NextParam word)) does) (posted q apid words es)
+    in_order (get w.records q) w.pool (taken apid words es q) (sent apid words es q) word (next_of w by q (Called (NextParam word)) does) (posted q apid words es)
 
 pub none_is_left : NoneIsLeft
-none_is_left apid words es q word does =
+none_is_left apid words es by q word does =
     let w = replay apid words es in
-    none_exactly (get w.records q) w.pool (taken apid words es q) (sent apid words es q) word (next_of w q (Called (NextParam word)) does) (posted q apid words es)
+    none_exactly (get w.records q) w.pool (taken apid words es q) (sent apid words es q) word (next_of w by q (Called (NextParam word)) does) (posted q apid words es)

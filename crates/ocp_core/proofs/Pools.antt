@@ -59,12 +59,12 @@ pool_is apid words es = carried {T = ℕ} add_operation (λ effect t. t) (λ w o
 -- ---- what an instruction event is for its procedure
 
 -- it is that of the record's next instruction
-pub next_of : (w : World) (id : ℕ) (outcome : InstructionOutcome) → Does w id outcome → IsNext (get w.records id) w.pool outcome
-next_of w id outcome is = subst (IsHonest w.records w.pool) is (honest_in w.records w.pool (Step w.pool) id refl)
+pub next_of : (w : World) (by id : ℕ) (outcome : InstructionOutcome) → Does w by id outcome → IsNext (get w.records id) w.pool outcome
+next_of w by id outcome is = subst (IsHonest w.records w.pool) is (honest_in w.records w.pool (Step w.pool) id refl)
 
 -- and that instruction is done
-does_next : (w : World) (id : ℕ) (outcome : InstructionOutcome) → IsNext (get w.records id) w.pool outcome → Does w id outcome
-does_next w id outcome is =
+does_next : (w : World) (by id : ℕ) (outcome : InstructionOutcome) → IsNext (get w.records id) w.pool outcome → Does w by id outcome
+does_next w by id outcome is =
     ap (λ o. effect_on (Step w.pool) id o (is_full w.records)) is.is
     ∙ ap (λ s. effect_by (transition (Step w.pool) (Some s) is.rec.control.pending (length is.rec.mailbox)) id (Some is.rec) (is_full w.records)) is.runs
     ∙ ap (λ o. effect_of_step o id) is.next
@@ -108,9 +108,9 @@ answered o pool call is =
     record { number = found.0; calls = record { rec = is.rec; is = is.is; runs = is.runs; passes = of.0; calls = found.1 }; given = found.2 }
 
 pub calls_are_answered : CallsAreAnswered
-calls_are_answered apid words es id call does =
+calls_are_answered apid words es by id call does =
     subst (λ p. IsAnswered (get (replay apid words es).records id) p call) (pool_is apid words es)
-    (answered (get (replay apid words es).records id) (replay apid words es).pool call (next_of (replay apid words es) id (Called call) does))
+    (answered (get (replay apid words es).records id) (replay apid words es).pool call (next_of (replay apid words es) by id (Called call) does))
 
 -- ---- the words that calls answer
 
@@ -154,7 +154,7 @@ answers_word : (o : Option Rec) (pool : List ℕ) (call : Call) → IsAnswered o
 answers_word o pool call a = subst (AnswersWordIf pool) a.given (gives_word a.number (read a.calls.rec.machine 1) (read a.calls.rec.machine 2) pool a.calls.rec.mailbox)
 
 pub calls_answer_words : CallsAnswerWords
-calls_answer_words apid words es id call does = answers_word (get (replay apid words es).records id) (pool_after words (operations apid words es)) call (calls_are_answered apid words es id call does)
+calls_answer_words apid words es by id call does = answers_word (get (replay apid words es).records id) (pool_after words (operations apid words es)) call (calls_are_answered apid words es by id call does)
 
 -- ---- fault 4
 
@@ -241,7 +241,7 @@ faults o pool is =
     }
 
 pub faults_outside : FaultsOutside
-faults_outside apid words es id =
+faults_outside apid words es by id =
     let w = replay apid words es in
-    subst (λ p. Does w id (Faulted 4) ↔ IsOutside (get w.records id) p) (pool_is apid words es)
-    ((λ does. outside (get w.records id) w.pool (next_of w id (Faulted 4) does)), (λ is. does_next w id (Faulted 4) (faults (get w.records id) w.pool is)))
+    subst (λ p. Does w by id (Faulted 4) ↔ IsOutside (get w.records id) p) (pool_is apid words es)
+    ((λ does. outside (get w.records id) w.pool (next_of w by id (Faulted 4) does)), (λ is. does_next w by id (Faulted 4) (faults (get w.records id) w.pool is)))

@@ -1,10 +1,8 @@
 -- What the events of a list did to the records of a world, one effect each, in order.
 use Rattle.std.specs.Prelude.{◌≡◌, ℕ, List, [], ◌∷◌}
 use Rattle.ocp_table.specs.declared.answers.InstructionOutcome.{InstructionOutcome}
-use Rattle.ocp_table.specs.RequestTable as directive
-use Rattle.ocp_table.specs.Deciding.{effect_in}
 use Rattle.ocp_table.specs.Effects.{Effect, Changed, Stepped}
-use Rattle.ocp_world.specs.World.{World, Event, opening}
+use Rattle.ocp_world.specs.World.{World, Event, Step, opening}
 use Rattle.ocp_world.specs.After.{effect_of, after}
 
 abbrev pub history_from : World → List Event → List Effect
@@ -20,7 +18,6 @@ abbrev pub gather : {S : Type 0} → (Effect → S → S) → S → List Effect 
 gather add s [] = s
 gather add s (effect ∷ effects) = gather add (add effect s) effects
 
--- an instruction event of the procedure would be this for it
-abbrev pub Does : World → ℕ → InstructionOutcome → Type 0
-Does w id outcome =
-    effect_in (directive.Step w.pool) id w.records ≡ Changed id (Stepped outcome)
+-- an instruction event of the procedure, which this seat hands in, is this for it
+abbrev pub Does : World → ℕ → ℕ → InstructionOutcome → Type 0
+Does w by id outcome = (effect_of w (Step by id)).on_records ≡ Changed id (Stepped outcome)

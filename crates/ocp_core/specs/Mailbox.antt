@@ -44,13 +44,13 @@ taken apid words es id = gather (since_start taken_by id) [] (history apid words
 -- the law: a call of next_param gives the first word sent that was not taken yet
 abbrev pub WordsComeInOrder : Type 0
 WordsComeInOrder =
-    (apid words : ℕ) (es : List Event) (id : ℕ) (word : Option ℕ) →
-    Does (replay apid words es) id (Called (NextParam word)) →
+    (apid words : ℕ) (es : List Event) (by id : ℕ) (word : Option ℕ) →
+    Does (replay apid words es) by id (Called (NextParam word)) →
     word ≡ slice_get (sent apid words es id) (length (taken apid words es id))
 
 -- and none exactly where all were taken
 abbrev pub NoneIsLeft : Type 0
 NoneIsLeft =
-    (apid words : ℕ) (es : List Event) (id : ℕ) (word : Option ℕ) →
-    Does (replay apid words es) id (Called (NextParam word)) →
+    (apid words : ℕ) (es : List Event) (by id : ℕ) (word : Option ℕ) →
+    Does (replay apid words es) by id (Called (NextParam word)) →
     (word ≡ None) ↔ (taken apid words es id ≡ sent apid words es id)

@@ -80,9 +80,9 @@ pub record IsAnswered (o : Option Rec) (pool : List ℕ) (call : Call) : Type 0 
 -- the law: each engine call is so answered, on the pool of the operations before it
 abbrev pub CallsAreAnswered : Type 0
 CallsAreAnswered =
-    (apid words : ℕ) (es : List Event) (id : ℕ) (call : Call) →
+    (apid words : ℕ) (es : List Event) (by id : ℕ) (call : Call) →
     let w = replay apid words es in
-    Does w id (Called call) →
+    Does w by id (Called call) →
     IsAnswered (get w.records id) (pool_after words (operations apid words es)) call
 
 -- pool_get and pool_set answer the word at their index, and pool_add the word that it leaves there
@@ -96,8 +96,8 @@ AnswersWord pool call = Unit {0}
 -- the law: on the pool of the operations before the call
 abbrev pub CallsAnswerWords : Type 0
 CallsAnswerWords =
-    (apid words : ℕ) (es : List Event) (id : ℕ) (call : Call) →
-    Does (replay apid words es) id (Called call) →
+    (apid words : ℕ) (es : List Event) (by id : ℕ) (call : Call) →
+    Does (replay apid words es) by id (Called call) →
     AnswersWord (pool_after words (operations apid words es)) call
 
 -- a call of pool_get, pool_set or pool_add with an index that is not below the number of pool words
@@ -111,7 +111,7 @@ pub record IsOutside (o : Option Rec) (pool : List ℕ) : Type 0 where
 -- the law: fault 4 is that of such a call, and of nothing else
 abbrev pub FaultsOutside : Type 0
 FaultsOutside =
-    (apid words : ℕ) (es : List Event) (id : ℕ) →
+    (apid words : ℕ) (es : List Event) (by id : ℕ) →
     let w = replay apid words es in
-    Does w id (Faulted 4) ↔
+    Does w by id (Faulted 4) ↔
     IsOutside (get w.records id) (pool_after words (operations apid words es))

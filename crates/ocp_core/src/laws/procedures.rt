@@ -19,7 +19,6 @@ pub fn the_pool_follows_from_its_operations()
 
 /// An engine call is answered by the table of engine calls, with words of the pool that the operations before it left. It
 /// is fault 4 exactly where it names a word that this pool does not have.
-#[tactic(auto, using(crate::proofs::Pools::calls_are_answered, crate::proofs::Pools::calls_answer_words, crate::proofs::Pools::faults_outside))]
 pub fn engine_calls_answer_from_the_pool()
     ensures table { CallsAreAnswered }
     ensures words { CallsAnswerWords }
@@ -28,7 +27,6 @@ pub fn engine_calls_answer_from_the_pool()
 
 /// A procedure takes the words that it was sent since its last start in the order in which they were sent, and finds none
 /// exactly where it has taken all of them.
-#[tactic(auto, using(crate::proofs::Mailboxes::words_come_in_order, crate::proofs::Mailboxes::none_is_left))]
 pub fn words_are_taken_in_the_order_sent()
     ensures word { WordsComeInOrder }
     ensures none { NoneIsLeft }
