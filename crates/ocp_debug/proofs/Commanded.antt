@@ -1,11 +1,11 @@
 -- What a debugger's command leaves.
-use Rattle.std.proofs.Common.{◌≡◌, ℕ, List, Option, Some, None, refl, ap, sym, ◌∙◌}
-use Rattle.std.specs.FinMap.{get, insert}
-use Rattle.ocp_table.specs.Records.{Rec, Records}
-use Rattle.ocp_table.specs.Effects.{Change, Changed, records_by, record_by, records_with, with_breakpoints, with_breakpoint, with_change}
+use Rattle.std.proofs.Common.{◌≡◌, ℕ, Option, Some, None, refl}
+use Rattle.std.specs.FinMap.{get}
+use Rattle.ocp_table.specs.Records.{Records}
+use Rattle.ocp_table.specs.Effects.{Change, Changed, records_by}
 use Rattle.ocp_debug.specs.declared.command.Command.{Command}
 use Rattle.ocp_debug.specs.declared.command.Command.TheVariants.{SetBreak, ClearBreak, SetTrace}
-use Rattle.ocp_table.specs.Laws.{Run, run_of, IsDebugging}
+use Rattle.ocp_table.specs.Laws.{run_of, IsDebugging}
 use Rattle.ocp_debug.specs.declared.command.DebugFault.{DebugFault}
 use Rattle.ocp_debug.specs.Commands.{change_of, effect_by}
 

@@ -1,7 +1,7 @@
 use Rattle.std.proofs.Common.{◌++◌, ap, ◌∙◌}
 use Rattle.std.specs.Prelude.{option_to_list}
 use Rattle.std.specs.FinMap.{get}
-use Rattle.ocp_table.specs.Effects.{records_by, step_outcome}
+use Rattle.ocp_table.specs.Effects.{step_outcome}
 use Rattle.ocp_table.specs.RequestTable.{Step}
 use Rattle.ocp_table.specs.Deciding.{effect_in}
 use Rattle.ocp_debug.specs.Traces.{kept}

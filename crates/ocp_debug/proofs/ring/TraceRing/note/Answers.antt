@@ -1,4 +1,4 @@
-use Rattle.std.proofs.Common.{[], ◌++◌, option_to_list, sym, ap, ◌∙◌}
+use Rattle.std.proofs.Common.{◌++◌, option_to_list, sym, ap, ◌∙◌}
 use Rattle.ocp_debug.specs.Traces.{kept}
 use Rattle.ocp_debug.specs.declared.trace.TheConstants.{TRACE_RECORDS}
 use Rattle.ocp_debug.proofs.Keeping.{keep_last-few}
