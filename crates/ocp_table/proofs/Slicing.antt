@@ -24,7 +24,6 @@ use Rattle.ocp_table.specs.Effects.{Effect, Changed, Kept, Stepped, Failed, pass
 use Rattle.ocp_table.specs.RequestTable.{Step, transition}
 use Rattle.ocp_table.specs.Deciding.{outcome_of, outcome_in, effect_in, effect_by, effect_on, effect_of_step, is_full}
 use Rattle.ocp_table.specs.declared.record.Record.{Record}
-use Rattle.ocp_table.specs.declared.answers.Slice.{Slice}
 use Rattle.ocp_table.specs.Shown.{shown, effect_of_record}
 use Rattle.ocp_table.specs.Slices.{IsSlice, Store, store_after, store_after_events, answer_to, goes_on, is_running, is_running_status, is_on, slice_count, slice_last, control_after, with_machine, RunsBy, last_ran, Leads}
 use Rattle.ocp_table.proofs.ContentsLemmas.{insert-same}

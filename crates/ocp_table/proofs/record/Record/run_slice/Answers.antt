@@ -1,8 +1,8 @@
-use Rattle.std.proofs.Common.{◌≡◌, ◌≤◌, ◌+◌, subst, sym, ap, ◌∙◌, arith}
+use Rattle.std.proofs.Common.{◌≡◌, ◌+◌, subst, sym, ◌∙◌, arith}
 use Rattle.ocp_table.specs.declared.answers.StepOutcome.TheVariants as S
 use Rattle.ocp_table.specs.Shown.{shown}
 use Rattle.ocp_table.specs.Slices.{last_ran, IsSlice}
-use Rattle.ocp_table.proofs.Slicing.{IsSliced, sliced-none, sliced-run, sliced-event, sliced-end, sliced-whole, ran_some}
+use Rattle.ocp_table.proofs.Slicing.{sliced-none, sliced-run, sliced-event, sliced-end, sliced-whole, ran_some}
 use Rattle.ocp_table.proofs.record.Record.run_slice.Goals as goal
 
 pub loop-count-init : goal.loop-count-init
