@@ -25,8 +25,8 @@ use Rattle.ocp_console.specs.declared.console.Console.{Console}
 use Rattle.ocp_console.specs.Texts.{report_line, discard_line, step_line, break_line, unbreak_line, switch_line, memory_line, pool_line, journal_line}
 
 -- What a console keeps from line to line: the engine, which is its journal; the application process
--- identifier of the ground's telecommands; the time of the next requests; the ground count, which is
--- the sequence count of the next telecommand.
+-- identifier of the ground's telecommands; the time of the next requests; the ground count, which
+-- is the sequence count of the next telecommand.
 pub record State : Type 0 where
   pub engine : Log
   pub apid : ℕ
@@ -149,7 +149,8 @@ on_command state (Trace id on) = on_debug state id (SetTrace on) (switch_line id
 on_command state Traces = (state, trace_lines state)
 on_command state (View id) = (state, view_text state id)
 on_command state (Memory id address count) = (state, memory_text state id address count)
-on_command state (Pool index) = (state, pool_line index (slice_get (world_of state.engine).pool index))
+on_command state (Pool index) =
+    (state, pool_line index (slice_get (world_of state.engine).pool index))
 on_command state Journal = (state, journal_line (length (expand state.engine.entries)))
 
 abbrev pub response : State → Option Said → Option (State × List ℕ)

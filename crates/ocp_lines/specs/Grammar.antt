@@ -17,9 +17,9 @@ use Rattle.ocp_lines.specs.declared.command.Verb.TheVariants as verb
 -- ---- what a line can say
 
 -- nothing, a packet's octets, a request with its acknowledgement flags, a time, some steps of a
--- procedure; of a procedure and a place that a breakpoint is set or cleared there, of a procedure
--- whether it is traced, the trace records that are kept, a view of a procedure, so many octets of its
--- memory from an address on; a word of the pool, the number of events
+-- procedure; a breakpoint that is set or cleared at a place of a procedure, whether a procedure is
+-- traced, the trace records that are kept, a view of a procedure, so many octets of its memory from
+-- an address on; a word of the pool, the number of events
 pub data Said : Type 0 where
   Nothing : Said
   Up : List ℕ → Said
@@ -176,7 +176,8 @@ abbrev pub plain_verb_in : Word → List Word → Option Request
 plain_verb_in name words =
     if bytes_eq name (codes "unload") then option_map (λ id. Unload id) (id_in words)
     else if bytes_eq name (codes "stop") then option_map (λ p. Stop p.0 p.1) (two_shorts words)
-    else if bytes_eq name (codes "suspend") then option_map (λ p. Suspend p.0 p.1) (two_shorts words)
+    else if bytes_eq name (codes "suspend") then
+    option_map (λ p. Suspend p.0 p.1) (two_shorts words)
     else if bytes_eq name (codes "resume") then option_map (λ id. Resume id) (id_in words)
     else if bytes_eq name (codes "abort") then option_map (λ id. Abort id) (id_in words)
     else if bytes_eq name (codes "communicate") then communicate_in words
@@ -263,7 +264,8 @@ abbrev pub words_say : List Word → Option Said
 words_say [] = Some Nothing
 words_say (name ∷ words) = command_in name words
 
--- The command that a line says, or none where its form is no other's. A line whose first octet is `#` is a comment.
+-- The command that a line says, or none where its form is no other's. A line whose first octet is
+-- `#` is a comment.
 unfoldable pub command_of : List ℕ → Option Said
 command_of line =
     if starts_with nat_eq line (codes "#") then Some Nothing else words_say (words_of line)
