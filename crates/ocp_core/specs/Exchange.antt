@@ -1,4 +1,5 @@
--- Two instruction events of two procedures, one after the other, and the same two in the other order.
+-- Two instruction events of two procedures, one after the other, and the same two in the other
+-- order.
 use Rattle.std.specs.Prelude.{◌≡◌, ◌≢◌, ℕ, Bool, true, false, ◌&&◌, List, ◌∷◌, ◌++◌}
 use Rattle.ocp_table.specs.declared.answers.StepOutcome.TheVariants as outcome
 use Rattle.ocp_debug.specs.declared.trace.Trace.{Trace}

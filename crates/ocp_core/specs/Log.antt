@@ -10,7 +10,8 @@ use Rattle.ocp_world.specs.World.{World, Event, Request, Step, Debug}
 use Rattle.ocp_world.specs.After.{Answer, Requested, Stepped, Commanded, after, is_accepted}
 use Rattle.ocp_world.specs.Replay.{replay}
 
--- a request with its seat and time; so many instructions of one procedure with their seat; or a debugger's
+-- a request with its seat and time; so many instructions of one procedure with their seat; or a
+-- debugger's
 -- command to a procedure with its seat
 pub data Entry : Type 0 where
   Asked : ℕ → ℕ → List ℕ → Entry
@@ -26,7 +27,8 @@ events_of (Debugged by id command) = Debug by id command ∷ []
 abbrev pub expand : List Entry → List Event
 expand entries = flat_map events_of entries
 
--- the application process identifier, the number of pool words, the number of entries at most, and the
+-- the application process identifier, the number of pool words, the number of entries at most, and
+-- the
 -- entries
 pub record Log : Type 0 where
   pub apid : ℕ

@@ -25,7 +25,8 @@ ticket_by id (Some base) = Some (record { id = id; base = base })
 abbrev pub ticket_at : ℕ → Option Rec → Option Taken
 ticket_at id o = ticket_by id (snapshot_at o)
 
--- the machine does that many instructions by itself, and they leave it so; none where the procedure is
+-- the machine does that many instructions by itself, and they leave it so; none where the procedure
+-- is
 -- traced
 pub record IsRun (w : Worked) : Type 0 where
   pub ran : run_of w.base w.count ≡ Some w.end

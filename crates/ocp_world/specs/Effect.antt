@@ -6,7 +6,8 @@ use Rattle.ocp_table.specs.Effects as table
 use Rattle.ocp_debug.specs.declared.command.DebugFault.{DebugFault}
 use Rattle.ocp_reports.specs.Origin.{Dispatch}
 
--- octets are discarded; reports are sent, each to its destination at its time; an instruction was asked
+-- octets are discarded; reports are sent, each to its destination at its time; an instruction was
+-- asked
 -- for; or a debugger's command was
 pub data Reply : Type 0 where
   Discards : Discard → Reply

@@ -19,7 +19,8 @@ world_settled id machine w = record {
   traces = w.traces;
 }
 
--- the procedure under this id runs and is not traced, and its machine does so many instructions by itself,
+-- the procedure under this id runs and is not traced, and its machine does so many instructions by
+-- itself,
 -- at least one, which leave it so
 pub record RunsAlone (w : World) (id : ℕ) (r : Rec) (n : ℕ) (machine : State) : Type 0 where
   pub held : get w.records id ≡ Some r
