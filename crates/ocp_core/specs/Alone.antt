@@ -1,6 +1,5 @@
 -- A machine by itself: what its image and its own events make of it. No world, pool, mailbox or
--- other procedure is
--- seen.
+-- other procedure is seen.
 use Rattle.std.specs.Prelude.{◌≡◌, ℕ, List, [], ◌∷◌, Option, Some, None}
 use Rattle.std.specs.FinMap.{get}
 use Rattle.bpf_step.specs.Machine.{State, started}
@@ -13,8 +12,7 @@ use Rattle.ocp_world.specs.Replay.{replay}
 use Rattle.ocp_core.specs.Own.{Own, Start, Local, Call, own_events, image_after}
 
 -- a start begins anew; an instruction is the image's at the machine's place; an engine call puts
--- its answers in, and
--- the place goes one slot on
+-- its answers in, and the place goes one slot on
 abbrev pub state_by : List ℕ → Own → State → State
 state_by image (Start arguments) s = started arguments
 state_by image Local s = machine_after (one_step image s) s

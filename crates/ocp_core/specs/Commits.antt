@@ -9,8 +9,7 @@ use Rattle.ocp_core.specs.Log.{Log, Steps, world_of, is_full, with_entry}
 use Rattle.ocp_core.specs.Tickets.{Worked}
 
 -- the procedure is loaded and runs, and its image, machine, breakpoints, pass flag and trace flag
--- are what
--- the work began with
+-- are what the work began with
 abbrev pub IsFresh : Log → Worked → Type 0
 IsFresh log w = snapshot_at (get (world_of log).records w.id) ≡ Some w.base
 
@@ -20,8 +19,7 @@ pub record IsCommitted (old new : Log) (by : ℕ) (w : Worked) : Type 0 where
   pub world : world_of new ≡ world_settled w.id w.end (world_of old)
 
 -- a work without instructions is refused as empty, one whose procedure has changed as stale, and
--- then one
--- that finds the journal full; nothing is changed
+-- then one that finds the journal full; nothing is changed
 abbrev pub Commits : Log → Log → ℕ → Worked → CommitOutcome → Type 0
 Commits old new by w Empty = (w.count ≡ 0) × (new ≡ old)
 Commits old new by w Stale = (w.count ≢ 0) × (IsFresh old w → ⊥) × (new ≡ old)

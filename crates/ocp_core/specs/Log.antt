@@ -11,8 +11,7 @@ use Rattle.ocp_world.specs.After.{Answer, Requested, Stepped, Commanded, after, 
 use Rattle.ocp_world.specs.Replay.{replay}
 
 -- a request with its seat and time; so many instructions of one procedure with their seat; or a
--- debugger's
--- command to a procedure with its seat
+-- debugger's command to a procedure with its seat
 pub data Entry : Type 0 where
   Asked : ℕ → ℕ → List ℕ → Entry
   Steps : ℕ → ℕ → ℕ → Entry
@@ -28,8 +27,7 @@ abbrev pub expand : List Entry → List Event
 expand entries = flat_map events_of entries
 
 -- the application process identifier, the number of pool words, the number of entries at most, and
--- the
--- entries
+-- the entries
 pub record Log : Type 0 where
   pub apid : ℕ
   pub words : ℕ

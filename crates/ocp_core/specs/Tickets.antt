@@ -26,8 +26,7 @@ abbrev pub ticket_at : ℕ → Option Rec → Option Taken
 ticket_at id o = ticket_by id (snapshot_at o)
 
 -- the machine does that many instructions by itself, and they leave it so; none where the procedure
--- is
--- traced
+-- is traced
 pub record IsRun (w : Worked) : Type 0 where
   pub ran : run_of w.base w.count ≡ Some w.end
   pub stands : StandsIn w.base.image w.end

@@ -12,8 +12,7 @@ use Rattle.ocp_debug.specs.declared.trace.Trace.{Trace}
 use Rattle.ocp_debug.specs.declared.trace.TheConstants.{TRACE_RECORDS}
 
 -- the record of an instruction: its place and its line are those before it, the registers those
--- after
--- it
+-- after it
 abbrev pub trace_of : ℕ → InstructionOutcome → Rec → Line → Trace
 trace_of id outcome r line = record {
   id = id;

@@ -5,8 +5,7 @@ use Rattle.ocp_slices.specs.declared.seat.SeatFault.{SeatFault}
 use Rattle.ocp_slices.specs.declared.seat.SeatFault.TheVariants.{SeatsFull, Memory}
 
 -- the engine, the number of its entries at the start, the number of seats handed out, the procedure
--- taken
--- last by any seat, and how many entries came since the start
+-- taken last by any seat, and how many entries came since the start
 pub record Booked : Type 0 where
   pub engine : Log
   pub start : ℕ

@@ -25,9 +25,8 @@ use Rattle.ocp_table.specs.declared.answers.StepOutcome.TheVariants as step
 use Rattle.ocp_table.specs.Records.{Rec, Records}
 
 -- what an event does to the record of its procedure: it is started with arguments, sent words, a
--- stop
--- or suspend becomes pending, it is made inactive, it runs on, an instruction event is done, or a
--- debugger sets or clears a breakpoint or sets the trace flag
+-- stop or suspend becomes pending, it is made inactive, it runs on, an instruction event is done,
+-- or a debugger sets or clears a breakpoint or sets the trace flag
 pub data Change : Type 0 where
   Started : List ℕ → Change
   Sent : List ℕ → Change

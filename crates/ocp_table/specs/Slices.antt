@@ -1,6 +1,5 @@
 -- A slice: instruction events of one procedure, one after another, up to a budget, until it no
--- longer
--- runs.
+-- longer runs.
 use Rattle.std.specs.Prelude.{◌≡◌, ◌+◌, ℕ, zero, suc, Bool, true, false, if◌then◌else◌, List, Option, Some, None}
 use Rattle.std.specs.FinMap.{get, insert}
 use Rattle.obcp_types.specs.declared.status.Status.{Status}

@@ -7,8 +7,7 @@ use Rattle.ocp_debug.specs.declared.command.DebugFault.{DebugFault}
 use Rattle.ocp_reports.specs.Origin.{Dispatch}
 
 -- octets are discarded; reports are sent, each to its destination at its time; an instruction was
--- asked
--- for; or a debugger's command was
+-- asked for; or a debugger's command was
 pub data Reply : Type 0 where
   Discards : Discard → Reply
   Sends : List Dispatch → Reply

@@ -28,8 +28,7 @@ is_start_by id (Ok telecommand) = is_start_in id (command_of telecommand)
 is_start_by id (Err fault) = false
 
 -- the events that may change the machine of a procedure: its load, its unload, its activation, and
--- its
--- own instruction while it runs
+-- its own instruction while it runs
 abbrev pub may_change_machine : World → Event → ℕ → Bool
 may_change_machine w (Request by time octets) id = is_start_by id (telecommand_of w.apid octets)
 may_change_machine w (Step by own) id = (own == id) && is_running (get w.records own)

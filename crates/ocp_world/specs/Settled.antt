@@ -20,8 +20,7 @@ world_settled id machine w = record {
 }
 
 -- the procedure under this id runs and is not traced, and its machine does so many instructions by
--- itself,
--- at least one, which leave it so
+-- itself, at least one, which leave it so
 pub record RunsAlone (w : World) (id : ℕ) (r : Rec) (n : ℕ) (machine : State) : Type 0 where
   pub held : get w.records id ≡ Some r
   pub running : r.control.status ≡ Running

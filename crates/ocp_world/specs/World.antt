@@ -6,8 +6,7 @@ use Rattle.ocp_debug.specs.declared.command.Command.{Command}
 use Rattle.ocp_debug.specs.declared.trace.Trace.{Trace}
 
 -- the application process, its procedures, the words of its pool, how many reports it has sent, and
--- all trace
--- records that were made, the oldest first
+-- all trace records that were made, the oldest first
 pub record World : Type 0 where
   pub apid : ℕ
   pub records : Records
