@@ -6,33 +6,26 @@ ghost use Rattle.clap.specs.declared.builder.command.Command.TheViews.{out-Comma
 ghost use Rattle.clap.specs.declared.builder.value_parser.ValueParser.TheVariants.{Signed};
 ghost use Rattle.ocp_words.specs.Words.{ocp, run, number_option, apid_option as apid_rule, pool_option as pool_rule, journal_option as journal_rule};
 
+use crate::help;
 use clap::builder::ValueParser;
 use clap::{Arg, Command, value_parser};
 use std::alloc::{AllocError, Global};
 
-const ASM: &str = "Reads assembly text, and writes its image as one line of hexadecimal digits";
-
-const ASM_EXAMPLE: &str = "Example: `echo exit | ocp asm` writes 9500000000000000";
-
-const LIST: &str = "Reads an image in hexadecimal digits, and writes its listing";
-
-const LIST_EXAMPLE: &str = "Example: `echo 9500000000000000 | ocp list` writes exit";
-
-const RUN: &str = "Reads a script of console lines, and writes its transcript";
-
-const RUN_EXAMPLE: &str = "Example: `echo journal | ocp run --pool 8` writes journal 0";
-
-const OCP: &str = "On-board control procedures: engine, assembler and ground console";
-
-const OCP_EXAMPLE: &str = "Each command reads standard input and writes standard output. \
-    With no command, ocp does what run does with its defaults.";
-
 /// A command with no options, and what help says of it.
-fn plain_command<'a>(alloc: Global, name: &'a str, about: &'a str, example: &'a str) -> Command<'a>
+fn plain_command<'a>(
+    alloc: Global,
+    name: &'a str,
+    usage: &'a str,
+    about: &'a str,
+    more: &'a str,
+) -> Command<'a>
     ensures app { app_of result ≡ new_app name.entry.now }
     ensures global { (out-Command result).has_globals ≡ false }
 {
-    Command::new(alloc, name).about(about).after_help(example)
+    Command::new(alloc, name)
+        .override_usage(usage)
+        .about(about)
+        .after_help(more)
 }
 
 /// An option that takes a number, with a default.
@@ -95,7 +88,7 @@ fn run_command<'a>(alloc: Global) -> Result<Command<'a>, AllocError>
     ensures app { IfOk result (λ c. app_of c ≡ run) }
     ensures global { IfOk result (λ c. (out-Command c).has_globals ≡ false) }
 {
-    let run = plain_command(alloc, "run", RUN, RUN_EXAMPLE)
+    let run = plain_command(alloc, "run", help::RUN_USAGE, help::RUN, help::RUN_HELP)
         .arg(apid_option(alloc))?
         .arg(pool_option(alloc))?
         .arg(journal_option(alloc))?;
@@ -107,9 +100,10 @@ pub(crate) fn ocp_command<'a>(alloc: Global) -> Result<Command<'a>, AllocError>
     ensures { IfOk result (λ c. app_of c ≡ ocp) }
 {
     let run = run_command(alloc)?;
-    let asm = plain_command(alloc, "asm", ASM, ASM_EXAMPLE);
-    let list = plain_command(alloc, "list", LIST, LIST_EXAMPLE);
-    let ocp = plain_command(alloc, "ocp", OCP, OCP_EXAMPLE)
+    let asm = plain_command(alloc, "asm", help::ASM_USAGE, help::ASM, help::ASM_HELP);
+    let list = plain_command(alloc, "list", help::LIST_USAGE, help::LIST, help::LIST_HELP);
+    let ocp = plain_command(alloc, "ocp", help::OCP_USAGE, help::OCP, help::OCP_HELP)
+        .version(help::VERSION)
         .no_binary_name(true)
         .bin_name("ocp")?
         .subcommand(asm)?

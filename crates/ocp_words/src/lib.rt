@@ -2,6 +2,7 @@
 #![tactic(auto)]
 
 mod command;
+mod help;
 mod job;
 mod reading;
 #[cfg(test)]
