@@ -1,9 +1,7 @@
-//! One engine for several seats: a book that counts its entries, and seats that keep a receipt for each entry of their own.
+//! One engine for several seats.
 #![tactic(auto)]
 
-mod book;
-mod seat;
-
-pub use book::Book;
-pub use ocp_core::{CommitOutcome, Engine, Entry, StepOutcome, Ticket, Work};
-pub use seat::{MAX_SEATS, Naming, Seat, SeatFault};
+pub use ocp_seats::{
+    Book, CloseFault, CommitOutcome, DebugFault, Engine, EngineFault, Entry, MAX_SEATS, Naming, NotClosed, Octets, Reports,
+    Seat, SeatFault, Slice, StepOutcome, TakeFault, Ticket, Work,
+};

@@ -1,8 +1,9 @@
 -- What contracts see of a book and of a seat.
-use Rattle.std.specs.Prelude.{◌≡◌, ◌<◌, ◌+◌, ℕ, List, [], ◌++◌, length, Option}
-use Rattle.ocp_core.specs.Log.{Log, Entry}
-use Rattle.ocp_slices.specs.declared.seat.SeatFault.{SeatFault}
-use Rattle.ocp_slices.specs.declared.seat.SeatFault.TheVariants.{SeatsFull, Memory}
+use Rattle.std.specs.Prelude.{◌≡◌, ◌<◌, ◌+◌, ℕ, List, [], ◌++◌, length, map, Option}
+use Rattle.ocp_core.specs.Log.{Log}
+use Rattle.ocp_seats.specs.declared.seat.SeatFault.{SeatFault}
+use Rattle.ocp_seats.specs.declared.seat.SeatFault.TheVariants as seat
+use Rattle.ocp_core.specs.Marks.{Marked, marked}
 
 -- the engine, the number of its entries at the start, the number of seats handed out, the procedure
 -- taken last by any seat, and how many entries came since the start
@@ -16,17 +17,23 @@ pub record Booked : Type 0 where
 -- a seat's number, its receipts, and the amount of its share
 pub record Seated : Type 0 where
   pub number : ℕ
-  pub receipts : List Entry
+  pub receipts : List Marked
   pub share : ℕ
 
 -- the seat gained these receipts
-pub record Gained (old new : Seated) (entries : List Entry) : Type 0 where
+pub record Gained (old new : Seated) (entries : List Marked) : Type 0 where
   pub number : new.number ≡ old.number
   pub receipts : new.receipts ≡ old.receipts ++ entries
   pub share : new.share ≡ old.share + length entries
 
+-- the journal is the old one followed by these entries, and their marks are those of its replay
+pub record Grows (old new : Log) (entries : List Marked) : Type 0 where
+  pub journal : new ≡ record old { entries = old.entries ++ map (λ (m : Marked). m.entry) entries }
+  pub marks : marked new ≡ marked old ++ entries
+
 -- the engine's journal gained these entries, and what else the book keeps stays
-pub record Changed (old new : Booked) (entries : List Entry) : Type 0 where
+pub record Changed (old new : Booked) (entries : List Marked) : Type 0 where
+  pub engine : Grows old.engine new.engine entries
   pub start : new.start ≡ old.start
   pub seats : new.seats ≡ old.seats
   pub taken : new.taken ≡ old.taken
@@ -46,5 +53,5 @@ pub record HandedOut (old new : Booked) (seat : Seated) : Type 0 where
 
 -- why no seat is handed out; memory only where there is one
 abbrev pub RefusesSeat : Booked → SeatFault → Type 0
-RefusesSeat old SeatsFull = old.seats ≡ 64
-RefusesSeat old Memory = old.seats < 64
+RefusesSeat old seat.SeatsFull = old.seats ≡ 64
+RefusesSeat old seat.Memory = old.seats < 64

@@ -1,11 +1,12 @@
 //! Seats.
 
-ghost use Rattle.std.specs.Prelude.{◌≡◌, ℕ, map};
+ghost use Rattle.std.specs.Prelude.{◌≡◌, ◌+◌, [], ◌∷◌, ℕ, length, map};
+ghost use Rattle.ocp_seats.specs.Seats.{Gained};
 
-use ocp_core::Entry;
+use ocp_core::{Engine, Entry};
 use std::alloc::{AllocError, Allocator, Global};
 use std::marker::{Brand, Model};
-use std::sync::ledger::{Ledger, Share};
+use std::sync::ledger::{Book, Ledger, Share};
 
 /// How many seats one book hands out.
 pub const MAX_SEATS: u16 = 64;
@@ -30,18 +31,18 @@ pub struct Seat<L: Naming, A: Allocator = Global> {
 
 impl<L: Naming, A: Allocator> Model for Seat<L, A> {
     ghost use Rattle.std.specs.Prelude.{◌≡◌, ◌≤◌, length, map, vec_len, vec_capacity};
-    ghost use Rattle.ocp_core.specs.Journal.{entry_of};
-    ghost use Rattle.ocp_slices.specs.Seats.{Seated};
+    ghost use Rattle.ocp_core.specs.Journal.{marked_of};
+    ghost use Rattle.ocp_seats.specs.Seats.{Seated};
 
     ghost Value = { Seated };
 
-    ghost use Rattle.ocp_slices.specs.Mirror.Codes.{seated_code};
+    ghost use Rattle.ocp_seats.specs.Mirror.Codes.{seated_code};
 
     ghost coded = { seated_code };
 
     ghost view = { λ s. record {
       number = s.number;
-      receipts = map entry_of s.receipts.items;
+      receipts = map marked_of s.receipts.items;
       share = s.share.amount;
     } };
 
@@ -50,7 +51,7 @@ impl<L: Naming, A: Allocator> Model for Seat<L, A> {
 }
 
 impl<L: Naming, A: Allocator> Seat<L, A> {
-    ghost use Rattle.ocp_core.specs.Journal.{entry_of};
+    ghost use Rattle.ocp_core.specs.Journal.{marked_of};
 
     /// 1, 2 and so on, in the order in which seats are handed out.
     pub fn number(&self) -> u16
@@ -59,11 +60,28 @@ impl<L: Naming, A: Allocator> Seat<L, A> {
         self.number
     }
 
-    /// One for each entry that the seat's calls appended, the oldest first.
+    /// One for each entry that the seat's calls appended, the oldest first: a copy of the entry with its mark.
     pub fn receipts(&self) -> &[Entry<A>]
-        ensures { map entry_of result.now ≡ self.now.receipts }
+        ensures { map marked_of result.now ≡ self.now.receipts }
     {
         self.receipts.as_slice()
+    }
+
+    /// Counts an entry that the engine's journal gained by a call of the seat, and keeps its receipt.
+    pub(crate) fn gain(
+        &mut self,
+        tally: &mut Book<L>,
+        engine: &Engine<A>,
+        entry: Entry<A>,
+    )
+        requires { length engine.now.entries + L.room ≡ engine.now.capacity + (tally.old.total + 1) }
+        ensures tally { tally.new.total ≡ tally.old.total + 1 }
+        ensures seat { Gained self.old self.new (marked_of entry ∷ []) }
+    {
+        tally.add(&mut self.share, 1);
+        tally.audit(&mut self.share);
+        let _within = engine.journal().len();
+        self.receipts.push_reserved(entry);
     }
 }
 
@@ -76,7 +94,7 @@ pub enum SeatFault {
 }
 
 impl From<AllocError> for SeatFault {
-    ghost use Rattle.ocp_slices.specs.declared.seat.SeatFault.TheVariants.{Memory};
+    ghost use Rattle.ocp_seats.specs.declared.seat.SeatFault.TheVariants.{Memory};
 
     ghost from_gives = { λ _ r. r ≡ Memory };
 

@@ -1,3 +1,5 @@
 pub mod Receipts
 pub mod Seats
+pub mod Taking
+pub mod Closing
 pub mod Mirror

@@ -1,0 +1,71 @@
+-- How books and seats are stored, for the models whose value they are.
+use Rattle.std.specs.Prelude.{◌≡◌, ℕ, List, Option, Some, None, Result, Ok, Err, ◌⊎◌, refl}
+use Rattle.std.proofs.Common.{inl, inr}
+use Rattle.std.specs.Coded.{Coded, code_by, coded×, coded⊎, coded_ℕ, coded_list, coded_option, coded_result}
+use Rattle.ocp_table.specs.declared.answers.StepOutcome.{StepOutcome}
+use Rattle.ocp_table.specs.contracts.answers.StepOutcome as O
+use Rattle.ocp_debug.specs.declared.command.DebugFault.{DebugFault}
+use Rattle.ocp_debug.specs.contracts.command.DebugFault as D
+use Rattle.ocp_world.specs.declared.answers.EngineFault.{EngineFault}
+use Rattle.ocp_world.specs.contracts.answers.EngineFault as E
+use Rattle.ocp_world.specs.After.{Answer, Requested, Stepped, Commanded}
+use Rattle.ocp_core.specs.Log.{Log, Entry}
+use Rattle.ocp_core.specs.Mirror.Codes.{entry_code, log_code}
+use Rattle.ocp_core.specs.Marks.{Marked}
+use Rattle.ocp_seats.specs.Seats.{Booked, Seated}
+
+abbrev pub Stored : Type 0
+Stored = Result (List (List ℕ)) EngineFault ⊎ (StepOutcome ⊎ Option DebugFault)
+
+abbrev pub stored : Answer → Stored
+stored (Requested result) = inl result
+stored (Stepped outcome) = inr (inl outcome)
+stored (Commanded (Ok done)) = inr (inr None)
+stored (Commanded (Err fault)) = inr (inr (Some fault))
+
+abbrev pub read_back : Stored → Answer
+read_back (inl result) = Requested result
+read_back (inr (inl outcome)) = Stepped outcome
+read_back (inr (inr None)) = Commanded (Ok tt)
+read_back (inr (inr (Some fault))) = Commanded (Err fault)
+
+abbrev pub stored_ok : (a : Answer) → read_back (stored a) ≡ a
+stored_ok (Requested result) = refl
+stored_ok (Stepped outcome) = refl
+stored_ok (Commanded (Ok done)) = refl
+stored_ok (Commanded (Err fault)) = refl
+
+abbrev pub answer_code : Coded Answer
+answer_code =
+    code_by Stored
+    (coded⊎ (coded_result (coded_list (coded_list coded_ℕ)) (E.the_row).coded)
+    (coded⊎ (O.the_row).coded (coded_option (D.the_row).coded)))
+    stored read_back stored_ok
+
+abbrev pub marked_code : Coded Marked
+marked_code =
+    code_by (Entry × Answer) (coded× entry_code answer_code)
+    (λ m. (m.entry, m.mark))
+    (λ p. record { entry = p.0; mark = p.1 })
+    (λ _. refl)
+
+abbrev pub seated_code : Coded Seated
+seated_code =
+    code_by (ℕ × (List Marked × ℕ)) (coded× coded_ℕ (coded× (coded_list marked_code) coded_ℕ))
+    (λ s. (s.number, (s.receipts, s.share)))
+    (λ p. record { number = p.0; receipts = p.1.0; share = p.1.1 })
+    (λ _. refl)
+
+abbrev pub booked_code : Coded Booked
+booked_code =
+    code_by (Log × (ℕ × (ℕ × (Option ℕ × ℕ))))
+    (coded× log_code (coded× coded_ℕ (coded× coded_ℕ (coded× (coded_option coded_ℕ) coded_ℕ))))
+    (λ b. (b.engine, (b.start, (b.seats, (b.taken, b.count)))))
+    (λ p. record {
+      engine = p.0;
+      start = p.1.0;
+      seats = p.1.1.0;
+      taken = p.1.1.1.0;
+      count = p.1.1.1.1;
+    })
+    (λ _. refl)

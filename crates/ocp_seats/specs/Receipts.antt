@@ -1,0 +1,53 @@
+-- What an answer adds to the journal: the entry with its mark where the answer accepts, and nothing
+-- where it refuses.
+use Rattle.std.specs.Prelude.{ℕ, ◌==◌, if◌then◌else◌, List, [], ◌∷◌, Result, Ok, Err}
+use Rattle.ocp_table.specs.declared.answers.StepOutcome.{StepOutcome}
+use Rattle.ocp_table.specs.declared.answers.StepOutcome.TheVariants as S
+use Rattle.ocp_table.specs.declared.answers.Slice.{Slice}
+use Rattle.ocp_debug.specs.declared.command.Command.{Command}
+use Rattle.ocp_debug.specs.declared.command.DebugFault.{DebugFault}
+use Rattle.ocp_world.specs.declared.answers.EngineFault.{EngineFault}
+use Rattle.ocp_world.specs.After.{Requested, Stepped, Commanded}
+use Rattle.ocp_core.specs.declared.answers.CommitOutcome.{CommitOutcome}
+use Rattle.ocp_core.specs.declared.answers.CommitOutcome.TheVariants as C
+use Rattle.ocp_core.specs.Log.{Asked, Steps, Debugged}
+use Rattle.ocp_core.specs.Marks.{Marked}
+
+-- so many instructions of one procedure, and the outcome of the last
+abbrev pub counted : ℕ → ℕ → ℕ → StepOutcome → List Marked
+counted by id count last = record { entry = Steps by id count; mark = Stepped last } ∷ []
+
+-- an instruction
+abbrev pub step_entries : ℕ → ℕ → StepOutcome → List Marked
+step_entries by id S.Broke = counted by id 1 S.Broke
+step_entries by id S.Ran = counted by id 1 S.Ran
+step_entries by id S.Called = counted by id 1 S.Called
+step_entries by id S.Ended = counted by id 1 S.Ended
+step_entries by id (S.Faulted number) = counted by id 1 (S.Faulted number)
+step_entries by id S.NotLoaded = []
+step_entries by id S.NotRunning = []
+step_entries by id S.JournalFull = []
+
+-- a slice, which is refused where it did no instruction
+abbrev pub slice_entries : ℕ → ℕ → Slice → List Marked
+slice_entries by id slice =
+    if slice.count == 0 then [] else counted by id slice.count slice.last
+
+-- a work, whose instructions all ran
+abbrev pub commit_entries : ℕ → ℕ → CommitOutcome → List Marked
+commit_entries by id C.Empty = []
+commit_entries by id C.Stale = []
+commit_entries by id C.JournalFull = []
+commit_entries by id (C.Committed count) = counted by id count S.Ran
+
+-- a request, and its reports
+abbrev pub request_entries : ℕ → ℕ → List ℕ → Result (List (List ℕ)) EngineFault → List Marked
+request_entries by time octets (Ok reports) =
+    record { entry = Asked by time octets; mark = Requested (Ok reports) } ∷ []
+request_entries by time octets (Err fault) = []
+
+-- a debugger's command
+abbrev pub command_entries : ℕ → ℕ → Command → Result (Unit {0}) DebugFault → List Marked
+command_entries by id command (Ok done) =
+    record { entry = Debugged by id command; mark = Commanded (Ok done) } ∷ []
+command_entries by id command (Err fault) = []

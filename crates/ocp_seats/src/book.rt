@@ -1,0 +1,165 @@
+//! The book of a shared engine.
+
+ghost use Rattle.std.specs.Prelude.{◌≡◌, ◌≤◌, ◌+◌, None, IfOk, IfErr, drop, length, map};
+ghost use Rattle.ocp_core.specs.Marks.{marked};
+ghost use Rattle.ocp_core.specs.Journal.{marked_of};
+ghost use Rattle.ocp_seats.specs.Seats.{HandedOut, RefusesSeat};
+ghost use Rattle.ocp_seats.specs.Taking.{Takes, RefusesTake};
+
+use crate::{Engine, Entry, MAX_SEATS, Naming, Seat, SeatFault, Ticket};
+use std::alloc::{AllocError, Allocator, Global};
+use std::marker::Model;
+use std::sync::ledger;
+use std::sync::ledger::{Blank, Share};
+
+/// An engine with what its seats are counted by: the number of its entries at the start, the number of seats handed out, the
+/// procedure taken last by any seat, the count of the entries since, and the share that is not handed out.
+#[derive(Drop)]
+pub struct Book<L: Naming, A: Allocator = Global> {
+    pub(crate) engine: Engine<A>,
+    start: usize,
+    seats: u16,
+    taken: Option<u16>,
+    pub(crate) tally: ledger::Book<L>,
+    rest: Share<L>,
+}
+
+impl<L: Naming, A: Allocator> Model for Book<L, A> {
+    ghost use Rattle.std.specs.Prelude.{◌≡◌, ◌≤◌, ◌+◌, length};
+    ghost use Rattle.ocp_seats.specs.Seats.{Booked};
+
+    ghost Value = { Booked };
+
+    ghost use Rattle.ocp_seats.specs.Mirror.Codes.{booked_code};
+
+    ghost coded = { booked_code };
+
+    ghost view = { λ b. record {
+      engine = b.engine;
+      start = b.start;
+      seats = b.seats;
+      taken = b.taken;
+      count = b.tally.total;
+    } };
+
+    ghost invariant = { λ b. (length b.engine.entries ≡ b.start + b.tally.total)
+        × (b.engine.capacity ≡ b.start + L.room) × (b.rest.parts + b.seats ≡ 65)
+        × (b.rest.amount ≡ 0) × (b.seats ≤ 64) };
+}
+
+impl<L: Naming, A: Allocator> Book<L, A> {
+    /// A book that counts from the engine's entries on, with the blank of a ledger of 65 parts. Its name has the engine's room.
+    pub fn new(engine: Engine<A>, blank: Blank) -> Self
+        requires name { blank.name ≡ L.name }
+        requires parts { blank.parts ≡ L.parts }
+        requires seats { blank.parts ≡ 65 }
+        requires room { L.room + length engine.entries ≡ engine.capacity }
+        ensures engine { result.engine ≡ engine }
+        ensures start { result.start ≡ length engine.entries }
+        ensures seats { result.seats ≡ 0 }
+        ensures taken { result.taken ≡ None }
+        ensures count { result.count ≡ 0 }
+    {
+        let (tally, rest) = blank.open::<L>();
+        let start = engine.journal().len();
+        Book {
+            engine,
+            start,
+            seats: 0,
+            taken: None,
+            tally,
+            rest,
+        }
+    }
+
+    /// The next seat, whose receipts have room for all entries that the engine still has room for.
+    pub fn seat(&mut self, alloc: A) -> Result<Seat<L, A>, SeatFault>
+        ensures ok { IfOk result (λ seat. HandedOut self.old self.new seat) }
+        ensures err { IfErr result (λ why. (self.new ≡ self.old) × RefusesSeat self.old why) }
+    {
+        if self.seats == MAX_SEATS {
+            return Err(SeatFault::SeatsFull);
+        }
+        let room = self.engine.journal().capacity() as usize - self.start;
+        let receipts = Vec::with_capacity(alloc, room)?;
+        self.seats += 1;
+        let share = self.rest.split_off(1, 0);
+        Ok(Seat {
+            number: self.seats,
+            share,
+            receipts,
+        })
+    }
+
+    /// The next running procedure after the one that was taken last, which becomes the one taken. Refused, in this order,
+    /// where none runs and where there is no memory for its ticket; then nothing is changed.
+    pub fn take(&mut self, alloc: A) -> Result<Ticket<A>, TakeFault>
+    where
+        A: Copy,
+        ensures ok { IfOk result (λ ticket. Takes self.old self.new ticket) }
+        ensures err { IfErr result (λ why. (self.new ≡ self.old) × RefusesTake self.old why) }
+    {
+        let Some(id) = self.engine.next_running(self.taken) else {
+            return Err(TakeFault::NoneRunning);
+        };
+        let Some(ticket) = self.engine.ticket(alloc, id)? else {
+            unreachable!()
+        };
+        self.taken = Some(id);
+        Ok(ticket)
+    }
+
+    /// The engine.
+    pub fn engine(&self) -> &Engine<A>
+        ensures { result.now ≡ self.now.engine }
+    {
+        &self.engine
+    }
+
+    /// How many seats are handed out.
+    pub fn handed_out(&self) -> u16
+        ensures value { result ≡ self.now.seats }
+        ensures most { result ≤ 64 }
+    {
+        self.seats
+    }
+
+    /// The entries since the start.
+    pub(crate) fn since(&self) -> &[Entry<A>]
+        ensures { map marked_of result.now ≡ drop self.now.start (marked self.now.engine) }
+    {
+        &self.engine.journal().entries()[self.start..]
+    }
+
+    /// The engine, without the seats' count.
+    pub fn into_engine(self) -> Engine<A>
+        ensures { result ≡ self.engine }
+    {
+        let Book {
+            engine,
+            start: _,
+            seats: _,
+            taken: _,
+            tally: _,
+            rest: _,
+        } = self;
+        engine
+    }
+}
+
+/// Why no procedure is taken, in this order.
+#[derive(Clone, Copy, PartialEq, Eq, Debug)]
+pub enum TakeFault {
+    NoneRunning,
+    Memory,
+}
+
+impl From<AllocError> for TakeFault {
+    ghost use Rattle.ocp_seats.specs.declared.book.TakeFault.TheVariants.{Memory};
+
+    ghost from_gives = { λ _ r. r ≡ Memory };
+
+    fn from(_error: AllocError) -> Self {
+        TakeFault::Memory
+    }
+}

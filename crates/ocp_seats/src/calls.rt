@@ -1,0 +1,186 @@
+//! The calls of a seat that change the engine.
+
+ghost use Rattle.std.specs.Prelude.{◌≡◌, ◌≤◌, OnOk, OnErr};
+ghost use Rattle.ocp_debug.specs.declared.command.Command.TheVariants as command;
+ghost use Rattle.ocp_world.specs.World as world;
+ghost use Rattle.ocp_world.specs.After.{Stepped, Commanded};
+ghost use Rattle.ocp_world.specs.Answers.{Answers};
+ghost use Rattle.ocp_core.specs.Log.{answer_in, log_after};
+ghost use Rattle.ocp_core.specs.Slice.{slice_in, slice_log};
+ghost use Rattle.ocp_core.specs.Commits.{Commits};
+ghost use Rattle.ocp_seats.specs.Receipts.{step_entries, slice_entries, commit_entries, request_entries, command_entries};
+ghost use Rattle.ocp_seats.specs.Seats.{Changed, Gained};
+
+use crate::gains::{clear_break, commit, request, set_break, slice, step, trace};
+use crate::{
+    Book, CommitOutcome, DebugFault, EngineFault, Entry, Naming, Reports, Seat, Slice, StepOutcome, Work,
+};
+use std::alloc::Allocator;
+
+impl<L: Naming, A: Allocator> Book<L, A> {
+    /// `Engine::request` with the seat's number. The memory of the reports and of the two copies that journal and seat keep
+    /// is taken before anything is changed.
+    pub fn request(
+        &mut self,
+        alloc: A,
+        seat: &mut Seat<L, A>,
+        time: u32,
+        octets: &[u8],
+    ) -> Result<Reports<A>, EngineFault>
+    where
+        A: Copy,
+        ensures answer { Answers result
+            (answer_in self.old.engine (world.Request seat.old.number time octets.now)) }
+        ensures journal { OnOk result (self.new.engine ≡
+            log_after self.old.engine (world.Request seat.old.number time octets.now)) }
+        ensures book { Changed self.old self.new
+            (request_entries seat.old.number time octets.now result) }
+        ensures seat { Gained seat.old seat.new
+            (request_entries seat.old.number time octets.now result) }
+        ensures err { OnErr result ((self.new ≡ self.old) × (seat.new ≡ seat.old)) }
+    {
+        let (reports, entry) = request(&mut self.engine, alloc, seat.number, time, octets)?;
+        seat.gain(&mut self.tally, &self.engine, entry);
+        Ok(reports)
+    }
+
+    /// `Engine::step` with the seat's number.
+    pub fn step(&mut self, seat: &mut Seat<L, A>, id: u16) -> StepOutcome
+        ensures answer { Stepped result ≡
+            answer_in self.old.engine (world.Step seat.old.number id) }
+        ensures journal { self.new.engine ≡
+            log_after self.old.engine (world.Step seat.old.number id) }
+        ensures book { Changed self.old self.new (step_entries seat.old.number id result) }
+        ensures seat { Gained seat.old seat.new (step_entries seat.old.number id result) }
+    {
+        let by = seat.number;
+        let mark = step(&mut self.engine, by, id);
+        match mark {
+            StepOutcome::NotLoaded | StepOutcome::NotRunning | StepOutcome::JournalFull => mark,
+            _ => {
+                let entry = Entry::Steps {
+                    by,
+                    id,
+                    count: 1,
+                    mark,
+                };
+                seat.gain(&mut self.tally, &self.engine, entry);
+                mark
+            }
+        }
+    }
+
+    /// `Engine::slice` with the seat's number.
+    pub fn slice(&mut self, seat: &mut Seat<L, A>, id: u16, budget: u32) -> Slice
+        requires { 1 ≤ budget }
+        ensures slice { result ≡ slice_in self.old.engine seat.old.number id budget }
+        ensures journal { self.new.engine ≡
+            slice_log self.old.engine seat.old.number id budget }
+        ensures book { Changed self.old self.new (slice_entries seat.old.number id result) }
+        ensures seat { Gained seat.old seat.new (slice_entries seat.old.number id result) }
+    {
+        let by = seat.number;
+        let slice = slice(&mut self.engine, by, id, budget);
+        if slice.count != 0 {
+            let entry = Entry::Steps {
+                by,
+                id,
+                count: slice.count,
+                mark: slice.last,
+            };
+            seat.gain(&mut self.tally, &self.engine, entry);
+        }
+        slice
+    }
+
+    /// `Engine::commit` with the seat's number.
+    pub fn commit(&mut self, seat: &mut Seat<L, A>, work: Work<A>) -> CommitOutcome
+        ensures engine { Commits self.old.engine self.new.engine seat.old.number work result }
+        ensures book { Changed self.old self.new (commit_entries seat.old.number work.id result) }
+        ensures seat { Gained seat.old seat.new (commit_entries seat.old.number work.id result) }
+    {
+        let by = seat.number;
+        let id = work.id();
+        let outcome = commit(&mut self.engine, by, work);
+        if let CommitOutcome::Committed(count) = outcome {
+            let entry = Entry::Steps {
+                by,
+                id,
+                count,
+                mark: StepOutcome::Ran,
+            };
+            seat.gain(&mut self.tally, &self.engine, entry);
+        }
+        outcome
+    }
+
+    /// `Engine::set_break` with the seat's number.
+    pub fn set_break(
+        &mut self,
+        seat: &mut Seat<L, A>,
+        id: u16,
+        place: u16,
+    ) -> Result<(), DebugFault>
+        ensures answer { Commanded result ≡ answer_in self.old.engine
+            (world.Debug seat.old.number id (command.SetBreak place)) }
+        ensures journal { self.new.engine ≡ log_after self.old.engine
+            (world.Debug seat.old.number id (command.SetBreak place)) }
+        ensures book { Changed self.old self.new
+            (command_entries seat.old.number id (command.SetBreak place) result) }
+        ensures seat { Gained seat.old seat.new
+            (command_entries seat.old.number id (command.SetBreak place) result) }
+    {
+        let by = seat.number;
+        let result = set_break(&mut self.engine, by, id, place);
+        if result.is_ok() {
+            let entry = Entry::SetBreak { by, id, place };
+            seat.gain(&mut self.tally, &self.engine, entry);
+        }
+        result
+    }
+
+    /// `Engine::clear_break` with the seat's number.
+    pub fn clear_break(
+        &mut self,
+        seat: &mut Seat<L, A>,
+        id: u16,
+        place: u16,
+    ) -> Result<(), DebugFault>
+        ensures answer { Commanded result ≡ answer_in self.old.engine
+            (world.Debug seat.old.number id (command.ClearBreak place)) }
+        ensures journal { self.new.engine ≡ log_after self.old.engine
+            (world.Debug seat.old.number id (command.ClearBreak place)) }
+        ensures book { Changed self.old self.new
+            (command_entries seat.old.number id (command.ClearBreak place) result) }
+        ensures seat { Gained seat.old seat.new
+            (command_entries seat.old.number id (command.ClearBreak place) result) }
+    {
+        let by = seat.number;
+        let result = clear_break(&mut self.engine, by, id, place);
+        if result.is_ok() {
+            let entry = Entry::ClearBreak { by, id, place };
+            seat.gain(&mut self.tally, &self.engine, entry);
+        }
+        result
+    }
+
+    /// `Engine::trace` with the seat's number.
+    pub fn trace(&mut self, seat: &mut Seat<L, A>, id: u16, on: bool) -> Result<(), DebugFault>
+        ensures answer { Commanded result ≡ answer_in self.old.engine
+            (world.Debug seat.old.number id (command.SetTrace on)) }
+        ensures journal { self.new.engine ≡ log_after self.old.engine
+            (world.Debug seat.old.number id (command.SetTrace on)) }
+        ensures book { Changed self.old self.new
+            (command_entries seat.old.number id (command.SetTrace on) result) }
+        ensures seat { Gained seat.old seat.new
+            (command_entries seat.old.number id (command.SetTrace on) result) }
+    {
+        let by = seat.number;
+        let result = trace(&mut self.engine, by, id, on);
+        if result.is_ok() {
+            let entry = Entry::Trace { by, id, on };
+            seat.gain(&mut self.tally, &self.engine, entry);
+        }
+        result
+    }
+}

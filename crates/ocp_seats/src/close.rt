@@ -1,0 +1,138 @@
+//! The end of a book: whether all seats are back, and their receipts are the journal.
+
+ghost use Rattle.std.specs.Prelude.{◌≡◌, ◌≢◌, ◌≤◌, ◌<◌, ◌==◌, ◌↔◌, ℕ, All, IfErr, IfNone, IfOk, IfSome, IsTrue, MatchOption, count_by, drop, length, map, slice_index, slice_index_or};
+ghost use Rattle.ocp_core.specs.Marks.{marked};
+ghost use Rattle.ocp_core.specs.Journal.{marked_of};
+ghost use Rattle.ocp_seats.specs.Closing.{IsWhole, IsReceipted, RefusesClose};
+
+use crate::{Book, Engine, Entry, MAX_SEATS, Naming, Seat};
+use std::alloc::{Allocator, Global};
+
+/// Why a book is not closed, in this order.
+#[derive(Clone, Copy, PartialEq, Eq, Debug)]
+pub enum CloseFault {
+    /// The seats are not those that the book handed out, each once.
+    MissingSeat,
+    /// An entry since the start is by none of the seats, or the receipts of a seat are not its entries with their marks.
+    ReceiptMismatch,
+}
+
+/// A book that is not closed, with the seats that were handed back.
+#[derive(Drop)]
+pub struct NotClosed<L: Naming, A: Allocator = Global> {
+    pub why: CloseFault,
+    pub book: Book<L, A>,
+    pub seats: Vec<Seat<L, A>, A>,
+}
+
+impl<L: Naming, A: Allocator> Book<L, A> {
+    /// The engine, where the seats are those handed out, each once, each entry since the start is by one of them, and each
+    /// seat's receipts are its entries with their marks, in order. Else the book and the seats come back.
+    pub fn close(self, seats: Vec<Seat<L, A>, A>) -> Result<Engine<A>, NotClosed<L, A>>
+        ensures ok { IfOk result (λ engine. engine ≡ self.engine) }
+        ensures whole { IfOk result (λ _. IsWhole seats.items self.seats) }
+        ensures receipted { IfOk result (λ _.
+            IsReceipted (drop self.start (marked self.engine)) seats.items) }
+        ensures back { IfErr result (λ refused. (refused.book ≡ self) × (refused.seats ≡ seats)) }
+        ensures err { IfErr result (λ refused. RefusesClose self.seats
+            (drop self.start (marked self.engine)) seats.items refused.why) }
+    {
+        match self.close_fault(seats.as_slice()) {
+            Some(why) => Err(NotClosed {
+                why,
+                book: self,
+                seats,
+            }),
+            None => Ok(self.into_engine()),
+        }
+    }
+
+    /// Why the book is not closed with these seats.
+    fn close_fault(&self, seats: &[Seat<L, A>]) -> Option<CloseFault>
+        ensures none { IfNone result (IsWhole seats.now self.now.seats
+            × IsReceipted (drop self.now.start (marked self.now.engine)) seats.now) }
+        ensures some { IfSome result (λ why. RefusesClose self.now.seats
+            (drop self.now.start (marked self.now.engine)) seats.now why) }
+    {
+        if !is_whole(seats, self.handed_out()) {
+            return Some(CloseFault::MissingSeat);
+        }
+        if !is_receipted(self.since(), seats, self.handed_out()) {
+            return Some(CloseFault::ReceiptMismatch);
+        }
+        None
+    }
+}
+
+/// Whether the seats are those with the numbers 1 to `handed_out`, each once.
+fn is_whole<L: Naming, A: Allocator>(seats: &[Seat<L, A>], handed_out: u16) -> bool
+    ensures { IsTrue result ↔ IsWhole seats.now handed_out }
+{
+    for seat in seats {
+        if seat.number() == 0 || seat.number() > handed_out {
+            return false;
+        }
+    }
+    for number in 1..=handed_out {
+        if count_number(seats, number) != 1 {
+            return false;
+        }
+    }
+    true
+}
+
+fn count_number<L: Naming, A: Allocator>(seats: &[Seat<L, A>], number: u16) -> usize
+    ensures { result ≡ count_by (λ s. s.number == number) seats.now }
+{
+    seats.iter().filter(|s| s.number() == number).count()
+}
+
+fn seat_of<'a, L: Naming, A: Allocator>(
+    seats: &'a [Seat<L, A>],
+    number: u16,
+) -> Option<&'a Seat<L, A>>
+    ensures { MatchOption result (All (λ s. s.number ≢ number) seats.now)
+        (λ s. (s.now.number ≡ number)
+        × ((i : ℕ) × (i < length seats.now) × (s.now ≡ slice_index_or seats.now i s.now))) }
+{
+    seats.iter().find(|s| s.number() == number)
+}
+
+/// A place in the receipts of each seat, by the seat's number: the first one.
+fn first_places() -> [usize; MAX_SEATS as usize + 1]
+    ensures { (k : ℕ) → slice_index result k ≡ 0 }
+{
+    [0; MAX_SEATS as usize + 1]
+}
+
+/// Whether each entry is by one of the seats, and each seat's receipts are its entries. One walk over the entries decides
+/// it, with a place kept in the receipts of each seat.
+fn is_receipted<L: Naming, A: Allocator>(
+    entries: &[Entry<A>],
+    seats: &[Seat<L, A>],
+    handed_out: u16,
+) -> bool
+    requires whole { IsWhole seats.now handed_out }
+    requires most { handed_out ≤ 64 }
+    ensures { IsTrue result ↔ IsReceipted (map marked_of entries.now) seats.now }
+{
+    let mut places = first_places();
+    for entry in entries {
+        let Some(seat) = seat_of(seats, entry.by()) else {
+            return false;
+        };
+        let number = usize::from(entry.by());
+        let receipts = seat.receipts();
+        let place = places[number];
+        if place >= receipts.len() || !receipts[place].is_same(entry) {
+            return false;
+        }
+        places[number] = place + 1;
+    }
+    for seat in seats {
+        if places[usize::from(seat.number())] != seat.receipts().len() {
+            return false;
+        }
+    }
+    true
+}

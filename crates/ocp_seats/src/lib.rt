@@ -1,0 +1,15 @@
+//! One engine for several seats: a book that counts its entries, and seats that keep a receipt for each entry of their own.
+#![tactic(auto)]
+
+mod book;
+mod calls;
+mod close;
+mod gains;
+mod seat;
+
+pub use book::{Book, TakeFault};
+pub use close::{CloseFault, NotClosed};
+pub use ocp_core::{
+    CommitOutcome, DebugFault, Engine, EngineFault, Entry, Octets, Reports, Slice, StepOutcome, Ticket, Work,
+};
+pub use seat::{MAX_SEATS, Naming, Seat, SeatFault};
