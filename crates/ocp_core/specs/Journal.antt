@@ -1,4 +1,5 @@
 -- What contracts see of events, entries and answers.
+use Rattle.std.specs.Prelude.{Ok}
 use Rattle.ocp_core.specs.declared.event.Entry as N
 use Rattle.ocp_core.specs.declared.event.Entry.TheVariants as entry
 use Rattle.ocp_core.specs.declared.event.Event as E
@@ -9,6 +10,7 @@ use Rattle.ocp_debug.specs.declared.command.Command.TheVariants as command
 use Rattle.ocp_world.specs.World.{Event, Request, Step, Debug}
 use Rattle.ocp_world.specs.After.{Answer, Requested, Stepped, Commanded}
 use Rattle.ocp_core.specs.Log.{Entry, Asked, Steps, Debugged}
+use Rattle.ocp_core.specs.Marks.{Marked}
 
 abbrev pub event_of : E.Event → Event
 event_of (event.Request by time octets) = Request by time octets.now
@@ -19,11 +21,23 @@ event_of (event.Trace by id on) = Debug by id (command.SetTrace on)
 
 module _ {A : Type 0} where
   abbrev pub entry_of : N.Entry A → Entry
-  entry_of (entry.Request by time octets) = Asked by time octets
-  entry_of (entry.Steps by id count) = Steps by id count
+  entry_of (entry.Request by time octets mark) = Asked by time octets
+  entry_of (entry.Steps by id count mark) = Steps by id count
   entry_of (entry.SetBreak by id place) = Debugged by id (command.SetBreak place)
   entry_of (entry.ClearBreak by id place) = Debugged by id (command.ClearBreak place)
   entry_of (entry.Trace by id on) = Debugged by id (command.SetTrace on)
+
+  -- the answer that is kept with an entry: the reports of a request, the last outcome of
+  -- instructions, or that a debugger's command was done
+  abbrev pub mark_of : N.Entry A → Answer
+  mark_of (entry.Request by time octets reports) = Requested (Ok reports)
+  mark_of (entry.Steps by id count outcome) = Stepped outcome
+  mark_of (entry.SetBreak by id place) = Commanded (Ok tt)
+  mark_of (entry.ClearBreak by id place) = Commanded (Ok tt)
+  mark_of (entry.Trace by id on) = Commanded (Ok tt)
+
+  abbrev pub marked_of : N.Entry A → Marked
+  marked_of e = record { entry = entry_of e; mark = mark_of e }
 
   abbrev pub answer_of : G.Answer A → Answer
   answer_of (answer.Requested reports) = Requested reports

@@ -1,6 +1,5 @@
--- The marks of a journal: the answer that was given with each entry. A journal does not store them:
--- they are those of the replay.
-use Rattle.std.specs.Prelude.{ℕ, zero, suc, List, [], ◌∷◌}
+-- The marks of a journal: the answer that was given with each entry. They are those of the replay.
+use Rattle.std.specs.Prelude.{ℕ, zero, suc, ◌==◌, List, [], ◌∷◌, filter}
 use Rattle.ocp_table.specs.declared.answers.StepOutcome.{StepOutcome}
 use Rattle.ocp_table.specs.declared.answers.StepOutcome.TheVariants as S
 use Rattle.ocp_world.specs.World.{World, Request, Step, Debug, opening}
@@ -30,3 +29,28 @@ marks_from w (entry ∷ entries) =
 
 unfoldable pub marks : Log → List Answer
 marks log = marks_from (opening log.apid log.words) log.entries
+
+-- an entry with its mark: the answer that was given with it
+pub record Marked : Type 0 where
+  pub entry : Entry
+  pub mark : Answer
+
+abbrev pub marked_from : World → List Entry → List Marked
+marked_from w [] = []
+marked_from w (entry ∷ entries) =
+    record { entry = entry; mark = mark_in w entry }
+    ∷ marked_from (replay_from w (events_of entry)) entries
+
+-- the entries of a journal with their marks
+unfoldable pub marked : Log → List Marked
+marked log = marked_from (opening log.apid log.words) log.entries
+
+-- the seat that handed an entry in
+abbrev pub by_of : Entry → ℕ
+by_of (Asked by time octets) = by
+by_of (Steps by id count) = by
+by_of (Debugged by id command) = by
+
+-- those of one seat, in order
+abbrev pub marked_by : List Marked → ℕ → List Marked
+marked_by entries by = filter (λ m. by_of m.entry == by) entries

@@ -1,3 +1,4 @@
 pub mod Codes
 pub mod Kept
+pub mod Admitted
 pub mod Tickets

@@ -6,7 +6,7 @@ ghost use Rattle.ocp_core.specs.Log.{world_of};
 ghost use Rattle.ocp_core.specs.Tickets.{ticket_at};
 ghost use Rattle.ocp_core.specs.Commits.{Commits};
 
-use crate::{CommitOutcome, Engine, Entry, Ticket, Work};
+use crate::{CommitOutcome, Engine, Entry, StepOutcome, Ticket, Work};
 use ocp_world::instructions_done_alone_are_events;
 use std::alloc::{AllocError, Allocator};
 
@@ -50,7 +50,12 @@ impl<A: Allocator> Engine<A> {
             count,
         } = work;
         self.state.settle(id, end);
-        self.journal.push(Entry::Steps { by, id, count });
+        self.journal.push(Entry::Steps {
+            by,
+            id,
+            count,
+            mark: StepOutcome::Ran,
+        });
         CommitOutcome::Committed(count)
     }
 }

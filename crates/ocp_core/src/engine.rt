@@ -1,18 +1,24 @@
 //! The engine.
 
-ghost use Rattle.std.specs.Prelude.{◌≡◌, ◌≤◌, ◌<◌, ◌-◌, ◌^◌, IfOk, OnOk, OnErr, length, slice_get};
+ghost use Rattle.std.specs.Prelude.{◌≡◌, ◌↔◌, ◌≤◌, ◌<◌, ◌-◌, ◌^◌, ℕ, Ok, Err, None, IfOk, IfErr, IfSome, OnOk, OnErr, length, slice_get};
 ghost use Rattle.std.specs.FinMap.{get};
 ghost use Rattle.ocp_table.specs.Shown.{view_at};
 ghost use Rattle.ocp_world.specs.World as world;
-ghost use Rattle.ocp_world.specs.After.{Stepped};
+ghost use Rattle.ocp_world.specs.After.{Requested, Stepped, is_accepted};
 ghost use Rattle.ocp_world.specs.Answers.{Answers};
-ghost use Rattle.ocp_core.specs.Log.{empty_log, expand, world_of, answer_in, log_after};
+ghost use Rattle.ocp_world.specs.NextRunning.{IsNextRunning, Runs};
+ghost use Rattle.ocp_core.specs.Log.{Asked, empty_log, expand, world_of, answer_in, log_after};
 ghost use Rattle.ocp_core.specs.Slice.{slice_in, slice_log};
+ghost use Rattle.ocp_core.specs.Journal.{marked_of};
+ghost use Rattle.ocp_core.specs.Receipts.{reports_in};
+ghost use Rattle.ocp_core.specs.Mirror.Admitted.{IsAdmitted, IsFullAnswer};
 
+use crate::copies::{one_copy, two_copies};
+use crate::laws::refused_events_change_nothing;
 use crate::{EngineFault, Entry, Journal, Octets, Reports, Slice, StepOutcome};
 use ocp_table::View;
 use ocp_world::{State, discard_of};
-use pus_fields::read_tc;
+use pus_fields::{Tc, TcFault, read_tc};
 use space_packet::Apid;
 use std::alloc::{AllocError, Allocator, Global};
 use std::marker::Model;
@@ -40,6 +46,18 @@ impl<A: Allocator> Model for Engine<A> {
     ghost invariant = { λ e. IsWorld (world_of e.journal) e.state };
 }
 
+// Whether an instruction event so answered was done.
+fn is_accepted(outcome: StepOutcome) -> bool
+    ensures { result ≡ is_accepted (Stepped outcome) }
+{
+    match outcome {
+        StepOutcome::NotLoaded | StepOutcome::NotRunning | StepOutcome::JournalFull => false,
+        StepOutcome::Broke => true,
+        StepOutcome::Ran | StepOutcome::Called => true,
+        StepOutcome::Ended | StepOutcome::Faulted(_) => true,
+    }
+}
+
 impl<A: Allocator> Engine<A> {
     /// An engine without procedures, for the application process 0 to 2,046, with 1 to 256 pool words and room for 1 to
     /// 1,000,000 journal entries, all of it reserved here.
@@ -59,6 +77,22 @@ impl<A: Allocator> Engine<A> {
         Ok(Engine { state, journal })
     }
 
+    // Reads the octets of a request. Refused, in this order, where they are discarded and where the journal is full.
+    fn admit<'a>(&self, octets: &'a [u8]) -> Result<Result<Tc<'a>, TcFault>, EngineFault>
+        ensures ok { (by time : ℕ) → IfOk result (IsAdmitted self.now by time octets.now) }
+        ensures err { (by time : ℕ) → IfErr result (λ fault.
+            Answers (Err fault) (answer_in self.now (world.Request by time octets.now))) }
+    {
+        let read = read_tc(self.journal.apid(), octets);
+        if let Some(cause) = discard_of(&read) {
+            return Err(EngineFault::Discarded(cause));
+        }
+        if self.journal.is_full() {
+            return Err(EngineFault::JournalFull);
+        }
+        Ok(read)
+    }
+
     /// Takes the octets of a telecommand packet, which a seat hands in at a time in whole seconds, and answers its
     /// reports. Refused, in this order, where the octets are discarded, where the journal is full, and where there is no
     /// memory; then nothing is changed.
@@ -76,26 +110,73 @@ impl<A: Allocator> Engine<A> {
             (self.new ≡ log_after self.old (world.Request by time octets.now)) }
         ensures err { OnErr result (self.new ≡ self.old) }
     {
-        let read = read_tc(self.journal.apid(), octets);
-        if let Some(cause) = discard_of(&read) {
-            return Err(EngineFault::Discarded(cause));
-        }
-        if self.journal.is_full() {
-            return Err(EngineFault::JournalFull);
-        }
-        let Ok(copy) = Octets::copy_of(alloc, octets) else {
-            return Err(EngineFault::Memory);
-        };
+        let read = self.admit(octets)?;
+        let octets = Octets::copy_of(alloc, octets)?;
         match self.state.receive(alloc, time, read) {
-            Ok(reports) => {
+            Ok(sent) => {
+                let (reports, mark) = one_copy(sent);
                 self.journal.push(Entry::Request {
                     by,
                     time,
-                    octets: copy,
+                    octets,
+                    mark,
                 });
                 Ok(reports)
             }
             Err(fault) => Err(fault),
+        }
+    }
+
+    /// `request`, which also answers a copy of the entry that the journal gained, with its mark. All memory is taken
+    /// before anything is changed.
+    pub fn request_with_receipt(
+        &mut self,
+        alloc: A,
+        by: u16,
+        time: u32,
+        octets: &[u8],
+    ) -> Result<(Reports<A>, Entry<A>), EngineFault>
+    where
+        A: Copy,
+        ensures answer { Answers (reports_in result)
+            (answer_in self.old (world.Request by time octets.now)) }
+        ensures journal { OnOk result
+            (self.new ≡ log_after self.old (world.Request by time octets.now)) }
+        ensures receipt { IfOk result (λ r. marked_of r.1 ≡
+            record { entry = Asked by time octets.now; mark = Requested (Ok r.0) }) }
+        ensures err { OnErr result (self.new ≡ self.old) }
+    {
+        let read = self.admit(octets)?;
+        let kept = Octets::copy_of(alloc, octets)?;
+        let octets = Octets::copy_of(alloc, octets)?;
+        match self.state.receive(alloc, time, read) {
+            Ok(sent) => {
+                let (reports, mark, receipt) = two_copies(sent);
+                self.journal.push(Entry::Request {
+                    by,
+                    time,
+                    octets: kept,
+                    mark,
+                });
+                let receipt = Entry::Request {
+                    by,
+                    time,
+                    octets,
+                    mark: receipt,
+                };
+                Ok((reports, receipt))
+            }
+            Err(fault) => Err(fault),
+        }
+    }
+
+    // What an instruction event is answered where the journal is full.
+    fn answer_when_full(&self, id: u16) -> StepOutcome
+        ensures { (by : ℕ) → IsFullAnswer self.now by id result }
+    {
+        match self.state.refusal(id) {
+            Some(refused) => refused,
+            None => StepOutcome::JournalFull,
         }
     }
 
@@ -105,15 +186,20 @@ impl<A: Allocator> Engine<A> {
         ensures answer { Stepped result ≡ answer_in self.old (world.Step by id) }
         ensures journal { self.new ≡ log_after self.old (world.Step by id) }
     {
-        if let Some(refused) = self.state.refusal(id) {
-            return refused;
-        }
+        refused_events_change_nothing();
         if self.journal.is_full() {
-            return StepOutcome::JournalFull;
+            return self.answer_when_full(id);
         }
-        let outcome = self.state.step(id);
-        self.journal.push(Entry::Steps { by, id, count: 1 });
-        outcome
+        let mark = self.state.step(id);
+        if is_accepted(mark) {
+            self.journal.push(Entry::Steps {
+                by,
+                id,
+                count: 1,
+                mark,
+            });
+        }
+        mark
     }
 
     /// Does instructions of one procedure, at least one, until the budget is used, the procedure no longer runs, or an
@@ -123,25 +209,37 @@ impl<A: Allocator> Engine<A> {
         ensures slice { result ≡ slice_in self.old by id budget }
         ensures journal { self.new ≡ slice_log self.old by id budget }
     {
-        if let Some(refused) = self.state.refusal(id) {
-            return Slice {
-                count: 0,
-                last: refused,
-            };
-        }
+        refused_events_change_nothing();
         if self.journal.is_full() {
             return Slice {
                 count: 0,
-                last: StepOutcome::JournalFull,
+                last: self.answer_when_full(id),
             };
         }
         let slice = self.state.slice(id, budget);
+        if !is_accepted(slice.last) {
+            return Slice {
+                count: 0,
+                last: slice.last,
+            };
+        }
         self.journal.push(Entry::Steps {
             by,
             id,
             count: slice.count,
+            mark: slice.last,
         });
         slice
+    }
+
+    /// The procedure whose turn is next: the least running one above the one before, or where there is none the least
+    /// running one. None exactly where none runs.
+    pub fn next_running(&self, after: Option<u16>) -> Option<u16>
+        ensures pick { IsNextRunning (world_of self.now).records after result }
+        ensures runs { IfSome result (Runs (world_of self.now).records) }
+        ensures none { result ≡ None ↔ ((id : ℕ) → Runs (world_of self.now).records id → ⊥) }
+    {
+        self.state.next_running(after)
     }
 
     /// What is shown of a procedure, where it is loaded.

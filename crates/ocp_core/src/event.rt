@@ -1,6 +1,6 @@
 //! What is handed to the engine, and what it keeps of it.
 
-use crate::{Command, Octets};
+use crate::{Command, Octets, Reports, StepOutcome};
 use std::alloc::{Allocator, Global};
 
 /// An event of a run. The octets of a request are lent. `by` is the number of the seat that hands it in, and the time is
@@ -38,18 +38,22 @@ pub enum Event<'a> {
 }
 
 /// What the journal keeps: a request, so many instructions of one procedure, done one after the other, or a debugger's
-/// command.
+/// command. The mark of an entry is the answer that was given with it.
 #[derive(Drop)]
 pub enum Entry<A: Allocator = Global> {
+    /// Its mark is a copy of the reports that were answered.
     Request {
         by: u16,
         time: u32,
         octets: Octets<A>,
+        mark: Reports<A>,
     },
+    /// Their mark is the outcome of the last one.
     Steps {
         by: u16,
         id: u16,
         count: u32,
+        mark: StepOutcome,
     },
     SetBreak {
         by: u16,
@@ -69,18 +73,34 @@ pub enum Entry<A: Allocator = Global> {
 }
 
 impl<A: Allocator> Entry<A> {
-    ghost use Rattle.std.specs.Prelude.{◌≡◌, ◌<◌, ◌^◌, length};
+    ghost use Rattle.std.specs.Prelude.{◌≡◌, ◌↔◌, ◌<◌, ◌^◌, IsTrue, Ok, length};
+    ghost use Rattle.ocp_world.specs.After.{Commanded};
     ghost use Rattle.ocp_core.specs.Log.{events_of, Debugged};
-    ghost use Rattle.ocp_core.specs.Journal.{entry_of};
+    ghost use Rattle.ocp_core.specs.Marks.{by_of};
+    ghost use Rattle.ocp_core.specs.Journal.{entry_of, mark_of, marked_of};
 
     /// That of a debugger's command, which a seat hands in.
     pub(crate) fn of_command(by: u16, id: u16, command: Command) -> Self
-        ensures { entry_of result ≡ Debugged by id command }
+        ensures entry { entry_of result ≡ Debugged by id command }
+        ensures mark { mark_of result ≡ Commanded (Ok tt) }
     {
         match command {
             Command::SetBreak(place) => Entry::SetBreak { by, id, place },
             Command::ClearBreak(place) => Entry::ClearBreak { by, id, place },
             Command::SetTrace(on) => Entry::Trace { by, id, on },
+        }
+    }
+
+    /// The seat that handed it in.
+    pub fn by(&self) -> u16
+        ensures { result ≡ by_of (entry_of self.now) }
+    {
+        match self {
+            Entry::Request { by, .. } => *by,
+            Entry::Steps { by, .. } => *by,
+            Entry::SetBreak { by, .. } => *by,
+            Entry::ClearBreak { by, .. } => *by,
+            Entry::Trace { by, .. } => *by,
         }
     }
 
@@ -95,6 +115,72 @@ impl<A: Allocator> Entry<A> {
             Entry::SetBreak { .. } => 1,
             Entry::ClearBreak { .. } => 1,
             Entry::Trace { .. } => 1,
+        }
+    }
+
+    /// Whether they are the same entry with the same mark, by value.
+    pub fn is_same(&self, other: &Self) -> bool
+        ensures { IsTrue result ↔ (marked_of self.now ≡ marked_of other.now) }
+    {
+        match (self, other) {
+            (
+                Entry::Request {
+                    by,
+                    time,
+                    octets,
+                    mark,
+                },
+                Entry::Request {
+                    by: other_by,
+                    time: other_time,
+                    octets: other_octets,
+                    mark: other_mark,
+                },
+            ) => {
+                by == other_by
+                    && time == other_time
+                    && octets.is_same(other_octets)
+                    && mark.is_same(other_mark)
+            }
+            (
+                Entry::Steps {
+                    by,
+                    id,
+                    count,
+                    mark,
+                },
+                Entry::Steps {
+                    by: other_by,
+                    id: other_id,
+                    count: other_count,
+                    mark: other_mark,
+                },
+            ) => by == other_by && id == other_id && count == other_count && mark == other_mark,
+            (
+                Entry::SetBreak { by, id, place },
+                Entry::SetBreak {
+                    by: other_by,
+                    id: other_id,
+                    place: other_place,
+                },
+            ) => by == other_by && id == other_id && place == other_place,
+            (
+                Entry::ClearBreak { by, id, place },
+                Entry::ClearBreak {
+                    by: other_by,
+                    id: other_id,
+                    place: other_place,
+                },
+            ) => by == other_by && id == other_id && place == other_place,
+            (
+                Entry::Trace { by, id, on },
+                Entry::Trace {
+                    by: other_by,
+                    id: other_id,
+                    on: other_on,
+                },
+            ) => by == other_by && id == other_id && on == other_on,
+            _ => false,
         }
     }
 }

@@ -37,7 +37,9 @@ impl<A: Allocator> Model for Journal<A> {
 }
 
 impl<A: Allocator> Journal<A> {
-    ghost use Rattle.ocp_core.specs.Journal.{entry_of};
+    ghost use Rattle.ocp_core.specs.Log.{world_of};
+    ghost use Rattle.ocp_core.specs.Marks.{mark_in, marked};
+    ghost use Rattle.ocp_core.specs.Journal.{entry_of, mark_of, marked_of};
 
     /// A journal without entries, with room for so many, of an engine with 1 to 256 pool words.
     pub fn new(alloc: A, apid: Apid, words: u16, capacity: u32) -> Result<Self, AllocError>
@@ -94,9 +96,10 @@ impl<A: Allocator> Journal<A> {
         self.len() == self.capacity as usize
     }
 
-    /// The entries, oldest first.
+    /// The entries with their marks, oldest first.
     pub fn entries(&self) -> &[Entry<A>]
-        ensures { map entry_of result.now ≡ self.now.entries }
+        ensures value { map entry_of result.now ≡ self.now.entries }
+        ensures marks { map marked_of result.now ≡ marked self.now }
     {
         self.entries.as_slice()
     }
@@ -109,9 +112,10 @@ impl<A: Allocator> Journal<A> {
         self.events
     }
 
-    /// Adds an entry.
+    /// Adds an entry, whose mark is the answer that its events are given.
     pub(crate) fn push(&mut self, entry: Entry<A>)
-        requires { is_full self.old ≡ false }
+        requires room { is_full self.old ≡ false }
+        requires mark { mark_of entry ≡ mark_in (world_of self.old) (entry_of entry) }
         ensures { self.new ≡ with_entry self.old (entry_of entry) }
     {
         self.events += entry.events();

@@ -4,6 +4,7 @@
 
 mod answers;
 mod commit;
+mod copies;
 mod debugger;
 mod engine;
 mod event;

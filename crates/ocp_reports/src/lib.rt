@@ -1,10 +1,12 @@
 //! The reports of a request, octet for octet: where they go, what they say and the packets that they are.
 #![tactic(auto)]
 
+mod copied;
 mod octets;
 mod origin;
 mod sender;
 
+pub use copied::CopiedReports;
 pub use octets::{Octets, Reports};
 pub use origin::Origin;
 pub use sender::{Sender, count_after};

@@ -1,6 +1,6 @@
 //! Octets that are kept or handed out.
 
-ghost use Rattle.std.specs.Prelude.{◌≡◌, [], ◌∷◌, ◌++◌, ◌==◌, IfOk, OnOk, OnErr, length};
+ghost use Rattle.std.specs.Prelude.{◌≡◌, ◌↔◌, [], ◌∷◌, ◌++◌, ◌==◌, IsTrue, IfOk, OnOk, OnErr, length};
 
 use std::alloc::{AllocError, Allocator, Global};
 use std::marker::Model;
@@ -39,6 +39,19 @@ impl<A: Allocator> Octets<A> {
         ensures { result.now ≡ self.now }
     {
         self.octets.as_slice()
+    }
+
+    /// Whether they are the same octets, by value.
+    pub fn is_same(&self, other: &Self) -> bool
+        ensures { IsTrue result ↔ (self.now ≡ other.now) }
+    {
+        self.as_slice() == other.as_slice()
+    }
+
+    pub fn copy(&self, alloc: A) -> Result<Self, AllocError>
+        ensures { IfOk result (λ copy. copy ≡ self.now) }
+    {
+        Octets::copy_of(alloc, self.as_slice())
     }
 }
 
@@ -102,5 +115,32 @@ impl<A: Allocator> Reports<A> {
         ensures telemetry { All IsTelemetryPacket self.now }
     {
         self.packets.as_slice()
+    }
+
+    /// Whether they are the same packets in the same order, by value.
+    pub fn is_same(&self, other: &Self) -> bool
+        ensures { IsTrue result ↔ (self.now ≡ other.now) }
+    {
+        if self.len() != other.len() {
+            return false;
+        }
+        for (index, packet) in self.packets.iter().enumerate() {
+            if !packet.is_same(&other.packets[index]) {
+                return false;
+            }
+        }
+        true
+    }
+
+    pub fn copy(&self, alloc: A) -> Result<Self, AllocError>
+    where
+        A: Copy,
+        ensures { IfOk result (λ copy. copy ≡ self.now) }
+    {
+        let mut copy = Reports::new(alloc);
+        for packet in self.packets() {
+            copy.push(packet.copy(alloc)?)?;
+        }
+        Ok(copy)
     }
 }

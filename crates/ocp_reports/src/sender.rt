@@ -8,7 +8,7 @@ ghost use Rattle.ocp_reports.specs.Origin.{dispatch_of};
 ghost use Rattle.ocp_reports.specs.Reports.{report_of, dispatch_of_notice, reports_of};
 ghost use Rattle.ocp_reports.specs.Packets.{packets, telemetry_of, IsTelemetryPacket};
 
-use crate::{Octets, Origin, Reports};
+use crate::{CopiedReports, Octets, Origin, Reports};
 use obcp_messages::{Report, StartFault, write_report};
 use pus_fields::{Tm, WriteFault, telemetry_octets_are_read_back, write_tm};
 use space_packet::{Apid, SEQUENCE_COUNTS, SequenceCount};
@@ -145,5 +145,20 @@ impl Sender {
             self.send(alloc, origin, *notice, answer, &mut reports)?;
         }
         Ok(reports)
+    }
+
+    /// `reports`, with so many copies of them.
+    pub fn copied_reports<const COPIES: usize, A: Allocator + Copy>(
+        &self,
+        alloc: A,
+        origin: Origin,
+        outcome: Outcome,
+        answer: &Option<Report>,
+    ) -> Result<CopiedReports<COPIES, A>, AllocError>
+        ensures { let all = reports_of origin outcome (option_to_list answer.now) in
+            IfOk result (λ r. r ≡ packets self.now.apid self.now.count all) }
+    {
+        let reports = self.reports(alloc, origin, outcome, answer)?;
+        CopiedReports::of(alloc, reports)
     }
 }

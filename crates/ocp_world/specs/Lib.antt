@@ -6,6 +6,7 @@ pub mod After
 pub mod Answers
 pub mod Replay
 pub mod Slice
+pub mod NextRunning
 pub mod Settled
 pub mod Laws
 pub mod Mirror

@@ -9,6 +9,7 @@ mod machine;
 mod settle;
 mod slice;
 mod state;
+mod turns;
 
 pub use answers::EngineFault;
 pub use convert::discard_of;

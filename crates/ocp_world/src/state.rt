@@ -24,7 +24,7 @@ use obcp_messages::{Report, Request};
 use obcp_types::{AcceptanceFailure, StartFailure};
 use ocp_debug::{Command, DebugFault, TraceRing};
 use ocp_pool::{MAX_POOL_WORDS, Pool};
-use ocp_reports::{Origin, Reports, Sender, count_after};
+use ocp_reports::{CopiedReports, Origin, Sender, count_after};
 use ocp_table::{Directive, LoadFailure, StepOutcome, Table, View};
 use pus_fields::{Tc, TcFault};
 use space_packet::{Apid, SequenceCount};
@@ -145,13 +145,13 @@ impl<A: Allocator> State<A> {
     }
 
     // Sends the reports of a request that changes no procedure.
-    fn reply(
+    fn reply<const COPIES: usize>(
         &mut self,
         alloc: A,
         origin: Origin,
         outcome: Outcome,
         answer: &Option<Report>,
-    ) -> Result<Reports<A>, EngineFault>
+    ) -> Result<CopiedReports<COPIES, A>, EngineFault>
     where
         A: Copy,
         ensures does { Does self.old self.new result (λ m. record {
@@ -166,18 +166,18 @@ impl<A: Allocator> State<A> {
             apid: self.apid,
             count: self.count,
         };
-        let reports = sender.reports(alloc, origin, outcome, answer)?;
+        let reports = sender.copied_reports(alloc, origin, outcome, answer)?;
         self.count = count_after(self.count, reports.len());
         Ok(reports)
     }
 
     // Sends the report of a failed acceptance.
-    fn refuse(
+    fn refuse<const COPIES: usize>(
         &mut self,
         alloc: A,
         origin: Origin,
         failure: AcceptanceFailure,
-    ) -> Result<Reports<A>, EngineFault>
+    ) -> Result<CopiedReports<COPIES, A>, EngineFault>
     where
         A: Copy,
         ensures { Does self.old self.new result (λ m. refusal_effect origin failure) }
@@ -186,12 +186,12 @@ impl<A: Allocator> State<A> {
     }
 
     // Sends the reports of a failed start.
-    fn fail(
+    fn fail<const COPIES: usize>(
         &mut self,
         alloc: A,
         origin: Origin,
         failure: StartFailure,
-    ) -> Result<Reports<A>, EngineFault>
+    ) -> Result<CopiedReports<COPIES, A>, EngineFault>
     where
         A: Copy,
         ensures { Does self.old self.new result
@@ -201,13 +201,13 @@ impl<A: Allocator> State<A> {
     }
 
     // Loads a procedure.
-    fn load(
+    fn load<const COPIES: usize>(
         &mut self,
         alloc: A,
         origin: Origin,
         id: u16,
         code: &[u8],
-    ) -> Result<Reports<A>, EngineFault>
+    ) -> Result<CopiedReports<COPIES, A>, EngineFault>
     where
         A: Copy,
         ensures { Does self.old self.new result
@@ -226,7 +226,7 @@ impl<A: Allocator> State<A> {
 
     // Unloads a procedure.
     #[tactic(auto, using(crate::proofs::Calm::unload_leaves_pool))]
-    fn unload(&mut self, alloc: A, origin: Origin, id: u16) -> Result<Reports<A>, EngineFault>
+    fn unload<const COPIES: usize>(&mut self, alloc: A, origin: Origin, id: u16) -> Result<CopiedReports<COPIES, A>, EngineFault>
     where
         A: Copy,
         ensures { Does self.old self.new result
@@ -242,13 +242,13 @@ impl<A: Allocator> State<A> {
 
     // Does what a request asks of a loaded procedure.
     #[tactic(auto, using(crate::proofs::Calm::directive_leaves_pool))]
-    fn direct(
+    fn direct<const COPIES: usize>(
         &mut self,
         alloc: A,
         origin: Origin,
         id: u16,
         directive: Directive<'_>,
-    ) -> Result<Reports<A>, EngineFault>
+    ) -> Result<CopiedReports<COPIES, A>, EngineFault>
     where
         A: Copy,
         requires { HasFewArguments (directive_of directive) }
@@ -264,7 +264,7 @@ impl<A: Allocator> State<A> {
     }
 
     // Reports the status of all procedures.
-    fn report_status(&mut self, alloc: A, origin: Origin) -> Result<Reports<A>, EngineFault>
+    fn report_status<const COPIES: usize>(&mut self, alloc: A, origin: Origin) -> Result<CopiedReports<COPIES, A>, EngineFault>
     where
         A: Copy,
         ensures { Does self.old self.new result
@@ -275,12 +275,12 @@ impl<A: Allocator> State<A> {
     }
 
     // Serves a request.
-    fn serve(
+    fn serve<const COPIES: usize>(
         &mut self,
         alloc: A,
         origin: Origin,
         request: Request<'_>,
-    ) -> Result<Reports<A>, EngineFault>
+    ) -> Result<CopiedReports<COPIES, A>, EngineFault>
     where
         A: Copy,
         ensures { Does self.old self.new result (command_effect request.entry origin) }
@@ -305,12 +305,12 @@ impl<A: Allocator> State<A> {
     }
 
     /// Does what a telecommand asks for, as it was read at this time, and sends its reports.
-    pub fn receive(
+    pub fn receive<const COPIES: usize>(
         &mut self,
         alloc: A,
         time: u32,
         read: Result<Tc<'_>, TcFault>,
-    ) -> Result<Reports<A>, EngineFault>
+    ) -> Result<CopiedReports<COPIES, A>, EngineFault>
     where
         A: Copy,
         ensures { (w : World) (by : ℕ) (octets : List ℕ) →
