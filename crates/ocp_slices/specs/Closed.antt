@@ -1,0 +1,14 @@
+-- What is known of an engine that seats closed.
+use Rattle.std.specs.Prelude.{◌≡◌, ℕ, List, drop}
+use Rattle.ocp_core.specs.Log.{Log}
+use Rattle.ocp_core.specs.Marks.{marked}
+use Rattle.ocp_seats.specs.Seats.{Seated}
+use Rattle.ocp_seats.specs.Closing.{IsWhole, IsReceipted}
+
+-- the seats are those handed out, each once, and the entries of the journal since a start are, with
+-- their marks, just the seats' receipts
+pub record IsClosed (engine : Log) (seats : List Seated) : Type 0 where
+  pub handed_out : ℕ
+  pub start : ℕ
+  pub whole : IsWhole seats handed_out
+  pub receipted : IsReceipted (drop start (marked engine)) seats

@@ -1,0 +1,3 @@
+pub mod Closed
+pub mod Continuing
+pub mod Turns

@@ -1,0 +1,34 @@
+//! How a shared engine is closed.
+
+ghost use Rattle.std.specs.Prelude.{◌≡◌, IfOk, IfErr};
+ghost use Rattle.ocp_slices.specs.Closed.{IsClosed};
+
+use crate::{CloseFault, Engine, Naming, Seat, SharedEngine};
+use ocp_seats::NotClosed;
+
+/// A shared engine that was not closed, with the seats, and why.
+#[derive(Drop)]
+pub struct StillShared<L: Naming> {
+    pub why: CloseFault,
+    pub shared: SharedEngine<L>,
+    pub seats: Vec<Seat<L>>,
+}
+
+impl<L: Naming> SharedEngine<L> {
+    /// Closes the book behind the lock, as its own call does, and hands out the engine. Refused, in this order, where the
+    /// seats are not those that were handed out, each once, and where the entries since the start are not just the seats'
+    /// receipts; then the shared engine and the seats come back.
+    pub fn close(self, seats: Vec<Seat<L>>) -> Result<Engine, StillShared<L>>
+        ensures ok { IfOk result (λ engine. IsClosed engine seats.items) }
+        ensures back { IfErr result (λ fault. fault.seats ≡ seats) }
+    {
+        match self.into_inner().close(seats) {
+            Ok(engine) => Ok(engine),
+            Err(NotClosed { why, book, seats }) => Err(StillShared {
+                why,
+                shared: SharedEngine::over(book),
+                seats,
+            }),
+        }
+    }
+}

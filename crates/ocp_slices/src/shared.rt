@@ -1,0 +1,150 @@
+//! The engine behind a lock.
+
+ghost use Rattle.std.specs.Prelude.{◌≡◌, ◌≤◌, ◌+◌, ◌↔◌, ℕ, [], length, IfOk};
+ghost use Rattle.ocp_debug.specs.declared.command.Command.TheVariants as command;
+ghost use Rattle.ocp_core.specs.declared.answers.CommitOutcome.TheVariants.{Empty, Committed};
+ghost use Rattle.ocp_seats.specs.Receipts.{step_entries, slice_entries, commit_entries, request_entries, command_entries};
+ghost use Rattle.ocp_seats.specs.Seats.{Gained};
+
+use crate::{
+    Board, Book, CommitOutcome, DebugFault, Engine, EngineFault, Naming, Reports, Seat, SeatFault,
+    Slice, StepOutcome, TakeFault, Ticket, Work,
+};
+use std::alloc::Global;
+use std::marker::PhantomData;
+use std::sync::ledger::Blank;
+use std::sync::{Mutex, Wait};
+
+/// One engine for several threads: a board behind a lock, which is the book of an engine where nothing else is said. Each
+/// call of a seat holds the lock once. It answers what the board answers, and the seat gains the receipt of what was
+/// accepted: its own arguments, its own number and the answer that it was given.
+#[derive(Drop)]
+pub struct SharedEngine<L: Naming, B: Board<L> = Book<L>> {
+    board: Mutex<B>,
+    of: PhantomData<L>,
+}
+
+impl<L: Naming> SharedEngine<L> {
+    /// The book of an engine behind a lock, with the blank of a ledger of 65 parts. Its name has the engine's room.
+    pub fn new(engine: Engine, blank: Blank) -> Self
+        requires name { blank.name ≡ L.name }
+        requires parts { blank.parts ≡ L.parts }
+        requires seats { blank.parts ≡ 65 }
+        requires room { L.room + length engine.entries ≡ engine.capacity }
+    {
+        SharedEngine::over(Book::new(engine, blank))
+    }
+}
+
+impl<L: Naming, B: Board<L>> SharedEngine<L, B> {
+    /// Any board behind a lock.
+    pub fn over(board: B) -> Self {
+        SharedEngine {
+            board: Mutex::new(board),
+            of: PhantomData,
+        }
+    }
+
+    /// The board, once no thread shares it.
+    pub fn into_inner(self) -> B {
+        let SharedEngine { board, of: _ } = self;
+        board.into_inner()
+    }
+
+    /// The next seat, with a number of 1 to 64 and no receipts. Refused, in this order, where 64 are handed out, and where
+    /// there is no memory for the receipts of all entries that the engine has room for.
+    pub fn seat<R: Wait>(&self, rt: &R, alloc: Global) -> Result<Seat<L>, SeatFault>
+        ensures receipts { IfOk result (λ seat. (seat.receipts ≡ []) × (seat.share ≡ 0)) }
+        ensures number { IfOk result (λ seat. (1 ≤ seat.number) × (seat.number ≤ 64)) }
+    {
+        self.board.lock(rt).seat(alloc)
+    }
+
+    /// A ticket for the running procedure with the least id above the one taken last by any seat, else with the least id.
+    /// Refused, in this order, where none runs, and where there is no memory for the two copies of its machine.
+    pub fn take<R: Wait>(&self, rt: &R, alloc: Global) -> Result<Ticket, TakeFault> {
+        self.board.lock(rt).take(alloc)
+    }
+
+    /// Puts a work's instructions into its procedure. Refused, in this order, where there are none, where the procedure is
+    /// not what the work began with, and where the journal is full; the work is dropped then.
+    pub fn commit<R: Wait>(&self, rt: &R, seat: &mut Seat<L>, work: Work) -> CommitOutcome
+        ensures seat { Gained seat.old seat.new (commit_entries seat.old.number work.id result) }
+        ensures empty { result ≡ Empty ↔ work.count ≡ 0 }
+        ensures count { (n : ℕ) → result ≡ Committed n → n ≡ work.count }
+    {
+        self.board.lock(rt).commit(seat, work)
+    }
+
+    /// Takes the octets of a telecommand packet and answers its reports, as the engine's call with the seat's number.
+    pub fn request<R: Wait>(
+        &self,
+        rt: &R,
+        alloc: Global,
+        seat: &mut Seat<L>,
+        time: u32,
+        octets: &[u8],
+    ) -> Result<Reports, EngineFault>
+        ensures seat { Gained seat.old seat.new
+            (request_entries seat.old.number time octets.now result) }
+    {
+        self.board.lock(rt).request(alloc, seat, time, octets)
+    }
+
+    /// Does one instruction of a procedure, as the engine's call with the seat's number.
+    pub fn step<R: Wait>(&self, rt: &R, seat: &mut Seat<L>, id: u16) -> StepOutcome
+        ensures seat { Gained seat.old seat.new (step_entries seat.old.number id result) }
+    {
+        self.board.lock(rt).step(seat, id)
+    }
+
+    /// Does instructions of one procedure, as the engine's call with the seat's number.
+    pub fn slice<R: Wait>(&self, rt: &R, seat: &mut Seat<L>, id: u16, budget: u32) -> Slice
+        requires { 1 ≤ budget }
+        ensures seat { Gained seat.old seat.new (slice_entries seat.old.number id result) }
+    {
+        self.board.lock(rt).slice(seat, id, budget)
+    }
+
+    /// Sets a breakpoint, as the engine's call with the seat's number.
+    pub fn set_break<R: Wait>(
+        &self,
+        rt: &R,
+        seat: &mut Seat<L>,
+        id: u16,
+        place: u16,
+    ) -> Result<(), DebugFault>
+        ensures seat { Gained seat.old seat.new
+            (command_entries seat.old.number id (command.SetBreak place) result) }
+    {
+        self.board.lock(rt).set_break(seat, id, place)
+    }
+
+    /// Clears a breakpoint, as the engine's call with the seat's number.
+    pub fn clear_break<R: Wait>(
+        &self,
+        rt: &R,
+        seat: &mut Seat<L>,
+        id: u16,
+        place: u16,
+    ) -> Result<(), DebugFault>
+        ensures seat { Gained seat.old seat.new
+            (command_entries seat.old.number id (command.ClearBreak place) result) }
+    {
+        self.board.lock(rt).clear_break(seat, id, place)
+    }
+
+    /// Sets whether each instruction of a procedure leaves a trace record, as the engine's call with the seat's number.
+    pub fn trace<R: Wait>(
+        &self,
+        rt: &R,
+        seat: &mut Seat<L>,
+        id: u16,
+        on: bool,
+    ) -> Result<(), DebugFault>
+        ensures seat { Gained seat.old seat.new
+            (command_entries seat.old.number id (command.SetTrace on) result) }
+    {
+        self.board.lock(rt).trace(seat, id, on)
+    }
+}

@@ -1,0 +1,99 @@
+//! Turns: take a procedure, run it off the lock, and put its work back.
+
+ghost use Rattle.ocp_slices.specs.Continuing.{Continues};
+ghost use Rattle.ocp_slices.specs.Turns.{Turned};
+
+use crate::{Board, CommitOutcome, Naming, Seat, SharedEngine, StepOutcome, TakeFault};
+use std::alloc::Global;
+use std::sync::Wait;
+
+/// What is called before and after each commit of a turn, with no lock held.
+pub trait Gate {
+    /// The seat is about to hand in so many instructions of a procedure.
+    fn before(&self, seat: u16, id: u16, count: u32);
+
+    /// They were handed in, with this outcome.
+    fn after(&self, seat: u16, id: u16, outcome: CommitOutcome);
+}
+
+/// Holds no one up.
+#[derive(Drop)]
+pub struct Open;
+
+impl Gate for Open {
+    fn before(&self, _seat: u16, _id: u16, _count: u32) {}
+
+    fn after(&self, _seat: u16, _id: u16, _outcome: CommitOutcome) {}
+}
+
+/// What a turn did.
+#[derive(Clone, Copy, PartialEq, Eq, Debug)]
+pub enum Turn {
+    /// No procedure runs.
+    Idle,
+    /// So many instructions were done off the lock, and are events now.
+    Committed(u32),
+    /// The procedure could do none by itself, so one instruction was done under the lock, with this outcome.
+    Stepped(StepOutcome),
+    /// The procedure had changed meanwhile, and the work was dropped.
+    Stale,
+    /// There is no room for a further journal entry.
+    Full,
+    /// There is no memory for a ticket.
+    NoMemory,
+}
+
+impl<L: Naming, B: Board<L>> SharedEngine<L, B> {
+    /// Takes the next running procedure, runs it off the lock for at most so many instructions, and commits what it did.
+    /// Where it could do none by itself, one instruction of it is done under the lock. No lock is held while the procedure
+    /// runs or the gate is called.
+    pub fn turn<R: Wait, G: Gate>(
+        &self,
+        rt: &R,
+        alloc: Global,
+        seat: &mut Seat<L>,
+        budget: u32,
+        gate: &G,
+    ) -> Turn
+        ensures { Turned seat.old seat.new result }
+    {
+        let ticket = match self.take(rt, alloc) {
+            Ok(ticket) => ticket,
+            Err(TakeFault::NoneRunning) => return Turn::Idle,
+            Err(TakeFault::Memory) => return Turn::NoMemory,
+        };
+        let work = ticket.run(budget);
+        let number = seat.number();
+        let id = work.id();
+        gate.before(number, id, work.count());
+        let outcome = self.commit(rt, seat, work);
+        gate.after(number, id, outcome);
+        match outcome {
+            CommitOutcome::Committed(count) => Turn::Committed(count),
+            CommitOutcome::Stale => Turn::Stale,
+            CommitOutcome::JournalFull => Turn::Full,
+            CommitOutcome::Empty => match self.step(rt, seat, id) {
+                StepOutcome::JournalFull => Turn::Full,
+                answer => Turn::Stepped(answer),
+            },
+        }
+    }
+
+    /// That many turns, one after the other.
+    #[tactic(auto, using(crate::proofs::Continuing::continues_unchanged, crate::proofs::Continuing::continues_further))]
+    pub fn turns<R: Wait, G: Gate>(
+        &self,
+        rt: &R,
+        alloc: Global,
+        seat: &mut Seat<L>,
+        budget: u32,
+        turns: u32,
+        gate: &G,
+    )
+        ensures { Continues seat.old seat.new }
+    {
+        for _turn in 0..turns {
+            self.turn(rt, alloc, seat, budget, gate);
+        }
+    }
+}
