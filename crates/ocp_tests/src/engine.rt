@@ -1,7 +1,10 @@
 //! Engines: the octets of their reports, and lists of events. Wanted octets are counted by hand from the text of the
 //! standards.
-use ocp_core::{Answer, Engine, Entry, Event, Reports, RunRefusal, StepOutcome};
+use crate::harness::{is_answered, slice};
+use ocp_core::{Answer, Engine, Entry, Event, RunRefusal, StepOutcome};
 use ocp_table::Status;
+use std::alloc::Global;
+use std::process::Abort;
 use std::test::Fail;
 
 // A load of `mov64 r0, 5`, `add64 r0, 2`, `exit` as procedure 7, with the flags acceptance and completion.
@@ -33,73 +36,48 @@ const ACTIVATE_ONE: [u8; 17] = [
     0x27,
 ];
 
-// The reports of the load, of the activation and of the request for the status report, by their index.
-const LOAD_REPORTS: [(usize, &[u8]); 2] = [
-    (
-        0,
-        &[
-            0x09, 0x23, 0xc0, 0x00, 0x00, 0x10, 0x20, 0x01, 0x01, 0x00, 0x00, 0x00, 0x00, 0x00,
-            0x00, 0x00, 0x00, 0x19, 0x23, 0xc0, 0x00, 0x57, 0x99,
-        ],
-    ),
-    (
-        1,
-        &[
-            0x09, 0x23, 0xc0, 0x01, 0x00, 0x10, 0x20, 0x01, 0x07, 0x00, 0x00, 0x00, 0x00, 0x00,
-            0x00, 0x00, 0x00, 0x19, 0x23, 0xc0, 0x00, 0x28, 0xc3,
-        ],
-    ),
+// The reports of the load, of the activation and of the request for the status report.
+const LOAD_REPORTS: [&[u8]; 2] = [
+    &[
+        0x09, 0x23, 0xc0, 0x00, 0x00, 0x10, 0x20, 0x01, 0x01, 0x00, 0x00, 0x00, 0x00, 0x00, 0x00,
+        0x00, 0x00, 0x19, 0x23, 0xc0, 0x00, 0x57, 0x99,
+    ],
+    &[
+        0x09, 0x23, 0xc0, 0x01, 0x00, 0x10, 0x20, 0x01, 0x07, 0x00, 0x00, 0x00, 0x00, 0x00, 0x00,
+        0x00, 0x00, 0x19, 0x23, 0xc0, 0x00, 0x28, 0xc3,
+    ],
 ];
 
-const ACTIVATE_REPORT: [u8; 23] = [
+const ACTIVATE_REPORTS: [&[u8]; 1] = [&[
     0x09, 0x23, 0xc0, 0x02, 0x00, 0x10, 0x20, 0x01, 0x01, 0x00, 0x00, 0x00, 0x00, 0x00, 0x00, 0x00,
     0x00, 0x19, 0x23, 0xc0, 0x01, 0xb7, 0xfb,
-];
+]];
 
-const STATUS_REPORTS: [(usize, &[u8]); 3] = [
-    (
-        0,
-        &[
-            0x09, 0x23, 0xc0, 0x00, 0x00, 0x10, 0x20, 0x01, 0x01, 0x00, 0x00, 0x00, 0x07, 0x00,
-            0x00, 0x00, 0x00, 0x19, 0x23, 0xc0, 0x05, 0xb6, 0x97,
-        ],
-    ),
-    (
-        1,
-        &[
-            0x09, 0x23, 0xc0, 0x01, 0x00, 0x0d, 0x20, 0x12, 0x09, 0x00, 0x00, 0x00, 0x07, 0x00,
-            0x00, 0x00, 0x00, 0x00, 0x5e, 0x81,
-        ],
-    ),
-    (
-        2,
-        &[
-            0x09, 0x23, 0xc0, 0x02, 0x00, 0x10, 0x20, 0x01, 0x07, 0x00, 0x00, 0x00, 0x07, 0x00,
-            0x00, 0x00, 0x00, 0x19, 0x23, 0xc0, 0x05, 0xc9, 0xbf,
-        ],
-    ),
+const STATUS_REPORTS: [&[u8]; 3] = [
+    &[
+        0x09, 0x23, 0xc0, 0x00, 0x00, 0x10, 0x20, 0x01, 0x01, 0x00, 0x00, 0x00, 0x07, 0x00, 0x00,
+        0x00, 0x00, 0x19, 0x23, 0xc0, 0x05, 0xb6, 0x97,
+    ],
+    &[
+        0x09, 0x23, 0xc0, 0x01, 0x00, 0x0d, 0x20, 0x12, 0x09, 0x00, 0x00, 0x00, 0x07, 0x00, 0x00,
+        0x00, 0x00, 0x00, 0x5e, 0x81,
+    ],
+    &[
+        0x09, 0x23, 0xc0, 0x02, 0x00, 0x10, 0x20, 0x01, 0x07, 0x00, 0x00, 0x00, 0x07, 0x00, 0x00,
+        0x00, 0x00, 0x19, 0x23, 0xc0, 0x05, 0xc9, 0xbf,
+    ],
 ];
-
-// Whether the packet at this index of the reports has these octets.
-fn is_packet(reports: &Reports, index: usize, wanted: &[u8]) -> bool {
-    match reports.packets().get(index) {
-        Some(octets) => octets.as_slice() == wanted,
-        None => false,
-    }
-}
 
 #[test]
 fn reports_of_a_load_and_an_activation(rt: HostRuntime) -> Result<(), Fail> {
     let mut engine = Engine::new(rt.alloc(), 0x123, 16, 100_000)?;
-    let reports = engine.request(rt.alloc(), 0, 0, &LOAD_SEVEN)?;
-    assert_eq!(rt; reports.len(), 2);
-    for (index, wanted) in LOAD_REPORTS {
-        assert!(rt; is_packet(&reports, index, wanted), "at {index}");
-    }
-    let reports = engine.request(rt.alloc(), 0, 0, &ACTIVATE_SEVEN)?;
-    assert!(rt; reports.len() == 1 && is_packet(&reports, 0, &ACTIVATE_REPORT));
-    let slice = engine.slice(0, 7, 3);
-    assert_eq!(rt; (slice.count, slice.last), (3, StepOutcome::Ended));
+    load_and_activate(&rt, rt.alloc(), &mut engine)
+}
+
+fn load_and_activate(rt: &impl Abort, alloc: Global, engine: &mut Engine) -> Result<(), Fail> {
+    assert!(rt; is_answered(alloc, engine, 0, &LOAD_SEVEN, &LOAD_REPORTS)?);
+    assert!(rt; is_answered(alloc, engine, 0, &ACTIVATE_SEVEN, &ACTIVATE_REPORTS)?);
+    assert_eq!(rt; slice(engine, 7, 3), (3, StepOutcome::Ended));
     assert_eq!(rt; (engine.events(), engine.room()), (5, 99_997));
     Ok(())
 }
@@ -107,11 +85,8 @@ fn reports_of_a_load_and_an_activation(rt: HostRuntime) -> Result<(), Fail> {
 #[test]
 fn status_is_reported_to_its_source(rt: HostRuntime) -> Result<(), Fail> {
     let mut engine = Engine::new(rt.alloc(), 0x123, 16, 100_000)?;
-    let reports = engine.request(rt.alloc(), 0, 0, &STATUS)?;
-    assert_eq!(rt; reports.len(), 3);
-    for (index, wanted) in STATUS_REPORTS {
-        assert!(rt; is_packet(&reports, index, wanted), "at {index}");
-    }
+    let is_reported = is_answered(rt.alloc(), &mut engine, 0, &STATUS, &STATUS_REPORTS);
+    assert!(rt; is_reported?);
     Ok(())
 }
 
@@ -162,10 +137,13 @@ const REFUSED: [(&[u8], &[u8]); 4] = [
 #[test]
 fn failed_acceptances_are_reported(rt: HostRuntime) -> Result<(), Fail> {
     let mut engine = Engine::new(rt.alloc(), 0x123, 16, 4)?;
+    fail_acceptances(&rt, rt.alloc(), &mut engine)
+}
+
+fn fail_acceptances(rt: &impl Abort, alloc: Global, engine: &mut Engine) -> Result<(), Fail> {
     for (octets, wanted) in REFUSED {
-        let reports = engine.request(rt.alloc(), 0, 0x0102_0304, octets)?;
         assert!(rt;
-            reports.len() == 1 && is_packet(&reports, 0, wanted),
+            is_answered(alloc, engine, 0x0102_0304, octets, &[wanted])?,
             "{octets:?}"
         );
     }
@@ -176,6 +154,10 @@ fn failed_acceptances_are_reported(rt: HostRuntime) -> Result<(), Fail> {
 #[test]
 fn a_run_answers_each_event(rt: HostRuntime) -> Result<(), Fail> {
     let mut engine = Engine::new(rt.alloc(), 0x123, 16, 3)?;
+    run_to_the_end(&rt, rt.alloc(), &mut engine)
+}
+
+fn run_to_the_end(rt: &impl Abort, alloc: Global, engine: &mut Engine) -> Result<(), Fail> {
     let events = [
         Event::Request {
             by: 0,
@@ -184,18 +166,29 @@ fn a_run_answers_each_event(rt: HostRuntime) -> Result<(), Fail> {
         },
         Event::Step { by: 0, id: 7 },
     ];
-    let Ok(answers) = engine.run(rt.alloc(), &events) else {
+    let Ok(answers) = engine.run(alloc, &events) else {
         return Err("room and memory".into());
     };
     assert_eq!(rt; answers.len(), 2);
-    match (&answers[0], &answers[1]) {
-        (Answer::Requested(Ok(reports)), Answer::Stepped(outcome)) => {
-            assert_eq!(rt; reports.len(), 3);
-            assert_eq!(rt; *outcome, StepOutcome::NotLoaded);
-        }
-        _ => return Err("reports and an outcome".into()),
-    }
+    assert_eq!(rt; reports_in(&answers[0]), Some(3));
+    assert_eq!(rt; outcome_in(&answers[1]), Some(StepOutcome::NotLoaded));
     Ok(())
+}
+
+// How many reports an answer has.
+fn reports_in(answer: &Answer) -> Option<usize> {
+    match answer {
+        Answer::Requested(Ok(reports)) => Some(reports.len()),
+        _ => None,
+    }
+}
+
+// The outcome that an answer is.
+fn outcome_in(answer: &Answer) -> Option<StepOutcome> {
+    match answer {
+        Answer::Stepped(outcome) => Some(*outcome),
+        _ => None,
+    }
 }
 
 // The seat and the time of a request's entry.
@@ -209,6 +202,11 @@ fn handed_in(entry: &Entry) -> Option<(u16, u32)> {
 #[test]
 fn a_run_ends_at_a_full_journal(rt: HostRuntime) -> Result<(), Fail> {
     let mut engine = Engine::new(rt.alloc(), 0x123, 16, 2)?;
+    run_out_of_room(&rt, rt.alloc(), &mut engine)?;
+    entries_are_kept(&rt, &engine)
+}
+
+fn run_out_of_room(rt: &impl Abort, alloc: Global, engine: &mut Engine) -> Result<(), Fail> {
     let events = [
         Event::Request {
             by: 1,
@@ -224,15 +222,19 @@ fn a_run_ends_at_a_full_journal(rt: HostRuntime) -> Result<(), Fail> {
         Event::Step { by: 4, id: 1 },
         Event::Step { by: 5, id: 1 },
     ];
-    let Err(fault) = engine.run(rt.alloc(), &events) else {
+    let Err(fault) = engine.run(alloc, &events) else {
         return Err("no room for the instruction".into());
     };
     assert_eq!(rt; (fault.refusal, fault.index), (RunRefusal::JournalFull, 3));
     assert_eq!(rt; fault.answers.len(), 3);
-    match &fault.answers[1] {
-        Answer::Stepped(outcome) => assert_eq!(rt; *outcome, StepOutcome::NotRunning),
-        _ => return Err("an outcome".into()),
-    }
+    assert_eq!(rt;
+        outcome_in(&fault.answers[1]),
+        Some(StepOutcome::NotRunning)
+    );
+    Ok(())
+}
+
+fn entries_are_kept(rt: &impl Abort, engine: &Engine) -> Result<(), Fail> {
     let entries = engine.journal().entries();
     assert_eq!(rt; entries.len(), 2);
     assert_eq!(rt; handed_in(&entries[0]), Some((1, 5)));

@@ -5,6 +5,8 @@
 #[cfg(test)]
 mod engine;
 #[cfg(test)]
+mod harness;
+#[cfg(test)]
 mod pool;
 #[cfg(test)]
 mod replays;

@@ -1,15 +1,13 @@
 //! One procedure of a journal by itself, against what the engine shows of it. The packets were written by a script that knows
 //! the tables of the profile alone.
+use crate::harness::{send, send_all, slice, step};
 use ocp_core::{Engine, StepOutcome, replay_one};
-use std::alloc::{AllocError, Allocator};
+use std::alloc::Global;
+use std::process::Abort;
 use std::test::Fail;
 
 // Whether the machine of a procedure by itself is the one that the engine shows, or there is none of either.
-fn is_shown<A: Allocator + Copy>(
-    alloc: A,
-    engine: &Engine<A>,
-    id: u16,
-) -> Result<bool, AllocError> {
+fn is_shown(alloc: Global, engine: &Engine, id: u16) -> Result<bool, Fail> {
     let machine = replay_one(alloc, engine.journal(), id)?;
     Ok(match (machine, engine.view(id)) {
         (Some(machine), Some(view)) => {
@@ -23,13 +21,15 @@ fn is_shown<A: Allocator + Copy>(
 }
 
 // R0 of a procedure's machine by itself.
-fn r0_of<A: Allocator + Copy>(
-    alloc: A,
-    engine: &Engine<A>,
-    id: u16,
-) -> Result<Option<u64>, AllocError> {
+fn r0_of(alloc: Global, engine: &Engine, id: u16) -> Result<Option<u64>, Fail> {
     let machine = replay_one(alloc, engine.journal(), id)?;
     Ok(machine.map(|machine| machine.registers()[0]))
+}
+
+// R1 and the place of a procedure's machine by itself.
+fn r1_and_place_of(alloc: Global, engine: &Engine, id: u16) -> Result<Option<(u64, u16)>, Fail> {
+    let machine = replay_one(alloc, engine.journal(), id)?;
+    Ok(machine.map(|machine| (machine.registers()[1], machine.place())))
 }
 
 // Loads of `mov64 r1, 0`, `mov64 r2, 1`, `call pool_add`, `exit` as procedures 1 and 2, and their activations.
@@ -60,17 +60,26 @@ const ADDERS: [&[u8]; 4] = [
 fn each_of_two_adders_has_its_own_answer(rt: HostRuntime) -> Result<(), Fail> {
     for (first, second) in [(1, 2), (2, 1)] {
         let mut engine = Engine::new(rt.alloc(), 0x123, 16, 100)?;
-        for octets in ADDERS {
-            engine.request(rt.alloc(), 0, 0, octets)?;
-        }
-        assert_eq!(rt; engine.slice(0, second, 2).last, StepOutcome::Ran);
-        assert_eq!(rt; engine.slice(0, first, 3).last, StepOutcome::Called);
-        assert_eq!(rt; engine.step(0, second), StepOutcome::Called);
-        assert_eq!(rt; engine.pool_word(0), Some(2));
-        assert_eq!(rt; r0_of(rt.alloc(), &engine, first)?, Some(1));
-        assert_eq!(rt; r0_of(rt.alloc(), &engine, second)?, Some(2));
-        assert_eq!(rt; r0_of(rt.alloc(), &engine, 9)?, None);
+        add_in_turn(&rt, rt.alloc(), &mut engine, first, second)?;
     }
+    Ok(())
+}
+
+fn add_in_turn(
+    rt: &impl Abort,
+    alloc: Global,
+    engine: &mut Engine,
+    first: u16,
+    second: u16,
+) -> Result<(), Fail> {
+    send_all(alloc, engine, &ADDERS)?;
+    assert_eq!(rt; slice(engine, second, 2), (2, StepOutcome::Ran));
+    assert_eq!(rt; slice(engine, first, 3), (3, StepOutcome::Called));
+    assert_eq!(rt; step(engine, second), StepOutcome::Called);
+    assert_eq!(rt; engine.pool_word(0), Some(2));
+    assert_eq!(rt; r0_of(alloc, engine, first)?, Some(1));
+    assert_eq!(rt; r0_of(alloc, engine, second)?, Some(2));
+    assert_eq!(rt; r0_of(alloc, engine, 9)?, None);
     Ok(())
 }
 
@@ -111,22 +120,21 @@ const LOOPS: [&[u8]; 6] = [
 #[test]
 fn three_loops_end_alike(rt: HostRuntime) -> Result<(), Fail> {
     let mut engine = Engine::new(rt.alloc(), 0x123, 16, 100)?;
-    for octets in LOOPS {
-        engine.request(rt.alloc(), 0, 0, octets)?;
+    loop_in_turn(&rt, rt.alloc(), &mut engine)
+}
+
+fn loop_in_turn(rt: &impl Abort, alloc: Global, engine: &mut Engine) -> Result<(), Fail> {
+    send_all(alloc, engine, &LOOPS)?;
+    for id in 1..4 {
+        assert_eq!(rt; slice(engine, id, 400).0, 400);
+        assert!(rt; is_shown(alloc, engine, id)?, "procedure {id}");
     }
     for id in 1..4 {
-        assert_eq!(rt; engine.slice(0, id, 400).count, 400);
-        assert!(rt; is_shown(rt.alloc(), &engine, id)?, "procedure {id}");
+        assert_eq!(rt; slice(engine, id, 600).0, 600);
+        assert!(rt; is_shown(alloc, engine, id)?, "procedure {id}");
     }
     for id in 1..4 {
-        assert_eq!(rt; engine.slice(0, id, 600).count, 600);
-        assert!(rt; is_shown(rt.alloc(), &engine, id)?, "procedure {id}");
-    }
-    for id in 1..4 {
-        let Some(machine) = replay_one(rt.alloc(), engine.journal(), id)? else {
-            return Err("loaded".into());
-        };
-        assert_eq!(rt; (machine.registers()[1], machine.place()), (0, 3));
+        assert_eq!(rt; r1_and_place_of(alloc, engine, id)?, Some((0, 3)));
     }
     assert_eq!(rt; engine.events(), 3_006);
     Ok(())
@@ -156,19 +164,22 @@ const UNLOAD: [u8; 15] = [
 #[test]
 fn an_unload_and_a_load_begin_anew(rt: HostRuntime) -> Result<(), Fail> {
     let mut engine = Engine::new(rt.alloc(), 0x123, 16, 100)?;
-    engine.request(rt.alloc(), 0, 0, &LOAD)?;
-    engine.request(rt.alloc(), 0, 0, &ACTIVATE)?;
-    assert_eq!(rt; engine.slice(0, 1, 3).count, 3);
-    engine.request(rt.alloc(), 0, 0, &ABORT)?;
-    assert_eq!(rt; r0_of(rt.alloc(), &engine, 1)?, Some(1));
-    engine.request(rt.alloc(), 0, 0, &UNLOAD)?;
-    assert_eq!(rt; r0_of(rt.alloc(), &engine, 1)?, None);
-    engine.request(rt.alloc(), 0, 0, &LOAD)?;
-    assert_eq!(rt; r0_of(rt.alloc(), &engine, 1)?, Some(0));
-    engine.request(rt.alloc(), 0, 0, &ACTIVATE)?;
-    assert_eq!(rt; engine.slice(0, 1, 3).count, 3);
-    assert_eq!(rt; r0_of(rt.alloc(), &engine, 1)?, Some(2));
-    assert!(rt; is_shown(rt.alloc(), &engine, 1)?);
+    load_again(&rt, rt.alloc(), &mut engine)
+}
+
+fn load_again(rt: &impl Abort, alloc: Global, engine: &mut Engine) -> Result<(), Fail> {
+    send_all(alloc, engine, &[&LOAD, &ACTIVATE])?;
+    assert_eq!(rt; slice(engine, 1, 3).0, 3);
+    send(alloc, engine, &ABORT)?;
+    assert_eq!(rt; r0_of(alloc, engine, 1)?, Some(1));
+    send(alloc, engine, &UNLOAD)?;
+    assert_eq!(rt; r0_of(alloc, engine, 1)?, None);
+    send(alloc, engine, &LOAD)?;
+    assert_eq!(rt; r0_of(alloc, engine, 1)?, Some(0));
+    send(alloc, engine, &ACTIVATE)?;
+    assert_eq!(rt; slice(engine, 1, 3).0, 3);
+    assert_eq!(rt; r0_of(alloc, engine, 1)?, Some(2));
+    assert!(rt; is_shown(alloc, engine, 1)?);
     Ok(())
 }
 
@@ -285,9 +296,12 @@ fn next(number: u32) -> u32 {
 #[test]
 fn each_of_three_procedures_is_the_one_shown(rt: HostRuntime) -> Result<(), Fail> {
     let mut engine = Engine::new(rt.alloc(), 0x123, 16, 1_000)?;
+    run_at_random(&rt, rt.alloc(), &mut engine)
+}
+
+fn run_at_random(rt: &impl Abort, alloc: Global, engine: &mut Engine) -> Result<(), Fail> {
     for id in 0..3 {
-        engine.request(rt.alloc(), 0, 0, REQUESTS[8 * id])?;
-        engine.request(rt.alloc(), 0, 0, REQUESTS[8 * id + 1])?;
+        send_all(alloc, engine, &[REQUESTS[8 * id], REQUESTS[8 * id + 1]])?;
     }
     let mut number = 1;
     for event in 0..200 {
@@ -296,15 +310,14 @@ fn each_of_three_procedures_is_the_one_shown(rt: HostRuntime) -> Result<(), Fail
         let kind = (number >> 20) % 32;
         if kind < 8 {
             let index = (8 * id + kind) as usize;
-            let octets = REQUESTS.get(index).ok_or("a request")?;
-            engine.request(rt.alloc(), 0, 0, octets)?;
+            send(alloc, engine, REQUESTS.get(index).ok_or("a request")?)?;
         } else {
-            engine.step(0, id as u16 + 1);
+            step(engine, id as u16 + 1);
         }
         if event % 20 == 19 {
             for id in 1..5 {
                 assert!(rt;
-                    is_shown(rt.alloc(), &engine, id)?,
+                    is_shown(alloc, engine, id)?,
                     "procedure {id} after {event}"
                 );
             }

@@ -1,7 +1,9 @@
 //! Tickets: a procedure that runs apart while requests come, and how its work comes back.
+use crate::harness::{send, send_all};
 use ocp_core::{CommitOutcome, Engine, StepOutcome, Ticket};
 use ocp_table::{Cause, Status};
 use std::alloc::Global;
+use std::process::Abort;
 use std::test::Fail;
 
 // A load of `mov64 r0, 5`, `add64 r0, 2`, `exit` as procedure 7, with the flags acceptance and completion.
@@ -22,19 +24,6 @@ const ABORT: [u8; 15] = [
     0x19, 0x23, 0xc0, 0x02, 0x00, 0x08, 0x20, 0x12, 0x0c, 0x00, 0x00, 0x00, 0x07, 0x12, 0x6f,
 ];
 
-// An engine of so many entries in which procedure 7 runs.
-fn running(alloc: Global, capacity: u32) -> Result<Engine, Fail>
-    requires from { 1 ≤ capacity }
-    requires to { capacity ≤ 1000000 }
-{
-    let mut engine = Engine::new(alloc, 0x123, 16, capacity)?;
-    engine.request(alloc, 0, 0, &LOAD)?;
-    engine.request(alloc, 0, 0, &ACTIVATE)?;
-    Ok(engine)
-}
-
-ghost use Rattle.std.specs.Prelude.{◌≤◌};
-
 // A ticket for procedure 7.
 fn ticket(alloc: Global, engine: &Engine) -> Result<Ticket, Fail> {
     match engine.ticket(alloc, 7)? {
@@ -45,16 +34,19 @@ fn ticket(alloc: Global, engine: &Engine) -> Result<Ticket, Fail> {
 
 #[test]
 fn a_work_of_an_aborted_procedure_is_stale(rt: HostRuntime) -> Result<(), Fail> {
-    let mut engine = running(rt.alloc(), 100)?;
-    let ticket = ticket(rt.alloc(), &engine)?;
+    let mut engine = Engine::new(rt.alloc(), 0x123, 16, 100)?;
+    abort_a_ticket(&rt, rt.alloc(), &mut engine)
+}
+
+fn abort_a_ticket(rt: &impl Abort, alloc: Global, engine: &mut Engine) -> Result<(), Fail> {
+    send_all(alloc, engine, &[&LOAD, &ACTIVATE])?;
+    let ticket = ticket(alloc, engine)?;
     assert_eq!(rt; ticket.id(), 7);
-    engine.request(rt.alloc(), 0, 0, &ABORT)?;
+    send(alloc, engine, &ABORT)?;
     let work = ticket.run(10);
     assert_eq!(rt; (work.id(), work.count()), (7, 2));
     assert_eq!(rt; engine.commit(1, work), CommitOutcome::Stale);
-    let Some(view) = engine.view(7) else {
-        return Err(Fail::new("not loaded"));
-    };
+    let view = engine.view(7).ok_or("not loaded")?;
     assert_eq!(rt; (view.place, view.cause), (0, Cause::Aborted));
     assert_eq!(rt; engine.events(), 3);
     Ok(())
@@ -62,31 +54,38 @@ fn a_work_of_an_aborted_procedure_is_stale(rt: HostRuntime) -> Result<(), Fail> 
 
 #[test]
 fn a_work_is_committed_to_a_machine_that_is_the_same_again(rt: HostRuntime) -> Result<(), Fail> {
-    let mut engine = running(rt.alloc(), 100)?;
-    let ticket = ticket(rt.alloc(), &engine)?;
-    engine.request(rt.alloc(), 0, 0, &ABORT)?;
-    engine.request(rt.alloc(), 0, 0, &ACTIVATE)?;
+    let mut engine = Engine::new(rt.alloc(), 0x123, 16, 100)?;
+    activate_again(&rt, rt.alloc(), &mut engine)
+}
+
+fn activate_again(rt: &impl Abort, alloc: Global, engine: &mut Engine) -> Result<(), Fail> {
+    send_all(alloc, engine, &[&LOAD, &ACTIVATE])?;
+    let ticket = ticket(alloc, engine)?;
+    send_all(alloc, engine, &[&ABORT, &ACTIVATE])?;
     let work = ticket.run(10);
     assert_eq!(rt; engine.commit(1, work), CommitOutcome::Committed(2));
-    let Some(view) = engine.view(7) else {
-        return Err(Fail::new("not loaded"));
-    };
+    let view = engine.view(7).ok_or("not loaded")?;
     assert_eq!(rt; (view.place, view.status), (2, Status::Running));
     assert_eq!(rt; view.registers[0], 7);
     assert_eq!(rt; (engine.events(), engine.room()), (6, 95));
     assert_eq!(rt; engine.step(1, 7), StepOutcome::Ended);
-    assert!(rt; engine.ticket(rt.alloc(), 7)?.is_none());
+    assert!(rt; engine.ticket(alloc, 7)?.is_none());
     Ok(())
 }
 
 #[test]
 fn works_are_refused_in_their_order(rt: HostRuntime) -> Result<(), Fail> {
-    let mut engine = running(rt.alloc(), 2)?;
-    let none = ticket(rt.alloc(), &engine)?.run(0);
-    let one = ticket(rt.alloc(), &engine)?.run(1);
+    let mut engine = Engine::new(rt.alloc(), 0x123, 16, 2)?;
+    refuse_works(&rt, rt.alloc(), &mut engine)
+}
+
+fn refuse_works(rt: &impl Abort, alloc: Global, engine: &mut Engine) -> Result<(), Fail> {
+    send_all(alloc, engine, &[&LOAD, &ACTIVATE])?;
+    let none = ticket(alloc, engine)?.run(0);
+    let one = ticket(alloc, engine)?.run(1);
     assert_eq!(rt; engine.commit(1, none), CommitOutcome::Empty);
     assert_eq!(rt; engine.commit(1, one), CommitOutcome::JournalFull);
     assert_eq!(rt; (engine.events(), engine.room()), (2, 0));
-    assert!(rt; engine.ticket(rt.alloc(), 9)?.is_none());
+    assert!(rt; engine.ticket(alloc, 9)?.is_none());
     Ok(())
 }
