@@ -5,8 +5,6 @@ mod command;
 mod help;
 mod job;
 mod reading;
-#[cfg(test)]
-mod tests;
 
 pub use job::{Job, MAX_APID, MAX_CAPACITY, MAX_POOL_WORDS, Settings, WordsFault};
 pub use reading::{not_utf8, read_words};
