@@ -1,6 +1,6 @@
 -- What an answer of an engine adds to its journal.
-use Rattle.std.proofs.Common.{◌≡◌, ◌==◌, ℕ, zero, suc, Bool, true, false, cond, List, [], ◌∷◌, ◌++◌, length, map, refl, sym, ap, subst, ◌∙◌, arith, length-append}
-use Rattle.std.specs.Prelude.{Result, Ok, Err}
+use Rattle.std.proofs.Common.{◌≡◌, ◌≤◌, ◌==◌, ℕ, zero, suc, Bool, true, false, cond, List, [], ◌∷◌, ◌++◌, length, map, refl, sym, ap, subst, ◌∙◌, arith, length-append}
+use Rattle.std.specs.Prelude.{Result, Ok, Err, OnOk, OnErr}
 use Rattle.std.proofs.lemmas.List.{append-nil}
 use Rattle.ocp_table.specs.declared.answers.StepOutcome.{StepOutcome}
 use Rattle.ocp_table.specs.declared.answers.StepOutcome.TheVariants as S
@@ -9,11 +9,20 @@ use Rattle.ocp_debug.specs.declared.command.Command.{Command}
 use Rattle.ocp_debug.specs.declared.command.DebugFault.{DebugFault}
 use Rattle.ocp_world.specs.declared.answers.EngineFault.{EngineFault}
 use Rattle.ocp_world.specs.World.{Event, Request, Step, Debug}
+use Rattle.ocp_world.specs.Answers.{Answers}
+use Rattle.ocp_world.specs.Slice.{outcome_in, slice_count, slice_last}
 use Rattle.ocp_world.specs.After.{Answer, Requested, Stepped, Commanded, after, is_accepted}
 use Rattle.ocp_core.specs.Log.{Log, Entry, Steps, world_of, is_full, with_entry, entry_for, full_answer, answer_in, log_after}
-use Rattle.ocp_core.specs.Marks.{Marked, marked}
-use Rattle.ocp_seats.specs.Receipts.{step_entries, request_entries, command_entries}
+use Rattle.ocp_core.specs.Slice.{slice_in, slice_log}
+use Rattle.ocp_core.specs.Marks.{Marked, mark_in, marked}
+use Rattle.ocp_core.specs.declared.answers.CommitOutcome.{CommitOutcome}
+use Rattle.ocp_core.specs.declared.answers.CommitOutcome.TheVariants as C
+use Rattle.ocp_core.specs.Tickets.{Worked, IsRun}
+use Rattle.ocp_core.specs.Commits.{Commits}
+use Rattle.ocp_core.specs.Receipts.{reports_in}
+use Rattle.ocp_seats.specs.Receipts.{counted, step_entries, slice_entries, commit_entries, request_entries, command_entries}
 use Rattle.ocp_seats.specs.Seats.{Grows}
+use Rattle.ocp_seats.proofs.Marking.{marked-with_entry, event_mark, slice_mark, slice_some}
 
 -- no entry
 same_log : (log : Log) → log ≡ record log { entries = log.entries ++ [] }
@@ -22,8 +31,11 @@ same_log log = ap (λ es. record log { entries = es }) (sym (append-nil log.entr
 pub grows_none : (log new : Log) (entries : List Marked) → new ≡ log → entries ≡ [] → Grows log new entries
 grows_none log new entries is none = subst (λ es. Grows log new es) (sym none) (subst (λ l. Grows log l []) (sym is) (record { journal = same_log log; marks = sym (append-nil (marked log)) }))
 
-pub grows_one : (log new : Log) (entry : Entry) (mark : Answer) → new ≡ with_entry log entry → marked new ≡ marked log ++ record { entry = entry; mark = mark } ∷ [] → Grows log new (record { entry = entry; mark = mark } ∷ [])
-grows_one log new entry mark is marks = record { journal = is; marks = marks }
+pub grows_one : (log new : Log) (entry : Entry) (mark : Answer) → new ≡ with_entry log entry → mark ≡ mark_in (world_of log) entry → Grows log new (record { entry = entry; mark = mark } ∷ [])
+grows_one log new entry mark is marks = record {
+  journal = is;
+  marks = ap marked is ∙ marked-with_entry log entry ∙ ap (λ a. marked log ++ record { entry = entry; mark = a } ∷ []) (sym marks);
+}
 
 -- ---- an event
 
@@ -42,28 +54,24 @@ none_refused e a refused = ap (λ b. cond b (record { entry = entry_for e; mark 
 one_accepted : (e : Event) (a : Answer) → is_accepted a ≡ true → event_entries e a ≡ record { entry = entry_for e; mark = a } ∷ []
 one_accepted e a taken = ap (λ b. cond b (record { entry = entry_for e; mark = a } ∷ []) []) taken
 
--- an accepted event of a journal with room is marked by its answer
-abbrev pub IsMarked : Log → Event → Type 0
-IsMarked log e = is_accepted (after (world_of log) e).answer ≡ true → is_full log ≡ false → marked (log_after log e) ≡ marked log ++ record { entry = entry_for e; mark = answer_in log e } ∷ []
-
 abbrev after_by : Log → Event → Bool → Bool → Log
 after_by log e taken full = cond taken (cond full log (with_entry log (entry_for e))) log
 
 abbrev answer_by : Event → Answer → Bool → Bool → Answer
 answer_by e a taken full = cond taken (cond full (full_answer e) a) a
 
-grows_by : (log : Log) (e : Event) (a : Answer) (taken full : Bool) → is_accepted a ≡ taken → (taken ≡ true → full ≡ false → marked (after_by log e taken full) ≡ marked log ++ record { entry = entry_for e; mark = answer_by e a taken full } ∷ []) → Grows log (after_by log e taken full) (event_entries e (answer_by e a taken full))
-grows_by log e a false full taken marks = grows_none log log (event_entries e a) refl (none_refused e a taken)
-grows_by log e a true true taken marks = grows_none log log (event_entries e (full_answer e)) refl (none_full e)
-grows_by log e a true false taken marks =
-    subst (λ es. Grows log (with_entry log (entry_for e)) es) (sym (one_accepted e a taken)) (grows_one log (with_entry log (entry_for e)) (entry_for e) a refl (marks refl refl))
+grows_by : (log : Log) (e : Event) (a : Answer) (taken full : Bool) → is_accepted a ≡ taken → a ≡ mark_in (world_of log) (entry_for e) → Grows log (after_by log e taken full) (event_entries e (answer_by e a taken full))
+grows_by log e a false full taken is = grows_none log log (event_entries e a) refl (none_refused e a taken)
+grows_by log e a true true taken is = grows_none log log (event_entries e (full_answer e)) refl (none_full e)
+grows_by log e a true false taken is =
+    subst (λ es. Grows log (with_entry log (entry_for e)) es) (sym (one_accepted e a taken)) (grows_one log (with_entry log (entry_for e)) (entry_for e) a refl is)
 
-grows_event : (log new : Log) (e : Event) (a : Answer) → IsMarked log e → a ≡ answer_in log e → new ≡ log_after log e → Grows log new (event_entries e a)
-grows_event log new e a marks is left =
+grows_event : (log new : Log) (e : Event) (a : Answer) → a ≡ answer_in log e → new ≡ log_after log e → Grows log new (event_entries e a)
+grows_event log new e a is left =
     let first : Answer = (after (world_of log) e).answer in
     subst (λ l. Grows log l (event_entries e a)) (sym left)
     (subst (λ x. Grows log (log_after log e) (event_entries e x)) (sym is)
-    (grows_by log e first (is_accepted first) (is_full log) refl marks))
+    (grows_by log e first (is_accepted first) (is_full log) refl (sym (event_mark (world_of log) e))))
 
 step_entries_are : (by id : ℕ) (o : StepOutcome) → event_entries (Step by id) (Stepped o) ≡ step_entries by id o
 step_entries_are by id S.Broke = refl
@@ -83,11 +91,59 @@ command_entries_are : (by id : ℕ) (command : Command) (r : Result (Unit {0}) D
 command_entries_are by id command (Ok done) = refl
 command_entries_are by id command (Err fault) = refl
 
-pub grows_step : (log new : Log) (by id : ℕ) (o : StepOutcome) → IsMarked log (Step by id) → Stepped o ≡ answer_in log (Step by id) → new ≡ log_after log (Step by id) → Grows log new (step_entries by id o)
-grows_step log new by id o marks is left = subst (λ es. Grows log new es) (step_entries_are by id o) (grows_event log new (Step by id) (Stepped o) marks is left)
+pub grows_step : (log new : Log) (by id : ℕ) (o : StepOutcome) → Stepped o ≡ answer_in log (Step by id) → new ≡ log_after log (Step by id) → Grows log new (step_entries by id o)
+grows_step log new by id o is left = subst (λ es. Grows log new es) (step_entries_are by id o) (grows_event log new (Step by id) (Stepped o) is left)
 
-pub grows_command : (log new : Log) (by id : ℕ) (command : Command) (r : Result (Unit {0}) DebugFault) → IsMarked log (Debug by id command) → Commanded r ≡ answer_in log (Debug by id command) → new ≡ log_after log (Debug by id command) → Grows log new (command_entries by id command r)
-grows_command log new by id command r marks is left = subst (λ es. Grows log new es) (command_entries_are by id command r) (grows_event log new (Debug by id command) (Commanded r) marks is left)
+pub grows_command : (log new : Log) (by id : ℕ) (command : Command) (r : Result (Unit {0}) DebugFault) → Commanded r ≡ answer_in log (Debug by id command) → new ≡ log_after log (Debug by id command) → Grows log new (command_entries by id command r)
+grows_command log new by id command r is left = subst (λ es. Grows log new es) (command_entries_are by id command r) (grows_event log new (Debug by id command) (Commanded r) is left)
 
-pub grows_request : (log new : Log) (by time : ℕ) (octets : List ℕ) (reports : List (List ℕ)) → IsMarked log (Request by time octets) → Requested (Ok reports) ≡ answer_in log (Request by time octets) → new ≡ log_after log (Request by time octets) → Grows log new (request_entries by time octets (Ok reports))
-grows_request log new by time octets reports marks is left = grows_event log new (Request by time octets) (Requested (Ok reports)) marks is left
+pub grows_request : (log new : Log) (by time : ℕ) (octets : List ℕ) (reports : List (List ℕ)) → Requested (Ok reports) ≡ answer_in log (Request by time octets) → new ≡ log_after log (Request by time octets) → Grows log new (request_entries by time octets (Ok reports))
+grows_request log new by time octets reports is left = grows_event log new (Request by time octets) (Requested (Ok reports)) is left
+
+pub grows_requested : {E : Type 0} (log new : Log) (by time : ℕ) (octets : List ℕ) (r : Result (List (List ℕ) × E) EngineFault) → Answers (reports_in r) (answer_in log (Request by time octets)) → OnOk r (new ≡ log_after log (Request by time octets)) → OnErr r (new ≡ log) → Grows log new (request_entries by time octets (reports_in r))
+grows_requested log new by time octets (Ok done) is left same = grows_request log new by time octets done.0 (sym is) left
+grows_requested log new by time octets (Err fault) is left same = grows_none log new [] same refl
+
+-- ---- a slice
+
+abbrev slice_log_by : Log → ℕ → ℕ → ℕ → Bool → Bool → Log
+slice_log_by log by id budget taken full = cond taken (cond full log (with_entry log (Steps by id (slice_count (world_of log) by id budget)))) log
+
+abbrev slice_by : Log → ℕ → ℕ → ℕ → Bool → Bool → Slice
+slice_by log by id budget taken full =
+    cond taken
+    (cond full (record { count = 0; last = S.JournalFull }) (record { count = slice_count (world_of log) by id budget; last = slice_last (world_of log) by id S.Ran budget }))
+    (record { count = 0; last = outcome_in (after (world_of log) (Step by id)).answer })
+
+slice_entries_some : (by id : ℕ) (s : Slice) → (s.count ≡ 0 → ⊥) → slice_entries by id s ≡ counted by id s.count s.last
+slice_entries_some by id s some =
+    let none : (s.count == 0) ≡ false = grind arith in
+    ap (λ b. cond b [] (counted by id s.count s.last)) none
+
+grows_slice_by : (log : Log) (by id budget : ℕ) (taken full : Bool) → Grows log (slice_log_by log by id (suc budget) taken full) (slice_entries by id (slice_by log by id (suc budget) taken full))
+grows_slice_by log by id budget false full = grows_none log log [] refl refl
+grows_slice_by log by id budget true true = grows_none log log [] refl refl
+grows_slice_by log by id budget true false =
+    let w = world_of log in
+    let n = slice_count w by id (suc budget) in
+    let last = slice_last w by id S.Ran (suc budget) in
+    subst (λ es. Grows log (with_entry log (Steps by id n)) es) (sym (slice_entries_some by id (record { count = n; last = last }) (slice_some w by id budget)))
+    (grows_one log (with_entry log (Steps by id n)) (Steps by id n) (Stepped last) refl (ap Stepped (sym (slice_mark w by id S.Ran (suc budget)))))
+
+pub grows_slice : (log new : Log) (by id budget : ℕ) (s : Slice) → 1 ≤ budget → s ≡ slice_in log by id budget → new ≡ slice_log log by id budget → Grows log new (slice_entries by id s)
+grows_slice log new by id zero s low is left = absurd (omega arith)
+grows_slice log new by id (suc budget) s low is left =
+    subst (λ l. Grows log l (slice_entries by id s)) (sym left)
+    (subst (λ x. Grows log (slice_log log by id (suc budget)) (slice_entries by id x)) (sym is)
+    (grows_slice_by log by id budget (is_accepted (after (world_of log) (Step by id)).answer) (is_full log)))
+
+-- ---- a commit
+
+pub grows_commit : ((old new : Log) (by : ℕ) (w : Worked) (count : ℕ) → IsRun w → Commits old new by w (C.Committed count) → marked new ≡ marked old ++ record { entry = Steps by w.id count; mark = Stepped S.Ran } ∷ []) → (old new : Log) (by : ℕ) (w : Worked) (o : CommitOutcome) → IsRun w → Commits old new by w o → Grows old new (commit_entries by w.id o)
+grows_commit law old new by w C.Empty run is = grows_none old new [] is.1 refl
+grows_commit law old new by w C.Stale run is = grows_none old new [] is.2 refl
+grows_commit law old new by w C.JournalFull run is = grows_none old new [] is.3 refl
+grows_commit law old new by w (C.Committed count) run is = record {
+  journal = is.4.journal ∙ ap (λ n. with_entry old (Steps by w.id n)) (sym is.3);
+  marks = law old new by w count run is;
+}

@@ -1,2 +1,5 @@
 pub mod Walks
+pub mod Marking
 pub mod Growing
+pub mod Histories
+pub mod Picking

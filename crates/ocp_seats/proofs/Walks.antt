@@ -1,9 +1,9 @@
 -- The walk over the entries, with a place in each seat's receipts.
-use Rattle.std.proofs.Common.{◌≡◌, ◌≢◌, ℕ, ◌+◌, ◌-◌, ◌<◌, ◌≤◌, ◌==◌, Bool, true, false, cond, eqb, List, [], ◌∷◌, ◌++◌, length, take, drop, set, get_or, refl, ap, sym, ◌∙◌, subst, arith, rules, filter, count_by, All, Any, zero, suc, inl, inr, ◌⊎◌, Option, Some, None, slice_get, length-append, length-set, replicate}
+use Rattle.std.proofs.Common.{◌≡◌, ◌≢◌, ℕ, ◌+◌, ◌-◌, ◌<◌, ◌≤◌, ◌==◌, Bool, true, false, cond, eqb, List, [], ◌∷◌, ◌++◌, length, take, drop, set, get_or, refl, ap, sym, ◌∙◌, subst, arith, rules, filter, count_by, All, Any, zero, suc, inl, inr, ◌⊎◌, Option, Some, None, slice_get, length-append, length-set, replicate, map}
 use Rattle.std.proofs.lemmas.Grind.{common_steps, get_or-set_at}
-use Rattle.std.proofs.lemmas.List.{take_more, drop_more, take-append-drop, append-nil, get_or-set_same, get_or-set_other}
+use Rattle.std.proofs.lemmas.List.{take_more, drop_more, take-append-drop, append-nil, get_or-set_same, get_or-set_other, get_or-map, length-map}
 use Rattle.std.proofs.lemmas.List.Elements.{filter-append, filter_more, All-push, All-same}
-use Rattle.std.proofs.lemmas.Option.{get_or_from_slice_get}
+use Rattle.std.proofs.lemmas.Option.{get_or_from_slice_get, slice_get_within, slice_get_read}
 use Rattle.std.proofs.Math.Seq.{get_or-append_seam}
 use Rattle.ocp_core.specs.Marks.{Marked, by_of, marked_by}
 use Rattle.ocp_seats.specs.Seats.{Seated}
@@ -186,3 +186,37 @@ pub zeros_read : (n k : ℕ) → get_or {A = ℕ} (replicate n 0) k 0 ≡ 0
 zeros_read zero k = refl
 zeros_read (suc n) zero = refl
 zeros_read (suc n) (suc k) = zeros_read n k
+
+-- a number that one of the seats has is a place's index
+pub number_below : (seats : List Seated) (n : ℕ) → IsWhole seats n → n ≤ 64 → (m : ℕ) (s : Seated) → m < length seats → s ≡ get_or seats m s → s.number < 65
+number_below seats n whole most m s lt is = let inside = whole.within m s lt in omega (arith, ap (λ (x : Seated). x.number) is)
+
+-- ---- entries as they are kept
+
+module _ {X : Type 0} (f : X → Marked) where
+  read : (entries : List X) (i : ℕ) (e : X) → i < length entries → e ≡ get_or entries i e → f e ≡ get_or (map f entries) i (f e)
+  read entries i e lt is = ap f is ∙ sym (get_or-map f entries i e (f e) lt)
+
+  inside : (entries : List X) (i : ℕ) → i < length entries → i < length (map f entries)
+  inside entries i lt = rw (length-map entries f) lt
+
+  pub walk_past : (entries : List X) (i : ℕ) (places : List ℕ) (seats : List Seated) (n : ℕ) → IsWhole seats n → n ≤ 64 → Walked (map f entries) i places seats
+      → (e : X) → i < length entries → e ≡ get_or entries i e
+      → (m : ℕ) (s : Seated) → m < length seats → s ≡ get_or seats m s → s.number ≡ by_of (f e).entry
+      → slice_get s.receipts (get_or places (by_of (f e).entry) 0) ≡ Some (f e)
+      → Walked (map f entries) (i + 1) (set places (by_of (f e).entry) (get_or places (by_of (f e).entry) 0 + 1)) seats
+  walk_past entries i places seats n whole most walked e lt is m s lt' is' by same =
+      let place = get_or places (by_of (f e).entry) 0 in
+      walk_on (map f entries) i places seats n whole most walked (f e) (inside entries i lt) (read entries i e lt is) m s lt' is' by (slice_get_within s.receipts place (f e) same) (sym (get_or_from_slice_get s.receipts place (f e) (f e) same))
+
+  pub by_none : (entries : List X) (i : ℕ) (seats : List Seated) (e : X) → i < length entries → e ≡ get_or entries i e → All (λ (s : Seated). s.number ≢ by_of (f e).entry) seats → IsReceipted (map f entries) seats → ⊥
+  by_none entries i seats e lt is none good = not_by_any (map f entries) i seats (f e) (inside entries i lt) (read entries i e lt is) none good
+
+  pub receipt_is : (entries : List X) (i : ℕ) (places : List ℕ) (seats : List Seated) → Walked (map f entries) i places seats
+      → (e : X) → i < length entries → e ≡ get_or entries i e
+      → (m : ℕ) (s : Seated) → m < length seats → s ≡ get_or seats m s → s.number ≡ by_of (f e).entry
+      → IsReceipted (map f entries) seats → slice_get s.receipts (get_or places (by_of (f e).entry) 0) ≡ Some (f e)
+  receipt_is entries i places seats walked e lt is m s lt' is' by good =
+      let place = get_or places (by_of (f e).entry) 0 in
+      let next = next_is (map f entries) i places seats walked (f e) (inside entries i lt) (read entries i e lt is) m s lt' is' by good in
+      slice_get_read s.receipts (length s.receipts) place (f e) refl next.0 (sym next.1)

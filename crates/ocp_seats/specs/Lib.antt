@@ -2,4 +2,5 @@ pub mod Receipts
 pub mod Seats
 pub mod Taking
 pub mod Closing
+pub mod History
 pub mod Mirror

@@ -4,6 +4,7 @@ ghost use Rattle.std.specs.Prelude.{◌≡◌, ◌≢◌, ◌≤◌, ◌<◌, �
 ghost use Rattle.ocp_core.specs.Marks.{marked};
 ghost use Rattle.ocp_core.specs.Journal.{marked_of};
 ghost use Rattle.ocp_seats.specs.Closing.{IsWhole, IsReceipted, RefusesClose};
+ghost use Rattle.ocp_seats.specs.History.{IsHistory};
 
 use crate::{Book, Engine, Entry, MAX_SEATS, Naming, Seat};
 use std::alloc::{Allocator, Global};
@@ -33,6 +34,7 @@ impl<L: Naming, A: Allocator> Book<L, A> {
         ensures whole { IfOk result (λ _. IsWhole seats.items self.seats) }
         ensures receipted { IfOk result (λ _.
             IsReceipted (drop self.start (marked self.engine)) seats.items) }
+        ensures history { IfOk result (λ _. IsHistory self.engine self.start seats.items) }
         ensures back { IfErr result (λ refused. (refused.book ≡ self) × (refused.seats ≡ seats)) }
         ensures err { IfErr result (λ refused. RefusesClose self.seats
             (drop self.start (marked self.engine)) seats.items refused.why) }
@@ -107,6 +109,7 @@ fn first_places() -> [usize; MAX_SEATS as usize + 1]
 
 /// Whether each entry is by one of the seats, and each seat's receipts are its entries. One walk over the entries decides
 /// it, with a place kept in the receipts of each seat.
+#[tactic(auto, using(crate::proofs::Walks::none_walked, crate::proofs::Walks::number_below, crate::proofs::Walks::walked_all, crate::proofs::Walks::place_is_end))]
 fn is_receipted<L: Naming, A: Allocator>(
     entries: &[Entry<A>],
     seats: &[Seat<L, A>],
@@ -122,12 +125,10 @@ fn is_receipted<L: Naming, A: Allocator>(
             return false;
         };
         let number = usize::from(entry.by());
-        let receipts = seat.receipts();
-        let place = places[number];
-        if place >= receipts.len() || !receipts[place].is_same(entry) {
+        if !seat.has_at(places[number], entry) {
             return false;
         }
-        places[number] = place + 1;
+        places[number] += 1;
     }
     for seat in seats {
         if places[usize::from(seat.number())] != seat.receipts().len() {

@@ -1,6 +1,6 @@
 //! Seats.
 
-ghost use Rattle.std.specs.Prelude.{◌≡◌, ◌+◌, [], ◌∷◌, ℕ, length, map};
+ghost use Rattle.std.specs.Prelude.{◌≡◌, ◌↔◌, ◌<◌, ◌+◌, ◌^◌, [], ◌∷◌, ℕ, IsTrue, Some, length, map, slice_get};
 ghost use Rattle.ocp_seats.specs.Seats.{Gained};
 
 use ocp_core::{Engine, Entry};
@@ -62,9 +62,22 @@ impl<L: Naming, A: Allocator> Seat<L, A> {
 
     /// One for each entry that the seat's calls appended, the oldest first: a copy of the entry with its mark.
     pub fn receipts(&self) -> &[Entry<A>]
-        ensures { map marked_of result.now ≡ self.now.receipts }
+        ensures value { map marked_of result.now ≡ self.now.receipts }
+        ensures length { length result.now ≡ length self.now.receipts }
     {
         self.receipts.as_slice()
+    }
+
+    /// Whether the receipt at a place is that of an entry.
+    pub(crate) fn has_at(&self, place: usize, entry: &Entry<A>) -> bool
+        ensures same { IsTrue result ↔
+            (slice_get self.now.receipts place ≡ Some (marked_of entry.now)) }
+        ensures below { IsTrue result → place + 1 < 2 ^ 64 }
+    {
+        match self.receipts.get(place) {
+            Some(receipt) => receipt.is_same(entry),
+            None => false,
+        }
     }
 
     /// Counts an entry that the engine's journal gained by a call of the seat, and keeps its receipt.

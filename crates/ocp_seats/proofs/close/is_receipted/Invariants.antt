@@ -8,4 +8,4 @@ abbrev pub invariant-loop-entry : goal.invariant-loop-entry
 invariant-loop-entry g l = Walked (map marked_of l.entries) l.entry-index l.places l.seats
 
 abbrev pub invariant-loop-seat : goal.invariant-loop-seat
-invariant-loop-seat g l = Walked (map marked_of l.entries) (length l.entries) l.places l.seats × ((k : ℕ) (d : Seated) → k < l.seat-index → get_or l.places (get_or l.seats k d).number 0 ≡ length (get_or l.seats k d).receipts)
+invariant-loop-seat g l = Walked (map marked_of l.entries) (length (map marked_of l.entries)) l.places l.seats × ((k : ℕ) (d : Seated) → k < l.seat-index → get_or l.places (get_or l.seats k d).number 0 ≡ length (get_or l.seats k d).receipts)
