@@ -93,6 +93,11 @@ module _ {A : Type 0} where
 
 -- ---- the mark of its entry
 
+pub runs_answered : ((v : World) (by id n : ℕ) (r : Rec) (machine : Machined) → RunsAlone v id r n machine → answers v (replicate n (Step by id)) ≡ replicate n (Stepped S.Ran)) → (log : Log) (by : ℕ) (w : Worked) → (w.count ≡ 0 → ⊥) → IsFresh log w → IsRun w → answers (world_of log) (replicate w.count (Step by w.id)) ≡ replicate w.count (Stepped S.Ran)
+runs_answered law log by w some fresh run =
+    let found = is_of (get (world_of log).records w.id) w.base fresh in
+    law (world_of log) by w.id w.count found.r w.end (alone log w some fresh run found)
+
 head_of : (x y : Answer) (xs ys : List Answer) → x ∷ xs ≡ y ∷ ys → x ≡ y
 head_of x y xs ys is = cc
 

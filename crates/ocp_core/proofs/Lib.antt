@@ -2,7 +2,6 @@ pub mod Replays
 pub mod Keeping
 pub mod Journaling
 pub mod Runs
-pub mod Marking
 pub mod Owned
 pub mod Honest
 pub mod Carried
@@ -11,4 +10,5 @@ pub mod Pools
 pub mod Mailboxes
 pub mod Exchanges
 pub mod Committing
+pub mod Marking
 pub mod Replaying

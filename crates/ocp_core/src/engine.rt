@@ -4,17 +4,16 @@ ghost use Rattle.std.specs.Prelude.{◌≡◌, ◌↔◌, ◌≤◌, ◌<◌, �
 ghost use Rattle.std.specs.FinMap.{get};
 ghost use Rattle.ocp_table.specs.Shown.{view_at};
 ghost use Rattle.ocp_world.specs.World as world;
-ghost use Rattle.ocp_world.specs.After.{Requested, Stepped, is_accepted};
+ghost use Rattle.ocp_world.specs.After.{Requested, Stepped};
 ghost use Rattle.ocp_world.specs.Answers.{Answers};
 ghost use Rattle.ocp_world.specs.NextRunning.{IsNextRunning, Runs};
 ghost use Rattle.ocp_core.specs.Log.{Asked, empty_log, expand, world_of, answer_in, log_after};
 ghost use Rattle.ocp_core.specs.Slice.{slice_in, slice_log};
 ghost use Rattle.ocp_core.specs.Journal.{marked_of};
 ghost use Rattle.ocp_core.specs.Receipts.{reports_in};
-ghost use Rattle.ocp_core.specs.Mirror.Admitted.{IsAdmitted, IsFullAnswer};
+ghost use Rattle.ocp_core.specs.Mirror.Admitted.{IsAdmitted};
 
 use crate::copies::{one_copy, two_copies};
-use crate::laws::refused_events_change_nothing;
 use crate::{EngineFault, Entry, Journal, Octets, Reports, Slice, StepOutcome};
 use ocp_table::View;
 use ocp_world::{State, discard_of};
@@ -44,18 +43,6 @@ impl<A: Allocator> Model for Engine<A> {
     ghost view = { λ e. e.journal };
 
     ghost invariant = { λ e. IsWorld (world_of e.journal) e.state };
-}
-
-// Whether an instruction event so answered was done.
-fn is_accepted(outcome: StepOutcome) -> bool
-    ensures { result ≡ is_accepted (Stepped outcome) }
-{
-    match outcome {
-        StepOutcome::NotLoaded | StepOutcome::NotRunning | StepOutcome::JournalFull => false,
-        StepOutcome::Broke => true,
-        StepOutcome::Ran | StepOutcome::Called => true,
-        StepOutcome::Ended | StepOutcome::Faulted(_) => true,
-    }
 }
 
 impl<A: Allocator> Engine<A> {
@@ -111,14 +98,14 @@ impl<A: Allocator> Engine<A> {
         ensures err { OnErr result (self.new ≡ self.old) }
     {
         let read = self.admit(octets)?;
-        let octets = Octets::copy_of(alloc, octets)?;
+        let kept = Octets::copy_of(alloc, octets)?;
         match self.state.receive(alloc, time, read) {
             Ok(sent) => {
                 let (reports, mark) = one_copy(sent);
                 self.journal.push(Entry::Request {
                     by,
                     time,
-                    octets,
+                    octets: kept,
                     mark,
                 });
                 Ok(reports)
@@ -148,10 +135,10 @@ impl<A: Allocator> Engine<A> {
     {
         let read = self.admit(octets)?;
         let kept = Octets::copy_of(alloc, octets)?;
-        let octets = Octets::copy_of(alloc, octets)?;
+        let own = Octets::copy_of(alloc, octets)?;
         match self.state.receive(alloc, time, read) {
             Ok(sent) => {
-                let (reports, mark, receipt) = two_copies(sent);
+                let (reports, mark, own_mark) = two_copies(sent);
                 self.journal.push(Entry::Request {
                     by,
                     time,
@@ -161,22 +148,12 @@ impl<A: Allocator> Engine<A> {
                 let receipt = Entry::Request {
                     by,
                     time,
-                    octets,
-                    mark: receipt,
+                    octets: own,
+                    mark: own_mark,
                 };
                 Ok((reports, receipt))
             }
             Err(fault) => Err(fault),
-        }
-    }
-
-    // What an instruction event is answered where the journal is full.
-    fn answer_when_full(&self, id: u16) -> StepOutcome
-        ensures { (by : ℕ) → IsFullAnswer self.now by id result }
-    {
-        match self.state.refusal(id) {
-            Some(refused) => refused,
-            None => StepOutcome::JournalFull,
         }
     }
 
@@ -186,20 +163,20 @@ impl<A: Allocator> Engine<A> {
         ensures answer { Stepped result ≡ answer_in self.old (world.Step by id) }
         ensures journal { self.new ≡ log_after self.old (world.Step by id) }
     {
-        refused_events_change_nothing();
+        if let Some(refused) = self.state.refusal(id) {
+            return refused;
+        }
         if self.journal.is_full() {
-            return self.answer_when_full(id);
+            return StepOutcome::JournalFull;
         }
-        let mark = self.state.step(id);
-        if is_accepted(mark) {
-            self.journal.push(Entry::Steps {
-                by,
-                id,
-                count: 1,
-                mark,
-            });
-        }
-        mark
+        let outcome = self.state.step(id);
+        self.journal.push(Entry::Steps {
+            by,
+            id,
+            count: 1,
+            mark: outcome,
+        });
+        outcome
     }
 
     /// Does instructions of one procedure, at least one, until the budget is used, the procedure no longer runs, or an
@@ -209,20 +186,19 @@ impl<A: Allocator> Engine<A> {
         ensures slice { result ≡ slice_in self.old by id budget }
         ensures journal { self.new ≡ slice_log self.old by id budget }
     {
-        refused_events_change_nothing();
+        if let Some(refused) = self.state.refusal(id) {
+            return Slice {
+                count: 0,
+                last: refused,
+            };
+        }
         if self.journal.is_full() {
             return Slice {
                 count: 0,
-                last: self.answer_when_full(id),
+                last: StepOutcome::JournalFull,
             };
         }
         let slice = self.state.slice(id, budget);
-        if !is_accepted(slice.last) {
-            return Slice {
-                count: 0,
-                last: slice.last,
-            };
-        }
         self.journal.push(Entry::Steps {
             by,
             id,

@@ -42,6 +42,7 @@ impl<A: Allocator> Journal<A> {
     ghost use Rattle.ocp_core.specs.Journal.{entry_of, mark_of, marked_of};
 
     /// A journal without entries, with room for so many, of an engine with 1 to 256 pool words.
+    #[tactic(auto, unfolding(crate::specs::Marks::marked))]
     pub fn new(alloc: A, apid: Apid, words: u16, capacity: u32) -> Result<Self, AllocError>
         requires apid { apid < 2047 }
         requires words_from { 1 ≤ words }

@@ -2,9 +2,15 @@
 ghost use Rattle.std.specs.Prelude.{◌≡◌, ◌++◌, ◌∷◌, [], ℕ, true, false};
 ghost use Rattle.ocp_world.specs.World.{Event, Step};
 ghost use Rattle.ocp_world.specs.After.{Stepped, after, is_accepted};
-ghost use Rattle.ocp_core.specs.Log.{Log, world_of, is_full, answer_in, log_after};
+ghost use Rattle.ocp_table.specs.declared.answers.StepOutcome.TheVariants.{Ran};
+ghost use Rattle.ocp_core.specs.Log.{Log, Steps, world_of, is_full, entry_for, answer_in, log_after};
 ghost use Rattle.ocp_core.specs.Slice.{slice_in, slice_log};
-ghost use Rattle.ocp_core.specs.Marks.{marks};
+ghost use Rattle.ocp_core.specs.Marks.{marks, marked};
+ghost use Rattle.ocp_core.specs.Tickets.{Worked, IsRun};
+ghost use Rattle.ocp_core.specs.Commits.{Commits};
+ghost use Rattle.ocp_core.specs.declared.answers.CommitOutcome.TheVariants.{Committed};
+
+use ocp_world::instructions_done_alone_are_events;
 
 mod procedures;
 
@@ -20,7 +26,7 @@ pub use procedures::{
     words_are_taken_in_the_order_sent,
 };
 
-/// The mark of each new entry of a journal is the answer that was given with it, and the older marks stay.
+/// The mark of each new entry of a journal is the answer that was given with it, and the older entries and marks stay.
 pub fn entries_are_marked_by_their_answers()
     ensures event { (log : Log) (e : Event) →
         is_accepted (after (world_of log) e).answer ≡ true → is_full log ≡ false →
@@ -29,4 +35,20 @@ pub fn entries_are_marked_by_their_answers()
         is_accepted (after (world_of log) (Step by id)).answer ≡ true → is_full log ≡ false →
         marks (slice_log log by id budget) ≡
         marks log ++ Stepped (slice_in log by id budget).last ∷ [] }
-{}
+    ensures commit { (old new : Log) (by : ℕ) (w : Worked) (count : ℕ) → IsRun w →
+        Commits old new by w (Committed count) → marks new ≡ marks old ++ Stepped Ran ∷ [] }
+    ensures marked_event { (log : Log) (e : Event) →
+        is_accepted (after (world_of log) e).answer ≡ true → is_full log ≡ false →
+        marked (log_after log e) ≡
+        marked log ++ record { entry = entry_for e; mark = answer_in log e } ∷ [] }
+    ensures marked_slice { (log : Log) (by id budget : ℕ) →
+        is_accepted (after (world_of log) (Step by id)).answer ≡ true → is_full log ≡ false →
+        let slice = slice_in log by id budget in
+        marked (slice_log log by id budget) ≡ marked log ++
+        record { entry = Steps by id slice.count; mark = Stepped slice.last } ∷ [] }
+    ensures marked_commit { (old new : Log) (by : ℕ) (w : Worked) (count : ℕ) → IsRun w →
+        Commits old new by w (Committed count) → marked new ≡
+        marked old ++ record { entry = Steps by w.id count; mark = Stepped Ran } ∷ [] }
+{
+    instructions_done_alone_are_events();
+}

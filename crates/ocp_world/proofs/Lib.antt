@@ -6,3 +6,5 @@ pub mod Slicing
 pub mod Lawful
 pub mod Stretches
 pub mod Settling
+pub mod Sending
+pub mod NextRunning

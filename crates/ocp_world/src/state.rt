@@ -241,7 +241,6 @@ impl<A: Allocator> State<A> {
     }
 
     // Does what a request asks of a loaded procedure.
-    #[tactic(auto, using(crate::proofs::Calm::directive_leaves_pool))]
     fn direct<const COPIES: usize>(
         &mut self,
         alloc: A,

@@ -3,25 +3,58 @@
 ghost use Rattle.std.specs.Prelude.{◌≡◌, ◌↔◌, ℕ, None, IfSome};
 ghost use Rattle.ocp_world.specs.World.{World};
 ghost use Rattle.ocp_world.specs.NextRunning.{IsNextRunning, Runs};
+ghost use Rattle.ocp_world.specs.Mirror.Turns.{runs_from, first_from, bound_after, next_in};
 
 use crate::State;
 use ocp_table::{Status, StatusRow};
 use std::alloc::Allocator;
 
-// The first running procedure of rows whose id is not below a bound.
-fn first_running(rows: &[StatusRow], from: u32) -> Option<u16> {
+// Whether the procedure of a row runs, and its id is not below this one.
+fn runs_from(row: &StatusRow, from: u32) -> bool
+    ensures { result ≡ runs_from from row.now }
+{
+    match row.status {
+        Status::Running => from <= u32::from(row.id),
+        Status::Inactive | Status::Held => false,
+    }
+}
+
+// The first running procedure of rows, from this id on.
+fn first_running(rows: &[StatusRow], from: u32) -> Option<u16>
+    ensures { result ≡ first_from from rows.now }
+{
     for row in rows {
-        if row.status == Status::Running && from <= u32::from(row.id) {
+        if runs_from(row, from) {
             return Some(row.id);
         }
     }
     None
 }
 
+// The least id above the one before.
+fn bound_after(before: Option<u16>) -> u32
+    ensures { result ≡ bound_after before }
+{
+    match before {
+        Some(id) => u32::from(id) + 1,
+        None => 0,
+    }
+}
+
+// The running procedure of rows whose turn is next.
+fn next_of(rows: &[StatusRow], before: Option<u16>) -> Option<u16>
+    ensures { result ≡ next_in before rows.now }
+{
+    match first_running(rows, bound_after(before)) {
+        Some(id) => Some(id),
+        None => first_running(rows, 0),
+    }
+}
+
 impl<A: Allocator> State<A> {
     ghost use Rattle.ocp_world.specs.Mirror.State.{IsWorld};
 
-    /// The least running procedure above the one before, or else the least running one.
+    /// The least running procedure above the one before, or where there is none the least running one.
     pub fn next_running(&self, before: Option<u16>) -> Option<u16>
         ensures pick { (w : World) → IsWorld w self.now → IsNextRunning w.records before result }
         ensures runs { (w : World) → IsWorld w self.now → IfSome result (Runs w.records) }
@@ -29,14 +62,6 @@ impl<A: Allocator> State<A> {
             result ≡ None ↔ ((id : ℕ) → Runs w.records id → ⊥) }
     {
         let rows = self.table.statuses();
-        let rows = rows.as_slice();
-        let above = match before {
-            Some(id) => first_running(rows, u32::from(id) + 1),
-            None => None,
-        };
-        match above {
-            Some(id) => Some(id),
-            None => first_running(rows, 0),
-        }
+        next_of(rows.as_slice(), before)
     }
 }

@@ -2,6 +2,8 @@ use Rattle.std.proofs.Common.{sym, ap, ◌∙◌}
 use Rattle.ocp_world.specs.World.{Debug}
 use Rattle.ocp_world.specs.Replay.{replay_from}
 use Rattle.ocp_core.specs.Log.{with_entry, world_of}
+use Rattle.ocp_core.specs.Marks.{mark_in}
+use Rattle.ocp_core.proofs.Marking.{commanded}
 use Rattle.ocp_core.proofs.Keeping.{IsWorld-with_entry}
 use Rattle.ocp_core.proofs.Journaling.{command_refused, command_refused_log, full_answered, done_answer, done_log}
 use Rattle.ocp_core.proofs.engine.Engine.command.Goals as goal
@@ -16,10 +18,17 @@ pub returns-then-is_full-clause-answer : goal.returns-then-is_full-clause-answer
 returns-then-is_full-clause-answer g c = full_answered c.self.inside.journal c.args.self.now c.self.view_is (Debug c.args.by c.args.id c.args.command) (c.in_default.ensures _ c.args.by c.self.invariant) (sym c.is_full.ensures ∙ c.if-is_full.true)
 
 pub invariant_of-self : goal.invariant_of-self
-invariant_of-self g c = IsWorld-with_entry _ _ _ _ (c.push.ensures ∙ ap (with_entry c.self.inside.journal) c.of_command.ensures) (c.command-result.ensures.world _ c.args.by c.self.invariant)
+invariant_of-self g c = IsWorld-with_entry _ _ _ _ (c.push.ensures ∙ ap (with_entry c.self.inside.journal) c.of_command.ensures.entry) (c.command-result.ensures.world _ c.args.by c.self.invariant)
 
 pub returns-clause-answer : goal.returns-clause-answer
 returns-clause-answer g c = done_answer c.self.inside.journal c.args.self.now c.self.view_is (Debug c.args.by c.args.id c.args.command) _ (c.in_default.ensures _ c.args.by c.self.invariant) (sym c.is_full.ensures ∙ c.if-is_full.false) (c.command-result.ensures.answer _ c.args.by c.self.invariant)
 
 pub returns-clause-journal : goal.returns-clause-journal
-returns-clause-journal g c = done_log c.self.inside.journal c.args.self.now c.self.view_is (Debug c.args.by c.args.id c.args.command) _ (c.in_default.ensures _ c.args.by c.self.invariant) (sym c.is_full.ensures ∙ c.if-is_full.false) (c.push.ensures ∙ ap (with_entry c.self.inside.journal) c.of_command.ensures)
+returns-clause-journal g c = done_log c.self.inside.journal c.args.self.now c.self.view_is (Debug c.args.by c.args.id c.args.command) _ (c.in_default.ensures _ c.args.by c.self.invariant) (sym c.is_full.ensures ∙ c.if-is_full.false) (c.push.ensures ∙ ap (with_entry c.self.inside.journal) c.of_command.ensures.entry)
+
+pub push-requires-mark : goal.push-requires-mark
+push-requires-mark g c =
+    let w = world_of c.self.inside.journal in
+    c.of_command.ensures.mark
+    ∙ commanded c.command-result.result _ (c.command-result.ensures.answer w c.args.by c.self.invariant) (c.in_default.ensures w c.args.by c.self.invariant)
+    ∙ sym (ap (mark_in w) c.of_command.ensures.entry)

@@ -1,4 +1,9 @@
-use Rattle.std.proofs.Common.{sym, ◌∙◌}
+use Rattle.std.proofs.Common.{sym, ap, ◌∙◌}
+use Rattle.ocp_table.specs.declared.answers.StepOutcome.TheVariants.{Ran}
+use Rattle.ocp_world.specs.After.{Stepped}
+use Rattle.ocp_core.specs.Log.{world_of}
+use Rattle.ocp_core.specs.Marks.{last_outcome}
+use Rattle.ocp_core.proofs.Marking.{slice_mark}
 use Rattle.ocp_core.proofs.Keeping.{IsWorld-with_entry}
 use Rattle.ocp_core.proofs.Journaling.{refused_slice, refused_slice_log, full_slice, done_slice, done_slice_log}
 use Rattle.ocp_core.proofs.engine.Engine.slice.Goals as goal
@@ -20,3 +25,10 @@ returns-clause-slice g c = done_slice c.self.inside.journal c.args.self.now c.se
 
 pub returns-clause-journal : goal.returns-clause-journal
 returns-clause-journal g c = done_slice_log c.self.inside.journal c.args.self.now c.self.view_is c.args.by c.args.id c.args.budget _ _ (c.in_default.ensures _ c.args.by c.self.invariant) (sym c.is_full.ensures ∙ c.if-is_full.false) (c.slice-slice.ensures.count _ c.args.by c.self.invariant) c.push.ensures
+
+pub push-requires-mark : goal.push-requires-mark
+push-requires-mark g c =
+    let w = world_of c.self.inside.journal in
+    let count = c.slice-slice.ensures.count w c.args.by c.self.invariant in
+    let last = c.slice-slice.ensures.last w c.args.by c.self.invariant in
+    ap Stepped (last ∙ sym (slice_mark w c.args.by c.args.id Ran c.args.budget) ∙ ap (last_outcome w c.args.by c.args.id Ran) (sym count))

@@ -1,4 +1,6 @@
-use Rattle.std.proofs.Common.{sym, ◌∙◌}
+use Rattle.std.proofs.Common.{sym, ap, ◌∙◌}
+use Rattle.ocp_world.specs.After.{Stepped}
+use Rattle.ocp_world.specs.Slice.{outcome_in}
 use Rattle.ocp_world.specs.World.{Step}
 use Rattle.ocp_core.proofs.Keeping.{IsWorld-with_entry}
 use Rattle.ocp_core.proofs.Journaling.{refused_answer, refused_log, full_answered, done_answer, done_log}
@@ -21,3 +23,6 @@ returns-clause-answer g c = done_answer c.self.inside.journal c.args.self.now c.
 
 pub returns-clause-journal : goal.returns-clause-journal
 returns-clause-journal g c = done_log c.self.inside.journal c.args.self.now c.self.view_is (Step c.args.by c.args.id) _ (c.in_default.ensures _ c.args.by c.self.invariant) (sym c.is_full.ensures ∙ c.if-is_full.false) c.push.ensures
+
+pub push-requires-mark : goal.push-requires-mark
+push-requires-mark g c = ap (λ answer. Stepped (outcome_in answer)) (c.step-outcome.ensures.answer _ c.args.by c.self.invariant)
