@@ -15,8 +15,8 @@ use std::alloc::Allocator;
 /// Appends the canonical form of an assembly text to the octets: the text is assembled, the image loaded and the program
 /// listed. The load is refused only where memory runs out. Each instruction that the text means has its line.
 ///
-/// Refused as `assemble` is, and as Memory where memory for the program or its listing is refused. A refusal leaves the
-/// octets of `out` as they were. The capacity never shrinks.
+/// Refused as `assemble` is, and as Memory where memory for the program or its listing is refused. A refusal leaves
+/// `out` and its capacity as they were. The capacity never shrinks.
 pub fn write_canonical<A: Allocator + Copy, B: Allocator>(
     alloc: A,
     text: &[u8],
@@ -28,6 +28,7 @@ pub fn write_canonical<A: Allocator + Copy, B: Allocator>(
         (result ≡ Err Memory) ⊎ (result ≡ Ok tt) }
     ensures fault { IfErr result (IsFaultOf text.now) }
     ensures err { OnErr result (out.new.items ≡ out.old.items) }
+    ensures same_capacity { OnErr result (vec_capacity out.new ≡ vec_capacity out.old) }
     ensures capacity { vec_capacity out.old ≤ vec_capacity out.new }
 {
     let image = assemble(alloc, text)?;

@@ -1,5 +1,5 @@
 //! The listing of an image.
-ghost use Rattle.std.specs.Prelude.{◌≡◌, ◌≢◌, ◌≤◌, ◌<◌, ◌+◌, ◌*◌, ◌%◌, ◌++◌, ◌↔◌, codes, length, take, drop, IfOk, IfErr, OnOk, OnErr, vec_capacity, List, ℕ, MatchResult};
+ghost use Rattle.std.specs.Prelude.{◌≡◌, ◌≢◌, ◌≤◌, ◌<◌, ◌+◌, ◌*◌, ◌%◌, ◌++◌, ◌↔◌, codes, length, take, drop, IfOk, IfErr, OnOk, OnErr, vec_capacity, List, ℕ, [], IsTrue, IsFalse, MatchResult};
 ghost use Rattle.std.specs.Result.{IsErrOf};
 ghost use Rattle.bpf_types.specs.declared.line.Line.{Line};
 ghost use Rattle.bpf_types.specs.Line.{spelling, IsLine, WritesFramePointer};
@@ -55,6 +55,47 @@ fn write_next<A: Allocator>(
     }
 }
 
+/// How many slots the instruction at a slot has, and how many octets its line.
+fn next_len(code: &[u8], slot: usize) -> Result<(usize, usize), DisassembleFault>
+    requires { 8 * slot + 8 ≤ length code.now }
+    ensures ok { IfOk result
+        (λ next. (line : Line) × BeginsWith (drop (8 * slot) code.now) line
+        × (¬ WritesFramePointer line) × (8 * next.0 ≡ length (spelling line))
+        × (next.1 ≡ length (canonical line ++ codes "\n"))) }
+    ensures few { IfOk result (λ next. (1 ≤ next.0) × (next.0 ≤ 2)) }
+    ensures short { IfOk result (λ next. next.1 ≤ 64) }
+    ensures decode { IfErr result (λ e. (e ≢ DisassembleFault.Memory) ×
+        IsNextFault slot (drop (8 * slot) code.now) e) }
+{
+    match decode_at(code, slot) {
+        Ok(line) => {
+            let copied = line;
+            let len = text_of(copied).as_slice().len() + 1;
+            Ok((usize::from(line.slots()), len))
+        }
+        Err(fault) => Err(DisassembleFault::Decode(fault, slot)),
+    }
+}
+
+/// How many octets the listing of an image has.
+fn listing_len(code: &[u8]) -> Result<u128, DisassembleFault>
+    requires { length code.now % 8 ≡ 0 }
+    ensures ok { IfOk result
+        (λ len. (text : List ℕ) × IsListed code.now [] text × (len ≡ length text)) }
+    ensures fault { IfErr result (λ e. (e ≢ DisassembleFault.Ragged)
+        × (e ≢ DisassembleFault.Memory) × IsFaultOf code.now e) }
+{
+    let slots = code.len() / 8;
+    let mut slot = 0;
+    let mut len = 0;
+    while slot < slots {
+        let next = next_len(code, slot)?;
+        len += next.1 as u128;
+        slot += next.0;
+    }
+    Ok(len)
+}
+
 /// Appends the lines of an image.
 fn write_lines<A: Allocator>(code: &[u8], out: &mut Vec<u8, A>) -> Result<(), DisassembleFault>
     requires { length code.now % 8 ≡ 0 }
@@ -77,13 +118,27 @@ fn write_lines<A: Allocator>(code: &[u8], out: &mut Vec<u8, A>) -> Result<(), Di
     Ok(())
 }
 
+/// Whether there is room for so many octets more, which is made where memory for it is given.
+fn has_room<A: Allocator>(out: &mut Vec<u8, A>, len: u128) -> bool
+    ensures items { out.new.items ≡ out.old.items }
+    ensures room { IsTrue result → length out.new.items + len ≤ vec_capacity out.new }
+    ensures full { IsFalse result → vec_capacity out.old < length out.old.items + len }
+    ensures same_capacity { IsFalse result → vec_capacity out.new ≡ vec_capacity out.old }
+    ensures capacity { vec_capacity out.old ≤ vec_capacity out.new }
+{
+    let _capacity = out.capacity();
+    match usize::try_from(len) {
+        Ok(len) => out.reserve(len).is_ok(),
+        Err(_) => false,
+    }
+}
+
 /// Appends the listing of an image to `out`: the canonical text of each instruction, with a newline. The empty image has
 /// the empty listing.
 ///
 /// Refused with `Ragged` where the length of `code` is no multiple of 8, then with `Decode` and the first fault and its
-/// slot, and with `Memory`, only where the listing of instructions that the image begins with does not fit into the
-/// capacity that `out` has. A refusal leaves the octets of `out` as they were. The capacity never shrinks. The time is
-/// linear in the image.
+/// slot, then with `Memory`, only where the listing does not fit into the capacity that `out` has. A refusal leaves `out` and
+/// its capacity as they were, and the capacity never shrinks. The time is linear in the image.
 pub fn disassemble<A: Allocator>(code: &[u8], out: &mut Vec<u8, A>) -> Result<(), DisassembleFault>
     ensures ok { OnOk result (IsListed code.now out.old.items out.new.items) }
     ensures only { (lines : List Line) → IsImageOf code.now lines → NoneWritesFramePointer lines →
@@ -97,16 +152,19 @@ pub fn disassemble<A: Allocator>(code: &[u8], out: &mut Vec<u8, A>) -> Result<()
     ensures room { IsErrOf result DisassembleFault.Memory →
         LacksRoom code.now (vec_capacity out.old) (length out.old.items) }
     ensures err { OnErr result (out.new.items ≡ out.old.items) }
+    ensures same_capacity { OnErr result (vec_capacity out.new ≡ vec_capacity out.old) }
     ensures capacity { vec_capacity out.old ≤ vec_capacity out.new }
 {
     instructions_are_unique();
     if code.len() % 8 != 0 {
         return Err(DisassembleFault::Ragged);
     }
-    let start = out.len();
-    let result = write_lines(code, out);
-    if result.is_err() {
-        out.truncate(start);
+    let len = listing_len(code)?;
+    if !has_room(out, len) {
+        return Err(DisassembleFault::Memory);
     }
-    result
+    match write_lines(code, out) {
+        Ok(()) => Ok(()),
+        Err(_) => unreachable!(),
+    }
 }

@@ -252,13 +252,17 @@ pub fn text_of(line: Line) -> Text
 /// Appends the canonical text of an instruction to `out`, without a newline.
 ///
 /// The only refusal is that of memory, and comes only where the text does not fit into the capacity that `out` has. A
-/// refusal leaves the octets of `out` as they were. The capacity never shrinks.
+/// refusal leaves `out` and its capacity as they were. The capacity never shrinks.
 pub fn line_text<A: Allocator>(line: Line, out: &mut Vec<u8, A>) -> Result<(), AllocError>
     ensures ok { OnOk result (out.new.items ≡ out.old.items ++ canonical line) }
     ensures err { OnErr result (out.new.items ≡ out.old.items) }
     ensures memory { OnErr result
         (vec_capacity out.old < length (out.old.items ++ canonical line)) }
+    ensures same_capacity { OnErr result (vec_capacity out.new ≡ vec_capacity out.old) }
     ensures capacity { vec_capacity out.old ≤ vec_capacity out.new }
 {
-    out.extend_from_slice(text_of(line).as_slice())
+    let text = text_of(line);
+    out.reserve(text.as_slice().len())?;
+    out.extend_from_slice(text.as_slice()).unwrap();
+    Ok(())
 }

@@ -61,10 +61,11 @@ pub fn write_request<A: Allocator>(
     ensures written { OnOk result (out.new.items ≡ out.old.items ++ request_data request.now) }
     ensures laid_out { IsRequestData 18 (subtype_of request.now)
         (request_data request.now) request.now }
-    // It is refused only where the vector had to grow, and then nothing is appended.
+    // It is refused only where the vector had to grow, and then the vector and its capacity stay.
     ensures memory { OnErr result
         (vec_capacity out.old < vec_len out.old + length (request_data request.now)) }
     ensures err { OnErr result (out.new.items ≡ out.old.items) }
+    ensures same_capacity { OnErr result (vec_capacity out.new ≡ vec_capacity out.old) }
     ensures capacity { vec_capacity out.old ≤ vec_capacity out.new }
 {
     let fields = request_fields(request);
@@ -124,11 +125,15 @@ pub fn write_report<A: Allocator>(report: &Report, out: &mut Vec<u8, A>) -> Resu
     ensures written { OnOk result (out.new.items ≡ out.old.items ++ report_data report.now) }
     ensures laid_out { IsReportData (service_of report.now) (kind_of report.now)
         (report_data report.now) report.now }
-    // It is refused only where the vector had to grow, and then nothing is appended.
+    // It is refused only where the vector had to grow, and then the vector and its capacity stay.
     ensures memory { OnErr result
         (vec_capacity out.old < vec_len out.old + length (report_data report.now)) }
     ensures err { OnErr result (out.new.items ≡ out.old.items) }
+    ensures same_capacity { OnErr result (vec_capacity out.new ≡ vec_capacity out.old) }
     ensures capacity { vec_capacity out.old ≤ vec_capacity out.new }
 {
-    out.extend_from_slice(report_fields(report).as_slice())
+    let fields = report_fields(report);
+    out.reserve(fields.len())?;
+    out.extend_from_slice(fields.as_slice()).unwrap();
+    Ok(())
 }

@@ -8,7 +8,6 @@ pub mod Admit
 pub mod Complete
 pub mod First
 pub mod Line
-pub mod Listed
 pub mod Stood
 mod InOrder
 mod Loaded

@@ -1,4 +1,3 @@
 pub mod Reading
 pub mod Checks
 pub mod Stops
-pub mod Listing

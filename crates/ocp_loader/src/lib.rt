@@ -4,7 +4,6 @@
 mod check;
 mod fault;
 mod laws;
-mod listing;
 mod ops;
 mod program;
 mod read;

@@ -42,7 +42,7 @@ fn append_tc<A: Allocator>(tc: &Tc, out: &mut Vec<u8, A>)
 }
 
 /// Appends the packet of a telecommand (CCSDS 133.0-B, 4.1; ECSS-E-ST-70-41C, 7.4.4): 13 octets more than
-/// its payload has. It is refused, with the octets of the vector as they were, where 1. the payload has over
+/// its payload has. It is refused, with the vector and its capacity as they were, where 1. the payload has over
 /// 65,529 octets; 2. memory runs out. The capacity never shrinks.
 pub fn write_tc<A: Allocator>(tc: &Tc, out: &mut Vec<u8, A>) -> Result<(), WriteFault>
     ensures written { OnOk result ((packet : List ℕ) × IsTelecommand packet tc.now
@@ -54,6 +54,7 @@ pub fn write_tc<A: Allocator>(tc: &Tc, out: &mut Vec<u8, A>) -> Result<(), Write
     ensures memory { IsErrOf result WriteFault.Memory →
         vec_capacity out.old < vec_len out.old + (13 + length tc.now.payload) }
     ensures err { OnErr result (out.new.items ≡ out.old.items) }
+    ensures same_capacity { OnErr result (vec_capacity out.new ≡ vec_capacity out.old) }
     ensures capacity { vec_capacity out.old ≤ vec_capacity out.new }
 {
     let length = tc.payload().len();
@@ -91,7 +92,7 @@ fn append_tm<A: Allocator>(tm: &Tm, out: &mut Vec<u8, A>)
 }
 
 /// Appends the packet of telemetry (CCSDS 133.0-B, 4.1; ECSS-E-ST-70-41C, 7.4.3): 19 octets more than its
-/// payload has. It is refused, with the octets of the vector as they were, where 1. the payload has over
+/// payload has. It is refused, with the vector and its capacity as they were, where 1. the payload has over
 /// 65,523 octets; 2. memory runs out. The capacity never shrinks.
 pub fn write_tm<A: Allocator>(tm: &Tm, out: &mut Vec<u8, A>) -> Result<(), WriteFault>
     ensures written { OnOk result ((packet : List ℕ) × IsTelemetry packet tm.now
@@ -103,6 +104,7 @@ pub fn write_tm<A: Allocator>(tm: &Tm, out: &mut Vec<u8, A>) -> Result<(), Write
     ensures memory { IsErrOf result WriteFault.Memory →
         vec_capacity out.old < vec_len out.old + (19 + length tm.now.payload) }
     ensures err { OnErr result (out.new.items ≡ out.old.items) }
+    ensures same_capacity { OnErr result (vec_capacity out.new ≡ vec_capacity out.old) }
     ensures capacity { vec_capacity out.old ≤ vec_capacity out.new }
 {
     let length = tm.payload().len();

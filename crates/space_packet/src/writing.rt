@@ -15,7 +15,7 @@ pub const MAX_DATA_LENGTH: usize = 65_536;
 /// Appends the packet with this header and this data field.
 ///
 /// Refusals, in this order: `NoData` (an empty data field), `TooLong` (over 65,536 octets), `Memory`.
-/// A refusal leaves the octets of the vector as they were. The capacity never shrinks.
+/// A refusal leaves the vector and its capacity as they were. The capacity never shrinks.
 pub fn write<A: Allocator>(
     header: &Primary,
     payload: &[u8],
@@ -31,6 +31,7 @@ pub fn write<A: Allocator>(
     ensures memory { IsErrOf result WriteFault.Memory →
         vec_capacity out.old < vec_len out.old + (HEADER_LENGTH + length payload.now) }
     ensures err { OnErr result (out.new.items ≡ out.old.items) }
+    ensures same_capacity { OnErr result (vec_capacity out.new ≡ vec_capacity out.old) }
     ensures capacity { vec_capacity out.old ≤ vec_capacity out.new }
 {
     if payload.is_empty() {
