@@ -1,5 +1,5 @@
 -- The walk over the entries, with a place in each seat's receipts.
-use Rattle.std.proofs.Common.{◌≡◌, ◌≢◌, ℕ, ◌+◌, ◌-◌, ◌<◌, ◌≤◌, ◌==◌, Bool, true, false, cond, eqb, List, [], ◌∷◌, ◌++◌, length, take, drop, set, get_or, refl, ap, sym, ◌∙◌, subst, arith, rules, filter, count_by, All, Any, zero, suc, inl, inr, ◌⊎◌, Option, Some, None, slice_get, length-append, length-set, replicate, map}
+use Rattle.std.proofs.Common.{◌≡◌, ◌≢◌, ℕ, ◌+◌, ◌-◌, ◌<◌, ◌≤◌, ◌==◌, Bool, true, false, cond, eqb, List, [], ◌∷◌, ◌++◌, length, take, drop, set, get_or, refl, ap, sym, ◌∙◌, subst, arith, rules, filter, count_by, All, Any, zero, suc, inl, inr, ◌⊎◌, Option, Some, None, IsTrue, ◌↔◌, slice_get, length-append, length-set, replicate, map}
 use Rattle.std.proofs.lemmas.Grind.{common_steps, get_or-set_at}
 use Rattle.std.proofs.lemmas.List.{take_more, drop_more, take-append-drop, append-nil, get_or-set_same, get_or-set_other, get_or-map, length-map}
 use Rattle.std.proofs.lemmas.List.Elements.{filter-append, filter_more, All-push, All-same}
@@ -32,7 +32,7 @@ same_place p (x ∷ xs) (suc i) (suc j) d one lt lt' this that =
     let less : count_by p xs ≡ 1 = grind (arith, common_steps) in
     ap suc (same_place p xs i j d less (omega arith) (omega arith) this that)
 
-get_or_default : {X : Type 0} (xs : List X) (i : ℕ) (d e : X) → i < length xs → get_or xs i d ≡ get_or xs i e
+pub get_or_default : {X : Type 0} (xs : List X) (i : ℕ) (d e : X) → i < length xs → get_or xs i d ≡ get_or xs i e
 get_or_default [] i d e lt = absurd (omega arith)
 get_or_default (x ∷ xs) zero d e lt = refl
 get_or_default (x ∷ xs) (suc i) d e lt = get_or_default xs i d e (omega arith)
@@ -220,3 +220,19 @@ module _ {X : Type 0} (f : X → Marked) where
       let place = get_or places (by_of (f e).entry) 0 in
       let next = next_is (map f entries) i places seats walked (f e) (inside entries i lt) (read entries i e lt is) m s lt' is' by good in
       slice_get_read s.receipts (length s.receipts) place (f e) refl next.0 (sym next.1)
+
+  -- the receipt at a place, as it is kept
+  pub receipt_past : (rs : List X) (ms : List Marked) (place : ℕ) (m : Marked) → map f rs ≡ ms → length rs ≤ place → slice_get ms place ≡ Some m → ⊥
+  receipt_past rs ms place m is past got =
+      let within = slice_get_within ms place m got in
+      omega (arith, length-map rs f, ap length is)
+
+  pub receipt_read : (rs : List X) (ms : List Marked) (place : ℕ) (x : X) (m : Marked) (b : Bool) → map f rs ≡ ms → place < length rs → x ≡ get_or rs place x → (IsTrue b ↔ (f x ≡ m)) → IsTrue b ↔ (slice_get ms place ≡ Some m)
+  receipt_read rs ms place x m b is lt at same =
+      let there : slice_get ms place ≡ Some (f x) = subst (λ (l : List Marked). slice_get l place ≡ Some (f x)) is (slice_get_read (map f rs) (length rs) place (f x) (sym (length-map rs f)) lt (read rs place x lt at)) in (
+        λ t. there ∙ ap Some (same.0 t),
+        λ got.
+            let both : Some (f x) ≡ Some m = sym there ∙ got in
+            let one : f x ≡ m = cc in
+            same.1 one,
+      )

@@ -17,4 +17,4 @@ pub record IsHistory (log : Log) (start : ℕ) (seats : List Seated) : Type 0 wh
   pub entries : map (λ (m : Marked). m.entry) (drop start (marked log)) ≡ drop start log.entries
   pub receipts : IsReceipted (drop start (marked log)) seats
   pub marks : (index : ℕ) (m : Marked) → slice_get (marked log) index ≡ Some m →
-    m.mark ≡ mark_in (world_before log index) m.entry
+      m.mark ≡ mark_in (world_before log index) m.entry

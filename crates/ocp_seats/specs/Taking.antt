@@ -10,10 +10,10 @@ use Rattle.ocp_seats.specs.Seats.{Booked}
 
 -- the ticket is that of the running procedure whose turn is next after the one taken last, and this
 -- procedure is now the one taken last
-pub record Takes (old new : Booked) (ticket : Taken) : Type 0 where
-  pub next : IsNextRunning (world_of old.engine).records old.taken (Some ticket.id)
-  pub ticket : ticket_at ticket.id (get (world_of old.engine).records ticket.id) ≡ Some ticket
-  pub book : new ≡ record old { taken = Some ticket.id }
+pub record Takes (old new : Booked) (given : Taken) : Type 0 where
+  pub next : IsNextRunning (world_of old.engine).records old.taken (Some given.id)
+  pub ticket : ticket_at given.id (get (world_of old.engine).records given.id) ≡ Some given
+  pub book : new ≡ record old { taken = Some given.id }
 
 -- why nothing is taken; memory only where a procedure runs
 abbrev pub RefusesTake : Booked → TakeFault → Type 0

@@ -13,7 +13,8 @@ ghost use Rattle.ocp_seats.specs.Seats.{Changed, Gained};
 
 use crate::gains::{clear_break, commit, request, set_break, slice, step, trace};
 use crate::{
-    Book, CommitOutcome, DebugFault, EngineFault, Entry, Naming, Reports, Seat, Slice, StepOutcome, Work,
+    Book, CommitOutcome, DebugFault, EngineFault, Entry, Naming, Reports, Seat, Slice, StepOutcome,
+    Work,
 };
 use std::alloc::Allocator;
 

@@ -13,7 +13,9 @@ ghost use Rattle.ocp_core.specs.Receipts.{reports_in};
 ghost use Rattle.ocp_seats.specs.Receipts.{step_entries, slice_entries, commit_entries, request_entries, command_entries};
 ghost use Rattle.ocp_seats.specs.Seats.{Grows};
 
-use crate::{CommitOutcome, DebugFault, Engine, EngineFault, Entry, Reports, Slice, StepOutcome, Work};
+use crate::{
+    CommitOutcome, DebugFault, Engine, EngineFault, Entry, Reports, Slice, StepOutcome, Work,
+};
 use ocp_core::laws::entries_are_marked_by_their_answers;
 use std::alloc::Allocator;
 

@@ -10,6 +10,7 @@ mod seat;
 pub use book::{Book, TakeFault};
 pub use close::{CloseFault, NotClosed};
 pub use ocp_core::{
-    CommitOutcome, DebugFault, Engine, EngineFault, Entry, Octets, Reports, Slice, StepOutcome, Ticket, Work,
+    CommitOutcome, DebugFault, Engine, EngineFault, Entry, Octets, Reports, Slice, StepOutcome,
+    Ticket, Work,
 };
 pub use seat::{MAX_SEATS, Naming, Seat, SeatFault};

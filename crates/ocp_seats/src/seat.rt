@@ -74,19 +74,14 @@ impl<L: Naming, A: Allocator> Seat<L, A> {
             (slice_get self.now.receipts place ≡ Some (marked_of entry.now)) }
         ensures below { IsTrue result → place + 1 < 2 ^ 64 }
     {
-        match self.receipts.get(place) {
-            Some(receipt) => receipt.is_same(entry),
-            None => false,
+        if place >= self.receipts.len() {
+            return false;
         }
+        self.receipts[place].is_same(entry)
     }
 
     /// Counts an entry that the engine's journal gained by a call of the seat, and keeps its receipt.
-    pub(crate) fn gain(
-        &mut self,
-        tally: &mut Book<L>,
-        engine: &Engine<A>,
-        entry: Entry<A>,
-    )
+    pub(crate) fn gain(&mut self, tally: &mut Book<L>, engine: &Engine<A>, entry: Entry<A>)
         requires { length engine.now.entries + L.room ≡ engine.now.capacity + (tally.old.total + 1) }
         ensures tally { tally.new.total ≡ tally.old.total + 1 }
         ensures seat { Gained self.old self.new (marked_of entry ∷ []) }

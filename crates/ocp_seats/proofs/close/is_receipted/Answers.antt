@@ -1,11 +1,11 @@
-use Rattle.std.proofs.Common.{◌≡◌, ◌≢◌, ◌<◌, ℕ, length, map, get_or, All, Some, slice_get, arith, rules, sym, ◌∙◌, refl, subst, ap}
+use Rattle.std.proofs.Common.{◌≡◌, ◌≢◌, ◌<◌, ℕ, length, map, get_or, All, Some, below_more, slice_get, arith, rules, sym, ◌∙◌, refl, subst, ap}
 use Rattle.std.specs.Prelude.{IsTrue, slice_index_or}
 use Rattle.std.proofs.lemmas.List.{length-map}
 use Rattle.ocp_core.specs.Marks.{Marked, by_of}
 use Rattle.ocp_core.specs.Journal.{marked_of}
 use Rattle.ocp_seats.specs.Seats.{Seated}
 use Rattle.ocp_seats.specs.Closing.{IsReceipted}
-use Rattle.ocp_seats.proofs.Walks.{Walked, by_none, receipt_is, walk_past, walked_all, place_is_end}
+use Rattle.ocp_seats.proofs.Walks.{Walked, get_or_default, by_none, receipt_is, walk_past, walked_all, place_is_end}
 use Rattle.ocp_seats.proofs.close.is_receipted.Goals as goal
 
 pub returns-in_default : goal.returns-in_default
@@ -50,6 +50,17 @@ returns-then-places-from g c =
           let ends : get_or c.loop-entry.places s.number 0 ≡ length s.receipts = place_is_end (map marked_of c.args.entries.now) c.loop-entry.places c.args.seats.now c.loop-seat.invariant.0 c.loop-seat.seat-index s c.loop-seat-test.true c.seat-item.is good in
           absurd (c.if-places-from.true (ap (λ (v : ℕ). get_or c.loop-entry.places v 0) number ∙ (ends ∙ sym c.receipts.ensures.length))),
     )
+
+pub loop-seat-preserved : goal.loop-seat-preserved
+loop-seat-preserved g c =
+    let s = c.seat-item.result in
+    let index = c.loop-seat.seat-index in
+    let number : c.from.result ≡ s.number = search rules in
+    let IsAtEnd : Seated → Type 0 = λ x. get_or c.loop-entry.places x.number 0 ≡ length x.receipts in
+    let here : IsAtEnd s = ap (λ (v : ℕ). get_or c.loop-entry.places v 0) (sym number) ∙ (c.if-places-from.false ∙ c.receipts.ensures.length) in
+    let P : ℕ → Type 0 = λ k. (d : Seated) → IsAtEnd (get_or c.args.seats.now k d) in
+    let there : P index = λ d. subst IsAtEnd (c.seat-item.is ∙ get_or_default c.args.seats.now index s d c.loop-seat-test.true) here in
+    (c.loop-seat.invariant.0, λ k d lt. below_more P index (λ j less d'. c.loop-seat.invariant.1 j d' less) there k lt d)
 
 pub returns : goal.returns
 returns g c = (
