@@ -40,8 +40,8 @@ impl<L: Naming, A: Allocator> Book<L, A> {
             (request_entries seat.old.number time octets.now result) }
         ensures err { OnErr result ((self.new ≡ self.old) × (seat.new ≡ seat.old)) }
     {
-        let (reports, entry) = request(&mut self.engine, alloc, seat.number, time, octets)?;
-        seat.gain(&mut self.tally, &self.engine, entry);
+        let (reports, receipt) = request(&mut self.engine, alloc, seat.number, time, octets)?;
+        seat.gain(&mut self.tally, &self.engine, receipt);
         Ok(reports)
     }
 
