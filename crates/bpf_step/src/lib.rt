@@ -8,5 +8,5 @@ pub mod machine;
 
 pub use answer::{Local, MachineFault, Need};
 pub use frame::{FRAME_OCTETS, Frame, MAX_LOCAL_CALLS};
-pub use machine::Machine;
+pub use machine::{Machine, breaks_at};
 pub use ocp_loader::MAX_SLOTS;

@@ -11,11 +11,11 @@ use ocp_table::{Record, Table};
 use std::alloc::Allocator;
 
 /// Why a breakpoint cannot be set.
-fn set_fault<A: Allocator>(record: &Record<A>, place: u16) -> Option<DebugFault>
-    ensures { result ≡ set_fault (shown record.now) place }
+fn set_fault<A: Allocator>(procedure: &Record<A>, place: u16) -> Option<DebugFault>
+    ensures { result ≡ set_fault (shown procedure.now) place }
 {
-    let breakpoints = record.breakpoints.as_slice();
-    if record.execution.line_at(place).is_none() {
+    let breakpoints = procedure.breakpoints.as_slice();
+    if procedure.execution.line_at(place).is_none() {
         Some(DebugFault::NotAnInstruction)
     } else if is_set(place, breakpoints) {
         Some(DebugFault::AlreadySet)
@@ -26,14 +26,14 @@ fn set_fault<A: Allocator>(record: &Record<A>, place: u16) -> Option<DebugFault>
     }
 }
 
-/// Why a command is refused of a record.
-fn fault_in<A: Allocator>(record: &Record<A>, command: Command) -> Option<DebugFault>
-    ensures { result ≡ fault_in command (shown record.now) }
+/// Why a command is refused of a procedure.
+fn fault_in<A: Allocator>(procedure: &Record<A>, command: Command) -> Option<DebugFault>
+    ensures { result ≡ fault_in command (shown procedure.now) }
 {
     match command {
-        Command::SetBreak(place) => set_fault(record, place),
+        Command::SetBreak(place) => set_fault(procedure, place),
         Command::ClearBreak(place) => {
-            if is_set(place, record.breakpoints.as_slice()) {
+            if is_set(place, procedure.breakpoints.as_slice()) {
                 None
             } else {
                 Some(DebugFault::NotSet)

@@ -1,6 +1,6 @@
 use crate::{Cause, Control, Directive, Execution, InstructionOutcome, Pending, View};
 use arrayvec::ArrayVec;
-use bpf_step::Machine;
+use bpf_step::{Machine, breaks_at};
 use obcp_types::{StartFailure, Status};
 use ocp_pool::{Mailbox, Pool};
 use std::alloc::Allocator;
@@ -163,10 +163,8 @@ impl<A: Allocator> Record<A> {
             breaks_at self.now.control.pass self.now.breakpoints.items
             self.now.execution.machine.place }
     {
-        if self.control.pass {
-            return false;
-        }
-        stands_in(self.breakpoints.as_slice(), self.execution.place())
+        let breakpoints = self.breakpoints.as_slice();
+        breaks_at(self.control.pass, breakpoints, self.execution.place())
     }
 
     /// Sets the breakpoints.
@@ -210,16 +208,7 @@ impl<A: Allocator> Record<A> {
     }
 }
 
-// Whether a breakpoint is this place.
-#[inline(always)]
-fn stands_in(breakpoints: &[u16], place: u16) -> bool
-    ensures { result ≡ list_any (λ at. at == place) breakpoints.now }
-{
-    breakpoints.iter().any(|at| *at == place)
-}
-
-ghost use Rattle.std.specs.Prelude.{◌≡◌, ◌==◌, ℕ, List};
-ghost use Rattle.std.specs.List.{list_any};
+ghost use Rattle.std.specs.Prelude.{◌≡◌, ℕ, List};
 ghost use Rattle.ocp_table.specs.Effects.{pool_by, with_breakpoints, with_traced};
 ghost use Rattle.ocp_table.specs.RequestTable.{Unload, Step};
 ghost use Rattle.bpf_step.specs.Runs.{breaks_at};
