@@ -12,3 +12,4 @@ pub mod Exchanges
 pub mod Committing
 pub mod Marking
 pub mod Replaying
+pub mod Requesting

@@ -1,7 +1,8 @@
 -- The marks of a journal that gains an entry are those before and the answer that is given.
-use Rattle.std.proofs.Common.{◌≡◌, ℕ, zero, suc, true, false, cond, List, [], ◌∷◌, ◌++◌, map, replicate, refl, sym, ap, ◌∙◌}
-use Rattle.std.specs.Prelude.{Result, Ok, Err}
-use Rattle.std.proofs.lemmas.List.{map-append}
+use Rattle.std.proofs.Common.{◌≡◌, ◌≤◌, ◌+◌, ℕ, zero, suc, true, false, length, subst, arith, cond, List, [], ◌∷◌, ◌++◌, map, replicate, refl, sym, ap, ◌∙◌}
+use Rattle.std.specs.Prelude.{Result, Ok, Err, ◌==◌}
+use Rattle.std.proofs.lemmas.Bool.Decides.{nat_tests}
+use Rattle.std.proofs.lemmas.List.{map-append, length-map}
 use Rattle.bpf_step.specs.Machine.{State as Machined}
 use Rattle.ocp_table.specs.Records.{Rec}
 use Rattle.ocp_debug.specs.declared.command.DebugFault.{DebugFault}
@@ -118,6 +119,13 @@ module _ (law : AreAnswered) (old new : Log) (by : ℕ) (w : Worked) (run : IsRu
       ∙ ap (λ n. marked old ++ record { entry = Steps by w.id n; mark = Stepped S.Ran } ∷ []) (sym is.3)
 
 -- ---- a stored journal that gains an entry
+
+-- there is room for one more
+pub not_full : {X Y : Type 0} (f : X → Y) (xs : List X) (capacity : ℕ) → (length (map f xs) == capacity) ≡ false → length xs ≤ capacity → length xs + 1 ≤ capacity
+not_full f xs capacity free within = below (length xs) capacity (subst (λ n. (n == capacity) ≡ false) (length-map xs f) free) within
+  where
+    below : (n m : ℕ) → (n == m) ≡ false → n ≤ m → n + 1 ≤ m
+    below n m apart within = grind (arith, nat_tests)
 
 -- a command that is accepted is answered that it was done
 pub commanded : (r : Result (Unit {0}) DebugFault) (answer : Answer) → Commanded r ≡ answer → is_accepted answer ≡ true → Commanded (Ok tt) ≡ answer

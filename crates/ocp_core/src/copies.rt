@@ -1,34 +1,22 @@
 //! The copies of a request's reports, one by one.
 
-ghost use Rattle.std.specs.Prelude.{◌≡◌};
+ghost use Rattle.std.specs.Prelude.{◌≡◌, ◌≤◌, ◌+◌, ℕ, List, All, length};
 
 use crate::Reports;
-use ocp_reports::CopiedReports;
 use std::alloc::Allocator;
 
-/// The reports, and their one copy.
-pub fn one_copy<A: Allocator>(sent: CopiedReports<1, A>) -> (Reports<A>, Reports<A>)
-    ensures reports { result.0 ≡ sent }
-    ensures copy { result.1 ≡ sent }
+/// One of copies that are all the same.
+pub fn next_copy<A: Allocator>(copies: &mut Vec<Reports<A>, A>) -> Reports<A>
+    requires { 1 ≤ length copies.old.items }
+    ensures copy { (reports : List (List ℕ)) →
+        All (λ copy. copy ≡ reports) copies.old.items → result ≡ reports }
+    ensures rest { (reports : List (List ℕ)) →
+        All (λ copy. copy ≡ reports) copies.old.items →
+        All (λ copy. copy ≡ reports) copies.new.items }
+    ensures count { length copies.new.items + 1 ≡ length copies.old.items }
 {
-    let (reports, mut copies) = sent.into_parts();
     match copies.pop() {
-        Some(copy) => (reports, copy),
+        Some(copy) => copy,
         None => unreachable!(),
-    }
-}
-
-/// The reports, and their two copies.
-pub fn two_copies<A: Allocator>(
-    sent: CopiedReports<2, A>,
-) -> (Reports<A>, Reports<A>, Reports<A>)
-    ensures reports { result.0 ≡ sent }
-    ensures first { result.1 ≡ sent }
-    ensures second { result.2 ≡ sent }
-{
-    let (reports, mut copies) = sent.into_parts();
-    match (copies.pop(), copies.pop()) {
-        (Some(first), Some(second)) => (reports, first, second),
-        _ => unreachable!(),
     }
 }

@@ -13,7 +13,7 @@ ghost use Rattle.ocp_core.specs.Journal.{marked_of};
 ghost use Rattle.ocp_core.specs.Receipts.{reports_in};
 ghost use Rattle.ocp_core.specs.Mirror.Admitted.{IsAdmitted};
 
-use crate::copies::{one_copy, two_copies};
+use crate::copies::next_copy;
 use crate::{EngineFault, Entry, Journal, Octets, Reports, Slice, StepOutcome};
 use ocp_table::View;
 use ocp_world::{State, discard_of};
@@ -97,11 +97,18 @@ impl<A: Allocator> Engine<A> {
             (self.new ≡ log_after self.old (world.Request by time octets.now)) }
         ensures err { OnErr result (self.new ≡ self.old) }
     {
-        let read = self.admit(octets)?;
-        let kept = Octets::copy_of(alloc, octets)?;
-        match self.state.receive(alloc, time, read) {
+        let read = match self.admit(octets) {
+            Ok(read) => read,
+            Err(refused) => return Err(refused),
+        };
+        let Ok(kept) = Octets::copy_of(alloc, octets) else {
+            return Err(EngineFault::Memory);
+        };
+        match self.state.receive::<1>(alloc, time, read) {
             Ok(sent) => {
-                let (reports, mark) = one_copy(sent);
+                let mut copies = sent.into_vec();
+                let mark = next_copy(&mut copies);
+                let reports = next_copy(&mut copies);
                 self.journal.push(Entry::Request {
                     by,
                     time,
@@ -133,12 +140,22 @@ impl<A: Allocator> Engine<A> {
             record { entry = Asked by time octets.now; mark = Requested (Ok r.0) }) }
         ensures err { OnErr result (self.new ≡ self.old) }
     {
-        let read = self.admit(octets)?;
-        let kept = Octets::copy_of(alloc, octets)?;
-        let own = Octets::copy_of(alloc, octets)?;
-        match self.state.receive(alloc, time, read) {
+        let read = match self.admit(octets) {
+            Ok(read) => read,
+            Err(refused) => return Err(refused),
+        };
+        let Ok(kept) = Octets::copy_of(alloc, octets) else {
+            return Err(EngineFault::Memory);
+        };
+        let Ok(own) = Octets::copy_of(alloc, octets) else {
+            return Err(EngineFault::Memory);
+        };
+        match self.state.receive::<2>(alloc, time, read) {
             Ok(sent) => {
-                let (reports, mark, own_mark) = two_copies(sent);
+                let mut copies = sent.into_vec();
+                let mark = next_copy(&mut copies);
+                let own_mark = next_copy(&mut copies);
+                let reports = next_copy(&mut copies);
                 self.journal.push(Entry::Request {
                     by,
                     time,

@@ -1,6 +1,6 @@
 //! Reports with copies of them.
 
-ghost use Rattle.std.specs.Prelude.{◌≡◌, IfOk, All, length};
+ghost use Rattle.std.specs.Prelude.{◌≡◌, ◌+◌, IfOk, All, length};
 
 use crate::Reports;
 use std::alloc::{AllocError, Allocator};
@@ -9,19 +9,19 @@ use std::marker::Model;
 /// The reports of a request, seen as their list, with so many copies of them for those who keep them.
 #[derive(Drop)]
 pub struct CopiedReports<const COPIES: usize, A: Allocator> {
-    reports: Reports<A>,
-    copies: Vec<Reports<A>, A>,
+    // The copies and the reports themselves.
+    all: Vec<Reports<A>, A>,
 }
 
 impl<const COPIES: usize, A: Allocator> Model for CopiedReports<COPIES, A> {
-    ghost use Rattle.std.specs.Prelude.{◌≡◌, ℕ, List, All, length};
+    ghost use Rattle.std.specs.Prelude.{◌≡◌, ◌+◌, ℕ, List, [], All, length, slice_index_or};
 
     ghost Value = { List (List ℕ) };
 
-    ghost view = { λ r. r.reports };
+    ghost view = { λ r. slice_index_or r.all.items 0 [] };
 
-    ghost invariant = { λ r. (length r.copies.items ≡ COPIES)
-        × All (λ copy. copy ≡ r.reports) r.copies.items };
+    ghost invariant = { λ r. (length r.all.items ≡ COPIES + 1)
+        × All (λ copy. copy ≡ slice_index_or r.all.items 0 []) r.all.items };
 }
 
 impl<const COPIES: usize, A: Allocator> CopiedReports<COPIES, A> {
@@ -31,27 +31,27 @@ impl<const COPIES: usize, A: Allocator> CopiedReports<COPIES, A> {
         A: Copy,
         ensures { IfOk result (λ copied. copied ≡ reports) }
     {
-        let mut copies = Vec::with_capacity(alloc, COPIES)?;
+        let mut all = Vec::new(alloc);
         for _count in 0..COPIES {
-            copies.push_reserved(reports.copy(alloc)?);
+            all.push(reports.copy(alloc)?)?;
         }
-        Ok(CopiedReports { reports, copies })
+        all.push(reports)?;
+        Ok(CopiedReports { all })
     }
 
     /// How many packets there are.
     pub fn len(&self) -> usize
         ensures { result ≡ length self.now }
     {
-        self.reports.len()
+        self.all[0].len()
     }
 
-    /// The reports, and their copies.
-    pub fn into_parts(self) -> (Reports<A>, Vec<Reports<A>, A>)
-        ensures reports { result.0 ≡ self }
-        ensures count { length result.1.items ≡ COPIES }
-        ensures copies { All (λ copy. copy ≡ self) result.1.items }
+    /// The reports and their copies, each by itself.
+    pub fn into_vec(self) -> Vec<Reports<A>, A>
+        ensures count { length result.items ≡ COPIES + 1 }
+        ensures same { All (λ copy. copy ≡ self) result.items }
     {
-        let CopiedReports { reports, copies } = self;
-        (reports, copies)
+        let CopiedReports { all } = self;
+        all
     }
 }

@@ -28,7 +28,7 @@ returns-clause-replay g c =
     let all : length items ≤ i = omega arith in
     let world : replay journal.apid journal.words (expand (map entry_of (take i items))) ≡ world_of journal =
     ap (λ xs. replay journal.apid journal.words (expand (map entry_of xs))) (take_all i items all)
-    ∙ ap (λ es. replay journal.apid journal.words (expand es)) c.entries-entry-items.ensures ∙ replayed journal in
+    ∙ ap (λ es. replay journal.apid journal.words (expand es)) c.entries-entry-items.ensures.value ∙ replayed journal in
     c.machine.ensures (world_of journal) (subst (λ v. IsWorld v c.loop-entry.state) world c.loop-entry.invariant)
 
 pub returns-clause-alone : goal.returns-clause-alone
@@ -39,6 +39,6 @@ returns-clause-alone g c =
     let all : length items ≤ i = omega arith in
     let world : replay journal.apid journal.words (expand (map entry_of (take i items))) ≡ replay journal.apid journal.words (expand journal.entries) =
     ap (λ xs. replay journal.apid journal.words (expand (map entry_of xs))) (take_all i items all)
-    ∙ ap (λ es. replay journal.apid journal.words (expand es)) c.entries-entry-items.ensures in
+    ∙ ap (λ es. replay journal.apid journal.words (expand es)) c.entries-entry-items.ensures.value in
     subst (λ (m : Option State). IfOk c.machine.result (λ machine. machine ≡ m)) (c.machines_follow_from_their_own_events.ensures journal.apid journal.words (expand journal.entries) c.args.id)
     (c.machine.ensures (replay journal.apid journal.words (expand journal.entries)) (subst (λ v. IsWorld v c.loop-entry.state) world c.loop-entry.invariant))

@@ -26,8 +26,8 @@ returns-clause-answer g c = done_answer c.self.inside.journal c.args.self.now c.
 pub returns-clause-journal : goal.returns-clause-journal
 returns-clause-journal g c = done_log c.self.inside.journal c.args.self.now c.self.view_is (Debug c.args.by c.args.id c.args.command) _ (c.in_default.ensures _ c.args.by c.self.invariant) (sym c.is_full.ensures ∙ c.if-is_full.false) (c.push.ensures ∙ ap (with_entry c.self.inside.journal) c.of_command.ensures.entry)
 
-pub push-requires-mark : goal.push-requires-mark
-push-requires-mark g c =
+pub push-requires-clause-mark : goal.push-requires-clause-mark
+push-requires-clause-mark g c =
     let w = world_of c.self.inside.journal in
     c.of_command.ensures.mark
     ∙ commanded c.command-result.result _ (c.command-result.ensures.answer w c.args.by c.self.invariant) (c.in_default.ensures w c.args.by c.self.invariant)

@@ -23,8 +23,8 @@ returns g c =
     (subst (λ (w : Worked). (w.count ≡ 0 → ⊥) × IsFresh c.self.inside.journal w × is_full c.self.inside.journal ≡ false × c.work.inside.count ≡ w.count × IsCommitted c.self.inside.journal c.push.new.self c.args.by w) c.work.view_is
     (c.if-work-eq0.false, fresh, free, refl, record { journal = c.push.ensures; world = world }))
 
-pub push-requires-mark : goal.push-requires-mark
-push-requires-mark g c =
+pub push-requires-clause-mark : goal.push-requires-clause-mark
+push-requires-clause-mark g c =
     let work : Worked = record { id = c.work.inside.id; base = c.work.inside.base; end = c.work.inside.end; count = c.work.inside.count } in
     let fresh = (c.is_at.ensures _ c.self.invariant).0 c.if-not-is_at.false in
     ap Stepped (sym (commit_mark c.instructions_done_alone_are_events.ensures.answers c.self.inside.journal c.args.by work c.if-work-eq0.false fresh c.work.invariant))

@@ -26,8 +26,8 @@ returns-clause-slice g c = done_slice c.self.inside.journal c.args.self.now c.se
 pub returns-clause-journal : goal.returns-clause-journal
 returns-clause-journal g c = done_slice_log c.self.inside.journal c.args.self.now c.self.view_is c.args.by c.args.id c.args.budget _ _ (c.in_default.ensures _ c.args.by c.self.invariant) (sym c.is_full.ensures ∙ c.if-is_full.false) (c.slice-slice.ensures.count _ c.args.by c.self.invariant) c.push.ensures
 
-pub push-requires-mark : goal.push-requires-mark
-push-requires-mark g c =
+pub push-requires-clause-mark : goal.push-requires-clause-mark
+push-requires-clause-mark g c =
     let w = world_of c.self.inside.journal in
     let count = c.slice-slice.ensures.count w c.args.by c.self.invariant in
     let last = c.slice-slice.ensures.last w c.args.by c.self.invariant in

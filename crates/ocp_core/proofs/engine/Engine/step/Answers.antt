@@ -24,5 +24,5 @@ returns-clause-answer g c = done_answer c.self.inside.journal c.args.self.now c.
 pub returns-clause-journal : goal.returns-clause-journal
 returns-clause-journal g c = done_log c.self.inside.journal c.args.self.now c.self.view_is (Step c.args.by c.args.id) _ (c.in_default.ensures _ c.args.by c.self.invariant) (sym c.is_full.ensures ∙ c.if-is_full.false) c.push.ensures
 
-pub push-requires-mark : goal.push-requires-mark
-push-requires-mark g c = ap (λ answer. Stepped (outcome_in answer)) (c.step-outcome.ensures.answer _ c.args.by c.self.invariant)
+pub push-requires-clause-mark : goal.push-requires-clause-mark
+push-requires-clause-mark g c = ap (λ answer. Stepped (outcome_in answer)) (c.step-outcome.ensures.answer _ c.args.by c.self.invariant)

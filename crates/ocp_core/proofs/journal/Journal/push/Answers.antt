@@ -1,21 +1,33 @@
-use Rattle.std.proofs.Common.{rules, subst, sym}
-use Rattle.ocp_core.specs.Log.{world_of}
+use Rattle.std.proofs.Common.{rules, ◌≡◌, ◌≤◌, ◌+◌, ℕ, false, List, [], ◌∷◌, ◌++◌, map, length, vec_len, sym, ap, subst, ◌∙◌, arith}
+use Rattle.std.proofs.lemmas.Grind.{common_steps}
+use Rattle.std.proofs.lemmas.List.{map-append}
+use Rattle.ocp_core.specs.Log.{world_of, is_full, events_of, expand}
 use Rattle.ocp_core.specs.Journal.{entry_of, mark_of}
 use Rattle.ocp_core.specs.Marks.{mark_in}
-use Rattle.ocp_core.proofs.Marking.{marks_kept}
+use Rattle.ocp_core.proofs.Replays.{length-expand-with_entry}
+use Rattle.ocp_core.proofs.Marking.{marks_kept, not_full}
 use Rattle.ocp_core.proofs.journal.Journal.push.Goals as goal
 
 pub invariant_of-self : goal.invariant_of-self
 invariant_of-self g c =
     let j = c.self.inside in
+    let e = c.args.entry in
+    let old = map entry_of j.entries.items in
+    let room = subst (λ l. is_full l ≡ false) (sym c.self.view_is) c.requires.room in
+    let mark = subst (λ l. mark_of e ≡ mark_in (world_of l) (entry_of e)) (sym c.self.view_is) c.requires.mark in
+    let below = not_full entry_of j.entries.items j.capacity room in
+    let more : length (expand (map entry_of c.push_reserved.new.self.items)) ≡ length (expand old) + length (events_of (entry_of e)) =
+    ap (λ xs. length (expand (map entry_of xs))) c.push_reserved.ensures.items
+    ∙ ap (λ es. length (expand es)) (map-append entry_of j.entries.items (e ∷ []))
+    ∙ length-expand-with_entry old (entry_of e) in
     record {
       named = search rules;
       words_from = search rules;
       words_to = search rules;
-      few = search rules;
+      few = ?;
       room = search rules;
       limit = search rules;
-      counted = search rules;
+      counted = omega (arith, c.self.invariant.counted, c.events.ensures.value, more);
       bounded = search rules;
-      marks = ?;
+      marks = marks_kept j.apid j.words j.capacity j.entries.items c.push_reserved.new.self.items e c.push_reserved.ensures.items c.self.invariant.marks mark;
     }
