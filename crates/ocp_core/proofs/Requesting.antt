@@ -16,7 +16,7 @@ use Rattle.ocp_core.specs.Mirror.Admitted.{IsAdmitted}
 use Rattle.ocp_core.proofs.Keeping.{IsWorld-with_entry}
 use Rattle.ocp_core.proofs.Journaling.{answer_taken, done_answer, done_log}
 
-module _ {A : Type 0} (log now : Log) (same : log ≡ now) (by time : ℕ) (octets : List ℕ) (read : Result Telecommand TcFault) (told : IsAdmitted now by time octets read) where
+module _ (log now : Log) (same : log ≡ now) (by time : ℕ) (octets : List ℕ) (read : Result Telecommand TcFault) (told : IsAdmitted now by time octets read) where
   abbrev e : Event
   e = Request by time octets
 
@@ -27,15 +27,15 @@ module _ {A : Type 0} (log now : Log) (same : log ≡ now) (by time : ℕ) (octe
   pub would_be_accepted : is_accepted (answer_in now e) ≡ true
   would_be_accepted = ap is_accepted (sym (done_answer log now same e _ admitted.taken admitted.free refl)) ∙ admitted.taken
 
-  pub refused_so : (s : State A) (fault : EngineFault) → DoesIn (world_of log) (effect_of (world_of log) e) (Err fault) s → Answers (Err fault) (answer_in now e)
+  pub refused_so : {A : Type 0} (s : State A) (fault : EngineFault) → DoesIn (world_of log) (effect_of (world_of log) e) (Err fault) s → Answers (Err fault) (answer_in now e)
   refused_so s fault does = answer_taken log now same e (Err fault) admitted.taken admitted.free does.0
 
-  module _ (s : State A) (sent kept : List (List ℕ)) (copy : List ℕ) (does : DoesIn (world_of log) (effect_of (world_of log) e) (Ok sent) s) (copied : copy ≡ octets) where
-    pub answered : kept ≡ sent → Answers (Ok kept) (answer_in now e)
-    answered is = answer_taken log now same e (Ok kept) admitted.taken admitted.free (does.0 ∙ ap (λ reports. Requested (Ok reports)) (sym is))
+  module _ {A : Type 0} (s : State A) (sent : List (List ℕ)) (copy : List ℕ) (does : DoesIn (world_of log) (effect_of (world_of log) e) (Ok sent) s) (copied : copy ≡ octets) where
+    pub answered : (kept : List (List ℕ)) → kept ≡ sent → Answers (Ok kept) (answer_in now e)
+    answered kept is = answer_taken log now same e (Ok kept) admitted.taken admitted.free (does.0 ∙ ap (λ reports. Requested (Ok reports)) (sym is))
 
-    pub marked_so : kept ≡ sent → Requested (Ok kept) ≡ mark_in (world_of log) (Asked by time copy)
-    marked_so is = ap (λ reports. Requested (Ok reports)) is ∙ sym does.0 ∙ ap (λ o. (after (world_of log) (Request by time o)).answer) (sym copied)
+    pub marked_so : (kept : List (List ℕ)) → kept ≡ sent → Requested (Ok kept) ≡ mark_in (world_of log) (Asked by time copy)
+    marked_so kept is = ap (λ reports. Requested (Ok reports)) is ∙ sym does.0 ∙ ap (λ o. (after (world_of log) (Request by time o)).answer) (sym copied)
 
     pub stands_after : (new : Log) → new ≡ with_entry log (Asked by time copy) → IsWorld (world_of new) s
     stands_after new is = IsWorld-with_entry log new (Asked by time copy) s is (subst (λ o. IsWorld (replay_from (world_of log) (Request by time o ∷ [])) s) (sym copied) does.1)

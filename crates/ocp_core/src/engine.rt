@@ -104,7 +104,7 @@ impl<A: Allocator> Engine<A> {
         let Ok(kept) = Octets::copy_of(alloc, octets) else {
             return Err(EngineFault::Memory);
         };
-        match self.state.receive::<1>(alloc, time, read) {
+        match self.state.receive(alloc, time, read) {
             Ok(sent) => {
                 let mut copies = sent.into_vec();
                 let mark = next_copy(&mut copies);
@@ -150,7 +150,7 @@ impl<A: Allocator> Engine<A> {
         let Ok(own) = Octets::copy_of(alloc, octets) else {
             return Err(EngineFault::Memory);
         };
-        match self.state.receive::<2>(alloc, time, read) {
+        match self.state.receive(alloc, time, read) {
             Ok(sent) => {
                 let mut copies = sent.into_vec();
                 let mark = next_copy(&mut copies);

@@ -32,7 +32,7 @@ fn request<A: Allocator + Copy>(
         OnOk result (IsWorld (after w (Asked by time octets.now)).world state.new) }
 {
     refused_events_change_nothing();
-    match state.receive::<0>(alloc, time, read_tc(apid, octets)) {
+    match state.receive(alloc, time, read_tc(apid, octets)) {
         Ok(_reports) => Ok(()),
         Err(EngineFault::Discarded(_cause)) => Ok(()),
         Err(EngineFault::JournalFull) => Ok(()),

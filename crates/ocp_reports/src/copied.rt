@@ -1,30 +1,34 @@
 //! Reports with copies of them.
 
-ghost use Rattle.std.specs.Prelude.{◌≡◌, ◌+◌, IfOk, All, length};
+ghost use Rattle.std.specs.Prelude.{◌≡◌, IfOk, All, length};
 
 use crate::Reports;
-use std::alloc::{AllocError, Allocator};
+use std::alloc::{AllocError, Allocator, Global};
 use std::marker::Model;
 
-/// The reports of a request, seen as their list, with so many copies of them for those who keep them.
+// One for the journal, and one for the receipt.
+const COPIES: usize = 2;
+
+/// The reports of a request, seen as their list, with two copies of them for those who keep them: the journal, and a seat as
+/// its receipt.
 #[derive(Drop)]
-pub struct CopiedReports<const COPIES: usize, A: Allocator> {
+pub struct CopiedReports<A: Allocator = Global> {
     // The copies and the reports themselves.
     all: Vec<Reports<A>, A>,
 }
 
-impl<const COPIES: usize, A: Allocator> Model for CopiedReports<COPIES, A> {
-    ghost use Rattle.std.specs.Prelude.{◌≡◌, ◌+◌, ℕ, List, [], All, length, slice_index_or};
+impl<A: Allocator> Model for CopiedReports<A> {
+    ghost use Rattle.std.specs.Prelude.{◌≡◌, ℕ, List, [], All, length, slice_index_or};
 
     ghost Value = { List (List ℕ) };
 
     ghost view = { λ r. slice_index_or r.all.items 0 [] };
 
-    ghost invariant = { λ r. (length r.all.items ≡ COPIES + 1)
+    ghost invariant = { λ r. (length r.all.items ≡ 3)
         × All (λ copy. copy ≡ slice_index_or r.all.items 0 []) r.all.items };
 }
 
-impl<const COPIES: usize, A: Allocator> CopiedReports<COPIES, A> {
+impl<A: Allocator> CopiedReports<A> {
     /// Takes the memory of all copies.
     pub fn of(alloc: A, reports: Reports<A>) -> Result<Self, AllocError>
     where
@@ -48,7 +52,7 @@ impl<const COPIES: usize, A: Allocator> CopiedReports<COPIES, A> {
 
     /// The reports and their copies, each by itself.
     pub fn into_vec(self) -> Vec<Reports<A>, A>
-        ensures count { length result.items ≡ COPIES + 1 }
+        ensures count { length result.items ≡ 3 }
         ensures same { All (λ copy. copy ≡ self) result.items }
     {
         let CopiedReports { all } = self;

@@ -147,14 +147,14 @@ impl Sender {
         Ok(reports)
     }
 
-    /// `reports`, with so many copies of them.
-    pub fn copied_reports<const COPIES: usize, A: Allocator + Copy>(
+    /// `reports`, with copies of them.
+    pub fn copied_reports<A: Allocator + Copy>(
         &self,
         alloc: A,
         origin: Origin,
         outcome: Outcome,
         answer: &Option<Report>,
-    ) -> Result<CopiedReports<COPIES, A>, AllocError>
+    ) -> Result<CopiedReports<A>, AllocError>
         ensures { let all = reports_of origin outcome (option_to_list answer.now) in
             IfOk result (λ r. r ≡ packets self.now.apid self.now.count all) }
     {

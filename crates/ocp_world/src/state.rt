@@ -145,13 +145,13 @@ impl<A: Allocator> State<A> {
     }
 
     // Sends the reports of a request that changes no procedure.
-    fn reply<const COPIES: usize>(
+    fn reply(
         &mut self,
         alloc: A,
         origin: Origin,
         outcome: Outcome,
         answer: &Option<Report>,
-    ) -> Result<CopiedReports<COPIES, A>, EngineFault>
+    ) -> Result<CopiedReports<A>, EngineFault>
     where
         A: Copy,
         ensures does { Does self.old self.new result (λ m. record {
@@ -172,12 +172,12 @@ impl<A: Allocator> State<A> {
     }
 
     // Sends the report of a failed acceptance.
-    fn refuse<const COPIES: usize>(
+    fn refuse(
         &mut self,
         alloc: A,
         origin: Origin,
         failure: AcceptanceFailure,
-    ) -> Result<CopiedReports<COPIES, A>, EngineFault>
+    ) -> Result<CopiedReports<A>, EngineFault>
     where
         A: Copy,
         ensures { Does self.old self.new result (λ m. refusal_effect origin failure) }
@@ -186,12 +186,12 @@ impl<A: Allocator> State<A> {
     }
 
     // Sends the reports of a failed start.
-    fn fail<const COPIES: usize>(
+    fn fail(
         &mut self,
         alloc: A,
         origin: Origin,
         failure: StartFailure,
-    ) -> Result<CopiedReports<COPIES, A>, EngineFault>
+    ) -> Result<CopiedReports<A>, EngineFault>
     where
         A: Copy,
         ensures { Does self.old self.new result
@@ -201,13 +201,13 @@ impl<A: Allocator> State<A> {
     }
 
     // Loads a procedure.
-    fn load<const COPIES: usize>(
+    fn load(
         &mut self,
         alloc: A,
         origin: Origin,
         id: u16,
         code: &[u8],
-    ) -> Result<CopiedReports<COPIES, A>, EngineFault>
+    ) -> Result<CopiedReports<A>, EngineFault>
     where
         A: Copy,
         ensures { Does self.old self.new result
@@ -226,7 +226,7 @@ impl<A: Allocator> State<A> {
 
     // Unloads a procedure.
     #[tactic(auto, using(crate::proofs::Calm::unload_leaves_pool))]
-    fn unload<const COPIES: usize>(&mut self, alloc: A, origin: Origin, id: u16) -> Result<CopiedReports<COPIES, A>, EngineFault>
+    fn unload(&mut self, alloc: A, origin: Origin, id: u16) -> Result<CopiedReports<A>, EngineFault>
     where
         A: Copy,
         ensures { Does self.old self.new result
@@ -241,13 +241,13 @@ impl<A: Allocator> State<A> {
     }
 
     // Does what a request asks of a loaded procedure.
-    fn direct<const COPIES: usize>(
+    fn direct(
         &mut self,
         alloc: A,
         origin: Origin,
         id: u16,
         directive: Directive<'_>,
-    ) -> Result<CopiedReports<COPIES, A>, EngineFault>
+    ) -> Result<CopiedReports<A>, EngineFault>
     where
         A: Copy,
         requires { HasFewArguments (directive_of directive) }
@@ -263,7 +263,7 @@ impl<A: Allocator> State<A> {
     }
 
     // Reports the status of all procedures.
-    fn report_status<const COPIES: usize>(&mut self, alloc: A, origin: Origin) -> Result<CopiedReports<COPIES, A>, EngineFault>
+    fn report_status(&mut self, alloc: A, origin: Origin) -> Result<CopiedReports<A>, EngineFault>
     where
         A: Copy,
         ensures { Does self.old self.new result
@@ -274,12 +274,12 @@ impl<A: Allocator> State<A> {
     }
 
     // Serves a request.
-    fn serve<const COPIES: usize>(
+    fn serve(
         &mut self,
         alloc: A,
         origin: Origin,
         request: Request<'_>,
-    ) -> Result<CopiedReports<COPIES, A>, EngineFault>
+    ) -> Result<CopiedReports<A>, EngineFault>
     where
         A: Copy,
         ensures { Does self.old self.new result (command_effect request.entry origin) }
@@ -304,12 +304,12 @@ impl<A: Allocator> State<A> {
     }
 
     /// Does what a telecommand asks for, as it was read at this time, and sends its reports.
-    pub fn receive<const COPIES: usize>(
+    pub fn receive(
         &mut self,
         alloc: A,
         time: u32,
         read: Result<Tc<'_>, TcFault>,
-    ) -> Result<CopiedReports<COPIES, A>, EngineFault>
+    ) -> Result<CopiedReports<A>, EngineFault>
     where
         A: Copy,
         ensures { (w : World) (by : ℕ) (octets : List ℕ) →

@@ -15,7 +15,9 @@ invariant_of-self g c =
     let old = map entry_of j.entries.items in
     let room = subst (λ l. is_full l ≡ false) (sym c.self.view_is) c.requires.room in
     let mark = subst (λ l. mark_of e ≡ mark_in (world_of l) (entry_of e)) (sym c.self.view_is) c.requires.mark in
-    let below = not_full entry_of j.entries.items j.capacity room in
+    let counted : length j.entries.items ≡ vec_len j.entries = grind (arith, common_steps) in
+    let within : length j.entries.items ≤ j.capacity = omega (arith, counted, c.self.invariant.few) in
+    let room_left = not_full entry_of j.entries.items j.capacity room within in
     let more : length (expand (map entry_of c.push_reserved.new.self.items)) ≡ length (expand old) + length (events_of (entry_of e)) =
     ap (λ xs. length (expand (map entry_of xs))) c.push_reserved.ensures.items
     ∙ ap (λ es. length (expand es)) (map-append entry_of j.entries.items (e ∷ []))
@@ -24,7 +26,7 @@ invariant_of-self g c =
       named = search rules;
       words_from = search rules;
       words_to = search rules;
-      few = ?;
+      few = omega (arith, c.push_reserved.ensures.len, room_left, counted);
       room = search rules;
       limit = search rules;
       counted = omega (arith, c.self.invariant.counted, c.events.ensures.value, more);
