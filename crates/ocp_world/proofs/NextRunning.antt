@@ -120,11 +120,13 @@ module _ (from : ℕ) (e : ℕ × Rec) (es : List (ℕ × Rec)) (n : ℕ) (rise 
       }
 
   to_later : runs_from from (row_of e) ≡ false → (k : ℕ) → IsFrom (e ∷ es) from k → IsFrom es from k
-  to_later not k p =
-      (elim (k == e.0) as (λ b. (k == e.0) ≡ b → is_running (cond b (Some e.1) (lookup k es)) ≡ true → is_running (lookup k es) ≡ true) [
-        | true ↦ λ is on. absurd (contrary (eqb-true k e.0 is) on)
-        | false ↦ λ is on. on
-      ] refl p.0, p.1)
+  to_later not k p = (
+    elim (k == e.0) as (λ b. (k == e.0) ≡ b → is_running (cond b (Some e.1) (lookup k es)) ≡ true → is_running (lookup k es) ≡ true) [
+      | true ↦ λ is on. absurd (contrary (eqb-true k e.0 is) on)
+      | false ↦ λ is on. on
+    ] refl p.0,
+    p.1,
+  )
     where
       contrary : k ≡ e.0 → is_running_status e.1.control.status ≡ true → ⊥
       contrary is on =

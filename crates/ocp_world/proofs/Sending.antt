@@ -48,12 +48,13 @@ module _ {A : Type 0} (w : World) (origin : Origin) (d : D.Directive) (id : ℕ)
   decided = ap outcome_by (ap (λ m. failure_of (effect_in (directive_of d) id m)) (sym stands.records) ∙ sym allowed)
 
   pub directed : DoesIn w (directive_effect origin (directive_of d) id w.records) (Ok reports) (record new { table = table })
-  directed =
-      (ap (λ o. Requested (Ok (packets w.apid w.reports (reports_of origin o [])))) decided ∙ does.0,
-      record {
-        apid = does.1.apid;
-        records = applied ∙ ap (λ m. records_by (effect_in (directive_of d) id m) m) (same ∙ stands.records);
-        pool = does.1.pool ∙ sym (directive_leaves_pool d id w.records w.pool);
-        count = does.1.count ∙ ap (λ o. (w.reports + length (reports_of origin o [])) % 16384) (sym decided);
-        ring = does.1.ring ∙ ap kept (append-nil w.traces ∙ sym (directive_keeps_traces d id w.records w.traces));
-      })
+  directed = (
+    ap (λ o. Requested (Ok (packets w.apid w.reports (reports_of origin o [])))) decided ∙ does.0,
+    record {
+      apid = does.1.apid;
+      records = applied ∙ ap (λ m. records_by (effect_in (directive_of d) id m) m) (same ∙ stands.records);
+      pool = does.1.pool ∙ sym (directive_leaves_pool d id w.records w.pool);
+      count = does.1.count ∙ ap (λ o. (w.reports + length (reports_of origin o [])) % 16384) (sym decided);
+      ring = does.1.ring ∙ ap kept (append-nil w.traces ∙ sym (directive_keeps_traces d id w.records w.traces));
+    },
+  )

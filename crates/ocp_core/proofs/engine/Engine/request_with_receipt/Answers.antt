@@ -1,5 +1,6 @@
+use Rattle.std.proofs.Common.{sym, ◌∙◌}
 use Rattle.ocp_core.specs.Log.{world_of}
-use Rattle.ocp_core.proofs.Requesting.{admitted, would_be_accepted, refused_so, answered, marked_so, stands_after, journal_after}
+use Rattle.ocp_core.proofs.Requesting.{admitted, would_be_accepted, refused_so, answered, marked_so, stands_after, journal_after, same_receipt}
 use Rattle.ocp_core.proofs.engine.Engine.request_with_receipt.Goals as goal
 
 pub returns-in-Err-clause-answer : goal.returns-in-Err-clause-answer
@@ -39,7 +40,7 @@ returns-in-Ok-receive-clause-answer g c =
     let told = c.in-Ok.ensures.ok c.args.by c.args.time in
     let read = admitted log c.args.self.now c.self.view_is c.args.by c.args.time c.args.octets.now c.in-Ok.read told in
     let does = c.in-Ok-receive.ensures (world_of log) c.args.by c.args.octets.now c.self.invariant read.is in
-    let rest = c.next_copy-mark.ensures.rest c.in-Ok-receive.sent c.into_vec-copies.ensures.same in
+    let rest = c.next_copy-own_mark.ensures.rest c.in-Ok-receive.sent (c.next_copy-mark.ensures.rest c.in-Ok-receive.sent c.into_vec-copies.ensures.same) in
     answered log c.args.self.now c.self.view_is c.args.by c.args.time c.args.octets.now c.in-Ok.read told c.receive.new.self c.in-Ok-receive.sent c.in-Ok-copy_of.kept does c.in-Ok-copy_of.ensures c.next_copy-reports.result (c.next_copy-reports.ensures.copy c.in-Ok-receive.sent rest)
 
 pub returns-in-Ok-receive-clause-journal : goal.returns-in-Ok-receive-clause-journal
@@ -56,3 +57,15 @@ returns-in-Err-receive-clause-answer g c =
     let told = c.in-Ok.ensures.ok c.args.by c.args.time in
     let read = admitted log c.args.self.now c.self.view_is c.args.by c.args.time c.args.octets.now c.in-Ok.read told in
     refused_so log c.args.self.now c.self.view_is c.args.by c.args.time c.args.octets.now c.in-Ok.read told c.receive.new.self c.in-Err-receive.fault (c.in-Err-receive.ensures (world_of log) c.args.by c.args.octets.now c.self.invariant read.is)
+
+pub returns-in_default-copy_of-clause-answer : goal.returns-in_default-copy_of-clause-answer
+returns-in_default-copy_of-clause-answer g c = would_be_accepted c.self.inside.journal c.args.self.now c.self.view_is c.args.by c.args.time c.args.octets.now c.in-Ok.read (c.in-Ok.ensures.ok c.args.by c.args.time)
+
+pub returns-in-Ok-receive-clause-receipt : goal.returns-in-Ok-receive-clause-receipt
+returns-in-Ok-receive-clause-receipt g c =
+    let sent = c.in-Ok-receive.sent in
+    let all = c.into_vec-copies.ensures.same in
+    let rest = c.next_copy-mark.ensures.rest sent all in
+    let own = c.next_copy-own_mark.ensures.copy sent rest in
+    let last = c.next_copy-reports.ensures.copy sent (c.next_copy-own_mark.ensures.rest sent rest) in
+    same_receipt c.args.by c.args.time c.in-Ok-copy_of-2.own c.args.octets.now c.next_copy-own_mark.result c.next_copy-reports.result c.in-Ok-copy_of-2.ensures (own ∙ sym last)
