@@ -1,14 +1,17 @@
 //! `ocp`: an engine for on-board control procedures on its ground console.
 #![tactic(auto)]
 
-use ocp_console::{ConsoleFault, Device, Job, WordsFault, asm, list, not_utf8, read_words, run};
+use ocp_console::{
+    ConsoleFault, Crew, Device, Job, WordsFault, asm, list, not_utf8, read_words, run,
+};
+use ocp_crew::{Engine, Threaded};
 use std::process::ExitCode;
 use std::{env, io};
 
 /// The exit status of a fault of the input.
 const INPUT_FAULT: u8 = 1;
 
-/// The exit status of a device that failed, or of memory that was refused.
+/// The exit status of a device that failed, of memory that was refused, or of workers that failed.
 const MACHINE_FAULT: u8 = 3;
 
 /// Says on standard error what failed in the machine, and gives the exit status of it, whether or not it could be said.
@@ -24,12 +27,15 @@ fn status_of(rt: &HostRuntime, answer: Result<bool, ConsoleFault>) -> ExitCode {
         Err(ConsoleFault::Read) => machine_fault(rt, "Read"),
         Err(ConsoleFault::Write) => machine_fault(rt, "Write"),
         Err(ConsoleFault::Memory) => machine_fault(rt, "Memory"),
+        Err(ConsoleFault::Workers) => machine_fault(rt, "Workers"),
         Ok(false) | Err(_) => ExitCode::from(INPUT_FAULT),
     }
 }
 
 /// Does a job from standard input to standard output.
-fn perform(rt: &HostRuntime, job: Job) -> ExitCode {
+fn perform<C: Crew<Engine>>(rt: &HostRuntime, crew: &C, job: Job) -> ExitCode
+    requires { C.ready crew.now }
+{
     let mut reader = Device {
         inner: rt.stdin(),
         failed: 0,
@@ -41,7 +47,9 @@ fn perform(rt: &HostRuntime, job: Job) -> ExitCode {
     let answer = match job {
         Job::Assemble => asm(rt.alloc(), &mut reader, &mut writer),
         Job::List => list(rt.alloc(), &mut reader, &mut writer),
-        Job::Run(settings) => { run(rt.alloc(), settings, &mut reader, &mut writer).map(|()| true) }
+        Job::Run(settings) => {
+            run(rt.alloc(), settings, crew, &mut reader, &mut writer).map(|()| true)
+        }
     };
     status_of(rt, answer)
 }
@@ -63,7 +71,13 @@ fn job_of_words(rt: &HostRuntime) -> Result<Job, WordsFault> {
 
 fn main(rt: HostRuntime) -> ExitCode {
     match job_of_words(&rt) {
-        Ok(job) => perform(&rt, job),
+        Ok(job) => {
+            let crew = Threaded {
+                rt: &rt,
+                alloc: rt.alloc(),
+            };
+            perform(&rt, &crew, job)
+        }
         Err(WordsFault::Memory) => machine_fault(&rt, "Memory"),
         Err(WordsFault::Usage(error)) => match error.print(&rt) {
             Err(_) if !error.use_stderr() => machine_fault(&rt, "Write"),

@@ -16,6 +16,7 @@ Writes Gives old new (Err faults.Write) =
     (output : List ℕ) × (done : Bool) × Gives output done × PrintsPrefix old new output
 Writes Gives old new (Err faults.Read) = Keeps old new
 Writes Gives old new (Err faults.Memory) = Keeps old new
+Writes Gives old new (Err faults.Workers) = ⊥
 Writes Gives old new (Err faults.TooManyLines) = ⊥
 Writes Gives old new (Err (faults.LineTooLong n)) = ⊥
 Writes Gives old new (Err (faults.Syntax n)) = ⊥
@@ -25,6 +26,7 @@ abbrev pub IsMachineFault : ConsoleFault → Type 0
 IsMachineFault faults.Read = Unit {0}
 IsMachineFault faults.Write = Unit {0}
 IsMachineFault faults.Memory = Unit {0}
+IsMachineFault faults.Workers = ⊥
 IsMachineFault faults.TooManyLines = ⊥
 IsMachineFault (faults.LineTooLong n) = ⊥
 IsMachineFault (faults.Syntax n) = ⊥

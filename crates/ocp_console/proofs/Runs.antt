@@ -1,105 +1,171 @@
--- Runs of lines.
+-- What the runs of lines write.
 use Rattle.std.proofs.Common.{◌≡◌, ◌++◌, ◌<◌, ◌≤◌, ◌+◌, List, [], ◌∷◌, ℕ, suc, Bool, true, false, eqb, ltb, leb, cond, length, Option, Some, None, Result, Ok, Err, refl, sym, ap, subst, ◌∙◌, arith, append_assoc, append-nil, inl, inr, drop, get_or, add-one}
 use Rattle.std.proofs.Math.Seq.{drop-cons}
 use Rattle.std.proofs.Math.ListN.{drop_of_length-le}
-use Rattle.std.specs.Prelude.{codes, MatchResult}
+use Rattle.std.specs.Prelude.{codes, ◌⊎◌}
 use Rattle.std.specs.Option.{option_map_or}
 use Rattle.std.specs.Io.KnownBytes.{Appends}
 use Rattle.std.proofs.KnownBytes.{Appends-trans, Appends-nil}
 use Rattle.std.proofs.lemmas.Bool.{lt-leb, lt-ltb, le-ltb}
+use Rattle.std.proofs.lemmas.Bool.Decides.{eqb_tells}
+use Rattle.text_lines.specs.Lines.{Line, Ended, Open, octets_of, text_of, lines_of}
 use Rattle.ocp_ports.specs.declared.fault.ConsoleFault.{ConsoleFault}
 use Rattle.ocp_ports.specs.declared.fault.ConsoleFault.TheVariants as faults
-use Rattle.text_lines.specs.Lines.{Line, Ended, Open, octets_of, text_of, lines_of}
-use Rattle.ocp_console.specs.Mirror.Session.{Answers}
+use Rattle.ocp_ports.specs.Printing.{PrintsPrefix}
+use Rattle.ocp_console.specs.declared.refusal.CrewFault.{CrewFault}
+use Rattle.ocp_console.specs.declared.console.Reply.{Reply}
+use Rattle.ocp_console.specs.declared.console.Reply.TheVariants.{Printed, Work}
+use Rattle.ocp_console.specs.Answering.{State, Effect, Works, respond}
+use Rattle.ocp_console.specs.Crew.{CrewAnswers, HasDone, HasRefused, crew_fault}
+use Rattle.ocp_console.specs.Script.{Step, Ends, Goes, step_of, Writing, IsFailure, Follows, FaultLine, AtStep, Writes, PrintsBy}
+use Rattle.ocp_console.specs.Mirror.Replies.{effect_by, IsKept}
 use Rattle.ocp_console.specs.Mirror.Lines.{is_one_line}
-use Rattle.ocp_console.specs.Answering.{State, respond}
-use Rattle.ocp_ports.specs.Printing.{error_line, PrintsPrefix}
-use Rattle.ocp_console.specs.Script.{run_of, Run, with_prefix, Prints}
-use Rattle.std.proofs.lemmas.Bool.Decides.{eqb_tells}
 use Rattle.ocp_console.proofs.Cutting.{Begins, ended_line, open_line, longer_line, one_line-snoc}
 
--- all of a fault's text went out
-pub all_printed : (old new : Option (List ℕ)) (text : List ℕ) (e : ConsoleFault) → Appends old new text → Prints old new (text, Err e) (Err e)
-all_printed old new text faults.Read h = (text, [], sym (append-nil text), h)
-all_printed old new text faults.Write h = (text, [], sym (append-nil text), h)
-all_printed old new text faults.Memory h = (text, [], sym (append-nil text), h)
-all_printed old new text faults.TooManyLines h = (h, refl)
-all_printed old new text (faults.LineTooLong n) h = (h, refl)
-all_printed old new text (faults.Syntax n) h = (h, refl)
+-- ---- a text that was to be written
 
-then_front : (old mid new : Option (List ℕ)) (sent text : List ℕ) → Appends old mid sent → PrintsPrefix mid new text → PrintsPrefix old new (sent ++ text)
-then_front old mid new sent text p q = (sent ++ q.0, q.1, ap (λ (t : List ℕ). sent ++ t) q.2 ∙ sym (append_assoc sent q.0 q.1), Appends-trans old mid new sent q.0 p q.3)
+pub all_written : (old new : Option (List ℕ)) (text : List ℕ) (More : Writing) (result : Result Unit ConsoleFault) → Appends old new text → More [] result → PrintsBy old new (Follows text More) result
+all_written old new text More result a m = (text, a, inl ([], sym (append-nil text), m))
 
--- a run whose first part went out
-pub then_prints : (old mid new : Option (List ℕ)) (sent : List ℕ) (run : Run) (e : ConsoleFault) → Appends old mid sent → Prints mid new run (Err e) → Prints old new (with_prefix sent run) (Err e)
-then_prints old mid new sent run faults.Read p q = then_front old mid new sent run.0 p q
-then_prints old mid new sent run faults.Write p q = then_front old mid new sent run.0 p q
-then_prints old mid new sent run faults.Memory p q = then_front old mid new sent run.0 p q
-then_prints old mid new sent run faults.TooManyLines p q = (Appends-trans old mid new sent run.0 p q.0, q.1)
-then_prints old mid new sent run (faults.LineTooLong n) p q = (Appends-trans old mid new sent run.0 p q.0, q.1)
-then_prints old mid new sent run (faults.Syntax n) p q = (Appends-trans old mid new sent run.0 p q.0, q.1)
+pub part_written : (old new : Option (List ℕ)) (text : List ℕ) (More : Writing) (e : ConsoleFault) → IsFailure (Err e) → PrintsPrefix old new text → PrintsBy old new (Follows text More) (Err e)
+part_written old new text More e f p = (p.0, p.3, inr (f, p.1, p.2))
+
+pub none_written : (a : Option (List ℕ)) (text : List ℕ) (More : Writing) (e : ConsoleFault) → IsFailure (Err e) → PrintsBy a a (Follows text More) (Err e)
+none_written a text More e f = ([], Appends-nil a, inr (f, text, refl))
 
 -- ---- the first line of a run
 
-pub too_many : (state : State) (before : ℕ) (lines : List Line) → before ≡ 100000 → Begins lines 0 → run_of state before lines ≡ (error_line 100001 (codes "TooManyLines"), Err faults.TooManyLines)
-unfolding run_of
-too_many state before [] e h = absurd h
-too_many state before (line ∷ lines) e h = rw e refl
+-- a run can break off before any line
+pub cut : (crew : CrewAnswers) (state : State) (before : ℕ) (lines : List Line) (e : ConsoleFault) → IsFailure (Err e) → Writes crew state before lines [] (Err e)
+unfolding Writes
+cut crew state before [] e f = inl (f, [], refl)
+cut crew state before (line ∷ lines) e f = inl (f, [], refl)
 
-pub too_long : (state : State) (before : ℕ) (lines : List Line) → before < 100000 → Begins lines 40001 → run_of state before lines ≡ (error_line (before + 1) (codes "LineTooLong"), Err (faults.LineTooLong (before + 1)))
-unfolding run_of
-too_long state before [] lt h = absurd h
-too_long state before (line ∷ lines) lt h =
+at_step : (crew : CrewAnswers) (state : State) (before : ℕ) (line : Line) (lines : List Line) (step : Step) (written : List ℕ) (result : Result Unit ConsoleFault) → step_of state before line ≡ step
+    → AtStep crew (λ (next : State). Writes crew next (before + 1) lines) state (before + 1) step written result → Writes crew state before (line ∷ lines) written result
+unfolding Writes
+at_step crew state before line lines step written result same h =
+    inr (subst (λ (s : Step). AtStep crew (λ (next : State). Writes crew next (before + 1) lines) state (before + 1) s written result) (sym same) h)
+
+late_step : (state : State) (before : ℕ) (line : Line) → before ≡ 100000 → step_of state before line ≡ Ends (codes "TooManyLines") faults.TooManyLines
+late_step state before line e = rw e refl
+
+long_step : (state : State) (before : ℕ) (line : Line) → before < 100000 → 40001 ≤ length (octets_of line) → step_of state before line ≡ Ends (codes "LineTooLong") (faults.LineTooLong (before + 1))
+long_step state before line lt h =
     let t : leb 100000 before ≡ false = lt-leb _ _ lt in
     let u : ltb 40000 (length (octets_of line)) ≡ true = lt-ltb _ _ h in
     rw (t, u) refl
 
--- what is done with a line in its limits
-pub line_run : (state : State) (before : ℕ) (line : Line) (lines : List Line) → before < 100000 → length (octets_of line) ≤ 40000
-    → run_of state before (line ∷ lines) ≡ option_map_or (λ next. with_prefix next.1 (run_of next.0 (before + 1) lines)) (respond state (text_of line)) (error_line (before + 1) (codes "Syntax"), Err (faults.Syntax (before + 1)))
-unfolding run_of
-line_run state before line lines lt le =
+-- a line in its limits
+short_step : (state : State) (before : ℕ) (line : Line) → before < 100000 → length (octets_of line) ≤ 40000
+    → step_of state before line ≡ option_map_or Goes (respond state (text_of line)) (Ends (codes "Syntax") (faults.Syntax (before + 1)))
+short_step state before line lt le =
     let t : leb 100000 before ≡ false = lt-leb _ _ lt in
     let u : ltb 40000 (length (octets_of line)) ≡ false = le-ltb _ _ le in
     rw (t, u) refl
 
--- ---- an answer by equal runs
+pub too_many : (crew : CrewAnswers) (state : State) (before : ℕ) (lines : List Line) (written : List ℕ) (result : Result Unit ConsoleFault) → before ≡ 100000 → Begins lines 0
+    → FaultLine 100001 (codes "TooManyLines") faults.TooManyLines written result → Writes crew state before lines written result
+too_many crew state before [] written result e h x = absurd h
+too_many crew state before (line ∷ lines) written result e h x =
+    let number : 100001 ≡ before + 1 = omega (arith, e) in
+    at_step crew state before line lines (Ends (codes "TooManyLines") faults.TooManyLines) written result (late_step state before line e)
+    (subst (λ (n : ℕ). FaultLine n (codes "TooManyLines") faults.TooManyLines written result) number x)
 
-pub prints_of : (old new : Option (List ℕ)) (whole run : Run) (e : ConsoleFault) → whole ≡ run → Prints old new run (Err e) → Prints old new whole (Err e)
-prints_of old new whole run e same h = subst (λ (r : Run). Prints old new r (Err e)) (sym same) h
+pub too_long : (crew : CrewAnswers) (state : State) (before : ℕ) (lines : List Line) (written : List ℕ) (result : Result Unit ConsoleFault) → before < 100000 → Begins lines 40001
+    → FaultLine (before + 1) (codes "LineTooLong") (faults.LineTooLong (before + 1)) written result → Writes crew state before lines written result
+too_long crew state before [] written result lt h x = absurd h
+too_long crew state before (line ∷ lines) written result lt h x =
+    at_step crew state before line lines (Ends (codes "LineTooLong") (faults.LineTooLong (before + 1))) written result (long_step state before line lt h) x
 
 -- a line that is no command
-pub no_command : (old new : Option (List ℕ)) (state : State) (before : ℕ) (line : Line) (lines : List Line) (e : ConsoleFault) → before < 100000 → length (octets_of line) ≤ 40000 → respond state (text_of line) ≡ None
-    → Prints old new (error_line (before + 1) (codes "Syntax"), Err (faults.Syntax (before + 1))) (Err e) → Prints old new (run_of state before (line ∷ lines)) (Err e)
-no_command old new state before line lines e lt le none h = prints_of old new _ _ e (line_run state before line lines lt le ∙ ap (λ o. option_map_or (λ next. with_prefix next.1 (run_of next.0 (before + 1) lines)) o (error_line (before + 1) (codes "Syntax"), Err (faults.Syntax (before + 1)))) none) h
+pub no_command : (crew : CrewAnswers) (state : State) (before : ℕ) (line : Line) (lines : List Line) (written : List ℕ) (result : Result Unit ConsoleFault) → before < 100000 → length (octets_of line) ≤ 40000 → respond state (text_of line) ≡ None
+    → FaultLine (before + 1) (codes "Syntax") (faults.Syntax (before + 1)) written result → Writes crew state before (line ∷ lines) written result
+no_command crew state before line lines written result lt le none x =
+    at_step crew state before line lines (Ends (codes "Syntax") (faults.Syntax (before + 1))) written result
+    (short_step state before line lt le ∙ ap (λ (o : Option Effect). option_map_or Goes o (Ends (codes "Syntax") (faults.Syntax (before + 1)))) none) x
 
 -- a line that is a command
-pub command_run : (state next : State) (before : ℕ) (text : List ℕ) (line : Line) (lines : List Line) → before < 100000 → length (octets_of line) ≤ 40000 → respond state (text_of line) ≡ Some (next, text)
-    → run_of state before (line ∷ lines) ≡ with_prefix text (run_of next (before + 1) lines)
-command_run state next before text line lines lt le some = line_run state before line lines lt le ∙ ap (λ o. option_map_or (λ next. with_prefix next.1 (run_of next.0 (before + 1) lines)) o (error_line (before + 1) (codes "Syntax"), Err (faults.Syntax (before + 1)))) some
+command : (crew : CrewAnswers) (state : State) (before : ℕ) (line : Line) (lines : List Line) (effect : Effect) (written : List ℕ) (result : Result Unit ConsoleFault) → before < 100000 → length (octets_of line) ≤ 40000
+    → respond state (text_of line) ≡ Some effect → AtStep crew (λ (next : State). Writes crew next (before + 1) lines) state (before + 1) (Goes effect) written result → Writes crew state before (line ∷ lines) written result
+command crew state before line lines effect written result lt le some x =
+    at_step crew state before line lines (Goes effect) written result
+    (short_step state before line lt le ∙ ap (λ (o : Option Effect). option_map_or Goes o (Ends (codes "Syntax") (faults.Syntax (before + 1)))) some) x
 
--- the front of a run's front
-pub front_of : (old new : Option (List ℕ)) (text : List ℕ) (run : Run) → PrintsPrefix old new text → PrintsPrefix old new (with_prefix text run).0
-front_of old new text run h = (h.0, h.1 ++ run.0, ap (λ t. t ++ run.0) h.2 ∙ append_assoc h.0 h.1 run.0, h.3)
+-- a command that was done
+pub command_done : (crew : CrewAnswers) (state next : State) (before : ℕ) (line : Line) (lines : List Line) (effect : Effect) (text later : List ℕ) (ending : Result Unit ConsoleFault) → before < 100000 → length (octets_of line) ≤ 40000
+    → respond state (text_of line) ≡ Some effect → HasDone crew state effect (next, text) → Writes crew next (before + 1) lines later ending → Writes crew state before (line ∷ lines) (text ++ later) ending
+command_done crew state next before line lines effect text later ending lt le some done w =
+    command crew state before line lines effect (text ++ later) ending lt le some (inl ((next, text), done, inl (later, refl, w)))
 
--- a command's output was written, or a prefix of it
-pub answer_written : (old new : Option (List ℕ)) (text : List ℕ) (r : Result Unit ConsoleFault) (whole rest : List Line → Run) → ((more : List Line) → whole more ≡ with_prefix text (rest more))
-    → MatchResult r (λ _. Appends old new text) (λ e. (e ≡ faults.Write) × PrintsPrefix old new text) → Answers old new whole rest r
-answer_written old new text (Ok x) whole rest same h = (text, h, same)
-answer_written old new text (Err e) whole rest same h = λ more.
-    let printed = subst (λ (r : Run). PrintsPrefix old new r.0) (sym (same more)) (front_of old new text (rest more) h.1) in
-    subst (λ (f : ConsoleFault). Prints old new (whole more) (Err f)) (sym h.0) printed
+-- a command that was done, and a failure before all of its text went out
+pub command_broken : (crew : CrewAnswers) (state next : State) (before : ℕ) (line : Line) (lines : List Line) (effect : Effect) (text sent unwritten : List ℕ) (e : ConsoleFault) → before < 100000 → length (octets_of line) ≤ 40000
+    → respond state (text_of line) ≡ Some effect → HasDone crew state effect (next, text) → IsFailure (Err e) → text ≡ sent ++ unwritten → Writes crew state before (line ∷ lines) sent (Err e)
+command_broken crew state next before line lines effect text sent unwritten e lt le some done f parts =
+    command crew state before line lines effect sent (Err e) lt le some (inl ((next, text), done, inr (f, unwritten, parts)))
 
--- ---- the octets of a line
+-- a command's text that went out, or a prefix of it
+pub command_cut : (old new : Option (List ℕ)) (crew : CrewAnswers) (state next : State) (before : ℕ) (line : Line) (effect : Effect) (text : List ℕ) (e : ConsoleFault) → before < 100000 → length (octets_of line) ≤ 40000
+    → respond state (text_of line) ≡ Some effect → HasDone crew state effect (next, text) → (e ≡ faults.Write) × PrintsPrefix old new text → (sent : List ℕ) × Appends old new sent × ((more : List Line) → Writes crew state before (line ∷ more) sent (Err e))
+command_cut old new crew state next before line effect text e lt le some done h =
+    let p : PrintsPrefix old new text = h.1 in
+    (p.0, p.3, λ more. subst (λ (f : ConsoleFault). Writes crew state before (line ∷ more) p.0 (Err f)) (sym h.0) (command_broken crew state next before line more effect text p.0 p.1 faults.Write lt le some done tt p.2))
 
-pub newline_run : (state : State) (before : ℕ) (p : List ℕ) (octet : ℕ) (more : List ℕ) → is_one_line p ≡ true → octet ≡ 10 → run_of state before (lines_of (p ++ octet ∷ more)) ≡ run_of state before (Ended p ∷ lines_of more)
-newline_run state before p octet more one e = ap (λ (o : ℕ). run_of state before (lines_of (p ++ o ∷ more))) e ∙ ap (run_of state before) (ended_line p more one)
+-- a command that the crew refused
+command_refused : (crew : CrewAnswers) (state : State) (before : ℕ) (line : Line) (lines : List Line) (effect : Effect) (refused : CrewFault) → before < 100000 → length (octets_of line) ≤ 40000
+    → respond state (text_of line) ≡ Some effect → HasRefused crew state effect refused → Writes crew state before (line ∷ lines) [] (Err (crew_fault refused))
+command_refused crew state before line lines effect refused lt le some h =
+    command crew state before line lines effect [] (Err (crew_fault refused)) lt le some (inr (refused, h, (refl, refl)))
 
-pub newline_done : (state next : State) (before : ℕ) (p : List ℕ) (octet : ℕ) (sent after : List ℕ) (more : List ℕ) → is_one_line p ≡ true → octet ≡ 10 → after ≡ []
-    → run_of state before (Ended p ∷ lines_of more) ≡ with_prefix sent (run_of next (before + 1) (lines_of more))
-    → run_of state before (lines_of (p ++ octet ∷ more)) ≡ with_prefix sent (run_of next (before + 1) (lines_of (after ++ more)))
-newline_done state next before p octet sent after more one e none h =
-    newline_run state before p octet more one e ∙ h ∙ ap (λ (t : List ℕ). with_prefix sent (run_of next (before + 1) (lines_of (t ++ more)))) (sym none)
+-- a command that was not done
+pub not_carried_out : (a : Option (List ℕ)) (crew : CrewAnswers) (state : State) (before : ℕ) (line : Line) (effect : Effect) (e : ConsoleFault) → before < 100000 → length (octets_of line) ≤ 40000
+    → respond state (text_of line) ≡ Some effect → (e ≡ faults.Memory) ⊎ ((refused : CrewFault) × HasRefused crew state effect refused × (e ≡ crew_fault refused))
+    → (sent : List ℕ) × Appends a a sent × ((more : List Line) → Writes crew state before (line ∷ more) sent (Err e))
+not_carried_out a crew state before line effect e lt le some (inl h) =
+    ([], Appends-nil a, λ more. subst (λ (f : ConsoleFault). Writes crew state before (line ∷ more) [] (Err f)) (sym h) (cut crew state before (line ∷ more) faults.Memory tt))
+not_carried_out a crew state before line effect e lt le some (inr h) =
+    ([], Appends-nil a, λ more. subst (λ (f : ConsoleFault). Writes crew state before (line ∷ more) [] (Err f)) (sym h.2) (command_refused crew state before line more effect h.0 lt le some h.1))
+
+-- ---- what a line led to
+
+pub kept_done : {A : Type 0} (crew : CrewAnswers) (before after : State) (reply : Reply A) (done : State × List ℕ) → IsKept before after reply → HasDone crew after (effect_by after reply) done → HasDone crew before (effect_by after reply) done
+kept_done {A} crew before after (Printed output) done kept h = h
+kept_done {A} crew before after (Work shift) done kept h = subst (λ (s : State). HasDone crew s (Works shift.workers shift.budget shift.turns) done) kept h
+
+pub kept_refused : {A : Type 0} (crew : CrewAnswers) (before after : State) (reply : Reply A) (e : ConsoleFault) → IsKept before after reply
+    → (e ≡ faults.Memory) ⊎ ((refused : CrewFault) × HasRefused crew after (effect_by after reply) refused × (e ≡ crew_fault refused)) → (e ≡ faults.Memory) ⊎ ((refused : CrewFault) × HasRefused crew before (effect_by after reply) refused × (e ≡ crew_fault refused))
+kept_refused {A} crew before after reply e kept (inl h) = inl h
+kept_refused {A} crew before after (Printed output) e kept (inr h) = inr h
+kept_refused {A} crew before after (Work shift) e kept (inr h) = inr (h.0, subst (λ (s : State). HasRefused crew s (Works shift.workers shift.budget shift.turns) h.0) kept h.1, h.2)
+
+-- ---- the end of a line
+
+pub newline_lines : (p : List ℕ) (octet : ℕ) (more : List ℕ) → is_one_line p ≡ true → octet ≡ 10 → lines_of (p ++ octet ∷ more) ≡ Ended p ∷ lines_of more
+newline_lines p octet more one e = ap (λ (o : ℕ). lines_of (p ++ o ∷ more)) e ∙ ended_line p more one
+
+pub newline_failed : (old new : Option (List ℕ)) (crew : CrewAnswers) (state : State) (before : ℕ) (p : List ℕ) (octet : ℕ) (e : ConsoleFault) → is_one_line p ≡ true → octet ≡ 10
+    → (sent : List ℕ) × Appends old new sent × ((more : List Line) → Writes crew state before (Ended p ∷ more) sent (Err e)) → (sent : List ℕ) × Appends old new sent × ((more : List ℕ) → Writes crew state before (lines_of (p ++ octet ∷ more)) sent (Err e))
+newline_failed old new crew state before p octet e one is h = (h.0, h.1, λ more. subst (λ (ls : List Line). Writes crew state before ls h.0 (Err e)) (sym (newline_lines p octet more one is)) (h.2 (lines_of more)))
+
+pub newline_done : (old new : Option (List ℕ)) (crew : CrewAnswers) (state next : State) (before : ℕ) (p after : List ℕ) (octet : ℕ) → is_one_line p ≡ true → octet ≡ 10 → after ≡ []
+    → (sent : List ℕ) × Appends old new sent × ((more : List Line) (later : List ℕ) (ending : Result Unit ConsoleFault) → Writes crew next (before + 1) more later ending → Writes crew state before (Ended p ∷ more) (sent ++ later) ending)
+    → (sent : List ℕ) × Appends old new sent × ((more later : List ℕ) (ending : Result Unit ConsoleFault) → Writes crew next (before + 1) (lines_of (after ++ more)) later ending → Writes crew state before (lines_of (p ++ octet ∷ more)) (sent ++ later) ending)
+newline_done old new crew state next before p after octet one is none h = (
+  h.0,
+  h.1,
+  λ more later ending w.
+      subst (λ (ls : List Line). Writes crew state before ls (h.0 ++ later) ending) (sym (newline_lines p octet more one is))
+      (h.2 (lines_of more) later ending (subst (λ (t : List ℕ). Writes crew next (before + 1) (lines_of (t ++ more)) later ending) none w)),
+)
+
+pub pushed_on : (a : Option (List ℕ)) (crew : CrewAnswers) (state : State) (before : ℕ) (p after : List ℕ) (octet : ℕ) → after ≡ p ++ octet ∷ []
+    → (sent : List ℕ) × Appends a a sent × ((more later : List ℕ) (ending : Result Unit ConsoleFault) → Writes crew state before (lines_of (after ++ more)) later ending → Writes crew state before (lines_of (p ++ octet ∷ more)) (sent ++ later) ending)
+pushed_on a crew state before p after octet is = (
+  [],
+  Appends-nil a,
+  λ more later ending w.
+      subst (λ (t : List ℕ). Writes crew state before (lines_of t) later ending) (append_assoc p (octet ∷ []) more) (subst (λ (t : List ℕ). Writes crew state before (lines_of (t ++ more)) later ending) is w),
+)
 
 pub not_newline : (c : ℕ) → (c ≡ 10 → ⊥) → eqb c 10 ≡ false
 not_newline c ne = elim (eqb_tells c 10) [ inl h ↦ absurd (ne h.1) | inr h ↦ h.0 ]
@@ -116,54 +182,66 @@ full_line p c more n one ne e =
 
 -- ---- octet after octet
 
-abbrev pub SoFar : Option (List ℕ) → Option (List ℕ) → (List ℕ → Run) → (List ℕ → Run) → List ℕ → List ℕ → Type 0
-SoFar old new whole rest octets left = (sent : List ℕ) × Appends old new sent × ((more : List ℕ) → whole (octets ++ more) ≡ with_prefix sent (rest (left ++ more)))
+abbrev pub SoFar : Option (List ℕ) → Option (List ℕ) → (List ℕ → Writing) → (List ℕ → Writing) → List ℕ → List ℕ → Type 0
+SoFar old new whole rest octets left =
+    (sent : List ℕ) × Appends old new sent × ((more later : List ℕ) (ending : Result Unit ConsoleFault) → rest (left ++ more) later ending → whole (octets ++ more) (sent ++ later) ending)
 
-pub with_prefix-append : (a b : List ℕ) (run : Run) → with_prefix a (with_prefix b run) ≡ with_prefix (a ++ b) run
-with_prefix-append a b run = ap (λ (t : List ℕ). (t, run.1)) (sym (append_assoc a b run.0))
+pub none_so_far : (a : Option (List ℕ)) (whole : List ℕ → Writing) (octets : List ℕ) → SoFar a a whole whole octets (drop 0 octets)
+none_so_far a whole octets = ([], Appends-nil a, λ more later ending w. w)
 
-pub more_answered : (old mid new : Option (List ℕ)) (whole rest after : List ℕ → Run) (octets : List ℕ) (i : ℕ) → i < length octets → SoFar old mid whole rest octets (drop i octets)
-    → (sent : List ℕ) × Appends mid new sent × ((more : List ℕ) → rest (get_or octets i 0 ∷ more) ≡ with_prefix sent (after more)) → SoFar old new whole after octets (drop (i + 1) octets)
+pub more_answered : (old mid new : Option (List ℕ)) (whole rest after : List ℕ → Writing) (octets : List ℕ) (i : ℕ) → i < length octets → SoFar old mid whole rest octets (drop i octets)
+    → (sent : List ℕ) × Appends mid new sent × ((more later : List ℕ) (ending : Result Unit ConsoleFault) → after more later ending → rest (get_or octets i 0 ∷ more) (sent ++ later) ending) → SoFar old new whole after octets (drop (i + 1) octets)
 more_answered old mid new whole rest after octets i lt so_far h = (
   so_far.0 ++ h.0,
   Appends-trans old mid new so_far.0 h.0 so_far.1 h.1,
-  λ more.
-      so_far.2 more ∙ ap (λ (t : List ℕ). with_prefix so_far.0 (rest (t ++ more))) (drop-cons octets i 0 lt) ∙ ap (with_prefix so_far.0) (h.2 (drop (suc i) octets ++ more))
-      ∙ with_prefix-append so_far.0 h.0 (after (drop (suc i) octets ++ more)) ∙ ap (λ (k : ℕ). with_prefix (so_far.0 ++ h.0) (after (drop k octets ++ more))) (sym (add-one i)),
+  λ more later ending w.
+      subst (λ (t : List ℕ). whole (octets ++ more) t ending) (sym (append_assoc so_far.0 h.0 later))
+      (so_far.2 more (h.0 ++ later) ending (subst (λ (t : List ℕ). rest (t ++ more) (h.0 ++ later) ending) (sym (drop-cons octets i 0 lt))
+      (h.2 (drop (suc i) octets ++ more) later ending (subst (λ (k : ℕ). after (drop k octets ++ more) later ending) (add-one i) w)))),
 )
 
-pub ended_at : (old mid new : Option (List ℕ)) (whole rest : List ℕ → Run) (octets : List ℕ) (i : ℕ) (e : ConsoleFault) → i < length octets → SoFar old mid whole rest octets (drop i octets)
-    → ((more : List ℕ) → Prints mid new (rest (get_or octets i 0 ∷ more)) (Err e)) → (more : List ℕ) → Prints old new (whole (octets ++ more)) (Err e)
-ended_at old mid new whole rest octets i e lt so_far h more =
-    let same = so_far.2 more ∙ ap (λ (t : List ℕ). with_prefix so_far.0 (rest (t ++ more))) (drop-cons octets i 0 lt) in
-    prints_of old new _ _ e same (then_prints old mid new so_far.0 (rest (get_or octets i 0 ∷ (drop (suc i) octets ++ more))) e so_far.1 (h (drop (suc i) octets ++ more)))
+pub ended_at : (old mid new : Option (List ℕ)) (whole rest : List ℕ → Writing) (octets : List ℕ) (i : ℕ) (e : ConsoleFault) → i < length octets → SoFar old mid whole rest octets (drop i octets)
+    → (sent : List ℕ) × Appends mid new sent × ((more : List ℕ) → rest (get_or octets i 0 ∷ more) sent (Err e)) → (sent : List ℕ) × Appends old new sent × ((more : List ℕ) → whole (octets ++ more) sent (Err e))
+ended_at old mid new whole rest octets i e lt so_far h = (
+  so_far.0 ++ h.0,
+  Appends-trans old mid new so_far.0 h.0 so_far.1 h.1,
+  λ more.
+      so_far.2 more h.0 (Err e) (subst (λ (t : List ℕ). rest (t ++ more) h.0 (Err e)) (sym (drop-cons octets i 0 lt)) (h.2 (drop (suc i) octets ++ more))),
+)
 
-pub all_answered : (old new : Option (List ℕ)) (whole rest : List ℕ → Run) (octets : List ℕ) (i : ℕ) → length octets ≤ i → SoFar old new whole rest octets (drop i octets)
-    → (sent : List ℕ) × Appends old new sent × ((more : List ℕ) → whole (octets ++ more) ≡ with_prefix sent (rest more))
-all_answered old new whole rest octets i le so_far = (so_far.0, so_far.1, λ more. so_far.2 more ∙ ap (λ (t : List ℕ). with_prefix so_far.0 (rest (t ++ more))) (drop_of_length-le octets le))
+pub all_answered : (old new : Option (List ℕ)) (whole rest : List ℕ → Writing) (octets : List ℕ) (i : ℕ) → length octets ≤ i → SoFar old new whole rest octets (drop i octets)
+    → (sent : List ℕ) × Appends old new sent × ((more later : List ℕ) (ending : Result Unit ConsoleFault) → rest more later ending → whole (octets ++ more) (sent ++ later) ending)
+all_answered old new whole rest octets i le so_far =
+    (so_far.0, so_far.1, λ more later ending w. so_far.2 more later ending (subst (λ (t : List ℕ). rest (t ++ more) later ending) (sym (drop_of_length-le octets le)) w))
 
 -- ---- the end of a script
 
-pub nothing_left : (a : Option (List ℕ)) (state : State) (before : ℕ) (p : List ℕ) → p ≡ [] → Prints a a (run_of state before (lines_of (p ++ []))) (Ok tt)
-unfolding run_of
-nothing_left a state before p e = subst (λ (t : List ℕ). Prints a a (run_of state before (lines_of (t ++ []))) (Ok tt)) (sym e) (Appends-nil a, refl)
+pub no_lines : (crew : CrewAnswers) (state : State) (before : ℕ) → Writes crew state before [] [] (Ok tt)
+unfolding Writes
+no_lines crew state before = inr (refl, refl)
 
--- an answer to the last line
-pub last_line : (old new : Option (List ℕ)) (whole : Run) (run : List Line → Run) (rest : List Line → Run) (r : Result Unit ConsoleFault) → whole ≡ run [] → rest [] ≡ ([], Ok tt)
-    → Answers old new run rest r → Prints old new whole r
-last_line old new whole run rest (Ok x) e none h =
-    let all : whole ≡ (h.0, Ok tt) = e ∙ h.2 [] ∙ ap (with_prefix h.0) none ∙ ap (λ (t : List ℕ). (t, Ok tt)) (append-nil h.0) in
-    subst (λ (r : Run). Prints old new r (Ok x)) (sym all) (h.1, refl)
-last_line old new whole run rest (Err f) e none h = prints_of old new whole (run []) f e (h [])
+pub nothing_left : (a : Option (List ℕ)) (crew : CrewAnswers) (state : State) (before : ℕ) (p : List ℕ) → p ≡ [] → PrintsBy a a (Writes crew state before (lines_of (p ++ []))) (Ok tt)
+nothing_left a crew state before p e = ([], Appends-nil a, subst (λ (t : List ℕ). Writes crew state before (lines_of (t ++ [])) [] (Ok tt)) (sym e) (no_lines crew state before))
 
-pub run_of_none : (state : State) (before : ℕ) → run_of state before [] ≡ ([], Ok tt)
-unfolding run_of
-run_of_none state before = refl
-
-pub open_run : (state : State) (before : ℕ) (p : List ℕ) → is_one_line p ≡ true → (p ≡ [] → ⊥) → run_of state before (lines_of (p ++ [])) ≡ run_of state before (Open p ∷ [])
-open_run state before [] one ne = absurd (ne refl)
-open_run state before (c ∷ p) one ne = ap (λ (t : List ℕ). run_of state before (lines_of t)) (append-nil (c ∷ p)) ∙ ap (run_of state before) (open_line c p one)
+pub open_lines : (p : List ℕ) → is_one_line p ≡ true → (p ≡ [] → ⊥) → lines_of (p ++ []) ≡ Open p ∷ []
+open_lines [] one ne = absurd (ne refl)
+open_lines (c ∷ p) one ne = ap lines_of (append-nil (c ∷ p)) ∙ open_line c p one
 
 pub some_left : (p : List ℕ) → is_one_line p ≡ true → (p ≡ [] → ⊥) → Begins (lines_of (p ++ [])) 0
 some_left [] one ne = absurd (ne refl)
 some_left (c ∷ p) one ne = subst (λ (t : List ℕ). Begins (lines_of t) 0) (sym (append-nil (c ∷ p))) (subst (λ (ls : List Line). Begins ls 0) (sym (open_line c p one)) (omega arith))
+
+-- an answer to the last line
+pub last_failed : (old new : Option (List ℕ)) (crew : CrewAnswers) (state : State) (before : ℕ) (p : List ℕ) (e : ConsoleFault) → is_one_line p ≡ true → (p ≡ [] → ⊥)
+    → (sent : List ℕ) × Appends old new sent × ((more : List Line) → Writes crew state before (Open p ∷ more) sent (Err e)) → PrintsBy old new (Writes crew state before (lines_of (p ++ []))) (Err e)
+last_failed old new crew state before p e one ne h = (h.0, h.1, subst (λ (ls : List Line). Writes crew state before ls h.0 (Err e)) (sym (open_lines p one ne)) (h.2 []))
+
+pub last_done : (old new : Option (List ℕ)) (crew : CrewAnswers) (state next : State) (before : ℕ) (p : List ℕ) → is_one_line p ≡ true → (p ≡ [] → ⊥)
+    → (sent : List ℕ) × Appends old new sent × ((more : List Line) (later : List ℕ) (ending : Result Unit ConsoleFault) → Writes crew next (before + 1) more later ending → Writes crew state before (Open p ∷ more) (sent ++ later) ending)
+    → PrintsBy old new (Writes crew state before (lines_of (p ++ []))) (Ok tt)
+last_done old new crew state next before p one ne h = (
+  h.0,
+  h.1,
+  subst (λ (ls : List Line). Writes crew state before ls h.0 (Ok tt)) (sym (open_lines p one ne))
+      (subst (λ (t : List ℕ). Writes crew state before (Open p ∷ []) t (Ok tt)) (append-nil h.0) (h.2 [] [] (Ok tt) (no_lines crew next (before + 1)))),
+)

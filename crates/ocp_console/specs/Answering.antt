@@ -19,7 +19,7 @@ use Rattle.ocp_world.specs.After.{Answer, Requested, Stepped, Commanded}
 use Rattle.ocp_world.specs.World as event
 use Rattle.ocp_core.specs.Log.{Log, empty_log, expand, world_of, answer_in, log_after}
 use Rattle.ocp_core.specs.Slice.{slice_in, slice_log}
-use Rattle.ocp_lines.specs.Grammar.{Said, Nothing, Up, Send, Time, Step, Break, Unbreak, Trace, Traces, View, Memory, Pool, Journal, command_of}
+use Rattle.ocp_lines.specs.Grammar.{Said, Nothing, Up, Send, Time, Step, Break, Unbreak, Trace, Traces, View, Memory, Pool, Journal, Work, command_of}
 use Rattle.ocp_words.specs.declared.job.Settings.{Settings}
 use Rattle.ocp_console.specs.declared.console.Console.{Console}
 use Rattle.ocp_console.specs.Texts.{report_line, discard_line, step_line, break_line, unbreak_line, switch_line, memory_line, pool_line, journal_line}
@@ -136,27 +136,34 @@ on_steps state id budget =
 
 -- ---- each line
 
--- the next state, and what is printed
-abbrev pub on_command : State → Said → State × List ℕ
-on_command state Nothing = (state, [])
-on_command state (Up octets) = on_octets state octets
-on_command state (Send ack request) = on_request state ack request
-on_command state (Time time) = (record state { time = time }, [])
-on_command state (Step id budget) = on_steps state id budget
-on_command state (Break id place) = on_debug state id (SetBreak place) (break_line id place)
-on_command state (Unbreak id place) = on_debug state id (ClearBreak place) (unbreak_line id place)
-on_command state (Trace id on) = on_debug state id (SetTrace on) (switch_line id on)
-on_command state Traces = (state, trace_lines state)
-on_command state (View id) = (state, view_text state id)
-on_command state (Memory id address count) = (state, memory_text state id address count)
-on_command state (Pool index) =
-    (state, pool_line index (slice_get (world_of state.engine).pool index))
-on_command state Journal = (state, journal_line (length (expand state.engine.entries)))
+-- what a line asks for: that this is the next state, and this is printed; or that so many workers
+-- take turns, with their budget and how many turns each takes
+pub data Effect : Type 0 where
+  Does : State × List ℕ → Effect
+  Works : ℕ → ℕ → ℕ → Effect
 
-abbrev pub response : State → Option Said → Option (State × List ℕ)
+abbrev pub effect_of : State → Said → Effect
+effect_of state Nothing = Does (state, [])
+effect_of state (Up octets) = Does (on_octets state octets)
+effect_of state (Send ack request) = Does (on_request state ack request)
+effect_of state (Time time) = Does (record state { time = time }, [])
+effect_of state (Step id budget) = Does (on_steps state id budget)
+effect_of state (Break id place) = Does (on_debug state id (SetBreak place) (break_line id place))
+effect_of state (Unbreak id place) =
+    Does (on_debug state id (ClearBreak place) (unbreak_line id place))
+effect_of state (Trace id on) = Does (on_debug state id (SetTrace on) (switch_line id on))
+effect_of state Traces = Does (state, trace_lines state)
+effect_of state (View id) = Does (state, view_text state id)
+effect_of state (Memory id address count) = Does (state, memory_text state id address count)
+effect_of state (Pool index) =
+    Does (state, pool_line index (slice_get (world_of state.engine).pool index))
+effect_of state Journal = Does (state, journal_line (length (expand state.engine.entries)))
+effect_of state (Work workers budget turns) = Works workers budget turns
+
+abbrev pub response : State → Option Said → Option Effect
 response state None = None
-response state (Some said) = Some (on_command state said)
+response state (Some said) = Some (effect_of state said)
 
--- the next state, and what is printed; none where the line is no command
-unfoldable pub respond : State → List ℕ → Option (State × List ℕ)
+-- what a line asks for; none where it is no command
+unfoldable pub respond : State → List ℕ → Option Effect
 respond state line = response state (command_of line)

@@ -94,6 +94,12 @@ memory_line id address (Err fault) =
 abbrev pub journal_line : ℕ → List ℕ
 journal_line events = codes "journal " ++ decimal events ++ codes "\n"
 
+-- ---- the workers
+
+-- `work <workers> closed`
+abbrev pub work_line : ℕ → List ℕ
+work_line workers = codes "work " ++ decimal workers ++ codes " closed\n"
+
 -- ---- the pool
 
 -- `pool <index> <16 digits>`, or that there is no such word

@@ -1,23 +1,26 @@
 //! What a line does, and what it prints.
 
-ghost use Rattle.std.specs.Prelude.{◌≡◌, IfOk, MatchOption, Some, None};
+ghost use Rattle.std.specs.Prelude.{◌≡◌, IfOk, IfSome, MatchOption, Some, None};
 ghost use Rattle.ocp_console.specs.Answering.{state_of, respond};
+ghost use Rattle.ocp_console.specs.Mirror.Replies.{effect_by, IsKept};
 
-use crate::console::Console;
+use crate::console::{Console, Reply};
 use ocp_lines::read_command;
 use std::alloc::{AllocError, Allocator};
 
-/// What a line does, and what it prints, or nothing where it is no command.
+/// What a line leads to, or none where it is no command.
 #[tactic(auto, unfolding(crate::specs::Answering::respond))]
 pub(crate) fn answer<A: Allocator + Copy>(
     alloc: A,
     console: &mut Console<A>,
     line: &[u8],
-) -> Result<Option<Vec<u8, A>>, AllocError>
-    ensures { IfOk result
-        (λ printed. MatchOption printed (respond (state_of console.old) line.now ≡ None)
-        (λ output. respond (state_of console.old) line.now ≡
-        Some (state_of console.new, output.items))) }
+) -> Result<Option<Reply<A>>, AllocError>
+    ensures effect { IfOk result
+        (λ answered. MatchOption answered (respond (state_of console.old) line.now ≡ None)
+        (λ reply. respond (state_of console.old) line.now ≡
+        Some (effect_by (state_of console.new) reply))) }
+    ensures kept { IfOk result (λ answered. IfSome answered
+        (λ reply. IsKept (state_of console.old) (state_of console.new) reply)) }
 {
     match read_command(alloc, line)? {
         None => Ok(None),

@@ -1,20 +1,22 @@
 //! What a console keeps from line to line, and what each line does to it.
 
-ghost use Rattle.std.specs.Prelude.{◌≡◌, ◌<◌, ◌≤◌, length, IfOk};
+ghost use Rattle.std.specs.Prelude.{◌≡◌, ◌<◌, ◌≤◌, length, IfOk, IfErr};
 ghost use Rattle.space_packet.specs.declared.range.TheConstants.{IDLE_APID};
 ghost use Rattle.pus_fields.specs.declared.writing.TheConstants.{MAX_TELECOMMAND_DATA};
 ghost use Rattle.obcp_messages.specs.Request.{request_data};
 
+use crate::crew::Crew;
 use crate::debugging::{break_text, no_octets_text, octets_text, switch_text, unbreak_text};
+use crate::refusal::CrewFault;
 use crate::sending::telecommand;
 use crate::texts::{discard_text, journal_text, pool_text, refusal_text, reports_text, step_text};
 use obcp_messages::{Arguments, Code, Request, Words};
 use ocp_core::{Engine, EngineFault};
 use ocp_debug::view_text;
-use ocp_lines::{Command, Flags, MAX_MEMORY_LENGTH, MemoryLength, Verb};
+use ocp_lines::{Command, Flags, MAX_MEMORY_LENGTH, MemoryLength, Shift, Verb};
 use ocp_words::Settings;
 use space_packet::{Apid, SequenceCount};
-use std::alloc::{AllocError, Allocator};
+use std::alloc::{AllocError, Allocator, Global};
 
 /// What a console keeps from line to line.
 #[derive(Drop)]
@@ -29,9 +31,21 @@ pub(crate) struct Console<A: Allocator> {
     pub ghost apid_in_range: { apid < IDLE_APID },
 }
 
+/// What a line leads to.
+#[derive(Drop)]
+pub(crate) enum Reply<A: Allocator = Global> {
+    /// It was done, and this is printed.
+    Printed(Vec<u8, A>),
+    /// The crew is to work.
+    Work(Shift),
+}
+
 impl<A: Allocator + Copy> Console<A> {
     ghost use Rattle.ocp_lines.specs.Grammar.{said_by, request_of};
-    ghost use Rattle.ocp_console.specs.Answering.{state_of, opening, on_octets, on_request, trace_lines, view_text, memory_text, on_command};
+    ghost use Rattle.ocp_console.specs.Answering.{state_of, opening, on_octets, on_request, trace_lines, view_text, memory_text, effect_of, Works};
+    ghost use Rattle.ocp_console.specs.Crew.{HasDone, HasRefused};
+    ghost use Rattle.ocp_console.specs.Texts.{work_line};
+    ghost use Rattle.ocp_console.specs.Mirror.Replies.{effect_by, IsKept};
 
     /// A console on a new engine.
     pub fn new(alloc: A, settings: Settings) -> Result<Console<A>, AllocError>
@@ -137,13 +151,15 @@ impl<A: Allocator + Copy> Console<A> {
         }
     }
 
-    /// Does what a line says, and gives what it prints.
-    pub fn obey(&mut self, alloc: A, command: Command<A>) -> Result<Vec<u8, A>, AllocError>
-        ensures { IfOk result
-            (λ output. (state_of self.new, output.items) ≡
-            on_command (state_of self.old) (said_by command)) }
+    /// Does what a line says that needs no crew.
+    pub fn obey(&mut self, alloc: A, command: Command<A>) -> Result<Reply<A>, AllocError>
+        ensures effect { IfOk result (λ reply. effect_by (state_of self.new) reply ≡
+            effect_of (state_of self.old) (said_by command)) }
+        ensures kept { IfOk result
+            (λ reply. IsKept (state_of self.old) (state_of self.new) reply) }
     {
-        match command {
+        let printed = match command {
+            Command::Work(shift) => return Ok(Reply::Work(shift)),
             Command::Nothing => Ok(Vec::new(alloc)),
             Command::Up(octets) => self.receive(alloc, octets.as_slice()),
             Command::Send { flags, verb } => self.send(alloc, flags, verb),
@@ -176,7 +192,34 @@ impl<A: Allocator + Copy> Console<A> {
             } => self.memory(alloc, id, address, length),
             Command::Pool(index) => pool_text(alloc, index, self.engine.pool_word(index)),
             Command::Journal => journal_text(alloc, self.engine.events()),
-        }
+        };
+        Ok(Reply::Printed(printed?))
+    }
+
+    /// The console after the crew's work, or none where the crew refused: then the engine is gone.
+    pub fn work<C: Crew<Engine<A>>>(self, crew: &C, shift: Shift) -> Result<Console<A>, CrewFault>
+        requires { C.ready crew.now }
+        ensures done { IfOk result (λ console.
+            HasDone (C.answers crew.now) (state_of self)
+            (Works shift.workers shift.budget shift.turns)
+            (state_of console, work_line shift.workers)) }
+        ensures refused { IfErr result (λ refused.
+            HasRefused (C.answers crew.now) (state_of self)
+            (Works shift.workers shift.budget shift.turns) refused) }
+    {
+        let Console {
+            engine,
+            apid,
+            time,
+            count,
+        } = self;
+        let engine = crew.work(engine, shift.workers, shift.budget, shift.turns)?;
+        Ok(Console {
+            engine,
+            apid,
+            time,
+            count,
+        })
     }
 }
 

@@ -4,15 +4,19 @@
 
 mod answering;
 mod console;
+mod crew;
 mod debugging;
 pub mod laws;
+mod refusal;
 mod script;
 mod sending;
 mod session;
 mod steps;
 mod texts;
 
+pub use crew::Crew;
 pub use ocp_commands::{asm, list};
 pub use ocp_ports::{ConsoleFault, Device, Sink, Source};
 pub use ocp_words::{Job, Settings, WordsFault, not_utf8, read_words};
+pub use refusal::CrewFault;
 pub use script::run;

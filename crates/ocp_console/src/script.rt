@@ -3,11 +3,13 @@
 ghost use Rattle.std.specs.Prelude.{◌<◌, ◌^◌, ◌-◌, ◌↔◌, IfSome, IsErrOf};
 ghost use Rattle.ocp_ports.specs.Reading.{ReadsWhile};
 ghost use Rattle.ocp_console.specs.Reading.{IsWithin};
-ghost use Rattle.ocp_console.specs.Script.{Prints, transcript};
+ghost use Rattle.ocp_console.specs.Script.{IsWorkless, Prints, PrintsBy, WritesScript, transcript};
 
 use crate::console::Console;
+use crate::crew::Crew;
 use crate::session::Session;
 use crate::steps::{feed_all, finish};
+use ocp_core::Engine;
 use ocp_ports::{CHUNK, ConsoleFault, Sink, Source};
 use ocp_words::Settings;
 use std::alloc::Allocator;
@@ -18,17 +20,25 @@ use std::alloc::Allocator;
 /// For each line in turn and in this order it answers `TooManyLines` (over 100,000), `LineTooLong` (over 40,000 octets, a
 /// carriage return included and the newline not) and `Syntax`; `Read` just where a read failed, `Write` just where a write
 /// failed, and `Memory`. After these three a prefix of the transcript was written.
-pub fn run<R: Source, W: Sink, A: Allocator + Copy>(
+///
+/// A `work` line is one call of the crew, which is given the engine. The lines behind it go on with the engine that the crew
+/// gives back. Where the crew refuses, the run ends as it says, `Memory` or `Workers`, with the transcript so far.
+pub fn run<R: Source, W: Sink, C: Crew<Engine<A>>, A: Allocator + Copy>(
     alloc: A,
     settings: Settings,
+    crew: &C,
     reader: &mut R,
     writer: &mut W,
 ) -> Result<(), ConsoleFault>
+    requires ready { C.ready crew.now }
     requires reads { R.failed_reads reader.old < 2 ^ 64 - 1 }
     requires writes { W.failed_writes writer.old < 2 ^ 64 - 1 }
-    ensures transcript { IfSome (R.remaining reader.old) (λ script.
+    ensures transcript { IfSome (R.remaining reader.old) (λ script. IsWorkless script →
         Prints (W.contents writer.old) (W.contents writer.new)
         (transcript settings script) result) }
+    ensures work { IfSome (R.remaining reader.old) (λ script.
+        PrintsBy (W.contents writer.old) (W.contents writer.new)
+        (WritesScript (C.answers crew.now) settings script) result) }
     ensures reads { IfSome (R.remaining reader.old)
         (λ script. ReadsWhile IsWithin script (R.remaining reader.new)) }
     ensures read { IsErrOf result ConsoleFault.Read ↔
@@ -44,8 +54,8 @@ pub fn run<R: Source, W: Sink, A: Allocator + Copy>(
             return Err(ConsoleFault::Read);
         };
         if count == 0 {
-            return finish(&mut session, alloc, writer);
+            return finish(session, alloc, crew, writer);
         }
-        feed_all(&mut session, alloc, &chunk[..count], writer)?;
+        session = feed_all(session, alloc, crew, &chunk[..count], writer)?;
     }
 }

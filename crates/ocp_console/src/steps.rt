@@ -1,17 +1,23 @@
 //! The steps of a run.
 
-ghost use Rattle.std.specs.Prelude.{◌≡◌, ◌≢◌, ◌<◌, ◌≤◌, ◌+◌, ◌-◌, ◌^◌, ◌↔◌, ℕ, List, [], ◌∷◌, ◌++◌, length, Err, IsErrOf, OnOk};
+ghost use Rattle.std.specs.Prelude.{◌≡◌, ◌≢◌, ◌<◌, ◌≤◌, ◌+◌, ◌-◌, ◌^◌, ◌↔◌, ℕ, List, [], ◌∷◌, ◌++◌, ◌⊎◌, length, Ok, Err, IfOk, IfErr, IsErrOf};
 ghost use Rattle.ocp_console.specs.Answering.{state_of};
 ghost use Rattle.text_lines.specs.Lines.{Line, text_of, octets_of};
-ghost use Rattle.ocp_ports.specs.Printing.{error_line};
 ghost use Rattle.ocp_console.specs.Reading.{max_lines, max_line_octets};
-ghost use Rattle.ocp_console.specs.Script.{Prints, run_of};
+ghost use Rattle.ocp_console.specs.declared.refusal.CrewFault.{CrewFault};
+ghost use Rattle.ocp_console.specs.Crew.{HasDone, HasRefused, crew_fault};
+ghost use Rattle.ocp_console.specs.Script.{FaultLine, Writes, PrintsBy};
 ghost use Rattle.ocp_console.specs.Mirror.Session.{Answers, rest_of, octets_so_far};
+ghost use Rattle.ocp_console.specs.Mirror.Replies.{effect_by};
 ghost use Rattle.ocp_console.specs.Mirror.Lines.{HasTaken, CountsWrites};
 
 use crate::answering::answer;
-use crate::console::Console;
+use crate::console::{Console, Reply};
+use crate::crew::Crew;
+use crate::refusal::CrewFault;
 use crate::session::Session;
+use crate::texts::work_text;
+use ocp_core::Engine;
 use ocp_ports::{ConsoleFault, Sink, error_text, write_whole};
 use std::alloc::Allocator;
 use text_lines::without_carriage_return;
@@ -31,8 +37,8 @@ fn refuse<W: Sink, A: Allocator + Copy>(
     fault: ConsoleFault,
 ) -> ConsoleFault
     requires { W.failed_writes writer.old < 2 ^ 64 - 1 }
-    ensures prints { Prints (W.contents writer.old) (W.contents writer.new)
-        (error_line number name.now, Err fault) (Err result) }
+    ensures prints { PrintsBy (W.contents writer.old) (W.contents writer.new)
+        (FaultLine number name.now fault) (Err result) }
     ensures write { fault ≢ ConsoleFault.Write →
         (result ≡ ConsoleFault.Write) ↔ (W.failed_writes writer.old < W.failed_writes writer.new) }
     ensures no_read { result ≡ ConsoleFault.Read → fault ≡ ConsoleFault.Read }
@@ -46,26 +52,66 @@ fn refuse<W: Sink, A: Allocator + Copy>(
     }
 }
 
-/// What a line does, after some lines before it.
-#[tactic(auto, unfolding(crate::specs::Script::run_of))]
-fn line_answer<W: Sink, A: Allocator + Copy>(
+/// How a run ends where its crew refused.
+fn fault_of(refused: CrewFault) -> ConsoleFault
+    ensures { result ≡ crew_fault refused }
+{
+    match refused {
+        CrewFault::Memory => ConsoleFault::Memory,
+        CrewFault::Workers => ConsoleFault::Workers,
+    }
+}
+
+/// What is left to do of a line, and what it prints. Where the crew refuses, the engine is gone.
+fn carry_out<C: Crew<Engine<A>>, A: Allocator + Copy>(
     alloc: A,
-    console: &mut Console<A>,
+    console: Console<A>,
+    crew: &C,
+    reply: Reply<A>,
+) -> Result<(Console<A>, Vec<u8, A>), ConsoleFault>
+    requires { C.ready crew.now }
+    ensures done { IfOk result (λ done.
+        HasDone (C.answers crew.now) (state_of console) (effect_by (state_of console) reply)
+        (state_of done.0, done.1.items)) }
+    ensures refused { IfErr result (λ fault. (fault ≡ ConsoleFault.Memory) ⊎ ((refused : CrewFault)
+        × HasRefused (C.answers crew.now) (state_of console)
+        (effect_by (state_of console) reply) refused
+        × (fault ≡ crew_fault refused))) }
+{
+    match reply {
+        Reply::Printed(printed) => Ok((console, printed)),
+        Reply::Work(shift) => match console.work(crew, shift) {
+            Ok(console) => {
+                let closed = work_text(alloc, shift.workers)?;
+                Ok((console, closed))
+            }
+            Err(refused) => Err(fault_of(refused)),
+        },
+    }
+}
+
+/// What a line does, after some lines before it.
+fn line_answer<W: Sink, C: Crew<Engine<A>>, A: Allocator + Copy>(
+    alloc: A,
+    console: Console<A>,
+    crew: &C,
     writer: &mut W,
     before: u32,
     text: &[u8],
-) -> Result<(), ConsoleFault>
+) -> Result<Console<A>, ConsoleFault>
+    requires ready { C.ready crew.now }
     requires device { W.failed_writes writer.old < 2 ^ 64 - 1 }
     requires few { before < max_lines }
     ensures answers { (line : Line) → text_of line ≡ text.now →
         length (octets_of line) ≤ max_line_octets →
         Answers (W.contents writer.old) (W.contents writer.new)
-        (λ lines. run_of (state_of console.old) before (line ∷ lines))
-        (λ lines. run_of (state_of console.new) (before + 1) lines) result }
+        (λ lines. Writes (C.answers crew.now) (state_of console) before (line ∷ lines))
+        (λ after lines. Writes (C.answers crew.now) (state_of after) (before + 1) lines) result }
     ensures count { CountsWrites (W.failed_writes writer.old) (W.failed_writes writer.new) result }
     ensures no_read { IsErrOf result ConsoleFault.Read → ⊥ }
 {
-    match answer(alloc, console, text)? {
+    let mut console = console;
+    match answer(alloc, &mut console, text)? {
         None => Err(refuse(
             alloc,
             writer,
@@ -73,23 +119,31 @@ fn line_answer<W: Sink, A: Allocator + Copy>(
             "Syntax",
             ConsoleFault::Syntax(before + 1),
         )),
-        Some(printed) => write_whole(writer, printed.as_slice()),
+        Some(reply) => {
+            let done = carry_out(alloc, console, crew, reply)?;
+            let (console, printed) = done;
+            write_whole(writer, printed.as_slice())?;
+            Ok(console)
+        }
     }
 }
 
 /// Takes the next octet of a script.
-pub(crate) fn feed<W: Sink, A: Allocator + Copy>(
-    session: &mut Session<A>,
+fn feed<W: Sink, C: Crew<Engine<A>>, A: Allocator + Copy>(
+    session: Session<A>,
     alloc: A,
+    crew: &C,
     octet: u8,
     writer: &mut W,
-) -> Result<(), ConsoleFault>
-    requires { W.failed_writes writer.old < 2 ^ 64 - 1 }
+) -> Result<Session<A>, ConsoleFault>
+    requires ready { C.ready crew.now }
+    requires device { W.failed_writes writer.old < 2 ^ 64 - 1 }
     ensures run { Answers (W.contents writer.old) (W.contents writer.new)
-        (λ more. rest_of session.old (octet ∷ more)) (λ more. rest_of session.new more) result }
-    ensures taken { OnOk result (octets_so_far session.old < octets_so_far session.new) }
-    ensures took { (octets : List ℕ) → HasTaken session.old.before session.old.line.items octets →
-        OnOk result (HasTaken session.new.before session.new.line.items (octets ++ octet ∷ [])) }
+        (λ more. rest_of (C.answers crew.now) session (octet ∷ more))
+        (λ after more. rest_of (C.answers crew.now) after more) result }
+    ensures taken { IfOk result (λ after. octets_so_far session < octets_so_far after) }
+    ensures took { (octets : List ℕ) → HasTaken session.before session.line.items octets →
+        IfOk result (λ after. HasTaken after.before after.line.items (octets ++ octet ∷ [])) }
     ensures count { CountsWrites (W.failed_writes writer.old) (W.failed_writes writer.new) result }
     ensures no_read { IsErrOf result ConsoleFault.Read → ⊥ }
 {
@@ -102,59 +156,76 @@ pub(crate) fn feed<W: Sink, A: Allocator + Copy>(
             ConsoleFault::TooManyLines,
         ));
     }
+    let Session {
+        console,
+        mut line,
+        before,
+    } = session;
     if octet == b'\n' {
-        let text = without_carriage_return(&session.line);
-        line_answer(alloc, &mut session.console, writer, session.before, text)?;
-        session.line.clear();
-        session.before += 1;
-    } else if session.line.len() == MAX_LINE_OCTETS {
-        let number = session.before + 1;
+        let text = without_carriage_return(&line);
+        let console = line_answer(alloc, console, crew, writer, before, text)?;
+        line.clear();
+        return Ok(Session {
+            console,
+            line,
+            before: before + 1,
+        });
+    }
+    if line.len() == MAX_LINE_OCTETS {
         return Err(refuse(
             alloc,
             writer,
-            number,
+            before + 1,
             "LineTooLong",
-            ConsoleFault::LineTooLong(number),
+            ConsoleFault::LineTooLong(before + 1),
         ));
-    } else {
-        session.line.push(octet)?;
     }
-    Ok(())
+    line.push(octet)?;
+    Ok(Session {
+        console,
+        line,
+        before,
+    })
 }
 
 /// Takes octets of a script.
-pub(crate) fn feed_all<W: Sink, A: Allocator + Copy>(
-    session: &mut Session<A>,
+pub(crate) fn feed_all<W: Sink, C: Crew<Engine<A>>, A: Allocator + Copy>(
+    session: Session<A>,
     alloc: A,
+    crew: &C,
     octets: &[u8],
     writer: &mut W,
-) -> Result<(), ConsoleFault>
-    requires { W.failed_writes writer.old < 2 ^ 64 - 1 }
+) -> Result<Session<A>, ConsoleFault>
+    requires ready { C.ready crew.now }
+    requires device { W.failed_writes writer.old < 2 ^ 64 - 1 }
     ensures run { Answers (W.contents writer.old) (W.contents writer.new)
-        (λ more. rest_of session.old (octets.now ++ more))
-        (λ more. rest_of session.new more) result }
-    ensures taken { OnOk result
-        (octets_so_far session.old + length octets.now ≤ octets_so_far session.new) }
-    ensures took { (front : List ℕ) → HasTaken session.old.before session.old.line.items front →
-        OnOk result (HasTaken session.new.before session.new.line.items (front ++ octets.now)) }
+        (λ more. rest_of (C.answers crew.now) session (octets.now ++ more))
+        (λ after more. rest_of (C.answers crew.now) after more) result }
+    ensures taken { IfOk result
+        (λ after. octets_so_far session + length octets.now ≤ octets_so_far after) }
+    ensures took { (front : List ℕ) → HasTaken session.before session.line.items front →
+        IfOk result (λ after. HasTaken after.before after.line.items (front ++ octets.now)) }
     ensures count { CountsWrites (W.failed_writes writer.old) (W.failed_writes writer.new) result }
     ensures no_read { IsErrOf result ConsoleFault.Read → ⊥ }
 {
+    let mut session = session;
     for octet in octets {
-        feed(session, alloc, *octet, writer)?;
+        session = feed(session, alloc, crew, *octet, writer)?;
     }
-    Ok(())
+    Ok(session)
 }
 
 /// Ends a script.
-pub(crate) fn finish<W: Sink, A: Allocator + Copy>(
-    session: &mut Session<A>,
+pub(crate) fn finish<W: Sink, C: Crew<Engine<A>>, A: Allocator + Copy>(
+    session: Session<A>,
     alloc: A,
+    crew: &C,
     writer: &mut W,
 ) -> Result<(), ConsoleFault>
-    requires { W.failed_writes writer.old < 2 ^ 64 - 1 }
-    ensures run { Prints (W.contents writer.old) (W.contents writer.new)
-        (rest_of session.old []) result }
+    requires ready { C.ready crew.now }
+    requires device { W.failed_writes writer.old < 2 ^ 64 - 1 }
+    ensures run { PrintsBy (W.contents writer.old) (W.contents writer.new)
+        (rest_of (C.answers crew.now) session []) result }
     ensures write { IsErrOf result ConsoleFault.Write ↔
         (W.failed_writes writer.old < W.failed_writes writer.new) }
     ensures no_read { IsErrOf result ConsoleFault.Read → ⊥ }
@@ -171,11 +242,11 @@ pub(crate) fn finish<W: Sink, A: Allocator + Copy>(
             ConsoleFault::TooManyLines,
         ));
     }
-    line_answer(
-        alloc,
-        &mut session.console,
-        writer,
-        session.before,
-        &session.line,
-    )
+    let Session {
+        console,
+        line,
+        before,
+    } = session;
+    line_answer(alloc, console, crew, writer, before, &line)?;
+    Ok(())
 }

@@ -4,7 +4,7 @@ ghost use Rattle.std.specs.Prelude.{◌≡◌, ◌++◌, IfOk, codes, string_byt
 ghost use Rattle.std.specs.Fmt.{decimal};
 ghost use Rattle.std.specs.List.{flat_map};
 ghost use Rattle.ocp_debug.specs.Texts.{outcome_text};
-ghost use Rattle.ocp_console.specs.Texts.{report_line, discard_name, discard_line, step_line, pool_line, journal_line};
+ghost use Rattle.ocp_console.specs.Texts.{report_line, discard_name, discard_line, step_line, pool_line, journal_line, work_line};
 
 use ocp_core::{Reports, Slice, StepOutcome};
 use pus_fields::{Discard, read_tm};
@@ -124,5 +124,13 @@ pub(crate) fn journal_text<A: Allocator>(alloc: A, events: u64) -> Result<Vec<u8
     ensures { IfOk result (λ output. output.items ≡ journal_line events) }
 {
     let text = format!(in alloc; "journal {events}\n")?;
+    Ok(text.into_bytes())
+}
+
+/// The line of workers whose work was closed.
+pub(crate) fn work_text<A: Allocator>(alloc: A, workers: u16) -> Result<Vec<u8, A>, AllocError>
+    ensures { IfOk result (λ output. output.items ≡ work_line workers) }
+{
+    let text = format!(in alloc; "work {workers} closed\n")?;
     Ok(text.into_bytes())
 }

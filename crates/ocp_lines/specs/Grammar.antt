@@ -7,7 +7,7 @@ use Rattle.ocp_lines.specs.Words.{Word, words_of, number_up_to, octets_up_to, ad
 use Rattle.obcp_messages.specs.declared.request.Request.{Request}
 use Rattle.obcp_messages.specs.declared.request.Request.TheVariants.{Load, Unload, Activate, Stop, Suspend, Resume, Abort, Communicate, Status}
 use Rattle.obcp_messages.specs.declared.payload.TheConstants.{MAX_ARGUMENTS_LENGTH, MAX_WORDS}
-use Rattle.ocp_lines.specs.declared.command.TheConstants.{MAX_STEPS, MAX_MEMORY_LENGTH}
+use Rattle.ocp_lines.specs.declared.command.TheConstants.{MAX_STEPS, MAX_MEMORY_LENGTH, MAX_WORKERS, MAX_BUDGET, MAX_TURNS}
 use Rattle.ocp_lines.specs.declared.octets.TheConstants.{MAX_OCTETS_LENGTH}
 use Rattle.ocp_lines.specs.declared.command.Command.{Command}
 use Rattle.ocp_lines.specs.declared.command.Command.TheVariants as command
@@ -19,7 +19,7 @@ use Rattle.ocp_lines.specs.declared.command.Verb.TheVariants as verb
 -- nothing, a packet's octets, a request with its acknowledgement flags, a time, some steps of a
 -- procedure; a breakpoint that is set or cleared at a place of a procedure, whether a procedure is
 -- traced, the trace records that are kept, a view of a procedure, so many octets of its memory from
--- an address on; a word of the pool, the number of events
+-- an address on; a word of the pool, the number of events; so many workers with a budget and turns
 pub data Said : Type 0 where
   Nothing : Said
   Up : List ℕ → Said
@@ -34,6 +34,7 @@ pub data Said : Type 0 where
   Memory : ℕ → ℕ → ℕ → Said
   Pool : ℕ → Said
   Journal : Said
+  Work : ℕ → ℕ → ℕ → Said
 
 abbrev pub request_of : {A : Type 0} → Verb A → Request
 request_of (verb.Load id code) = Load id code
@@ -60,6 +61,7 @@ said_by (command.View id) = View id
 said_by (command.Memory id address count) = Memory id address count.number
 said_by (command.Pool index) = Pool index
 said_by command.Journal = Journal
+said_by (command.Work shift) = Work shift.workers shift.budget shift.turns
 
 -- ---- how many words there are
 
@@ -141,6 +143,18 @@ steps word = from_one (number_up_to MAX_STEPS word)
 -- a number of octets, 1 to 256
 abbrev pub octet_count : Word → Option ℕ
 octet_count word = from_one (number_up_to MAX_MEMORY_LENGTH word)
+
+-- a number of workers, 1 to 16
+abbrev pub worker_count : Word → Option ℕ
+worker_count word = from_one (number_up_to MAX_WORKERS word)
+
+-- a budget of instructions, 1 to 1,000,000
+abbrev pub budget : Word → Option ℕ
+budget word = from_one (number_up_to MAX_BUDGET word)
+
+-- a number of turns, 1 to 1,000,000
+abbrev pub turn_count : Word → Option ℕ
+turn_count word = from_one (number_up_to MAX_TURNS word)
 
 -- `on` or `off`
 abbrev pub switch : Word → Option Bool
@@ -232,6 +246,11 @@ memory_in words = three_words (λ id address count.
 abbrev pub pool_in : List Word → Option ℕ
 pool_in words = one_word (number_up_to (2 ^ 64 - 1)) words
 
+-- the numbers of `work <workers> <budget> <turns>`
+abbrev pub work_in : List Word → Option (ℕ × ℕ × ℕ)
+work_in words = three_words (λ workers most turns.
+    three (worker_count workers) (budget most) (turn_count turns) (λ w b t. (w, b, t))) words
+
 -- the debugger's lines
 abbrev pub debugger_command_in : Word → List Word → Option Said
 debugger_command_in name words =
@@ -251,6 +270,7 @@ plain_command_in name words =
     else if bytes_eq name (codes "step") then option_map (λ p. Step p.0 p.1) (count_in words)
     else if bytes_eq name (codes "pool") then option_map (λ index. Pool index) (pool_in words)
     else if bytes_eq name (codes "journal") then no_word Journal words
+    else if bytes_eq name (codes "work") then option_map (λ p. Work p.0 p.1 p.2) (work_in words)
     else debugger_command_in name words
 
 abbrev pub command_in : Word → List Word → Option Said

@@ -1,7 +1,7 @@
 //! What a line says.
 
 ghost use Rattle.std.specs.Prelude.{◌<◌, ◌≤◌};
-ghost use Rattle.ocp_lines.specs.declared.command.TheConstants.{MAX_STEPS, MAX_MEMORY_LENGTH};
+ghost use Rattle.ocp_lines.specs.declared.command.TheConstants.{MAX_STEPS, MAX_MEMORY_LENGTH, MAX_WORKERS, MAX_BUDGET, MAX_TURNS};
 
 use crate::arguments::Arguments;
 use crate::octets::Octets;
@@ -49,6 +49,29 @@ pub struct MemoryLength {
     pub number: u16,
     pub ghost some: { 1 ≤ number },
     pub ghost in_range: { number ≤ MAX_MEMORY_LENGTH },
+}
+
+/// The most workers of a `work` line.
+pub const MAX_WORKERS: u16 = 16;
+
+/// The greatest budget of a `work` line.
+pub const MAX_BUDGET: u32 = 1_000_000;
+
+/// The most turns of a `work` line.
+pub const MAX_TURNS: u32 = 1_000_000;
+
+/// What a `work` line asks for: so many workers, each of which takes so many turns of up to a budget of instructions.
+#[derive(Clone, Copy)]
+pub struct Shift {
+    pub workers: u16,
+    pub budget: u32,
+    pub turns: u32,
+    pub ghost some_workers: { 1 ≤ workers },
+    pub ghost few_workers: { workers ≤ MAX_WORKERS },
+    pub ghost some_budget: { 1 ≤ budget },
+    pub ghost budget_in_range: { budget ≤ MAX_BUDGET },
+    pub ghost some_turns: { 1 ≤ turns },
+    pub ghost turns_in_range: { turns ≤ MAX_TURNS },
 }
 
 /// What a line says.
@@ -99,4 +122,6 @@ pub enum Command<A: Allocator = Global> {
     Pool(u64),
     /// `journal`: how many events there were.
     Journal,
+    /// `work <workers> <budget> <turns>`: workers take turns at the running procedures.
+    Work(Shift),
 }

@@ -10,7 +10,10 @@ mod verbs;
 mod words;
 
 pub use arguments::Arguments;
-pub use command::{Command, Flags, MAX_MEMORY_LENGTH, MAX_STEPS, MemoryLength, Steps, Verb};
+pub use command::{
+    Command, Flags, MAX_BUDGET, MAX_MEMORY_LENGTH, MAX_STEPS, MAX_TURNS, MAX_WORKERS, MemoryLength,
+    Shift, Steps, Verb,
+};
 pub use octets::{MAX_OCTETS_LENGTH, Octets};
 pub use parameters::Parameters;
 pub use reading::read_command;

@@ -3,9 +3,12 @@
 ghost use Rattle.std.specs.Prelude.{◌≡◌, length, IfOk, OnErr, IsTrue};
 ghost use Rattle.std.specs.Option.{option_map};
 ghost use Rattle.ocp_lines.specs.Words.{words_of};
-ghost use Rattle.ocp_lines.specs.Grammar.{said_by, up_in, send_in, time_in, count_in, view_in, pool_in, switch, trace_in, memory_in, debugger_command_in, plain_command_in, command_in, command_of, takes_octets, send_takes_octets, command_takes_octets};
+ghost use Rattle.ocp_lines.specs.Grammar.{said_by, up_in, send_in, time_in, count_in, view_in, pool_in, work_in, switch, trace_in, memory_in, debugger_command_in, plain_command_in, command_in, command_of, takes_octets, send_takes_octets, command_takes_octets};
 
-use crate::command::{Command, Flags, MAX_MEMORY_LENGTH, MAX_STEPS, MemoryLength, Steps};
+use crate::command::{
+    Command, Flags, MAX_BUDGET, MAX_MEMORY_LENGTH, MAX_STEPS, MAX_TURNS, MAX_WORKERS, MemoryLength,
+    Shift, Steps,
+};
 use crate::verbs::verb;
 use crate::words::{
     address, next_word, no_word, number, octets, one_word, short, three_words, two_shorts,
@@ -134,6 +137,25 @@ fn pool(arguments: &[u8]) -> Option<u64>
     number(one_word(arguments)?, u64::MAX)
 }
 
+/// The numbers of a `work` line.
+fn shift(arguments: &[u8]) -> Option<Shift>
+    ensures { option_map (λ shift. (shift.workers, shift.budget, shift.turns)) result ≡
+        work_in (words_of arguments.now) }
+{
+    let (workers, budget, turns) = three_words(arguments)?;
+    let workers = number(workers, u64::from(MAX_WORKERS))?;
+    let budget = number(budget, u64::from(MAX_BUDGET))?;
+    let turns = number(turns, u64::from(MAX_TURNS))?;
+    if workers == 0 || budget == 0 || turns == 0 {
+        return None;
+    }
+    Some(Shift {
+        workers: workers as u16,
+        budget: budget as u32,
+        turns: turns as u32,
+    })
+}
+
 /// The debugger's command of this name with these arguments.
 fn debugger_command<A: Allocator>(name: &[u8], arguments: &[u8]) -> Option<Command<A>>
     ensures { option_map said_by result ≡ debugger_command_in name.now (words_of arguments.now) }
@@ -173,6 +195,8 @@ fn plain_command<A: Allocator>(name: &[u8], arguments: &[u8]) -> Option<Command<
         Some(Command::Pool(pool(arguments)?))
     } else if name == b"journal".as_slice() {
         no_word(arguments).then_some(Command::Journal)
+    } else if name == b"work".as_slice() {
+        Some(Command::Work(shift(arguments)?))
     } else {
         debugger_command(name, arguments)
     }

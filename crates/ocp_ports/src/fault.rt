@@ -27,6 +27,9 @@ pub enum ConsoleFault {
     /// Memory ran out.
     #[error("out of memory")]
     Memory,
+    /// The crew refused, memory aside.
+    #[error("the workers failed")]
+    Workers,
 }
 
 impl From<AllocError> for ConsoleFault {

@@ -73,6 +73,7 @@ pub(crate) const RUN_HELP: &str = "Console lines:
   trace                                   shows the last 256 records
   pool <index>                            shows a word of the pool
   journal                                 shows how many events there were
+  work <workers> <budget> <turns>         workers take turns of up to budget instructions
   # ..                                    a comment
 
 Verbs of send:
@@ -100,7 +101,8 @@ Fault lines of the script:
   error <line> Syntax, error <line> LineTooLong, error 100001 TooManyLines
 
 Exit status:
-  0 done, 1 a fault line ends the output, 2 a mistake in the words, 3 a device or memory failed
+  0 done, 1 a fault line ends the output, 2 a mistake in the words, 3 a device, memory or the
+  workers failed
 
 Example: `echo journal | ocp run --pool 8` writes journal 0
 Manual: docs/MANUAL.md, section 4";

@@ -1,23 +1,26 @@
 -- A session so far, and the rest of its run.
-use Rattle.std.specs.Prelude.{◌≡◌, ℕ, List, ◌++◌, ◌+◌, ◌*◌, Option, Result, Ok, Err}
+use Rattle.std.specs.Prelude.{ℕ, List, ◌++◌, ◌+◌, ◌*◌, Option, Result, Ok, Err}
 use Rattle.std.specs.Io.KnownBytes.{Appends}
 use Rattle.std.specs.Vec.{vec_len}
 use Rattle.text_lines.specs.Lines.{lines_of}
 use Rattle.ocp_ports.specs.declared.fault.ConsoleFault.{ConsoleFault}
 use Rattle.ocp_console.specs.declared.session.Session.{Session}
 use Rattle.ocp_console.specs.Answering.{state_of}
+use Rattle.ocp_console.specs.Crew.{CrewAnswers}
 use Rattle.ocp_console.specs.Reading.{max_line_octets}
-use Rattle.ocp_console.specs.Script.{Run, run_of, with_prefix, Prints}
+use Rattle.ocp_console.specs.Script.{Writing, Writes}
 
--- the run of what the session has of a line, and of what follows
-abbrev pub rest_of : {A : Type 0} → Session A → List ℕ → Run
-rest_of s more = run_of (state_of s.console) s.before (lines_of (s.line.items ++ more))
+-- what the run of what the session has of a line, and of what follows, writes
+abbrev pub rest_of : {A : Type 0} → CrewAnswers → Session A → List ℕ → Writing
+rest_of crew s more = Writes crew (state_of s.console) s.before (lines_of (s.line.items ++ more))
 
 -- how many octets a session may have taken: it rises with each
 abbrev pub octets_so_far : {A : Type 0} → Session A → ℕ
 octets_so_far s = s.before * (max_line_octets + 1) + vec_len s.line
 
 -- A part of a script was answered: its text went out, and the rest of the run is that of what follows.
-abbrev pub Answers : {X : Type 0} → Option (List ℕ) → Option (List ℕ) → (X → Run) → (X → Run) → Result Unit ConsoleFault → Type 0
-Answers {X} old new whole rest (Ok x) = (sent : List ℕ) × Appends old new sent × ((more : X) → whole more ≡ with_prefix sent (rest more))
-Answers {X} old new whole rest (Err e) = (more : X) → Prints old new (whole more) (Err e)
+abbrev pub Answers : {X T : Type 0} → Option (List ℕ) → Option (List ℕ) → (X → Writing) → (T → X → Writing) → Result T ConsoleFault → Type 0
+Answers {X} {T} old new whole rest (Ok x) =
+    (sent : List ℕ) × Appends old new sent
+    × ((more : X) (later : List ℕ) (ending : Result Unit ConsoleFault) → rest x more later ending → whole more (sent ++ later) ending)
+Answers {X} {T} old new whole rest (Err e) = (sent : List ℕ) × Appends old new sent × ((more : X) → whole more sent (Err e))

@@ -1,0 +1,47 @@
+//! A crew of threads.
+
+ghost use Rattle.std.specs.Prelude.{◌≤◌, List, IfOk};
+ghost use Rattle.std.specs.Thread.{IsSync};
+ghost use Rattle.ocp_seats.specs.Seats.{Seated};
+ghost use Rattle.ocp_slices.specs.Closed.{IsClosed};
+
+use ocp_console::{Crew, CrewFault};
+use ocp_core::Engine;
+use ocp_slices::{Open, WorkFault, work};
+use std::alloc::Global;
+use std::sync::Wait;
+use std::thread::Threads;
+
+/// A crew of threads. It shares the engine between as many seats as there are workers, with one thread for each, and closes
+/// it: the journal that comes back is one history of what the workers were answered.
+#[derive(Drop)]
+pub struct Threaded<'a, R: Threads + Wait + Sync> {
+    pub rt: &'a R,
+    pub alloc: Global,
+}
+
+impl<R: Threads + Wait + Sync> Crew<Engine> for Threaded<'_, R> {
+    ghost ready = { λ _. IsSync R.row };
+
+    ghost answers = { λ _ _ _ _ _ answer. IfOk answer
+        (λ engine. (seats : List Seated) × IsClosed engine seats) };
+
+    fn work(
+        &self,
+        engine: Engine,
+        workers: u16,
+        budget: u32,
+        turns: u32,
+    ) -> Result<Engine, CrewFault>
+        requires ready { IsSync R.row }
+        requires some { 1 ≤ workers }
+        requires few { workers ≤ 16 }
+        ensures { IfOk result (λ engine. (seats : List Seated) × IsClosed engine seats) }
+    {
+        match work(self.rt, self.alloc, engine, workers, budget, turns, &Open) {
+            Ok(engine) => Ok(engine),
+            Err(WorkFault::Memory) => Err(CrewFault::Memory),
+            Err(WorkFault::NotClosed) => Err(CrewFault::Workers),
+        }
+    }
+}
