@@ -1,0 +1,145 @@
+//! Telecommand packets, written by a script that knows the tables of the profile alone, and engines that took them.
+
+ghost use Rattle.std.specs.Prelude.{◌≤◌};
+
+use ocp_slices::{CloseFault, Engine, Naming, Seat, SharedEngine, StillShared};
+use ocp_table::{Cause, Status, View};
+use pus_fields::crc16;
+use std::alloc::{AllocError, Global};
+use std::process::Abort;
+use std::sync::Wait;
+use std::test::Fail;
+
+// A load of `mov64 r0, 5`, `add64 r0, 2`, `exit` as procedure 7, with the flags acceptance and completion.
+pub(crate) const LOAD_SEVEN: [u8; 41] = [
+    0x19, 0x23, 0xc0, 0x00, 0x00, 0x22, 0x29, 0x12, 0x01, 0x00, 0x00, 0x00, 0x07, 0x00, 0x18, 0xb7,
+    0x00, 0x00, 0x00, 0x05, 0x00, 0x00, 0x00, 0x07, 0x00, 0x00, 0x00, 0x02, 0x00, 0x00, 0x00, 0x95,
+    0x00, 0x00, 0x00, 0x00, 0x00, 0x00, 0x00, 0xbf, 0x63,
+];
+
+// Its activation, with the flag acceptance, and the report of it that is the first one of an engine, or the third.
+pub(crate) const ACTIVATE_SEVEN: [u8; 17] = [
+    0x19, 0x23, 0xc0, 0x01, 0x00, 0x0a, 0x21, 0x12, 0x03, 0x00, 0x00, 0x00, 0x07, 0x00, 0x00, 0x42,
+    0x87,
+];
+
+// Its abort, with no flag.
+pub(crate) const ABORT_SEVEN: [u8; 15] = [
+    0x19, 0x23, 0xc0, 0x02, 0x00, 0x08, 0x20, 0x12, 0x0c, 0x00, 0x00, 0x00, 0x07, 0x12, 0x6f,
+];
+
+// A request for the status report by source 7, with the flags acceptance and completion.
+pub(crate) const STATUS: [u8; 13] = [
+    0x19, 0x23, 0xc0, 0x05, 0x00, 0x06, 0x29, 0x12, 0x08, 0x00, 0x07, 0xd9, 0x42,
+];
+
+// A load of `mov64 r1, 499`, `sub64 r1, 1`, `jne64 r1, 0, -2`, `exit` as procedure 1, and its activation, with no flag.
+const LOAD_LOOP: [u8; 49] = [
+    0x19, 0x23, 0xc0, 0x00, 0x00, 0x2a, 0x20, 0x12, 0x01, 0x00, 0x00, 0x00, 0x01, 0x00, 0x20, 0xb7,
+    0x01, 0x00, 0x00, 0xf3, 0x01, 0x00, 0x00, 0x17, 0x01, 0x00, 0x00, 0x01, 0x00, 0x00, 0x00, 0x55,
+    0x01, 0xfe, 0xff, 0x00, 0x00, 0x00, 0x00, 0x95, 0x00, 0x00, 0x00, 0x00, 0x00, 0x00, 0x00, 0xc5,
+    0x7c,
+];
+
+const ACTIVATE_LOOP: [u8; 17] = [
+    0x19, 0x23, 0xc0, 0x00, 0x00, 0x0a, 0x20, 0x12, 0x03, 0x00, 0x00, 0x00, 0x01, 0x00, 0x00, 0x18,
+    0x71,
+];
+
+// The load of a loop as another procedure: its id, and the error control of the octets before it.
+pub(crate) fn load_loop(id: u8) -> [u8; 49] {
+    let mut packet = LOAD_LOOP;
+    packet[12] = id;
+    let [high, low] = crc16(&packet[..47]).to_be_bytes();
+    packet[47] = high;
+    packet[48] = low;
+    packet
+}
+
+// Its activation.
+pub(crate) fn activate_loop(id: u8) -> [u8; 17] {
+    let mut packet = ACTIVATE_LOOP;
+    packet[12] = id;
+    let [high, low] = crc16(&packet[..15]).to_be_bytes();
+    packet[15] = high;
+    packet[16] = low;
+    packet
+}
+
+// Whether an engine takes all these packets of seat 0.
+pub(crate) fn takes(alloc: Global, engine: &mut Engine, packets: &[&[u8]]) -> bool {
+    packets
+        .iter()
+        .all(|octets| engine.request(alloc, 0, 0, octets).is_ok())
+}
+
+// Whether an engine takes the loops with the ids 1 to a number, each loaded and activated.
+pub(crate) fn takes_loops(alloc: Global, engine: &mut Engine, count: u8) -> bool
+    requires { count ≤ 16 }
+{
+    (1..count + 1).all(|id| takes(alloc, engine, &[&load_loop(id), &activate_loop(id)]))
+}
+
+// Whether a procedure is shown as a loop at its end.
+pub(crate) fn is_done(view: Option<View>) -> bool {
+    match view {
+        Some(view) => {
+            view.status == Status::Inactive
+                && view.cause == Cause::Exited
+                && view.place == 3
+                && view.registers[1] == 0
+        }
+        None => false,
+    }
+}
+
+// An engine of so many entries that took these packets.
+pub(crate) fn engine_of(alloc: Global, capacity: u32, packets: &[&[u8]]) -> Result<Engine, Fail>
+    requires from { 1 ≤ capacity }
+    requires to { capacity ≤ 1000000 }
+{
+    let mut engine = Engine::new(alloc, 0x123, 16, capacity)?;
+    if takes(alloc, &mut engine, packets) {
+        Ok(engine)
+    } else {
+        Err(Fail::new("the packets are taken"))
+    }
+}
+
+// Whether a shared engine takes a packet of a seat.
+pub(crate) fn is_taken<L: Naming, R: Wait>(
+    rt: &R,
+    alloc: Global,
+    shared: &SharedEngine<L>,
+    seat: &mut Seat<L>,
+    octets: &[u8],
+) -> bool {
+    shared.request(rt, alloc, seat, 0, octets).is_ok()
+}
+
+// The engine that one or two seats shared: it is closed with them, and not before.
+pub(crate) fn closes<L: Naming, R: Abort>(
+    rt: &R,
+    alloc: Global,
+    shared: SharedEngine<L>,
+    one: Seat<L>,
+    two: Option<Seat<L>>,
+) -> Result<Engine, Fail> {
+    let Err(refused) = shared.close(Vec::new(alloc)) else {
+        return Err(Fail::new("closed with no seat"));
+    };
+    let StillShared {
+        why,
+        shared,
+        mut seats,
+    } = refused;
+    assert_eq!(rt; why, CloseFault::MissingSeat);
+    if let Some(two) = two {
+        seats.push(two).map_err(AllocError::from)?;
+    }
+    seats.push(one).map_err(AllocError::from)?;
+    match shared.close(seats) {
+        Ok(engine) => Ok(engine),
+        Err(_refused) => Err(Fail::new("not closed with the seats")),
+    }
+}
