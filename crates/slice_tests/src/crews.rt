@@ -146,7 +146,7 @@ fn mixed<L: Naming + Send + Sync, R: Threads + Wait + Abort + Sync>(
 // Turns of a seat, each behind a call that meets another procedure.
 fn calls<L: Naming, R: Wait>(rt: &R, alloc: Global, shared: &SharedEngine<L>, seat: &mut Seat<L>) {
     for round in 0..48 {
-        let id = (seat.number() + round) % 16 + 1;
+        let id = (seat.number().wrapping_add(round) % 16) as u8 + 1;
         call(rt, alloc, shared, seat, round % 8, id);
         shared.turn(rt, alloc, seat, 100, &Open);
     }
@@ -158,8 +158,10 @@ fn call<L: Naming, R: Wait>(
     shared: &SharedEngine<L>,
     seat: &mut Seat<L>,
     kind: u16,
-    id: u16,
+    id: u8,
 ) {
+    let octets = activate_loop(id);
+    let id = u16::from(id);
     match kind {
         0 => drop(shared.set_break(rt, seat, id, 2)),
         1 => drop(shared.request(rt, alloc, seat, 0, &STATUS)),
@@ -167,7 +169,7 @@ fn call<L: Naming, R: Wait>(
         3 => drop(shared.slice(rt, seat, id, 10)),
         4 => drop(shared.clear_break(rt, seat, id, 2)),
         5 => drop(shared.trace(rt, seat, id, false)),
-        6 => drop(shared.request(rt, alloc, seat, 0, &activate_loop(id as u8))),
+        6 => drop(shared.request(rt, alloc, seat, 0, &octets)),
         _ => drop(shared.step(rt, seat, id)),
     }
 }
