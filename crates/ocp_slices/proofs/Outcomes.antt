@@ -1,6 +1,5 @@
 -- What a commit's outcome says of its work.
 use Rattle.std.specs.Prelude.{◌≡◌, ◌↔◌, ℕ, refl}
-use Rattle.std.proofs.Common.{sym, ◌∙◌}
 use Rattle.ocp_core.specs.declared.answers.CommitOutcome.{CommitOutcome}
 use Rattle.ocp_core.specs.declared.answers.CommitOutcome.TheVariants as C
 use Rattle.ocp_core.specs.Log.{Log}
