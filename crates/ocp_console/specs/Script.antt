@@ -66,15 +66,18 @@ AreWorkless (line ∷ lines) =
 abbrev pub IsWorkless : List ℕ → Type 0
 IsWorkless octets = AreWorkless (lines_of octets)
 
--- The run's text went out, and it ended so; or there was a fault of the device or of memory, and a prefix of it went out.
+-- The run's text went out, and it ended so; or there was a fault of the device or of memory, and a
+-- prefix of it went out.
 abbrev pub Prints : Option (List ℕ) → Option (List ℕ) → Run → Result Unit ConsoleFault → Type 0
 Prints old new run (Ok x) = Appends old new run.0 × (run.1 ≡ Ok x)
 Prints old new run (Err faults.Read) = PrintsPrefix old new run.0
 Prints old new run (Err faults.Write) = PrintsPrefix old new run.0
 Prints old new run (Err faults.Memory) = PrintsPrefix old new run.0
 Prints old new run (Err faults.Workers) = Appends old new run.0 × (run.1 ≡ Err faults.Workers)
-Prints old new run (Err faults.TooManyLines) = Appends old new run.0 × (run.1 ≡ Err faults.TooManyLines)
-Prints old new run (Err (faults.LineTooLong n)) = Appends old new run.0 × (run.1 ≡ Err (faults.LineTooLong n))
+Prints old new run (Err faults.TooManyLines) =
+    Appends old new run.0 × (run.1 ≡ Err faults.TooManyLines)
+Prints old new run (Err (faults.LineTooLong n)) =
+    Appends old new run.0 × (run.1 ≡ Err (faults.LineTooLong n))
 Prints old new run (Err (faults.Syntax n)) = Appends old new run.0 × (run.1 ≡ Err (faults.Syntax n))
 
 -- ---- every script, with a crew
