@@ -144,7 +144,7 @@ impl<A: Allocator> Engine<A> {
             Ok(read) => read,
             Err(refused) => return Err(refused),
         };
-        let Ok(kept) = Octets::copy_of(alloc, octets) else {
+        let Ok(journaled) = Octets::copy_of(alloc, octets) else {
             return Err(EngineFault::Memory);
         };
         let Ok(own) = Octets::copy_of(alloc, octets) else {
@@ -153,20 +153,20 @@ impl<A: Allocator> Engine<A> {
         match self.state.receive(alloc, time, read) {
             Ok(sent) => {
                 let mut copies = sent.into_vec();
-                let mark = next_copy(&mut copies);
-                let own_mark = next_copy(&mut copies);
+                let journal_mark = next_copy(&mut copies);
+                let receipt_mark = next_copy(&mut copies);
                 let reports = next_copy(&mut copies);
                 self.journal.push(Entry::Request {
                     by,
                     time,
-                    octets: kept,
-                    mark,
+                    octets: journaled,
+                    mark: journal_mark,
                 });
                 let receipt = Entry::Request {
                     by,
                     time,
                     octets: own,
-                    mark: own_mark,
+                    mark: receipt_mark,
                 };
                 Ok((reports, receipt))
             }

@@ -95,7 +95,8 @@ pub fn replay_one<A: Allocator + Copy, B: Allocator>(
     machines_follow_from_their_own_events();
     let apid = journal.apid();
     let mut state = State::new(alloc, apid, journal.words())?;
-    for entry in journal.entries() {
+    let entries = journal.entries();
+    for entry in entries {
         enter(&mut state, alloc, apid, entry)?;
     }
     state.machine(alloc, id)

@@ -49,7 +49,8 @@ impl<A: Allocator> Model for Work<A> {
 
     ghost view = { λ w. record { id = w.id; base = w.base; end = w.end; count = w.count } };
 
-    ghost invariant = { λ w. IsRun (record { id = w.id; base = w.base; end = w.end; count = w.count }) };
+    ghost invariant = { λ w. IsRun
+        (record { id = w.id; base = w.base; end = w.end; count = w.count }) };
 }
 
 impl<A: Allocator> Ticket<A> {

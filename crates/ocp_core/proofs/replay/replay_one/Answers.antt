@@ -13,7 +13,7 @@ use Rattle.ocp_core.proofs.replay.replay_one.Goals as goal
 pub loop-entry-preserved : goal.loop-entry-preserved
 loop-entry-preserved g c =
     let journal = c.args.journal.now in
-    let items = c.entries-entry-items.result.now in
+    let items = c.entries-entries.result.now in
     let i = c.loop-entry.entry-index in
     let within : i < length items = omega arith in
     let before = expand (map entry_of (take i items)) in
@@ -23,22 +23,22 @@ loop-entry-preserved g c =
 pub returns-clause-replay : goal.returns-clause-replay
 returns-clause-replay g c =
     let journal = c.args.journal.now in
-    let items = c.entries-entry-items.result.now in
+    let items = c.entries-entries.result.now in
     let i = c.loop-entry.entry-index in
     let all : length items ≤ i = omega arith in
     let world : replay journal.apid journal.words (expand (map entry_of (take i items))) ≡ world_of journal =
     ap (λ xs. replay journal.apid journal.words (expand (map entry_of xs))) (take_all i items all)
-    ∙ ap (λ es. replay journal.apid journal.words (expand es)) c.entries-entry-items.ensures.value ∙ replayed journal in
+    ∙ ap (λ es. replay journal.apid journal.words (expand es)) c.entries-entries.ensures.value ∙ replayed journal in
     c.machine.ensures (world_of journal) (subst (λ v. IsWorld v c.loop-entry.state) world c.loop-entry.invariant)
 
 pub returns-clause-alone : goal.returns-clause-alone
 returns-clause-alone g c =
     let journal = c.args.journal.now in
-    let items = c.entries-entry-items.result.now in
+    let items = c.entries-entries.result.now in
     let i = c.loop-entry.entry-index in
     let all : length items ≤ i = omega arith in
     let world : replay journal.apid journal.words (expand (map entry_of (take i items))) ≡ replay journal.apid journal.words (expand journal.entries) =
     ap (λ xs. replay journal.apid journal.words (expand (map entry_of xs))) (take_all i items all)
-    ∙ ap (λ es. replay journal.apid journal.words (expand es)) c.entries-entry-items.ensures.value in
+    ∙ ap (λ es. replay journal.apid journal.words (expand es)) c.entries-entries.ensures.value in
     subst (λ (m : Option State). IfOk c.machine.result (λ machine. machine ≡ m)) (c.machines_follow_from_their_own_events.ensures journal.apid journal.words (expand journal.entries) c.args.id)
     (c.machine.ensures (replay journal.apid journal.words (expand journal.entries)) (subst (λ v. IsWorld v c.loop-entry.state) world c.loop-entry.invariant))

@@ -7,4 +7,4 @@ use Rattle.ocp_core.proofs.replay.replay_one.Given as goal
 
 -- the state is the replay of the entries so far
 abbrev pub invariant-loop-entry : goal.invariant-loop-entry
-invariant-loop-entry g l = IsWorld (replay l.journal.apid l.journal.words (expand (map entry_of (take l.entry-index l.entry-items)))) l.state
+invariant-loop-entry g l = IsWorld (replay l.journal.apid l.journal.words (expand (map entry_of (take l.entry-index l.entries)))) l.state

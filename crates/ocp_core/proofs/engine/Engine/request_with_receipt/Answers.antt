@@ -18,7 +18,7 @@ push-requires-clause-mark g c =
     let told = c.in-Ok.ensures.ok c.args.by c.args.time in
     let read = admitted log c.args.self.now c.self.view_is c.args.by c.args.time c.args.octets.now c.in-Ok.read told in
     let does = c.in-Ok-receive.ensures (world_of log) c.args.by c.args.octets.now c.self.invariant read.is in
-    marked_so log c.args.self.now c.self.view_is c.args.by c.args.time c.args.octets.now c.in-Ok.read told c.receive.new.self c.in-Ok-receive.sent c.in-Ok-copy_of.kept does c.in-Ok-copy_of.ensures c.next_copy-mark.result (c.next_copy-mark.ensures.copy c.in-Ok-receive.sent c.into_vec-copies.ensures.same)
+    marked_so log c.args.self.now c.self.view_is c.args.by c.args.time c.args.octets.now c.in-Ok.read told c.receive.new.self c.in-Ok-receive.sent c.in-Ok-copy_of.journaled does c.in-Ok-copy_of.ensures c.next_copy-journal_mark.result (c.next_copy-journal_mark.ensures.copy c.in-Ok-receive.sent c.into_vec-copies.ensures.same)
 
 pub invariant_of-self : goal.invariant_of-self
 invariant_of-self g c =
@@ -26,7 +26,7 @@ invariant_of-self g c =
     let told = c.in-Ok.ensures.ok c.args.by c.args.time in
     let read = admitted log c.args.self.now c.self.view_is c.args.by c.args.time c.args.octets.now c.in-Ok.read told in
     let does = c.in-Ok-receive.ensures (world_of log) c.args.by c.args.octets.now c.self.invariant read.is in
-    stands_after log c.args.self.now c.self.view_is c.args.by c.args.time c.args.octets.now c.in-Ok.read told c.receive.new.self c.in-Ok-receive.sent c.in-Ok-copy_of.kept does c.in-Ok-copy_of.ensures c.push.new.self c.push.ensures
+    stands_after log c.args.self.now c.self.view_is c.args.by c.args.time c.args.octets.now c.in-Ok.read told c.receive.new.self c.in-Ok-receive.sent c.in-Ok-copy_of.journaled does c.in-Ok-copy_of.ensures c.push.new.self c.push.ensures
 
 pub invariant_of-self-in-Err-receive : goal.invariant_of-self-in-Err-receive
 invariant_of-self-in-Err-receive g c =
@@ -40,8 +40,8 @@ returns-in-Ok-receive-clause-answer g c =
     let told = c.in-Ok.ensures.ok c.args.by c.args.time in
     let read = admitted log c.args.self.now c.self.view_is c.args.by c.args.time c.args.octets.now c.in-Ok.read told in
     let does = c.in-Ok-receive.ensures (world_of log) c.args.by c.args.octets.now c.self.invariant read.is in
-    let rest = c.next_copy-own_mark.ensures.rest c.in-Ok-receive.sent (c.next_copy-mark.ensures.rest c.in-Ok-receive.sent c.into_vec-copies.ensures.same) in
-    answered log c.args.self.now c.self.view_is c.args.by c.args.time c.args.octets.now c.in-Ok.read told c.receive.new.self c.in-Ok-receive.sent c.in-Ok-copy_of.kept does c.in-Ok-copy_of.ensures c.next_copy-reports.result (c.next_copy-reports.ensures.copy c.in-Ok-receive.sent rest)
+    let rest = c.next_copy-receipt_mark.ensures.rest c.in-Ok-receive.sent (c.next_copy-journal_mark.ensures.rest c.in-Ok-receive.sent c.into_vec-copies.ensures.same) in
+    answered log c.args.self.now c.self.view_is c.args.by c.args.time c.args.octets.now c.in-Ok.read told c.receive.new.self c.in-Ok-receive.sent c.in-Ok-copy_of.journaled does c.in-Ok-copy_of.ensures c.next_copy-reports.result (c.next_copy-reports.ensures.copy c.in-Ok-receive.sent rest)
 
 pub returns-in-Ok-receive-clause-journal : goal.returns-in-Ok-receive-clause-journal
 returns-in-Ok-receive-clause-journal g c =
@@ -49,7 +49,7 @@ returns-in-Ok-receive-clause-journal g c =
     let told = c.in-Ok.ensures.ok c.args.by c.args.time in
     let read = admitted log c.args.self.now c.self.view_is c.args.by c.args.time c.args.octets.now c.in-Ok.read told in
     let does = c.in-Ok-receive.ensures (world_of log) c.args.by c.args.octets.now c.self.invariant read.is in
-    journal_after log c.args.self.now c.self.view_is c.args.by c.args.time c.args.octets.now c.in-Ok.read told c.receive.new.self c.in-Ok-receive.sent c.in-Ok-copy_of.kept does c.in-Ok-copy_of.ensures c.push.new.self c.push.ensures
+    journal_after log c.args.self.now c.self.view_is c.args.by c.args.time c.args.octets.now c.in-Ok.read told c.receive.new.self c.in-Ok-receive.sent c.in-Ok-copy_of.journaled does c.in-Ok-copy_of.ensures c.push.new.self c.push.ensures
 
 pub returns-in-Err-receive-clause-answer : goal.returns-in-Err-receive-clause-answer
 returns-in-Err-receive-clause-answer g c =
@@ -65,7 +65,7 @@ pub returns-in-Ok-receive-clause-receipt : goal.returns-in-Ok-receive-clause-rec
 returns-in-Ok-receive-clause-receipt g c =
     let sent = c.in-Ok-receive.sent in
     let all = c.into_vec-copies.ensures.same in
-    let rest = c.next_copy-mark.ensures.rest sent all in
-    let own = c.next_copy-own_mark.ensures.copy sent rest in
-    let last = c.next_copy-reports.ensures.copy sent (c.next_copy-own_mark.ensures.rest sent rest) in
-    same_receipt c.args.by c.args.time c.in-Ok-copy_of-2.own c.args.octets.now c.next_copy-own_mark.result c.next_copy-reports.result c.in-Ok-copy_of-2.ensures (own ∙ sym last)
+    let rest = c.next_copy-journal_mark.ensures.rest sent all in
+    let own = c.next_copy-receipt_mark.ensures.copy sent rest in
+    let last = c.next_copy-reports.ensures.copy sent (c.next_copy-receipt_mark.ensures.rest sent rest) in
+    same_receipt c.args.by c.args.time c.in-Ok-copy_of-2.own c.args.octets.now c.next_copy-receipt_mark.result c.next_copy-reports.result c.in-Ok-copy_of-2.ensures (own ∙ sym last)
