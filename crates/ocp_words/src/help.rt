@@ -14,7 +14,7 @@ Exit status:
   0  done; also help and version
   1  a fault of the input: the last line of the output says which
   2  a mistake in the words: standard error says which
-  3  reading, writing or memory failed: standard error says 'fault Read', 'Write' or 'Memory'
+  3  reading, writing, memory or workers failed: standard error says 'fault <name>'
 
 Manual: docs/MANUAL.md. On one page: docs/CARD.md";
 
@@ -37,7 +37,7 @@ Exit status:
   0 done, 1 a fault line is the output, 2 a mistake in the words, 3 a device or memory failed
 
 Example: `echo exit | ocp asm` writes 9500000000000000
-Manual: docs/MANUAL.md, sections 6 and 7. Every mnemonic: docs/CARD.md";
+Manual: docs/MANUAL.md, sections 6 and 7; Why Syntax?: 13. Every mnemonic: docs/CARD.md";
 
 pub(crate) const LIST_USAGE: &str = "ocp list < IMAGE";
 
@@ -105,4 +105,4 @@ Exit status:
   workers failed
 
 Example: `echo journal | ocp run --pool 8` writes journal 0
-Manual: docs/MANUAL.md, section 4";
+Manual: docs/MANUAL.md, section 4; Why Syntax?: 13";
