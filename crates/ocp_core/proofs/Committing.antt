@@ -1,11 +1,11 @@
 -- A work that is committed.
-use Rattle.std.proofs.Common.{◌≡◌, ◌≤◌, ℕ, zero, suc, Bool, true, false, List, [], ◌∷◌, Option, Some, None, replicate, refl, sym, ap, subst, ◌∙◌, arith}
+use Rattle.std.proofs.Common.{◌≡◌, ◌≤◌, ℕ, zero, suc, Bool, true, false, List, ◌∷◌, Option, Some, None, replicate, refl, sym, ap, subst, ◌∙◌, arith}
 use Rattle.std.specs.FinMap.{get}
 use Rattle.obcp_types.specs.declared.status.Status.{Status}
 use Rattle.obcp_types.specs.declared.status.Status.TheVariants.{Inactive, Running, Held}
 use Rattle.bpf_step.specs.Machine.{State as Machined}
 use Rattle.bpf_step.specs.Step.{StandsIn}
-use Rattle.ocp_table.specs.Records.{Rec, Records}
+use Rattle.ocp_table.specs.Records.{Rec}
 use Rattle.ocp_table.specs.Snapshots.{Snapshot, snapshot_of, snapshot_by, snapshot_at, run_of, StandsAt}
 use Rattle.ocp_world.specs.World.{World, Step}
 use Rattle.ocp_world.specs.After.{Answer, Stepped, after}
@@ -15,7 +15,7 @@ use Rattle.ocp_table.specs.declared.answers.StepOutcome.TheVariants as S
 use Rattle.ocp_world.specs.Settled.{RunsAlone, world_settled}
 use Rattle.ocp_world.specs.Mirror.State.{IsWorld}
 use Rattle.ocp_world.specs.declared.state.State.{State}
-use Rattle.ocp_core.specs.Log.{Log, Entry, Steps, with_entry, world_of}
+use Rattle.ocp_core.specs.Log.{Log, Steps, with_entry, world_of}
 use Rattle.ocp_core.specs.Marks.{last_outcome}
 use Rattle.ocp_core.specs.Tickets.{Worked, IsRun}
 use Rattle.ocp_core.specs.Commits.{IsFresh}

@@ -1,16 +1,16 @@
 -- A request that is admitted: its reports, its entry with its mark, and the engine's world.
-use Rattle.std.proofs.Common.{◌≡◌, ℕ, true, false, List, [], ◌∷◌, sym, ap, subst, refl, ◌∙◌}
+use Rattle.std.proofs.Common.{◌≡◌, ℕ, true, List, [], ◌∷◌, sym, ap, subst, refl, ◌∙◌}
 use Rattle.std.specs.Prelude.{Result, Ok, Err}
 use Rattle.pus_fields.specs.Telecommand.{Telecommand}
 use Rattle.pus_fields.specs.declared.fault.TcFault.{TcFault}
 use Rattle.ocp_world.specs.declared.answers.EngineFault.{EngineFault}
 use Rattle.ocp_world.specs.declared.state.State.{State}
-use Rattle.ocp_world.specs.World.{World, Event, Request}
+use Rattle.ocp_world.specs.World.{Event, Request}
 use Rattle.ocp_world.specs.After.{Requested, after, effect_of, is_accepted}
 use Rattle.ocp_world.specs.Answers.{Answers}
 use Rattle.ocp_world.specs.Replay.{replay_from}
 use Rattle.ocp_world.specs.Mirror.State.{IsWorld, DoesIn}
-use Rattle.ocp_core.specs.Log.{Log, Asked, world_of, is_full, with_entry, answer_in, log_after}
+use Rattle.ocp_core.specs.Log.{Log, Asked, world_of, with_entry, answer_in, log_after}
 use Rattle.ocp_core.specs.Marks.{mark_in, Marked}
 use Rattle.ocp_core.specs.Mirror.Admitted.{IsAdmitted}
 use Rattle.ocp_core.proofs.Keeping.{IsWorld-with_entry}

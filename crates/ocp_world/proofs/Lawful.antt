@@ -21,7 +21,6 @@ use Rattle.ocp_table.specs.Laws.{machine_of, Run, run_of, IsRequest, IsKeptOrSta
 use Rattle.ocp_debug.specs.declared.command.Command.{Command as DebugCommand}
 use Rattle.ocp_debug.specs.declared.command.Command.TheVariants.{SetBreak, ClearBreak, SetTrace}
 use Rattle.ocp_debug.specs.declared.command.DebugFault.{DebugFault}
-use Rattle.ocp_debug.specs.declared.trace.Trace.{Trace}
 use Rattle.ocp_debug.specs.Traces.{traces_by}
 use Rattle.ocp_debug.specs.Commands.{change_of, effect_by as debug_effect_by, fault_on}
 use Rattle.ocp_reports.specs.declared.origin.Origin.{Origin}

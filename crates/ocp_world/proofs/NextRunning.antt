@@ -1,5 +1,5 @@
 -- Whose turn is next, by the rows of all procedures, which rise by id.
-use Rattle.std.proofs.Common.{◌≡◌, ◌≢◌, ◌+◌, ◌<◌, ◌≤◌, ◌↔◌, ℕ, zero, suc, Bool, true, false, cond, List, [], ◌∷◌, ◌++◌, map, take, drop, length, get_or, Option, Some, None, refl, sym, ap, subst, ◌∙◌, arith}
+use Rattle.std.proofs.Common.{◌≡◌, ◌+◌, ◌<◌, ◌≤◌, ◌↔◌, ℕ, suc, Bool, true, false, cond, List, [], ◌∷◌, ◌++◌, map, take, drop, length, get_or, Option, Some, None, refl, sym, ap, subst, ◌∙◌, arith}
 use Rattle.std.specs.Prelude.{◌==◌, ◌&&◌, nat_le, IfSome, slice_index}
 use Rattle.std.proofs.lemmas.Bool.{eqb-true}
 use Rattle.std.proofs.lemmas.Bool.Decides.{nat_tests}
@@ -13,7 +13,7 @@ use Rattle.ocp_table.specs.Records.{Rec, Records}
 use Rattle.ocp_table.specs.Shown.{row_of}
 use Rattle.ocp_world.specs.Slice.{is_running, is_running_status}
 use Rattle.ocp_world.specs.NextRunning.{Runs, RunsAbove, IsLeast, IsLeastOf, IsNextRunning}
-use Rattle.ocp_world.specs.Mirror.Turns.{runs_from, first_from, bound_after, or_first, next_in}
+use Rattle.ocp_world.specs.Mirror.Turns.{runs_from, first_from, or_first, next_in}
 
 -- ---- the walk over the rows
 

@@ -31,11 +31,11 @@ use Rattle.ocp_debug.specs.declared.command.Command.{Command as DebugCommand}
 use Rattle.ocp_debug.specs.declared.command.Command.TheVariants.{SetBreak, ClearBreak, SetTrace}
 use Rattle.ocp_debug.specs.declared.command.DebugFault.{DebugFault}
 use Rattle.ocp_debug.specs.declared.command.DebugFault.TheVariants as debug
-use Rattle.ocp_debug.specs.Commands.{is_set, set_fault, fault_in, fault_on, effect_by as debug_effect_by, result_of}
+use Rattle.ocp_debug.specs.Commands.{is_set, fault_on, effect_by as debug_effect_by, result_of}
 use Rattle.ocp_reports.specs.declared.origin.Origin.{Origin}
 use Rattle.ocp_reports.specs.Origin.{origin_of}
 use Rattle.ocp_world.specs.World.{World, Event, Request, Step, Debug}
-use Rattle.ocp_world.specs.Effect.{Effect, Reply, Commands}
+use Rattle.ocp_world.specs.Effect.{Effect, Commands}
 use Rattle.ocp_world.specs.Requests.{command_effect, service_effect, request_effect, command_of}
 use Rattle.ocp_world.specs.Instructions.{instruction_effect}
 use Rattle.ocp_world.specs.declared.answers.EngineFault.TheVariants as engine

@@ -1,5 +1,5 @@
 -- Instructions that a machine does by itself, as events of the world.
-use Rattle.std.proofs.Common.{◌≡◌, ◌≤◌, ◌<◌, length, ℕ, zero, suc, ◌+◌, Bool, true, false, cond, List, [], ◌∷◌, ◌++◌, Option, Some, None, replicate, refl, sym, ap, subst, ◌∙◌, arith}
+use Rattle.std.proofs.Common.{◌≡◌, ◌≤◌, length, ℕ, zero, suc, Bool, true, false, cond, List, [], ◌∷◌, ◌++◌, Option, Some, None, replicate, refl, sym, ap, subst, ◌∙◌, arith}
 use Rattle.std.specs.Prelude.{◌==◌, ◌&&◌, option_and_then}
 use Rattle.std.proofs.lemmas.Bool.Decides.{nat_tests}
 use Rattle.std.proofs.lemmas.List.{append-nil}
@@ -11,17 +11,15 @@ use Rattle.obcp_types.specs.declared.status.Status.TheVariants.{Running}
 use Rattle.bpf_step.specs.Machine.{State, Outcome, Next, Needs, NoInstruction}
 use Rattle.bpf_step.specs.Step.{one_step}
 use Rattle.bpf_step.specs.Runs.{next_of, breaks_at, local_next, local_run}
-use Rattle.ocp_table.specs.declared.control.Control.{Control}
-use Rattle.ocp_table.specs.declared.answers.InstructionOutcome.{InstructionOutcome}
 use Rattle.ocp_table.specs.declared.answers.InstructionOutcome.TheVariants.{Broke, Ran}
 use Rattle.ocp_table.specs.declared.answers.StepOutcome.TheVariants as S
 use Rattle.ocp_table.specs.Records.{Rec, Records}
-use Rattle.ocp_table.specs.Effects.{Effect, Changed, Stepped, passed, record_by, with_change, machine_after, records_with}
+use Rattle.ocp_table.specs.Effects.{Changed, Stepped, passed, record_by, with_change, machine_after, records_with}
 use Rattle.ocp_table.specs.RequestTable as directive
 use Rattle.ocp_table.specs.Deciding.{outcome_of, outcome_in, effect_on, effect_in, effect_by, effect_of_step, is_full}
 use Rattle.ocp_table.specs.Snapshots.{settled}
 use Rattle.ocp_world.specs.World.{World, Event, Step}
-use Rattle.ocp_world.specs.After.{Answer, Stepped as Answered, after, world_after, answer_by}
+use Rattle.ocp_world.specs.After.{Stepped as Answered, after, world_after, answer_by}
 use Rattle.ocp_world.specs.Instructions.{instruction_effect}
 use Rattle.ocp_world.specs.Replay.{replay_from, answers}
 use Rattle.ocp_debug.specs.Traces.{traces_by_change, traces_if}

@@ -1,5 +1,5 @@
 -- A slice of a procedure that the table finds once, against steps of the world.
-use Rattle.std.proofs.Common.{◌≡◌, ℕ, zero, suc, Bool, true, false, cond, List, [], ◌++◌, ◌%◌, replicate, length, Option, Some, None, refl, sym, ap, ◌∙◌, arith}
+use Rattle.std.proofs.Common.{◌≡◌, ℕ, zero, suc, true, false, cond, List, [], ◌++◌, ◌%◌, replicate, length, Option, Some, None, refl, sym, ap, ◌∙◌, arith}
 use Rattle.std.proofs.lemmas.List.{append-nil}
 use Rattle.std.proofs.lemmas.Bool.Decides.{nat_tests}
 use Rattle.std.specs.Ordering.{nat_cmp, eq_by_cmp}
@@ -11,13 +11,12 @@ use Rattle.ocp_table.specs.declared.answers.InstructionOutcome.{InstructionOutco
 use Rattle.ocp_table.specs.declared.answers.InstructionOutcome.TheVariants.{Broke, Ran, Called, Ended, Faulted}
 use Rattle.ocp_table.specs.declared.answers.StepOutcome.{StepOutcome}
 use Rattle.ocp_table.specs.Records.{Rec, Records}
-use Rattle.ocp_table.specs.Effects.{Effect, Changed, Stepped, record_by, records_by, with_change}
+use Rattle.ocp_table.specs.Effects.{Effect, Stepped, record_by, records_by, with_change}
 use Rattle.ocp_table.specs.RequestTable as directive
 use Rattle.ocp_table.specs.RequestTable.{transition}
 use Rattle.ocp_table.specs.Deciding.{effect_in, effect_on, effect_by, effect_of_step, outcome_in, is_full}
 use Rattle.ocp_table.specs.Slices.{Store, is_traced, store_after_events}
 use Rattle.ocp_table.specs.Slices as table
-use Rattle.ocp_debug.specs.declared.trace.Trace.{Trace}
 use Rattle.ocp_debug.specs.Traces.{kept, traces_by, traces_by_change, traces_of, traces_if}
 use Rattle.ocp_world.specs.declared.state.State.{State}
 use Rattle.ocp_world.specs.Mirror.State.{IsWorld}

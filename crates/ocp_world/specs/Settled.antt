@@ -1,6 +1,6 @@
 -- What instructions that a machine does by itself make of a world.
 use Rattle.std.specs.Prelude.{◌≡◌, ◌≤◌, ℕ, false, Some}
-use Rattle.std.specs.FinMap.{get, insert}
+use Rattle.std.specs.FinMap.{get}
 use Rattle.obcp_types.specs.declared.status.Status.TheVariants.{Running}
 use Rattle.bpf_step.specs.Machine.{State}
 use Rattle.bpf_step.specs.Runs.{local_run}

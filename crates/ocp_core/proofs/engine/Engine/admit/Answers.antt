@@ -1,4 +1,4 @@
-use Rattle.std.proofs.Common.{refl, sym, subst, ◌∙◌}
+use Rattle.std.proofs.Common.{sym, subst, ◌∙◌}
 use Rattle.ocp_world.specs.World.{Request}
 use Rattle.ocp_core.specs.Log.{world_of}
 use Rattle.ocp_core.specs.Mirror.Admitted.{IsAdmitted}

@@ -1,4 +1,4 @@
-use Rattle.std.proofs.Common.{Ok, Err, refl, sym, ap, ◌∙◌}
+use Rattle.std.proofs.Common.{Ok, refl, sym, ap, ◌∙◌}
 use Rattle.ocp_world.specs.World.{Debug}
 use Rattle.ocp_world.specs.After.{Commanded}
 use Rattle.ocp_core.proofs.Runs.{done_event, world_done}

@@ -1,6 +1,5 @@
 use Rattle.std.proofs.Common.{sym, ap, ◌∙◌}
 use Rattle.ocp_world.specs.World.{Debug}
-use Rattle.ocp_world.specs.Replay.{replay_from}
 use Rattle.ocp_core.specs.Log.{with_entry, world_of}
 use Rattle.ocp_core.specs.Marks.{mark_in}
 use Rattle.ocp_core.proofs.Marking.{commanded}
