@@ -1,9 +1,8 @@
 -- The journal of a closed book.
-use Rattle.std.proofs.Common.{◌≡◌, ◌-◌, ℕ, zero, suc, List, [], ◌∷◌, ◌++◌, length, map, take, drop, Option, Some, slice_get, refl, sym, ap, subst, ◌∙◌, arith}
-use Rattle.std.specs.List.{flat_map}
+use Rattle.std.proofs.Common.{◌≡◌, ◌-◌, ℕ, zero, suc, List, [], ◌∷◌, length, map, take, drop, Some, slice_get, refl, sym, ap, subst, ◌∙◌, arith}
 use Rattle.std.proofs.lemmas.List.{drop-map}
 use Rattle.std.proofs.lemmas.Grind.{common_steps}
-use Rattle.ocp_world.specs.World.{World, Event, opening}
+use Rattle.ocp_world.specs.World.{World, opening}
 use Rattle.ocp_world.specs.Replay.{replay_from}
 use Rattle.ocp_core.specs.Log.{Log, Entry, events_of, expand, world_of}
 use Rattle.ocp_core.specs.Marks.{Marked, mark_in, marked_from, marked}

@@ -2,11 +2,11 @@
 use Rattle.std.proofs.Common.{◌≡◌, ℕ, zero, suc, Bool, true, false, cond, List, [], ◌∷◌, ◌++◌, refl, sym, ap, ◌∙◌}
 use Rattle.ocp_table.specs.declared.answers.StepOutcome.{StepOutcome}
 use Rattle.ocp_world.specs.World.{World, Event, Request, Step, Debug, opening}
-use Rattle.ocp_world.specs.After.{Answer, Stepped, After, after}
+use Rattle.ocp_world.specs.After.{After, after}
 use Rattle.ocp_world.specs.Replay.{replay_from}
 use Rattle.ocp_world.specs.Slice.{outcome_in, goes_on, slice_count, slice_last}
-use Rattle.ocp_core.specs.Log.{Log, Entry, Steps, events_of, expand, with_entry, entry_for, world_of}
-use Rattle.ocp_core.specs.Marks.{Marked, last_outcome, mark_in, marked_from, marked}
+use Rattle.ocp_core.specs.Log.{Log, Entry, events_of, expand, with_entry, entry_for, world_of}
+use Rattle.ocp_core.specs.Marks.{last_outcome, mark_in, marked_from, marked}
 use Rattle.ocp_core.proofs.Replays.{replay_from-append}
 
 marked_from-append : (w : World) (xs ys : List Entry) → marked_from w (xs ++ ys) ≡ marked_from w xs ++ marked_from (replay_from w (expand xs)) ys

@@ -1,6 +1,6 @@
 -- The walk over the entries, with a place in each seat's receipts.
-use Rattle.std.proofs.Common.{◌≡◌, ◌≢◌, ℕ, ◌+◌, ◌-◌, ◌<◌, ◌≤◌, ◌==◌, Bool, true, false, cond, eqb, List, [], ◌∷◌, ◌++◌, length, take, drop, set, get_or, refl, ap, sym, ◌∙◌, subst, arith, rules, filter, count_by, All, Any, zero, suc, inl, inr, ◌⊎◌, Option, Some, None, IsTrue, ◌↔◌, slice_get, length-append, length-set, replicate, map}
-use Rattle.std.proofs.lemmas.Grind.{common_steps, get_or-set_at}
+use Rattle.std.proofs.Common.{◌≡◌, ◌≢◌, ℕ, ◌+◌, ◌<◌, ◌≤◌, ◌==◌, Bool, true, false, eqb, List, [], ◌∷◌, ◌++◌, length, take, drop, set, get_or, refl, ap, sym, ◌∙◌, subst, arith, filter, count_by, All, Any, zero, suc, Some, IsTrue, ◌↔◌, slice_get, length-append, length-set, replicate, map}
+use Rattle.std.proofs.lemmas.Grind.{common_steps}
 use Rattle.std.proofs.lemmas.List.{take_more, drop_more, take-append-drop, append-nil, get_or-set_same, get_or-set_other, get_or-map, length-map}
 use Rattle.std.proofs.lemmas.List.Elements.{filter-append, filter_more, All-push, All-same}
 use Rattle.std.proofs.lemmas.Option.{get_or_from_slice_get, slice_get_within, slice_get_read}

@@ -1,10 +1,9 @@
 use Rattle.std.proofs.Common.{◌≡◌, ◌≢◌, ◌<◌, ℕ, length, map, get_or, All, Some, below_more, slice_get, arith, rules, sym, ◌∙◌, refl, subst, ap}
 use Rattle.std.specs.Prelude.{IsTrue, slice_index_or}
 use Rattle.std.proofs.lemmas.List.{length-map}
-use Rattle.ocp_core.specs.Marks.{Marked, by_of}
+use Rattle.ocp_core.specs.Marks.{by_of}
 use Rattle.ocp_core.specs.Journal.{marked_of}
 use Rattle.ocp_seats.specs.Seats.{Seated}
-use Rattle.ocp_seats.specs.Closing.{IsReceipted}
 use Rattle.ocp_seats.proofs.Walks.{Walked, get_or_default, by_none, receipt_is, walk_past, walked_all, place_is_end}
 use Rattle.ocp_seats.proofs.close.is_receipted.Goals as goal
 

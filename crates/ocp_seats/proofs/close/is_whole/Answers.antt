@@ -1,6 +1,5 @@
-use Rattle.std.proofs.Common.{◌≡◌, ◌≢◌, ◌<◌, ◌≤◌, ◌==◌, ℕ, length, get_or, All, arith, rules, sym, ◌∙◌, refl, count_by, below_more}
+use Rattle.std.proofs.Common.{◌≡◌, ◌≤◌, ◌==◌, ℕ, arith, sym, ◌∙◌, refl, count_by, below_more}
 use Rattle.ocp_seats.specs.Seats.{Seated}
-use Rattle.ocp_seats.specs.Closing.{IsWhole}
 use Rattle.ocp_seats.proofs.close.is_whole.Goals as goal
 
 pub returns-then-count_number-ne1 : goal.returns-then-count_number-ne1

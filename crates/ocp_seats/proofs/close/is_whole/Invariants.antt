@@ -1,4 +1,4 @@
-use Rattle.std.proofs.Common.{◌≡◌, ◌≢◌, ℕ, ◌<◌, ◌≤◌, ◌==◌, count_by, get_or, All}
+use Rattle.std.proofs.Common.{◌≡◌, ℕ, ◌<◌, ◌≤◌, ◌==◌, count_by, get_or, All}
 use Rattle.ocp_seats.specs.Seats.{Seated}
 use Rattle.ocp_seats.proofs.close.is_whole.Given as goal
 

@@ -1,7 +1,7 @@
-use Rattle.std.proofs.Common.{ap, rules, arith}
+use Rattle.std.proofs.Common.{ap, rules}
 use Rattle.ocp_core.specs.Journal.{marked_of}
 use Rattle.ocp_seats.specs.Seats.{Seated}
-use Rattle.ocp_seats.proofs.Walks.{receipt_past, receipt_read}
+use Rattle.ocp_seats.proofs.Walks.{receipt_read}
 use Rattle.ocp_seats.proofs.seat.Seat.has_at.Goals as goal
 
 pub returns-clause-same : goal.returns-clause-same
