@@ -1,5 +1,5 @@
 -- Seats that go on.
-use Rattle.std.proofs.Common.{◌≡◌, List, [], ◌++◌, refl, ap, sym, ◌∙◌, append_assoc}
+use Rattle.std.proofs.Common.{List, [], ◌++◌, refl, ap, sym, ◌∙◌, append_assoc}
 use Rattle.std.proofs.lemmas.List.{append-nil}
 use Rattle.ocp_core.specs.Marks.{Marked}
 use Rattle.ocp_seats.specs.Seats.{Seated}
