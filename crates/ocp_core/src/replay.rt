@@ -1,11 +1,11 @@
 //! One procedure of a journal, by itself.
 
-ghost use Rattle.std.specs.Prelude.{◌≡◌, ◌<◌, ℕ, IfOk, OnOk, replicate};
+ghost use Rattle.std.specs.Prelude.{◌≡◌, ◌≤◌, ◌<◌, ℕ, IfOk, OnOk, map, replicate};
 ghost use Rattle.std.specs.FinMap.{get};
 ghost use Rattle.ocp_table.specs.Laws.{machine_of};
 ghost use Rattle.ocp_world.specs.World.{World, Request as Asked, Step};
 ghost use Rattle.ocp_world.specs.After.{after};
-ghost use Rattle.ocp_world.specs.Replay.{replay_from};
+ghost use Rattle.ocp_world.specs.Replay.{replay, replay_from};
 ghost use Rattle.ocp_world.specs.Mirror.State.{IsWorld};
 ghost use Rattle.ocp_core.specs.Log.{events_of, expand, world_of};
 ghost use Rattle.ocp_core.specs.Journal.{entry_of};
@@ -79,6 +79,26 @@ fn enter<A: Allocator + Copy, B: Allocator>(
     Ok(())
 }
 
+// The state after entries of an engine with this application process and so many pool words.
+fn state_after<A: Allocator + Copy, B: Allocator>(
+    alloc: A,
+    apid: Apid,
+    words: u16,
+    entries: &[Entry<B>],
+) -> Result<State<A>, AllocError>
+    requires apid { apid < 2047 }
+    requires words_from { 1 ≤ words }
+    requires words_to { words ≤ 256 }
+    ensures { IfOk result (λ state.
+        IsWorld (replay apid words (expand (map entry_of entries.now))) state) }
+{
+    let mut state = State::new(alloc, apid, words)?;
+    for entry in entries {
+        enter(&mut state, alloc, apid, entry)?;
+    }
+    Ok(state)
+}
+
 /// The machine of a procedure at the end of a journal, where it is loaded there. It is the machine of the journal's replay,
 /// and the one that its image and its own events make: its starts, its instructions, and the answers of its engine calls.
 /// The only refusal is that of memory.
@@ -93,11 +113,6 @@ pub fn replay_one<A: Allocator + Copy, B: Allocator>(
         alone_after journal.now.apid journal.now.words (expand journal.now.entries) id) }
 {
     machines_follow_from_their_own_events();
-    let apid = journal.apid();
-    let mut state = State::new(alloc, apid, journal.words())?;
-    let entries = journal.entries();
-    for entry in entries {
-        enter(&mut state, alloc, apid, entry)?;
-    }
+    let state = state_after(alloc, journal.apid(), journal.words(), journal.entries())?;
     state.machine(alloc, id)
 }
