@@ -4,8 +4,12 @@
 
 #[cfg(test)]
 mod cut_packets;
+#[cfg(test)]
+mod engine;
 pub mod heap;
 #[cfg(test)]
 mod makers;
+#[cfg(test)]
+mod requests;
 #[cfg(test)]
 mod writers;
