@@ -1,12 +1,12 @@
-//! Hostile use, by tests alone: growths of memory that are refused one after another, and packets that are cut. Beside the
-//! tests the crate has the allocator that refuses.
+//! Hostile use, by tests alone: growths of memory that are refused one after another, packets that are cut, and octets that
+//! are no procedure. Beside the tests the crate has the allocator that refuses.
 #![tactic(auto)]
 
 #[cfg(test)]
-mod cut_packets;
-#[cfg(test)]
 mod engine;
 pub mod heap;
+#[cfg(test)]
+mod images;
 #[cfg(test)]
 mod makers;
 #[cfg(test)]
