@@ -1,9 +1,13 @@
-//! Hostile use, by tests alone: growths of memory that are refused one after another, packets that are cut, and octets that
-//! are no procedure. Beside the tests the crate has the allocator that refuses.
+//! Hostile use, by tests alone: growths of memory that are refused one after another, devices that fail, packets that are
+//! cut, and octets that are no procedure. Beside the tests the crate has the allocator that refuses.
 #![tactic(auto)]
 
 #[cfg(test)]
 mod calls;
+#[cfg(test)]
+mod console;
+#[cfg(test)]
+mod devices;
 #[cfg(test)]
 mod engine;
 pub mod heap;

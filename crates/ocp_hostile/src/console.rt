@@ -1,0 +1,213 @@
+//! The console and the ground commands over devices that fail, and over memory that is refused.
+use crate::devices::{Giver, Taker};
+use crate::heap::Refusing;
+use ocp_console::{ConsoleFault, Crew, CrewFault, Device, Settings, asm, list, run};
+use std::alloc::{Allocator, Global};
+use std::test::Fail;
+
+/// How many growths are refused at most before a call has to succeed.
+const MOST: u64 = 400;
+
+/// More octets than any of these outputs has.
+const ROOM: usize = 4_096;
+
+/// A procedure of three instructions is loaded, activated, done and shown.
+const SCRIPT: &[u8] = b"send 9 load 7 b700000005000000070000000200000095000000\
+00000000\nsend 1 activate 7\nstep 7 3\nview 7\n";
+
+const TRANSCRIPT: &[u8] = b"tm 1 1 seq 0 dest 0 data 1923c000
+tm 1 7 seq 1 dest 0 data 1923c000
+tm 1 1 seq 2 dest 0 data 1923c001
+step 7 3 Ended
+view 7 inactive exited place 2 depth 0 pending none
+r0 0000000000000007
+r1 0000000020000000
+r2 0000000000000000
+r3 0000000000000000
+r4 0000000000000000
+r5 0000000000000000
+r6 0000000000000000
+r7 0000000000000000
+r8 0000000000000000
+r9 0000000000000000
+r10 0000000010001000
+";
+
+const TEXT: &[u8] = b"mov64 r1, 3\nsub64 r1, 1\njne64 r1, 0, -2\nexit\n";
+
+const IMAGE: &[u8] = b"b70100000300000017010000010000005501feff000000009500000000000000\n";
+
+/// The commands. A script is run with a crew that refuses each work, as it is said here.
+#[derive(Clone, Copy, Debug)]
+enum Command {
+    Assemble,
+    List,
+    Run(CrewFault),
+}
+
+/// What each of them reads, and what it writes.
+const COMMANDS: [(Command, &[u8], &[u8]); 3] = [
+    (Command::Assemble, TEXT, IMAGE),
+    (Command::List, IMAGE, TEXT),
+    (Command::Run(CrewFault::Workers), SCRIPT, TRANSCRIPT),
+];
+
+/// How a command ended.
+#[derive(Clone, Copy, PartialEq, Eq, Debug)]
+enum End {
+    Done,
+    Read,
+    Write,
+    Memory,
+    Workers,
+    Other,
+}
+
+fn end_of(ended: Result<bool, ConsoleFault>) -> End {
+    match ended {
+        Ok(true) => End::Done,
+        Err(ConsoleFault::Read) => End::Read,
+        Err(ConsoleFault::Write) => End::Write,
+        Err(ConsoleFault::Memory) => End::Memory,
+        Err(ConsoleFault::Workers) => End::Workers,
+        Ok(false) | Err(_) => End::Other,
+    }
+}
+
+/// A crew that refuses each work.
+#[derive(Drop)]
+struct Refuser(CrewFault);
+
+impl<E: Drop> Crew<E> for Refuser {
+    ghost ready = { λ _. Unit {0} };
+
+    ghost answers = { λ _ _ _ _ _ _. Unit {0} };
+
+    fn work(&self, _engine: E, _workers: u16, _budget: u32, _turns: u32) -> Result<E, CrewFault> {
+        Err(self.0)
+    }
+}
+
+/// Does a command from one device to the other, and tells how it ended and what the other device holds.
+fn perform<A: Allocator + Copy>(
+    alloc: A,
+    command: Command,
+    giver: Giver,
+    taker: Taker,
+) -> (End, Taker) {
+    let mut reader = Device {
+        inner: giver,
+        failed: 0,
+    };
+    let mut writer = Device {
+        inner: taker,
+        failed: 0,
+    };
+    let Some(settings) = Settings::new(0x123, 16, 10) else {
+        return (End::Other, writer.inner);
+    };
+    let ended = match command {
+        Command::Assemble => asm(alloc, &mut reader, &mut writer),
+        Command::List => list(alloc, &mut reader, &mut writer),
+        Command::Run(fault) => {
+            let crew = Refuser(fault);
+            run(alloc, settings, &crew, &mut reader, &mut writer).map(|()| true)
+        }
+    };
+    (end_of(ended), writer.inner)
+}
+
+#[test]
+fn a_writer_of_some_octets_holds_the_first(rt: HostRuntime) -> Result<(), Fail> {
+    for (command, input, output) in COMMANDS {
+        for room in 0..output.len() {
+            for fails in [false, true] {
+                let giver = Giver::new(input, ROOM, MOST);
+                let taker = Taker::new(rt.alloc(), 50, room, fails);
+                let (end, taker) = perform(rt.alloc(), command, giver, taker);
+                assert_eq!(rt; end, End::Write, "{command:?}: {room} octets");
+                assert!(rt;
+                    taker.kept() == &output[..room],
+                    "{command:?}: {room} octets"
+                );
+            }
+        }
+        let giver = Giver::new(input, ROOM, MOST);
+        let taker = Taker::new(rt.alloc(), 1, output.len(), true);
+        let (end, taker) = perform(rt.alloc(), command, giver, taker);
+        assert!(rt; end == End::Done && taker.kept() == output, "{command:?}");
+    }
+    Ok(())
+}
+
+#[test]
+fn a_reader_that_fails_ends_a_command(rt: HostRuntime) -> Result<(), Fail> {
+    for (command, input, output) in COMMANDS {
+        // One call for each octet, and one that finds the end.
+        for good in 0..input.len() as u64 + 1 {
+            let taker = Taker::new(rt.alloc(), ROOM, ROOM, true);
+            let (end, taker) = perform(rt.alloc(), command, Giver::new(input, 1, good), taker);
+            assert_eq!(rt; end, End::Read, "{command:?}: {good} calls");
+            assert!(rt;
+                output.starts_with(taker.kept()),
+                "{command:?}: {good} calls"
+            );
+        }
+        let giver = Giver::new(input, 1, input.len() as u64 + 1);
+        let taker = Taker::new(rt.alloc(), ROOM, ROOM, true);
+        let (end, taker) = perform(rt.alloc(), command, giver, taker);
+        assert!(rt; end == End::Done && taker.kept() == output, "{command:?}");
+    }
+    Ok(())
+}
+
+/// Does a command, at first with no memory, then with one more block each time, until it is done, and gives how many growths
+/// were refused. After each refusal a prefix of the output was written.
+fn refused(
+    heap: &Refusing<Global>,
+    alloc: Global,
+    command: Command,
+    input: &'static [u8],
+    output: &[u8],
+) -> Result<u64, Fail> {
+    for growths in 0..MOST {
+        let taker = Taker::new(alloc, ROOM, ROOM, true);
+        heap.allow(growths);
+        let (end, taker) = perform(heap, command, Giver::new(input, 40, MOST), taker);
+        match end {
+            End::Done if taker.kept() == output => return Ok(growths),
+            End::Memory if output.starts_with(taker.kept()) => {}
+            _ => return Err("another end, or other octets".into()),
+        }
+    }
+    Err("growths without end".into())
+}
+
+#[test]
+fn each_growth_of_a_command_is_refused(rt: HostRuntime) -> Result<(), Fail> {
+    let heap = Refusing::new(rt.alloc(), 0);
+    for (command, input, output) in COMMANDS {
+        let count = refused(&heap, rt.alloc(), command, input, output)?;
+        assert!(rt; count > 0, "{command:?}");
+    }
+    Ok(())
+}
+
+/// A script whose second line asks for the crew.
+const WORKED: &[u8] = b"journal\nwork 2 100 1000\njournal\n";
+
+#[test]
+fn a_crew_that_refuses_ends_the_run(rt: HostRuntime) -> Result<(), Fail> {
+    let refusals = [
+        (CrewFault::Workers, End::Workers),
+        (CrewFault::Memory, End::Memory),
+    ];
+    for (fault, wanted) in refusals {
+        let giver = Giver::new(WORKED, ROOM, MOST);
+        let taker = Taker::new(rt.alloc(), ROOM, ROOM, true);
+        let (end, taker) = perform(rt.alloc(), Command::Run(fault), giver, taker);
+        assert_eq!(rt; end, wanted);
+        assert!(rt; taker.kept() == b"journal 0\n".as_slice(), "{fault:?}");
+    }
+    Ok(())
+}
