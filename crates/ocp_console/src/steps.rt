@@ -1,6 +1,6 @@
 //! The steps of a run.
 
-ghost use Rattle.std.specs.Prelude.{◌≡◌, ◌≢◌, ◌<◌, ◌≤◌, ◌+◌, ◌-◌, ◌^◌, ◌↔◌, ℕ, List, [], ◌∷◌, ◌++◌, ◌⊎◌, length, Ok, Err, IfOk, IfErr, IsErrOf};
+ghost use Rattle.std.specs.Prelude.{◌≡◌, ◌≢◌, ◌<◌, ◌≤◌, ◌+◌, ◌-◌, ◌^◌, ◌↔◌, ℕ, List, [], ◌∷◌, ◌++◌, ◌⊎◌, length, vec_len, Ok, Err, IfOk, IfErr, IsErrOf};
 ghost use Rattle.ocp_console.specs.Answering.{state_of};
 ghost use Rattle.text_lines.specs.Lines.{Line, text_of, octets_of};
 ghost use Rattle.ocp_console.specs.Reading.{max_lines, max_line_octets};
@@ -15,18 +15,12 @@ use crate::answering::answer;
 use crate::console::{Console, Reply};
 use crate::crew::Crew;
 use crate::refusal::CrewFault;
-use crate::session::Session;
+use crate::session::{MAX_LINES, Session};
 use crate::texts::work_text;
 use ocp_core::Engine;
 use ocp_ports::{ConsoleFault, Sink, error_text, write_whole};
 use std::alloc::Allocator;
 use text_lines::without_carriage_return;
-
-/// The most lines of a script.
-const MAX_LINES: u32 = 100_000;
-
-/// The most octets of a line, a carriage return included and the newline not.
-const MAX_LINE_OCTETS: usize = 40_000;
 
 /// Writes why a run ends, and says it.
 fn refuse<W: Sink, A: Allocator + Copy>(
@@ -128,7 +122,7 @@ fn line_answer<W: Sink, C: Crew<Engine<A>>, A: Allocator + Copy>(
     }
 }
 
-/// Takes the next octet of a script.
+/// Takes an octet that does not go on with its line: it ends it, or there is no room for it.
 fn feed<W: Sink, C: Crew<Engine<A>>, A: Allocator + Copy>(
     session: Session<A>,
     alloc: A,
@@ -138,6 +132,8 @@ fn feed<W: Sink, C: Crew<Engine<A>>, A: Allocator + Copy>(
 ) -> Result<Session<A>, ConsoleFault>
     requires ready { C.ready crew.now }
     requires device { W.failed_writes writer.old < 2 ^ 64 - 1 }
+    requires no_room { (octet ≡ 10) ⊎ (session.before ≡ max_lines)
+        ⊎ (vec_len session.line ≡ max_line_octets) }
     ensures run { Answers (W.contents writer.old) (W.contents writer.new)
         (λ more. rest_of (C.answers crew.now) session (octet ∷ more))
         (λ after more. rest_of (C.answers crew.now) after more) result }
@@ -156,35 +152,27 @@ fn feed<W: Sink, C: Crew<Engine<A>>, A: Allocator + Copy>(
             ConsoleFault::TooManyLines,
         ));
     }
+    if octet != b'\n' {
+        return Err(refuse(
+            alloc,
+            writer,
+            session.before + 1,
+            "LineTooLong",
+            ConsoleFault::LineTooLong(session.before + 1),
+        ));
+    }
     let Session {
         console,
         mut line,
         before,
     } = session;
-    if octet == b'\n' {
-        let text = without_carriage_return(&line);
-        let console = line_answer(alloc, console, crew, writer, before, text)?;
-        line.clear();
-        return Ok(Session {
-            console,
-            line,
-            before: before + 1,
-        });
-    }
-    if line.len() == MAX_LINE_OCTETS {
-        return Err(refuse(
-            alloc,
-            writer,
-            before + 1,
-            "LineTooLong",
-            ConsoleFault::LineTooLong(before + 1),
-        ));
-    }
-    line.push(octet)?;
+    let text = without_carriage_return(&line);
+    let console = line_answer(alloc, console, crew, writer, before, text)?;
+    line.clear();
     Ok(Session {
         console,
         line,
-        before,
+        before: before + 1,
     })
 }
 
@@ -210,7 +198,11 @@ pub(crate) fn feed_all<W: Sink, C: Crew<Engine<A>>, A: Allocator + Copy>(
 {
     let mut session = session;
     for octet in octets {
-        session = feed(session, alloc, crew, *octet, writer)?;
+        if session.has_room(*octet) {
+            session.push(*octet)?;
+        } else {
+            session = feed(session, alloc, crew, *octet, writer)?;
+        }
     }
     Ok(session)
 }
