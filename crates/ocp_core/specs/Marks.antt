@@ -15,8 +15,8 @@ last_outcome w by id last (suc count) =
     let step = after w (Step by id) in
     last_outcome step.world by id (outcome_in step.answer) count
 
--- the mark of an entry, by the world before it: the reports of a request, or the outcome of the last
--- instruction
+-- the mark of an entry, by the world before it: the reports of a request, or the outcome of the
+-- last instruction
 abbrev pub mark_in : World → Entry → Answer
 mark_in w (Asked by time octets) = (after w (Request by time octets)).answer
 mark_in w (Steps by id count) = Stepped (last_outcome w by id S.Ran count)

@@ -37,7 +37,8 @@ pub record HasFirstBadTarget (image : List ℕ) (slot : ℕ) : Type 0 where
   pub line : Line
   pub stands : IsAt lines slot line
   pub bad_target : ¬ HasValidTarget lines slot line
-  pub earlier : (place : ℕ) (l : Line) → place < slot → IsAt lines place l → HasValidTarget lines place l
+  pub earlier : (place : ℕ) (l : Line) → place < slot → IsAt lines place l →
+      HasValidTarget lines place l
 
 -- the last line stands at the slot, and is neither EXIT nor JA
 pub record FallsOff (image : List ℕ) (slot : ℕ) : Type 0 where
@@ -53,8 +54,10 @@ abbrev pub IsFirstFault : List ℕ → LoadFault → Type 0
 IsFirstFault image EmptyCode = length image ≡ 0
 IsFirstFault image RaggedCode = length image % 8 ≢ 0
 IsFirstFault image TooLong = (length image % 8 ≡ 0) × (max_slots < length image / 8)
-IsFirstFault image (Decode fault slot) = HasSlots image × IsFilledUpTo image slot × IsFirst fault (drop (8 * slot) image)
-IsFirstFault image (BadCall slot) = HasSlots image × IsFilledUpTo image slot × CallsBadly (drop (8 * slot) image)
+IsFirstFault image (Decode fault slot) =
+    HasSlots image × IsFilledUpTo image slot × IsFirst fault (drop (8 * slot) image)
+IsFirstFault image (BadCall slot) =
+    HasSlots image × IsFilledUpTo image slot × CallsBadly (drop (8 * slot) image)
 IsFirstFault image (BadTarget slot) = HasSlots image × HasFirstBadTarget image slot
 IsFirstFault image (FallsOffEnd slot) = HasSlots image × FallsOff image slot
 IsFirstFault image Memory = Unit {0}

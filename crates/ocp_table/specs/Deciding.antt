@@ -1,4 +1,5 @@
--- What effect a directive has, by the request table, the record of its procedure, and whether the table is full.
+-- What effect a directive has, by the request table, the record of its procedure, and whether the
+-- table is full.
 use Rattle.std.specs.Prelude.{ℕ, Bool, true, false, if◌then◌else◌, List, length, Option, Some, None, Result, Ok, Err, nat_le}
 use Rattle.std.specs.FinMap.{get, len}
 use Rattle.bpf_types.specs.declared.line.Line.{Line}
@@ -47,8 +48,8 @@ abbrev pub outcome_of_call : Option Call → InstructionOutcome
 outcome_of_call (Some call) = Called call
 outcome_of_call None = Faulted (pool.fault_number BadPoolIndex)
 
--- what the outcome of a machine is for its procedure. A place without an instruction has none: no procedure of a table
--- stands there, since it does not come in an image that may be run.
+-- what the outcome of a machine is for its procedure. A place without an instruction has none: no
+-- procedure of a table stands there, since it does not come in an image that may be run.
 abbrev pub outcome_of : Outcome → State → List ℕ → List ℕ → Option InstructionOutcome
 outcome_of (Next s) machine pool mailbox = Some Ran
 outcome_of (Needs need.LastExit) machine pool mailbox = Some Ended

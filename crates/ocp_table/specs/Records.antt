@@ -19,9 +19,9 @@ pub record IsAdmittedAt (image : List ℕ) (machine : State) : Type 0 where
   pub begins : IsPlace image 0
   pub stands : StandsIn image machine
 
--- the mailbox has the words that the procedure was sent and has not taken, the oldest first; the control is what requests
--- and instructions set: the status, what is pending, the pass flag, and why the procedure became inactive; the breakpoints
--- are places of the program
+-- the mailbox has the words that the procedure was sent and has not taken, the oldest first; the
+-- control is what requests and instructions set: the status, what is pending, the pass flag, and
+-- why the procedure became inactive; the breakpoints are places of the program
 pub record Rec : Type 0 where
   pub image : List ℕ
   pub machine : State

@@ -1,6 +1,6 @@
--- The request table: what each request, and an instruction event, does to a procedure that is not loaded (None), inactive,
--- running or held, with p pending and n words in its mailbox. `Deciding` says what effect that has, and
--- `Effects` what the effect makes of the records.
+-- The request table: what each request, and an instruction event, does to a procedure that is not
+-- loaded (None), inactive, running or held, with p pending and n words in its mailbox. `Deciding`
+-- says what effect that has, and `Effects` what the effect makes of the records.
 use Rattle.std.specs.Prelude.{ℕ, ◌+◌, nat_le, if◌then◌else◌, List, length, Option, Some, None}
 use Rattle.obcp_types.specs.declared.status.Status.{Status}
 use Rattle.obcp_types.specs.declared.status.Status.TheVariants.{Inactive, Running, Held}
@@ -12,8 +12,9 @@ use Rattle.ocp_table.specs.declared.control.Pending.{Pending}
 use Rattle.ocp_table.specs.declared.control.Pending.TheVariants as pending
 use Rattle.ocp_table.specs.Effects.{Change, Started, Sent, Pended, Quit, Resumed}
 
--- what is asked of a procedure: to load an image, to be dropped, to start with arguments, to stop or to be held at the end
--- of a step (0 is any), to run on, to end at once, to take words, to do its next instruction, with the pool as it stands
+-- what is asked of a procedure: to load an image, to be dropped, to start with arguments, to stop
+-- or to be held at the end of a step (0 is any), to run on, to end at once, to take words, to do
+-- its next instruction, with the pool as it stands
 pub data Directive : Type 0 where
   Load : List ℕ → Directive
   Unload : Directive
@@ -25,8 +26,8 @@ pub data Directive : Type 0 where
   Communicate : List ℕ → Directive
   Step : List ℕ → Directive
 
--- what becomes of it: the image is loaded, unless the table is full or it may not be run; the record is dropped, or
--- changed; the next instruction is done; or it fails
+-- what becomes of it: the image is loaded, unless the table is full or it may not be run; the
+-- record is dropped, or changed; the next instruction is done; or it fails
 pub data Decision : Type 0 where
   Loads : List ℕ → Decision
   Unloads : Decision

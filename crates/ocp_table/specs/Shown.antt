@@ -43,7 +43,8 @@ directive_of directive.Resume = Resume
 directive_of directive.Abort = Abort
 directive_of (directive.Communicate words) = Communicate words.now
 
--- the effect of a directive on a record of the table, in which whether the table is full is not asked
+-- the effect of a directive on a record of the table, in which whether the table is full is not
+-- asked
 abbrev pub effect_of_record : {A : Type 0} → Directive → Record A → Effect
 effect_of_record directive r = effect_on directive (id_of r) (Some (shown r)) true
 

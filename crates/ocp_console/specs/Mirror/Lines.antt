@@ -10,7 +10,8 @@ abbrev pub is_one_line : List ℕ → Bool
 is_one_line [] = true
 is_one_line (octet ∷ octets) = if octet == 10 then false else is_one_line octets
 
--- the octets that were taken are so many lines, each of them short, and this line that has not ended
+-- the octets that were taken are so many lines, each of them short, and this line that has not
+-- ended
 pub record HasTaken (before : ℕ) (line octets : List ℕ) : Type 0 where
   pub done : List Line
   pub count : length done ≡ before

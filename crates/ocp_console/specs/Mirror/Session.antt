@@ -18,7 +18,8 @@ rest_of crew s more = Writes crew (state_of s.console) s.before (lines_of (s.lin
 abbrev pub octets_so_far : {A : Type 0} → Session A → ℕ
 octets_so_far s = s.before * (max_line_octets + 1) + vec_len s.line
 
--- A part of a script was answered: its text went out, and the rest of the run is that of what follows.
+-- A part of a script was answered: its text went out, and the rest of the run is that of what
+-- follows.
 abbrev pub Answers : {X T : Type 0} → Option (List ℕ) → Option (List ℕ) → (X → Writing) → (T → X → Writing) → Result T ConsoleFault → Type 0
 Answers {X} {T} old new whole rest (Ok x) =
     (sent : List ℕ) × Appends old new sent
