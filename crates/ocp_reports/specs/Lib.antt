@@ -1,3 +1,4 @@
 pub mod Origin
 pub mod Reports
+pub mod Due
 pub mod Packets

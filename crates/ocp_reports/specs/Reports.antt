@@ -4,7 +4,7 @@ use Rattle.std.specs.List.{flat_map}
 use Rattle.obcp_messages.specs.declared.report.Report.{Report}
 use Rattle.obcp_messages.specs.declared.report.Report.TheVariants as report
 use Rattle.obcp_messages.specs.Report.{start_fault}
-use Rattle.obcp_types.specs.Codes.{acceptance_code}
+use Rattle.obcp_types.specs.Codes.{acceptance_code, completion_code}
 use Rattle.verification.specs.declared.outcome.Outcome.{Outcome}
 use Rattle.verification.specs.declared.notice.Notice.{Notice}
 use Rattle.verification.specs.declared.notice.Notice.TheVariants as notice
@@ -23,6 +23,8 @@ report_of request answer (notice.NotStarted failure) =
     report.NotStarted request (start_fault failure) ∷ []
 report_of request answer notice.Answer = answer
 report_of request answer notice.Completed = report.Completed request ∷ []
+report_of request answer (notice.NotCompleted failure) =
+    report.NotCompleted request (completion_code failure) ∷ []
 
 abbrev pub dispatch_of_notice : Origin → List Report → Notice → List Dispatch
 dispatch_of_notice origin answer notice =

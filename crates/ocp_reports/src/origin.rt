@@ -1,6 +1,7 @@
 //! What the reports of a request repeat of it.
 
 use bitflags::Flags;
+use obcp_types::Due;
 use pus_fields::{Ack, Tc};
 
 /// What a request's reports repeat of it: its first four octets, its acknowledgement flags, the destination of the
@@ -16,6 +17,7 @@ pub struct Origin {
 impl Origin {
     ghost use Rattle.std.specs.Prelude.{◌≡◌};
     ghost use Rattle.ocp_reports.specs.Origin.{origin_of, origin_of_packet};
+    ghost use Rattle.ocp_reports.specs.Due.{origin_of_due};
 
     /// That of a telecommand: its reports go to its source.
     pub fn of_telecommand(telecommand: &Tc, time: u32) -> Origin
@@ -38,6 +40,18 @@ impl Origin {
             request,
             ack: Ack::empty(),
             destination: 0,
+            time,
+        }
+    }
+
+    /// That of a completion that waited, sent at this time: its report goes to the source of the request.
+    pub fn of_due(due: &Due, time: u32) -> Origin
+        ensures { result ≡ origin_of_due time due.now }
+    {
+        Origin {
+            request: due.origin.request,
+            ack: due.origin.ack,
+            destination: due.origin.source,
             time,
         }
     }

@@ -6,14 +6,16 @@ ghost use Rattle.obcp_messages.specs.declared.report.Report.{Report as Sent};
 ghost use Rattle.pus_fields.specs.Telemetry.{telemetry_octets};
 ghost use Rattle.ocp_reports.specs.Origin.{dispatch_of};
 ghost use Rattle.ocp_reports.specs.Reports.{report_of, dispatch_of_notice, reports_of};
+ghost use Rattle.ocp_reports.specs.Due.{due_dispatches, drained};
 ghost use Rattle.ocp_reports.specs.Packets.{packets, telemetry_of, IsTelemetryPacket};
 
 use crate::{CopiedReports, Octets, Origin, Reports};
 use obcp_messages::{Report, StartFault, write_report};
+use obcp_types::Due;
 use pus_fields::{Tm, WriteFault, telemetry_octets_are_read_back, write_tm};
 use space_packet::{Apid, SEQUENCE_COUNTS, SequenceCount};
 use std::alloc::{AllocError, Allocator};
-use verification::{Notice, Outcome, notices};
+use verification::{Notice, Outcome, completion, notices};
 
 /// The application process that sends reports, and the sequence count of its next one.
 #[derive(Clone, Copy)]
@@ -52,6 +54,10 @@ fn verification_report(request: [u8; 4], notice: Notice) -> Option<Report>
         }),
         Notice::Answer => None,
         Notice::Completed => Some(Report::Completed { request }),
+        Notice::NotCompleted(failure) => Some(Report::NotCompleted {
+            request,
+            code: failure.code(),
+        }),
     }
 }
 
@@ -159,6 +165,42 @@ impl Sender {
             IfOk result (λ r. r ≡ packets self.now.apid self.now.count all) }
     {
         let reports = self.reports(alloc, origin, outcome, answer)?;
+        CopiedReports::of(alloc, reports)
+    }
+
+    // Adds the packet of a completion that waited, if it is to be reported.
+    fn complete<A: Allocator + Copy>(
+        &self,
+        alloc: A,
+        time: u32,
+        due: &Due,
+        reports: &mut Reports<A>,
+    ) -> Result<(), AllocError>
+        ensures { let count = self.now.count + length reports.old in
+            OnOk result (reports.new ≡
+            reports.old ++ packets self.now.apid count (due_dispatches time due.now)) }
+    {
+        match completion(due.origin.ack, due.failure) {
+            Some(notice) => self.send(alloc, Origin::of_due(due, time), notice, &None, reports),
+            None => Ok(()),
+        }
+    }
+
+    /// The packets of the reports of completions that waited, the first one first, sent at this time to the sources of their
+    /// requests; with copies of them.
+    pub fn drained_reports<A: Allocator + Copy>(
+        &self,
+        alloc: A,
+        time: u32,
+        due: &[Due],
+    ) -> Result<CopiedReports<A>, AllocError>
+        ensures { IfOk result
+            (λ r. r ≡ packets self.now.apid self.now.count (drained time due.now)) }
+    {
+        let mut reports = Reports::new(alloc);
+        for one in due {
+            self.complete(alloc, time, one, &mut reports)?;
+        }
         CopiedReports::of(alloc, reports)
     }
 }
