@@ -1,6 +1,7 @@
 pub mod ContentsLemmas
 pub mod Able
 pub mod Each
+pub mod Totals
 pub mod Lawful
 pub mod Tables
 pub mod Rows
