@@ -19,7 +19,8 @@ use Rattle.ocp_lines.specs.declared.command.Verb.TheVariants as verb
 -- nothing, a packet's octets, a request with its acknowledgement flags, a time, some steps of a
 -- procedure; a breakpoint that is set or cleared at a place of a procedure, whether a procedure is
 -- traced, the trace records that are kept, a view of a procedure, so many octets of its memory from
--- an address on; a word of the pool, the number of events; so many workers with a budget and turns
+-- an address on; a word of the pool, the number of events; the reports of the completions that
+-- wait; so many workers with a budget and turns
 pub data Said : Type 0 where
   Nothing : Said
   Up : List ℕ → Said
@@ -34,6 +35,7 @@ pub data Said : Type 0 where
   Memory : ℕ → ℕ → ℕ → Said
   Pool : ℕ → Said
   Journal : Said
+  Drain : Said
   Work : ℕ → ℕ → ℕ → Said
 
 abbrev pub request_of : {A : Type 0} → Verb A → Request
@@ -61,6 +63,7 @@ said_by (command.View id) = View id
 said_by (command.Memory id address count) = Memory id address count.number
 said_by (command.Pool index) = Pool index
 said_by command.Journal = Journal
+said_by command.Drain = Drain
 said_by (command.Work shift) = Work shift.workers shift.budget shift.turns
 
 -- ---- how many words there are
@@ -270,6 +273,7 @@ plain_command_in name words =
     else if bytes_eq name (codes "step") then option_map (λ p. Step p.0 p.1) (count_in words)
     else if bytes_eq name (codes "pool") then option_map (λ index. Pool index) (pool_in words)
     else if bytes_eq name (codes "journal") then no_word Journal words
+    else if bytes_eq name (codes "drain") then no_word Drain words
     else if bytes_eq name (codes "work") then option_map (λ p. Work p.0 p.1 p.2) (work_in words)
     else debugger_command_in name words
 

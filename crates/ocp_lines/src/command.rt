@@ -86,7 +86,7 @@ pub enum Command<A: Allocator = Global> {
         flags: Flags,
         verb: Verb<A>,
     },
-    /// `time <u32>`: the time of later requests.
+    /// `time <u32>`: the time of later requests and drains.
     Time(u32),
     /// `step <id> <n>`: up to so many instructions of a procedure.
     Step {
@@ -122,6 +122,8 @@ pub enum Command<A: Allocator = Global> {
     Pool(u64),
     /// `journal`: how many events there were.
     Journal,
+    /// `drain`: the reports of the completions that wait.
+    Drain,
     /// `work <workers> <budget> <turns>`: workers take turns at the running procedures.
     Work(Shift),
 }

@@ -195,6 +195,8 @@ fn plain_command<A: Allocator>(name: &[u8], arguments: &[u8]) -> Option<Command<
         Some(Command::Pool(pool(arguments)?))
     } else if name == b"journal".as_slice() {
         no_word(arguments).then_some(Command::Journal)
+    } else if name == b"drain".as_slice() {
+        no_word(arguments).then_some(Command::Drain)
     } else if name == b"work".as_slice() {
         Some(Command::Work(shift(arguments)?))
     } else {
