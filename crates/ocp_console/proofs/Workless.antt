@@ -7,7 +7,7 @@ use Rattle.text_lines.specs.Lines.{Line, lines_of, text_of, octets_of}
 use Rattle.ocp_ports.specs.declared.fault.ConsoleFault.{ConsoleFault}
 use Rattle.ocp_ports.specs.declared.fault.ConsoleFault.TheVariants as faults
 use Rattle.ocp_ports.specs.Printing.{error_line}
-use Rattle.ocp_lines.specs.Grammar.{Said, Nothing, Up, Send, Time, Step, Break, Unbreak, Trace, Traces, View, Memory, Pool, Journal, Work, command_of}
+use Rattle.ocp_lines.specs.Grammar.{Said, Nothing, Up, Send, Time, Step, Break, Unbreak, Trace, Traces, View, Memory, Pool, Journal, Drain, Work, command_of}
 use Rattle.ocp_words.specs.declared.job.Settings.{Settings}
 use Rattle.ocp_console.specs.Answering.{State, Effect, Does, Works, effect_of, response, respond}
 use Rattle.ocp_console.specs.Crew.{CrewAnswers}
@@ -50,6 +50,7 @@ works state (View i) w b t e = absurd cc
 works state (Memory i a n) w b t e = absurd cc
 works state (Pool i) w b t e = absurd cc
 works state Journal w b t e = absurd cc
+works state Drain w b t e = absurd cc
 works state (Work x y z) w b t e = cc
 
 no_work : (state : State) (said : Option Said) (workers budget turns : ℕ) → response state said ≡ Some (Works workers budget turns) → said ≡ Some (Work workers budget turns)

@@ -19,14 +19,14 @@ use Rattle.ocp_world.specs.After.{Answer, Requested, Stepped, Commanded}
 use Rattle.ocp_world.specs.World as event
 use Rattle.ocp_core.specs.Log.{Log, empty_log, expand, world_of, answer_in, log_after}
 use Rattle.ocp_core.specs.Slice.{slice_in, slice_log}
-use Rattle.ocp_lines.specs.Grammar.{Said, Nothing, Up, Send, Time, Step, Break, Unbreak, Trace, Traces, View, Memory, Pool, Journal, Work, command_of}
+use Rattle.ocp_lines.specs.Grammar.{Said, Nothing, Up, Send, Time, Step, Break, Unbreak, Trace, Traces, View, Memory, Pool, Journal, Drain, Work, command_of}
 use Rattle.ocp_words.specs.declared.job.Settings.{Settings}
 use Rattle.ocp_console.specs.declared.console.Console.{Console}
-use Rattle.ocp_console.specs.Texts.{report_line, discard_line, step_line, break_line, unbreak_line, switch_line, memory_line, pool_line, journal_line}
+use Rattle.ocp_console.specs.Texts.{report_line, discard_line, refusal_line, step_line, break_line, unbreak_line, switch_line, memory_line, pool_line, journal_line}
 
 -- What a console keeps from line to line: the engine, which is its journal; the application process
--- identifier of the ground's telecommands; the time of the next requests; the ground count, which
--- is the sequence count of the next telecommand.
+-- identifier of the ground's telecommands; the time of the next requests and drains; the ground
+-- count, which is the sequence count of the next telecommand.
 pub record State : Type 0 where
   pub engine : Log
   pub apid : ℕ
@@ -45,34 +45,39 @@ opening settings = record {
   count = 0;
 }
 
--- ---- requests
+-- ---- requests and drains
 
--- what is printed of a request
+-- what is printed of a request or a drain
 abbrev pub answer_text : Answer → List ℕ
 answer_text (Requested (Ok reports)) = flat_map report_line reports
 answer_text (Requested (Err (fault.Discarded why))) = discard_line why
-answer_text (Requested (Err fault.JournalFull)) = codes "refused JournalFull\n"
+answer_text (Requested (Err fault.NothingDue)) = refusal_line (codes "NothingDue")
+answer_text (Requested (Err fault.JournalFull)) = refusal_line (codes "JournalFull")
 answer_text (Requested (Err fault.Memory)) = []
 answer_text (Stepped outcome) = []
 answer_text (Commanded result) = []
 
--- the event that these octets reach the engine, by the console's seat 0
-abbrev pub arrival : State → List ℕ → event.Event
-arrival state octets = event.Request 0 state.time octets
-
--- the journal after an answer: a refused request leaves no entry
+-- the journal after an answer: a refused request or drain leaves no entry
 abbrev pub log_by_answer : Answer → Log → Log → Log
 log_by_answer (Requested (Ok reports)) old new = new
 log_by_answer (Requested (Err fault)) old new = old
 log_by_answer (Stepped outcome) old new = old
 log_by_answer (Commanded result) old new = old
 
--- these octets reach the engine
-abbrev pub on_octets : State → List ℕ → State × List ℕ
-on_octets state octets =
-    let answer = answer_in state.engine (arrival state octets) in
-    let log = log_by_answer answer state.engine (log_after state.engine (arrival state octets)) in
+-- a request or a drain reaches the engine
+abbrev pub on_event : State → event.Event → State × List ℕ
+on_event state asked =
+    let answer = answer_in state.engine asked in
+    let log = log_by_answer answer state.engine (log_after state.engine asked) in
     (record state { engine = log }, answer_text answer)
+
+-- these octets reach the engine, by the console's seat 0
+abbrev pub on_octets : State → List ℕ → State × List ℕ
+on_octets state octets = on_event state (event.Request 0 state.time octets)
+
+-- the reports of the completions that wait are sent, by the console's seat 0
+abbrev pub on_drain : State → State × List ℕ
+on_drain state = on_event state (event.Drain 0 state.time)
 
 -- the telecommand of a request of service 18, from source 0
 abbrev pub telecommand : ℕ → ℕ → ℕ → Request → List ℕ
@@ -158,6 +163,7 @@ effect_of state (Memory id address count) = Does (state, memory_text state id ad
 effect_of state (Pool index) =
     Does (state, pool_line index (slice_get (world_of state.engine).pool index))
 effect_of state Journal = Does (state, journal_line (length (expand state.engine.entries)))
+effect_of state Drain = Does (on_drain state)
 effect_of state (Work workers budget turns) = Works workers budget turns
 
 abbrev pub response : State → Option Said → Option Effect

@@ -44,6 +44,10 @@ discard_name discard.OtherApid = codes "OtherApid"
 abbrev pub discard_line : Discard → List ℕ
 discard_line why = codes "discarded " ++ discard_name why ++ codes "\n"
 
+-- a request or a drain that is refused for a reason of this name
+abbrev pub refusal_line : List ℕ → List ℕ
+refusal_line name = codes "refused " ++ name ++ codes "\n"
+
 -- ---- steps
 
 -- `step <id> <count> <outcome>`

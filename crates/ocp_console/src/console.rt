@@ -9,9 +9,9 @@ use crate::crew::Crew;
 use crate::debugging::{break_text, no_octets_text, octets_text, switch_text, unbreak_text};
 use crate::refusal::CrewFault;
 use crate::sending::telecommand;
-use crate::texts::{discard_text, journal_text, pool_text, refusal_text, reports_text, step_text};
+use crate::texts::{answer_text, journal_text, pool_text, step_text};
 use obcp_messages::{Arguments, Code, Request, Words};
-use ocp_core::{Engine, EngineFault};
+use ocp_core::Engine;
 use ocp_debug::view_text;
 use ocp_lines::{Command, Flags, MAX_MEMORY_LENGTH, MemoryLength, Shift, Verb};
 use ocp_words::Settings;
@@ -24,7 +24,7 @@ pub(crate) struct Console<A: Allocator> {
     pub engine: Engine<A>,
     /// The application process identifier of the ground's telecommands.
     pub apid: Apid,
-    /// The time of the next requests, in whole seconds.
+    /// The time of the next requests and drains, in whole seconds.
     pub time: u32,
     /// The ground count: the sequence count of the next telecommand.
     pub count: SequenceCount,
@@ -42,7 +42,7 @@ pub(crate) enum Reply<A: Allocator = Global> {
 
 impl<A: Allocator + Copy> Console<A> {
     ghost use Rattle.ocp_lines.specs.Grammar.{said_by, request_of};
-    ghost use Rattle.ocp_console.specs.Answering.{state_of, opening, on_octets, on_request, trace_lines, view_text, memory_text, effect_of, Works};
+    ghost use Rattle.ocp_console.specs.Answering.{state_of, opening, on_octets, on_drain, on_request, trace_lines, view_text, memory_text, effect_of, Works};
     ghost use Rattle.ocp_console.specs.Crew.{HasDone, HasRefused};
     ghost use Rattle.ocp_console.specs.Texts.{work_line};
     ghost use Rattle.ocp_console.specs.Mirror.Replies.{effect_by, IsKept};
@@ -66,12 +66,17 @@ impl<A: Allocator + Copy> Console<A> {
             (λ output. (state_of self.new, output.items) ≡
             on_octets (state_of self.old) octets.now) }
     {
-        match self.engine.request(alloc, 0, self.time, octets) {
-            Ok(reports) => reports_text(alloc, &reports),
-            Err(EngineFault::Discarded(why)) => discard_text(alloc, why),
-            Err(EngineFault::JournalFull) => refusal_text(alloc),
-            Err(EngineFault::Memory) => Err(AllocError),
-        }
+        let answer = self.engine.request(alloc, 0, self.time, octets);
+        answer_text(alloc, answer)
+    }
+
+    /// What a `drain` line does.
+    fn drain(&mut self, alloc: A) -> Result<Vec<u8, A>, AllocError>
+        ensures { IfOk result
+            (λ output. (state_of self.new, output.items) ≡ on_drain (state_of self.old)) }
+    {
+        let answer = self.engine.drain(alloc, 0, self.time);
+        answer_text(alloc, answer)
     }
 
     /// A telecommand of this request reaches the engine.
@@ -192,6 +197,7 @@ impl<A: Allocator + Copy> Console<A> {
             } => self.memory(alloc, id, address, length),
             Command::Pool(index) => pool_text(alloc, index, self.engine.pool_word(index)),
             Command::Journal => journal_text(alloc, self.engine.events()),
+            Command::Drain => self.drain(alloc),
         };
         Ok(Reply::Printed(printed?))
     }

@@ -1,12 +1,14 @@
 //! What is printed of reports, steps, the pool and the journal.
 
-ghost use Rattle.std.specs.Prelude.{◌≡◌, ◌++◌, IfOk, codes, string_bytes};
+ghost use Rattle.std.specs.Prelude.{◌≡◌, ◌≢◌, ◌++◌, IfOk, Err, string_bytes};
 ghost use Rattle.std.specs.Fmt.{decimal};
 ghost use Rattle.std.specs.List.{flat_map};
 ghost use Rattle.ocp_debug.specs.Texts.{outcome_text};
-ghost use Rattle.ocp_console.specs.Texts.{report_line, discard_name, discard_line, step_line, pool_line, journal_line, work_line};
+ghost use Rattle.ocp_world.specs.After.{Requested};
+ghost use Rattle.ocp_console.specs.Answering.{answer_text};
+ghost use Rattle.ocp_console.specs.Texts.{report_line, discard_name, discard_line, refusal_line, step_line, pool_line, journal_line, work_line};
 
-use ocp_core::{Reports, Slice, StepOutcome};
+use ocp_core::{EngineFault, Reports, Slice, StepOutcome};
 use pus_fields::{Discard, read_tm};
 use std::alloc::{AllocError, Allocator};
 
@@ -29,7 +31,7 @@ fn report_text<A: Allocator + Copy>(alloc: A, packet: &[u8]) -> Result<String<A>
 }
 
 /// The lines of reports.
-pub(crate) fn reports_text<A: Allocator + Copy>(
+fn reports_text<A: Allocator + Copy>(
     alloc: A,
     reports: &Reports<A>,
 ) -> Result<Vec<u8, A>, AllocError>
@@ -56,21 +58,38 @@ fn name_of_discard(why: Discard) -> &'static str
     }
 }
 
-/// The line of a packet that finds the journal full.
-pub(crate) fn refusal_text<A: Allocator>(alloc: A) -> Result<Vec<u8, A>, AllocError>
-    ensures { IfOk result (λ output. output.items ≡ codes "refused JournalFull\n") }
+/// The line of a request or a drain that is refused for a reason of this name.
+fn refusal_text<A: Allocator>(alloc: A, name: &str) -> Result<Vec<u8, A>, AllocError>
+    ensures { IfOk result (λ output. output.items ≡ refusal_line name.now) }
 {
-    let text = String::from_str(alloc, "refused JournalFull\n")?;
+    let text = format!(in alloc; "refused {name}\n")?;
     Ok(text.into_bytes())
 }
 
 /// The line of a packet that is discarded.
-pub(crate) fn discard_text<A: Allocator>(alloc: A, why: Discard) -> Result<Vec<u8, A>, AllocError>
+fn discard_text<A: Allocator>(alloc: A, why: Discard) -> Result<Vec<u8, A>, AllocError>
     ensures { IfOk result (λ output. output.items ≡ discard_line why) }
 {
     let name = name_of_discard(why);
     let text = format!(in alloc; "discarded {name}\n")?;
     Ok(text.into_bytes())
+}
+
+/// The lines of a request or a drain with this answer.
+pub(crate) fn answer_text<A: Allocator + Copy>(
+    alloc: A,
+    answer: Result<Reports<A>, EngineFault>,
+) -> Result<Vec<u8, A>, AllocError>
+    ensures lines { IfOk result (λ output. output.items ≡ answer_text (Requested answer)) }
+    ensures memory { IfOk result (λ output. answer ≢ Err EngineFault.Memory) }
+{
+    match answer {
+        Ok(reports) => reports_text(alloc, &reports),
+        Err(EngineFault::Discarded(why)) => discard_text(alloc, why),
+        Err(EngineFault::NothingDue) => refusal_text(alloc, "NothingDue"),
+        Err(EngineFault::JournalFull) => refusal_text(alloc, "JournalFull"),
+        Err(EngineFault::Memory) => Err(AllocError),
+    }
 }
 
 fn text_of_outcome<A: Allocator>(alloc: A, outcome: StepOutcome) -> Result<String<A>, AllocError>

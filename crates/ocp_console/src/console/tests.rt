@@ -5,10 +5,11 @@ use ocp_lines::read_command;
 use ocp_words::Settings;
 use std::test::Fail;
 
-// The seat of an entry, and the time of a request or else the identifier of the procedure.
+// The seat of an entry, and the time of a request or a drain or else the identifier of the procedure.
 fn seat_and_time(entry: &Entry) -> (u16, u32) {
     match entry {
         Entry::Request { by, time, .. } => (*by, *time),
+        Entry::Drain { by, time, .. } => (*by, *time),
         Entry::Steps { by, id, .. } => (*by, u32::from(*id)),
         Entry::SetBreak { by, id, .. } => (*by, u32::from(*id)),
         Entry::ClearBreak { by, id, .. } => (*by, u32::from(*id)),
@@ -20,10 +21,11 @@ fn seat_and_time(entry: &Entry) -> (u16, u32) {
 fn entries_have_seat_0_and_the_time_of_the_last_time_line(rt: HostRuntime) -> Result<(), Fail> {
     let settings = Settings::new(291, 16, 10).expect(&rt, "settings in range");
     let mut console = Console::new(rt.alloc(), settings)?;
-    let script: [&[u8]; 10] = [
+    let script: [&[u8]; 12] = [
         b"send 0 load 7 9500000000000000",
         b"time 86400",
         b"send 0 activate 7",
+        b"send 0 stop 7 1",
         b"step 7 1",
         b"break 7 0",
         b"break 7 0",
@@ -31,6 +33,7 @@ fn entries_have_seat_0_and_the_time_of_the_last_time_line(rt: HostRuntime) -> Re
         b"trace 7 on",
         b"time 4294967295",
         b"up 1923c00500062912080007d942",
+        b"drain",
     ];
     for line in script {
         let command = read_command(rt.alloc(), line)?.expect(&rt, "a line of the console");
@@ -40,10 +43,12 @@ fn entries_have_seat_0_and_the_time_of_the_last_time_line(rt: HostRuntime) -> Re
     let wanted = [
         (0, 0),
         (0, 86_400),
+        (0, 86_400),
         (0, 7),
         (0, 7),
         (0, 7),
         (0, 7),
+        (0, 4_294_967_295),
         (0, 4_294_967_295),
     ];
     assert_eq!(rt; entries.len(), wanted.len());
