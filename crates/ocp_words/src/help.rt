@@ -73,6 +73,7 @@ pub(crate) const RUN_HELP: &str = "Console lines:
   trace                                   shows the last 256 records
   pool <index>                            shows a word of the pool
   journal                                 shows how many events there were
+  drain                                   sends the reports of completions that wait
   work <workers> <budget> <turns>         workers take turns of up to budget instructions
   # ..                                    a comment
 
@@ -91,7 +92,10 @@ Codes of a failed acceptance (tm 1 2):
 
 Codes of a failed start (tm 1 4):
   16 AlreadyLoaded, 17 TableFull, 18 BadCode, 19 NotLoaded, 20 NotInactive, 21 NotActive,
-  22 NotRunning, 23 NotHeld, 24 StopPending, 25 MailboxFull
+  22 NotRunning, 23 NotHeld, 24 StopPending, 25 MailboxFull, 27 OutboxFull
+
+Code of a failed completion (tm 1 8):
+  26 Overtaken
 
 Load faults, behind code 18:
   1 EmptyCode, 2 RaggedCode, 3 TooLong, 4 CutWide, 5 UnknownOpcode, 6 BadRegister,
