@@ -7,12 +7,13 @@ use Rattle.ocp_debug.specs.declared.command.DebugFault.{DebugFault}
 use Rattle.ocp_reports.specs.Origin.{Dispatch}
 
 -- octets are discarded; reports are sent, each to its destination at its time; an instruction was
--- asked for; or a debugger's command was
+-- asked for; a debugger's command was; or no completion waits to be reported
 pub data Reply : Type 0 where
   Discards : Discard → Reply
   Sends : List Dispatch → Reply
   Steps : StepOutcome → Reply
   Commands : Result (Unit {0}) DebugFault → Reply
+  Undue : Reply
 
 pub record Effect : Type 0 where
   pub on_records : table.Effect

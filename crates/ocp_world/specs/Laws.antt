@@ -8,7 +8,7 @@ use Rattle.obcp_types.specs.declared.failure.RequestFault.{RequestFault}
 use Rattle.obcp_messages.specs.declared.request.Request.{Request as Command}
 use Rattle.obcp_messages.specs.declared.request.Request.TheVariants as command
 use Rattle.ocp_debug.specs.declared.trace.Trace.{Trace}
-use Rattle.ocp_world.specs.World.{World, Event, Request, Step, Debug}
+use Rattle.ocp_world.specs.World.{World, Event, Request, Step, Debug, Drain}
 use Rattle.ocp_world.specs.Requests.{command_of}
 use Rattle.ocp_world.specs.Slice.{is_running}
 
@@ -33,6 +33,7 @@ abbrev pub may_change_machine : World → Event → ℕ → Bool
 may_change_machine w (Request by time octets) id = is_start_by id (telecommand_of w.apid octets)
 may_change_machine w (Step by own) id = (own == id) && is_running (get w.records own)
 may_change_machine w (Debug by own command) id = false
+may_change_machine w (Drain by time) id = false
 
 -- the later trace records are the earlier ones and then more
 abbrev pub IsAppended : List Trace → List Trace → Type 0

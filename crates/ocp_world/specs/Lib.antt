@@ -2,6 +2,7 @@ pub mod World
 pub mod Effect
 pub mod Requests
 pub mod Instructions
+pub mod Drains
 pub mod After
 pub mod Answers
 pub mod Replay

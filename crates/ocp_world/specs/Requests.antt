@@ -1,12 +1,12 @@
 -- What a request does.
-use Rattle.std.specs.Prelude.{ℕ, List, [], ◌∷◌, Option, Some, None, Result, Ok, Err}
+use Rattle.std.specs.Prelude.{ℕ, Bool, List, [], ◌∷◌, Result, Ok, Err}
 use Rattle.pus_fields.specs.declared.fault.TcFault.{TcFault}
 use Rattle.pus_fields.specs.declared.fault.TcFault.TheVariants.{Discarded, Rejected}
 use Rattle.pus_fields.specs.Telecommand.{Telecommand}
 use Rattle.obcp_types.specs.declared.failure.RequestFault.{RequestFault}
 use Rattle.obcp_types.specs.declared.failure.AcceptanceFailure.{AcceptanceFailure}
 use Rattle.obcp_types.specs.declared.failure.AcceptanceFailure.TheVariants as acceptance
-use Rattle.obcp_types.specs.declared.failure.StartFailure.{StartFailure}
+use Rattle.obcp_types.specs.declared.pending.PendingOrigin.{PendingOrigin}
 use Rattle.obcp_messages.specs.declared.request.Request.{Request as Command}
 use Rattle.obcp_messages.specs.declared.request.Request.TheVariants as command
 use Rattle.obcp_messages.specs.Reading.{request_of}
@@ -15,15 +15,17 @@ use Rattle.obcp_messages.specs.declared.report.Report.TheVariants as report
 use Rattle.verification.specs.declared.outcome.Outcome.{Outcome}
 use Rattle.verification.specs.declared.outcome.Outcome.TheVariants as outcome
 use Rattle.ocp_table.specs.Records.{Records}
-use Rattle.ocp_table.specs.Effects.{Kept, Unasked, failure_of}
+use Rattle.ocp_table.specs.Effects.{Changed, Pended, Kept, Unasked, Failed}
 use Rattle.ocp_table.specs.Effects as table
 use Rattle.ocp_table.specs.RequestTable.{Directive}
 use Rattle.ocp_table.specs.RequestTable as directive
 use Rattle.ocp_table.specs.Deciding.{effect_in}
+use Rattle.ocp_table.specs.Outbox.{is_outbox_full}
 use Rattle.ocp_table.specs.Shown.{statuses_of}
 use Rattle.ocp_reports.specs.declared.origin.Origin.{Origin}
 use Rattle.ocp_reports.specs.Origin.{origin_of, origin_of_packet}
 use Rattle.ocp_reports.specs.Reports.{reports_of}
+use Rattle.ocp_world.specs.World.{World}
 use Rattle.ocp_world.specs.Effect.{Effect, Discards, Sends}
 
 -- a failed acceptance
@@ -33,16 +35,18 @@ refusal_effect origin failure = record {
   reply = Sends (reports_of origin (outcome.Refused failure) []);
 }
 
--- what became of a request that was accepted, by why its start failed, where it did
-abbrev pub outcome_by : Option StartFailure → Outcome
-outcome_by None = outcome.Done
-outcome_by (Some failure) = outcome.NotStarted failure
+-- what became of a request that was accepted: its start failed, it was started and its stop or
+-- suspend waits, or it is done
+abbrev pub outcome_by : table.Effect → Outcome
+outcome_by (Kept (Failed failure)) = outcome.NotStarted failure
+outcome_by (Changed id (Pended pending)) = outcome.Started
+outcome_by effect = outcome.Done
 
 -- an accepted request, with its answer report where it has one
 abbrev pub start_effect : Origin → List Report → table.Effect → Effect
 start_effect origin answer effect = record {
   on_records = effect;
-  reply = Sends (reports_of origin (outcome_by (failure_of effect)) answer);
+  reply = Sends (reports_of origin (outcome_by effect) answer);
 }
 
 -- the status report of all procedures
@@ -53,34 +57,56 @@ status_report m = report.Status (statuses_of m)
 abbrev pub directive_effect : Origin → Directive → ℕ → Records → Effect
 directive_effect origin asked id m = start_effect origin [] (effect_in asked id m)
 
-abbrev pub command_effect : Command → Origin → Records → Effect
-command_effect (command.Load id code) origin m = directive_effect origin (directive.Load code) id m
-command_effect (command.Unload id) origin m = directive_effect origin directive.Unload id m
-command_effect (command.Activate id arguments) origin m =
-    directive_effect origin (directive.Activate arguments) id m
-command_effect (command.Stop id step) origin m = directive_effect origin (directive.Stop step) id m
-command_effect (command.Suspend id step) origin m =
-    directive_effect origin (directive.Suspend step) id m
-command_effect (command.Resume id) origin m = directive_effect origin directive.Resume id m
-command_effect (command.Communicate id words) origin m =
-    directive_effect origin (directive.Communicate words) id m
-command_effect command.Status origin m = start_effect origin (status_report m ∷ []) (Kept Unasked)
-command_effect (command.Abort id) origin m = directive_effect origin directive.Abort id m
+-- where the completion of a stop or suspend goes that becomes pending: this many events were
+-- accepted before it
+abbrev pub pending_origin : Origin → ℕ → PendingOrigin
+pending_origin origin event = record {
+  event = event;
+  request = origin.request;
+  source = origin.destination;
+  ack = origin.ack;
+}
+
+-- that of the next event of a world, and whether a completion more would find no place there
+abbrev pub next_origin : Origin → World → PendingOrigin
+next_origin origin w = pending_origin origin w.events
+
+abbrev pub has_no_place : World → Bool
+has_no_place w = is_outbox_full w.records w.outbox
+
+abbrev pub command_effect : Command → Origin → World → Effect
+command_effect (command.Load id code) origin w =
+    directive_effect origin (directive.Load code) id w.records
+command_effect (command.Unload id) origin w = directive_effect origin directive.Unload id w.records
+command_effect (command.Activate id arguments) origin w =
+    directive_effect origin (directive.Activate arguments) id w.records
+command_effect (command.Stop id step) origin w =
+    directive_effect origin (directive.Stop step (next_origin origin w) (has_no_place w)) id
+    w.records
+command_effect (command.Suspend id step) origin w =
+    directive_effect origin (directive.Suspend step (next_origin origin w) (has_no_place w)) id
+    w.records
+command_effect (command.Resume id) origin w = directive_effect origin directive.Resume id w.records
+command_effect (command.Communicate id words) origin w =
+    directive_effect origin (directive.Communicate words) id w.records
+command_effect command.Status origin w =
+    start_effect origin (status_report w.records ∷ []) (Kept Unasked)
+command_effect (command.Abort id) origin w = directive_effect origin directive.Abort id w.records
 
 -- the request of a telecommand
 unfoldable pub command_of : Telecommand → Result Command RequestFault
 command_of tc = request_of tc.service tc.subtype tc.payload
 
-abbrev pub service_effect : Result Command RequestFault → Origin → Records → Effect
-service_effect (Ok request) origin m = command_effect request origin m
-service_effect (Err why) origin m = refusal_effect origin (acceptance.Request why)
+abbrev pub service_effect : Result Command RequestFault → Origin → World → Effect
+service_effect (Ok request) origin w = command_effect request origin w
+service_effect (Err why) origin w = refusal_effect origin (acceptance.Request why)
 
 -- what octets do, as they were read
-abbrev pub request_effect : Result Telecommand TcFault → ℕ → Records → Effect
-request_effect (Ok tc) time m = service_effect (command_of tc) (origin_of tc time) m
-request_effect (Err (Rejected rejection request)) time m =
+abbrev pub request_effect : Result Telecommand TcFault → ℕ → World → Effect
+request_effect (Ok tc) time w = service_effect (command_of tc) (origin_of tc time) w
+request_effect (Err (Rejected rejection request)) time w =
     refusal_effect (origin_of_packet request time) (acceptance.Packet rejection)
-request_effect (Err (Discarded cause)) time m = record {
+request_effect (Err (Discarded cause)) time w = record {
   on_records = Kept Unasked;
   reply = Discards cause;
 }

@@ -1,5 +1,5 @@
 -- What instructions that a machine does by itself make of a world.
-use Rattle.std.specs.Prelude.{◌≡◌, ◌≤◌, ℕ, false, Some}
+use Rattle.std.specs.Prelude.{◌≡◌, ◌+◌, ◌≤◌, ℕ, false, Some}
 use Rattle.std.specs.FinMap.{get}
 use Rattle.obcp_types.specs.declared.status.Status.TheVariants.{Running}
 use Rattle.bpf_step.specs.Machine.{State}
@@ -9,12 +9,15 @@ use Rattle.ocp_table.specs.Effects.{records_with}
 use Rattle.ocp_table.specs.Snapshots.{settled}
 use Rattle.ocp_world.specs.World.{World}
 
--- the world in which this machine is put back into a procedure, and its pass flag is off
-abbrev pub world_settled : ℕ → State → World → World
-world_settled id machine w = record {
+-- the world in which this machine is put back into a procedure after so many instructions, each an
+-- accepted event, and its pass flag is off
+abbrev pub world_settled : ℕ → State → ℕ → World → World
+world_settled id machine count w = record {
   apid = w.apid;
   records = records_with (get w.records id) id (settled machine) w.records;
+  outbox = w.outbox;
   pool = w.pool;
+  events = w.events + count;
   reports = w.reports;
   traces = w.traces;
 }

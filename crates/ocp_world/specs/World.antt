@@ -1,16 +1,20 @@
 -- The world of an engine, and the events that can happen in it.
 use Rattle.std.specs.Prelude.{ℕ, List, [], replicate}
 use Rattle.std.specs.FinMap.{empty}
+use Rattle.obcp_types.specs.declared.pending.Due.{Due}
 use Rattle.ocp_table.specs.Records.{Records}
 use Rattle.ocp_debug.specs.declared.command.Command.{Command}
 use Rattle.ocp_debug.specs.declared.trace.Trace.{Trace}
 
--- the application process, its procedures, the words of its pool, how many reports it has sent, and
--- all trace records that were made, the oldest first
+-- the application process, its procedures, the completions that wait to be reported, the oldest
+-- first, the words of its pool, how many events it has accepted and how many reports it has sent,
+-- and all trace records that were made, the oldest first
 pub record World : Type 0 where
   pub apid : ℕ
   pub records : Records
+  pub outbox : List Due
   pub pool : List ℕ
+  pub events : ℕ
   pub reports : ℕ
   pub traces : List Trace
 
@@ -19,14 +23,18 @@ abbrev pub opening : ℕ → ℕ → World
 opening apid words = record {
   apid = apid;
   records = empty;
+  outbox = [];
   pool = replicate words 0;
+  events = 0;
   reports = 0;
   traces = [];
 }
 
 -- the octets of a request, with the seat that handed them in and the time; one instruction of a
--- procedure, with the seat; or a debugger's command to a procedure, with the seat
+-- procedure, with the seat; a debugger's command to a procedure, with the seat; or the sending of
+-- the completions that wait, with the seat that asked for it and the time
 pub data Event : Type 0 where
   Request : ℕ → ℕ → List ℕ → Event
   Step : ℕ → ℕ → Event
   Debug : ℕ → ℕ → Command → Event
+  Drain : ℕ → ℕ → Event

@@ -3,11 +3,13 @@
 ghost use Rattle.std.specs.Prelude.{◌≡◌, ℕ, List};
 ghost use Rattle.pus_fields.specs.TelecommandFaults.{telecommand_of};
 ghost use Rattle.ocp_world.specs.World.{World, Request as Asked};
-ghost use Rattle.ocp_world.specs.Requests.{command_of, status_report};
+ghost use Rattle.ocp_world.specs.Requests.{command_of, status_report, pending_origin};
 ghost use Rattle.ocp_world.specs.After.{after};
 ghost use Rattle.ocp_world.specs.Mirror.Answering.{discard_of, IsDiscard};
 
 use obcp_messages::{Report, Request, RequestFault, StatusRows, read_request};
+use obcp_types::PendingOrigin;
+use ocp_reports::Origin;
 use ocp_table::Table;
 use pus_fields::{Discard, Tc, TcFault};
 use std::alloc::Allocator;
@@ -32,6 +34,18 @@ pub fn discard_of(read: &Result<Tc<'_>, TcFault>) -> Option<Discard>
     match read {
         Err(TcFault::Discarded(cause)) => Some(*cause),
         Err(TcFault::Rejected(_, _)) | Ok(_) => None,
+    }
+}
+
+/// Where the completion of a pending stop or suspend goes, by the origin of its request and the number of its event.
+pub fn pending_origin(origin: Origin, event: u64) -> PendingOrigin
+    ensures { result ≡ pending_origin origin event }
+{
+    PendingOrigin {
+        event,
+        request: origin.request,
+        source: origin.destination,
+        ack: origin.ack,
     }
 }
 

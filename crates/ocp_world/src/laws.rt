@@ -1,9 +1,9 @@
 //! Laws on worlds and events. The functions do nothing when they run: their contracts are the laws.
-ghost use Rattle.std.specs.Prelude.{◌≡◌, ◌≢◌, ℕ, false, List, Err};
+ghost use Rattle.std.specs.Prelude.{◌≡◌, ◌≢◌, ◌+◌, ℕ, false, List, [], Err, if◌then◌else◌};
 ghost use Rattle.std.specs.FinMap.{get};
 ghost use Rattle.ocp_debug.specs.declared.command.Command.{Command as Asked};
 ghost use Rattle.ocp_debug.specs.declared.command.DebugFault.TheVariants as debug;
-ghost use Rattle.ocp_world.specs.World.{World, Event, Request, Step, Debug};
+ghost use Rattle.ocp_world.specs.World.{World, Event, Request, Step, Debug, Drain};
 ghost use Rattle.ocp_world.specs.After.{Requested, Stepped, Commanded, after, is_accepted};
 ghost use Rattle.ocp_world.specs.Replay.{replay_from};
 ghost use Rattle.ocp_world.specs.Laws.{may_change_machine, IsAppended};
@@ -21,6 +21,12 @@ use ocp_table::laws::{
 pub fn refused_events_change_nothing()
     ensures { (w : World) (e : Event) →
         is_accepted (after w e).answer ≡ false → (after w e).world ≡ w }
+{}
+
+/// The number of accepted events rises by one with each of them.
+pub fn accepted_events_are_counted()
+    ensures { (w : World) (e : Event) → (after w e).world.events ≡
+        (if is_accepted (after w e).answer then w.events + 1 else w.events) }
 {}
 
 /// Only a running procedure steps: an instruction of any other is refused and changes nothing.
@@ -51,6 +57,15 @@ pub fn requests_keep_or_start_machines()
     ocp_table::laws::requests_keep_or_start_machines();
 }
 
+/// A drain empties the outbox, and leaves all procedures, the pool and the trace records.
+pub fn a_drain_empties_the_outbox_alone()
+    ensures outbox { (w : World) (by time : ℕ) → (after w (Drain by time)).world.outbox ≡ [] }
+    ensures procedures { (w : World) (by time : ℕ) →
+        (after w (Drain by time)).world.records ≡ w.records }
+    ensures pool { (w : World) (by time : ℕ) → (after w (Drain by time)).world.pool ≡ w.pool }
+    ensures traces { (w : World) (by time : ℕ) → (after w (Drain by time)).world.traces ≡ w.traces }
+{}
+
 /// Each event but a load, an unload and an activation leaves the machine of every procedure, apart from the instruction of a
 /// running procedure, which changes its own.
 pub fn only_starts_and_own_instructions_change_machines()
@@ -64,14 +79,16 @@ pub fn only_starts_and_own_instructions_change_machines()
     debugging_keeps_runs();
 }
 
-/// A debugger's command leaves all of each procedure but its breakpoints and its trace flag, and the pool, the count of
-/// reports and the trace records.
+/// A debugger's command leaves all of each procedure but its breakpoints and its trace flag, and the pool, the completions
+/// that wait, the count of reports and the trace records.
 pub fn a_debugger_changes_breakpoints_and_trace_flags_alone()
     ensures procedures { (w : World) (by own id : ℕ) (command : Asked) →
         let next = (after w (Debug by own command)).world in
         run_of (get next.records id) ≡ run_of (get w.records id) }
     ensures pool { (w : World) (by own : ℕ) (command : Asked) →
         (after w (Debug by own command)).world.pool ≡ w.pool }
+    ensures outbox { (w : World) (by own : ℕ) (command : Asked) →
+        (after w (Debug by own command)).world.outbox ≡ w.outbox }
     ensures reports { (w : World) (by own : ℕ) (command : Asked) →
         (after w (Debug by own command)).world.reports ≡ w.reports }
     ensures traces { (w : World) (by own : ℕ) (command : Asked) →
@@ -86,6 +103,8 @@ pub fn trace_records_are_appended_by_instructions()
         IsAppended w.traces (replay_from w es).traces }
     ensures request { (w : World) (by time : ℕ) (octets : List ℕ) →
         (after w (Request by time octets)).world.traces ≡ w.traces }
+    ensures drain { (w : World) (by time : ℕ) →
+        (after w (Drain by time)).world.traces ≡ w.traces }
 {}
 
 /// No world answers that the journal is full: a world has none.

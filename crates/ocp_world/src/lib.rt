@@ -4,6 +4,7 @@
 
 mod answers;
 mod convert;
+mod drain;
 pub mod laws;
 mod machine;
 mod settle;

@@ -37,10 +37,11 @@ impl<A: Allocator> State<A> {
         self.table.is_at(id, snapshot)
     }
 
-    /// Puts back the machine of a procedure, which did instructions apart.
+    /// Puts back the machine of a procedure, which did so many instructions apart.
     pub fn settle(&mut self, id: u16, machine: Machine<A>)
-        requires { StandsAt (get self.old.table id) machine }
-        ensures { (w : World) → IsWorld w self.old → IsWorld (world_settled id machine w) self.new }
+        requires { StandsAt (get self.old.table.records id) machine }
+        ensures { (w : World) (count : ℕ) → IsWorld w self.old →
+            IsWorld (world_settled id machine count w) self.new }
     {
         self.table.settle(id, machine);
     }
@@ -52,7 +53,7 @@ impl<A: Allocator> State<A> {
 pub fn instructions_done_alone_are_events()
     ensures world { (w : World) (by id n : ℕ) (r : Rec) (machine : Machined) →
         RunsAlone w id r n machine →
-        replay_from w (replicate n (Step by id)) ≡ world_settled id machine w }
+        replay_from w (replicate n (Step by id)) ≡ world_settled id machine n w }
     ensures answers { (w : World) (by id n : ℕ) (r : Rec) (machine : Machined) →
         RunsAlone w id r n machine →
         answers w (replicate n (Step by id)) ≡ replicate n (Stepped outcome.Ran) }

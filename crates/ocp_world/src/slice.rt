@@ -9,8 +9,9 @@ use ocp_table::StepOutcome;
 use std::alloc::Allocator;
 
 impl<A: Allocator> State<A> {
-    ghost use Rattle.std.specs.Prelude.{if◌then◌else◌, false, replicate};
+    ghost use Rattle.std.specs.Prelude.{◌+◌, if◌then◌else◌, true, false, replicate};
     ghost use Rattle.ocp_world.specs.Mirror.State.{IsWorld};
+    ghost use Rattle.ocp_world.specs.After.{after, is_accepted};
     ghost use Rattle.ocp_world.specs.Replay.{replay_from};
     ghost use Rattle.ocp_world.specs.Slice.{is_on, is_running, slice_count, slice_last};
 
@@ -62,11 +63,16 @@ impl<A: Allocator> State<A> {
         }
     }
 
-    /// Does instructions of one procedure until the budget is used or it no longer goes on.
+    /// Does instructions of one procedure until the budget is used or it no longer goes on. Each of them is an accepted event,
+    /// where the first is.
     pub fn slice(&mut self, id: u16, budget: u32) -> Slice
         requires { 1 ≤ budget }
         ensures world { (w : World) (by : ℕ) → IsWorld w self.old →
             IsWorld (replay_from w (replicate result.count (Step by id))) self.new }
+        ensures events { (w : World) (by : ℕ) → IsWorld w self.old →
+            is_accepted (after w (Step by id)).answer ≡ true →
+            (replay_from w (replicate result.count (Step by id))).events ≡
+            w.events + result.count }
         ensures count { (w : World) (by : ℕ) → IsWorld w self.old →
             result.count ≡ slice_count w by id budget }
         ensures last { (w : World) (by : ℕ) → IsWorld w self.old →

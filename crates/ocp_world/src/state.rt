@@ -1,12 +1,14 @@
 //! What the engine keeps of its world.
 
-ghost use Rattle.std.specs.Prelude.{◌≡◌, ◌≤◌, ◌<◌, ℕ, List, [], ◌∷◌, ◌++◌, length, vec_capacity, Ok, Err, IfOk, OnOk, OnErr, slice_get};
+ghost use Rattle.std.specs.Prelude.{◌≡◌, ◌≤◌, ◌<◌, ℕ, List, [], ◌∷◌, ◌++◌, false, length, vec_capacity, None, Ok, Err, IfOk, OnOk, OnErr, slice_get};
 ghost use Rattle.std.specs.List.{flat_map};
 ghost use Rattle.std.specs.Option.{option_to_list};
 ghost use Rattle.std.specs.FinMap.{get};
 ghost use Rattle.pus_fields.specs.TelecommandFaults.{telecommand_of};
 ghost use Rattle.ocp_table.specs.RequestTable as directive;
-ghost use Rattle.ocp_table.specs.Effects.{Kept, Unasked, Failed};
+ghost use Rattle.ocp_table.specs.Effects.{Kept, Unasked, Failed, failure_of};
+ghost use Rattle.ocp_table.specs.Deciding.{effect_in};
+ghost use Rattle.ocp_table.specs.Outbox.{is_outbox_full};
 ghost use Rattle.ocp_table.specs.Shown.{view_at, directive_of, HasFewArguments};
 ghost use Rattle.ocp_debug.specs.declared.command.DebugFault.{DebugFault as Fault};
 ghost use Rattle.ocp_debug.specs.Memory.{memory_at};
@@ -15,11 +17,11 @@ ghost use Rattle.ocp_debug.specs.Texts.{trace_line};
 ghost use Rattle.ocp_reports.specs.Reports.{reports_of};
 ghost use Rattle.ocp_world.specs.World.{World, opening, Step, Debug, Request as Asked};
 ghost use Rattle.ocp_world.specs.Effect.{Sends};
-ghost use Rattle.ocp_world.specs.Requests.{refusal_effect, start_effect, directive_effect, command_effect, request_effect, status_report};
+ghost use Rattle.ocp_world.specs.Requests.{refusal_effect, start_effect, directive_effect, command_effect, request_effect, status_report, outcome_by, has_no_place};
 ghost use Rattle.ocp_world.specs.After.{Stepped, Commanded, after, effect_of};
 
 use crate::EngineFault;
-use crate::convert::{command_of, status_report};
+use crate::convert::{command_of, pending_origin, status_report};
 use obcp_messages::{Report, Request};
 use obcp_types::{AcceptanceFailure, StartFailure};
 use ocp_debug::{Command, DebugFault, TraceRing};
@@ -144,6 +146,16 @@ impl<A: Allocator> State<A> {
         self.pool.get(index)
     }
 
+    // The sender of the next reports.
+    pub(crate) fn sender(&self) -> Sender
+        ensures { result ≡ record { apid = self.now.apid; count = self.now.count } }
+    {
+        Sender {
+            apid: self.apid,
+            count: self.count,
+        }
+    }
+
     // Sends the reports of a request that changes no procedure.
     fn reply(
         &mut self,
@@ -154,7 +166,7 @@ impl<A: Allocator> State<A> {
     ) -> Result<CopiedReports<A>, EngineFault>
     where
         A: Copy,
-        ensures does { Does self.old self.new result (λ m. record {
+        ensures does { Does self.old self.new result (λ w. record {
           on_records = Kept Unasked;
           reply = Sends (reports_of origin outcome (option_to_list answer.now));
         }) }
@@ -162,10 +174,7 @@ impl<A: Allocator> State<A> {
         ensures pool { self.new.pool ≡ self.old.pool }
         ensures ring { self.new.ring ≡ self.old.ring }
     {
-        let sender = Sender {
-            apid: self.apid,
-            count: self.count,
-        };
+        let sender = self.sender();
         let reports = sender.copied_reports(alloc, origin, outcome, answer)?;
         self.count = count_after(self.count, reports.len());
         Ok(reports)
@@ -180,7 +189,7 @@ impl<A: Allocator> State<A> {
     ) -> Result<CopiedReports<A>, EngineFault>
     where
         A: Copy,
-        ensures { Does self.old self.new result (λ m. refusal_effect origin failure) }
+        ensures { Does self.old self.new result (λ w. refusal_effect origin failure) }
     {
         self.reply(alloc, origin, Outcome::Refused(failure), &None)
     }
@@ -195,7 +204,7 @@ impl<A: Allocator> State<A> {
     where
         A: Copy,
         ensures { Does self.old self.new result
-            (λ m. start_effect origin [] (Kept (Failed failure))) }
+            (λ w. start_effect origin [] (Kept (Failed failure))) }
     {
         self.reply(alloc, origin, Outcome::NotStarted(failure), &None)
     }
@@ -211,7 +220,7 @@ impl<A: Allocator> State<A> {
     where
         A: Copy,
         ensures { Does self.old self.new result
-            (λ m. directive_effect origin (directive.Load code.now) id m) }
+            (λ w. directive_effect origin (directive.Load code.now) id w.records) }
     {
         match self.table.check_load(alloc, id, code) {
             Ok(loading) => {
@@ -230,7 +239,7 @@ impl<A: Allocator> State<A> {
     where
         A: Copy,
         ensures { Does self.old self.new result
-            (λ m. directive_effect origin directive.Unload id m) }
+            (λ w. directive_effect origin directive.Unload id w.records) }
     {
         if let Some(failure) = self.table.unload_failure(id) {
             return self.fail(alloc, origin, failure);
@@ -238,6 +247,19 @@ impl<A: Allocator> State<A> {
         let reports = self.reply(alloc, origin, Outcome::Done, &None)?;
         self.table.unload(id).unwrap();
         Ok(reports)
+    }
+
+    // What becomes of a request that does not fail: it is done, or its stop or suspend waits.
+    fn outcome_of(&self, id: u16, directive: &Directive<'_>) -> Outcome
+        ensures { let m = self.now.table.records in
+            let asked = directive_of directive.now (is_outbox_full m self.now.table.outbox) in
+            failure_of (effect_in asked id m) ≡ None → result ≡ outcome_by (effect_in asked id m) }
+    {
+        if self.table.becomes_pending(id, directive) {
+            Outcome::Started
+        } else {
+            Outcome::Done
+        }
     }
 
     // Does what a request asks of a loaded procedure.
@@ -250,14 +272,16 @@ impl<A: Allocator> State<A> {
     ) -> Result<CopiedReports<A>, EngineFault>
     where
         A: Copy,
-        requires { HasFewArguments (directive_of directive) }
+        requires { HasFewArguments (directive_of directive false) }
         ensures { Does self.old self.new result
-            (λ m. directive_effect origin (directive_of directive.entry) id m) }
+            (λ w. directive_effect origin (directive_of directive.entry (has_no_place w)) id
+            w.records) }
     {
         if let Some(failure) = self.table.failure(id, &directive) {
             return self.fail(alloc, origin, failure);
         }
-        let reports = self.reply(alloc, origin, Outcome::Done, &None)?;
+        let outcome = self.outcome_of(id, &directive);
+        let reports = self.reply(alloc, origin, outcome, &None)?;
         self.table.apply(id, directive).unwrap();
         Ok(reports)
     }
@@ -267,22 +291,24 @@ impl<A: Allocator> State<A> {
     where
         A: Copy,
         ensures { Does self.old self.new result
-            (λ m. start_effect origin (status_report m ∷ []) (Kept Unasked)) }
+            (λ w. start_effect origin (status_report w.records ∷ []) (Kept Unasked)) }
     {
         let report = status_report(&self.table);
         self.reply(alloc, origin, Outcome::Done, &Some(report))
     }
 
-    // Serves a request.
+    // Serves a request, with the number of its event.
     fn serve(
         &mut self,
         alloc: A,
+        event: u64,
         origin: Origin,
         request: Request<'_>,
     ) -> Result<CopiedReports<A>, EngineFault>
     where
         A: Copy,
-        ensures { Does self.old self.new result (command_effect request.entry origin) }
+        ensures { (w : World) → IsWorld w self.old → event ≡ w.events →
+            DoesIn w (command_effect request.entry origin w) result self.new }
     {
         match request {
             Request::Load { id, code } => self.load(alloc, origin, id, code.octets()),
@@ -290,9 +316,13 @@ impl<A: Allocator> State<A> {
             Request::Activate { id, arguments } => {
                 self.direct(alloc, origin, id, Directive::Activate(arguments.octets()))
             }
-            Request::Stop { id, step } => self.direct(alloc, origin, id, Directive::Stop(step)),
+            Request::Stop { id, step } => {
+                let from = pending_origin(origin, event);
+                self.direct(alloc, origin, id, Directive::Stop(step, from))
+            }
             Request::Suspend { id, step } => {
-                self.direct(alloc, origin, id, Directive::Suspend(step))
+                let from = pending_origin(origin, event);
+                self.direct(alloc, origin, id, Directive::Suspend(step, from))
             }
             Request::Resume { id } => self.direct(alloc, origin, id, Directive::Resume),
             Request::Communicate { id, words } => {
@@ -303,24 +333,26 @@ impl<A: Allocator> State<A> {
         }
     }
 
-    /// Does what a telecommand asks for, as it was read at this time, and sends its reports.
+    /// Does what a telecommand asks for, as it was read at this time, and sends its reports. The event has this number: so
+    /// many were accepted before it.
     pub fn receive(
         &mut self,
         alloc: A,
+        event: u64,
         time: u32,
         read: Result<Tc<'_>, TcFault>,
     ) -> Result<CopiedReports<A>, EngineFault>
     where
         A: Copy,
         ensures { (w : World) (by : ℕ) (octets : List ℕ) →
-            IsWorld w self.old → read.entry ≡ telecommand_of w.apid octets →
+            IsWorld w self.old → event ≡ w.events → read.entry ≡ telecommand_of w.apid octets →
             DoesIn w (effect_of w (Asked by time octets)) result self.new }
     {
         match read {
             Ok(telecommand) => {
                 let origin = Origin::of_telecommand(&telecommand, time);
                 match command_of(&telecommand) {
-                    Ok(request) => self.serve(alloc, origin, request),
+                    Ok(request) => self.serve(alloc, event, origin, request),
                     Err(fault) => self.refuse(alloc, origin, AcceptanceFailure::Request(fault)),
                 }
             }

@@ -1,5 +1,5 @@
 -- Why an event is refused, as it is decided before the event is done.
-use Rattle.std.specs.Prelude.{◌≡◌, Option, Some, None, Result, Ok, Err, false, true}
+use Rattle.std.specs.Prelude.{◌≡◌, Bool, Option, Some, None, Result, Ok, Err, false, true}
 use Rattle.pus_fields.specs.declared.fault.Discard.{Discard}
 use Rattle.pus_fields.specs.declared.fault.TcFault.{TcFault}
 use Rattle.pus_fields.specs.declared.fault.TcFault.TheVariants as fault
@@ -29,3 +29,8 @@ IsRefusal answer (Some outcome) = (is_accepted answer ≡ false) × (Stepped out
 abbrev pub IsDebugFault : Answer → Option DebugFault → Type 0
 IsDebugFault answer None = is_accepted answer ≡ true
 IsDebugFault answer (Some fault) = answer ≡ Commanded (Err fault)
+
+-- a drain is refused since nothing is due, or it is accepted
+abbrev pub IsUndue : Answer → Bool → Type 0
+IsUndue answer true = is_accepted answer ≡ true
+IsUndue answer false = answer ≡ Requested (Err engine.NothingDue)

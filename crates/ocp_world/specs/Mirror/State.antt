@@ -1,6 +1,5 @@
--- Which worlds a state stands for, and what a request makes of it.
+-- Which worlds a state stands for, and what a request or a drain makes of it.
 use Rattle.std.specs.Prelude.{◌≡◌, ◌%◌, ℕ, List, Result, Ok, Err}
-use Rattle.ocp_table.specs.Records.{Records}
 use Rattle.ocp_debug.specs.Traces.{kept}
 use Rattle.ocp_world.specs.declared.answers.EngineFault.{EngineFault}
 use Rattle.ocp_world.specs.World.{World}
@@ -12,12 +11,13 @@ use Rattle.ocp_world.specs.declared.state.State.{State}
 module _ {A : Type 0} where
   pub record IsWorld (w : World) (s : State A) : Type 0 where
     pub apid : s.apid ≡ w.apid
-    pub records : s.table ≡ w.records
+    pub records : s.table.records ≡ w.records
+    pub outbox : s.table.outbox ≡ w.outbox
     pub pool : s.pool ≡ w.pool
     pub count : s.count ≡ w.reports % 16384
     pub ring : s.ring ≡ kept w.traces
 
-  -- the state stands for the next world, or where the request has no reports for the old one
+  -- the state stands for the next world, or where there are no reports for the old one
   abbrev pub StandsAfter : Result (List (List ℕ)) EngineFault → World → World → State A → Type 0
   StandsAfter (Ok reports) old new s = IsWorld new s
   StandsAfter (Err fault) old new s = IsWorld old s
@@ -30,6 +30,6 @@ module _ {A : Type 0} where
   -- whatever world the state stood for, the result and the new state are those of what was decided
   -- in it
   abbrev pub Does : State A → State A → Result (List (List ℕ)) EngineFault
-      → (Records → Effect) → Type 0
+      → (World → Effect) → Type 0
   Does old new result decide =
-      (w : World) → IsWorld w old → DoesIn w (decide w.records) result new
+      (w : World) → IsWorld w old → DoesIn w (decide w) result new

@@ -1,0 +1,40 @@
+//! The drain: the completions that wait are reported.
+
+ghost use Rattle.std.specs.Prelude.{ℕ};
+ghost use Rattle.ocp_world.specs.World.{World, Drain};
+ghost use Rattle.ocp_world.specs.After.{after, effect_of};
+
+use crate::{EngineFault, State};
+use ocp_reports::{CopiedReports, count_after};
+use std::alloc::Allocator;
+
+impl<A: Allocator> State<A> {
+    ghost use Rattle.ocp_world.specs.Mirror.State.{IsWorld, DoesIn};
+    ghost use Rattle.ocp_world.specs.Mirror.Answering.{IsUndue};
+
+    /// Whether a completion waits to be reported: else a drain is refused.
+    pub fn is_due(&self) -> bool
+        ensures { (w : World) (by time : ℕ) → IsWorld w self.now →
+            IsUndue (after w (Drain by time)).answer result }
+    {
+        !self.table.outbox().is_empty()
+    }
+
+    /// Sends the reports of all completions that wait, the oldest first, at this time, each to the source of its request:
+    /// then none waits any more. It fails where none waits, and for memory, and then changes nothing.
+    pub fn drain(&mut self, alloc: A, time: u32) -> Result<CopiedReports<A>, EngineFault>
+    where
+        A: Copy,
+        ensures { (w : World) (by : ℕ) → IsWorld w self.old →
+            DoesIn w (effect_of w (Drain by time)) result self.new }
+    {
+        if !self.is_due() {
+            return Err(EngineFault::NothingDue);
+        }
+        let sender = self.sender();
+        let reports = sender.drained_reports(alloc, time, self.table.outbox())?;
+        self.table.drain();
+        self.count = count_after(self.count, reports.len());
+        Ok(reports)
+    }
+}
