@@ -13,10 +13,11 @@ use Rattle.ocp_core.specs.Tickets.{Worked}
 abbrev pub IsFresh : Log → Worked → Type 0
 IsFresh log w = snapshot_at (get (world_of log).records w.id) ≡ Some w.base
 
--- the instructions are one entry, and leave the machine of the work, with the pass flag off
+-- the instructions are one entry, are so many events, and leave the machine of the work, with the
+-- pass flag off
 pub record IsCommitted (old new : Log) (by : ℕ) (w : Worked) : Type 0 where
   pub journal : new ≡ with_entry old (Steps by w.id w.count)
-  pub world : world_of new ≡ world_settled w.id w.end (world_of old)
+  pub world : world_of new ≡ world_settled w.id w.end w.count (world_of old)
 
 -- a work without instructions is refused as empty, one whose procedure has changed as stale, and
 -- then one that finds the journal full; nothing is changed

@@ -29,6 +29,8 @@ pub record IsSameButTraces (w : World) (one two : Event) (left right : World) : 
   pub records : left.records ≡ right.records
   pub pool : left.pool ≡ right.pool
   pub reports : left.reports ≡ right.reports
+  pub outbox : left.outbox ≡ right.outbox
+  pub events : left.events ≡ right.events
   pub later : List Trace
   pub traces : left.traces ≡ w.traces ++ traces_made w one ++ traces_made w two ++ later
   pub exchanged : right.traces ≡ w.traces ++ traces_made w two ++ traces_made w one ++ later

@@ -7,9 +7,9 @@ use Rattle.ocp_core.specs.declared.event.Event.TheVariants as event
 use Rattle.ocp_core.specs.declared.answers.Answer as G
 use Rattle.ocp_core.specs.declared.answers.Answer.TheVariants as answer
 use Rattle.ocp_debug.specs.declared.command.Command.TheVariants as command
-use Rattle.ocp_world.specs.World.{Event, Request, Step, Debug}
+use Rattle.ocp_world.specs.World.{Event, Request, Step, Debug, Drain}
 use Rattle.ocp_world.specs.After.{Answer, Requested, Stepped, Commanded}
-use Rattle.ocp_core.specs.Log.{Entry, Asked, Steps, Debugged}
+use Rattle.ocp_core.specs.Log.{Entry, Asked, Steps, Debugged, Drained}
 use Rattle.ocp_core.specs.Marks.{Marked}
 
 abbrev pub event_of : E.Event → Event
@@ -18,6 +18,7 @@ event_of (event.Step by id) = Step by id
 event_of (event.SetBreak by id place) = Debug by id (command.SetBreak place)
 event_of (event.ClearBreak by id place) = Debug by id (command.ClearBreak place)
 event_of (event.Trace by id on) = Debug by id (command.SetTrace on)
+event_of (event.Drain by time) = Drain by time
 
 module _ {A : Type 0} where
   abbrev pub entry_of : N.Entry A → Entry
@@ -26,15 +27,17 @@ module _ {A : Type 0} where
   entry_of (entry.SetBreak by id place) = Debugged by id (command.SetBreak place)
   entry_of (entry.ClearBreak by id place) = Debugged by id (command.ClearBreak place)
   entry_of (entry.Trace by id on) = Debugged by id (command.SetTrace on)
+  entry_of (entry.Drain by time mark) = Drained by time
 
-  -- the answer that is kept with an entry: the reports of a request, the last outcome of
-  -- instructions, or that a debugger's command was done
+  -- the answer that is kept with an entry: the reports of a request or of a drain, the last outcome
+  -- of instructions, or that a debugger's command was done
   abbrev pub mark_of : N.Entry A → Answer
   mark_of (entry.Request by time octets reports) = Requested (Ok reports)
   mark_of (entry.Steps by id count outcome) = Stepped outcome
   mark_of (entry.SetBreak by id place) = Commanded (Ok tt)
   mark_of (entry.ClearBreak by id place) = Commanded (Ok tt)
   mark_of (entry.Trace by id on) = Commanded (Ok tt)
+  mark_of (entry.Drain by time reports) = Requested (Ok reports)
 
   abbrev pub marked_of : N.Entry A → Marked
   marked_of e = record { entry = entry_of e; mark = mark_of e }

@@ -6,21 +6,23 @@ use Rattle.ocp_table.specs.declared.answers.StepOutcome.TheVariants as S
 use Rattle.ocp_world.specs.declared.answers.EngineFault.TheVariants as engine
 use Rattle.ocp_debug.specs.declared.command.Command.{Command}
 use Rattle.ocp_debug.specs.declared.command.DebugFault.TheVariants as debug
-use Rattle.ocp_world.specs.World.{World, Event, Request, Step, Debug}
+use Rattle.ocp_world.specs.World.{World, Event, Request, Step, Debug, Drain}
 use Rattle.ocp_world.specs.After.{Answer, Requested, Stepped, Commanded, after, is_accepted}
 use Rattle.ocp_world.specs.Replay.{replay}
 
--- a request with its seat and time; so many instructions of one procedure with their seat; or a
--- debugger's command to a procedure with its seat
+-- a request with its seat and time; so many instructions of one procedure with their seat; a
+-- debugger's command to a procedure with its seat; or a drain with its seat and time
 pub data Entry : Type 0 where
   Asked : ℕ → ℕ → List ℕ → Entry
   Steps : ℕ → ℕ → ℕ → Entry
   Debugged : ℕ → ℕ → Command → Entry
+  Drained : ℕ → ℕ → Entry
 
 abbrev pub events_of : Entry → List Event
 events_of (Asked by time octets) = Request by time octets ∷ []
 events_of (Steps by id count) = replicate count (Step by id)
 events_of (Debugged by id command) = Debug by id command ∷ []
+events_of (Drained by time) = Drain by time ∷ []
 
 -- the single events of a journal
 abbrev pub expand : List Entry → List Event
@@ -57,11 +59,13 @@ abbrev pub entry_for : Event → Entry
 entry_for (Request by time octets) = Asked by time octets
 entry_for (Step by id) = Steps by id 1
 entry_for (Debug by id command) = Debugged by id command
+entry_for (Drain by time) = Drained by time
 
 abbrev pub full_answer : Event → Answer
 full_answer (Request by time octets) = Requested (Err engine.JournalFull)
 full_answer (Step by id) = Stepped S.JournalFull
 full_answer (Debug by id command) = Commanded (Err debug.JournalFull)
+full_answer (Drain by time) = Requested (Err engine.JournalFull)
 
 -- an event that would be accepted is refused where the journal is full
 abbrev pub answer_in : Log → Event → Answer

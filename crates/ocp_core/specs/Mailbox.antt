@@ -4,7 +4,7 @@ use Rattle.ocp_pool.specs.declared.call.Called.{Called as Call}
 use Rattle.ocp_pool.specs.declared.call.Called.TheVariants.{NextParam}
 use Rattle.ocp_table.specs.declared.answers.InstructionOutcome.{InstructionOutcome}
 use Rattle.ocp_table.specs.declared.answers.InstructionOutcome.TheVariants.{Called}
-use Rattle.ocp_table.specs.Effects.{Effect, Loaded, Unloaded, Changed, Kept, Change, Started, Sent, Stepped}
+use Rattle.ocp_table.specs.Effects.{Effect, Loaded, Unloaded, Changed, Change, Started, Sent, Stepped}
 use Rattle.ocp_world.specs.World.{Event}
 use Rattle.ocp_world.specs.Replay.{replay}
 use Rattle.ocp_core.specs.History.{history, gather, Does}
@@ -33,7 +33,7 @@ abbrev pub since_start : (Change → List ℕ → List ℕ) → ℕ → Effect �
 since_start by id (Loaded other image) words = if id == other then [] else words
 since_start by id (Unloaded other) words = if id == other then [] else words
 since_start by id (Changed other change) words = if id == other then by change words else words
-since_start by id (Kept why) words = words
+since_start by id effect words = words
 
 abbrev pub sent : ℕ → ℕ → List Event → ℕ → List ℕ
 sent apid words es id = gather (since_start sent_by id) [] (history apid words es)

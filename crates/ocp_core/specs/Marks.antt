@@ -2,11 +2,11 @@
 use Rattle.std.specs.Prelude.{ℕ, zero, suc, ◌==◌, List, [], ◌∷◌, filter}
 use Rattle.ocp_table.specs.declared.answers.StepOutcome.{StepOutcome}
 use Rattle.ocp_table.specs.declared.answers.StepOutcome.TheVariants as S
-use Rattle.ocp_world.specs.World.{World, Request, Step, Debug, opening}
+use Rattle.ocp_world.specs.World.{World, Request, Step, Debug, Drain, opening}
 use Rattle.ocp_world.specs.After.{Answer, Stepped, after}
 use Rattle.ocp_world.specs.Replay.{replay_from}
 use Rattle.ocp_world.specs.Slice.{outcome_in}
-use Rattle.ocp_core.specs.Log.{Entry, Asked, Steps, Debugged, Log, events_of}
+use Rattle.ocp_core.specs.Log.{Entry, Asked, Steps, Debugged, Drained, Log, events_of}
 
 -- the outcome of the last of so many instructions, or the one before them
 abbrev pub last_outcome : World → ℕ → ℕ → StepOutcome → ℕ → StepOutcome
@@ -15,12 +15,13 @@ last_outcome w by id last (suc count) =
     let step = after w (Step by id) in
     last_outcome step.world by id (outcome_in step.answer) count
 
--- the mark of an entry, by the world before it: the reports of a request, or the outcome of the
--- last instruction
+-- the mark of an entry, by the world before it: the reports of a request or of a drain, or the
+-- outcome of the last instruction
 abbrev pub mark_in : World → Entry → Answer
 mark_in w (Asked by time octets) = (after w (Request by time octets)).answer
 mark_in w (Steps by id count) = Stepped (last_outcome w by id S.Ran count)
 mark_in w (Debugged by id command) = (after w (Debug by id command)).answer
+mark_in w (Drained by time) = (after w (Drain by time)).answer
 
 abbrev pub marks_from : World → List Entry → List Answer
 marks_from w [] = []
@@ -50,6 +51,7 @@ abbrev pub by_of : Entry → ℕ
 by_of (Asked by time octets) = by
 by_of (Steps by id count) = by
 by_of (Debugged by id command) = by
+by_of (Drained by time) = by
 
 -- those of one seat, in order
 abbrev pub marked_by : List Marked → ℕ → List Marked

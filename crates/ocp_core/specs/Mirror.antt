@@ -1,4 +1,5 @@
 pub mod Codes
 pub mod Kept
 pub mod Admitted
+pub mod Counted
 pub mod Tickets

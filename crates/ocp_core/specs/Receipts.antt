@@ -1,4 +1,4 @@
--- What a request answers beside its receipt.
+-- What a request or a drain answers beside its receipt.
 use Rattle.std.specs.Prelude.{ℕ, List, Result, Ok, Err}
 use Rattle.ocp_world.specs.declared.answers.EngineFault.{EngineFault}
 

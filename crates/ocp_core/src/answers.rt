@@ -6,6 +6,7 @@ use std::alloc::{Allocator, Global};
 /// What an event of a run was answered.
 #[derive(Drop)]
 pub enum Answer<A: Allocator = Global> {
+    /// That of a request or of a drain.
     Requested(Result<Reports<A>, EngineFault>),
     Stepped(StepOutcome),
     Commanded(Result<(), DebugFault>),

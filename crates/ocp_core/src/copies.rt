@@ -1,4 +1,4 @@
-//! The copies of a request's reports, one by one.
+//! The copies of reports, one by one.
 
 ghost use Rattle.std.specs.Prelude.{◌≡◌, ◌≤◌, ◌+◌, ℕ, List, All, length};
 

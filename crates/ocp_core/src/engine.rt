@@ -7,11 +7,11 @@ ghost use Rattle.ocp_world.specs.World as world;
 ghost use Rattle.ocp_world.specs.After.{Requested, Stepped};
 ghost use Rattle.ocp_world.specs.Answers.{Answers};
 ghost use Rattle.ocp_world.specs.NextRunning.{IsNextRunning, Runs};
-ghost use Rattle.ocp_core.specs.Log.{Asked, empty_log, expand, world_of, answer_in, log_after};
+ghost use Rattle.ocp_core.specs.Log.{Asked, Drained, empty_log, expand, world_of, answer_in, log_after};
 ghost use Rattle.ocp_core.specs.Slice.{slice_in, slice_log};
 ghost use Rattle.ocp_core.specs.Journal.{marked_of};
 ghost use Rattle.ocp_core.specs.Receipts.{reports_in};
-ghost use Rattle.ocp_core.specs.Mirror.Admitted.{IsAdmitted};
+ghost use Rattle.ocp_core.specs.Mirror.Admitted.{IsAdmitted, IsTaken};
 
 use crate::copies::next_copy;
 use crate::{EngineFault, Entry, Journal, Octets, Reports, Slice, StepOutcome};
@@ -104,7 +104,7 @@ impl<A: Allocator> Engine<A> {
         let Ok(kept) = Octets::copy_of(alloc, octets) else {
             return Err(EngineFault::Memory);
         };
-        match self.state.receive(alloc, time, read) {
+        match self.state.receive(alloc, self.journal.events(), time, read) {
             Ok(sent) => {
                 let mut copies = sent.into_vec();
                 let mark = next_copy(&mut copies);
@@ -150,7 +150,7 @@ impl<A: Allocator> Engine<A> {
         let Ok(own) = Octets::copy_of(alloc, octets) else {
             return Err(EngineFault::Memory);
         };
-        match self.state.receive(alloc, time, read) {
+        match self.state.receive(alloc, self.journal.events(), time, read) {
             Ok(sent) => {
                 let mut copies = sent.into_vec();
                 let journal_mark = next_copy(&mut copies);
@@ -166,6 +166,88 @@ impl<A: Allocator> Engine<A> {
                     by,
                     time,
                     octets: own,
+                    mark: receipt_mark,
+                };
+                Ok((reports, receipt))
+            }
+            Err(fault) => Err(fault),
+        }
+    }
+
+    // Why a drain is refused before memory is taken, where it is: nothing waits, or the journal is full.
+    fn drain_fault(&self) -> Option<EngineFault>
+        ensures some { (by time : ℕ) → IfSome result (λ fault.
+            Answers (Err fault) (answer_in self.now (world.Drain by time))) }
+        ensures none { (by time : ℕ) → result ≡ None → IsTaken self.now (world.Drain by time) }
+    {
+        if !self.state.is_due() {
+            return Some(EngineFault::NothingDue);
+        }
+        if self.journal.is_full() {
+            return Some(EngineFault::JournalFull);
+        }
+        None
+    }
+
+    /// Reports the completions that wait, the oldest first, at a time in whole seconds, each to the source of its request;
+    /// none waits then. A seat hands it in. Refused, in this order, where none waits, where the journal is full, and where
+    /// there is no memory; then nothing is changed.
+    pub fn drain(&mut self, alloc: A, by: u16, time: u32) -> Result<Reports<A>, EngineFault>
+    where
+        A: Copy,
+        ensures answer { Answers result (answer_in self.old (world.Drain by time)) }
+        ensures journal { OnOk result (self.new ≡ log_after self.old (world.Drain by time)) }
+        ensures err { OnErr result (self.new ≡ self.old) }
+    {
+        if let Some(fault) = self.drain_fault() {
+            return Err(fault);
+        }
+        match self.state.drain(alloc, time) {
+            Ok(sent) => {
+                let mut copies = sent.into_vec();
+                let mark = next_copy(&mut copies);
+                let reports = next_copy(&mut copies);
+                self.journal.push(Entry::Drain { by, time, mark });
+                Ok(reports)
+            }
+            Err(fault) => Err(fault),
+        }
+    }
+
+    /// `drain`, which also answers a copy of the entry that the journal gained, with its mark. All memory is taken before
+    /// anything is changed.
+    pub fn drain_with_receipt(
+        &mut self,
+        alloc: A,
+        by: u16,
+        time: u32,
+    ) -> Result<(Reports<A>, Entry<A>), EngineFault>
+    where
+        A: Copy,
+        ensures answer { Answers (reports_in result)
+            (answer_in self.old (world.Drain by time)) }
+        ensures journal { OnOk result (self.new ≡ log_after self.old (world.Drain by time)) }
+        ensures receipt { IfOk result (λ r. marked_of r.1 ≡
+            record { entry = Drained by time; mark = Requested (Ok r.0) }) }
+        ensures err { OnErr result (self.new ≡ self.old) }
+    {
+        if let Some(fault) = self.drain_fault() {
+            return Err(fault);
+        }
+        match self.state.drain(alloc, time) {
+            Ok(sent) => {
+                let mut copies = sent.into_vec();
+                let journal_mark = next_copy(&mut copies);
+                let receipt_mark = next_copy(&mut copies);
+                let reports = next_copy(&mut copies);
+                self.journal.push(Entry::Drain {
+                    by,
+                    time,
+                    mark: journal_mark,
+                });
+                let receipt = Entry::Drain {
+                    by,
+                    time,
                     mark: receipt_mark,
                 };
                 Ok((reports, receipt))
@@ -256,9 +338,11 @@ impl<A: Allocator> Engine<A> {
         &self.journal
     }
 
-    /// How many events there were: a request is one, and each instruction is one.
+    /// How many events there were: a request is one, each instruction is one, and a drain is one. It is the number of the
+    /// next event.
     pub fn events(&self) -> u64
         ensures value { result ≡ length (expand self.now.entries) }
+        ensures number { result ≡ (world_of self.now).events }
         ensures bound { result < 2 ^ 52 }
     {
         self.journal.events()

@@ -35,10 +35,15 @@ pub enum Event<'a> {
         id: u16,
         on: bool,
     },
+    /// The completions that wait are reported, at this time.
+    Drain {
+        by: u16,
+        time: u32,
+    },
 }
 
-/// What the journal keeps: a request, so many instructions of one procedure, done one after the other, or a debugger's
-/// command. The mark of an entry is the answer that was given with it.
+/// What the journal keeps: a request, so many instructions of one procedure, done one after the other, a debugger's command,
+/// or a drain. The mark of an entry is the answer that was given with it.
 #[derive(Drop)]
 pub enum Entry<A: Allocator = Global> {
     /// Its mark is a copy of the reports that were answered.
@@ -69,6 +74,12 @@ pub enum Entry<A: Allocator = Global> {
         by: u16,
         id: u16,
         on: bool,
+    },
+    /// Its mark is a copy of the reports that were answered.
+    Drain {
+        by: u16,
+        time: u32,
+        mark: Reports<A>,
     },
 }
 
@@ -101,6 +112,7 @@ impl<A: Allocator> Entry<A> {
             Entry::SetBreak { by, .. } => *by,
             Entry::ClearBreak { by, .. } => *by,
             Entry::Trace { by, .. } => *by,
+            Entry::Drain { by, .. } => *by,
         }
     }
 
@@ -115,6 +127,7 @@ impl<A: Allocator> Entry<A> {
             Entry::SetBreak { .. } => 1,
             Entry::ClearBreak { .. } => 1,
             Entry::Trace { .. } => 1,
+            Entry::Drain { .. } => 1,
         }
     }
 
@@ -180,6 +193,14 @@ impl<A: Allocator> Entry<A> {
                     on: other_on,
                 },
             ) => by == other_by && id == other_id && on == other_on,
+            (
+                Entry::Drain { by, time, mark },
+                Entry::Drain {
+                    by: other_by,
+                    time: other_time,
+                    mark: other_mark,
+                },
+            ) => by == other_by && time == other_time && mark.is_same(other_mark),
             _ => false,
         }
     }

@@ -37,9 +37,10 @@ impl<A: Allocator> Model for Journal<A> {
 }
 
 impl<A: Allocator> Journal<A> {
-    ghost use Rattle.ocp_core.specs.Log.{world_of};
+    ghost use Rattle.ocp_core.specs.Log.{events_of, world_of};
     ghost use Rattle.ocp_core.specs.Marks.{mark_in, marked};
     ghost use Rattle.ocp_core.specs.Journal.{entry_of, mark_of, marked_of};
+    ghost use Rattle.ocp_core.specs.Mirror.Counted.{AreCounted};
 
     /// A journal without entries, with room for so many, of an engine with 1 to 256 pool words.
     #[tactic(auto, unfolding(crate::specs::Marks::marked))]
@@ -87,6 +88,7 @@ impl<A: Allocator> Journal<A> {
     pub fn len(&self) -> usize
         ensures value { result ≡ length self.now.entries }
         ensures within { result ≤ self.now.capacity }
+        ensures few { result ≤ 1000000 }
     {
         self.entries.len()
     }
@@ -105,17 +107,19 @@ impl<A: Allocator> Journal<A> {
         self.entries.as_slice()
     }
 
-    /// How many single events the entries are, below 2^52.
+    /// How many single events the entries are, below 2^52. It is the number of the next event that is accepted.
     pub fn events(&self) -> u64
         ensures value { result ≡ length (expand self.now.entries) }
+        ensures number { result ≡ (world_of self.now).events }
         ensures bound { result < 2 ^ 52 }
     {
         self.events
     }
 
-    /// Adds an entry, whose mark is the answer that its events are given.
+    /// Adds an entry, whose events are accepted, and whose mark is the answer that they are given.
     pub(crate) fn push(&mut self, entry: Entry<A>)
         requires room { is_full self.old ≡ false }
+        requires accepted { AreCounted (world_of self.old) (events_of (entry_of entry)) }
         requires mark { mark_of entry ≡ mark_in (world_of self.old) (entry_of entry) }
         ensures { self.new ≡ with_entry self.old (entry_of entry) }
     {

@@ -1,15 +1,16 @@
 //! One procedure of a journal, by itself.
 
-ghost use Rattle.std.specs.Prelude.{◌≡◌, ◌≤◌, ◌<◌, ℕ, IfOk, OnOk, map, replicate};
+ghost use Rattle.std.specs.Prelude.{◌≡◌, ◌≤◌, ◌<◌, ℕ, IfOk, OnOk, map, length, replicate};
 ghost use Rattle.std.specs.FinMap.{get};
 ghost use Rattle.ocp_table.specs.Laws.{machine_of};
-ghost use Rattle.ocp_world.specs.World.{World, Request as Asked, Step};
+ghost use Rattle.ocp_world.specs.World.{World, Request as Asked, Step, Drain, opening};
 ghost use Rattle.ocp_world.specs.After.{after};
 ghost use Rattle.ocp_world.specs.Replay.{replay, replay_from};
 ghost use Rattle.ocp_world.specs.Mirror.State.{IsWorld};
 ghost use Rattle.ocp_core.specs.Log.{events_of, expand, world_of};
 ghost use Rattle.ocp_core.specs.Journal.{entry_of};
 ghost use Rattle.ocp_core.specs.Alone.{alone_after};
+ghost use Rattle.ocp_core.specs.Mirror.Counted.{AreCounted};
 
 use crate::laws::{machines_follow_from_their_own_events, refused_events_change_nothing};
 use crate::{Command, EngineFault, Entry, Journal};
@@ -19,22 +20,43 @@ use pus_fields::read_tc;
 use space_packet::Apid;
 use std::alloc::{AllocError, Allocator};
 
-// Does a request.
+// Does a request, which is the event of this number.
 fn request<A: Allocator + Copy>(
     state: &mut State<A>,
     alloc: A,
     apid: Apid,
+    event: u64,
     time: u32,
     octets: &[u8],
 ) -> Result<(), AllocError>
     requires { apid < 2047 }
-    ensures { (w : World) (by : ℕ) → IsWorld w state.old → w.apid ≡ apid →
+    ensures { (w : World) (by : ℕ) → IsWorld w state.old → w.apid ≡ apid → event ≡ w.events →
         OnOk result (IsWorld (after w (Asked by time octets.now)).world state.new) }
 {
     refused_events_change_nothing();
-    match state.receive(alloc, time, read_tc(apid, octets)) {
+    match state.receive(alloc, event, time, read_tc(apid, octets)) {
         Ok(_reports) => Ok(()),
         Err(EngineFault::Discarded(_cause)) => Ok(()),
+        Err(EngineFault::NothingDue) => Ok(()),
+        Err(EngineFault::JournalFull) => Ok(()),
+        Err(EngineFault::Memory) => Err(AllocError),
+    }
+}
+
+// Does a drain.
+fn drain<A: Allocator + Copy>(
+    state: &mut State<A>,
+    alloc: A,
+    time: u32,
+) -> Result<(), AllocError>
+    ensures { (w : World) (by : ℕ) → IsWorld w state.old →
+        OnOk result (IsWorld (after w (Drain by time)).world state.new) }
+{
+    refused_events_change_nothing();
+    match state.drain(alloc, time) {
+        Ok(_reports) => Ok(()),
+        Err(EngineFault::Discarded(_cause)) => Ok(()),
+        Err(EngineFault::NothingDue) => Ok(()),
         Err(EngineFault::JournalFull) => Ok(()),
         Err(EngineFault::Memory) => Err(AllocError),
     }
@@ -50,20 +72,21 @@ fn steps<A: Allocator>(state: &mut State<A>, id: u16, count: u32)
     }
 }
 
-// Does the events of an entry.
+// Does the events of an entry, the first of which is that of this number.
 fn enter<A: Allocator + Copy, B: Allocator>(
     state: &mut State<A>,
     alloc: A,
     apid: Apid,
+    event: u64,
     entry: &Entry<B>,
 ) -> Result<(), AllocError>
     requires { apid < 2047 }
-    ensures { (w : World) → IsWorld w state.old → w.apid ≡ apid →
+    ensures { (w : World) → IsWorld w state.old → w.apid ≡ apid → event ≡ w.events →
         OnOk result (IsWorld (replay_from w (events_of (entry_of entry.now))) state.new) }
 {
     match entry {
         Entry::Request { time, octets, .. } => {
-            request(state, alloc, apid, *time, octets.as_slice())?;
+            request(state, alloc, apid, event, *time, octets.as_slice())?;
         }
         Entry::Steps { id, count, .. } => steps(state, *id, *count),
         Entry::SetBreak { id, place, .. } => {
@@ -75,6 +98,7 @@ fn enter<A: Allocator + Copy, B: Allocator>(
         Entry::Trace { id, on, .. } => {
             let _result = state.command(*id, Command::SetTrace(*on));
         }
+        Entry::Drain { time, .. } => drain(state, alloc, *time)?,
     }
     Ok(())
 }
@@ -89,12 +113,16 @@ fn state_after<A: Allocator + Copy, B: Allocator>(
     requires apid { apid < 2047 }
     requires words_from { 1 ≤ words }
     requires words_to { words ≤ 256 }
+    requires few { length entries.now ≤ 1000000 }
+    requires accepted { AreCounted (opening apid words) (expand (map entry_of entries.now)) }
     ensures { IfOk result (λ state.
         IsWorld (replay apid words (expand (map entry_of entries.now))) state) }
 {
     let mut state = State::new(alloc, apid, words)?;
+    let mut event: u64 = 0;
     for entry in entries {
-        enter(&mut state, alloc, apid, entry)?;
+        enter(&mut state, alloc, apid, event, entry)?;
+        event += entry.events();
     }
     Ok(state)
 }

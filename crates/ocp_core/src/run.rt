@@ -31,6 +31,17 @@ impl<A: Allocator> Engine<A> {
                 Err(EngineFault::JournalFull) => Err(RunRefusal::JournalFull),
                 Err(EngineFault::Memory) => Err(RunRefusal::Memory),
             },
+            Event::Drain { by, time } => match self.drain(alloc, by, time) {
+                Ok(reports) => Ok(Answer::Requested(Ok(reports))),
+                Err(EngineFault::NothingDue) => {
+                    Ok(Answer::Requested(Err(EngineFault::NothingDue)))
+                }
+                Err(EngineFault::Discarded(cause)) => {
+                    Ok(Answer::Requested(Err(EngineFault::Discarded(cause))))
+                }
+                Err(EngineFault::JournalFull) => Err(RunRefusal::JournalFull),
+                Err(EngineFault::Memory) => Err(RunRefusal::Memory),
+            },
             Event::Step { by, id } => match self.step(by, id) {
                 StepOutcome::JournalFull => Err(RunRefusal::JournalFull),
                 outcome => Ok(Answer::Stepped(outcome)),

@@ -1,13 +1,18 @@
--- A request that is admitted.
+-- An event that is admitted.
 use Rattle.std.specs.Prelude.{◌≡◌, ℕ, List, Result, true, false}
 use Rattle.pus_fields.specs.Telecommand.{Telecommand}
 use Rattle.pus_fields.specs.declared.fault.TcFault.{TcFault}
 use Rattle.pus_fields.specs.TelecommandFaults.{telecommand_of}
-use Rattle.ocp_world.specs.World.{Request}
+use Rattle.ocp_world.specs.World.{Event, Request}
 use Rattle.ocp_world.specs.After.{after, is_accepted}
 use Rattle.ocp_core.specs.Log.{Log, world_of, is_full}
 
--- it is read so, would be accepted, and finds room
+-- it would be accepted, and finds room
+pub record IsTaken (log : Log) (e : Event) : Type 0 where
+  pub taken : is_accepted (after (world_of log) e).answer ≡ true
+  pub free : is_full log ≡ false
+
+-- a request that is read so would be accepted, and finds room
 pub record IsAdmitted (log : Log) (by time : ℕ) (octets : List ℕ)
     (read : Result Telecommand TcFault) : Type 0 where
   pub is : read ≡ telecommand_of (world_of log).apid octets

@@ -1,6 +1,6 @@
 -- What a journal keeps of its entries.
 use Rattle.std.specs.Prelude.{◌≡◌, ◌≤◌, ◌<◌, ◌*◌, ◌^◌, map, length, vec_len, vec_capacity}
-use Rattle.ocp_core.specs.Log.{Log, expand}
+use Rattle.ocp_core.specs.Log.{Log, expand, world_of}
 use Rattle.ocp_core.specs.Marks.{marked}
 use Rattle.ocp_core.specs.Journal.{entry_of, marked_of}
 use Rattle.ocp_core.specs.declared.journal.Journal.TheInside.{Inside}
@@ -22,5 +22,6 @@ module _ {A : Type 0} where
     pub room : j.capacity ≤ vec_capacity j.entries
     pub limit : j.capacity ≤ 1000000
     pub counted : j.events ≡ length (expand (map entry_of j.entries.items))
+    pub numbered : j.events ≡ (world_of (log_of j)).events
     pub bounded : j.events ≤ 2 ^ 32 * vec_len j.entries
     pub marks : map marked_of j.entries.items ≡ marked (log_of j)
