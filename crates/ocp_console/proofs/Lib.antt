@@ -2,5 +2,6 @@ pub mod Cutting
 pub mod Runs
 pub mod Scripts
 pub mod Workless
+pub mod Asking
 pub mod Requests
 pub mod Taking
