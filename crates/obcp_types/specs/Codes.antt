@@ -5,7 +5,9 @@ use Rattle.obcp_types.specs.declared.failure.AcceptanceFailure.{AcceptanceFailur
 use Rattle.obcp_types.specs.declared.failure.AcceptanceFailure.TheVariants.{Packet, Request}
 use Rattle.obcp_types.specs.declared.failure.RequestFault.TheVariants.{Service, Subtype, Layout}
 use Rattle.obcp_types.specs.declared.failure.StartFailure.{StartFailure}
-use Rattle.obcp_types.specs.declared.failure.StartFailure.TheVariants.{AlreadyLoaded, TableFull, BadCode, NotLoaded, NotInactive, NotActive, NotRunning, NotHeld, StopPending, MailboxFull}
+use Rattle.obcp_types.specs.declared.failure.StartFailure.TheVariants.{AlreadyLoaded, TableFull, BadCode, NotLoaded, NotInactive, NotActive, NotRunning, NotHeld, StopPending, MailboxFull, OutboxFull}
+use Rattle.obcp_types.specs.declared.failure.CompletionFailure.{CompletionFailure}
+use Rattle.obcp_types.specs.declared.failure.CompletionFailure.TheVariants.{Overtaken}
 use Rattle.obcp_types.specs.declared.status.Status.{Status}
 use Rattle.obcp_types.specs.declared.status.Status.TheVariants.{Inactive, Running, Held}
 
@@ -38,3 +40,8 @@ start_code NotRunning = 22
 start_code NotHeld = 23
 start_code StopPending = 24
 start_code MailboxFull = 25
+start_code OutboxFull = 27
+
+-- the codes of a failed completion
+abbrev pub completion_code : CompletionFailure → ℕ
+completion_code Overtaken = 26

@@ -67,6 +67,8 @@ pub enum StartFailure {
     StopPending,
     /// Code 25: the mailbox has no room for the words.
     MailboxFull,
+    /// Code 27: all places for pending and unreported completions are taken.
+    OutboxFull,
 }
 
 impl StartFailure {
@@ -87,6 +89,27 @@ impl StartFailure {
             StartFailure::NotHeld => 23,
             StartFailure::StopPending => 24,
             StartFailure::MailboxFull => 25,
+            StartFailure::OutboxFull => 27,
+        }
+    }
+}
+
+/// Why an execution was not completed (ECSS-E-ST-70-41C, 6.1.5.3). The codes are this product's own.
+#[derive(Clone, Copy, PartialEq, Eq, Debug)]
+pub enum CompletionFailure {
+    /// Code 26: something else came in between.
+    Overtaken,
+}
+
+impl CompletionFailure {
+    ghost use Rattle.obcp_types.specs.Codes.{completion_code};
+
+    /// The failure code.
+    pub fn code(self) -> u16
+        ensures { result ≡ completion_code self }
+    {
+        match self {
+            CompletionFailure::Overtaken => 26,
         }
     }
 }

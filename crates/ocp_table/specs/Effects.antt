@@ -3,9 +3,13 @@
 use Rattle.std.specs.Prelude.{ℕ, ◌==◌, ◌||◌, Bool, true, false, not, nat_lt, if◌then◌else◌, List, [], ◌∷◌, ◌++◌, Option, Some, None, Result, Ok, Err}
 use Rattle.std.specs.List.{filter}
 use Rattle.std.specs.FinMap.{get, insert, remove}
+use Rattle.obcp_types.specs.declared.failure.CompletionFailure.TheVariants.{Overtaken}
 use Rattle.obcp_types.specs.declared.failure.StartFailure.{StartFailure}
 use Rattle.obcp_types.specs.declared.failure.StartFailure.TheVariants as failure
+use Rattle.obcp_types.specs.declared.pending.Due.{Due}
+use Rattle.obcp_types.specs.declared.pending.PendingOrigin.{PendingOrigin}
 use Rattle.obcp_types.specs.declared.status.Status.TheVariants.{Inactive, Running, Held}
+use Rattle.verification.specs.Reports.{wants_completion}
 use Rattle.bpf_step.specs.Machine.{State, Outcome, Next, Needs, NoInstruction}
 use Rattle.bpf_step.specs.Machine.{started}
 use Rattle.bpf_step.specs.Step.{one_step}
@@ -43,10 +47,13 @@ pub data Why : Type 0 where
   Unasked : Why
   Failed : StartFailure → Why
 
+-- what an event does to the records and to the outbox: a procedure is loaded, unloaded or changed,
+-- the outbox is emptied, or all of it stays
 pub data Effect : Type 0 where
   Loaded : ℕ → List ℕ → Effect
   Unloaded : ℕ → Effect
   Changed : ℕ → Change → Effect
+  Drained : Effect
   Kept : Why → Effect
 
 -- ---- the parts of a record after a change
@@ -102,8 +109,8 @@ matches wanted step = (wanted == 0) || (wanted == step)
 -- the end of a step
 abbrev pub control_at_step_end : Pending → ℕ → Control → Control
 control_at_step_end pending.Nothing k c = passed c
-control_at_step_end (pending.Stop s) k c = if matches s k then inactive cause.Stopped else passed c
-control_at_step_end (pending.Suspend s) k c =
+control_at_step_end (pending.Stop s from) k c = if matches s k then inactive cause.Stopped else passed c
+control_at_step_end (pending.Suspend s from) k c =
     if matches s k then held pending.Nothing c else passed c
 
 abbrev pub control_by_call : Call → Control → Control
@@ -186,7 +193,75 @@ abbrev pub records_by : Effect → Records → Records
 records_by (Loaded id image) m = insert m id (new_record image)
 records_by (Unloaded id) m = remove m id
 records_by (Changed id change) m = with_change (get m id) id change m
+records_by Drained m = m
 records_by (Kept why) m = m
+
+-- ---- the outbox after an effect
+
+-- a completion that does not come, since something else came in between: it is reported whatever
+-- its flags are
+abbrev pub overtaken : Pending → List Due
+overtaken pending.Nothing = []
+overtaken (pending.Stop s from) = record { origin = from; failure = Some Overtaken } ∷ []
+overtaken (pending.Suspend s from) = record { origin = from; failure = Some Overtaken } ∷ []
+
+-- one that comes: it is reported where its flag is set
+abbrev pub completed : PendingOrigin → List Due
+completed from =
+    if wants_completion from.ack then record { origin = from; failure = None } ∷ [] else []
+
+-- what waits to be reported after the end of a step: its completion where it matches
+abbrev pub filed_at_step_end : Pending → ℕ → List Due
+filed_at_step_end pending.Nothing k = []
+filed_at_step_end (pending.Stop s from) k = if matches s k then completed from else []
+filed_at_step_end (pending.Suspend s from) k = if matches s k then completed from else []
+
+abbrev pub filed_by_call : Call → Pending → List Due
+filed_by_call (call.StepEnd k) pending = filed_at_step_end pending k
+filed_by_call other pending = []
+
+abbrev pub filed_by_outcome : InstructionOutcome → Pending → List Due
+filed_by_outcome Broke pending = []
+filed_by_outcome Ran pending = []
+filed_by_outcome (Called call) pending = filed_by_call call pending
+filed_by_outcome Ended pending = overtaken pending
+filed_by_outcome (Faulted number) pending = overtaken pending
+
+-- a stop or suspend that is replaced, or whose procedure becomes inactive, is overtaken
+abbrev pub filed_by_change : Change → Pending → List Due
+filed_by_change (Started arguments) pending = overtaken pending
+filed_by_change (Sent words) pending = []
+filed_by_change (Pended next) pending = overtaken pending
+filed_by_change (Quit cause) pending = overtaken pending
+filed_by_change Resumed pending = []
+filed_by_change (Stepped outcome) pending = filed_by_outcome outcome pending
+filed_by_change (BreakSet place) pending = []
+filed_by_change (BreakCleared place) pending = []
+filed_by_change (TraceSet on) pending = []
+
+-- that of a procedure that is loaded
+abbrev pub filed_of : Change → Option Rec → List Due
+filed_of change None = []
+filed_of change (Some r) = filed_by_change change r.control.pending
+
+abbrev pub overtaken_of : Option Rec → List Due
+overtaken_of None = []
+overtaken_of (Some r) = overtaken r.control.pending
+
+-- a procedure that is loaded or unloaded had nothing pending: this leaves nothing unsaid
+abbrev pub filed_by : Effect → Records → List Due
+filed_by (Loaded id image) m = overtaken_of (get m id)
+filed_by (Unloaded id) m = overtaken_of (get m id)
+filed_by (Changed id change) m = filed_of change (get m id)
+filed_by Drained m = []
+filed_by (Kept why) m = []
+
+abbrev pub outbox_by : Effect → Records → List Due → List Due
+outbox_by (Loaded id image) m outbox = outbox ++ filed_by (Loaded id image) m
+outbox_by (Unloaded id) m outbox = outbox ++ filed_by (Unloaded id) m
+outbox_by (Changed id change) m outbox = outbox ++ filed_by (Changed id change) m
+outbox_by Drained m outbox = []
+outbox_by (Kept why) m outbox = outbox ++ filed_by (Kept why) m
 
 -- ---- what is set apart from requests
 

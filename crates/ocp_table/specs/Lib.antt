@@ -1,4 +1,5 @@
 pub mod Records
+pub mod Outbox
 pub mod Effects
 pub mod RequestTable
 pub mod Deciding

@@ -1,5 +1,5 @@
 use crate::InstructionOutcome;
-use obcp_types::Status;
+use obcp_types::{PendingOrigin, Status};
 use ocp_pool::Called;
 
 /// How a procedure became inactive after its last start.
@@ -14,12 +14,13 @@ pub enum Cause {
     Fault(u8),
 }
 
-/// What is done at the end of a step: of any step where the number is 0, and else of that one.
+/// What is done at the end of a step: of any step where the number is 0, and else of that one. It has the origin of its
+/// request, to which its completion is reported.
 #[derive(Clone, Copy, PartialEq, Eq, Debug)]
 pub enum Pending {
     Nothing,
-    Stop(u16),
-    Suspend(u16),
+    Stop(u16, PendingOrigin),
+    Suspend(u16, PendingOrigin),
 }
 
 /// What requests and instructions set.
@@ -96,8 +97,8 @@ impl Control {
         ensures { result ≡ control_at_step_end self.pending step self }
     {
         match self.pending {
-            Pending::Stop(wanted) if matches(wanted, step) => Control::inactive(Cause::Stopped),
-            Pending::Suspend(wanted) if matches(wanted, step) => self.held(Pending::Nothing),
+            Pending::Stop(wanted, _) if matches(wanted, step) => Control::inactive(Cause::Stopped),
+            Pending::Suspend(wanted, _) if matches(wanted, step) => self.held(Pending::Nothing),
             _ => self.passed(),
         }
     }

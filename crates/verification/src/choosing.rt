@@ -1,11 +1,12 @@
 //! Which reports an outcome gives.
 
 ghost use Rattle.std.specs.Prelude.{◌≡◌};
-ghost use Rattle.verification.specs.Reports.{reports_of_outcome, wants_acceptance, wants_completion, wants_start};
+ghost use Rattle.verification.specs.Reports.{completion, reports_of_outcome, wants_acceptance, wants_completion, wants_start};
 
 use crate::notice::{Notice, NoticeList};
 use crate::outcome::Outcome;
 use bitflags::Flags;
+use obcp_types::CompletionFailure;
 use pus_fields::Ack;
 
 /// Whether a report of successful acceptance is asked for.
@@ -25,7 +26,7 @@ fn is_start_asked(ack: Ack) -> bool
 
 /// Whether a report of successful completion is asked for.
 #[tactic(auto, using(crate::proofs::Wanted::mask_eight))]
-fn is_completion_asked(ack: Ack) -> bool
+pub fn is_completion_asked(ack: Ack) -> bool
     ensures { result ≡ wants_completion ack }
 {
     ack.contains(Ack::COMPLETION)
@@ -45,6 +46,10 @@ pub fn notices(ack: Ack, outcome: &Outcome) -> NoticeList
             list.add_if(is_acceptance_asked(ack), Notice::Accepted);
             list.add(Notice::NotStarted(*failure));
         }
+        Outcome::Started => {
+            list.add_if(is_acceptance_asked(ack), Notice::Accepted);
+            list.add_if(is_start_asked(ack), Notice::Started);
+        }
         Outcome::Done => {
             list.add_if(is_acceptance_asked(ack), Notice::Accepted);
             list.add_if(is_start_asked(ack), Notice::Started);
@@ -53,4 +58,16 @@ pub fn notices(ack: Ack, outcome: &Outcome) -> NoticeList
         }
     }
     list
+}
+
+/// The report of a completion that comes after its request. One that failed is reported whatever the flags are, and
+/// one that did not where its flag is set (ECSS-E-ST-70-41C, 6.1.5).
+pub fn completion(ack: Ack, failure: Option<CompletionFailure>) -> Option<Notice>
+    ensures { result ≡ completion ack failure }
+{
+    match failure {
+        Some(failure) => Some(Notice::NotCompleted(failure)),
+        None if is_completion_asked(ack) => Some(Notice::Completed),
+        None => None,
+    }
 }

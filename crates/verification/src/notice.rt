@@ -3,7 +3,7 @@
 ghost use Rattle.std.specs.Prelude.{◌≡◌, ◌<◌, ◌≤◌, [], ◌∷◌, ◌++◌, length};
 
 use arrayvec::ArrayVec;
-use obcp_types::{AcceptanceFailure, StartFailure};
+use obcp_types::{AcceptanceFailure, CompletionFailure, StartFailure};
 use std::marker::Model;
 
 /// A report to send, or the place of one.
@@ -22,6 +22,8 @@ pub enum Notice {
     Answer,
     /// Successful completion: subtype 7.
     Completed,
+    /// Failed completion: subtype 8.
+    NotCompleted(CompletionFailure),
 }
 
 /// The reports of one request: at most three and the place of the answer report, in their order.

@@ -1,0 +1,26 @@
+//! What waits: the origin of a pending stop or suspend, and completions that wait to be reported.
+
+use crate::CompletionFailure;
+use pus_fields::Ack;
+
+/// Where the completion of a pending stop or suspend goes: the request that asked for it.
+#[derive(Clone, Copy, PartialEq, Eq, Debug)]
+pub struct PendingOrigin {
+    /// How many accepted events were before that of the request.
+    pub event: u64,
+    /// The request's first four octets.
+    pub request: [u8; 4],
+    /// Its source, to which the report goes.
+    pub source: u16,
+    /// Its acknowledgement flags.
+    pub ack: Ack,
+}
+
+/// A completion that waits to be reported.
+#[derive(Clone, Copy, PartialEq, Eq, Debug)]
+pub struct Due {
+    /// The request that is completed.
+    pub origin: PendingOrigin,
+    /// Why it is not completed; none where it is.
+    pub failure: Option<CompletionFailure>,
+}

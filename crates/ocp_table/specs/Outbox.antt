@@ -1,0 +1,27 @@
+-- The places of completions that come later: one is taken by each pending stop or suspend, and by
+-- each completion that waits in the outbox to be reported.
+use Rattle.std.specs.Prelude.{ℕ, ◌+◌, Bool, nat_le, List, length}
+use Rattle.std.specs.List.{sum_by}
+use Rattle.std.specs.FinMap.{values}
+use Rattle.obcp_types.specs.declared.pending.Due.{Due}
+use Rattle.ocp_table.specs.declared.table.TheConstants.{OUTBOX_PLACES}
+use Rattle.ocp_table.specs.declared.control.Pending.{Pending}
+use Rattle.ocp_table.specs.declared.control.Pending.TheVariants as pending
+use Rattle.ocp_table.specs.Records.{Rec, Records}
+
+-- what is pending takes one place
+abbrev pub places_of : Pending → ℕ
+places_of pending.Nothing = 0
+places_of (pending.Stop s from) = 1
+places_of (pending.Suspend s from) = 1
+
+abbrev pub places_in : Rec → ℕ
+places_in r = places_of r.control.pending
+
+-- how many stops and suspends are pending
+abbrev pub pendings : Records → ℕ
+pendings m = sum_by places_in (values m)
+
+-- no place is free
+abbrev pub is_outbox_full : Records → List Due → Bool
+is_outbox_full m outbox = nat_le OUTBOX_PLACES (length outbox + pendings m)
