@@ -15,7 +15,7 @@ use Rattle.ocp_table.specs.declared.control.Pending.TheVariants as pending
 use Rattle.ocp_table.specs.Records.{Rec, Records}
 use Rattle.ocp_table.specs.Effects.{Loaded, Unloaded, Changed, Kept, Started, Sent, Pended, Quit, Resumed, Stepped, pool_by}
 use Rattle.ocp_table.specs.Effects as table
-use Rattle.ocp_table.specs.RequestTable.{Directive, Load, Unload, Activate, Stop, Suspend, Resume, Abort, Communicate, Step, Decision, Loads, Unloads, Changes, Steps, Fails, transition, sent}
+use Rattle.ocp_table.specs.RequestTable.{Directive, Load, Unload, Activate, Stop, Suspend, Resume, Abort, Communicate, Step, Decision, Loads, Unloads, Changes, Steps, Fails, transition, sent, pended}
 use Rattle.ocp_table.specs.Deciding.{effect_in, effect_by, effect_of_load, decision_on, status_of, pending_of, words_of, is_full}
 use Rattle.ocp_table.specs.Shown.{directive_of}
 use Rattle.ocp_table.specs.declared.directive.Directive as D
@@ -37,6 +37,10 @@ IsCalmDecision decision = Unit {0}
 calm_sent : (words : List ℕ) (there : ℕ) → IsCalmDecision (sent words there)
 calm_sent words there = elim (nat_le (there + length words) MAX_MAILBOX_WORDS) as (λ b. IsCalmDecision (cond b (Changes (Sent words)) (Fails MailboxFull))) [ true ↦ tt | false ↦ tt ]
 
+calm_pended : (full : Bool) (p : Pending) → IsCalmDecision (pended full p)
+calm_pended true p = tt
+calm_pended false p = tt
+
 calm : (d : Directive) → IsRequest d → (s : Option Status) (p : Pending) (there : ℕ) → IsCalmDecision (transition d s p there)
 calm (Load image) h None p there = tt
 calm (Load image) h (Some Inactive) p there = tt
@@ -50,16 +54,16 @@ calm (Activate arguments) h None p there = tt
 calm (Activate arguments) h (Some Inactive) p there = tt
 calm (Activate arguments) h (Some Running) p there = tt
 calm (Activate arguments) h (Some Held) p there = tt
-calm (Stop k) h None p there = tt
-calm (Stop k) h (Some Inactive) p there = tt
-calm (Stop k) h (Some Running) p there = tt
-calm (Stop k) h (Some Held) p there = tt
-calm (Suspend k) h None p there = tt
-calm (Suspend k) h (Some Inactive) p there = tt
-calm (Suspend k) h (Some Running) pending.Nothing there = tt
-calm (Suspend k) h (Some Running) (pending.Suspend t) there = tt
-calm (Suspend k) h (Some Running) (pending.Stop t) there = tt
-calm (Suspend k) h (Some Held) p there = tt
+calm (Stop k from full) h None p there = tt
+calm (Stop k from full) h (Some Inactive) p there = tt
+calm (Stop k from full) h (Some Running) p there = calm_pended full (pending.Stop k from)
+calm (Stop k from full) h (Some Held) p there = tt
+calm (Suspend k from full) h None p there = tt
+calm (Suspend k from full) h (Some Inactive) p there = tt
+calm (Suspend k from full) h (Some Running) pending.Nothing there = calm_pended full (pending.Suspend k from)
+calm (Suspend k from full) h (Some Running) (pending.Suspend t older) there = calm_pended full (pending.Suspend k from)
+calm (Suspend k from full) h (Some Running) (pending.Stop t older) there = tt
+calm (Suspend k from full) h (Some Held) p there = tt
 calm Resume h None p there = tt
 calm Resume h (Some Inactive) p there = tt
 calm Resume h (Some Running) p there = tt
@@ -93,16 +97,16 @@ request_leaves_pool d h id m pool = pool_by_decision (decision_on d (get m id)) 
 pub unload_leaves_pool : (id : ℕ) (m : Records) (pool : List ℕ) → pool_by (effect_in Unload id m) pool ≡ pool
 unload_leaves_pool id m pool = request_leaves_pool Unload tt id m pool
 
-is_request : (d : D.Directive) → IsRequest (directive_of d)
-is_request (asked.Activate arguments) = tt
-is_request (asked.Stop k) = tt
-is_request (asked.Suspend k) = tt
-is_request asked.Resume = tt
-is_request asked.Abort = tt
-is_request (asked.Communicate words) = tt
+is_request : (d : D.Directive) (full : Bool) → IsRequest (directive_of d full)
+is_request (asked.Activate arguments) full = tt
+is_request (asked.Stop k from) full = tt
+is_request (asked.Suspend k from) full = tt
+is_request asked.Resume full = tt
+is_request asked.Abort full = tt
+is_request (asked.Communicate words) full = tt
 
-pub directive_leaves_pool : (d : D.Directive) (id : ℕ) (m : Records) (pool : List ℕ) → pool_by (effect_in (directive_of d) id m) pool ≡ pool
-directive_leaves_pool d id m pool = request_leaves_pool (directive_of d) (is_request d) id m pool
+pub directive_leaves_pool : (d : D.Directive) (full : Bool) (id : ℕ) (m : Records) (pool : List ℕ) → pool_by (effect_in (directive_of d full) id m) pool ≡ pool
+directive_leaves_pool d full id m pool = request_leaves_pool (directive_of d full) (is_request d full) id m pool
 
 -- ---- the trace records
 
@@ -129,5 +133,5 @@ no_more traces more none = ap (λ ts. traces ++ ts) none ∙ append-nil traces
 pub unload_keeps_traces : (id : ℕ) (m : Records) (traces : List Trace) → traces ++ traces_by (effect_in Unload id m) m ≡ traces
 unload_keeps_traces id m traces = no_more traces _ (request_makes_no_trace Unload tt id m)
 
-pub directive_keeps_traces : (d : D.Directive) (id : ℕ) (m : Records) (traces : List Trace) → traces ++ traces_by (effect_in (directive_of d) id m) m ≡ traces
-directive_keeps_traces d id m traces = no_more traces _ (request_makes_no_trace (directive_of d) (is_request d) id m)
+pub directive_keeps_traces : (d : D.Directive) (full : Bool) (id : ℕ) (m : Records) (traces : List Trace) → traces ++ traces_by (effect_in (directive_of d full) id m) m ≡ traces
+directive_keeps_traces d full id m traces = no_more traces _ (request_makes_no_trace (directive_of d full) (is_request d full) id m)

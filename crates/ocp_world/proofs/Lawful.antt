@@ -1,5 +1,5 @@
 -- Laws on worlds and events, lifted from those on records.
-use Rattle.std.proofs.Common.{◌≡◌, ◌≢◌, ℕ, Bool, true, false, List, [], ◌∷◌, ◌++◌, Option, Some, None, inl, refl, sym, ap, ◌∙◌, arith}
+use Rattle.std.proofs.Common.{◌≡◌, ◌≢◌, ◌+◌, ℕ, Bool, true, false, cond, List, [], ◌∷◌, ◌++◌, Option, Some, None, inl, refl, sym, ap, ◌∙◌, arith}
 use Rattle.std.specs.Prelude.{Result, Ok, Err, is_some, ◌==◌, ◌&&◌}
 use Rattle.std.proofs.lemmas.Bool.Decides.{nat_tests}
 use Rattle.std.proofs.lemmas.List.{append-nil, append_assoc}
@@ -13,7 +13,8 @@ use Rattle.obcp_types.specs.declared.status.Status.TheVariants.{Running}
 use Rattle.obcp_messages.specs.declared.request.Request.{Request as Command}
 use Rattle.obcp_messages.specs.declared.request.Request.TheVariants as command
 use Rattle.ocp_table.specs.Records.{Rec, Records}
-use Rattle.ocp_table.specs.Effects.{Change, Changed, records_by, pool_by, failure_of}
+use Rattle.obcp_types.specs.declared.pending.Due.{Due}
+use Rattle.ocp_table.specs.Effects.{Change, Changed, records_by, pool_by, outbox_by, failure_of}
 use Rattle.ocp_table.specs.RequestTable as directive
 use Rattle.ocp_table.specs.RequestTable.{Directive}
 use Rattle.ocp_table.specs.Deciding.{effect_in, status_of}
@@ -25,9 +26,11 @@ use Rattle.ocp_debug.specs.Traces.{traces_by}
 use Rattle.ocp_debug.specs.Commands.{change_of, effect_by as debug_effect_by, fault_on}
 use Rattle.ocp_reports.specs.declared.origin.Origin.{Origin}
 use Rattle.ocp_reports.specs.Origin.{origin_of}
-use Rattle.ocp_world.specs.World.{World, Event, Request, Step, Debug}
-use Rattle.ocp_world.specs.Requests.{command_effect, service_effect, request_effect, command_of}
-use Rattle.ocp_world.specs.After.{after, effect_of, is_accepted}
+use Rattle.ocp_world.specs.World.{World, Event, Request, Step, Debug, Drain}
+use Rattle.ocp_world.specs.Requests.{command_effect, service_effect, request_effect, command_of, next_origin, has_no_place}
+use Rattle.ocp_world.specs.Drains.{drain_effect}
+use Rattle.ocp_world.specs.Effect.{Reply, Discards, Sends, Steps, Commands, Undue}
+use Rattle.ocp_world.specs.After.{after, effect_of, answer_by, events_by, is_accepted}
 use Rattle.ocp_world.specs.Replay.{replay_from}
 use Rattle.ocp_world.specs.Laws.{is_start_of, is_start_in, is_start_by, may_change_machine, IsAppended}
 use Rattle.ocp_world.specs.Slice.{is_running, is_running_status}
@@ -52,33 +55,64 @@ module _ (only : (id : ℕ) (m : Records) (pool : List ℕ) → status_of (get m
 
 -- ---- a request
 
-module _ (m : Records) (q : ℕ) where
+module _ (w : World) (q : ℕ) where
   abbrev IsKept : Records → Type 0
-  IsKept n = IsKeptOrStarted (machine_of (get m q)) (machine_of (get n q))
+  IsKept n = IsKeptOrStarted (machine_of (get w.records q)) (machine_of (get n q))
 
-  module _ (asked : (d : Directive) (id : ℕ) → IsRequest d → IsKept (records_by (effect_in d id m) m)) where
-    kept_by_command : (request : Command) (origin : Origin) → IsKept (records_by (command_effect request origin m).on_records m)
+  module _ (asked : (d : Directive) (id : ℕ) → IsRequest d → IsKept (records_by (effect_in d id w.records) w.records)) where
+    kept_by_command : (request : Command) (origin : Origin) → IsKept (records_by (command_effect request origin w).on_records w.records)
     kept_by_command (command.Load id code) origin = asked (directive.Load code) id tt
     kept_by_command (command.Unload id) origin = asked directive.Unload id tt
     kept_by_command (command.Activate id arguments) origin = asked (directive.Activate arguments) id tt
-    kept_by_command (command.Stop id step) origin = asked (directive.Stop step) id tt
-    kept_by_command (command.Suspend id step) origin = asked (directive.Suspend step) id tt
+    kept_by_command (command.Stop id step) origin = asked (directive.Stop step (next_origin origin w) (has_no_place w)) id tt
+    kept_by_command (command.Suspend id step) origin = asked (directive.Suspend step (next_origin origin w) (has_no_place w)) id tt
     kept_by_command (command.Resume id) origin = asked directive.Resume id tt
     kept_by_command (command.Communicate id words) origin = asked (directive.Communicate words) id tt
     kept_by_command command.Status origin = λ machine is. inl is
     kept_by_command (command.Abort id) origin = asked directive.Abort id tt
 
-    kept_by_service : (r : Result Command RequestFault) (origin : Origin) → IsKept (records_by (service_effect r origin m).on_records m)
+    kept_by_service : (r : Result Command RequestFault) (origin : Origin) → IsKept (records_by (service_effect r origin w).on_records w.records)
     kept_by_service (Ok request) origin = kept_by_command request origin
     kept_by_service (Err fault) origin = λ machine is. inl is
 
-    kept_by_octets : (r : Result Telecommand TcFault) (time : ℕ) → IsKept (records_by (request_effect r time m).on_records m)
+    kept_by_octets : (r : Result Telecommand TcFault) (time : ℕ) → IsKept (records_by (request_effect r time w).on_records w.records)
     kept_by_octets (Ok telecommand) time = kept_by_service (command_of telecommand) (origin_of telecommand time)
     kept_by_octets (Err (Rejected rejection request)) time = λ machine is. inl is
     kept_by_octets (Err (Discarded cause)) time = λ machine is. inl is
 
 pub kept_or_started : ((d : Directive) (id q : ℕ) (m : Records) → IsRequest d → IsKeptOrStarted (machine_of (get m q)) (machine_of (get (records_by (effect_in d id m) m) q))) → (w : World) (by time : ℕ) (octets : List ℕ) (id : ℕ) → IsKeptOrStarted (machine_of (get w.records id)) (machine_of (get (after w (Request by time octets)).world.records id))
-kept_or_started law w by time octets id = kept_by_octets w.records id (λ d i asked. law d i id w.records asked) (telecommand_of w.apid octets) time
+kept_or_started law w by time octets id = kept_by_octets w id (λ d i asked. law d i id w.records asked) (telecommand_of w.apid octets) time
+
+-- ---- what a drain leaves
+
+module _ (time : ℕ) (m : Records) (pool : List ℕ) where
+  drained_records : (due : List Due) → records_by (drain_effect time due).on_records m ≡ m
+  drained_records [] = refl
+  drained_records (due ∷ dues) = refl
+
+  drained_pool : (due : List Due) → pool_by (drain_effect time due).on_records pool ≡ pool
+  drained_pool [] = refl
+  drained_pool (due ∷ dues) = refl
+
+  drained_outbox : (due : List Due) → outbox_by (drain_effect time due).on_records m due ≡ []
+  drained_outbox [] = refl
+  drained_outbox (due ∷ dues) = refl
+
+  no_trace_by_drain : (due : List Due) → traces_by (drain_effect time due).on_records m ≡ []
+  no_trace_by_drain [] = refl
+  no_trace_by_drain (due ∷ dues) = refl
+
+pub drain_empties_outbox : (w : World) (by time : ℕ) → (after w (Drain by time)).world.outbox ≡ []
+drain_empties_outbox w by time = drained_outbox time w.records w.pool w.outbox
+
+pub drain_keeps_records : (w : World) (by time : ℕ) → (after w (Drain by time)).world.records ≡ w.records
+drain_keeps_records w by time = drained_records time w.records w.pool w.outbox
+
+pub drain_keeps_pool : (w : World) (by time : ℕ) → (after w (Drain by time)).world.pool ≡ w.pool
+drain_keeps_pool w by time = drained_pool time w.records w.pool w.outbox
+
+pub drain_keeps_traces : (w : World) (by time : ℕ) → (after w (Drain by time)).world.traces ≡ w.traces
+drain_keeps_traces w by time = no_more w.traces _ (no_trace_by_drain time w.records w.pool w.outbox)
 
 -- ---- what changes machines
 
@@ -113,41 +147,42 @@ module _ (debugs : (change : Change) (id q : ℕ) (m : Records) → IsDebugging 
       machine_of-run (get (records_by (debug_effect_by fault command own) m) id) ∙ ap (λ o. machine_of (rec_of o)) (run_kept fault command own id m) ∙ sym (machine_of-run (get m id))
 
   module _ (others : (d : Directive) (id other : ℕ) (m : Records) → other ≢ id → get (records_by (effect_in d id m) m) other ≡ get m other) (leaves : (d : Directive) (id q : ℕ) (m : Records) → LeavesMachines d → machine_of (get (records_by (effect_in d id m) m) q) ≡ machine_of (get m q)) (only : (id : ℕ) (m : Records) (pool : List ℕ) → status_of (get m id) ≢ Some Running → is_some (failure_of (effect_in (directive.Step pool) id m)) ≡ true) where
-    module _ (m : Records) (id : ℕ) where
+    module _ (w : World) (id : ℕ) where
       abbrev Stays : Records → Type 0
-      Stays n = machine_of (get n id) ≡ machine_of (get m id)
+      Stays n = machine_of (get n id) ≡ machine_of (get w.records id)
 
-      other_stays : (d : Directive) (own : ℕ) → (own == id) ≡ false → Stays (records_by (effect_in d own m) m)
-      other_stays d own h = ap machine_of (others d own id m (apart own id h))
+      other_stays : (d : Directive) (own : ℕ) → (own == id) ≡ false → Stays (records_by (effect_in d own w.records) w.records)
+      other_stays d own h = ap machine_of (others d own id w.records (apart own id h))
 
-      stays_by_command : (request : Command) (origin : Origin) → is_start_of id request ≡ false → Stays (records_by (command_effect request origin m).on_records m)
+      stays_by_command : (request : Command) (origin : Origin) → is_start_of id request ≡ false → Stays (records_by (command_effect request origin w).on_records w.records)
       stays_by_command (command.Load own code) origin h = other_stays (directive.Load code) own h
       stays_by_command (command.Unload own) origin h = other_stays directive.Unload own h
       stays_by_command (command.Activate own arguments) origin h = other_stays (directive.Activate arguments) own h
-      stays_by_command (command.Stop own step) origin h = leaves (directive.Stop step) own id m tt
-      stays_by_command (command.Suspend own step) origin h = leaves (directive.Suspend step) own id m tt
-      stays_by_command (command.Resume own) origin h = leaves directive.Resume own id m tt
-      stays_by_command (command.Communicate own words) origin h = leaves (directive.Communicate words) own id m tt
+      stays_by_command (command.Stop own step) origin h = leaves (directive.Stop step (next_origin origin w) (has_no_place w)) own id w.records tt
+      stays_by_command (command.Suspend own step) origin h = leaves (directive.Suspend step (next_origin origin w) (has_no_place w)) own id w.records tt
+      stays_by_command (command.Resume own) origin h = leaves directive.Resume own id w.records tt
+      stays_by_command (command.Communicate own words) origin h = leaves (directive.Communicate words) own id w.records tt
       stays_by_command command.Status origin h = refl
-      stays_by_command (command.Abort own) origin h = leaves directive.Abort own id m tt
+      stays_by_command (command.Abort own) origin h = leaves directive.Abort own id w.records tt
 
-      stays_by_service : (r : Result Command RequestFault) (origin : Origin) → is_start_in id r ≡ false → Stays (records_by (service_effect r origin m).on_records m)
+      stays_by_service : (r : Result Command RequestFault) (origin : Origin) → is_start_in id r ≡ false → Stays (records_by (service_effect r origin w).on_records w.records)
       stays_by_service (Ok request) origin h = stays_by_command request origin h
       stays_by_service (Err fault) origin h = refl
 
-      stays_by_octets : (r : Result Telecommand TcFault) (time : ℕ) → is_start_by id r ≡ false → Stays (records_by (request_effect r time m).on_records m)
+      stays_by_octets : (r : Result Telecommand TcFault) (time : ℕ) → is_start_by id r ≡ false → Stays (records_by (request_effect r time w).on_records w.records)
       stays_by_octets (Ok telecommand) time h = stays_by_service (command_of telecommand) (origin_of telecommand time) h
       stays_by_octets (Err (Rejected rejection request)) time h = refl
       stays_by_octets (Err (Discarded cause)) time h = refl
 
     stays_by_step : (w : World) (by own id : ℕ) (same : Bool) → (own == id) ≡ same → (same && is_running (get w.records own)) ≡ false → machine_of (get (after w (Step by own)).world.records id) ≡ machine_of (get w.records id)
     stays_by_step w by own id true is h = ap (λ v. machine_of (get v.records id)) (still only w by own h)
-    stays_by_step w by own id false is h = other_stays w.records id (directive.Step w.pool) own is
+    stays_by_step w by own id false is h = other_stays w id (directive.Step w.pool) own is
 
     pub machines_stay : (w : World) (e : Event) (id : ℕ) → may_change_machine w e id ≡ false → machine_of (get (after w e).world.records id) ≡ machine_of (get w.records id)
-    machines_stay w (Request by time octets) id h = stays_by_octets w.records id (telecommand_of w.apid octets) time h
+    machines_stay w (Request by time octets) id h = stays_by_octets w id (telecommand_of w.apid octets) time h
     machines_stay w (Step by own) id h = stays_by_step w by own id (own == id) refl h
     machines_stay w (Debug by own command) id h = machine_kept (fault_on command (get w.records own)) command own id w.records
+    machines_stay w (Drain by time) id h = ap (λ m. machine_of (get m id)) (drain_keeps_records w by time)
 
 -- ---- what a debugger's command leaves
 
@@ -166,33 +201,55 @@ no_trace_by_command (Some fault) command own m = refl
 pub command_keeps_pool : (w : World) (by own : ℕ) (command : DebugCommand) → (after w (Debug by own command)).world.pool ≡ w.pool
 command_keeps_pool w by own command = pool_kept (fault_on command (get w.records own)) command own w.pool
 
+nothing_filed : (fault : Option DebugFault) (command : DebugCommand) (own : ℕ) (m : Records) (outbox : List Due) → outbox_by (debug_effect_by fault command own) m outbox ≡ outbox
+nothing_filed None (SetBreak place) own m outbox = append-nil outbox
+nothing_filed None (ClearBreak place) own m outbox = append-nil outbox
+nothing_filed None (SetTrace on) own m outbox = append-nil outbox
+nothing_filed (Some fault) command own m outbox = append-nil outbox
+
+pub command_keeps_outbox : (w : World) (by own : ℕ) (command : DebugCommand) → (after w (Debug by own command)).world.outbox ≡ w.outbox
+command_keeps_outbox w by own command = nothing_filed (fault_on command (get w.records own)) command own w.records w.outbox
+
 pub command_keeps_traces : (w : World) (by own : ℕ) (command : DebugCommand) → (after w (Debug by own command)).world.traces ≡ w.traces
 command_keeps_traces w by own command = no_more w.traces _ (no_trace_by_command (fault_on command (get w.records own)) command own w.records)
 
+-- ---- accepted events
+
+counted_by : (reply : Reply) (w : World) → events_by reply w.events ≡ cond (is_accepted (answer_by reply w)) (w.events + 1) w.events
+counted_by (Discards cause) w = refl
+counted_by (Sends dispatches) w = refl
+counted_by (Steps outcome) w = refl
+counted_by (Commands (Ok done)) w = refl
+counted_by (Commands (Err fault)) w = refl
+counted_by Undue w = refl
+
+pub counted : (w : World) (e : Event) → (after w e).world.events ≡ cond (is_accepted (after w e).answer) (w.events + 1) w.events
+counted w e = counted_by (effect_of w e).reply w
+
 -- ---- trace records
 
-no_trace_by_request : (request : Command) (origin : Origin) (m : Records) → traces_by (command_effect request origin m).on_records m ≡ []
-no_trace_by_request (command.Load id code) origin m = request_makes_no_trace (directive.Load code) tt id m
-no_trace_by_request (command.Unload id) origin m = request_makes_no_trace directive.Unload tt id m
-no_trace_by_request (command.Activate id arguments) origin m = request_makes_no_trace (directive.Activate arguments) tt id m
-no_trace_by_request (command.Stop id step) origin m = request_makes_no_trace (directive.Stop step) tt id m
-no_trace_by_request (command.Suspend id step) origin m = request_makes_no_trace (directive.Suspend step) tt id m
-no_trace_by_request (command.Resume id) origin m = request_makes_no_trace directive.Resume tt id m
-no_trace_by_request (command.Communicate id words) origin m = request_makes_no_trace (directive.Communicate words) tt id m
-no_trace_by_request command.Status origin m = refl
-no_trace_by_request (command.Abort id) origin m = request_makes_no_trace directive.Abort tt id m
+no_trace_by_request : (request : Command) (origin : Origin) (w : World) → traces_by (command_effect request origin w).on_records w.records ≡ []
+no_trace_by_request (command.Load id code) origin w = request_makes_no_trace (directive.Load code) tt id w.records
+no_trace_by_request (command.Unload id) origin w = request_makes_no_trace directive.Unload tt id w.records
+no_trace_by_request (command.Activate id arguments) origin w = request_makes_no_trace (directive.Activate arguments) tt id w.records
+no_trace_by_request (command.Stop id step) origin w = request_makes_no_trace (directive.Stop step (next_origin origin w) (has_no_place w)) tt id w.records
+no_trace_by_request (command.Suspend id step) origin w = request_makes_no_trace (directive.Suspend step (next_origin origin w) (has_no_place w)) tt id w.records
+no_trace_by_request (command.Resume id) origin w = request_makes_no_trace directive.Resume tt id w.records
+no_trace_by_request (command.Communicate id words) origin w = request_makes_no_trace (directive.Communicate words) tt id w.records
+no_trace_by_request command.Status origin w = refl
+no_trace_by_request (command.Abort id) origin w = request_makes_no_trace directive.Abort tt id w.records
 
-no_trace_by_service : (r : Result Command RequestFault) (origin : Origin) (m : Records) → traces_by (service_effect r origin m).on_records m ≡ []
-no_trace_by_service (Ok request) origin m = no_trace_by_request request origin m
-no_trace_by_service (Err fault) origin m = refl
+no_trace_by_service : (r : Result Command RequestFault) (origin : Origin) (w : World) → traces_by (service_effect r origin w).on_records w.records ≡ []
+no_trace_by_service (Ok request) origin w = no_trace_by_request request origin w
+no_trace_by_service (Err fault) origin w = refl
 
-no_trace_by_octets : (r : Result Telecommand TcFault) (time : ℕ) (m : Records) → traces_by (request_effect r time m).on_records m ≡ []
-no_trace_by_octets (Ok telecommand) time m = no_trace_by_service (command_of telecommand) (origin_of telecommand time) m
-no_trace_by_octets (Err (Rejected rejection request)) time m = refl
-no_trace_by_octets (Err (Discarded cause)) time m = refl
+no_trace_by_octets : (r : Result Telecommand TcFault) (time : ℕ) (w : World) → traces_by (request_effect r time w).on_records w.records ≡ []
+no_trace_by_octets (Ok telecommand) time w = no_trace_by_service (command_of telecommand) (origin_of telecommand time) w
+no_trace_by_octets (Err (Rejected rejection request)) time w = refl
+no_trace_by_octets (Err (Discarded cause)) time w = refl
 
 pub request_keeps_traces : (w : World) (by time : ℕ) (octets : List ℕ) → (after w (Request by time octets)).world.traces ≡ w.traces
-request_keeps_traces w by time octets = no_more w.traces _ (no_trace_by_octets (telecommand_of w.apid octets) time w.records)
+request_keeps_traces w by time octets = no_more w.traces _ (no_trace_by_octets (telecommand_of w.apid octets) time w)
 
 -- trace records after events are those before and more
 pub traces_appended : (w : World) (es : List Event) → IsAppended w.traces (replay_from w es).traces

@@ -1,12 +1,13 @@
 -- Which events are refused, and that a refused one leaves the world.
-use Rattle.std.proofs.Common.{◌≡◌, ℕ, Bool, true, false, cond, List, [], ◌++◌, length, Option, Some, None, refl, sym, ap, subst, ◌∙◌}
-use Rattle.std.specs.Prelude.{Result, Ok, Err, is_some, is_none, not, nat_le}
+use Rattle.std.proofs.Common.{◌≡◌, ℕ, Bool, true, false, cond, List, [], ◌∷◌, ◌++◌, length, Option, Some, None, refl, sym, ap, subst, ◌∙◌}
+use Rattle.std.specs.Prelude.{Result, Ok, Err, is_some, is_none, not, ◌==◌, nat_le}
 use Rattle.std.proofs.lemmas.List.{append-nil}
 use Rattle.pus_fields.specs.declared.fault.Discard.{Discard}
 use Rattle.pus_fields.specs.declared.fault.TcFault.{TcFault}
 use Rattle.pus_fields.specs.declared.fault.TcFault.TheVariants.{Discarded, Rejected}
 use Rattle.pus_fields.specs.Telecommand.{Telecommand}
 use Rattle.pus_fields.specs.TelecommandFaults.{telecommand_of}
+use Rattle.obcp_types.specs.declared.pending.Due.{Due}
 use Rattle.obcp_types.specs.declared.failure.RequestFault.{RequestFault}
 use Rattle.obcp_types.specs.declared.failure.StartFailure.{StartFailure}
 use Rattle.obcp_types.specs.declared.failure.StartFailure.TheVariants as failure
@@ -18,7 +19,7 @@ use Rattle.ocp_table.specs.declared.answers.InstructionOutcome.TheVariants as di
 use Rattle.ocp_table.specs.declared.answers.StepOutcome.{StepOutcome}
 use Rattle.ocp_table.specs.declared.answers.StepOutcome.TheVariants as S
 use Rattle.ocp_table.specs.Records.{Rec, Records}
-use Rattle.ocp_table.specs.Effects.{Loaded, Unloaded, Changed, Kept, Started, Stepped as Instructed, Unasked, Failed, step_outcome, failure_of}
+use Rattle.ocp_table.specs.Effects.{Loaded, Unloaded, Changed, Kept, Drained, Started, Stepped as Instructed, Unasked, Failed, step_outcome, failure_of}
 use Rattle.ocp_table.specs.Effects as table
 use Rattle.ocp_table.specs.RequestTable as directive
 use Rattle.ocp_table.specs.RequestTable.{transition, failure_by}
@@ -34,14 +35,15 @@ use Rattle.ocp_debug.specs.declared.command.DebugFault.TheVariants as debug
 use Rattle.ocp_debug.specs.Commands.{is_set, fault_on, effect_by as debug_effect_by, result_of}
 use Rattle.ocp_reports.specs.declared.origin.Origin.{Origin}
 use Rattle.ocp_reports.specs.Origin.{origin_of}
-use Rattle.ocp_world.specs.World.{World, Event, Request, Step, Debug}
+use Rattle.ocp_world.specs.World.{World, Event, Request, Step, Debug, Drain}
 use Rattle.ocp_world.specs.Effect.{Effect, Commands}
 use Rattle.ocp_world.specs.Requests.{command_effect, service_effect, request_effect, command_of}
 use Rattle.ocp_world.specs.Instructions.{instruction_effect}
+use Rattle.ocp_world.specs.Drains.{drain_effect}
 use Rattle.ocp_world.specs.declared.answers.EngineFault.TheVariants as engine
 use Rattle.ocp_world.specs.After.{Answer, Requested, Stepped, Commanded, after, world_after, answer_by, is_accepted}
 use Rattle.ocp_world.specs.Slice.{is_running, is_running_status}
-use Rattle.ocp_world.specs.Mirror.Answering.{discard_of, IsDiscard, IsRefusal, IsDebugFault}
+use Rattle.ocp_world.specs.Mirror.Answering.{discard_of, IsDiscard, IsRefusal, IsDebugFault, IsUndue}
 
 true_false : true ≡ false → ⊥
 true_false e = cc
@@ -49,36 +51,36 @@ true_false e = cc
 some_none : {X : Type 0} {x : X} → Some x ≡ None → ⊥
 some_none e = cc
 
--- a world with no further trace record
-same_traces : (w : World) → record w { traces = w.traces ++ [] } ≡ w
-same_traces w i = record w { traces = append-nil w.traces i }
+-- a world with no further completion and no further trace record
+untouched : (w : World) → record w { outbox = w.outbox ++ []; traces = w.traces ++ [] } ≡ w
+untouched w i = record w { outbox = append-nil w.outbox i; traces = append-nil w.traces i }
 
 -- ---- a request
 
-module _ (origin : Origin) (m : Records) (w : World) where
-  accepted_request : (request : Command) → is_accepted (answer_by (command_effect request origin m).reply w) ≡ true
+module _ (origin : Origin) (w : World) where
+  accepted_request : (request : Command) → is_accepted (answer_by (command_effect request origin w).reply w) ≡ true
   accepted_request (command.Load id code) = refl
   accepted_request other = refl
 
-  accepted_service : (r : Result Command RequestFault) → is_accepted (answer_by (service_effect r origin m).reply w) ≡ true
+  accepted_service : (r : Result Command RequestFault) → is_accepted (answer_by (service_effect r origin w).reply w) ≡ true
   accepted_service (Ok request) = accepted_request request
   accepted_service (Err fault) = refl
 
 -- octets that are read are discarded, or an accepted request
-discard_read : (r : Result Telecommand TcFault) (time : ℕ) (m : Records) (w : World) → IsDiscard (answer_by (request_effect r time m).reply w) (discard_of r)
-discard_read (Ok telecommand) time m w = accepted_service (origin_of telecommand time) m w (command_of telecommand)
-discard_read (Err (Rejected rejection request)) time m w = refl
-discard_read (Err (Discarded cause)) time m w = refl
+discard_read : (r : Result Telecommand TcFault) (time : ℕ) (w : World) → IsDiscard (answer_by (request_effect r time w).reply w) (discard_of r)
+discard_read (Ok telecommand) time w = accepted_service (origin_of telecommand time) w (command_of telecommand)
+discard_read (Err (Rejected rejection request)) time w = refl
+discard_read (Err (Discarded cause)) time w = refl
 
 pub request_discard : (r : Result Telecommand TcFault) (found : Option Discard) → found ≡ discard_of r → (w : World) (by time : ℕ) (octets : List ℕ) → r ≡ telecommand_of w.apid octets → IsDiscard (after w (Request by time octets)).answer found
 request_discard r found is w by time octets read =
     let P : Option Discard → Type 0 = λ o. IsDiscard (after w (Request by time octets)).answer o in
-    subst P (ap discard_of (sym read) ∙ sym is) (discard_read (telecommand_of w.apid octets) time w.records w)
+    subst P (ap discard_of (sym read) ∙ sym is) (discard_read (telecommand_of w.apid octets) time w)
 
-kept_octets : (r : Result Telecommand TcFault) (time : ℕ) (w : World) → is_accepted (answer_by (request_effect r time w.records).reply w) ≡ false → world_after (request_effect r time w.records) w ≡ w
-kept_octets (Ok telecommand) time w h = absurd (true_false (sym (accepted_service (origin_of telecommand time) w.records w (command_of telecommand)) ∙ h))
+kept_octets : (r : Result Telecommand TcFault) (time : ℕ) (w : World) → is_accepted (answer_by (request_effect r time w).reply w) ≡ false → world_after (request_effect r time w) w ≡ w
+kept_octets (Ok telecommand) time w h = absurd (true_false (sym (accepted_service (origin_of telecommand time) w (command_of telecommand)) ∙ h))
 kept_octets (Err (Rejected rejection request)) time w h = absurd (true_false h)
-kept_octets (Err (Discarded cause)) time w h = same_traces w
+kept_octets (Err (Discarded cause)) time w h = untouched w
 
 -- ---- an instruction
 
@@ -88,6 +90,7 @@ IsInstruction (Loaded id image) = ⊥
 IsInstruction (Unloaded id) = ⊥
 IsInstruction (Changed id (Instructed outcome)) = Unit {0}
 IsInstruction (Changed id change) = ⊥
+IsInstruction Drained = ⊥
 IsInstruction (Kept Unasked) = ⊥
 IsInstruction (Kept (Failed failure)) = Unit {0}
 
@@ -117,8 +120,9 @@ kept_step (Changed id (Instructed did.Ended)) is w h = absurd (true_false h)
 kept_step (Changed id (Instructed (did.Faulted number))) is w h = absurd (true_false h)
 kept_step (Changed id (Started arguments)) is w h = absurd is
 kept_step (Changed id change) is w h = absurd is
+kept_step Drained is w h = absurd is
 kept_step (Kept Unasked) is w h = absurd is
-kept_step (Kept (Failed failure)) is w h = same_traces w
+kept_step (Kept (Failed failure)) is w h = untouched w
 
 -- ---- a debugger's command
 
@@ -128,7 +132,7 @@ debug_effect_of fault command id = record { on_records = debug_effect_by fault c
 
 kept_debug : (fault : Option DebugFault) (command : DebugCommand) (id : ℕ) (w : World) → is_accepted (Commanded (result_of fault)) ≡ false → world_after (debug_effect_of fault command id) w ≡ w
 kept_debug None command id w h = absurd (true_false h)
-kept_debug (Some fault) command id w h = same_traces w
+kept_debug (Some fault) command id w h = untouched w
 
 debug_decided : (fault : Option DebugFault) → IsDebugFault (Commanded (result_of fault)) fault
 debug_decided None = refl
@@ -140,10 +144,24 @@ debug_fault found command id m w by same is =
     let here : found ≡ fault_on command (get w.records id) = is ∙ ap (λ n. fault_on command (get n id)) same in
     subst (λ o. IsDebugFault (after w (Debug by id command)).answer o) (sym here) (debug_decided (fault_on command (get w.records id)))
 
+-- ---- a drain
+
+kept_drain : (time : ℕ) (due : List Due) (w : World) → is_accepted (answer_by (drain_effect time due).reply w) ≡ false → world_after (drain_effect time due) w ≡ w
+kept_drain time [] w h = untouched w
+kept_drain time (due ∷ dues) w h = absurd (true_false h)
+
+-- a drain is refused where nothing is due, or it is accepted
+pub drain_undue : (time : ℕ) (due : List Due) (w : World) → IsUndue (answer_by (drain_effect time due).reply w) (not (length due == 0))
+drain_undue time [] w = refl
+drain_undue time (due ∷ dues) w = refl
+
+-- ---- any event
+
 pub refused_keeps : (w : World) (e : Event) → is_accepted (after w e).answer ≡ false → (after w e).world ≡ w
 refused_keeps w (Request by time octets) h = kept_octets (telecommand_of w.apid octets) time w h
 refused_keeps w (Step by id) h = kept_step (effect_in (directive.Step w.pool) id w.records) (is_instruction w.pool w.records id) w h
 refused_keeps w (Debug by id command) h = kept_debug (fault_on command (get w.records id)) command id w h
+refused_keeps w (Drain by time) h = kept_drain time w.outbox w h
 
 -- ---- why an instruction event is refused
 
@@ -156,6 +174,7 @@ refused_step (Loaded id image) is h = absurd is
 refused_step (Unloaded id) is h = absurd is
 refused_step (Changed id (Instructed outcome)) is h = absurd (true_false (sym h))
 refused_step (Changed id change) is h = absurd is
+refused_step Drained is h = absurd is
 refused_step (Kept Unasked) is h = absurd is
 refused_step (Kept (Failed failure)) is h = failed_outcome failure
 
@@ -169,6 +188,7 @@ allowed_step (Changed id (Instructed did.Ended)) is h = refl
 allowed_step (Changed id (Instructed (did.Faulted number))) is h = refl
 allowed_step (Changed id (Started arguments)) is h = absurd is
 allowed_step (Changed id change) is h = absurd is
+allowed_step Drained is h = absurd is
 allowed_step (Kept Unasked) is h = absurd is
 allowed_step (Kept (Failed failure)) is h = absurd (some_none h)
 
@@ -177,6 +197,7 @@ failed_step (Loaded id image) is failure h = absurd is
 failed_step (Unloaded id) is failure h = absurd is
 failed_step (Changed id (Instructed outcome)) is failure h = absurd (some_none (sym h))
 failed_step (Changed id change) is failure h = absurd is
+failed_step Drained is failure h = absurd is
 failed_step (Kept Unasked) is failure h = absurd is
 failed_step (Kept (Failed why)) is failure h = ap (λ f. Kept (Failed f)) (cc)
 
@@ -204,6 +225,7 @@ is_full (Requested (Ok reports)) = false
 is_full (Requested (Err engine.JournalFull)) = true
 is_full (Requested (Err (engine.Discarded cause))) = false
 is_full (Requested (Err engine.Memory)) = false
+is_full (Requested (Err engine.NothingDue)) = false
 is_full (Stepped S.JournalFull) = true
 is_full (Stepped S.Broke) = false
 is_full (Stepped S.Ran) = false
@@ -221,19 +243,23 @@ is_full (Commanded (Err debug.BreaksFull)) = false
 is_full (Commanded (Err debug.NotSet)) = false
 is_full (Commanded (Err debug.OutsideMemory)) = false
 
-module _ (origin : Origin) (m : Records) (w : World) where
-  roomy_request : (request : Command) → is_full (answer_by (command_effect request origin m).reply w) ≡ false
+module _ (origin : Origin) (w : World) where
+  roomy_request : (request : Command) → is_full (answer_by (command_effect request origin w).reply w) ≡ false
   roomy_request (command.Load id code) = refl
   roomy_request other = refl
 
-  roomy_service : (r : Result Command RequestFault) → is_full (answer_by (service_effect r origin m).reply w) ≡ false
+  roomy_service : (r : Result Command RequestFault) → is_full (answer_by (service_effect r origin w).reply w) ≡ false
   roomy_service (Ok request) = roomy_request request
   roomy_service (Err fault) = refl
 
-roomy_octets : (r : Result Telecommand TcFault) (time : ℕ) (m : Records) (w : World) → is_full (answer_by (request_effect r time m).reply w) ≡ false
-roomy_octets (Ok telecommand) time m w = roomy_service (origin_of telecommand time) m w (command_of telecommand)
-roomy_octets (Err (Rejected rejection request)) time m w = refl
-roomy_octets (Err (Discarded cause)) time m w = refl
+roomy_octets : (r : Result Telecommand TcFault) (time : ℕ) (w : World) → is_full (answer_by (request_effect r time w).reply w) ≡ false
+roomy_octets (Ok telecommand) time w = roomy_service (origin_of telecommand time) w (command_of telecommand)
+roomy_octets (Err (Rejected rejection request)) time w = refl
+roomy_octets (Err (Discarded cause)) time w = refl
+
+roomy_drain : (time : ℕ) (due : List Due) (w : World) → is_full (answer_by (drain_effect time due).reply w) ≡ false
+roomy_drain time [] w = refl
+roomy_drain time (due ∷ dues) w = refl
 
 roomy_failure : (failure : StartFailure) → is_full (Stepped (step_outcome (Kept (Failed failure)))) ≡ false
 roomy_failure failure.NotLoaded = refl
@@ -249,6 +275,7 @@ roomy_step (Changed id (Instructed did.Ended)) is = refl
 roomy_step (Changed id (Instructed (did.Faulted number))) is = refl
 roomy_step (Changed id (Started arguments)) is = absurd is
 roomy_step (Changed id change) is = absurd is
+roomy_step Drained is = absurd is
 roomy_step (Kept Unasked) is = absurd is
 roomy_step (Kept (Failed failure)) is = roomy_failure failure
 
@@ -273,9 +300,10 @@ roomy_fault (ClearBreak place) (Some r) = roomy_unset (is_set place r.breakpoint
 roomy_fault (SetTrace on) (Some r) = refl
 
 roomy : (w : World) (e : Event) → is_full (after w e).answer ≡ false
-roomy w (Request by time octets) = roomy_octets (telecommand_of w.apid octets) time w.records w
+roomy w (Request by time octets) = roomy_octets (telecommand_of w.apid octets) time w
 roomy w (Step by id) = roomy_step (effect_in (directive.Step w.pool) id w.records) (is_instruction w.pool w.records id)
 roomy w (Debug by id command) = roomy_fault command (get w.records id)
+roomy w (Drain by time) = roomy_drain time w.outbox w
 
 pub request_has_room : (w : World) (e : Event) → (after w e).answer ≡ Requested (Err engine.JournalFull) → ⊥
 request_has_room w e is = true_false (ap is_full (sym is) ∙ roomy w e)

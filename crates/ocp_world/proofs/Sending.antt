@@ -1,12 +1,14 @@
 -- Reports that are sent.
-use Rattle.std.proofs.Common.{◌≡◌, ◌+◌, ℕ, List, [], length, None, sym, ap, ◌∙◌, arith}
+use Rattle.std.proofs.Common.{◌≡◌, ◌+◌, ℕ, List, [], length, sym, ap, ◌∙◌, arith}
 use Rattle.std.specs.Prelude.{◌%◌, Ok}
 use Rattle.std.proofs.lemmas.List.{append-nil}
-use Rattle.verification.specs.declared.outcome.Outcome.TheVariants.{Done}
+use Rattle.verification.specs.declared.outcome.Outcome.{Outcome}
 use Rattle.ocp_table.specs.declared.directive.Directive as D
-use Rattle.ocp_table.specs.Records.{Records}
+use Rattle.ocp_table.specs.Records.{Procedures}
+use Rattle.ocp_table.specs.RequestTable.{Directive}
+use Rattle.ocp_table.specs.Outbox.{is_outbox_full}
 use Rattle.ocp_table.specs.Deciding.{effect_in}
-use Rattle.ocp_table.specs.Effects.{Kept, Unasked, failure_of, records_by}
+use Rattle.ocp_table.specs.Effects.{Effect, Kept, Unasked, records_by, outbox_by}
 use Rattle.ocp_table.specs.Shown.{directive_of}
 use Rattle.ocp_debug.specs.Traces.{kept}
 use Rattle.ocp_reports.specs.declared.origin.Origin.{Origin}
@@ -30,31 +32,50 @@ module _ {A : Type 0} (w : World) (s : State A) (dispatches : List Dispatch) (re
       packets-alike w.apid w.reports s.count dispatches alike
       ∙ ap (λ apid. packets apid s.count dispatches) (sym stands.apid) ∙ sym are
 
+  many_sent : length reports ≡ length dispatches
+  many_sent = ap length are ∙ length-packets s.apid s.count dispatches
+
   -- the next count is that after them
+  pub next_count : (count : ℕ) → count ≡ (s.count + length reports) % 16384 → count ≡ (w.reports + length dispatches) % 16384
+  next_count count is = omega (arith, is, many_sent, stands.count)
+
   pub IsWorld-sent : (count : ℕ) → count ≡ (s.count + length reports) % 16384 → IsWorld (world_after (record { on_records = Kept Unasked; reply = Sends dispatches }) w) (record s { count = count })
-  IsWorld-sent count is =
-      let many : length reports ≡ length dispatches = ap length are ∙ length-packets s.apid s.count dispatches in
-      record {
-        apid = stands.apid;
-        records = stands.records;
-        pool = stands.pool;
-        count = omega (arith, is, many, stands.count);
-        ring = stands.ring ∙ ap kept (sym (append-nil w.traces));
-      }
+  IsWorld-sent count is = record {
+    apid = stands.apid;
+    records = stands.records;
+    outbox = stands.outbox ∙ sym (append-nil w.outbox);
+    pool = stands.pool;
+    count = next_count count is;
+    ring = stands.ring ∙ ap kept (sym (append-nil w.traces));
+  }
 
 -- a request of a loaded procedure that is not refused: its reports are sent, and then the records are changed
-module _ {A : Type 0} (w : World) (origin : Origin) (d : D.Directive) (id : ℕ) (old new : State A) (reports : List (List ℕ)) (table : Records) (stands : IsWorld w old) (allowed : None ≡ failure_of (effect_in (directive_of d) id old.table)) (does : DoesIn w (record { on_records = Kept Unasked; reply = Sends (reports_of origin Done []) }) (Ok reports) new) (same : new.table ≡ old.table) (applied : table ≡ records_by (effect_in (directive_of d) id new.table) new.table) where
-  decided : outcome_by (failure_of (effect_in (directive_of d) id w.records)) ≡ Done
-  decided = ap outcome_by (ap (λ m. failure_of (effect_in (directive_of d) id m)) (sym stands.records) ∙ sym allowed)
+module _ {A : Type 0} (w : World) (origin : Origin) (d : D.Directive) (id : ℕ) (old new : State A) (outcome : Outcome) (reports : List (List ℕ)) (table : Procedures) (stands : IsWorld w old) where
+  abbrev asked : Procedures → Directive
+  asked t = directive_of d (is_outbox_full t.records t.outbox)
 
-  pub directed : DoesIn w (directive_effect origin (directive_of d) id w.records) (Ok reports) (record new { table = table })
-  directed = (
-    ap (λ o. Requested (Ok (packets w.apid w.reports (reports_of origin o [])))) decided ∙ does.0,
-    record {
-      apid = does.1.apid;
-      records = applied ∙ ap (λ m. records_by (effect_in (directive_of d) id m) m) (same ∙ stands.records);
-      pool = does.1.pool ∙ sym (directive_leaves_pool d id w.records w.pool);
-      count = does.1.count ∙ ap (λ o. (w.reports + length (reports_of origin o [])) % 16384) (sym decided);
-      ring = does.1.ring ∙ ap kept (append-nil w.traces ∙ sym (directive_keeps_traces d id w.records w.traces));
-    },
-  )
+  abbrev effect_at : Procedures → Effect
+  effect_at t = effect_in (asked t) id t.records
+
+  abbrev here : Procedures
+  here = record { records = w.records; outbox = w.outbox }
+
+  same_table : old.table ≡ here
+  same_table = λ i. record { records = stands.records i; outbox = stands.outbox i }
+
+  module _ (became : outcome ≡ outcome_by (effect_at old.table)) (does : DoesIn w (record { on_records = Kept Unasked; reply = Sends (reports_of origin outcome []) }) (Ok reports) new) (same : new.table ≡ old.table) (records : table.records ≡ records_by (effect_at new.table) new.table.records) (outbox : table.outbox ≡ outbox_by (effect_at new.table) new.table.records new.table.outbox) where
+    decided : outcome ≡ outcome_by (effect_at here)
+    decided = became ∙ ap (λ t. outcome_by (effect_at t)) same_table
+
+    pub directed : DoesIn w (directive_effect origin (asked here) id w.records) (Ok reports) (record new { table = table })
+    directed = (
+      ap (λ o. Requested (Ok (packets w.apid w.reports (reports_of origin o [])))) (sym decided) ∙ does.0,
+      record {
+        apid = does.1.apid;
+        records = records ∙ ap (λ t. records_by (effect_at t) t.records) (same ∙ same_table);
+        outbox = outbox ∙ ap (λ t. outbox_by (effect_at t) t.records t.outbox) (same ∙ same_table);
+        pool = does.1.pool ∙ sym (directive_leaves_pool d (is_outbox_full w.records w.outbox) id w.records w.pool);
+        count = does.1.count ∙ ap (λ o. (w.reports + length (reports_of origin o [])) % 16384) decided;
+        ring = does.1.ring ∙ ap kept (append-nil w.traces ∙ sym (directive_keeps_traces d (is_outbox_full w.records w.outbox) id w.records w.traces));
+      },
+    )

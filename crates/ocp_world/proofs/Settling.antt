@@ -1,5 +1,5 @@
 -- Instructions that a machine does by itself, as events of the world.
-use Rattle.std.proofs.Common.{◌≡◌, ◌≤◌, length, ℕ, zero, suc, Bool, true, false, cond, List, [], ◌∷◌, ◌++◌, Option, Some, None, replicate, refl, sym, ap, subst, ◌∙◌, arith}
+use Rattle.std.proofs.Common.{◌≡◌, ◌+◌, ◌≤◌, length, ℕ, zero, suc, Bool, true, false, cond, List, [], ◌∷◌, ◌++◌, Option, Some, None, replicate, refl, sym, ap, subst, ◌∙◌, arith}
 use Rattle.std.specs.Prelude.{◌==◌, ◌&&◌, option_and_then}
 use Rattle.std.proofs.lemmas.Bool.Decides.{nat_tests}
 use Rattle.std.proofs.lemmas.List.{append-nil}
@@ -14,7 +14,7 @@ use Rattle.bpf_step.specs.Runs.{next_of, breaks_at, local_next, local_run}
 use Rattle.ocp_table.specs.declared.answers.InstructionOutcome.TheVariants.{Broke, Ran}
 use Rattle.ocp_table.specs.declared.answers.StepOutcome.TheVariants as S
 use Rattle.ocp_table.specs.Records.{Rec, Records}
-use Rattle.ocp_table.specs.Effects.{Changed, Stepped, passed, record_by, with_change, machine_after, records_with}
+use Rattle.ocp_table.specs.Effects.{Changed, Stepped, filed_by, passed, record_by, with_change, machine_after, records_with}
 use Rattle.ocp_table.specs.RequestTable as directive
 use Rattle.ocp_table.specs.Deciding.{outcome_of, outcome_in, effect_on, effect_in, effect_by, effect_of_step, is_full}
 use Rattle.ocp_table.specs.Snapshots.{settled}
@@ -45,15 +45,9 @@ put-put m id r t = map.same_map nat_cmp_total map.nat_cmp-IsAntisymmetric _ _ (�
 
 -- ---- one instruction
 
--- the world with this record of the procedure
-abbrev with_record : ℕ → Rec → World → World
-with_record id r w = record {
-  apid = w.apid;
-  records = map.insert w.records id r;
-  pool = w.pool;
-  reports = w.reports;
-  traces = w.traces;
-}
+-- the world with this record of the procedure, after so many more events
+abbrev with_record : ℕ → Rec → ℕ → World → World
+with_record id r count w = record w { records = map.insert w.records id r; events = w.events + count }
 
 decided : (pool : List ℕ) (id : ℕ) (r : Rec) (s : Status) (full : Bool) → s ≡ Running → effect_by (directive.transition (directive.Step pool) (Some s) r.control.pending (length r.mailbox)) id (Some r) full ≡ effect_of_step (outcome_in r pool) id
 decided pool id r s full is = subst (λ t. effect_by (directive.transition (directive.Step pool) (Some t) r.control.pending (length r.mailbox)) id (Some r) full ≡ effect_of_step (outcome_in r pool) id) (sym is) refl
@@ -106,14 +100,15 @@ record GoesOn (w : World) (id : ℕ) (r : Rec) (next : State) : Type 0 where
   untraced : r.traced ≡ false
   go : Goes r.image r.breakpoints r.control.pass r.machine next
 
-one_more : (w : World) (by id : ℕ) (r : Rec) (next : State) → GoesOn w id r next → (after w (Step by id)).world ≡ with_record id (settled next r) w
+one_more : (w : World) (by id : ℕ) (r : Rec) (next : State) → GoesOn w id r next → (after w (Step by id)).world ≡ with_record id (settled next r) 1 w
 one_more w by id r next on =
     let records : with_change (map.get w.records id) id (Stepped Ran) w.records ≡ map.insert w.records id (settled next r) =
     ap (λ o. with_change o id (Stepped Ran) w.records) on.held ∙ ap (map.insert w.records id) (stepped r next on.go.steps) in
     let traces : w.traces ++ traces_by_change id (Stepped Ran) (map.get w.records id) ≡ w.traces =
     ap (λ o. w.traces ++ traces_by_change id (Stepped Ran) o) on.held ∙ ap (λ b. w.traces ++ traces_if b id Ran r) on.untraced ∙ append-nil w.traces in
+    let outbox : w.outbox ++ filed_by (Changed id (Stepped Ran)) w.records ≡ w.outbox = append-nil w.outbox in
     ap (λ e. world_after (instruction_effect e) w) (effect-ran w id r next on.held on.running on.go)
-    ∙ (λ i. record { apid = w.apid; records = records i; pool = w.pool; reports = w.reports; traces = traces i })
+    ∙ (λ i. record w { records = records i; outbox = outbox i; events = w.events + 1; traces = traces i })
 
 one_answer : (w : World) (by id : ℕ) (r : Rec) (next : State) → GoesOn w id r next → (after w (Step by id)).answer ≡ Answered S.Ran
 one_answer w by id r next on = ap (λ e. answer_by (instruction_effect e).reply w) (effect-ran w id r next on.held on.running on.go)
@@ -138,7 +133,7 @@ module _ (w : World) (by id : ℕ) (r : Rec) (held : map.get w.records id ≡ So
 
   abbrev world_at : ℕ → State → World
   world_at zero machine = w
-  world_at (suc n) machine = with_record id (settled machine r) w
+  world_at (suc n) machine = with_record id (settled machine r) (suc n) w
 
   abbrev record_at : ℕ → State → Rec
   record_at zero machine = r
@@ -165,9 +160,12 @@ module _ (w : World) (by id : ℕ) (r : Rec) (held : map.get w.records id ≡ So
         (ap (λ b. local_next r.image r.breakpoints b machine) (sym (later_pass r.control.pass n)) ∙ is);
   }
 
-  settled_at : (n : ℕ) (machine next : State) → with_record id (settled next (record_at n machine)) (world_at n machine) ≡ with_record id (settled next r) w
+  counts_on : (n : ℕ) → w.events + suc n + 1 ≡ w.events + suc (suc n)
+  counts_on n = omega arith
+
+  settled_at : (n : ℕ) (machine next : State) → with_record id (settled next (record_at n machine)) 1 (world_at n machine) ≡ with_record id (settled next r) (suc n) w
   settled_at zero machine next = refl
-  settled_at (suc n) machine next = ap (λ m. record { apid = w.apid; records = m; pool = w.pool; reports = w.reports; traces = w.traces }) (put-put w.records id (settled machine r) (settled next r))
+  settled_at (suc n) machine next = λ i. record w { records = put-put w.records id (settled machine r) (settled next r) i; events = counts_on n i }
 
   pub world_after_run : (n : ℕ) (machine : State) → run n ≡ Some machine → replay_from w (replicate n (Step by id)) ≡ world_at n machine
   world_after_run zero machine is = refl
@@ -199,13 +197,13 @@ module _ (w : World) (by id : ℕ) (r : Rec) (held : map.get w.records id ≡ So
 
 -- ---- the law
 
-at_least_one : (w : World) (by id : ℕ) (r : Rec) (held : map.get w.records id ≡ Some r) (running : r.control.status ≡ Running) (untraced : r.traced ≡ false) (n : ℕ) (machine : State) → 1 ≤ n → local_run r.image r.breakpoints r.control.pass r.machine n ≡ Some machine → replay_from w (replicate n (Step by id)) ≡ world_settled id machine w
+at_least_one : (w : World) (by id : ℕ) (r : Rec) (held : map.get w.records id ≡ Some r) (running : r.control.status ≡ Running) (untraced : r.traced ≡ false) (n : ℕ) (machine : State) → 1 ≤ n → local_run r.image r.breakpoints r.control.pass r.machine n ≡ Some machine → replay_from w (replicate n (Step by id)) ≡ world_settled id machine n w
 at_least_one w by id r held running untraced zero machine some is = absurd (omega arith)
 at_least_one w by id r held running untraced (suc n) machine some is =
     world_after_run w by id r held running untraced (suc n) machine is
-    ∙ sym (ap (λ o. record { apid = w.apid; records = records_with o id (settled machine) w.records; pool = w.pool; reports = w.reports; traces = w.traces }) held)
+    ∙ sym (ap (λ o. record w { records = records_with o id (settled machine) w.records; events = w.events + suc n }) held)
 
-pub world_of_run : (w : World) (by id : ℕ) (r : Rec) (n : ℕ) (machine : State) → RunsAlone w id r n machine → replay_from w (replicate n (Step by id)) ≡ world_settled id machine w
+pub world_of_run : (w : World) (by id : ℕ) (r : Rec) (n : ℕ) (machine : State) → RunsAlone w id r n machine → replay_from w (replicate n (Step by id)) ≡ world_settled id machine n w
 world_of_run w by id r n machine alone = at_least_one w by id r alone.held alone.running alone.untraced n machine alone.some alone.ran
 
 pub answers_alone : (w : World) (by id : ℕ) (r : Rec) (n : ℕ) (machine : State) → RunsAlone w id r n machine → answers w (replicate n (Step by id)) ≡ replicate n (Answered S.Ran)

@@ -26,7 +26,7 @@ use Rattle.ocp_world.specs.Replay.{replay_from}
 use Rattle.ocp_world.specs.Slice.{slice_count, slice_last, goes_on, outcome_in as answer_in}
 
 abbrev pub store_of : World → Store
-store_of w = record { records = w.records; pool = w.pool }
+store_of w = record { records = w.records; outbox = w.outbox; pool = w.pool }
 
 -- ---- the slice of a world is that of its store
 
@@ -108,25 +108,29 @@ same_traces by id (suc n) w off =
 -- ---- the state after a slice that its table did
 
 module _ {A : Type 0} where
-  pub sliced : (old now : State A) (id n : ℕ) → is_traced (get old.table id) ≡ false → store_after_events id n (record { records = old.table; pool = old.pool }) ≡ record { records = now.table; pool = now.pool } → now.apid ≡ old.apid → now.count ≡ old.count → now.ring ≡ old.ring → (w : World) (by : ℕ) → IsWorld w old → IsWorld (replay_from w (replicate n (Step by id))) now
+  abbrev pub store_in : State A → Store
+  store_in s = record { records = s.table.records; outbox = s.table.outbox; pool = s.pool }
+
+  same_start : (s : State A) (w : World) → IsWorld w s → store_in s ≡ store_of w
+  same_start s w stands = λ i. record { records = stands.records i; outbox = stands.outbox i; pool = stands.pool i }
+
+  pub sliced : (old now : State A) (id n : ℕ) → is_traced (get old.table.records id) ≡ false → store_after_events id n (store_in old) ≡ store_in now → now.apid ≡ old.apid → now.count ≡ old.count → now.ring ≡ old.ring → (w : World) (by : ℕ) → IsWorld w old → IsWorld (replay_from w (replicate n (Step by id))) now
   sliced old now id n off done apid count ring w by stands =
-      let start : store_of w ≡ record { records = old.table; pool = old.pool } = λ i. record { records = sym stands.records i; pool = sym stands.pool i } in
-      let whole : store_of (replay_from w (replicate n (Step by id))) ≡ record { records = now.table; pool = now.pool } = same_store by id n w ∙ ap (store_after_events id n) start ∙ done in
+      let whole : store_of (replay_from w (replicate n (Step by id))) ≡ store_in now = same_store by id n w ∙ ap (store_after_events id n) (sym (same_start old w stands)) ∙ done in
       let same_off : is_traced (get w.records id) ≡ false = ap (λ m. is_traced (get m id)) (sym stands.records) ∙ off in
       record {
         apid = apid ∙ stands.apid ∙ sym (same_apid by id n w);
         records = sym (ap (λ s. s.records) whole);
+        outbox = sym (ap (λ s. s.outbox) whole);
         pool = sym (ap (λ s. s.pool) whole);
         count = count ∙ stands.count ∙ ap (λ k. k % 16384) (sym (same_reports by id n w));
         ring = ring ∙ stands.ring ∙ ap kept (sym (same_traces by id n w same_off));
       }
 
-  pub sliced_count : (old : State A) (id budget k : ℕ) → k ≡ table.slice_count id (record { records = old.table; pool = old.pool }) budget → (w : World) (by : ℕ) → IsWorld w old → k ≡ slice_count w by id budget
+  pub sliced_count : (old : State A) (id budget k : ℕ) → k ≡ table.slice_count id (store_in old) budget → (w : World) (by : ℕ) → IsWorld w old → k ≡ slice_count w by id budget
   sliced_count old id budget k is w by stands =
-      let start : record { records = old.table; pool = old.pool } ≡ store_of w = λ i. record { records = stands.records i; pool = stands.pool i } in
-      is ∙ ap (λ s. table.slice_count id s budget) start ∙ sym (same_count w by id budget)
+      is ∙ ap (λ s. table.slice_count id s budget) (same_start old w stands) ∙ sym (same_count w by id budget)
 
-  pub sliced_last : (old : State A) (id budget : ℕ) (last o : StepOutcome) → o ≡ table.slice_last id (record { records = old.table; pool = old.pool }) last budget → (w : World) (by : ℕ) → IsWorld w old → o ≡ slice_last w by id last budget
+  pub sliced_last : (old : State A) (id budget : ℕ) (last o : StepOutcome) → o ≡ table.slice_last id (store_in old) last budget → (w : World) (by : ℕ) → IsWorld w old → o ≡ slice_last w by id last budget
   sliced_last old id budget last o is w by stands =
-      let start : record { records = old.table; pool = old.pool } ≡ store_of w = λ i. record { records = stands.records i; pool = stands.pool i } in
-      is ∙ ap (λ s. table.slice_last id s last budget) start ∙ sym (same_last w by id last budget)
+      is ∙ ap (λ s. table.slice_last id s last budget) (same_start old w stands) ∙ sym (same_last w by id last budget)

@@ -9,7 +9,7 @@ use Rattle.ocp_world.proofs.state.State.next_running.Goals as goal
 
 pub returns-clause-pick : goal.returns-clause-pick
 returns-clause-pick g c w stands =
-    let m = c.args.self.now.table in
+    let m = c.args.self.now.table.records in
     let before = c.args.before in
     let rising = subst (λ rows. IsStrictlyIncreasing (map (λ row. row.id) rows)) c.statuses-rows.ensures.value c.statuses-rows.ensures.rising in
     let rows : c.as_slice.result.now ≡ map row_of (entries m) = c.as_slice.ensures.value ∙ c.statuses-rows.ensures.value in
