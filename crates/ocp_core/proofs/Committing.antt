@@ -20,7 +20,9 @@ use Rattle.ocp_core.specs.Marks.{last_outcome}
 use Rattle.ocp_core.specs.Tickets.{Worked, IsRun}
 use Rattle.ocp_core.specs.Commits.{IsFresh}
 use Rattle.ocp_core.proofs.Replays.{world_of-with_entry}
+use Rattle.ocp_core.specs.Mirror.Counted.{AreCounted}
 use Rattle.ocp_core.proofs.Keeping.{IsWorld-with_entry}
+use Rattle.ocp_core.proofs.Counting.{counted_steps}
 
 -- ---- the procedure that a snapshot is of
 
@@ -68,25 +70,29 @@ stands_at o base machine found stands =
 
 -- what the law says of the instructions of a run
 abbrev pub AreEvents : Type 0
-AreEvents = (v : World) (by id n : ℕ) (r : Rec) (machine : Machined) → RunsAlone v id r n machine → replay_from v (replicate n (Step by id)) ≡ world_settled id machine v
+AreEvents = (v : World) (by id n : ℕ) (r : Rec) (machine : Machined) → RunsAlone v id r n machine → replay_from v (replicate n (Step by id)) ≡ world_settled id machine n v
 
-pub events_settle : AreEvents → (log : Log) (by : ℕ) (w : Worked) → (w.count ≡ 0 → ⊥) → IsFresh log w → IsRun w → replay_from (world_of log) (replicate w.count (Step by w.id)) ≡ world_settled w.id w.end (world_of log)
+pub events_settle : AreEvents → (log : Log) (by : ℕ) (w : Worked) → (w.count ≡ 0 → ⊥) → IsFresh log w → IsRun w → replay_from (world_of log) (replicate w.count (Step by w.id)) ≡ world_settled w.id w.end w.count (world_of log)
 events_settle law log by w some fresh run =
     let found = is_of (get (world_of log).records w.id) w.base fresh in
     law (world_of log) by w.id w.count found.r w.end (alone log w some fresh run found)
 
-pub world_committed : AreEvents → (log new : Log) (by : ℕ) (w : Worked) → (w.count ≡ 0 → ⊥) → IsFresh log w → IsRun w → new ≡ with_entry log (Steps by w.id w.count) → world_of new ≡ world_settled w.id w.end (world_of log)
+-- each of them is counted
+pub counted_commit : AreEvents → (log : Log) (by : ℕ) (w : Worked) → (w.count ≡ 0 → ⊥) → IsFresh log w → IsRun w → AreCounted (world_of log) (replicate w.count (Step by w.id))
+counted_commit law log by w some fresh run = counted_steps (world_of log) by w.id w.count (ap (λ v. v.events) (events_settle law log by w some fresh run))
+
+pub world_committed : AreEvents → (log new : Log) (by : ℕ) (w : Worked) → (w.count ≡ 0 → ⊥) → IsFresh log w → IsRun w → new ≡ with_entry log (Steps by w.id w.count) → world_of new ≡ world_settled w.id w.end w.count (world_of log)
 world_committed law log new by w some fresh run is =
     ap world_of is ∙ world_of-with_entry log (Steps by w.id w.count) ∙ events_settle law log by w some fresh run
 
 module _ {A : Type 0} where
-  pub may_settle : (log : Log) (w : Worked) (s : State A) → IsWorld (world_of log) s → IsFresh log w → IsRun w → StandsAt (get s.table w.id) w.end
+  pub may_settle : (log : Log) (w : Worked) (s : State A) → IsWorld (world_of log) s → IsFresh log w → IsRun w → StandsAt (get s.table.records w.id) w.end
   may_settle log w s stands fresh run =
       subst (λ m. StandsAt (get m w.id) w.end) (sym stands.records)
       (stands_at (get (world_of log).records w.id) w.base w.end (is_of (get (world_of log).records w.id) w.base fresh) run.stands)
 
   -- the state after a commit stands for the new journal's world
-  pub IsWorld-committed : AreEvents → (log new : Log) (by : ℕ) (w : Worked) (s : State A) → (w.count ≡ 0 → ⊥) → IsFresh log w → IsRun w → new ≡ with_entry log (Steps by w.id w.count) → IsWorld (world_settled w.id w.end (world_of log)) s → IsWorld (world_of new) s
+  pub IsWorld-committed : AreEvents → (log new : Log) (by : ℕ) (w : Worked) (s : State A) → (w.count ≡ 0 → ⊥) → IsFresh log w → IsRun w → new ≡ with_entry log (Steps by w.id w.count) → IsWorld (world_settled w.id w.end w.count (world_of log)) s → IsWorld (world_of new) s
   IsWorld-committed law log new by w s some fresh run is stands =
       IsWorld-with_entry log new (Steps by w.id w.count) s is
       (subst (λ v. IsWorld v s) (sym (events_settle law log by w some fresh run)) stands)

@@ -1,6 +1,6 @@
 -- Two adjacent instruction events of two procedures, of which at most one is an engine call, an end or a fault, may be
 -- exchanged.
-use Rattle.std.proofs.Common.{◌≡◌, ◌≢◌, ℕ, List, [], ◌∷◌, ◌++◌, Option, Some, None, Bool, true, false, cond, inl, inr, refl, sym, ap, subst, ◌∙◌, append_assoc, length}
+use Rattle.std.proofs.Common.{◌≡◌, ◌≢◌, ◌+◌, ℕ, List, [], ◌∷◌, ◌++◌, Option, Some, None, Bool, true, false, cond, inl, inr, refl, sym, ap, subst, ◌∙◌, append_assoc, length}
 use Rattle.std.specs.Prelude.{◌==◌, ◌⊎◌}
 use Rattle.std.proofs.lemmas.Bool.{ne_eqb, eqb-true, eqb-false, and_cases}
 use Rattle.std.proofs.lemmas.List.{append-nil}
@@ -17,19 +17,20 @@ use Rattle.bpf_step.specs.Step.{one_step}
 use Rattle.ocp_pool.specs.declared.call.Called.{Called as Call}
 use Rattle.ocp_pool.specs.Call.{engine_call}
 use Rattle.ocp_table.specs.declared.answers.InstructionOutcome.{InstructionOutcome}
-use Rattle.ocp_table.specs.declared.answers.InstructionOutcome.TheVariants.{Broke, Called}
+use Rattle.ocp_table.specs.declared.answers.InstructionOutcome.TheVariants.{Broke, Ran, Called, Ended, Faulted}
 use Rattle.ocp_table.specs.Records.{Rec, Records}
 use Rattle.ocp_table.specs.Effects as table
-use Rattle.ocp_table.specs.Effects.{Changed, Kept, Stepped, Failed, records_by, pool_by, step_outcome}
+use Rattle.ocp_table.specs.Effects.{Changed, Kept, Stepped, Failed, records_by, pool_by, filed_by, filed_there, outbox_by, step_outcome}
+use Rattle.obcp_types.specs.declared.pending.Due.{Due}
 use Rattle.ocp_table.specs.RequestTable as directive
 use Rattle.ocp_table.specs.RequestTable.{transition}
 use Rattle.ocp_table.specs.Deciding.{outcome_in, outcome_of, outcome_of_call, effect_in, effect_by, effect_on, effect_of_step, is_full}
 use Rattle.ocp_debug.specs.declared.trace.Trace.{Trace}
 use Rattle.ocp_debug.specs.Traces.{traces_by, traces_by_change}
-use Rattle.ocp_world.specs.World.{World, Event, Request, Step, Debug}
-use Rattle.ocp_world.specs.Effect.{Reply, Discards, Sends, Steps, Commands}
+use Rattle.ocp_world.specs.World.{World, Event, Request, Step, Debug, Drain}
+use Rattle.ocp_world.specs.Effect.{Reply, Discards, Sends, Steps, Commands, Undue}
 use Rattle.ocp_world.specs.Instructions.{instruction_effect}
-use Rattle.ocp_world.specs.After.{Answer, answer_by, effect_of, world_after, after}
+use Rattle.ocp_world.specs.After.{Answer, answer_by, events_by, is_done, effect_of, world_after, after}
 use Rattle.ocp_world.specs.After as world
 use Rattle.ocp_world.specs.Replay.{answers, replay_from}
 use Rattle.ocp_core.specs.Exchange.{is_felt, traces_made, IsSameButTraces, IsExchanged, MayBeExchanged, MayBeExchangedInLists}
@@ -50,12 +51,14 @@ effect-retraced : (w : World) (traces : List Trace) (e : Event) → effect_of (r
 effect-retraced w traces (Request by time octets) = refl
 effect-retraced w traces (Step by id) = refl
 effect-retraced w traces (Debug by id command) = refl
+effect-retraced w traces (Drain by time) = refl
 
 answer_by-retraced : (reply : Reply) (w : World) (traces : List Trace) → answer_by reply (retraced w traces) ≡ answer_by reply w
 answer_by-retraced (Discards cause) w traces = refl
 answer_by-retraced (Sends dispatches) w traces = refl
 answer_by-retraced (Steps outcome) w traces = refl
 answer_by-retraced (Commands result) w traces = refl
+answer_by-retraced Undue w traces = refl
 
 answer-retraced : (w : World) (traces : List Trace) (e : Event) → (after (retraced w traces) e).answer ≡ (after w e).answer
 answer-retraced w traces e = answer_by-retraced (effect_of (retraced w traces) e).reply w traces ∙ ap (λ effect. answer_by effect.reply w) (effect-retraced w traces e)
@@ -141,7 +144,20 @@ quiet_pool id (Refuses failure) quiet pool = refl
 quiet_pool id (Makes (Called call)) quiet pool = cc
 quiet_pool id (Makes outcome) quiet pool = refl
 
--- and does not depend on it
+-- it files no completion
+quiet_files : (id : ℕ) (t : Turn) → IsQuiet id t → (m : Records) → filed_by (by_turn id t) m ≡ []
+quiet_files id (Refuses failure) quiet m = refl
+quiet_files id (Makes outcome) quiet m = quiet_filed outcome quiet (get m id)
+  where
+    quiet_filed : (outcome : InstructionOutcome) → IsQuiet id (Makes outcome) → (o : Option Rec) → filed_there (Stepped outcome) o ≡ []
+    quiet_filed outcome quiet None = refl
+    quiet_filed Broke quiet (Some r) = refl
+    quiet_filed Ran quiet (Some r) = refl
+    quiet_filed (Called call) quiet (Some r) = cc
+    quiet_filed Ended quiet (Some r) = cc
+    quiet_filed (Faulted number) quiet (Some r) = cc
+
+-- and does not depend on the pool
 stable_call : (id : ℕ) (c : Option Call) (t : Turn) → IsQuiet id (Makes (outcome_of_call c)) → t ≡ Makes (outcome_of_call c)
 stable_call id None t quiet = cc
 stable_call id (Some call) t quiet = cc
@@ -180,6 +196,26 @@ traces-at : (id : ℕ) (t : Turn) (m n : Records) → get m id ≡ get n id → 
 traces-at id (Refuses failure) m n same = refl
 traces-at id (Makes outcome) m n same = ap (traces_by_change id (Stepped outcome)) same
 
+-- so does what it files
+files-at : (id : ℕ) (t : Turn) (m n : Records) → get m id ≡ get n id → filed_by (by_turn id t) m ≡ filed_by (by_turn id t) n
+files-at id (Refuses failure) m n same = refl
+files-at id (Makes outcome) m n same = ap (filed_there (Stepped outcome)) same
+
+outbox_by-turn : (id : ℕ) (t : Turn) (m : Records) (due : List Due) → outbox_by (by_turn id t) m due ≡ due ++ filed_by (by_turn id t) m
+outbox_by-turn id (Refuses failure) m due = refl
+outbox_by-turn id (Makes outcome) m due = refl
+
+-- what two events file, of which one files nothing, does not depend on their order
+files-commute : (due xs ys : List Due) → (xs ≡ []) ⊎ (ys ≡ []) → due ++ xs ++ ys ≡ due ++ ys ++ xs
+files-commute due xs ys (inl none) = ap (λ x. due ++ x ++ ys) none ∙ ap (λ x. x ++ ys) (append-nil due) ∙ sym (append-nil (due ++ ys)) ∙ ap (λ x. due ++ ys ++ x) (sym none)
+files-commute due xs ys (inr none) = ap (λ y. due ++ xs ++ y) none ∙ append-nil (due ++ xs) ∙ ap (λ d. d ++ xs) (sym (append-nil due)) ∙ ap (λ y. due ++ y ++ xs) (sym none)
+
+counts-commute : (b c : Bool) (n : ℕ) → cond b (cond c (n + 1) n + 1) (cond c (n + 1) n) ≡ cond c (cond b (n + 1) n + 1) (cond b (n + 1) n)
+counts-commute true true n = refl
+counts-commute true false n = refl
+counts-commute false true n = refl
+counts-commute false false n = refl
+
 module _ (i j : ℕ) (apart : i ≢ j) (t u : Turn) where
   own_by-commute : (q : ℕ) (o : Option Rec) → own_by q (by_turn j u) (own_by q (by_turn i t) o) ≡ own_by q (by_turn i t) (own_by q (by_turn j u) o)
   own_by-commute q o = elim (q == i) as (λ b. (q == i) ≡ b → own_by q (by_turn j u) (own_by q (by_turn i t) o) ≡ own_by q (by_turn i t) (own_by q (by_turn j u) o)) [
@@ -197,6 +233,26 @@ module _ (i j : ℕ) (apart : i ≢ j) (t u : Turn) where
   pool-commute : IsQuiet i t ⊎ IsQuiet j u → (pool : List ℕ) → pool_by (by_turn j u) (pool_by (by_turn i t) pool) ≡ pool_by (by_turn i t) (pool_by (by_turn j u) pool)
   pool-commute (inl quiet) pool = ap (pool_by (by_turn j u)) (quiet_pool i t quiet pool) ∙ sym (quiet_pool i t quiet (pool_by (by_turn j u) pool))
   pool-commute (inr quiet) pool = quiet_pool j u quiet (pool_by (by_turn i t) pool) ∙ ap (pool_by (by_turn i t)) (sym (quiet_pool j u quiet pool))
+
+  -- each files what it files in the records before both
+  outbox-twice : (k l : ℕ) (a b : Turn) → l ≢ k → (m : Records) (due : List Due) → outbox_by (by_turn l b) (records_by (by_turn k a) m) (outbox_by (by_turn k a) m due) ≡ due ++ filed_by (by_turn k a) m ++ filed_by (by_turn l b) m
+  outbox-twice k l a b other m due =
+      outbox_by-turn l b (records_by (by_turn k a) m) (outbox_by (by_turn k a) m due)
+      ∙ ap (λ d. d ++ filed_by (by_turn l b) (records_by (by_turn k a) m)) (outbox_by-turn k a m due)
+      ∙ ap (λ x. due ++ filed_by (by_turn k a) m ++ x) (files-at l b (records_by (by_turn k a) m) m (get-other m l k a other))
+
+  outbox-commute : IsQuiet i t ⊎ IsQuiet j u → (m : Records) (due : List Due) → outbox_by (by_turn j u) (records_by (by_turn i t) m) (outbox_by (by_turn i t) m due) ≡ outbox_by (by_turn i t) (records_by (by_turn j u) m) (outbox_by (by_turn j u) m due)
+  outbox-commute quiet m due =
+      outbox-twice i j t u (λ e. apart (sym e)) m due
+      ∙ files-commute due (filed_by (by_turn i t) m) (filed_by (by_turn j u) m) (nothing quiet)
+      ∙ sym (outbox-twice j i u t apart m due)
+    where
+      nothing : IsQuiet i t ⊎ IsQuiet j u → (filed_by (by_turn i t) m ≡ []) ⊎ (filed_by (by_turn j u) m ≡ [])
+      nothing (inl quiet) = inl (quiet_files i t quiet m)
+      nothing (inr quiet) = inr (quiet_files j u quiet m)
+
+  events-commute : (n : ℕ) → events_by (Steps (step_outcome (by_turn j u))) (events_by (Steps (step_outcome (by_turn i t))) n) ≡ events_by (Steps (step_outcome (by_turn i t))) (events_by (Steps (step_outcome (by_turn j u))) n)
+  events-commute n = counts-commute (is_done (step_outcome (by_turn j u))) (is_done (step_outcome (by_turn i t))) n
 
 -- ---- the two orders
 
@@ -252,7 +308,9 @@ module _ (w : World) (i j : ℕ) (apart : i ≢ j) where
   same_worlds quiet = λ k. record {
     apid = w.apid;
     records = sym (records-commute i j apart t u w.records) k;
+    outbox = sym (outbox-commute i j apart t u quiet w.records w.outbox) k;
     pool = sym (pool-commute i j apart t u quiet w.pool) k;
+    events = sym (events-commute i j apart t u w.events) k;
     reports = w.reports;
     traces = both'.traces;
   }
@@ -294,6 +352,8 @@ module _ (w : World) (i j : ℕ) (apart : i ≢ j) where
       records = ap (λ v. v.records) last-left ∙ sym (ap (λ v. v.records) last-right);
       pool = ap (λ v. v.pool) last-left ∙ sym (ap (λ v. v.pool) last-right);
       reports = ap (λ v. v.reports) last-left ∙ sym (ap (λ v. v.reports) last-right);
+      outbox = ap (λ v. v.outbox) last-left ∙ sym (ap (λ v. v.outbox) last-right);
+      events = ap (λ v. v.events) last-left ∙ sym (ap (λ v. v.events) last-right);
       later = made both es;
       traces = ap (λ v. v.traces) last-left ∙ ap (λ ts. ts ++ made both es) traces-left;
       exchanged = ap (λ v. v.traces) last-right ∙ ap (λ ts. ts ++ made both es) traces-right;

@@ -7,7 +7,7 @@ use Rattle.bpf_step.specs.Machine.{State, started}
 use Rattle.ocp_table.specs.declared.answers.InstructionOutcome.{InstructionOutcome}
 use Rattle.ocp_table.specs.declared.answers.InstructionOutcome.TheVariants.{Ran, Called}
 use Rattle.ocp_table.specs.Records.{Rec}
-use Rattle.ocp_table.specs.Effects.{Effect, Loaded, Unloaded, Changed, Kept, Change, Started, Stepped, machine_by, machine_by_outcome, new_record}
+use Rattle.ocp_table.specs.Effects.{Effect, Loaded, Unloaded, Changed, Kept, Drained, Change, Started, Stepped, machine_by, machine_by_outcome, new_record}
 use Rattle.ocp_table.specs.Laws.{machine_of}
 use Rattle.ocp_world.specs.World.{opening}
 use Rattle.ocp_core.specs.Own.{Own, own_by_outcome, own_by_change, add_own, add_image}
@@ -45,6 +45,7 @@ IsAlone-own_by q (Loaded id code) o image own is = elim (q == id) as (λ b. IsAl
 IsAlone-own_by q (Unloaded id) o image own is = elim (q == id) as (λ b. IsAlone (cond b None o) (cond b None image) own) [ true ↦ missing | false ↦ is ]
 IsAlone-own_by q (Changed id change) o image own is = elim (q == id) as (λ b. IsAlone (cond b (changed_if_there change o) o) image (cond b (own ++ own_by_change change) own)) [ true ↦ IsAlone-changed change o image own is | false ↦ is ]
 IsAlone-own_by q (Kept why) o image own is = is
+IsAlone-own_by q Drained o image own is = is
 
 IsAlone-machine : {o : Option Rec} {image : Option (List ℕ)} {own : List Own} → IsAlone o image own → machine_of o ≡ alone_if image own
 IsAlone-machine missing = refl

@@ -1,5 +1,5 @@
 -- The walk through what an event does: an instruction that is done is the next one of its procedure, which runs.
-use Rattle.std.proofs.Common.{◌≡◌, ℕ, ◌+◌, Bool, true, false, cond, List, length, Option, Some, None, refl, sym, ap, subst, ◌∙◌}
+use Rattle.std.proofs.Common.{◌≡◌, ℕ, ◌+◌, Bool, true, false, cond, List, [], ◌∷◌, length, Option, Some, None, refl, sym, ap, subst, ◌∙◌}
 use Rattle.std.specs.Prelude.{Result, Ok, Err, nat_le}
 use Rattle.std.specs.FinMap.{get}
 use Rattle.bpf_types.specs.declared.line.Line.{Line}
@@ -8,7 +8,9 @@ use Rattle.pus_fields.specs.declared.fault.TcFault.TheVariants.{Discarded, Rejec
 use Rattle.pus_fields.specs.Telecommand.{Telecommand}
 use Rattle.pus_fields.specs.TelecommandFaults.{telecommand_of}
 use Rattle.obcp_types.specs.declared.failure.RequestFault.{RequestFault}
-use Rattle.obcp_types.specs.declared.failure.StartFailure.TheVariants.{MailboxFull}
+use Rattle.obcp_types.specs.declared.failure.StartFailure.TheVariants.{MailboxFull, OutboxFull}
+use Rattle.obcp_types.specs.declared.pending.Due.{Due}
+use Rattle.obcp_types.specs.declared.pending.PendingOrigin.{PendingOrigin}
 use Rattle.obcp_types.specs.declared.status.Status.{Status}
 use Rattle.obcp_types.specs.declared.status.Status.TheVariants.{Inactive, Running, Held}
 use Rattle.obcp_messages.specs.declared.request.Request.{Request as Command}
@@ -20,8 +22,8 @@ use Rattle.ocp_table.specs.declared.control.Pending.{Pending}
 use Rattle.ocp_table.specs.declared.control.Pending.TheVariants as pending
 use Rattle.ocp_table.specs.declared.answers.InstructionOutcome.{InstructionOutcome}
 use Rattle.ocp_table.specs.Records.{Rec, Records}
-use Rattle.ocp_table.specs.Effects.{Effect, Changed, Change, Stepped, Sent}
-use Rattle.ocp_table.specs.RequestTable.{Directive, Load, Unload, Activate, Stop, Suspend, Resume, Abort, Communicate, Step, Decision, Loads, Unloads, Changes, Steps, Fails, transition, sent}
+use Rattle.ocp_table.specs.Effects.{Effect, Changed, Change, Stepped, Sent, Pended}
+use Rattle.ocp_table.specs.RequestTable.{Directive, Load, Unload, Activate, Stop, Suspend, Resume, Abort, Communicate, Step, Decision, Loads, Unloads, Changes, Steps, Fails, transition, sent, pended}
 use Rattle.ocp_table.specs.Deciding.{effect_in, effect_by, effect_of_load, effect_of_step, outcome_in, outcome_at, is_full, status_of, words_of, pending_of}
 use Rattle.ocp_debug.specs.declared.command.Command.TheVariants.{SetBreak, ClearBreak, SetTrace}
 use Rattle.ocp_debug.specs.declared.command.Command as debug
@@ -31,7 +33,8 @@ use Rattle.ocp_reports.specs.declared.origin.Origin.{Origin}
 use Rattle.ocp_reports.specs.Origin.{origin_of}
 use Rattle.ocp_world.specs.World as world
 use Rattle.ocp_world.specs.World.{World, Event}
-use Rattle.ocp_world.specs.Requests.{command_effect, command_of, service_effect, request_effect}
+use Rattle.ocp_world.specs.Requests.{command_effect, command_of, service_effect, request_effect, next_origin, has_no_place}
+use Rattle.ocp_world.specs.Drains.{drain_effect}
 use Rattle.ocp_world.specs.After.{effect_of}
 
 -- an instruction that is done is that of the record, on this pool
@@ -69,10 +72,14 @@ module _ (pool : List ℕ) where
   fair_words : (o : Option Rec) (words : List ℕ) (there : ℕ) → IsFair o pool (sent words there)
   fair_words o words there = elim (nat_le (there + length words) MAX_MAILBOX_WORDS) as (λ b. IsFair o pool (cond b (Changes (Sent words)) (Fails MailboxFull))) [ true ↦ tt | false ↦ tt ]
 
-  fair_pending : (o : Option Rec) (s : ℕ) (p : Pending) (there : ℕ) → IsFair o pool (transition (Suspend s) (Some Running) p there)
-  fair_pending o s pending.Nothing there = tt
-  fair_pending o s (pending.Suspend t) there = tt
-  fair_pending o s (pending.Stop t) there = tt
+  fair_pended : (o : Option Rec) (full : Bool) (p : Pending) → IsFair o pool (pended full p)
+  fair_pended o true p = tt
+  fair_pended o false p = tt
+
+  fair_pending : (o : Option Rec) (s : ℕ) (from : PendingOrigin) (full : Bool) (p : Pending) (there : ℕ) → IsFair o pool (transition (Suspend s from full) (Some Running) p there)
+  fair_pending o s from full pending.Nothing there = fair_pended o full (pending.Suspend s from)
+  fair_pending o s from full (pending.Suspend t other) there = fair_pended o full (pending.Suspend s from)
+  fair_pending o s from full (pending.Stop t other) there = tt
 
   fair_of : (r : Rec) (d : Directive) → IsOn pool d → (s : Status) → r.control.status ≡ s → (p : Pending) (there : ℕ) → IsFair (Some r) pool (transition d (Some s) p there)
   fair_of r (Load image) on Inactive is p there = tt
@@ -84,12 +91,12 @@ module _ (pool : List ℕ) where
   fair_of r (Activate arguments) on Inactive is p there = tt
   fair_of r (Activate arguments) on Running is p there = tt
   fair_of r (Activate arguments) on Held is p there = tt
-  fair_of r (Stop k) on Inactive is p there = tt
-  fair_of r (Stop k) on Running is p there = tt
-  fair_of r (Stop k) on Held is p there = tt
-  fair_of r (Suspend k) on Inactive is p there = tt
-  fair_of r (Suspend k) on Running is p there = fair_pending (Some r) k p there
-  fair_of r (Suspend k) on Held is p there = tt
+  fair_of r (Stop k from full) on Inactive is p there = tt
+  fair_of r (Stop k from full) on Running is p there = fair_pended (Some r) full (pending.Stop k from)
+  fair_of r (Stop k from full) on Held is p there = tt
+  fair_of r (Suspend k from full) on Inactive is p there = tt
+  fair_of r (Suspend k from full) on Running is p there = fair_pending (Some r) k from full p there
+  fair_of r (Suspend k from full) on Held is p there = tt
   fair_of r Resume on Inactive is p there = tt
   fair_of r Resume on Running is p there = tt
   fair_of r Resume on Held is p there = tt
@@ -108,8 +115,8 @@ module _ (pool : List ℕ) where
   fair None (Load image) on = tt
   fair None Unload on = tt
   fair None (Activate arguments) on = tt
-  fair None (Stop k) on = tt
-  fair None (Suspend k) on = tt
+  fair None (Stop k from full) on = tt
+  fair None (Suspend k from full) on = tt
   fair None Resume on = tt
   fair None Abort on = tt
   fair None (Communicate words) on = tt
@@ -145,23 +152,29 @@ honest_in m pool d id on = honest_by m pool id (get m id) refl (is_full m) _ (fa
 
 -- ---- events
 
-module _ (m : Records) (pool : List ℕ) where
-  honest_command : (request : Command) (origin : Origin) → IsHonest m pool (command_effect request origin m).on_records
+module _ (w : World) where
+  abbrev m : Records
+  m = w.records
+
+  abbrev pool : List ℕ
+  pool = w.pool
+
+  honest_command : (request : Command) (origin : Origin) → IsHonest m pool (command_effect request origin w).on_records
   honest_command (command.Load id code) origin = honest_in m pool (Load code) id tt
   honest_command (command.Unload id) origin = honest_in m pool Unload id tt
   honest_command (command.Activate id arguments) origin = honest_in m pool (Activate arguments) id tt
-  honest_command (command.Stop id step) origin = honest_in m pool (Stop step) id tt
-  honest_command (command.Suspend id step) origin = honest_in m pool (Suspend step) id tt
+  honest_command (command.Stop id step) origin = honest_in m pool (Stop step (next_origin origin w) (has_no_place w)) id tt
+  honest_command (command.Suspend id step) origin = honest_in m pool (Suspend step (next_origin origin w) (has_no_place w)) id tt
   honest_command (command.Resume id) origin = honest_in m pool Resume id tt
   honest_command (command.Communicate id words) origin = honest_in m pool (Communicate words) id tt
   honest_command command.Status origin = tt
   honest_command (command.Abort id) origin = honest_in m pool Abort id tt
 
-  honest_service : (r : Result Command RequestFault) (origin : Origin) → IsHonest m pool (service_effect r origin m).on_records
+  honest_service : (r : Result Command RequestFault) (origin : Origin) → IsHonest m pool (service_effect r origin w).on_records
   honest_service (Ok request) origin = honest_command request origin
   honest_service (Err fault) origin = tt
 
-  honest_request : (r : Result Telecommand TcFault) (time : ℕ) → IsHonest m pool (request_effect r time m).on_records
+  honest_request : (r : Result Telecommand TcFault) (time : ℕ) → IsHonest m pool (request_effect r time w).on_records
   honest_request (Ok tc) time = honest_service (command_of tc) (origin_of tc time)
   honest_request (Err (Rejected rejection request)) time = tt
   honest_request (Err (Discarded cause)) time = tt
@@ -172,7 +185,12 @@ module _ (m : Records) (pool : List ℕ) where
   honest_set (SetTrace on) id None = tt
   honest_set c id (Some fault) = tt
 
+  honest_drain : (time : ℕ) (due : List Due) → IsHonest m pool (drain_effect time due).on_records
+  honest_drain time [] = tt
+  honest_drain time (d ∷ ds) = tt
+
 pub honest : (w : World) (e : Event) → IsHonest w.records w.pool (effect_of w e).on_records
-honest w (world.Request by time octets) = honest_request w.records w.pool (telecommand_of w.apid octets) time
+honest w (world.Request by time octets) = honest_request w (telecommand_of w.apid octets) time
 honest w (world.Step by id) = honest_in w.records w.pool (Step w.pool) id refl
-honest w (world.Debug by id c) = honest_set w.records w.pool c id (commands.fault_on c (get w.records id))
+honest w (world.Debug by id c) = honest_set w c id (commands.fault_on c (get w.records id))
+honest w (world.Drain by time) = honest_drain w time w.outbox

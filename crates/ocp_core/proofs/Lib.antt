@@ -1,5 +1,6 @@
 pub mod Replays
 pub mod Keeping
+pub mod Counting
 pub mod Journaling
 pub mod Runs
 pub mod Owned
@@ -13,3 +14,4 @@ pub mod Committing
 pub mod Marking
 pub mod Replaying
 pub mod Requesting
+pub mod Draining

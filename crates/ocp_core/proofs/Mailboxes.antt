@@ -12,7 +12,7 @@ use Rattle.ocp_pool.specs.Call.{engine_call, pool_get, pool_set, pool_add, mailb
 use Rattle.ocp_table.specs.declared.answers.InstructionOutcome.{InstructionOutcome}
 use Rattle.ocp_table.specs.declared.answers.InstructionOutcome.TheVariants.{Called}
 use Rattle.ocp_table.specs.Records.{Rec}
-use Rattle.ocp_table.specs.Effects.{Effect, Loaded, Unloaded, Changed, Kept, Change, Started, Sent, Stepped, mailbox_by_outcome, new_record}
+use Rattle.ocp_table.specs.Effects.{Effect, Loaded, Unloaded, Changed, Kept, Drained, Change, Started, Sent, Stepped, mailbox_by_outcome, new_record}
 use Rattle.ocp_world.specs.World.{World, Event, opening}
 use Rattle.ocp_world.specs.Replay.{replay}
 use Rattle.ocp_core.specs.Pool.{IsAnswered}
@@ -96,6 +96,7 @@ module _ (q : ℕ) where
     | false ↦ λ e. is
   ] refl
   posted_by w (Kept why) ts ss h is = is
+  posted_by w Drained ts ss h is = is
 
   posted : (apid words : ℕ) (es : List Event) → IsPosted (get (replay apid words es).records q) (taken apid words es q) (sent apid words es q)
   posted apid words es =

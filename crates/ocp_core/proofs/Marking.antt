@@ -13,7 +13,7 @@ use Rattle.ocp_core.specs.declared.answers.CommitOutcome.TheVariants.{Committed}
 use Rattle.ocp_core.proofs.Committing.{last_of_run, runs_answered}
 use Rattle.ocp_table.specs.declared.answers.StepOutcome.{StepOutcome}
 use Rattle.ocp_table.specs.declared.answers.StepOutcome.TheVariants as S
-use Rattle.ocp_world.specs.World.{World, Event, Request, Step, Debug, opening}
+use Rattle.ocp_world.specs.World.{World, Event, Request, Step, Debug, Drain, opening}
 use Rattle.ocp_world.specs.After.{Answer, Stepped, Commanded, After, after, is_accepted}
 use Rattle.ocp_world.specs.Replay.{replay_from, answers}
 use Rattle.ocp_world.specs.Slice.{outcome_in, goes_on, slice_count, slice_last}
@@ -43,6 +43,7 @@ event_mark : (w : World) (e : Event) → mark_in w (entry_for e) ≡ (after w e)
 event_mark w (Request by time octets) = refl
 event_mark w (Step by id) = refl
 event_mark w (Debug by id command) = refl
+event_mark w (Drain by time) = refl
 
 pub marks-event : (log : Log) (e : Event) → is_accepted (after (world_of log) e).answer ≡ true → is_full log ≡ false → marks (log_after log e) ≡ marks log ++ answer_in log e ∷ []
 marks-event log e taken free =

@@ -13,7 +13,9 @@ use Rattle.ocp_world.specs.Mirror.State.{IsWorld, DoesIn}
 use Rattle.ocp_core.specs.Log.{Log, Asked, world_of, with_entry, answer_in, log_after}
 use Rattle.ocp_core.specs.Marks.{mark_in, Marked}
 use Rattle.ocp_core.specs.Mirror.Admitted.{IsAdmitted}
+use Rattle.ocp_core.specs.Mirror.Counted.{AreCounted}
 use Rattle.ocp_core.proofs.Keeping.{IsWorld-with_entry}
+use Rattle.ocp_core.proofs.Counting.{counted}
 use Rattle.ocp_core.proofs.Journaling.{answer_taken, done_answer, done_log}
 
 module _ (log now : Log) (same : log ≡ now) (by time : ℕ) (octets : List ℕ) (read : Result Telecommand TcFault) (told : IsAdmitted now by time octets read) where
@@ -36,6 +38,9 @@ module _ (log now : Log) (same : log ≡ now) (by time : ℕ) (octets : List ℕ
 
     pub marked_so : (kept : List (List ℕ)) → kept ≡ sent → Requested (Ok kept) ≡ mark_in (world_of log) (Asked by time copy)
     marked_so kept is = ap (λ reports. Requested (Ok reports)) is ∙ sym does.0 ∙ ap (λ o. (after (world_of log) (Request by time o)).answer) (sym copied)
+
+    pub counted_so : AreCounted (world_of log) (Request by time copy ∷ [])
+    counted_so = subst (λ o. AreCounted (world_of log) (Request by time o ∷ [])) (sym copied) (counted (world_of log) e admitted.taken)
 
     pub stands_after : (new : Log) → new ≡ with_entry log (Asked by time copy) → IsWorld (world_of new) s
     stands_after new is = IsWorld-with_entry log new (Asked by time copy) s is (subst (λ o. IsWorld (replay_from (world_of log) (Request by time o ∷ [])) s) (sym copied) does.1)

@@ -9,7 +9,7 @@ use Rattle.ocp_table.specs.declared.answers.StepOutcome.TheVariants as S
 use Rattle.ocp_world.specs.declared.answers.EngineFault.TheVariants as engine
 use Rattle.ocp_debug.specs.declared.command.DebugFault.{DebugFault}
 use Rattle.ocp_debug.specs.declared.command.DebugFault.TheVariants as debug
-use Rattle.ocp_world.specs.World.{World, Event, Request, Step, Debug}
+use Rattle.ocp_world.specs.World.{World, Event, Request, Step, Debug, Drain}
 use Rattle.ocp_world.specs.After.{Answer, Requested, Stepped, Commanded, after, is_accepted}
 use Rattle.ocp_world.specs.Replay.{answers, replay_from}
 use Rattle.ocp_core.specs.Log.{Log, world_of, is_full, with_entry, entry_for, full_answer, answer_in, log_after}
@@ -28,6 +28,7 @@ is_full_answer (Requested (Ok reports)) = false
 is_full_answer (Requested (Err engine.JournalFull)) = true
 is_full_answer (Requested (Err (engine.Discarded cause))) = false
 is_full_answer (Requested (Err engine.Memory)) = false
+is_full_answer (Requested (Err engine.NothingDue)) = false
 is_full_answer (Stepped S.JournalFull) = true
 is_full_answer (Stepped S.Broke) = false
 is_full_answer (Stepped S.Ran) = false
@@ -68,16 +69,19 @@ is_full_answer-full : (e : Event) → is_full_answer (full_answer e) ≡ true
 is_full_answer-full (Request by time octets) = refl
 is_full_answer-full (Step by id) = refl
 is_full_answer-full (Debug by id command) = refl
+is_full_answer-full (Drain by time) = refl
 
 is_accepted-full : (e : Event) → is_accepted (full_answer e) ≡ false
 is_accepted-full (Request by time octets) = refl
 is_accepted-full (Step by id) = refl
 is_accepted-full (Debug by id command) = refl
+is_accepted-full (Drain by time) = refl
 
 world_of-entry : (log : Log) (e : Event) → world_of (with_entry log (entry_for e)) ≡ (after (world_of log) e).world
 world_of-entry log (Request by time octets) = world_of-with_entry log (entry_for (Request by time octets))
 world_of-entry log (Step by id) = world_of-with_entry log (entry_for (Step by id))
 world_of-entry log (Debug by id command) = world_of-with_entry log (entry_for (Debug by id command))
+world_of-entry log (Drain by time) = world_of-with_entry log (entry_for (Drain by time))
 
 module _ (log : Log) (e : Event) where
   abbrev answer : Answer

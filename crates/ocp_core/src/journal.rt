@@ -43,7 +43,7 @@ impl<A: Allocator> Journal<A> {
     ghost use Rattle.ocp_core.specs.Mirror.Counted.{AreCounted};
 
     /// A journal without entries, with room for so many, of an engine with 1 to 256 pool words.
-    #[tactic(auto, unfolding(crate::specs::Marks::marked))]
+    #[tactic(auto, unfolding(crate::specs::Marks::marked, crate::specs::Log::world_of))]
     pub fn new(alloc: A, apid: Apid, words: u16, capacity: u32) -> Result<Self, AllocError>
         requires apid { apid < 2047 }
         requires words_from { 1 ≤ words }
@@ -88,7 +88,6 @@ impl<A: Allocator> Journal<A> {
     pub fn len(&self) -> usize
         ensures value { result ≡ length self.now.entries }
         ensures within { result ≤ self.now.capacity }
-        ensures few { result ≤ 1000000 }
     {
         self.entries.len()
     }
@@ -99,10 +98,12 @@ impl<A: Allocator> Journal<A> {
         self.len() == self.capacity as usize
     }
 
-    /// The entries with their marks, oldest first.
+    /// The entries with their marks, oldest first. All their events were accepted.
     pub fn entries(&self) -> &[Entry<A>]
         ensures value { map entry_of result.now ≡ self.now.entries }
         ensures marks { map marked_of result.now ≡ marked self.now }
+        ensures few { length result.now ≤ 1000000 }
+        ensures accepted { (world_of self.now).events ≡ length (expand self.now.entries) }
     {
         self.entries.as_slice()
     }

@@ -3,14 +3,13 @@
 ghost use Rattle.std.specs.Prelude.{◌≡◌, ◌≤◌, ◌<◌, ℕ, IfOk, OnOk, map, length, replicate};
 ghost use Rattle.std.specs.FinMap.{get};
 ghost use Rattle.ocp_table.specs.Laws.{machine_of};
-ghost use Rattle.ocp_world.specs.World.{World, Request as Asked, Step, Drain, opening};
+ghost use Rattle.ocp_world.specs.World.{World, Request as Asked, Step, Drain};
 ghost use Rattle.ocp_world.specs.After.{after};
 ghost use Rattle.ocp_world.specs.Replay.{replay, replay_from};
 ghost use Rattle.ocp_world.specs.Mirror.State.{IsWorld};
 ghost use Rattle.ocp_core.specs.Log.{events_of, expand, world_of};
 ghost use Rattle.ocp_core.specs.Journal.{entry_of};
 ghost use Rattle.ocp_core.specs.Alone.{alone_after};
-ghost use Rattle.ocp_core.specs.Mirror.Counted.{AreCounted};
 
 use crate::laws::{machines_follow_from_their_own_events, refused_events_change_nothing};
 use crate::{Command, EngineFault, Entry, Journal};
@@ -114,7 +113,8 @@ fn state_after<A: Allocator + Copy, B: Allocator>(
     requires words_from { 1 ≤ words }
     requires words_to { words ≤ 256 }
     requires few { length entries.now ≤ 1000000 }
-    requires accepted { AreCounted (opening apid words) (expand (map entry_of entries.now)) }
+    requires accepted { let events = expand (map entry_of entries.now) in
+        (replay apid words events).events ≡ length events }
     ensures { IfOk result (λ state.
         IsWorld (replay apid words (expand (map entry_of entries.now))) state) }
 {

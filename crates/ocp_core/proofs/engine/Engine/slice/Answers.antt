@@ -5,6 +5,7 @@ use Rattle.ocp_core.specs.Log.{world_of}
 use Rattle.ocp_core.specs.Marks.{last_outcome}
 use Rattle.ocp_core.proofs.Marking.{slice_mark}
 use Rattle.ocp_core.proofs.Keeping.{IsWorld-with_entry}
+use Rattle.ocp_core.proofs.Counting.{counted_steps}
 use Rattle.ocp_core.proofs.Journaling.{refused_slice, refused_slice_log, full_slice, done_slice, done_slice_log}
 use Rattle.ocp_core.proofs.engine.Engine.slice.Goals as goal
 
@@ -25,6 +26,12 @@ returns-clause-slice g c = done_slice c.self.inside.journal c.args.self.now c.se
 
 pub returns-clause-journal : goal.returns-clause-journal
 returns-clause-journal g c = done_slice_log c.self.inside.journal c.args.self.now c.self.view_is c.args.by c.args.id c.args.budget _ _ (c.in_default.ensures _ c.args.by c.self.invariant) (sym c.is_full.ensures ∙ c.if-is_full.false) (c.slice-slice.ensures.count _ c.args.by c.self.invariant) c.push.ensures
+
+pub push-requires-clause-accepted : goal.push-requires-clause-accepted
+push-requires-clause-accepted g c =
+    let w = world_of c.self.inside.journal in
+    let taken = c.in_default.ensures w c.args.by c.self.invariant in
+    counted_steps w c.args.by c.args.id c.slice-slice.result.count (c.slice-slice.ensures.events w c.args.by c.self.invariant taken)
 
 pub push-requires-clause-mark : goal.push-requires-clause-mark
 push-requires-clause-mark g c =

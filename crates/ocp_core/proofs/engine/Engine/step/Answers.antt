@@ -2,7 +2,9 @@ use Rattle.std.proofs.Common.{sym, ap, ◌∙◌}
 use Rattle.ocp_world.specs.After.{Stepped}
 use Rattle.ocp_world.specs.Slice.{outcome_in}
 use Rattle.ocp_world.specs.World.{Step}
+use Rattle.ocp_core.specs.Log.{world_of}
 use Rattle.ocp_core.proofs.Keeping.{IsWorld-with_entry}
+use Rattle.ocp_core.proofs.Counting.{counted}
 use Rattle.ocp_core.proofs.Journaling.{refused_answer, refused_log, full_answered, done_answer, done_log}
 use Rattle.ocp_core.proofs.engine.Engine.step.Goals as goal
 
@@ -23,6 +25,9 @@ returns-clause-answer g c = done_answer c.self.inside.journal c.args.self.now c.
 
 pub returns-clause-journal : goal.returns-clause-journal
 returns-clause-journal g c = done_log c.self.inside.journal c.args.self.now c.self.view_is (Step c.args.by c.args.id) _ (c.in_default.ensures _ c.args.by c.self.invariant) (sym c.is_full.ensures ∙ c.if-is_full.false) c.push.ensures
+
+pub push-requires-clause-accepted : goal.push-requires-clause-accepted
+push-requires-clause-accepted g c = counted (world_of c.self.inside.journal) (Step c.args.by c.args.id) (c.in_default.ensures _ c.args.by c.self.invariant)
 
 pub push-requires-clause-mark : goal.push-requires-clause-mark
 push-requires-clause-mark g c = ap (λ answer. Stepped (outcome_in answer)) (c.step-outcome.ensures.answer _ c.args.by c.self.invariant)
