@@ -14,7 +14,7 @@ use Rattle.obcp_messages.specs.declared.request.Request.{Request as Command}
 use Rattle.obcp_messages.specs.declared.request.Request.TheVariants as command
 use Rattle.ocp_table.specs.Records.{Rec, Records}
 use Rattle.obcp_types.specs.declared.pending.Due.{Due}
-use Rattle.ocp_table.specs.Effects.{Change, Changed, records_by, pool_by, outbox_by, failure_of}
+use Rattle.ocp_table.specs.Effects.{Change, Changed, records_by, pool_by, outbox_by, filed_of, failure_of}
 use Rattle.ocp_table.specs.RequestTable as directive
 use Rattle.ocp_table.specs.RequestTable.{Directive}
 use Rattle.ocp_table.specs.Deciding.{effect_in, status_of}
@@ -201,14 +201,19 @@ no_trace_by_command (Some fault) command own m = refl
 pub command_keeps_pool : (w : World) (by own : ℕ) (command : DebugCommand) → (after w (Debug by own command)).world.pool ≡ w.pool
 command_keeps_pool w by own command = pool_kept (fault_on command (get w.records own)) command own w.pool
 
-nothing_filed : (fault : Option DebugFault) (command : DebugCommand) (own : ℕ) (m : Records) (outbox : List Due) → outbox_by (debug_effect_by fault command own) m outbox ≡ outbox
-nothing_filed None (SetBreak place) own m outbox = append-nil outbox
-nothing_filed None (ClearBreak place) own m outbox = append-nil outbox
-nothing_filed None (SetTrace on) own m outbox = append-nil outbox
-nothing_filed (Some fault) command own m outbox = append-nil outbox
+-- a debugger files no completion
+unfiled : (command : DebugCommand) (o : Option Rec) → filed_of (change_of command) o ≡ []
+unfiled command None = refl
+unfiled (SetBreak place) (Some r) = refl
+unfiled (ClearBreak place) (Some r) = refl
+unfiled (SetTrace on) (Some r) = refl
+
+outbox_kept : (fault : Option DebugFault) (command : DebugCommand) (own : ℕ) (m : Records) (outbox : List Due) → outbox_by (debug_effect_by fault command own) m outbox ≡ outbox
+outbox_kept None command own m outbox = ap (λ dues. outbox ++ dues) (unfiled command (get m own)) ∙ append-nil outbox
+outbox_kept (Some fault) command own m outbox = append-nil outbox
 
 pub command_keeps_outbox : (w : World) (by own : ℕ) (command : DebugCommand) → (after w (Debug by own command)).world.outbox ≡ w.outbox
-command_keeps_outbox w by own command = nothing_filed (fault_on command (get w.records own)) command own w.records w.outbox
+command_keeps_outbox w by own command = outbox_kept (fault_on command (get w.records own)) command own w.records w.outbox
 
 pub command_keeps_traces : (w : World) (by own : ℕ) (command : DebugCommand) → (after w (Debug by own command)).world.traces ≡ w.traces
 command_keeps_traces w by own command = no_more w.traces _ (no_trace_by_command (fault_on command (get w.records own)) command own w.records)

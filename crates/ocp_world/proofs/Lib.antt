@@ -8,3 +8,4 @@ pub mod Stretches
 pub mod Settling
 pub mod Sending
 pub mod NextRunning
+pub mod Counting

@@ -14,7 +14,7 @@ use Rattle.bpf_step.specs.Runs.{next_of, breaks_at, local_next, local_run}
 use Rattle.ocp_table.specs.declared.answers.InstructionOutcome.TheVariants.{Broke, Ran}
 use Rattle.ocp_table.specs.declared.answers.StepOutcome.TheVariants as S
 use Rattle.ocp_table.specs.Records.{Rec, Records}
-use Rattle.ocp_table.specs.Effects.{Changed, Stepped, filed_by, passed, record_by, with_change, machine_after, records_with}
+use Rattle.ocp_table.specs.Effects.{Changed, Stepped, filed_of, passed, record_by, with_change, machine_after, records_with}
 use Rattle.ocp_table.specs.RequestTable as directive
 use Rattle.ocp_table.specs.Deciding.{outcome_of, outcome_in, effect_on, effect_in, effect_by, effect_of_step, is_full}
 use Rattle.ocp_table.specs.Snapshots.{settled}
@@ -106,7 +106,8 @@ one_more w by id r next on =
     ap (λ o. with_change o id (Stepped Ran) w.records) on.held ∙ ap (map.insert w.records id) (stepped r next on.go.steps) in
     let traces : w.traces ++ traces_by_change id (Stepped Ran) (map.get w.records id) ≡ w.traces =
     ap (λ o. w.traces ++ traces_by_change id (Stepped Ran) o) on.held ∙ ap (λ b. w.traces ++ traces_if b id Ran r) on.untraced ∙ append-nil w.traces in
-    let outbox : w.outbox ++ filed_by (Changed id (Stepped Ran)) w.records ≡ w.outbox = append-nil w.outbox in
+    let outbox : w.outbox ++ filed_of (Stepped Ran) (map.get w.records id) ≡ w.outbox =
+    ap (λ o. w.outbox ++ filed_of (Stepped Ran) o) on.held ∙ append-nil w.outbox in
     ap (λ e. world_after (instruction_effect e) w) (effect-ran w id r next on.held on.running on.go)
     ∙ (λ i. record w { records = records i; outbox = outbox i; events = w.events + 1; traces = traces i })
 
