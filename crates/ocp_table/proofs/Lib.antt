@@ -2,6 +2,8 @@ pub mod ContentsLemmas
 pub mod Able
 pub mod Each
 pub mod Totals
+pub mod Weighing
+pub mod Rooms
 pub mod Lawful
 pub mod Tables
 pub mod Rows
