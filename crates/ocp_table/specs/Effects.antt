@@ -257,11 +257,8 @@ filed_by Drained m = []
 filed_by (Kept why) m = []
 
 abbrev pub outbox_by : Effect → Records → List Due → List Due
-outbox_by (Loaded id image) m outbox = outbox ++ filed_by (Loaded id image) m
-outbox_by (Unloaded id) m outbox = outbox ++ filed_by (Unloaded id) m
-outbox_by (Changed id change) m outbox = outbox ++ filed_by (Changed id change) m
 outbox_by Drained m outbox = []
-outbox_by (Kept why) m outbox = outbox ++ filed_by (Kept why) m
+outbox_by effect m outbox = outbox ++ filed_by effect m
 
 -- ---- what is set apart from requests
 
@@ -314,6 +311,15 @@ failure_of effect = None
 abbrev pub result_of : Option StartFailure → Result (Unit {0}) StartFailure
 result_of None = Ok tt
 result_of (Some failure) = Err failure
+
+-- a stop or suspend became pending
+abbrev pub is_pended_by : Change → Bool
+is_pended_by (Pended pending) = true
+is_pended_by change = false
+
+abbrev pub is_pended : Effect → Bool
+is_pended (Changed id change) = is_pended_by change
+is_pended effect = false
 
 -- the answer to a request
 abbrev pub start_result : Effect → Result (Unit {0}) StartFailure

@@ -1,6 +1,6 @@
 -- The places of completions that come later: one is taken by each pending stop or suspend, and by
 -- each completion that waits in the outbox to be reported.
-use Rattle.std.specs.Prelude.{ℕ, ◌+◌, Bool, nat_le, List, length}
+use Rattle.std.specs.Prelude.{◌≤◌, ℕ, ◌+◌, Bool, nat_le, List, length}
 use Rattle.std.specs.List.{sum_by}
 use Rattle.std.specs.FinMap.{values}
 use Rattle.obcp_types.specs.declared.pending.Due.{Due}
@@ -25,3 +25,7 @@ pendings m = sum_by places_in (values m)
 -- no place is free
 abbrev pub is_outbox_full : Records → List Due → Bool
 is_outbox_full m outbox = nat_le OUTBOX_PLACES (length outbox + pendings m)
+
+-- there is a place for each of them
+abbrev pub HasPlaces : Records → List Due → Type 0
+HasPlaces m outbox = length outbox + pendings m ≤ OUTBOX_PLACES

@@ -1,7 +1,8 @@
--- A procedure's record, as a record of parts.
+-- A procedure's record, as a record of parts, and what a table holds.
 use Rattle.std.specs.Prelude.{ℕ, Bool, List, IsOk}
 use Rattle.std.specs.Ordering.{nat_cmp}
 use Rattle.std.specs.FinMap.{FinMap}
+use Rattle.obcp_types.specs.declared.pending.Due.{Due}
 use Rattle.ocp_loader.specs.LoadResult.{load_result}
 use Rattle.ocp_loader.specs.LineAt.{IsPlace}
 use Rattle.bpf_step.specs.Machine.{State}
@@ -33,3 +34,8 @@ pub record Rec : Type 0 where
 -- the records, each under the id of its procedure
 abbrev pub Records : Type 0
 Records = FinMap nat_cmp Rec
+
+-- the records of a table, and the completions that wait to be reported, the oldest first
+pub record Procedures : Type 0 where
+  pub records : Records
+  pub outbox : List Due

@@ -1,11 +1,12 @@
 -- The request table: what each request, and an instruction event, does to a procedure that is not
 -- loaded (None), inactive, running or held, with p pending and n words in its mailbox. `Deciding`
 -- says what effect that has, and `Effects` what the effect makes of the records.
-use Rattle.std.specs.Prelude.{ℕ, ◌+◌, nat_le, if◌then◌else◌, List, length, Option, Some, None}
+use Rattle.std.specs.Prelude.{ℕ, ◌+◌, Bool, nat_le, if◌then◌else◌, List, length, Option, Some, None}
 use Rattle.obcp_types.specs.declared.status.Status.{Status}
 use Rattle.obcp_types.specs.declared.status.Status.TheVariants.{Inactive, Running, Held}
 use Rattle.obcp_types.specs.declared.failure.StartFailure.{StartFailure}
-use Rattle.obcp_types.specs.declared.failure.StartFailure.TheVariants.{AlreadyLoaded, NotLoaded, NotInactive, NotActive, NotRunning, NotHeld, StopPending, MailboxFull}
+use Rattle.obcp_types.specs.declared.failure.StartFailure.TheVariants.{AlreadyLoaded, NotLoaded, NotInactive, NotActive, NotRunning, NotHeld, StopPending, MailboxFull, OutboxFull}
+use Rattle.obcp_types.specs.declared.pending.PendingOrigin.{PendingOrigin}
 use Rattle.ocp_pool.specs.declared.mailbox.TheConstants.{MAX_MAILBOX_WORDS}
 use Rattle.ocp_table.specs.declared.control.Cause.TheVariants.{Stopped, Aborted}
 use Rattle.ocp_table.specs.declared.control.Pending.{Pending}
@@ -13,14 +14,15 @@ use Rattle.ocp_table.specs.declared.control.Pending.TheVariants as pending
 use Rattle.ocp_table.specs.Effects.{Change, Started, Sent, Pended, Quit, Resumed}
 
 -- what is asked of a procedure: to load an image, to be dropped, to start with arguments, to stop
--- or to be held at the end of a step (0 is any), to run on, to end at once, to take words, to do
--- its next instruction, with the pool as it stands
+-- or to be held at the end of a step (0 is any), with the request's origin and whether no place is
+-- free for what would be pending, to run on, to end at once, to take words, to do its next
+-- instruction, with the pool as it stands
 pub data Directive : Type 0 where
   Load : List ℕ → Directive
   Unload : Directive
   Activate : List ℕ → Directive
-  Stop : ℕ → Directive
-  Suspend : ℕ → Directive
+  Stop : ℕ → PendingOrigin → Bool → Directive
+  Suspend : ℕ → PendingOrigin → Bool → Directive
   Resume : Directive
   Abort : Directive
   Communicate : List ℕ → Directive
@@ -41,6 +43,10 @@ sent words there =
     if nat_le (there + length words) MAX_MAILBOX_WORDS then Changes (Sent words)
     else Fails MailboxFull
 
+-- a stop or suspend becomes pending where a place is free for it, and else what was pending stays
+abbrev pub pended : Bool → Pending → Decision
+pended full pending = if full then Fails OutboxFull else Changes (Pended pending)
+
 abbrev pub transition : Directive → Option Status → Pending → ℕ → Decision
 transition (Load image) None p n = Loads image
 transition (Load image) (Some Inactive) p n = Fails AlreadyLoaded
@@ -54,16 +60,18 @@ transition (Activate arguments) None p n = Fails NotLoaded
 transition (Activate arguments) (Some Inactive) p n = Changes (Started arguments)
 transition (Activate arguments) (Some Running) p n = Fails NotInactive
 transition (Activate arguments) (Some Held) p n = Fails NotInactive
-transition (Stop s) None p n = Fails NotLoaded
-transition (Stop s) (Some Inactive) p n = Fails NotActive
-transition (Stop s) (Some Running) p n = Changes (Pended (pending.Stop s))
-transition (Stop s) (Some Held) p n = Changes (Quit Stopped)
-transition (Suspend s) None p n = Fails NotLoaded
-transition (Suspend s) (Some Inactive) p n = Fails NotRunning
-transition (Suspend s) (Some Running) pending.Nothing n = Changes (Pended (pending.Suspend s))
-transition (Suspend s) (Some Running) (pending.Suspend t) n = Changes (Pended (pending.Suspend s))
-transition (Suspend s) (Some Running) (pending.Stop t) n = Fails StopPending
-transition (Suspend s) (Some Held) p n = Fails NotRunning
+transition (Stop s from full) None p n = Fails NotLoaded
+transition (Stop s from full) (Some Inactive) p n = Fails NotActive
+transition (Stop s from full) (Some Running) p n = pended full (pending.Stop s from)
+transition (Stop s from full) (Some Held) p n = Changes (Quit Stopped)
+transition (Suspend s from full) None p n = Fails NotLoaded
+transition (Suspend s from full) (Some Inactive) p n = Fails NotRunning
+transition (Suspend s from full) (Some Running) pending.Nothing n =
+    pended full (pending.Suspend s from)
+transition (Suspend s from full) (Some Running) (pending.Suspend t other) n =
+    pended full (pending.Suspend s from)
+transition (Suspend s from full) (Some Running) (pending.Stop t other) n = Fails StopPending
+transition (Suspend s from full) (Some Held) p n = Fails NotRunning
 transition Resume None p n = Fails NotLoaded
 transition Resume (Some Inactive) p n = Fails NotHeld
 transition Resume (Some Running) p n = Fails NotHeld

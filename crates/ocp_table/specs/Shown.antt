@@ -1,9 +1,10 @@
 -- What contracts see of a record and of a directive, and what readers show of a record.
-use Rattle.std.specs.Prelude.{◌≡◌, ◌≤◌, ℕ, true, List, map, length, Option, Some, None, Result, Ok, Err}
+use Rattle.std.specs.Prelude.{◌≡◌, ◌≤◌, ℕ, Bool, true, List, map, length, Option, Some, None, Result, Ok, Err}
 use Rattle.std.specs.FinMap.{entries}
 use Rattle.obcp_types.specs.declared.failure.StartFailure.{StartFailure}
 use Rattle.obcp_types.specs.declared.status.StatusRow.{StatusRow}
 use Rattle.ocp_regions.specs.declared.regions.TheConstants.{ARGUMENT_OCTETS}
+use Rattle.ocp_table.specs.declared.control.Pending.TheVariants as pending
 use Rattle.ocp_table.specs.declared.view.View.{View}
 use Rattle.ocp_table.specs.declared.directive.Directive as D
 use Rattle.ocp_table.specs.declared.directive.Directive.TheVariants as directive
@@ -34,14 +35,16 @@ module _ {A : Type 0} where
   pub record IsLoading (r : Record A) (id : ℕ) (image : List ℕ) : Type 0 where
     pub named : id_of r ≡ id
     pub shows : shown r ≡ new_record image
+    pub idle : r.control.pending ≡ pending.Nothing
 
-abbrev pub directive_of : D.Directive → Directive
-directive_of (directive.Activate arguments) = Activate arguments.now
-directive_of (directive.Stop s) = Stop s
-directive_of (directive.Suspend s) = Suspend s
-directive_of directive.Resume = Resume
-directive_of directive.Abort = Abort
-directive_of (directive.Communicate words) = Communicate words.now
+-- what a request asks, where all places for pending and unreported completions are taken or not
+abbrev pub directive_of : D.Directive → Bool → Directive
+directive_of (directive.Activate arguments) full = Activate arguments.now
+directive_of (directive.Stop s from) full = Stop s from full
+directive_of (directive.Suspend s from) full = Suspend s from full
+directive_of directive.Resume full = Resume
+directive_of directive.Abort full = Abort
+directive_of (directive.Communicate words) full = Communicate words.now
 
 -- the effect of a directive on a record of the table, in which whether the table is full is not
 -- asked

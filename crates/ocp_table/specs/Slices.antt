@@ -2,6 +2,7 @@
 -- longer runs.
 use Rattle.std.specs.Prelude.{◌≡◌, ◌+◌, ℕ, zero, suc, Bool, true, false, if◌then◌else◌, List, Option, Some, None}
 use Rattle.std.specs.FinMap.{get, insert}
+use Rattle.obcp_types.specs.declared.pending.Due.{Due}
 use Rattle.obcp_types.specs.declared.status.Status.{Status}
 use Rattle.obcp_types.specs.declared.status.Status.TheVariants.{Inactive, Running, Held}
 use Rattle.bpf_step.specs.Machine.{State}
@@ -11,7 +12,7 @@ use Rattle.ocp_table.specs.declared.answers.Slice.{Slice}
 use Rattle.ocp_table.specs.declared.answers.StepOutcome.{StepOutcome}
 use Rattle.ocp_table.specs.declared.answers.StepOutcome.TheVariants as S
 use Rattle.ocp_table.specs.Records.{Rec, Records}
-use Rattle.ocp_table.specs.Effects.{Effect, passed, records_by, pool_by, step_outcome}
+use Rattle.ocp_table.specs.Effects.{Effect, passed, records_by, outbox_by, pool_by, step_outcome}
 use Rattle.ocp_table.specs.RequestTable.{Step}
 use Rattle.ocp_table.specs.Deciding.{effect_in}
 
@@ -20,6 +21,7 @@ use Rattle.ocp_table.specs.Deciding.{effect_in}
 -- what instruction events read and write
 pub record Store : Type 0 where
   pub records : Records
+  pub outbox : List Due
   pub pool : List ℕ
 
 abbrev pub effect_of_event : ℕ → Store → Effect
@@ -28,6 +30,7 @@ effect_of_event id s = effect_in (Step s.pool) id s.records
 abbrev pub store_after : ℕ → Store → Store
 store_after id s = record {
   records = records_by (effect_of_event id s) s.records;
+  outbox = outbox_by (effect_of_event id s) s.records s.outbox;
   pool = pool_by (effect_of_event id s) s.pool;
 }
 
@@ -84,14 +87,14 @@ slice_last id s last (suc budget) =
     if goes_on id s then slice_last id (store_after id s) (answer_to id s) budget
     else answer_to id s
 
--- a slice of the procedure that these records hold under this id, with its count and its last
--- outcome, leaves this record and this pool
-pub record IsSlice (id : ℕ) (m : Records) (pool : List ℕ) (budget : ℕ) (slice : Slice) (r : Rec)
-    (left : List ℕ) : Type 0 where
-  pub count : slice.count ≡ slice_count id (record { records = m; pool = pool }) budget
-  pub last : slice.last ≡ slice_last id (record { records = m; pool = pool }) S.Ran budget
-  pub store : store_after_events id slice.count (record { records = m; pool = pool }) ≡
-      record { records = insert m id r; pool = left }
+-- a slice of the procedure that this store holds under this id, with its count and its last
+-- outcome, leaves this record, this outbox and this pool
+pub record IsSlice (id : ℕ) (s : Store) (budget : ℕ) (slice : Slice) (r : Rec) (outbox : List Due)
+    (pool : List ℕ) : Type 0 where
+  pub count : slice.count ≡ slice_count id s budget
+  pub last : slice.last ≡ slice_last id s S.Ran budget
+  pub store : store_after_events id slice.count s ≡
+      record { records = insert s.records id r; outbox = outbox; pool = pool }
 
 -- ---- instructions that a machine does by itself
 

@@ -6,7 +6,9 @@ use Rattle.bpf_step.specs.Machine.{State}
 use Rattle.bpf_step.specs.Mirror.Codes.{state_code}
 use Rattle.ocp_table.specs.declared.control.Control.{Control}
 use Rattle.ocp_table.specs.contracts.control.Control as C
-use Rattle.ocp_table.specs.Records.{Execution, Rec, Records}
+use Rattle.obcp_types.specs.declared.pending.Due.{Due}
+use Rattle.obcp_types.specs.contracts.pending.Due as D
+use Rattle.ocp_table.specs.Records.{Execution, Rec, Records, Procedures}
 use Rattle.ocp_table.specs.Snapshots.{Snapshot}
 
 abbrev pub octets : Coded (List ℕ)
@@ -37,6 +39,16 @@ rec_code =
 
 abbrev pub records_code : Coded Records
 records_code = code coded_ℕ rec_code
+
+abbrev pub outbox_code : Coded (List Due)
+outbox_code = coded_list (D.the_row).coded
+
+abbrev pub procedures_code : Coded Procedures
+procedures_code =
+    code_by (Records × List Due) (coded× records_code outbox_code)
+    (λ p. (p.records, p.outbox))
+    (λ p. record { records = p.0; outbox = p.1 })
+    (λ _. refl)
 
 abbrev pub snapshot_code : Coded Snapshot
 snapshot_code =
