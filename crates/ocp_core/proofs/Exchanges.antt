@@ -20,7 +20,7 @@ use Rattle.ocp_table.specs.declared.answers.InstructionOutcome.{InstructionOutco
 use Rattle.ocp_table.specs.declared.answers.InstructionOutcome.TheVariants.{Broke, Ran, Called, Ended, Faulted}
 use Rattle.ocp_table.specs.Records.{Rec, Records}
 use Rattle.ocp_table.specs.Effects as table
-use Rattle.ocp_table.specs.Effects.{Changed, Kept, Stepped, Failed, records_by, pool_by, filed_by, filed_there, outbox_by, step_outcome}
+use Rattle.ocp_table.specs.Effects.{Changed, Kept, Stepped, Failed, records_by, pool_by, filed_by, filed_of, outbox_by, step_outcome}
 use Rattle.obcp_types.specs.declared.pending.Due.{Due}
 use Rattle.ocp_table.specs.RequestTable as directive
 use Rattle.ocp_table.specs.RequestTable.{transition}
@@ -149,7 +149,7 @@ quiet_files : (id : ℕ) (t : Turn) → IsQuiet id t → (m : Records) → filed
 quiet_files id (Refuses failure) quiet m = refl
 quiet_files id (Makes outcome) quiet m = quiet_filed outcome quiet (get m id)
   where
-    quiet_filed : (outcome : InstructionOutcome) → IsQuiet id (Makes outcome) → (o : Option Rec) → filed_there (Stepped outcome) o ≡ []
+    quiet_filed : (outcome : InstructionOutcome) → IsQuiet id (Makes outcome) → (o : Option Rec) → filed_of (Stepped outcome) o ≡ []
     quiet_filed outcome quiet None = refl
     quiet_filed Broke quiet (Some r) = refl
     quiet_filed Ran quiet (Some r) = refl
@@ -199,7 +199,7 @@ traces-at id (Makes outcome) m n same = ap (traces_by_change id (Stepped outcome
 -- so does what it files
 files-at : (id : ℕ) (t : Turn) (m n : Records) → get m id ≡ get n id → filed_by (by_turn id t) m ≡ filed_by (by_turn id t) n
 files-at id (Refuses failure) m n same = refl
-files-at id (Makes outcome) m n same = ap (filed_there (Stepped outcome)) same
+files-at id (Makes outcome) m n same = ap (filed_of (Stepped outcome)) same
 
 outbox_by-turn : (id : ℕ) (t : Turn) (m : Records) (due : List Due) → outbox_by (by_turn id t) m due ≡ due ++ filed_by (by_turn id t) m
 outbox_by-turn id (Refuses failure) m due = refl

@@ -1,14 +1,17 @@
 -- A journal's replay, entry by entry.
 use Rattle.std.proofs.Common.{◌≡◌, ◌+◌, ◌<◌, ℕ, zero, suc, List, [], ◌∷◌, ◌++◌, map, take, length, get_or, replicate, false, refl, sym, ap, subst, ◌∙◌, add-one}
-use Rattle.std.specs.Prelude.{Err}
+use Rattle.std.specs.Prelude.{Result, Ok, Err, OnOk}
 use Rattle.std.proofs.lemmas.List.{take_more, map-append}
 use Rattle.ocp_world.specs.World.{World, Event, Step}
-use Rattle.ocp_world.specs.After.{Answer, after, is_accepted}
-use Rattle.ocp_world.specs.Answers.{Answers}
+use Rattle.ocp_world.specs.After.{Requested, after, effect_of, is_accepted}
 use Rattle.ocp_world.specs.declared.answers.EngineFault.{EngineFault}
+use Rattle.ocp_world.specs.declared.answers.EngineFault.TheVariants as engine
+use Rattle.ocp_world.specs.declared.state.State.{State}
+use Rattle.ocp_world.specs.Mirror.State.{IsWorld, DoesIn}
 use Rattle.ocp_world.specs.Replay.{replay_from, replay}
 use Rattle.ocp_core.specs.Log.{Log, Entry, events_of, expand, world_of}
-use Rattle.ocp_core.proofs.Replays.{replay_from-append, expand-with_entry}
+use Rattle.ocp_core.specs.Mirror.Admitted.{HasMemory}
+use Rattle.ocp_core.proofs.Replays.{replay_from-append, expand-with_entry, length-expand-with_entry}
 
 -- one more instruction at the end
 steps-suc : (w : World) (by id n : ℕ) → replay_from w (replicate (suc n) (Step by id)) ≡ (after (replay_from w (replicate n (Step by id))) (Step by id)).world
@@ -33,11 +36,31 @@ module _ {X : Type 0} (entry_of : X → Entry) (apid words : ℕ) (xs : List X) 
       ∙ ap (replay apid words) (expand-with_entry (map entry_of (take i xs)) (entry_of x))
       ∙ replay_from-append _ (expand (map entry_of (take i xs))) (events_of (entry_of x))
 
+  pub length-entry : length (expand (map entry_of (take (i + 1) xs))) ≡ length (expand (map entry_of (take i xs))) + length (events_of (entry_of x))
+  length-entry =
+      ap (λ ys. length (expand (map entry_of ys))) (take_more xs i x within)
+      ∙ ap (λ y. length (expand (map entry_of (take i xs ++ y ∷ [])))) (sym is)
+      ∙ ap (λ es. length (expand es)) (map-append entry_of (take i xs) (x ∷ []))
+      ∙ length-expand-with_entry (map entry_of (take i xs)) (entry_of x)
+
 -- a journal's world is the replay of all its entries
 pub replayed : (log : Log) → replay log.apid log.words (expand log.entries) ≡ world_of log
 unfolding world_of
 replayed log = refl
 
--- an event that is refused is not accepted
-pub refused_answer : (fault discarded : EngineFault) (answer : Answer) → fault ≡ discarded → Answers (Err fault) answer → (Answers (Err discarded) answer → is_accepted answer ≡ false) → is_accepted answer ≡ false
-refused_answer fault discarded answer is told so = so (subst (λ f. Answers (Err f) answer) is told)
+-- a request or a drain that finds memory leaves the state of the world after it, since one that is refused changes nothing
+module _ {A : Type 0} (keeps : (w : World) (e : Event) → is_accepted (after w e).answer ≡ false → (after w e).world ≡ w) (w : World) (e : Event) (s : State A) where
+  refused_stands : (fault : EngineFault) → (after w e).answer ≡ Requested (Err fault) → IsWorld w s → IsWorld (after w e).world s
+  refused_stands fault told stands = subst (λ v. IsWorld v s) (sym (keeps w e (ap is_accepted told))) stands
+
+  pub stands_after : (r : Result (List (List ℕ)) EngineFault) → HasMemory r → DoesIn w (effect_of w e) r s → IsWorld (after w e).world s
+  stands_after (Ok reports) has does = does.1
+  stands_after (Err engine.Memory) has does = absurd has
+  stands_after (Err (engine.Discarded cause)) has does = refused_stands (engine.Discarded cause) does.0 does.1
+  stands_after (Err engine.JournalFull) has does = refused_stands engine.JournalFull does.0 does.1
+  stands_after (Err engine.NothingDue) has does = refused_stands engine.NothingDue does.0 does.1
+
+-- what holds of a result where it is one, follows so
+pub where_ok : {X E : Type 0} {P Q : Type 0} → (r : Result X E) → (P → Q) → OnOk r P → OnOk r Q
+where_ok (Ok x) so p = so p
+where_ok (Err e) so p = tt

@@ -1,11 +1,12 @@
 -- The events of a run: what each leaves, one more of them.
 use Rattle.std.proofs.Common.{◌≡◌, ◌≢◌, ℕ, zero, suc, ◌+◌, ◌<◌, Bool, true, false, cond, List, [], ◌∷◌, ◌++◌, Some, map, take, length, get_or, refl, sym, ap, subst, ◌∙◌}
-use Rattle.std.specs.Prelude.{Ok, Err, slice_get}
+use Rattle.std.specs.Prelude.{Result, Ok, Err, OnOk, OnErr, slice_get}
 use Rattle.std.specs.Option.{option_map}
 use Rattle.std.proofs.lemmas.List.{take_more, map-append}
 use Rattle.std.proofs.lemmas.Option.{slice_get-get_or, slice_get-map}
 use Rattle.ocp_table.specs.declared.answers.StepOutcome.{StepOutcome}
 use Rattle.ocp_table.specs.declared.answers.StepOutcome.TheVariants as S
+use Rattle.ocp_world.specs.declared.answers.EngineFault.{EngineFault}
 use Rattle.ocp_world.specs.declared.answers.EngineFault.TheVariants as engine
 use Rattle.ocp_debug.specs.declared.command.DebugFault.{DebugFault}
 use Rattle.ocp_debug.specs.declared.command.DebugFault.TheVariants as debug
@@ -15,8 +16,10 @@ use Rattle.ocp_world.specs.Replay.{answers, replay_from}
 use Rattle.ocp_core.specs.Log.{Log, world_of, is_full, with_entry, entry_for, full_answer, answer_in, log_after}
 use Rattle.ocp_core.specs.declared.answers.RunRefusal.{RunRefusal}
 use Rattle.ocp_core.specs.declared.answers.RunRefusal.TheVariants as run
-use Rattle.ocp_core.specs.Running.{log_after_all, finds_full, HasRoom, IsRefusedBy, StopsAt}
+use Rattle.ocp_world.specs.Answers.{Answers}
+use Rattle.ocp_core.specs.Running.{log_after_all, finds_full, HasRoom, TakesMemory, IsRefusedBy, IsDone, Applies, replied, StopsAt}
 use Rattle.ocp_core.proofs.Replays.{world_of-with_entry, replay_from-append, answers-append}
+use Rattle.ocp_core.proofs.Journaling.{refused_log}
 
 true_false : true ≡ false → ⊥
 true_false e = cc
@@ -136,6 +139,25 @@ module _ (log : Log) (e : Event) where
 
 pub world_done : ((w : World) (e : Event) → is_accepted (after w e).answer ≡ false → (after w e).world ≡ w) → (log : Log) (e : Event) (new : Log) → new ≡ log_after log e → finds_full log e ≡ false → world_of new ≡ (after (world_of log) e).world
 world_done keeps log e new is free = ap world_of is ∙ world_left log e (keeps (world_of log) e) free
+
+-- ---- a request or a drain of a run
+
+module _ (keeps : (w : World) (e : Event) → is_accepted (after w e).answer ≡ false → (after w e).world ≡ w) (log new : Log) (e : Event) where
+  -- one that is refused, but not for the journal or for memory
+  refused_done : (fault : EngineFault) → is_full_answer (Requested (Err fault)) ≡ false → Requested (Err fault) ≡ answer_in log e → new ≡ log → IsDone log new e (Requested (Err fault))
+  refused_done fault roomy told same =
+      let done = done_event log e (Requested (Err fault)) told roomy in
+      let stays : new ≡ log_after log e = same ∙ refused_log log log refl e (sym (ap is_accepted done.0)) in
+      record { answer = done.0; world = world_done keeps log e new stays done.1; journal = stays; room = done.1 }
+
+  pub replied_so : {A : Type 0} → full_answer e ≢ (after (world_of log) e).answer → full_answer e ≡ Requested (Err engine.JournalFull) → (is_accepted (answer_in log e) ≡ true → TakesMemory log e) → (r : Result (List (List ℕ)) EngineFault) → Answers r (answer_in log e) → OnOk r (new ≡ log_after log e) → OnErr r (new ≡ log) → Applies {A} log new e (replied r)
+  replied_so never full takes (Ok reports) told ok err =
+      let done = done_event log e (Requested (Ok reports)) (sym told) refl in
+      record { answer = done.0; world = world_done keeps log e new ok done.1; journal = ok; room = done.1 }
+  replied_so never full takes (Err engine.JournalFull) told ok err = (full_event log e never (full ∙ sym told), err)
+  replied_so never full takes (Err engine.Memory) told ok err = (takes told, err)
+  replied_so never full takes (Err (engine.Discarded cause)) told ok err = refused_done (engine.Discarded cause) refl (sym told) err
+  replied_so never full takes (Err engine.NothingDue) told ok err = refused_done engine.NothingDue refl (sym told) err
 
 -- ---- journals after events, one after another
 

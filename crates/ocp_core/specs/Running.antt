@@ -2,7 +2,10 @@
 use Rattle.std.specs.Prelude.{◌≡◌, ℕ, zero, Bool, true, false, if◌then◌else◌, List, [], ◌∷◌, Option, Some, None, Result, Ok, Err}
 use Rattle.ocp_world.specs.World.{Event, Request, Step, Debug, Drain}
 use Rattle.ocp_world.specs.After.{Answer, after, is_accepted}
+use Rattle.ocp_world.specs.declared.answers.EngineFault.{EngineFault}
+use Rattle.ocp_world.specs.declared.answers.EngineFault.TheVariants as engine
 use Rattle.ocp_core.specs.declared.answers.Answer as G
+use Rattle.ocp_core.specs.declared.answers.Answer.TheVariants as answer
 use Rattle.ocp_core.specs.declared.answers.RunRefusal.{RunRefusal}
 use Rattle.ocp_core.specs.declared.answers.RunRefusal.TheVariants.{JournalFull, Memory}
 use Rattle.ocp_core.specs.Log.{Log, world_of, is_full, answer_in, log_after}
@@ -43,6 +46,15 @@ pub record IsDone (old new : Log) (e : Event) (given : Answer) : Type 0 where
   pub world : world_of new ≡ (after (world_of old) e).world
   pub journal : new ≡ log_after old e
   pub room : finds_full old e ≡ false
+
+-- the answer to a request or to a drain: a run ends before one that finds the journal full or no
+-- memory
+abbrev pub replied : {A : Type 0} → Result (List (List ℕ)) EngineFault
+    → Result (G.Answer A) RunRefusal
+replied (Ok reports) = Ok (answer.Requested (Ok reports))
+replied (Err engine.JournalFull) = Err JournalFull
+replied (Err engine.Memory) = Err Memory
+replied (Err fault) = Ok (answer.Requested (Err fault))
 
 -- the event is done; or it is refused and nothing is changed
 abbrev pub Applies : {A : Type 0} → Log → Log → Event → Result (G.Answer A) RunRefusal → Type 0

@@ -10,14 +10,26 @@ ghost use Rattle.ocp_world.specs.Mirror.State.{IsWorld};
 ghost use Rattle.ocp_core.specs.Log.{events_of, expand, world_of};
 ghost use Rattle.ocp_core.specs.Journal.{entry_of};
 ghost use Rattle.ocp_core.specs.Alone.{alone_after};
+ghost use Rattle.ocp_core.specs.Mirror.Admitted.{HasMemory};
 
 use crate::laws::{machines_follow_from_their_own_events, refused_events_change_nothing};
 use crate::{Command, EngineFault, Entry, Journal};
 use bpf_step::Machine;
+use ocp_reports::CopiedReports;
 use ocp_world::State;
 use pus_fields::read_tc;
 use space_packet::Apid;
 use std::alloc::{AllocError, Allocator};
+
+// Whether a request or a drain found memory: it was done, or it was refused and changed nothing.
+fn memory_of<A: Allocator>(given: Result<CopiedReports<A>, EngineFault>) -> Result<(), AllocError>
+    ensures { OnOk result (HasMemory given) }
+{
+    match given {
+        Err(EngineFault::Memory) => Err(AllocError),
+        _ => Ok(()),
+    }
+}
 
 // Does a request, which is the event of this number.
 fn request<A: Allocator + Copy>(
@@ -33,13 +45,7 @@ fn request<A: Allocator + Copy>(
         OnOk result (IsWorld (after w (Asked by time octets.now)).world state.new) }
 {
     refused_events_change_nothing();
-    match state.receive(alloc, event, time, read_tc(apid, octets)) {
-        Ok(_reports) => Ok(()),
-        Err(EngineFault::Discarded(_cause)) => Ok(()),
-        Err(EngineFault::NothingDue) => Ok(()),
-        Err(EngineFault::JournalFull) => Ok(()),
-        Err(EngineFault::Memory) => Err(AllocError),
-    }
+    memory_of(state.receive(alloc, event, time, read_tc(apid, octets)))
 }
 
 // Does a drain.
@@ -52,13 +58,7 @@ fn drain<A: Allocator + Copy>(
         OnOk result (IsWorld (after w (Drain by time)).world state.new) }
 {
     refused_events_change_nothing();
-    match state.drain(alloc, time) {
-        Ok(_reports) => Ok(()),
-        Err(EngineFault::Discarded(_cause)) => Ok(()),
-        Err(EngineFault::NothingDue) => Ok(()),
-        Err(EngineFault::JournalFull) => Ok(()),
-        Err(EngineFault::Memory) => Err(AllocError),
-    }
+    memory_of(state.drain(alloc, time))
 }
 
 // Does so many instructions of a procedure.

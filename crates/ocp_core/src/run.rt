@@ -5,13 +5,26 @@ ghost use Rattle.ocp_world.specs.World.{Debug};
 ghost use Rattle.ocp_world.specs.Replay.{answers, replay_from};
 ghost use Rattle.ocp_core.specs.Log.{world_of};
 ghost use Rattle.ocp_core.specs.Journal.{event_of, answer_of};
-ghost use Rattle.ocp_core.specs.Running.{Applies, HasRoom, StopsAt, log_after_all};
+ghost use Rattle.ocp_core.specs.Running.{Applies, HasRoom, StopsAt, log_after_all, replied};
 
 use crate::laws::{refused_events_change_nothing, worlds_have_no_full_journal};
 use crate::{
-    Answer, Command, DebugFault, Engine, EngineFault, Event, RunFault, RunRefusal, StepOutcome,
+    Answer, Command, DebugFault, Engine, EngineFault, Event, Reports, RunFault, RunRefusal,
+    StepOutcome,
 };
 use std::alloc::Allocator;
+
+// What a run answers to a request or to a drain, or why it ends before it.
+fn replied<A: Allocator>(given: Result<Reports<A>, EngineFault>) -> Result<Answer<A>, RunRefusal>
+    ensures { result ≡ replied given }
+{
+    match given {
+        Ok(reports) => Ok(Answer::Requested(Ok(reports))),
+        Err(EngineFault::JournalFull) => Err(RunRefusal::JournalFull),
+        Err(EngineFault::Memory) => Err(RunRefusal::Memory),
+        Err(fault) => Ok(Answer::Requested(Err(fault))),
+    }
+}
 
 impl<A: Allocator> Engine<A> {
     // Does an event.
@@ -23,25 +36,8 @@ impl<A: Allocator> Engine<A> {
         refused_events_change_nothing();
         worlds_have_no_full_journal();
         match event {
-            Event::Request { by, time, octets } => match self.request(alloc, by, time, octets) {
-                Ok(reports) => Ok(Answer::Requested(Ok(reports))),
-                Err(EngineFault::Discarded(cause)) => {
-                    Ok(Answer::Requested(Err(EngineFault::Discarded(cause))))
-                }
-                Err(EngineFault::JournalFull) => Err(RunRefusal::JournalFull),
-                Err(EngineFault::Memory) => Err(RunRefusal::Memory),
-            },
-            Event::Drain { by, time } => match self.drain(alloc, by, time) {
-                Ok(reports) => Ok(Answer::Requested(Ok(reports))),
-                Err(EngineFault::NothingDue) => {
-                    Ok(Answer::Requested(Err(EngineFault::NothingDue)))
-                }
-                Err(EngineFault::Discarded(cause)) => {
-                    Ok(Answer::Requested(Err(EngineFault::Discarded(cause))))
-                }
-                Err(EngineFault::JournalFull) => Err(RunRefusal::JournalFull),
-                Err(EngineFault::Memory) => Err(RunRefusal::Memory),
-            },
+            Event::Request { by, time, octets } => replied(self.request(alloc, by, time, octets)),
+            Event::Drain { by, time } => replied(self.drain(alloc, by, time)),
             Event::Step { by, id } => match self.step(by, id) {
                 StepOutcome::JournalFull => Err(RunRefusal::JournalFull),
                 outcome => Ok(Answer::Stepped(outcome)),

@@ -1,11 +1,18 @@
 -- An event that is admitted.
-use Rattle.std.specs.Prelude.{◌≡◌, ℕ, List, Result, true, false}
+use Rattle.std.specs.Prelude.{◌≡◌, ℕ, List, Result, Err, true, false}
 use Rattle.pus_fields.specs.Telecommand.{Telecommand}
 use Rattle.pus_fields.specs.declared.fault.TcFault.{TcFault}
 use Rattle.pus_fields.specs.TelecommandFaults.{telecommand_of}
+use Rattle.ocp_world.specs.declared.answers.EngineFault.{EngineFault}
+use Rattle.ocp_world.specs.declared.answers.EngineFault.TheVariants.{Memory}
 use Rattle.ocp_world.specs.World.{Event, Request}
 use Rattle.ocp_world.specs.After.{after, is_accepted}
 use Rattle.ocp_core.specs.Log.{Log, world_of, is_full}
+
+-- a request or a drain finds memory
+abbrev pub HasMemory : Result (List (List ℕ)) EngineFault → Type 0
+HasMemory (Err Memory) = ⊥
+HasMemory result = Unit {0}
 
 -- it would be accepted, and finds room
 pub record IsTaken (log : Log) (e : Event) : Type 0 where

@@ -1,23 +1,27 @@
-use Rattle.std.proofs.Common.{◌≡◌, Ok, refl, sym, subst, true, ◌∙◌}
-use Rattle.ocp_world.specs.World.{Request, Step}
-use Rattle.ocp_world.specs.After.{Requested, Stepped}
+use Rattle.std.proofs.Common.{◌≡◌, refl, sym, ap, subst, true, ◌∙◌}
+use Rattle.ocp_world.specs.World.{Request, Step, Drain}
+use Rattle.ocp_world.specs.After.{Stepped}
 use Rattle.ocp_core.specs.Log.{world_of}
-use Rattle.ocp_core.specs.Running.{IsDone, finds_full}
+use Rattle.ocp_core.specs.Running.{IsDone, Applies, finds_full}
 use Rattle.ocp_core.specs.Journal.{event_of}
-use Rattle.ocp_core.proofs.Runs.{done_event, full_event, full_leaves, not_full, world_done}
+use Rattle.ocp_core.proofs.Runs.{done_event, full_event, full_leaves, not_full, world_done, replied_so}
 use Rattle.ocp_core.proofs.engine.Engine.apply.Goals as goal
 
-pub returns-in-Ok : goal.returns-in-Ok
-returns-in-Ok g c =
+pub returns-in-Request : goal.returns-in-Request
+returns-in-Request g c =
+    let log = c.args.self.now in
     let e = Request c.in-Request.by c.in-Request.time c.in-Request.octets.now in
-    let done = done_event c.args.self.now e (Requested (Ok c.in-Ok.reports)) (sym c.in-Ok.ensures.answer) refl in
-    subst (λ x. IsDone c.args.self.now c.request.new.self (event_of x) (Requested (Ok c.in-Ok.reports))) (sym c.in-Request.is)
-    (record {
-      answer = done.0;
-      world = world_done c.refused_events_change_nothing.ensures c.args.self.now e c.request.new.self c.in-Ok.ensures.journal done.1;
-      journal = c.in-Ok.ensures.journal;
-      room = done.1;
-    })
+    subst (λ x. Applies log c.request.new.self (event_of x) c.replied.result) (sym c.in-Request.is)
+    (subst (Applies log c.request.new.self e) (sym c.replied.ensures)
+    (replied_so c.refused_events_change_nothing.ensures log c.request.new.self e (λ is. c.worlds_have_no_full_journal.ensures.request (world_of log) e (sym is)) refl (λ taken. taken) c.request.result c.request.ensures.answer c.request.ensures.journal c.request.ensures.err))
+
+pub returns-in-Drain : goal.returns-in-Drain
+returns-in-Drain g c =
+    let log = c.args.self.now in
+    let e = Drain c.in-Drain.by c.in-Drain.time in
+    subst (λ x. Applies log c.drain.new.self (event_of x) c.replied-in-Drain.result) (sym c.in-Drain.is)
+    (subst (Applies log c.drain.new.self e) (sym c.replied-in-Drain.ensures)
+    (replied_so c.refused_events_change_nothing.ensures log c.drain.new.self e (λ is. c.worlds_have_no_full_journal.ensures.request (world_of log) e (sym is)) refl (λ taken. taken) c.drain.result c.drain.ensures.answer c.drain.ensures.journal c.drain.ensures.err))
 
 pub returns-in_default : goal.returns-in_default
 returns-in_default g c =
