@@ -4,6 +4,7 @@ use Rattle.std.specs.Prelude.{Result, Ok, Err, nat_le}
 use Rattle.std.specs.FinMap.{get}
 use Rattle.std.proofs.lemmas.List.{append-nil}
 use Rattle.bpf_types.specs.declared.line.Line.{Line}
+use Rattle.obcp_types.specs.declared.pending.Due.{Due}
 use Rattle.obcp_types.specs.declared.status.Status.{Status}
 use Rattle.obcp_types.specs.declared.status.Status.TheVariants.{Inactive, Running, Held}
 use Rattle.obcp_types.specs.declared.failure.StartFailure.TheVariants.{MailboxFull}
@@ -13,7 +14,7 @@ use Rattle.ocp_loader.specs.LoadResult.{load_result}
 use Rattle.ocp_table.specs.declared.control.Pending.{Pending}
 use Rattle.ocp_table.specs.declared.control.Pending.TheVariants as pending
 use Rattle.ocp_table.specs.Records.{Rec, Records}
-use Rattle.ocp_table.specs.Effects.{Loaded, Unloaded, Changed, Kept, Started, Sent, Pended, Quit, Resumed, Stepped, pool_by}
+use Rattle.ocp_table.specs.Effects.{Loaded, Unloaded, Changed, Kept, Started, Sent, Pended, Quit, Resumed, Stepped, pool_by, outbox_by, overtaken_of}
 use Rattle.ocp_table.specs.Effects as table
 use Rattle.ocp_table.specs.RequestTable.{Directive, Load, Unload, Activate, Stop, Suspend, Resume, Abort, Communicate, Step, Decision, Loads, Unloads, Changes, Steps, Fails, transition, sent, pended}
 use Rattle.ocp_table.specs.Deciding.{effect_in, effect_by, effect_of_load, decision_on, status_of, pending_of, words_of, is_full}
@@ -107,6 +108,22 @@ is_request (asked.Communicate words) full = tt
 
 pub directive_leaves_pool : (d : D.Directive) (full : Bool) (id : ℕ) (m : Records) (pool : List ℕ) → pool_by (effect_in (directive_of d full) id m) pool ≡ pool
 directive_leaves_pool d full id m pool = request_leaves_pool (directive_of d full) (is_request d full) id m pool
+
+-- ---- the outbox
+
+-- a procedure that is loaded was not there before
+overtaken_by_load : (o : Option Rec) (id : ℕ) (image : List ℕ) (full : Bool) → effect_by (decision_on (Load image) o) id o full ≡ Loaded id image → overtaken_of o ≡ []
+overtaken_by_load None id image full loads = refl
+overtaken_by_load (Some r) id image full loads = absurd (elim r.control.status as (λ s. effect_by (transition (Load image) (Some s) r.control.pending (length r.mailbox)) id (Some r) full ≡ Loaded id image → ⊥) [
+  | Inactive ↦ λ h. cc
+  | Running ↦ λ h. cc
+  | Held ↦ λ h. cc
+] loads)
+
+pub load_keeps_outbox : (id : ℕ) (image : List ℕ) (m : Records) (outbox : List Due) → effect_in (Load image) id m ≡ Loaded id image → outbox_by (effect_in (Load image) id m) m outbox ≡ outbox
+load_keeps_outbox id image m outbox loads =
+    ap (λ e. outbox_by e m outbox) loads
+    ∙ ap (λ dues. outbox ++ dues) (overtaken_by_load (get m id) id image (is_full m) loads) ∙ append-nil outbox
 
 -- ---- the trace records
 
