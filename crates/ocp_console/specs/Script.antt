@@ -86,7 +86,7 @@ Prints old new run (Err (faults.Syntax n)) = Appends old new run.0 × (run.1 ≡
 abbrev pub Writing : Type 1
 Writing = List ℕ → Result Unit ConsoleFault → Type 0
 
--- a failed read, a failed write and a want of memory, which end a run wherever it stands
+-- a failed read, a failed write and being out of memory, which end a run wherever it stands
 abbrev pub IsFailure : Result Unit ConsoleFault → Type 0
 IsFailure (Ok x) = ⊥
 IsFailure (Err faults.Read) = Unit {0}

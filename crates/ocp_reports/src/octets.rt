@@ -26,7 +26,7 @@ impl<A: Allocator> Octets<A> {
         Octets { octets }
     }
 
-    /// A copy of lent octets.
+    /// A copy of borrowed octets.
     pub fn copy_of(alloc: A, octets: &[u8]) -> Result<Self, AllocError>
         ensures { IfOk result (λ copy. copy ≡ octets.now) }
     {
