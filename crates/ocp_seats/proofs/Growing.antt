@@ -8,7 +8,7 @@ use Rattle.ocp_table.specs.declared.answers.Slice.{Slice}
 use Rattle.ocp_debug.specs.declared.command.Command.{Command}
 use Rattle.ocp_debug.specs.declared.command.DebugFault.{DebugFault}
 use Rattle.ocp_world.specs.declared.answers.EngineFault.{EngineFault}
-use Rattle.ocp_world.specs.World.{Event, Request, Step, Debug}
+use Rattle.ocp_world.specs.World.{Event, Request, Step, Debug, Drain}
 use Rattle.ocp_world.specs.Answers.{Answers}
 use Rattle.ocp_world.specs.Slice.{outcome_in, slice_count, slice_last}
 use Rattle.ocp_world.specs.After.{Answer, Requested, Stepped, Commanded, after, is_accepted}
@@ -20,7 +20,7 @@ use Rattle.ocp_core.specs.declared.answers.CommitOutcome.TheVariants as C
 use Rattle.ocp_core.specs.Tickets.{Worked, IsRun}
 use Rattle.ocp_core.specs.Commits.{Commits}
 use Rattle.ocp_core.specs.Receipts.{reports_in}
-use Rattle.ocp_seats.specs.Receipts.{counted, step_entries, slice_entries, commit_entries, request_entries, command_entries}
+use Rattle.ocp_seats.specs.Receipts.{counted, step_entries, slice_entries, commit_entries, reported, command_entries}
 use Rattle.ocp_seats.specs.Seats.{Grows}
 use Rattle.ocp_seats.proofs.Marking.{marked-with_entry, event_mark, slice_mark, slice_some}
 
@@ -47,6 +47,7 @@ none_full : (e : Event) → event_entries e (full_answer e) ≡ []
 none_full (Request by time octets) = refl
 none_full (Step by id) = refl
 none_full (Debug by id command) = refl
+none_full (Drain by time) = refl
 
 none_refused : (e : Event) (a : Answer) → is_accepted a ≡ false → event_entries e a ≡ []
 none_refused e a refused = ap (λ b. cond b (record { entry = entry_for e; mark = a } ∷ []) []) refused
@@ -83,10 +84,6 @@ step_entries_are by id S.NotLoaded = refl
 step_entries_are by id S.NotRunning = refl
 step_entries_are by id S.JournalFull = refl
 
-request_entries_are : (by time : ℕ) (octets : List ℕ) (r : Result (List (List ℕ)) EngineFault) → event_entries (Request by time octets) (Requested r) ≡ request_entries by time octets r
-request_entries_are by time octets (Ok reports) = refl
-request_entries_are by time octets (Err fault) = refl
-
 command_entries_are : (by id : ℕ) (command : Command) (r : Result (Unit {0}) DebugFault) → event_entries (Debug by id command) (Commanded r) ≡ command_entries by id command r
 command_entries_are by id command (Ok done) = refl
 command_entries_are by id command (Err fault) = refl
@@ -97,12 +94,10 @@ grows_step log new by id o is left = subst (λ es. Grows log new es) (step_entri
 pub grows_command : (log new : Log) (by id : ℕ) (command : Command) (r : Result (Unit {0}) DebugFault) → Commanded r ≡ answer_in log (Debug by id command) → new ≡ log_after log (Debug by id command) → Grows log new (command_entries by id command r)
 grows_command log new by id command r is left = subst (λ es. Grows log new es) (command_entries_are by id command r) (grows_event log new (Debug by id command) (Commanded r) is left)
 
-pub grows_request : (log new : Log) (by time : ℕ) (octets : List ℕ) (reports : List (List ℕ)) → Requested (Ok reports) ≡ answer_in log (Request by time octets) → new ≡ log_after log (Request by time octets) → Grows log new (request_entries by time octets (Ok reports))
-grows_request log new by time octets reports is left = grows_event log new (Request by time octets) (Requested (Ok reports)) is left
-
-pub grows_requested : {E : Type 0} (log new : Log) (by time : ℕ) (octets : List ℕ) (r : Result (List (List ℕ) × E) EngineFault) → Answers (reports_in r) (answer_in log (Request by time octets)) → OnOk r (new ≡ log_after log (Request by time octets)) → OnErr r (new ≡ log) → Grows log new (request_entries by time octets (reports_in r))
-grows_requested log new by time octets (Ok done) is left same = grows_request log new by time octets done.0 (sym is) left
-grows_requested log new by time octets (Err fault) is left same = grows_none log new [] same refl
+-- an event that is answered with reports, a request or a drain
+pub grows_reported : {E : Type 0} (log new : Log) (e : Event) (r : Result (List (List ℕ) × E) EngineFault) → Answers (reports_in r) (answer_in log e) → OnOk r (new ≡ log_after log e) → OnErr r (new ≡ log) → Grows log new (reported (entry_for e) (reports_in r))
+grows_reported log new e (Ok done) is left same = grows_event log new e (Requested (Ok done.0)) (sym is) left
+grows_reported log new e (Err fault) is left same = grows_none log new [] same refl
 
 -- ---- a slice
 

@@ -1,7 +1,7 @@
 -- The mark of an entry that a journal gains.
 use Rattle.std.proofs.Common.{◌≡◌, ℕ, zero, suc, Bool, true, false, cond, List, [], ◌∷◌, ◌++◌, refl, sym, ap, ◌∙◌}
 use Rattle.ocp_table.specs.declared.answers.StepOutcome.{StepOutcome}
-use Rattle.ocp_world.specs.World.{World, Event, Request, Step, Debug, opening}
+use Rattle.ocp_world.specs.World.{World, Event, Request, Step, Debug, Drain, opening}
 use Rattle.ocp_world.specs.After.{After, after}
 use Rattle.ocp_world.specs.Replay.{replay_from}
 use Rattle.ocp_world.specs.Slice.{outcome_in, goes_on, slice_count, slice_last}
@@ -24,6 +24,7 @@ pub event_mark : (w : World) (e : Event) → mark_in w (entry_for e) ≡ (after 
 event_mark w (Request by time octets) = refl
 event_mark w (Step by id) = refl
 event_mark w (Debug by id command) = refl
+event_mark w (Drain by time) = refl
 
 -- the mark of a slice is its last outcome
 pub slice_mark : (w : World) (by id : ℕ) (last : StepOutcome) (budget : ℕ) → last_outcome w by id last (slice_count w by id budget) ≡ slice_last w by id last budget

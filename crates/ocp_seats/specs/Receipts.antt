@@ -10,7 +10,7 @@ use Rattle.ocp_world.specs.declared.answers.EngineFault.{EngineFault}
 use Rattle.ocp_world.specs.After.{Requested, Stepped, Commanded}
 use Rattle.ocp_core.specs.declared.answers.CommitOutcome.{CommitOutcome}
 use Rattle.ocp_core.specs.declared.answers.CommitOutcome.TheVariants as C
-use Rattle.ocp_core.specs.Log.{Asked, Steps, Debugged}
+use Rattle.ocp_core.specs.Log.{Entry, Asked, Steps, Debugged, Drained}
 use Rattle.ocp_core.specs.Marks.{Marked}
 
 -- so many instructions of one procedure, and the outcome of the last
@@ -40,11 +40,18 @@ commit_entries by id C.Stale = []
 commit_entries by id C.JournalFull = []
 commit_entries by id (C.Committed count) = counted by id count S.Ran
 
+-- an entry that was answered with reports, and these reports
+abbrev pub reported : Entry → Result (List (List ℕ)) EngineFault → List Marked
+reported entry (Ok reports) = record { entry = entry; mark = Requested (Ok reports) } ∷ []
+reported entry (Err fault) = []
+
 -- a request, and its reports
 abbrev pub request_entries : ℕ → ℕ → List ℕ → Result (List (List ℕ)) EngineFault → List Marked
-request_entries by time octets (Ok reports) =
-    record { entry = Asked by time octets; mark = Requested (Ok reports) } ∷ []
-request_entries by time octets (Err fault) = []
+request_entries by time octets result = reported (Asked by time octets) result
+
+-- a drain, and its reports
+abbrev pub drain_entries : ℕ → ℕ → Result (List (List ℕ)) EngineFault → List Marked
+drain_entries by time result = reported (Drained by time) result
 
 -- a debugger's command
 abbrev pub command_entries : ℕ → ℕ → Command → Result (Unit {0}) DebugFault → List Marked

@@ -8,10 +8,10 @@ ghost use Rattle.ocp_world.specs.Answers.{Answers};
 ghost use Rattle.ocp_core.specs.Log.{answer_in, log_after};
 ghost use Rattle.ocp_core.specs.Slice.{slice_in, slice_log};
 ghost use Rattle.ocp_core.specs.Commits.{Commits};
-ghost use Rattle.ocp_seats.specs.Receipts.{step_entries, slice_entries, commit_entries, request_entries, command_entries};
+ghost use Rattle.ocp_seats.specs.Receipts.{step_entries, slice_entries, commit_entries, request_entries, drain_entries, command_entries};
 ghost use Rattle.ocp_seats.specs.Seats.{Changed, Gained};
 
-use crate::gains::{clear_break, commit, request, set_break, slice, step, trace};
+use crate::gains::{clear_break, commit, drain, request, set_break, slice, step, trace};
 use crate::{
     Book, CommitOutcome, DebugFault, EngineFault, Entry, Naming, Reports, Seat, Slice, StepOutcome,
     Work,
@@ -41,6 +41,31 @@ impl<L: Naming, A: Allocator> Book<L, A> {
         ensures err { OnErr result ((self.new ≡ self.old) × (seat.new ≡ seat.old)) }
     {
         let (reports, receipt) = request(&mut self.engine, alloc, seat.number, time, octets)?;
+        seat.gain(&mut self.tally, &self.engine, receipt);
+        Ok(reports)
+    }
+
+    /// `Engine::drain` with the seat's number. The memory of the reports and of the two copies that journal and seat keep is
+    /// taken before anything is changed.
+    pub fn drain(
+        &mut self,
+        alloc: A,
+        seat: &mut Seat<L, A>,
+        time: u32,
+    ) -> Result<Reports<A>, EngineFault>
+    where
+        A: Copy,
+        ensures answer { Answers result
+            (answer_in self.old.engine (world.Drain seat.old.number time)) }
+        ensures journal { OnOk result (self.new.engine ≡
+            log_after self.old.engine (world.Drain seat.old.number time)) }
+        ensures book { Changed self.old self.new
+            (drain_entries seat.old.number time result) }
+        ensures seat { Gained seat.old seat.new
+            (drain_entries seat.old.number time result) }
+        ensures err { OnErr result ((self.new ≡ self.old) × (seat.new ≡ seat.old)) }
+    {
+        let (reports, receipt) = drain(&mut self.engine, alloc, seat.number, time)?;
         seat.gain(&mut self.tally, &self.engine, receipt);
         Ok(reports)
     }

@@ -5,12 +5,12 @@ ghost use Rattle.ocp_debug.specs.declared.command.Command.TheVariants as command
 ghost use Rattle.ocp_world.specs.World as world;
 ghost use Rattle.ocp_world.specs.After.{Requested, Stepped, Commanded};
 ghost use Rattle.ocp_world.specs.Answers.{Answers};
-ghost use Rattle.ocp_core.specs.Log.{Asked, answer_in, log_after};
+ghost use Rattle.ocp_core.specs.Log.{Asked, Drained, answer_in, log_after};
 ghost use Rattle.ocp_core.specs.Slice.{slice_in, slice_log};
 ghost use Rattle.ocp_core.specs.Commits.{Commits};
 ghost use Rattle.ocp_core.specs.Journal.{marked_of};
 ghost use Rattle.ocp_core.specs.Receipts.{reports_in};
-ghost use Rattle.ocp_seats.specs.Receipts.{step_entries, slice_entries, commit_entries, request_entries, command_entries};
+ghost use Rattle.ocp_seats.specs.Receipts.{step_entries, slice_entries, commit_entries, request_entries, drain_entries, command_entries};
 ghost use Rattle.ocp_seats.specs.Seats.{Grows};
 
 use crate::{
@@ -37,6 +37,22 @@ pub(crate) fn request<A: Allocator + Copy>(
     ensures err { OnErr result (engine.new ≡ engine.old) }
 {
     engine.request_with_receipt(alloc, by, time, octets)
+}
+
+pub(crate) fn drain<A: Allocator + Copy>(
+    engine: &mut Engine<A>,
+    alloc: A,
+    by: u16,
+    time: u32,
+) -> Result<(Reports<A>, Entry<A>), EngineFault>
+    ensures answer { Answers (reports_in result) (answer_in engine.old (world.Drain by time)) }
+    ensures journal { OnOk result (engine.new ≡ log_after engine.old (world.Drain by time)) }
+    ensures receipt { IfOk result (λ r. marked_of r.1 ≡
+        record { entry = Drained by time; mark = Requested (Ok r.0) }) }
+    ensures gain { Grows engine.old engine.new (drain_entries by time (reports_in result)) }
+    ensures err { OnErr result (engine.new ≡ engine.old) }
+{
+    engine.drain_with_receipt(alloc, by, time)
 }
 
 pub(crate) fn step<A: Allocator>(engine: &mut Engine<A>, by: u16, id: u16) -> StepOutcome

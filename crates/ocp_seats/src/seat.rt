@@ -82,7 +82,8 @@ impl<L: Naming, A: Allocator> Seat<L, A> {
 
     /// Counts an entry that the engine's journal gained by a call of the seat, and keeps its receipt.
     pub(crate) fn gain(&mut self, tally: &mut Book<L>, engine: &Engine<A>, entry: Entry<A>)
-        requires { length engine.now.entries + L.room ≡ engine.now.capacity + (tally.old.total + 1) }
+        requires { length engine.now.entries + L.room ≡
+            engine.now.capacity + (tally.old.total + 1) }
         ensures tally { tally.new.total ≡ tally.old.total + 1 }
         ensures seat { Gained self.old self.new (marked_of entry ∷ []) }
     {

@@ -3,7 +3,7 @@
 ghost use Rattle.std.specs.Prelude.{◌≡◌, ◌≢◌, ◌≤◌, ◌↔◌, ℕ, [], IfOk, IfErr, OnErr};
 ghost use Rattle.ocp_debug.specs.declared.command.Command.TheVariants as command;
 ghost use Rattle.ocp_core.specs.declared.answers.CommitOutcome.TheVariants.{Empty, Committed};
-ghost use Rattle.ocp_seats.specs.Receipts.{step_entries, slice_entries, commit_entries, request_entries, command_entries};
+ghost use Rattle.ocp_seats.specs.Receipts.{step_entries, slice_entries, commit_entries, request_entries, drain_entries, command_entries};
 ghost use Rattle.ocp_seats.specs.Seats.{Gained};
 
 use crate::{
@@ -39,6 +39,16 @@ pub trait Board<L: Naming> {
     ) -> Result<Reports, EngineFault>
         ensures seat { Gained seat.old seat.new
             (request_entries seat.old.number time octets.now result) };
+
+    /// Reports the completions that wait.
+    fn drain(
+        &mut self,
+        alloc: Global,
+        seat: &mut Seat<L>,
+        time: u32,
+    ) -> Result<Reports, EngineFault>
+        ensures seat { Gained seat.old seat.new
+            (drain_entries seat.old.number time result) };
 
     /// Does one instruction of a procedure.
     fn step(&mut self, seat: &mut Seat<L>, id: u16) -> StepOutcome
@@ -121,6 +131,25 @@ impl<L: Naming> Board<L> for Book<L> {
         ensures err { OnErr result ((self.new ≡ self.old) × (seat.new ≡ seat.old)) }
     {
         Book::request(self, alloc, seat, time, octets)
+    }
+
+    fn drain(
+        &mut self,
+        alloc: Global,
+        seat: &mut Seat<L>,
+        time: u32,
+    ) -> Result<Reports, EngineFault>
+        ensures answer { Answers result
+            (answer_in self.old.engine (world.Drain seat.old.number time)) }
+        ensures journal { OnOk result (self.new.engine ≡
+            log_after self.old.engine (world.Drain seat.old.number time)) }
+        ensures book { Changed self.old self.new
+            (drain_entries seat.old.number time result) }
+        ensures seat { Gained seat.old seat.new
+            (drain_entries seat.old.number time result) }
+        ensures err { OnErr result ((self.new ≡ self.old) × (seat.new ≡ seat.old)) }
+    {
+        Book::drain(self, alloc, seat, time)
     }
 
     fn step(&mut self, seat: &mut Seat<L>, id: u16) -> StepOutcome

@@ -3,7 +3,7 @@
 ghost use Rattle.std.specs.Prelude.{◌≡◌, ◌≤◌, ◌+◌, ◌↔◌, ℕ, [], length, IfOk};
 ghost use Rattle.ocp_debug.specs.declared.command.Command.TheVariants as command;
 ghost use Rattle.ocp_core.specs.declared.answers.CommitOutcome.TheVariants.{Empty, Committed};
-ghost use Rattle.ocp_seats.specs.Receipts.{step_entries, slice_entries, commit_entries, request_entries, command_entries};
+ghost use Rattle.ocp_seats.specs.Receipts.{step_entries, slice_entries, commit_entries, request_entries, drain_entries, command_entries};
 ghost use Rattle.ocp_seats.specs.Seats.{Gained};
 
 use crate::{
@@ -89,6 +89,21 @@ impl<L: Naming, B: Board<L>> SharedEngine<L, B> {
             (request_entries seat.old.number time octets.now result) }
     {
         self.board.lock(rt).request(alloc, seat, time, octets)
+    }
+
+    /// Reports the completions that wait, the oldest first, at a time in whole seconds, as the engine's call with the
+    /// seat's number. Refused, in this order, where none waits, where the journal is full, and where there is no memory.
+    pub fn drain<R: Wait>(
+        &self,
+        rt: &R,
+        alloc: Global,
+        seat: &mut Seat<L>,
+        time: u32,
+    ) -> Result<Reports, EngineFault>
+        ensures seat { Gained seat.old seat.new
+            (drain_entries seat.old.number time result) }
+    {
+        self.board.lock(rt).drain(alloc, seat, time)
     }
 
     /// Does one instruction of a procedure, as the engine's call with the seat's number.
