@@ -3,8 +3,8 @@
 use crate::{Command, Octets, Reports, StepOutcome};
 use std::alloc::{Allocator, Global};
 
-/// An event of a run. The octets of a request are borrowed. `by` is the number of the seat that hands it in, and the time is
-/// in whole seconds.
+/// An event of a run. The octets of a request are borrowed. `by` is the number of the seat that
+/// hands it in, and the time is in whole seconds.
 #[derive(Clone, Copy)]
 pub enum Event<'a> {
     Request {
