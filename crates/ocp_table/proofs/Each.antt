@@ -6,17 +6,18 @@ use Rattle.bpf_types.specs.declared.line.Line.{Line}
 use Rattle.obcp_types.specs.declared.status.Status.{Status}
 use Rattle.obcp_types.specs.declared.status.Status.TheVariants.{Inactive, Running, Held}
 use Rattle.obcp_types.specs.declared.failure.StartFailure.{StartFailure}
-use Rattle.obcp_types.specs.declared.failure.StartFailure.TheVariants.{AlreadyLoaded, TableFull, NotLoaded, NotInactive, NotActive, NotRunning, NotHeld, StopPending, MailboxFull}
+use Rattle.obcp_types.specs.declared.failure.StartFailure.TheVariants.{AlreadyLoaded, TableFull, NotLoaded, NotInactive, NotActive, NotRunning, NotHeld, StopPending, MailboxFull, OutboxFull}
 use Rattle.ocp_loader.specs.declared.fault.LoadFault.{LoadFault}
 use Rattle.ocp_loader.specs.LoadResult.{load_result}
 use Rattle.ocp_pool.specs.declared.mailbox.TheConstants.{MAX_MAILBOX_WORDS}
 use Rattle.ocp_table.specs.declared.control.Cause.TheVariants.{Stopped, Aborted}
 use Rattle.ocp_table.specs.declared.control.Pending.{Pending}
+use Rattle.obcp_types.specs.declared.pending.PendingOrigin.{PendingOrigin}
 use Rattle.ocp_table.specs.declared.control.Pending.TheVariants as pending
 use Rattle.ocp_table.specs.declared.answers.InstructionOutcome.{InstructionOutcome}
 use Rattle.ocp_table.specs.Records.{Rec}
 use Rattle.ocp_table.specs.Effects.{Effect, Loaded, Unloaded, Changed, Kept, Started, Sent, Pended, Quit, Resumed, Stepped, Failed}
-use Rattle.ocp_table.specs.RequestTable.{Directive, Load, Unload, Activate, Stop, Suspend, Resume, Abort, Communicate, Step, Changes, Fails, sent, transition}
+use Rattle.ocp_table.specs.RequestTable.{Directive, Load, Unload, Activate, Stop, Suspend, Resume, Abort, Communicate, Step, Changes, Fails, pended, sent, transition}
 use Rattle.ocp_table.specs.Deciding.{bad_code, effect_of_load, outcome_in, effect_of_step, effect_by, effect_on}
 
 -- what has to hold of each form, with what is known where it comes
@@ -26,9 +27,9 @@ pub record Holds (P : Directive → Effect → Type 0) (id : ℕ) (o : Option Re
   pub unloaded : (r : Rec) → o ≡ Some r → r.control.status ≡ Inactive → P Unload (Unloaded id)
   pub started : (arguments : List ℕ) (r : Rec) → o ≡ Some r → r.control.status ≡ Inactive → P (Activate arguments) (Changed id (Started arguments))
   pub sends : (words : List ℕ) (r : Rec) → o ≡ Some r → length r.mailbox + length words ≤ MAX_MAILBOX_WORDS → P (Communicate words) (Changed id (Sent words))
-  pub stop_pends : (s : ℕ) (r : Rec) → o ≡ Some r → r.control.status ≡ Running → P (Stop s) (Changed id (Pended (pending.Stop s)))
-  pub suspend_pends : (s : ℕ) (r : Rec) → o ≡ Some r → r.control.status ≡ Running → P (Suspend s) (Changed id (Pended (pending.Suspend s)))
-  pub stopped : (s : ℕ) (r : Rec) → o ≡ Some r → r.control.status ≡ Held → P (Stop s) (Changed id (Quit Stopped))
+  pub stop_pends : (s : ℕ) (from : PendingOrigin) (r : Rec) → o ≡ Some r → r.control.status ≡ Running → P (Stop s from false) (Changed id (Pended (pending.Stop s from)))
+  pub suspend_pends : (s : ℕ) (from : PendingOrigin) (r : Rec) → o ≡ Some r → r.control.status ≡ Running → P (Suspend s from false) (Changed id (Pended (pending.Suspend s from)))
+  pub stopped : (s : ℕ) (from : PendingOrigin) (no_room : Bool) (r : Rec) → o ≡ Some r → r.control.status ≡ Held → P (Stop s from no_room) (Changed id (Quit Stopped))
   pub aborted : (r : Rec) → o ≡ Some r → P Abort (Changed id (Quit Aborted))
   pub resumed : (r : Rec) → o ≡ Some r → r.control.status ≡ Held → P Resume (Changed id Resumed)
   pub stepped : (pool : List ℕ) (outcome : InstructionOutcome) (r : Rec) → o ≡ Some r → r.control.status ≡ Running → outcome_in r pool ≡ Some outcome → P (Step pool) (Changed id (Stepped outcome))
@@ -50,10 +51,18 @@ each_sent P id o full words there failed fits =
     ] refl
 
 module _ (P : Directive → Effect → Type 0) (id : ℕ) (r : Rec) (full : Bool) (h : Holds P id (Some r) full) where
-  each_pending : (s : ℕ) (p : Pending) (there : ℕ) → r.control.status ≡ Running → P (Suspend s) (effect_by (transition (Suspend s) (Some Running) p there) id (Some r) full)
-  each_pending s pending.Nothing there is = h.suspend_pends s r refl is
-  each_pending s (pending.Suspend t) there is = h.suspend_pends s r refl is
-  each_pending s (pending.Stop t) there is = h.failed (Suspend s) StopPending
+  each_stop : (s : ℕ) (from : PendingOrigin) (no_room : Bool) → r.control.status ≡ Running → P (Stop s from no_room) (effect_by (pended no_room (pending.Stop s from)) id (Some r) full)
+  each_stop s from true is = h.failed (Stop s from true) OutboxFull
+  each_stop s from false is = h.stop_pends s from r refl is
+
+  each_suspend : (s : ℕ) (from : PendingOrigin) (no_room : Bool) → r.control.status ≡ Running → P (Suspend s from no_room) (effect_by (pended no_room (pending.Suspend s from)) id (Some r) full)
+  each_suspend s from true is = h.failed (Suspend s from true) OutboxFull
+  each_suspend s from false is = h.suspend_pends s from r refl is
+
+  each_pending : (s : ℕ) (from : PendingOrigin) (no_room : Bool) (p : Pending) (there : ℕ) → r.control.status ≡ Running → P (Suspend s from no_room) (effect_by (transition (Suspend s from no_room) (Some Running) p there) id (Some r) full)
+  each_pending s from no_room pending.Nothing there is = each_suspend s from no_room is
+  each_pending s from no_room (pending.Suspend t older) there is = each_suspend s from no_room is
+  each_pending s from no_room (pending.Stop t older) there is = h.failed (Suspend s from no_room) StopPending
 
   each_words : (words : List ℕ) → P (Communicate words) (effect_by (sent words (length r.mailbox)) id (Some r) full)
   each_words words = each_sent (P (Communicate words)) id (Some r) full words (length r.mailbox) (h.failed (Communicate words) MailboxFull) (λ fits. h.sends words r refl fits)
@@ -68,12 +77,12 @@ module _ (P : Directive → Effect → Type 0) (id : ℕ) (r : Rec) (full : Bool
   each_of (Activate arguments) Inactive is = h.started arguments r refl is
   each_of (Activate arguments) Running is = h.failed (Activate arguments) NotInactive
   each_of (Activate arguments) Held is = h.failed (Activate arguments) NotInactive
-  each_of (Stop s) Inactive is = h.failed (Stop s) NotActive
-  each_of (Stop s) Running is = h.stop_pends s r refl is
-  each_of (Stop s) Held is = h.stopped s r refl is
-  each_of (Suspend s) Inactive is = h.failed (Suspend s) NotRunning
-  each_of (Suspend s) Running is = each_pending s r.control.pending (length r.mailbox) is
-  each_of (Suspend s) Held is = h.failed (Suspend s) NotRunning
+  each_of (Stop s from no_room) Inactive is = h.failed (Stop s from no_room) NotActive
+  each_of (Stop s from no_room) Running is = each_stop s from no_room is
+  each_of (Stop s from no_room) Held is = h.stopped s from no_room r refl is
+  each_of (Suspend s from no_room) Inactive is = h.failed (Suspend s from no_room) NotRunning
+  each_of (Suspend s from no_room) Running is = each_pending s from no_room r.control.pending (length r.mailbox) is
+  each_of (Suspend s from no_room) Held is = h.failed (Suspend s from no_room) NotRunning
   each_of Resume Inactive is = h.failed Resume NotHeld
   each_of Resume Running is = h.failed Resume NotHeld
   each_of Resume Held is = h.resumed r refl is
@@ -92,8 +101,8 @@ each P id (Some r) full h d = each_of P id r full h d r.control.status refl
 each P id None full h (Load image) = each_load (P (Load image)) id full (load_result image) image (h.failed (Load image)) (h.loaded image refl)
 each P id None full h Unload = h.failed Unload NotLoaded
 each P id None full h (Activate arguments) = h.failed (Activate arguments) NotLoaded
-each P id None full h (Stop s) = h.failed (Stop s) NotLoaded
-each P id None full h (Suspend s) = h.failed (Suspend s) NotLoaded
+each P id None full h (Stop s from no_room) = h.failed (Stop s from no_room) NotLoaded
+each P id None full h (Suspend s from no_room) = h.failed (Suspend s from no_room) NotLoaded
 each P id None full h Resume = h.failed Resume NotLoaded
 each P id None full h Abort = h.failed Abort NotLoaded
 each P id None full h (Communicate words) = h.failed (Communicate words) NotLoaded

@@ -4,6 +4,7 @@ pub mod Each
 pub mod Totals
 pub mod Weighing
 pub mod Rooms
+pub mod Asked
 pub mod Lawful
 pub mod Tables
 pub mod Rows
