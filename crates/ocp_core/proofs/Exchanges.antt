@@ -1,15 +1,22 @@
 -- Two adjacent instruction events of two procedures, of which at most one is an engine call, an end or a fault, may be
 -- exchanged.
 use Rattle.std.proofs.Common.{◌≡◌, ◌≢◌, ◌+◌, ℕ, List, [], ◌∷◌, ◌++◌, Option, Some, None, Bool, true, false, cond, inl, inr, refl, sym, ap, subst, ◌∙◌, append_assoc, length}
-use Rattle.std.specs.Prelude.{◌==◌, ◌⊎◌}
+use Rattle.std.specs.Prelude.{◌==◌, ◌⊎◌, Result, Ok, Err}
 use Rattle.std.proofs.lemmas.Bool.{ne_eqb, eqb-true, eqb-false, and_cases}
 use Rattle.std.proofs.lemmas.List.{append-nil}
 use Rattle.std.specs.Cmp.{nat_cmp_total}
 use Rattle.std.specs.FinMap.{get, same_map, nat_cmp-IsAntisymmetric}
+use Rattle.pus_fields.specs.declared.fault.TcFault.{TcFault}
+use Rattle.pus_fields.specs.declared.fault.TcFault.TheVariants.{Discarded, Rejected}
+use Rattle.pus_fields.specs.Telecommand.{Telecommand}
+use Rattle.pus_fields.specs.TelecommandFaults.{telecommand_of}
+use Rattle.obcp_types.specs.declared.failure.RequestFault.{RequestFault}
 use Rattle.obcp_types.specs.declared.failure.StartFailure.{StartFailure}
 use Rattle.obcp_types.specs.declared.failure.StartFailure.TheVariants.{NotLoaded, NotRunning}
 use Rattle.obcp_types.specs.declared.status.Status.{Status}
 use Rattle.obcp_types.specs.declared.status.Status.TheVariants.{Inactive, Running, Held}
+use Rattle.obcp_messages.specs.declared.request.Request.{Request as Command}
+use Rattle.obcp_messages.specs.declared.request.Request.TheVariants as command
 use Rattle.bpf_step.specs.declared.answer.Need.TheVariants as need
 use Rattle.bpf_step.specs.Machine.{Outcome, Next, Needs, NoInstruction, read}
 use Rattle.bpf_step.specs.Runs.{breaks_at}
@@ -29,6 +36,9 @@ use Rattle.ocp_debug.specs.declared.trace.Trace.{Trace}
 use Rattle.ocp_debug.specs.Traces.{traces_by, traces_by_change}
 use Rattle.ocp_world.specs.World.{World, Event, Request, Step, Debug, Drain}
 use Rattle.ocp_world.specs.Effect.{Reply, Discards, Sends, Steps, Commands, Undue}
+use Rattle.ocp_reports.specs.declared.origin.Origin.{Origin}
+use Rattle.ocp_reports.specs.Origin.{origin_of}
+use Rattle.ocp_world.specs.Requests.{command_effect, command_of, service_effect, request_effect}
 use Rattle.ocp_world.specs.Instructions.{instruction_effect}
 use Rattle.ocp_world.specs.After.{Answer, answer_by, events_by, is_done, effect_of, world_after, after}
 use Rattle.ocp_world.specs.After as world
@@ -47,8 +57,28 @@ abbrev made : World → List Event → List Trace
 made w [] = []
 made w (e ∷ es) = traces_made w e ++ made (after w e).world es
 
+command-retraced : (w : World) (traces : List Trace) (request : Command) (origin : Origin) → command_effect request origin (retraced w traces) ≡ command_effect request origin w
+command-retraced w traces (command.Load id code) origin = refl
+command-retraced w traces (command.Unload id) origin = refl
+command-retraced w traces (command.Activate id arguments) origin = refl
+command-retraced w traces (command.Stop id step) origin = refl
+command-retraced w traces (command.Suspend id step) origin = refl
+command-retraced w traces (command.Resume id) origin = refl
+command-retraced w traces (command.Communicate id words) origin = refl
+command-retraced w traces command.Status origin = refl
+command-retraced w traces (command.Abort id) origin = refl
+
+service-retraced : (w : World) (traces : List Trace) (r : Result Command RequestFault) (origin : Origin) → service_effect r origin (retraced w traces) ≡ service_effect r origin w
+service-retraced w traces (Ok request) origin = command-retraced w traces request origin
+service-retraced w traces (Err fault) origin = refl
+
+request-retraced : (w : World) (traces : List Trace) (r : Result Telecommand TcFault) (time : ℕ) → request_effect r time (retraced w traces) ≡ request_effect r time w
+request-retraced w traces (Ok tc) time = service-retraced w traces (command_of tc) (origin_of tc time)
+request-retraced w traces (Err (Rejected rejection request)) time = refl
+request-retraced w traces (Err (Discarded cause)) time = refl
+
 effect-retraced : (w : World) (traces : List Trace) (e : Event) → effect_of (retraced w traces) e ≡ effect_of w e
-effect-retraced w traces (Request by time octets) = refl
+effect-retraced w traces (Request by time octets) = request-retraced w traces (telecommand_of w.apid octets) time
 effect-retraced w traces (Step by id) = refl
 effect-retraced w traces (Debug by id command) = refl
 effect-retraced w traces (Drain by time) = refl

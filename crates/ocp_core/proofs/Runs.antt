@@ -150,14 +150,14 @@ module _ (keeps : (w : World) (e : Event) → is_accepted (after w e).answer ≡
       let stays : new ≡ log_after log e = same ∙ refused_log log log refl e (sym (ap is_accepted done.0)) in
       record { answer = done.0; world = world_done keeps log e new stays done.1; journal = stays; room = done.1 }
 
-  pub replied_so : {A : Type 0} → full_answer e ≢ (after (world_of log) e).answer → full_answer e ≡ Requested (Err engine.JournalFull) → (is_accepted (answer_in log e) ≡ true → TakesMemory log e) → (r : Result (List (List ℕ)) EngineFault) → Answers r (answer_in log e) → OnOk r (new ≡ log_after log e) → OnErr r (new ≡ log) → Applies {A} log new e (replied r)
-  replied_so never full takes (Ok reports) told ok err =
+  pub replied_so : (A : Type 0) → full_answer e ≢ (after (world_of log) e).answer → full_answer e ≡ Requested (Err engine.JournalFull) → (is_accepted (answer_in log e) ≡ true → TakesMemory log e) → (r : Result (List (List ℕ)) EngineFault) → Answers r (answer_in log e) → OnOk r (new ≡ log_after log e) → OnErr r (new ≡ log) → Applies {A = A} log new e (replied r)
+  replied_so A never full takes (Ok reports) told ok err =
       let done = done_event log e (Requested (Ok reports)) (sym told) refl in
       record { answer = done.0; world = world_done keeps log e new ok done.1; journal = ok; room = done.1 }
-  replied_so never full takes (Err engine.JournalFull) told ok err = (full_event log e never (full ∙ sym told), err)
-  replied_so never full takes (Err engine.Memory) told ok err = (takes told, err)
-  replied_so never full takes (Err (engine.Discarded cause)) told ok err = refused_done (engine.Discarded cause) refl (sym told) err
-  replied_so never full takes (Err engine.NothingDue) told ok err = refused_done engine.NothingDue refl (sym told) err
+  replied_so A never full takes (Err engine.JournalFull) told ok err = (full_event log e never (full ∙ sym told), err)
+  replied_so A never full takes (Err engine.Memory) told ok err = (takes told, err)
+  replied_so A never full takes (Err (engine.Discarded cause)) told ok err = refused_done (engine.Discarded cause) refl (sym told) err
+  replied_so A never full takes (Err engine.NothingDue) told ok err = refused_done engine.NothingDue refl (sym told) err
 
 -- ---- journals after events, one after another
 
