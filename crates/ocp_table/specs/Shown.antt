@@ -1,9 +1,11 @@
 -- What contracts see of a record and of a directive, and what readers show of a record.
-use Rattle.std.specs.Prelude.{◌≡◌, ◌≤◌, ℕ, Bool, true, List, map, length, Option, Some, None, Result, Ok, Err}
+use Rattle.std.specs.Prelude.{◌≡◌, ◌≤◌, ℕ, Bool, true, List, [], map, length, Option, Some, None, Result, Ok, Err}
 use Rattle.std.specs.FinMap.{entries}
 use Rattle.obcp_types.specs.declared.failure.StartFailure.{StartFailure}
 use Rattle.obcp_types.specs.declared.status.StatusRow.{StatusRow}
 use Rattle.ocp_regions.specs.declared.regions.TheConstants.{ARGUMENT_OCTETS}
+use Rattle.obcp_types.specs.declared.pending.Due.{Due}
+use Rattle.ocp_table.specs.declared.control.Pending.{Pending}
 use Rattle.ocp_table.specs.declared.control.Pending.TheVariants as pending
 use Rattle.ocp_table.specs.declared.view.View.{View}
 use Rattle.ocp_table.specs.declared.directive.Directive as D
@@ -11,7 +13,7 @@ use Rattle.ocp_table.specs.declared.directive.Directive.TheVariants as directive
 use Rattle.ocp_table.specs.declared.answers.InstructionOutcome.{InstructionOutcome}
 use Rattle.ocp_table.specs.declared.record.Record.{Record}
 use Rattle.ocp_table.specs.Records.{Rec, Records}
-use Rattle.ocp_table.specs.Effects.{Effect, Changed, Kept, Stepped, Failed, new_record}
+use Rattle.ocp_table.specs.Effects.{Effect, Unloaded, Changed, Kept, Stepped, Failed, new_record, overtaken, filed_by_change}
 use Rattle.ocp_table.specs.RequestTable.{Directive, Activate, Stop, Suspend, Resume, Abort, Communicate}
 use Rattle.ocp_table.specs.Deciding.{effect_on}
 
@@ -50,6 +52,12 @@ directive_of (directive.Communicate words) full = Communicate words.now
 -- asked
 abbrev pub effect_of_record : {A : Type 0} → Directive → Record A → Effect
 effect_of_record directive r = effect_on directive (id_of r) (Some (shown r)) true
+
+-- what an effect on the own record files, by what is pending there
+abbrev pub filed_of_effect : Effect → Pending → List Due
+filed_of_effect (Changed id change) pending = filed_by_change change pending
+filed_of_effect (Unloaded id) pending = overtaken pending
+filed_of_effect effect pending = []
 
 -- arguments that the machine's memory has room for
 abbrev pub HasFewArguments : Directive → Type 0

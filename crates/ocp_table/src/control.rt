@@ -33,8 +33,8 @@ pub struct Control {
     pub cause: Cause,
 }
 
-// Whether what is pending for a step is done at the end of this one.
-fn matches(wanted: u16, step: u16) -> bool
+/// Whether what is pending for a step is done at the end of this one.
+pub(crate) fn matches(wanted: u16, step: u16) -> bool
     ensures { result ≡ matches wanted step }
 {
     wanted == 0 || wanted == step

@@ -1,7 +1,7 @@
 //! The request table: what a request asks of a procedure that is loaded, and where that fails.
 
 use crate::{Control, Pending};
-use obcp_types::{StartFailure, Status};
+use obcp_types::{PendingOrigin, StartFailure, Status};
 use ocp_pool::Mailbox;
 
 /// What a request asks of a procedure that is loaded.
@@ -9,10 +9,10 @@ use ocp_pool::Mailbox;
 pub enum Directive<'a> {
     /// To start from its first instruction, with these arguments.
     Activate(&'a [u8]),
-    /// To end at the end of a step: of any where the number is 0.
-    Stop(u16),
-    /// To be held at the end of a step: of any where the number is 0.
-    Suspend(u16),
+    /// To end at the end of a step: of any where the number is 0. Its completion is reported to the origin.
+    Stop(u16, PendingOrigin),
+    /// To be held at the end of a step: of any where the number is 0. Its completion is reported to the origin.
+    Suspend(u16, PendingOrigin),
     /// To run on.
     Resume,
     /// To end at once.
@@ -26,28 +26,34 @@ impl Directive<'_> {
     ghost use Rattle.ocp_table.specs.RequestTable.{transition, failure_by};
     ghost use Rattle.ocp_table.specs.Shown.{directive_of};
 
-    /// Why it fails for a procedure with this control and mailbox.
-    pub(crate) fn failure(&self, control: Control, mailbox: &Mailbox) -> Option<StartFailure>
+    /// Why it fails for a procedure with this control and mailbox, where all places for pending and unreported
+    /// completions are taken or not.
+    pub(crate) fn failure(
+        &self,
+        control: Control,
+        mailbox: &Mailbox,
+        full: bool,
+    ) -> Option<StartFailure>
         ensures { result ≡
-            failure_by (transition (directive_of self.now) (Some control.status) control.pending
-            (length mailbox.now)) }
+            failure_by (transition (directive_of self.now full) (Some control.status)
+            control.pending (length mailbox.now)) }
     {
         match (self, control.status) {
             (Directive::Activate(_), Status::Inactive) => None,
             (Directive::Activate(_), Status::Running) => Some(StartFailure::NotInactive),
             (Directive::Activate(_), Status::Held) => Some(StartFailure::NotInactive),
 
-            (Directive::Stop(_), Status::Inactive) => Some(StartFailure::NotActive),
-            (Directive::Stop(_), Status::Running) => None,
-            (Directive::Stop(_), Status::Held) => None,
+            (Directive::Stop(_, _), Status::Inactive) => Some(StartFailure::NotActive),
+            (Directive::Stop(_, _), Status::Running) => no_place(full),
+            (Directive::Stop(_, _), Status::Held) => None,
 
-            (Directive::Suspend(_), Status::Inactive) => Some(StartFailure::NotRunning),
-            (Directive::Suspend(_), Status::Running) => match control.pending {
-                Pending::Stop(_) => Some(StartFailure::StopPending),
-                Pending::Suspend(_) => None,
-                Pending::Nothing => None,
+            (Directive::Suspend(_, _), Status::Inactive) => Some(StartFailure::NotRunning),
+            (Directive::Suspend(_, _), Status::Running) => match control.pending {
+                Pending::Stop(_, _) => Some(StartFailure::StopPending),
+                Pending::Suspend(_, _) => no_place(full),
+                Pending::Nothing => no_place(full),
             },
-            (Directive::Suspend(_), Status::Held) => Some(StartFailure::NotRunning),
+            (Directive::Suspend(_, _), Status::Held) => Some(StartFailure::NotRunning),
 
             (Directive::Resume, Status::Inactive) => Some(StartFailure::NotHeld),
             (Directive::Resume, Status::Running) => Some(StartFailure::NotHeld),
@@ -64,6 +70,16 @@ impl Directive<'_> {
     }
 }
 
+// Why nothing becomes pending: no place is free for it.
+fn no_place(full: bool) -> Option<StartFailure>
+    ensures { (pending : Entry) → result ≡ failure_by (pended full pending) }
+{
+    if full {
+        return Some(StartFailure::OutboxFull);
+    }
+    None
+}
+
 // Why words are not taken: there is no room for all of them.
 fn no_room(mailbox: &Mailbox, words: &[u64]) -> Option<StartFailure>
     ensures { result ≡ failure_by (sent words.now (length mailbox.now)) }
@@ -75,4 +91,5 @@ fn no_room(mailbox: &Mailbox, words: &[u64]) -> Option<StartFailure>
 }
 
 ghost use Rattle.std.specs.Prelude.{◌≡◌, length};
-ghost use Rattle.ocp_table.specs.RequestTable.{failure_by, sent};
+ghost use Rattle.ocp_table.specs.declared.control.Pending.{Pending as Entry};
+ghost use Rattle.ocp_table.specs.RequestTable.{failure_by, pended, sent};

@@ -9,7 +9,7 @@ ghost use Rattle.ocp_table.specs.Records.{Rec, Records};
 ghost use Rattle.ocp_table.specs.Effects.{Effect, Change, Changed, records_by, failure_of};
 ghost use Rattle.ocp_table.specs.RequestTable.{Directive as Asked, Step};
 ghost use Rattle.ocp_table.specs.Deciding.{effect_in, status_of};
-ghost use Rattle.ocp_table.specs.Slices.{RunsBy, Leads, with_machine, last_ran};
+ghost use Rattle.ocp_table.specs.Slices.{Store, RunsBy, Leads, with_machine, last_ran};
 ghost use Rattle.ocp_table.specs.Laws.{machine_of, run_of, IsRequest, IsKeptOrStarted, IsDebugging, LeavesMachines};
 
 /// What fails changes nothing at all.
@@ -53,11 +53,15 @@ pub fn debugging_keeps_runs()
 /// Instructions that a machine does by itself are as many instruction events of its procedure: each is answered so, and a
 /// slice goes on after it. They move the machine, and the pass flag goes off with the first.
 pub fn local_instructions_are_events()
-    ensures { (m : Records) (pool : List ℕ) (id n : ℕ) (r : Rec) (machine : State)
-        (last : StepOutcome) → RunsBy m id r n machine →
+    ensures { (s : Store) (id n : ℕ) (r : Rec) (machine : State) (last : StepOutcome) →
+        RunsBy s.records id r n machine →
         Leads id n
-        (record { records = m; pool = pool })
+        s
         last
-        (record { records = insert m id (with_machine n machine r); pool = pool })
+        (record {
+          records = insert s.records id (with_machine n machine r);
+          outbox = s.outbox;
+          pool = s.pool;
+        })
         (last_ran n last) }
 {}

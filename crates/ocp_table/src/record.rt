@@ -1,4 +1,7 @@
-use crate::{Cause, Control, Directive, Execution, InstructionOutcome, Pending, View};
+use crate::outbox::Outbox;
+use crate::{
+    Cause, Control, Directive, Execution, InstructionOutcome, OUTBOX_PLACES, Pending, View,
+};
 use arrayvec::ArrayVec;
 use bpf_step::{Machine, breaks_at};
 use obcp_types::{StartFailure, Status};
@@ -20,13 +23,14 @@ pub struct Record<A: Allocator> {
 }
 
 impl<A: Allocator> Record<A> {
-    ghost use Rattle.std.specs.Prelude.{◌≡◌, ◌≤◌, [], None, Some, Ok, Err, length, true};
+    ghost use Rattle.std.specs.Prelude.{◌≡◌, ◌≤◌, ◌+◌, ◌++◌, Bool, [], None, Some, Ok, Err, length, true, false};
     ghost use Rattle.obcp_types.specs.declared.status.Status.TheVariants.{Running};
     ghost use Rattle.bpf_step.specs.Machine.{started};
-    ghost use Rattle.ocp_table.specs.Effects.{Started, Stepped, new_record, record_by, record_after, failure_of, start_result, pool_by_outcome};
+    ghost use Rattle.ocp_table.specs.Effects.{Started, Stepped, new_record, record_by, record_after, filed_by_outcome, failure_of, start_result, is_pended, pool_by_outcome};
     ghost use Rattle.ocp_table.specs.RequestTable.{failure_by};
     ghost use Rattle.ocp_table.specs.Deciding.{decision_on, outcome_in};
-    ghost use Rattle.ocp_table.specs.Shown.{shown, view_of, directive_of, effect_of_record, HasFewArguments};
+    ghost use Rattle.ocp_table.specs.Shown.{shown, view_of, directive_of, effect_of_record, filed_of_effect, HasFewArguments};
+    ghost use Rattle.ocp_table.specs.Outbox.{places_of};
 
     /// A procedure that was loaded.
     pub(crate) fn new(id: u16, execution: Execution<A>) -> Self
@@ -44,39 +48,88 @@ impl<A: Allocator> Record<A> {
         }
     }
 
-    /// Decides: why a directive fails.
-    pub(crate) fn failure(&self, directive: &Directive<'_>) -> Option<StartFailure>
+    /// Decides: why a directive fails, where all places for completions are taken or not.
+    pub(crate) fn failure(&self, directive: &Directive<'_>, full: bool) -> Option<StartFailure>
         ensures table { result ≡
-            failure_by (decision_on (directive_of directive.now) (Some (shown self.now))) }
+            failure_by (decision_on (directive_of directive.now full) (Some (shown self.now))) }
         ensures effect { result ≡
-            failure_of (effect_of_record (directive_of directive.now) self.now) }
+            failure_of (effect_of_record (directive_of directive.now full) self.now) }
     {
-        directive.failure(self.control, &self.mailbox)
+        directive.failure(self.control, &self.mailbox, full)
     }
 
-    /// Enacts a directive, or fails and changes nothing.
-    pub(crate) fn apply(&mut self, directive: &Directive<'_>) -> Result<(), StartFailure>
-        requires { HasFewArguments (directive_of directive.now) }
+    /// Decides: whether a directive becomes pending.
+    pub(crate) fn becomes_pending(&self, directive: &Directive<'_>, full: bool) -> bool
+        ensures { result ≡
+            is_pended (effect_of_record (directive_of directive.now full) self.now) }
+    {
+        match (directive, self.control.status) {
+            (Directive::Stop(_, _), Status::Running) => !full,
+            (Directive::Suspend(_, _), Status::Running) => match self.control.pending {
+                Pending::Stop(_, _) => false,
+                Pending::Suspend(_, _) => !full,
+                Pending::Nothing => !full,
+            },
+            _ => false,
+        }
+    }
+
+    /// Enacts a directive, or fails and changes nothing. What it overtakes goes to the outbox.
+    pub(crate) fn apply(
+        &mut self,
+        directive: &Directive<'_>,
+        full: bool,
+        outbox: &mut Outbox,
+    ) -> Result<(), StartFailure>
+        requires few { HasFewArguments (directive_of directive.now false) }
+        requires place { length outbox.old + places_of self.old.control.pending ≤ OUTBOX_PLACES }
         ensures answer { result ≡
-            start_result (effect_of_record (directive_of directive.now) self.old) }
+            start_result (effect_of_record (directive_of directive.now full) self.old) }
         ensures record { shown self.new ≡
-            record_after (effect_of_record (directive_of directive.now) self.old) (shown self.old) }
+            record_after (effect_of_record (directive_of directive.now full) self.old)
+            (shown self.old) }
+        ensures outbox { outbox.new ≡ outbox.old
+            ++ filed_of_effect (effect_of_record (directive_of directive.now full) self.old)
+            self.old.control.pending }
         ensures id { self.new.id ≡ self.old.id }
     {
-        if let Some(failure) = self.failure(directive) {
+        if let Some(failure) = self.failure(directive, full) {
             return Err(failure);
         }
+        self.overtake(directive, outbox);
         self.enact(directive);
         Ok(())
     }
 
+    // Files what a directive overtakes that does not fail.
+    fn overtake(&self, directive: &Directive<'_>, outbox: &mut Outbox)
+        requires { length outbox.old + places_of self.now.control.pending ≤ OUTBOX_PLACES }
+        ensures { (full : Bool) →
+            failure_by (decision_on (directive_of directive.now full) (Some (shown self.now))) ≡
+            None →
+            outbox.new ≡ outbox.old
+            ++ filed_of_effect (effect_of_record (directive_of directive.now full) self.now)
+            self.now.control.pending }
+    {
+        match directive {
+            Directive::Activate(_) => outbox.overtake(self.control.pending),
+            Directive::Stop(_, _) => outbox.overtake(self.control.pending),
+            Directive::Suspend(_, _) => outbox.overtake(self.control.pending),
+            Directive::Resume => {}
+            Directive::Abort => outbox.overtake(self.control.pending),
+            Directive::Communicate(_) => {}
+        }
+    }
+
     // Enacts a directive that does not fail.
     fn enact(&mut self, directive: &Directive<'_>)
-        requires few { HasFewArguments (directive_of directive.now) }
-        requires decided { failure_by (decision_on (directive_of directive.now)
-            (Some (shown self.old))) ≡ None }
-        ensures record { shown self.new ≡
-            record_after (effect_of_record (directive_of directive.now) self.old) (shown self.old) }
+        requires { HasFewArguments (directive_of directive.now false) }
+        ensures record { (full : Bool) →
+            failure_by (decision_on (directive_of directive.now full) (Some (shown self.old))) ≡
+            None →
+            shown self.new ≡
+            record_after (effect_of_record (directive_of directive.now full) self.old)
+            (shown self.old) }
         ensures id { self.new.id ≡ self.old.id }
     {
         match directive {
@@ -85,11 +138,13 @@ impl<A: Allocator> Record<A> {
                 self.mailbox.clear();
                 self.control = Control::running();
             }
-            Directive::Stop(step) => match self.control.status {
+            Directive::Stop(step, origin) => match self.control.status {
                 Status::Held => self.control = Control::inactive(Cause::Stopped),
-                _ => self.control.pending = Pending::Stop(*step),
+                _ => self.control.pending = Pending::Stop(*step, *origin),
             },
-            Directive::Suspend(step) => self.control.pending = Pending::Suspend(*step),
+            Directive::Suspend(step, origin) => {
+                self.control.pending = Pending::Suspend(*step, *origin);
+            }
             Directive::Resume => {
                 self.control.status = Status::Running;
                 self.control.pass = true;
@@ -124,26 +179,38 @@ impl<A: Allocator> Record<A> {
         }
     }
 
-    /// The instruction event of a running procedure, or it fails and changes nothing.
+    /// The instruction event of a running procedure, or it fails and changes nothing. What it completes or overtakes goes
+    /// to the outbox.
     #[inline(always)]
-    pub(crate) fn step(&mut self, pool: &mut Pool<A>) -> Result<InstructionOutcome, StartFailure>
+    pub(crate) fn step(
+        &mut self,
+        pool: &mut Pool<A>,
+        outbox: &mut Outbox,
+    ) -> Result<InstructionOutcome, StartFailure>
+        requires { length outbox.old + places_of self.old.control.pending ≤ OUTBOX_PLACES }
         ensures answer { AnswersStep result (effect_of_record (Step pool.old) self.old) }
         ensures record { shown self.new ≡
             record_after (effect_of_record (Step pool.old) self.old) (shown self.old) }
+        ensures outbox { outbox.new ≡ outbox.old
+            ++ filed_of_effect (effect_of_record (Step pool.old) self.old)
+            self.old.control.pending }
         ensures pool { pool.new ≡ pool_by (effect_of_record (Step pool.old) self.old) pool.old }
         ensures id { self.new.id ≡ self.old.id }
     {
         match self.control.status {
-            Status::Running => Ok(self.instruction(pool)),
+            Status::Running => Ok(self.instruction(pool, outbox)),
             Status::Inactive | Status::Held => Err(StartFailure::NotRunning),
         }
     }
 
     // The instruction event of a running procedure.
     #[inline(always)]
-    fn instruction(&mut self, pool: &mut Pool<A>) -> InstructionOutcome
+    fn instruction(&mut self, pool: &mut Pool<A>, outbox: &mut Outbox) -> InstructionOutcome
+        requires { length outbox.old + places_of self.old.control.pending ≤ OUTBOX_PLACES }
         ensures outcome { outcome_in (shown self.old) pool.old ≡ Some result }
         ensures record { shown self.new ≡ record_by (Stepped result) (shown self.old) }
+        ensures outbox { outbox.new ≡ outbox.old
+            ++ filed_by_outcome result self.old.control.pending }
         ensures pool { pool.new ≡ pool_by_outcome result pool.old }
         ensures id { self.new.id ≡ self.old.id }
     {
@@ -152,6 +219,7 @@ impl<A: Allocator> Record<A> {
             return InstructionOutcome::Broke;
         }
         let outcome = self.execution.step(pool, &mut self.mailbox);
+        outbox.file(self.control.pending, outcome);
         self.control = self.control.after(outcome);
         outcome
     }

@@ -1,15 +1,17 @@
 //! A slice of a procedure that is found once.
-ghost use Rattle.std.specs.Prelude.{◌≡◌, ◌≤◌, Some, if◌then◌else◌, false};
+ghost use Rattle.std.specs.Prelude.{◌≡◌, ◌≤◌, ◌+◌, ◌++◌, length, Some, if◌then◌else◌, false};
 ghost use Rattle.std.specs.FinMap.{get};
 ghost use Rattle.obcp_types.specs.declared.status.Status.TheVariants.{Running};
 ghost use Rattle.bpf_step.specs.Runs.{local_run};
 ghost use Rattle.ocp_table.specs.Records.{Records};
 ghost use Rattle.ocp_table.specs.Effects.{record_after, pool_by, step_outcome};
 ghost use Rattle.ocp_table.specs.RequestTable.{Step};
-ghost use Rattle.ocp_table.specs.Shown.{shown, effect_of_record};
+ghost use Rattle.ocp_table.specs.Outbox.{places_of};
+ghost use Rattle.ocp_table.specs.Shown.{shown, effect_of_record, filed_of_effect};
 ghost use Rattle.ocp_table.specs.Slices.{is_on, is_running_status, with_machine, IsSlice};
 
-use crate::{Pool, Record, Slice, Status, StepOutcome};
+use crate::outbox::Outbox;
+use crate::{OUTBOX_PLACES, Pool, Record, Slice, Status, StepOutcome};
 use std::alloc::Allocator;
 
 impl<A: Allocator> Record<A> {
@@ -48,14 +50,19 @@ impl<A: Allocator> Record<A> {
 
     // One instruction event.
     #[inline(never)]
-    fn event(&mut self, pool: &mut Pool<A>) -> StepOutcome
+    fn event(&mut self, pool: &mut Pool<A>, outbox: &mut Outbox) -> StepOutcome
+        requires { length outbox.old + places_of self.old.control.pending ≤ OUTBOX_PLACES }
         ensures answer { result ≡ step_outcome (effect_of_record (Step pool.old) self.old) }
         ensures record { shown self.new ≡
             record_after (effect_of_record (Step pool.old) self.old) (shown self.old) }
+        ensures outbox { outbox.new ≡ outbox.old
+            ++ filed_of_effect (effect_of_record (Step pool.old) self.old)
+            self.old.control.pending }
+        ensures place { length outbox.new + places_of self.new.control.pending ≤ OUTBOX_PLACES }
         ensures pool { pool.new ≡ pool_by (effect_of_record (Step pool.old) self.old) pool.old }
         ensures id { self.new.id ≡ self.old.id }
     {
-        StepOutcome::of(self.step(pool))
+        StepOutcome::of(self.step(pool, outbox))
     }
 
     // Whether a slice goes on after this outcome.
@@ -68,10 +75,14 @@ impl<A: Allocator> Record<A> {
     }
 
     // A slice of a running procedure: what needs no engine is done in stretches, and what does as an event.
-    fn run_slice(&mut self, pool: &mut Pool<A>, budget: u32) -> Slice
+    fn run_slice(&mut self, pool: &mut Pool<A>, outbox: &mut Outbox, budget: u32) -> Slice
         requires running { self.old.control.status ≡ Running }
+        requires place { length outbox.old + places_of self.old.control.pending ≤ OUTBOX_PLACES }
         ensures slice { (m : Records) → get m self.old.id ≡ Some (shown self.old) →
-            IsSlice self.old.id m pool.old budget result (shown self.new) pool.new }
+            IsSlice self.old.id
+            (record { records = m; outbox = outbox.old; pool = pool.old })
+            budget result (shown self.new) outbox.new pool.new }
+        ensures place { length outbox.new + places_of self.new.control.pending ≤ OUTBOX_PLACES }
         ensures id { self.new.id ≡ self.old.id }
     {
         let mut count = 0;
@@ -84,7 +95,7 @@ impl<A: Allocator> Record<A> {
                     last: StepOutcome::Ran,
                 };
             }
-            last = self.event(pool);
+            last = self.event(pool, outbox);
             count += 1;
             if !self.goes_on(last) {
                 return Slice { count, last };
@@ -94,14 +105,23 @@ impl<A: Allocator> Record<A> {
     }
 
     /// Does instructions until the budget is used or the procedure no longer goes on.
-    pub(crate) fn slice(&mut self, pool: &mut Pool<A>, budget: u32) -> Slice
-        requires { 1 ≤ budget }
+    pub(crate) fn slice(
+        &mut self,
+        pool: &mut Pool<A>,
+        outbox: &mut Outbox,
+        budget: u32,
+    ) -> Slice
+        requires budget { 1 ≤ budget }
+        requires place { length outbox.old + places_of self.old.control.pending ≤ OUTBOX_PLACES }
         ensures slice { (m : Records) → get m self.old.id ≡ Some (shown self.old) →
-            IsSlice self.old.id m pool.old budget result (shown self.new) pool.new }
+            IsSlice self.old.id
+            (record { records = m; outbox = outbox.old; pool = pool.old })
+            budget result (shown self.new) outbox.new pool.new }
+        ensures place { length outbox.new + places_of self.new.control.pending ≤ OUTBOX_PLACES }
         ensures id { self.new.id ≡ self.old.id }
     {
         if self.is_running() {
-            return self.run_slice(pool, budget);
+            return self.run_slice(pool, outbox, budget);
         }
         Slice {
             count: 1,
