@@ -1,6 +1,7 @@
 //! What waits: the origin of a pending stop or suspend, and completions that wait to be reported.
 
 use crate::CompletionFailure;
+use bitflags::Flags;
 use pus_fields::Ack;
 
 /// Where the completion of a pending stop or suspend goes: the request that asked for it.
@@ -16,8 +17,20 @@ pub struct PendingOrigin {
     pub ack: Ack,
 }
 
+impl Default for PendingOrigin {
+    /// The place of one.
+    fn default() -> Self {
+        PendingOrigin {
+            event: 0,
+            request: [0; 4],
+            source: 0,
+            ack: Ack::empty(),
+        }
+    }
+}
+
 /// A completion that waits to be reported.
-#[derive(Clone, Copy, PartialEq, Eq, Debug)]
+#[derive(Clone, Copy, PartialEq, Eq, Debug, Default)]
 pub struct Due {
     /// The request that is completed.
     pub origin: PendingOrigin,
