@@ -1,5 +1,6 @@
 //! Growths that an engine's other calls ask for, refused one after another: an engine, tickets, machines by themselves, trace
 //! lines and lists of events.
+use crate::drains::REQUESTED;
 use crate::heap::Refusing;
 use crate::requests::REQUESTS;
 use ocp_core::{Engine, Event, RunRefusal, StepOutcome, replay_one};
@@ -173,20 +174,36 @@ fn run_refused(heap: &Refusing<Global>, events: &[Event<'_>]) -> Result<u64, Fai
     Err("growths without end".into())
 }
 
+/// The event of a request by seat 1 at time 0.
+fn request(octets: &[u8]) -> Event<'_> {
+    Event::Request {
+        by: 1,
+        time: 0,
+        octets,
+    }
+}
+
 #[test]
 fn each_growth_of_a_run_is_refused(rt: HostRuntime) -> Result<(), Fail> {
     let heap = Refusing::new(rt.alloc(), AMPLE);
-    let load = Event::Request {
-        by: 1,
-        time: 0,
-        octets: REQUESTS[1].0,
-    };
-    let activate = Event::Request {
-        by: 1,
-        time: 0,
-        octets: REQUESTS[4].0,
-    };
+    let load = request(REQUESTS[1].0);
+    let activate = request(REQUESTS[4].0);
     let count = run_refused(&heap, &[load, activate, Event::Step { by: 1, id: 7 }])?;
     assert!(rt; count > 2);
+    Ok(())
+}
+
+#[test]
+fn each_growth_of_a_run_with_a_drain_is_refused(rt: HostRuntime) -> Result<(), Fail> {
+    let heap = Refusing::new(rt.alloc(), AMPLE);
+    let events = [
+        request(REQUESTED[0]),
+        request(REQUESTED[1]),
+        request(REQUESTED[2]),
+        request(REQUESTED[3]),
+        Event::Drain { by: 1, time: 0 },
+    ];
+    let count = run_refused(&heap, &events)?;
+    assert!(rt; count > 5);
     Ok(())
 }

@@ -12,11 +12,14 @@ const AMPLE: u64 = 1_000_000;
 /// How many growths are refused at most before a call has to succeed.
 const MOST: u64 = 100;
 
-/// What an engine shows: three procedures, the first arguments of procedure 7, the trace, two pool words, how many events
+/// What an engine shows: four procedures, the first arguments of procedure 7, the trace, two pool words, how many events
 /// there were, and how many entries are free.
-fn shown<A: Allocator>(alloc: Global, engine: &Engine<A>) -> Result<Vec<u8>, AllocError> {
+pub(crate) fn shown<A: Allocator>(
+    alloc: Global,
+    engine: &Engine<A>,
+) -> Result<Vec<u8>, AllocError> {
     let mut text = Vec::new(alloc);
-    for id in [1, 2, 7] {
+    for id in [1, 2, 4, 7] {
         view_text(id, engine.view(id), &mut text)?;
     }
     let mut arguments = [0; 4];

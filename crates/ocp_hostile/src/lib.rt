@@ -9,6 +9,8 @@ mod console;
 #[cfg(test)]
 mod devices;
 #[cfg(test)]
+mod drains;
+#[cfg(test)]
 mod engine;
 pub mod heap;
 #[cfg(test)]

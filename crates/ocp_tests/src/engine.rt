@@ -1,7 +1,7 @@
 //! Engines: the octets of their reports, and lists of events. Wanted octets are counted by hand from the text of the
 //! standards.
-use crate::harness::{is_answered, slice};
-use ocp_core::{Answer, Engine, Entry, Event, RunRefusal, StepOutcome};
+use crate::harness::{are_packets, is_answered, send_all, slice};
+use ocp_core::{Answer, Engine, EngineFault, Entry, Event, RunRefusal, StepOutcome};
 use ocp_table::Status;
 use std::alloc::Global;
 use std::process::Abort;
@@ -90,6 +90,60 @@ fn status_is_reported_to_its_source(rt: HostRuntime) -> Result<(), Fail> {
     Ok(())
 }
 
+// A load of a procedure 4 that ends step 1, ends step 2 and exits, its activation, its suspend of source 0 and then its stop
+// of source 7, both at the end of step 2. The suspend has the flag acceptance, and the stop also the flag completion.
+const TO_COMPLETE: [&[u8]; 4] = [
+    &[
+        0x19, 0x23, 0xc0, 0x00, 0x00, 0x32, 0x20, 0x12, 0x01, 0x00, 0x00, 0x00, 0x04, 0x00, 0x28,
+        0xb7, 0x01, 0x00, 0x00, 0x01, 0x00, 0x00, 0x00, 0x85, 0x00, 0x00, 0x00, 0x05, 0x00, 0x00,
+        0x00, 0xb7, 0x01, 0x00, 0x00, 0x02, 0x00, 0x00, 0x00, 0x85, 0x00, 0x00, 0x00, 0x05, 0x00,
+        0x00, 0x00, 0x95, 0x00, 0x00, 0x00, 0x00, 0x00, 0x00, 0x00, 0x41, 0x8e,
+    ],
+    &[
+        0x19, 0x23, 0xc0, 0x01, 0x00, 0x0a, 0x20, 0x12, 0x03, 0x00, 0x00, 0x00, 0x04, 0x00, 0x00,
+        0xf0, 0xf4,
+    ],
+    &[
+        0x19, 0x23, 0xc0, 0x02, 0x00, 0x0a, 0x21, 0x12, 0x05, 0x00, 0x00, 0x00, 0x04, 0x00, 0x02,
+        0x9f, 0x2f,
+    ],
+    &[
+        0x19, 0x23, 0xc0, 0x03, 0x00, 0x0a, 0x29, 0x12, 0x04, 0x00, 0x07, 0x00, 0x04, 0x00, 0x02,
+        0x6a, 0x10,
+    ],
+];
+
+// The reports of a drain at time 0x01020304: the suspend, which the stop overtook, and the stop.
+const COMPLETIONS: [&[u8]; 2] = [
+    &[
+        0x09, 0x23, 0xc0, 0x02, 0x00, 0x12, 0x20, 0x01, 0x08, 0x00, 0x00, 0x00, 0x00, 0x01, 0x02,
+        0x03, 0x04, 0x19, 0x23, 0xc0, 0x02, 0x00, 0x1a, 0xea, 0xae,
+    ],
+    &[
+        0x09, 0x23, 0xc0, 0x03, 0x00, 0x10, 0x20, 0x01, 0x07, 0x00, 0x00, 0x00, 0x07, 0x01, 0x02,
+        0x03, 0x04, 0x19, 0x23, 0xc0, 0x03, 0x39, 0x9e,
+    ],
+];
+
+#[test]
+fn completions_are_reported_by_a_drain(rt: HostRuntime) -> Result<(), Fail> {
+    let mut engine = Engine::new(rt.alloc(), 0x123, 16, 6)?;
+    complete_and_drain(&rt, rt.alloc(), &mut engine)
+}
+
+fn complete_and_drain(rt: &impl Abort, alloc: Global, engine: &mut Engine) -> Result<(), Fail> {
+    send_all(alloc, engine, &TO_COMPLETE)?;
+    assert_eq!(rt; slice(engine, 4, 9), (4, StepOutcome::Called));
+    let reports = engine.drain(alloc, 0, 0x0102_0304)?;
+    assert!(rt; are_packets(&reports, &COMPLETIONS));
+    assert_eq!(rt;
+        engine.drain(alloc, 0, 0).err(),
+        Some(EngineFault::NothingDue)
+    );
+    assert_eq!(rt; (engine.events(), engine.room()), (9, 0));
+    Ok(())
+}
+
 // Requests of source 7 that are not accepted, each with its report where it is handed in at time 0x01020304: a status
 // report with another error control, one of service 17, one of subtype 9, which is no request, and an activation without
 // its arguments' count.
@@ -165,13 +219,15 @@ fn run_to_the_end(rt: &impl Abort, alloc: Global, engine: &mut Engine) -> Result
             octets: &STATUS,
         },
         Event::Step { by: 0, id: 7 },
+        Event::Drain { by: 0, time: 0 },
     ];
     let Ok(answers) = engine.run(alloc, &events) else {
         return Err("room and memory".into());
     };
-    assert_eq!(rt; answers.len(), 2);
+    assert_eq!(rt; answers.len(), 3);
     assert_eq!(rt; reports_in(&answers[0]), Some(3));
     assert_eq!(rt; outcome_in(&answers[1]), Some(StepOutcome::NotLoaded));
+    assert_eq!(rt; fault_in(&answers[2]), Some(EngineFault::NothingDue));
     Ok(())
 }
 
@@ -179,6 +235,14 @@ fn run_to_the_end(rt: &impl Abort, alloc: Global, engine: &mut Engine) -> Result
 fn reports_in(answer: &Answer) -> Option<usize> {
     match answer {
         Answer::Requested(Ok(reports)) => Some(reports.len()),
+        _ => None,
+    }
+}
+
+// The fault of a request or of a drain that an answer has.
+fn fault_in(answer: &Answer) -> Option<EngineFault> {
+    match answer {
+        Answer::Requested(Err(fault)) => Some(*fault),
         _ => None,
     }
 }

@@ -1,6 +1,6 @@
 //! What tests do to an engine. None of these functions has a contract: what comes back is for the test to see, and a test
 //! that knows no more is quick to prove. Each lets go of what it was answered, so that the tests hold an engine alone.
-use ocp_core::{Engine, Reports, StepOutcome};
+use ocp_core::{Engine, EngineFault, Reports, StepOutcome};
 use std::alloc::Global;
 use std::test::Fail;
 
@@ -28,6 +28,15 @@ pub(crate) fn is_answered(
 ) -> Result<bool, Fail> {
     let reports = engine.request(alloc, 0, time, octets)?;
     Ok(are_packets(&reports, wanted))
+}
+
+/// Drains by seat 0 at time 0, and lets go of the reports; whether there were any.
+pub(crate) fn drain(alloc: Global, engine: &mut Engine) -> Result<bool, Fail> {
+    match engine.drain(alloc, 0, 0) {
+        Ok(_reports) => Ok(true),
+        Err(EngineFault::NothingDue) => Ok(false),
+        Err(fault) => Err(fault.into()),
+    }
 }
 
 /// Whether the reports are these packets.

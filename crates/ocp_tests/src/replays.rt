@@ -1,6 +1,6 @@
 //! One procedure of a journal by itself, against what the engine shows of it. The packets were written by a script that knows
 //! the tables of the profile alone.
-use crate::harness::{send, send_all, slice, step};
+use crate::harness::{drain, send, send_all, slice, step};
 use ocp_core::{Engine, StepOutcome, replay_one};
 use std::alloc::Global;
 use std::process::Abort;
@@ -304,6 +304,7 @@ fn run_at_random(rt: &impl Abort, alloc: Global, engine: &mut Engine) -> Result<
         send_all(alloc, engine, &[REQUESTS[8 * id], REQUESTS[8 * id + 1]])?;
     }
     let mut number = 1;
+    let mut is_drained = false;
     for event in 0..200 {
         number = next(number);
         let id = (number >> 16) % 3;
@@ -311,6 +312,8 @@ fn run_at_random(rt: &impl Abort, alloc: Global, engine: &mut Engine) -> Result<
         if kind < 8 {
             let index = (8 * id + kind) as usize;
             send(alloc, engine, REQUESTS.get(index).ok_or("a request")?)?;
+        } else if kind == 8 {
+            is_drained = drain(alloc, engine)? || is_drained;
         } else {
             step(engine, id as u16 + 1);
         }
@@ -323,5 +326,6 @@ fn run_at_random(rt: &impl Abort, alloc: Global, engine: &mut Engine) -> Result<
             }
         }
     }
+    assert!(rt; is_drained);
     Ok(())
 }

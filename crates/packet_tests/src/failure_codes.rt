@@ -1,5 +1,5 @@
 //! Failure codes, typed from their table.
-use obcp_types::{AcceptanceFailure, RequestFault, StartFailure};
+use obcp_types::{AcceptanceFailure, CompletionFailure, RequestFault, StartFailure};
 use pus_fields::Rejection;
 
 /// Why a request is not accepted.
@@ -15,7 +15,7 @@ const NOT_ACCEPTED: [(AcceptanceFailure, u16); 8] = [
 ];
 
 /// Why a request that is accepted is not started.
-const NOT_STARTED: [(StartFailure, u16); 10] = [
+const NOT_STARTED: [(StartFailure, u16); 11] = [
     (StartFailure::AlreadyLoaded, 16),
     (StartFailure::TableFull, 17),
     (StartFailure::BadCode { fault: 1, slot: 0 }, 18),
@@ -26,6 +26,7 @@ const NOT_STARTED: [(StartFailure, u16); 10] = [
     (StartFailure::NotHeld, 23),
     (StartFailure::StopPending, 24),
     (StartFailure::MailboxFull, 25),
+    (StartFailure::OutboxFull, 27),
 ];
 
 #[test]
@@ -36,4 +37,5 @@ fn each_failure_has_its_code(rt: HostRuntime) {
     for (failure, code) in NOT_STARTED {
         assert_eq!(rt; failure.code(), code);
     }
+    assert_eq!(rt; CompletionFailure::Overtaken.code(), 26);
 }

@@ -49,6 +49,16 @@ impl<L: Naming> Board<L> for Counting<L> {
         self.book.request(alloc, seat, time, octets)
     }
 
+    fn drain(
+        &mut self,
+        alloc: Global,
+        seat: &mut Seat<L>,
+        time: u32,
+    ) -> Result<Reports, EngineFault> {
+        self.calls = self.calls.saturating_add(1);
+        self.book.drain(alloc, seat, time)
+    }
+
     fn step(&mut self, seat: &mut Seat<L>, id: u16) -> StepOutcome {
         self.calls = self.calls.saturating_add(1);
         self.steps = self.steps.saturating_add(1);
@@ -111,6 +121,10 @@ fn through<L: Naming, R: Wait + Abort>(
         CommitOutcome::Committed(10)
     );
     assert!(rt; shared.request(rt, alloc, &mut seat, 0, &STATUS).is_ok());
+    assert_eq!(rt;
+        shared.drain(rt, alloc, &mut seat, 0).err(),
+        Some(EngineFault::NothingDue)
+    );
     for call in 1..7 {
         let wanted = if call % 3 == 0 {
             StepOutcome::JournalFull
@@ -128,7 +142,7 @@ fn through<L: Naming, R: Wait + Abort>(
     );
     assert_eq!(rt; shared.clear_break(rt, &mut seat, 1, 2), Ok(()));
     let Counting { book, calls, steps } = shared.into_inner();
-    assert_eq!(rt; (calls, steps), (15, 6));
+    assert_eq!(rt; (calls, steps), (16, 6));
     assert_eq!(rt; book.engine().journal().len(), 12);
     Ok(())
 }

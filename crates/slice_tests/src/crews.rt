@@ -2,7 +2,7 @@
 
 ghost use Rattle.std.specs.Prelude.{◌≡◌, ◌+◌, length};
 
-use crate::packets::{STATUS, activate_loop, is_done, takes_loops};
+use crate::packets::{STATUS, activate_loop, is_done, suspend_loop, takes_loops};
 use ocp_core::replay_one;
 use ocp_slices::{CommitOutcome, Engine, Gate, Naming, Open, Seat, SharedEngine, work};
 use std::alloc::{AllocError, Global};
@@ -147,7 +147,7 @@ fn mixed<L: Naming + Send + Sync, R: Threads + Wait + Abort + Sync>(
 fn calls<L: Naming, R: Wait>(rt: &R, alloc: Global, shared: &SharedEngine<L>, seat: &mut Seat<L>) {
     for round in 0..48 {
         let id = (seat.number().wrapping_add(round) % 16) as u8 + 1;
-        call(rt, alloc, shared, seat, round % 8, id);
+        call(rt, alloc, shared, seat, round % 10, id);
         shared.turn(rt, alloc, seat, 100, &Open);
     }
 }
@@ -160,7 +160,8 @@ fn call<L: Naming, R: Wait>(
     kind: u16,
     id: u8,
 ) {
-    let octets = activate_loop(id);
+    let activate = activate_loop(id);
+    let suspend = suspend_loop(id);
     let id = u16::from(id);
     match kind {
         0 => drop(shared.set_break(rt, seat, id, 2)),
@@ -169,7 +170,9 @@ fn call<L: Naming, R: Wait>(
         3 => drop(shared.slice(rt, seat, id, 10)),
         4 => drop(shared.clear_break(rt, seat, id, 2)),
         5 => drop(shared.trace(rt, seat, id, false)),
-        6 => drop(shared.request(rt, alloc, seat, 0, &octets)),
+        6 => drop(shared.request(rt, alloc, seat, 0, &activate)),
+        7 => drop(shared.request(rt, alloc, seat, 0, &suspend)),
+        8 => drop(shared.drain(rt, alloc, seat, 0)),
         _ => drop(shared.step(rt, seat, id)),
     }
 }

@@ -6,6 +6,8 @@ mod boards;
 #[cfg(test)]
 mod crews;
 #[cfg(test)]
+mod drains;
+#[cfg(test)]
 mod packets;
 #[cfg(test)]
 mod pairs;
