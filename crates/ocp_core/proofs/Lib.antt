@@ -9,6 +9,8 @@ pub mod Carried
 pub mod Factorisation
 pub mod Pools
 pub mod Mailboxes
+pub mod Numbered
+pub mod Completions
 pub mod Exchanges
 pub mod Committing
 pub mod Marking

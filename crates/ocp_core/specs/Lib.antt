@@ -9,6 +9,7 @@ pub mod Own
 pub mod Alone
 pub mod Pool
 pub mod Mailbox
+pub mod Outbox
 pub mod Exchange
 pub mod Tickets
 pub mod Commits

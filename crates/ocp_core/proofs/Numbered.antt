@@ -1,0 +1,160 @@
+-- What an event makes pending has that event's number, its procedure is loaded, and a place was free for it; and the event
+-- is accepted.
+use Rattle.std.proofs.Common.{◌≡◌, ◌≤◌, ℕ, ◌+◌, List, [], ◌∷◌, Option, Some, None, Bool, true, false, cond, inl, inr, refl, sym, ap, ◌∙◌, arith}
+use Rattle.std.specs.Prelude.{◌⊎◌, Result, Ok, Err}
+use Rattle.std.specs.FinMap.{get}
+use Rattle.pus_fields.specs.declared.fault.TcFault.{TcFault}
+use Rattle.pus_fields.specs.declared.fault.TcFault.TheVariants.{Discarded, Rejected}
+use Rattle.pus_fields.specs.Telecommand.{Telecommand}
+use Rattle.pus_fields.specs.TelecommandFaults.{telecommand_of}
+use Rattle.obcp_types.specs.declared.failure.RequestFault.{RequestFault}
+use Rattle.obcp_types.specs.declared.pending.Due.{Due}
+use Rattle.obcp_messages.specs.declared.report.Report.{Report}
+use Rattle.obcp_messages.specs.declared.request.Request.{Request as Command}
+use Rattle.obcp_messages.specs.declared.request.Request.TheVariants as command
+use Rattle.ocp_table.specs.declared.control.Pending.{Pending}
+use Rattle.ocp_table.specs.Records.{Rec, Records}
+use Rattle.ocp_table.specs.Effects as table
+use Rattle.ocp_table.specs.Effects.{Change, Pended, Loaded, Unloaded, Changed, Drained, Kept, step_outcome}
+use Rattle.ocp_table.specs.RequestTable.{Directive, Load, Unload, Activate, Stop, Suspend, Resume, Abort, Communicate, Step}
+use Rattle.ocp_table.specs.Deciding.{effect_in}
+use Rattle.ocp_table.proofs.Asked.{Asks, IsThere, IsAsked, asked}
+use Rattle.ocp_debug.specs.declared.command.Command as debug
+use Rattle.ocp_debug.specs.declared.command.Command.TheVariants.{SetBreak, ClearBreak, SetTrace}
+use Rattle.ocp_debug.specs.declared.command.DebugFault.{DebugFault}
+use Rattle.ocp_debug.specs.Commands as commands
+use Rattle.ocp_reports.specs.declared.origin.Origin.{Origin}
+use Rattle.ocp_reports.specs.Origin.{origin_of}
+use Rattle.ocp_world.specs.World as world
+use Rattle.ocp_world.specs.World.{World, Event}
+use Rattle.ocp_world.specs.Effect.{Effect, Commands}
+use Rattle.ocp_world.specs.Requests.{start_effect, command_effect, command_of, service_effect, request_effect, next_origin, has_no_place}
+use Rattle.ocp_world.specs.Instructions.{instruction_effect, debug_effect}
+use Rattle.ocp_world.specs.Drains.{drain_effect}
+use Rattle.ocp_world.specs.After.{effect_of, events_by, is_done}
+use Rattle.ocp_core.specs.Outbox.{number_in, pended_by}
+
+abbrev pub IsNumberedChange : World → Option Rec → Change → Type 0
+IsNumberedChange w o (Pended p) = (number_in p ≡ w.events ∷ []) × (IsThere o × (has_no_place w ≡ false))
+IsNumberedChange w o change = Unit {0}
+
+-- the outbox is not emptied
+abbrev pub IsNumbered : World → table.Effect → Type 0
+IsNumbered w (Changed id change) = IsNumberedChange w (get w.records id) change
+IsNumbered w Drained = ⊥
+IsNumbered w effect = Unit {0}
+
+-- ---- directives
+
+-- a stop or suspend of the world's next event
+abbrev IsNext : World → Directive → Type 0
+IsNext w (Stop s from full) = (from.event ≡ w.events) × (full ≡ has_no_place w)
+IsNext w (Suspend s from full) = (from.event ≡ w.events) × (full ≡ has_no_place w)
+IsNext w d = Unit {0}
+
+module _ (w : World) where
+  numbered_pending : (d : Directive) (p : Pending) → IsNext w d → Asks d p → (number_in p ≡ w.events ∷ []) × (has_no_place w ≡ false)
+  numbered_pending (Stop s from full) p next asks = (ap number_in asks.0 ∙ ap (λ n. n ∷ []) next.0, sym next.1 ∙ asks.1)
+  numbered_pending (Suspend s from full) p next asks = (ap number_in asks.0 ∙ ap (λ n. n ∷ []) next.0, sym next.1 ∙ asks.1)
+  numbered_pending d p next asks = absurd asks
+
+  numbered_effect : (d : Directive) (effect : table.Effect) → IsNext w d → IsAsked d w.records effect → IsNumbered w effect
+  numbered_effect d (Changed id (Pended p)) next is = let found = numbered_pending d p next is.0 in (found.0, (is.1, found.1))
+  numbered_effect d Drained next is = absurd is
+  numbered_effect d effect next is = tt
+
+  numbered_in : (d : Directive) (id : ℕ) → IsNext w d → IsNumbered w (effect_in d id w.records)
+  numbered_in d id next = numbered_effect d (effect_in d id w.records) next (asked d id w.records)
+
+  -- ---- requests, instructions and commands
+
+  numbered_command : (request : Command) (origin : Origin) → IsNumbered w (command_effect request origin w).on_records
+  numbered_command (command.Load id code) origin = numbered_in (Load code) id tt
+  numbered_command (command.Unload id) origin = numbered_in Unload id tt
+  numbered_command (command.Activate id arguments) origin = numbered_in (Activate arguments) id tt
+  numbered_command (command.Stop id step) origin = numbered_in (Stop step (next_origin origin w) (has_no_place w)) id (refl, refl)
+  numbered_command (command.Suspend id step) origin = numbered_in (Suspend step (next_origin origin w) (has_no_place w)) id (refl, refl)
+  numbered_command (command.Resume id) origin = numbered_in Resume id tt
+  numbered_command (command.Communicate id words) origin = numbered_in (Communicate words) id tt
+  numbered_command command.Status origin = tt
+  numbered_command (command.Abort id) origin = numbered_in Abort id tt
+
+  numbered_service : (r : Result Command RequestFault) (origin : Origin) → IsNumbered w (service_effect r origin w).on_records
+  numbered_service (Ok request) origin = numbered_command request origin
+  numbered_service (Err why) origin = tt
+
+  pub numbered_request : (r : Result Telecommand TcFault) (time : ℕ) → IsNumbered w (request_effect r time w).on_records
+  numbered_request (Ok tc) time = numbered_service (command_of tc) (origin_of tc time)
+  numbered_request (Err (Rejected rejection request)) time = tt
+  numbered_request (Err (Discarded cause)) time = tt
+
+  pub numbered_step : (id : ℕ) → IsNumbered w (effect_in (Step w.pool) id w.records)
+  numbered_step id = numbered_in (Step w.pool) id tt
+
+  numbered_set : (c : debug.Command) (id : ℕ) (o : Option DebugFault) → IsNumbered w (commands.effect_by o c id)
+  numbered_set (SetBreak place) id None = tt
+  numbered_set (ClearBreak place) id None = tt
+  numbered_set (SetTrace on) id None = tt
+  numbered_set c id (Some fault) = tt
+
+  pub numbered_debug : (c : debug.Command) (id : ℕ) → IsNumbered w (debug_effect c id w.records).on_records
+  numbered_debug c id = numbered_set c id (commands.fault_on c (get w.records id))
+
+-- ---- what becomes pending is counted
+
+-- an event makes nothing pending, or its own number, and then is counted
+abbrev pub Counts : ℕ → Effect → Type 0
+Counts n effect = ((pended_by effect.on_records n ≡ []) × (n ≤ events_by effect.reply n)) ⊎ ((pended_by effect.on_records n ≡ n ∷ []) × (events_by effect.reply n ≡ n + 1))
+
+module _ (n : ℕ) where
+  counts_start : (origin : Origin) (answer : List Report) (effect : table.Effect) → Counts n (start_effect origin answer effect)
+  counts_start origin answer (Changed id (Pended p)) = inr (refl, refl)
+  counts_start origin answer effect = inl (refl, omega arith)
+
+  counts_command : (w : World) (request : Command) (origin : Origin) → Counts n (command_effect request origin w)
+  counts_command w (command.Load id code) origin = counts_start origin [] (effect_in (Load code) id w.records)
+  counts_command w (command.Unload id) origin = counts_start origin [] (effect_in Unload id w.records)
+  counts_command w (command.Activate id arguments) origin = counts_start origin [] (effect_in (Activate arguments) id w.records)
+  counts_command w (command.Stop id step) origin = counts_start origin [] (effect_in (Stop step (next_origin origin w) (has_no_place w)) id w.records)
+  counts_command w (command.Suspend id step) origin = counts_start origin [] (effect_in (Suspend step (next_origin origin w) (has_no_place w)) id w.records)
+  counts_command w (command.Resume id) origin = counts_start origin [] (effect_in Resume id w.records)
+  counts_command w (command.Communicate id words) origin = counts_start origin [] (effect_in (Communicate words) id w.records)
+  counts_command w command.Status origin = inl (refl, omega arith)
+  counts_command w (command.Abort id) origin = counts_start origin [] (effect_in Abort id w.records)
+
+  counts_service : (w : World) (r : Result Command RequestFault) (origin : Origin) → Counts n (service_effect r origin w)
+  counts_service w (Ok request) origin = counts_command w request origin
+  counts_service w (Err why) origin = inl (refl, omega arith)
+
+  counts_request : (w : World) (r : Result Telecommand TcFault) (time : ℕ) → Counts n (request_effect r time w)
+  counts_request w (Ok tc) time = counts_service w (command_of tc) (origin_of tc time)
+  counts_request w (Err (Rejected rejection request)) time = inl (refl, omega arith)
+  counts_request w (Err (Discarded cause)) time = inl (refl, omega arith)
+
+  no_fewer : (done : Bool) → n ≤ cond done (n + 1) n
+  no_fewer true = omega arith
+  no_fewer false = omega arith
+
+  -- an instruction makes nothing pending
+  counts_outcome : (m : Records) (pool : List ℕ) (effect : table.Effect) → IsAsked (Step pool) m effect → Counts n (instruction_effect effect)
+  counts_outcome m pool (Changed id (Pended p)) is = absurd is.0
+  counts_outcome m pool effect is = inl (refl, no_fewer (is_done (step_outcome effect)))
+
+  counts_step : (m : Records) (pool : List ℕ) (id : ℕ) → Counts n (instruction_effect (effect_in (Step pool) id m))
+  counts_step m pool id = counts_outcome m pool (effect_in (Step pool) id m) (asked (Step pool) id m)
+
+  counts_set : (c : debug.Command) (id : ℕ) (o : Option DebugFault) → Counts n (record { on_records = commands.effect_by o c id; reply = Commands (commands.result_of o) })
+  counts_set (SetBreak place) id None = inl (refl, omega arith)
+  counts_set (ClearBreak place) id None = inl (refl, omega arith)
+  counts_set (SetTrace on) id None = inl (refl, omega arith)
+  counts_set c id (Some fault) = inl (refl, omega arith)
+
+  counts_drain : (time : ℕ) (dues : List Due) → Counts n (drain_effect time dues)
+  counts_drain time [] = inl (refl, omega arith)
+  counts_drain time (due ∷ dues) = inl (refl, omega arith)
+
+pub counts : (w : World) (e : Event) → Counts w.events (effect_of w e)
+counts w (world.Request by time octets) = counts_request w.events w (telecommand_of w.apid octets) time
+counts w (world.Step by id) = counts_step w.events w.records w.pool id
+counts w (world.Debug by id c) = counts_set w.events c id (commands.fault_on c (get w.records id))
+counts w (world.Drain by time) = counts_drain w.events time w.outbox

@@ -1,0 +1,142 @@
+-- Where each stop or suspend stands that became pending, by the number of its event: how many
+-- events were accepted before it.
+use Rattle.std.specs.Prelude.{◌≡◌, ◌≤◌, ℕ, ◌+◌, ◌==◌, if◌then◌else◌, Bool, true, List, [], ◌∷◌, ◌++◌, map, length, Option, Some}
+use Rattle.std.specs.List.{count_by, flat_map, list_all, list_any}
+use Rattle.std.specs.FinMap.{get, values}
+use Rattle.obcp_types.specs.declared.pending.Due.{Due}
+use Rattle.obcp_types.specs.declared.pending.PendingOrigin.{PendingOrigin}
+use Rattle.verification.specs.Reports.{wants_completion}
+use Rattle.ocp_pool.specs.declared.call.Called.TheVariants.{StepEnd}
+use Rattle.ocp_table.specs.declared.answers.InstructionOutcome.TheVariants.{Called}
+use Rattle.ocp_table.specs.declared.control.Pending.{Pending}
+use Rattle.ocp_table.specs.declared.control.Pending.TheVariants as pending
+use Rattle.ocp_table.specs.declared.table.TheConstants.{OUTBOX_PLACES}
+use Rattle.ocp_table.specs.Records.{Rec, Records}
+use Rattle.ocp_table.specs.Effects.{Effect, Changed, Change, Pended, Stepped, matches}
+use Rattle.ocp_table.specs.Outbox.{pendings}
+use Rattle.ocp_reports.specs.Origin.{Dispatch}
+use Rattle.ocp_reports.specs.Due.{due_dispatches}
+use Rattle.ocp_world.specs.World.{World, Event, Drain, opening}
+use Rattle.ocp_world.specs.After.{effect_of, after}
+use Rattle.ocp_world.specs.Replay.{replay}
+
+-- what is gathered from events, each with the world before it
+abbrev pub gather_along : {S : Type 0} → (World → Event → S → S) → S → World → List Event → S
+gather_along add s w [] = s
+gather_along add s w (e ∷ es) = gather_along add (add w e s) (after w e).world es
+
+-- the numbers that each event gives in its world, from a new engine on
+abbrev pub numbers : (World → Event → List ℕ) → ℕ → ℕ → List Event → List ℕ
+numbers give apid words es =
+    gather_along (λ w e ns. ns ++ give w e) [] (opening apid words) es
+
+-- how often a number stands in a list, and whether it does
+abbrev pub count : ℕ → List ℕ → ℕ
+count n ns = count_by (λ m. m == n) ns
+
+abbrev pub is_in : ℕ → List ℕ → Bool
+is_in n ns = list_any (λ m. m == n) ns
+
+-- ---- what became pending
+
+abbrev pub pended_by : Effect → ℕ → List ℕ
+pended_by (Changed id (Pended pending)) n = n ∷ []
+pended_by effect n = []
+
+-- the number of an event by which a stop or suspend becomes pending
+abbrev pub becomes_pending : World → Event → List ℕ
+becomes_pending w e = pended_by (effect_of w e).on_records w.events
+
+abbrev pub all_pended : ℕ → ℕ → List Event → List ℕ
+all_pended apid words es = numbers becomes_pending apid words es
+
+-- ---- the first place: it is pending
+
+abbrev pub number_in : Pending → List ℕ
+number_in pending.Nothing = []
+number_in (pending.Stop step from) = from.event ∷ []
+number_in (pending.Suspend step from) = from.event ∷ []
+
+abbrev pub pending_numbers : Records → List ℕ
+pending_numbers m = flat_map (λ (r : Rec). number_in r.control.pending) (values m)
+
+-- ---- the second place: its completion waits in the outbox
+
+abbrev pub due_numbers : List Due → List ℕ
+due_numbers dues = map (λ (due : Due). due.origin.event) dues
+
+-- ---- the third place: a drain reports its completion
+
+-- once for each report that is sent of it
+abbrev pub report_numbers : ℕ → Due → List ℕ
+report_numbers time due = map (λ (dispatch : Dispatch). due.origin.event) (due_dispatches time due)
+
+abbrev pub reported_in : World → Event → List ℕ
+reported_in w (Drain by time) = flat_map (report_numbers time) w.outbox
+reported_in w event = []
+
+abbrev pub all_reported : ℕ → ℕ → List Event → List ℕ
+all_reported apid words es = numbers reported_in apid words es
+
+-- ---- the fourth place: the end of a step matches it while its completion flag is off
+
+abbrev pub unless_asked : PendingOrigin → List ℕ
+unless_asked from = if wants_completion from.ack then [] else from.event ∷ []
+
+abbrev pub silent_at_step_end : Pending → ℕ → List ℕ
+silent_at_step_end pending.Nothing k = []
+silent_at_step_end (pending.Stop step from) k = if matches step k then unless_asked from else []
+silent_at_step_end (pending.Suspend step from) k =
+    if matches step k then unless_asked from else []
+
+abbrev pub silent_by_change : Change → Option Rec → List ℕ
+silent_by_change (Stepped (Called (StepEnd k))) (Some r) = silent_at_step_end r.control.pending k
+silent_by_change change o = []
+
+abbrev pub silent_by : Effect → Records → List ℕ
+silent_by (Changed id change) m = silent_by_change change (get m id)
+silent_by effect m = []
+
+abbrev pub silent_in : World → Event → List ℕ
+silent_in w e = silent_by (effect_of w e).on_records w.records
+
+abbrev pub all_silent : ℕ → ℕ → List Event → List ℕ
+all_silent apid words es = numbers silent_in apid words es
+
+-- ---- the laws
+
+-- the numbers in the four places
+abbrev pub places : ℕ → ℕ → List Event → List ℕ
+places apid words es =
+    let w = replay apid words es in
+    pending_numbers w.records ++ due_numbers w.outbox ++ all_reported apid words es
+    ++ all_silent apid words es
+
+-- the law: each number of a stop or suspend that became pending stands in one of the places, once,
+-- and no other number stands there
+abbrev pub EachStandsOnce : Type 0
+EachStandsOnce =
+    (apid words : ℕ) (es : List Event) (n : ℕ) →
+    count n (places apid words es) ≡ (if is_in n (all_pended apid words es) then 1 else 0)
+
+-- the law: so its completion is reported once at most
+abbrev pub IsReportedOnceAtMost : Type 0
+IsReportedOnceAtMost =
+    (apid words : ℕ) (es : List Event) (n : ℕ) → count n (all_reported apid words es) ≤ 1
+
+-- one report is sent of it by a drain at this time
+abbrev pub gives_one_report : ℕ → Due → Bool
+gives_one_report time due = length (due_dispatches time due) == 1
+
+-- the law: each completion that waits gives one report, whenever a drain comes
+abbrev pub EachGivesOneReport : Type 0
+EachGivesOneReport =
+    (apid words : ℕ) (es : List Event) (time : ℕ) →
+    list_all (gives_one_report time) (replay apid words es).outbox ≡ true
+
+-- the law: what is pending and what waits to be reported have their places
+abbrev pub PlacesSuffice : Type 0
+PlacesSuffice =
+    (apid words : ℕ) (es : List Event) →
+    let w = replay apid words es in
+    length w.outbox + pendings w.records ≤ OUTBOX_PLACES
