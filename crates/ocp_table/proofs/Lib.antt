@@ -8,4 +8,5 @@ pub mod Asked
 pub mod Lawful
 pub mod Tables
 pub mod Rows
+pub mod Counting
 pub mod Slicing

@@ -62,6 +62,10 @@ pendings-there m id r is =
     let here = entry-places r.control.pending in
     omega (arith, there, same, here)
 
+-- one that is there has its place
+pub place_there : (m : Records) (outbox : List Due) (id : ℕ) (r : Rec) → length outbox + pendings m ≤ 64 → get m id ≡ Some r → length outbox + places_in r ≤ 64
+place_there m outbox id r fits is = let there = pendings-there m id r is in omega (arith, fits, there)
+
 -- ---- effects
 
 -- only where a place is free does something become pending

@@ -1,5 +1,5 @@
 -- Slices, event by event and by stretches that a machine does by itself.
-use Rattle.std.proofs.Common.{◌≡◌, ℕ, zero, suc, ◌+◌, ◌-◌, ◌<◌, ◌≤◌, Bool, true, false, cond, List, length, Option, Some, None, refl, sym, ap, subst, ◌∙◌, add-one, arith}
+use Rattle.std.proofs.Common.{◌≡◌, ℕ, zero, suc, ◌+◌, ◌-◌, ◌<◌, ◌≤◌, Bool, true, false, cond, List, [], ◌++◌, length, Option, Some, None, refl, sym, ap, subst, ◌∙◌, add-one, arith}
 use Rattle.std.proofs.Math.Nat.{zero-add, suc-add}
 use Rattle.std.specs.Prelude.{◌==◌, ◌&&◌, option_and_then, is_some}
 use Rattle.std.proofs.lemmas.Bool.Decides.{nat_tests}
@@ -20,14 +20,16 @@ use Rattle.ocp_table.specs.declared.answers.StepOutcome.TheVariants as S
 use Rattle.ocp_table.specs.declared.answers.InstructionOutcome.{InstructionOutcome}
 use Rattle.ocp_table.specs.declared.answers.InstructionOutcome.TheVariants.{Broke, Ran}
 use Rattle.ocp_table.specs.Records.{Rec, Records}
-use Rattle.ocp_table.specs.Effects.{Effect, Changed, Kept, Stepped, Failed, passed, records_by, pool_by, record_after, with_change, machine_after, step_outcome}
+use Rattle.ocp_table.specs.Effects.{Effect, Changed, Kept, Stepped, Failed, passed, records_by, outbox_by, filed_of, pool_by, record_after, with_change, machine_after, step_outcome}
 use Rattle.ocp_table.specs.RequestTable.{Step, transition}
 use Rattle.ocp_table.specs.Deciding.{outcome_of, outcome_in, effect_in, effect_by, effect_on, effect_of_step, is_full}
 use Rattle.ocp_table.specs.declared.record.Record.{Record}
-use Rattle.ocp_table.specs.Shown.{shown, effect_of_record}
+use Rattle.ocp_table.specs.Shown.{shown, effect_of_record, filed_of_effect}
+use Rattle.obcp_types.specs.declared.pending.Due.{Due}
+use Rattle.std.proofs.lemmas.List.{append-nil}
 use Rattle.ocp_table.specs.Slices.{IsSlice, Store, store_after, store_after_events, answer_to, goes_on, is_running, is_running_status, is_on, slice_count, slice_last, control_after, with_machine, RunsBy, last_ran, Leads}
 use Rattle.ocp_table.proofs.ContentsLemmas.{insert-same}
-use Rattle.ocp_table.proofs.Tables.{absent-step, same_step, records_after_step}
+use Rattle.ocp_table.proofs.Tables.{absent-step, same_step, records_after_step, outbox_after_step}
 
 -- ---- events one after another
 
@@ -104,18 +106,18 @@ ran_on r t = record {
   traced = r.traced;
 }
 
-module _ (m : Records) (pool : List ℕ) (id : ℕ) where
+module _ (m : Records) (outbox : List Due) (pool : List ℕ) (id : ℕ) where
   abbrev here : Store
-  here = record { records = m; pool = pool }
+  here = record { records = m; outbox = outbox; pool = pool }
 
   abbrev at : Rec → Store
-  at r = record { records = map.insert m id r; pool = pool }
+  at r = record { records = map.insert m id r; outbox = outbox; pool = pool }
 
   abbrev by_effect : Effect → Store
-  by_effect e = record { records = records_by e m; pool = pool_by e pool }
+  by_effect e = record { records = records_by e m; outbox = outbox_by e m outbox; pool = pool_by e pool }
 
   abbrev by_change : Option Rec → Store
-  by_change o = record { records = with_change o id (Stepped Ran) m; pool = pool }
+  by_change o = record { records = with_change o id (Stepped Ran) m; outbox = outbox ++ filed_of (Stepped Ran) o; pool = pool }
 
   module _ (r : Rec) (t : State) (held : map.get m id ≡ Some r) (running : r.control.status ≡ Running) (next : local_next r.image r.breakpoints r.control.pass r.machine ≡ Some t) where
     effect_ran : effect_in (Step pool) id m ≡ Changed id (Stepped Ran)
@@ -128,7 +130,8 @@ module _ (m : Records) (pool : List ℕ) (id : ℕ) where
     store_ran =
         ap by_effect effect_ran
         ∙ ap by_change held
-        ∙ ap (λ x. at (ran_on r x)) (ran_in r pool t next).1
+        ∙ ap (λ x. record { records = map.insert m id (ran_on r x); outbox = outbox ++ []; pool = pool }) (ran_in r pool t next).1
+        ∙ ap (λ kept. record { records = map.insert m id (ran_on r t); outbox = kept; pool = pool }) (append-nil outbox)
 
     answer_ran : answer_to id here ≡ S.Ran
     answer_ran = ap step_outcome effect_ran
@@ -165,35 +168,35 @@ passed_after : (n : ℕ) (c : Control) → passed (control_after n c) ≡ passed
 passed_after zero c = refl
 passed_after (suc n) c = refl
 
-module _ (m : Records) (pool : List ℕ) (id : ℕ) (r : Rec) (held : map.get m id ≡ Some r) (running : r.control.status ≡ Running) (last : StepOutcome) where
+module _ (m : Records) (outbox : List Due) (pool : List ℕ) (id : ℕ) (r : Rec) (held : map.get m id ≡ Some r) (running : r.control.status ≡ Running) (last : StepOutcome) where
   abbrev ran_for : ℕ → Option State
   ran_for n = local_run r.image r.breakpoints r.control.pass r.machine n
 
   abbrev after : ℕ → State → Store
-  after n t = record { records = map.insert m id (with_machine n t r); pool = pool }
+  after n t = record { records = map.insert m id (with_machine n t r); outbox = outbox; pool = pool }
 
   one_more : (n : ℕ) (s t : State) → local_next r.image r.breakpoints (r.control.pass && (n == 0)) s ≡ Some t → Leads id 1 (after n s) (last_ran n last) (after (suc n) t) S.Ran
   one_more n s t next =
       let q = with_machine n s r in
-      let led : Leads id 1 (after n s) (last_ran n last) (record { records = map.insert (map.insert m id q) id (ran_on q t); pool = pool }) S.Ran =
-      one_local (map.insert m id q) pool id q t (get-put m id q) (status_after n r.control ∙ running) (ap (λ b. local_next r.image r.breakpoints b s) (pass_after n r.control) ∙ next) (last_ran n last) in
+      let led : Leads id 1 (after n s) (last_ran n last) (record { records = map.insert (map.insert m id q) id (ran_on q t); outbox = outbox; pool = pool }) S.Ran =
+      one_local (map.insert m id q) outbox pool id q t (get-put m id q) (status_after n r.control ∙ running) (ap (λ b. local_next r.image r.breakpoints b s) (pass_after n r.control) ∙ next) (last_ran n last) in
       let same : map.insert (map.insert m id q) id (ran_on q t) ≡ map.insert m id (with_machine (suc n) t r) =
       put-put m id q (ran_on q t) ∙ ap (λ c. map.insert m id (record { image = r.image; machine = t; mailbox = r.mailbox; control = c; breakpoints = r.breakpoints; traced = r.traced })) (passed_after n r.control) in
-      subst (λ x. Leads id 1 (after n s) (last_ran n last) (record { records = x; pool = pool }) S.Ran) same led
+      subst (λ x. Leads id 1 (after n s) (last_ran n last) (record { records = x; outbox = outbox; pool = pool }) S.Ran) same led
 
-  pub local_leads : (n : ℕ) (t : State) → ran_for n ≡ Some t → Leads id n (record { records = m; pool = pool }) last (after n t) (last_ran n last)
+  pub local_leads : (n : ℕ) (t : State) → ran_for n ≡ Some t → Leads id n (record { records = m; outbox = outbox; pool = pool }) last (after n t) (last_ran n last)
   local_leads zero t h =
       let same : map.insert m id (with_machine 0 t r) ≡ m = ap (λ x. map.insert m id (with_machine 0 x r)) (sym (same_Some r.machine t h)) ∙ insert-same m id r held in
-      subst (λ x. Leads id 0 (record { records = m; pool = pool }) last (record { records = x; pool = pool }) last) (sym same) (leads-none id (record { records = m; pool = pool }) last)
+      subst (λ x. Leads id 0 (record { records = m; outbox = outbox; pool = pool }) last (record { records = x; outbox = outbox; pool = pool }) last) (sym same) (leads-none id (record { records = m; outbox = outbox; pool = pool }) last)
   local_leads (suc n) t h =
-      elim (ran_for n) as (λ o. ran_for n ≡ o → option_and_then (local_next r.image r.breakpoints (r.control.pass && (n == 0))) o ≡ Some t → Leads id (suc n) (record { records = m; pool = pool }) last (after (suc n) t) S.Ran) [
+      elim (ran_for n) as (λ o. ran_for n ≡ o → option_and_then (local_next r.image r.breakpoints (r.control.pass && (n == 0))) o ≡ Some t → Leads id (suc n) (record { records = m; outbox = outbox; pool = pool }) last (after (suc n) t) S.Ran) [
         | None ↦ λ is k. absurd (cc)
-        | Some s ↦ λ is k. subst (λ x. Leads id x (record { records = m; pool = pool }) last (after (suc n) t) S.Ran) (add-one n)
-            (leads-on id n 1 (record { records = m; pool = pool }) (after n s) (after (suc n) t) last (last_ran n last) S.Ran (local_leads n s is) (one_more n s t k))
+        | Some s ↦ λ is k. subst (λ x. Leads id x (record { records = m; outbox = outbox; pool = pool }) last (after (suc n) t) S.Ran) (add-one n)
+            (leads-on id n 1 (record { records = m; outbox = outbox; pool = pool }) (after n s) (after (suc n) t) last (last_ran n last) S.Ran (local_leads n s is) (one_more n s t k))
       ] refl h
 
-pub local_events : (m : Records) (pool : List ℕ) (id n : ℕ) (r : Rec) (t : State) (last : StepOutcome) → RunsBy m id r n t → Leads id n (record { records = m; pool = pool }) last (record { records = map.insert m id (with_machine n t r); pool = pool }) (last_ran n last)
-local_events m pool id n r t last is = local_leads m pool id r is.held is.running last n t is.ran
+pub local_events : (m : Records) (outbox : List Due) (pool : List ℕ) (id n : ℕ) (r : Rec) (t : State) (last : StepOutcome) → RunsBy m id r n t → Leads id n (record { records = m; outbox = outbox; pool = pool }) last (record { records = map.insert m id (with_machine n t r); outbox = outbox; pool = pool }) (last_ran n last)
+local_events m outbox pool id n r t last is = local_leads m outbox pool id r is.held is.running last n t is.ran
 
 -- a count is within its budget
 pub local_count_within : (image breakpoints : List ℕ) (pass : Bool) (s : State) (budget : ℕ) → local_count image breakpoints pass s budget ≤ budget
@@ -212,57 +215,59 @@ ran_some (suc n) last h = refl
 
 module _ {A : Type 0} where
   -- so many events are made, and the slice goes on
-  pub record IsSliced (old now : Record A) (pool left : List ℕ) (n : ℕ) (last : StepOutcome) : Type 0 where
+  pub record IsSliced (old now : Record A) (outbox filed : List Due) (pool left : List ℕ) (n : ℕ) (last : StepOutcome) : Type 0 where
     pub running : now.control.status ≡ Running
     pub named : now.id ≡ old.id
-    pub leads : (m : Records) → map.get m old.id ≡ Some (shown old) → Leads old.id n (record { records = m; pool = pool }) S.Ran (record { records = map.insert m old.id (shown now); pool = left }) last
+    pub leads : (m : Records) → map.get m old.id ≡ Some (shown old) → Leads old.id n (record { records = m; outbox = outbox; pool = pool }) S.Ran (record { records = map.insert m old.id (shown now); outbox = filed; pool = left }) last
 
-  pub sliced-none : (r : Record A) (pool : List ℕ) → r.control.status ≡ Running → IsSliced r r pool pool 0 S.Ran
-  sliced-none r pool running = record {
+  pub sliced-none : (r : Record A) (outbox : List Due) (pool : List ℕ) → r.control.status ≡ Running → IsSliced r r outbox outbox pool pool 0 S.Ran
+  sliced-none r outbox pool running = record {
     running = running;
     named = refl;
-    leads = λ m held. subst (λ x. Leads r.id 0 (record { records = m; pool = pool }) S.Ran (record { records = x; pool = pool }) S.Ran) (sym (insert-same m r.id (shown r) held)) (leads-none r.id (record { records = m; pool = pool }) S.Ran);
+    leads = λ m held. subst (λ x. Leads r.id 0 (record { records = m; outbox = outbox; pool = pool }) S.Ran (record { records = x; outbox = outbox; pool = pool }) S.Ran) (sym (insert-same m r.id (shown r) held)) (leads-none r.id (record { records = m; outbox = outbox; pool = pool }) S.Ran);
   }
 
   -- a stretch that the machine does by itself
-  pub sliced-run : (old now next : Record A) (pool left : List ℕ) (n k : ℕ) (last : StepOutcome) (t : State) → IsSliced old now pool left n last → local_run now.execution.image now.breakpoints.items now.control.pass now.execution.machine k ≡ Some t → shown next ≡ with_machine k t (shown now) → next.id ≡ now.id → IsSliced old next pool left (n + k) (last_ran k last)
-  sliced-run old now next pool left n k last t so_far ran made same = record {
+  pub sliced-run : (old now next : Record A) (outbox filed : List Due) (pool left : List ℕ) (n k : ℕ) (last : StepOutcome) (t : State) → IsSliced old now outbox filed pool left n last → local_run now.execution.image now.breakpoints.items now.control.pass now.execution.machine k ≡ Some t → shown next ≡ with_machine k t (shown now) → next.id ≡ now.id → IsSliced old next outbox filed pool left (n + k) (last_ran k last)
+  sliced-run old now next outbox filed pool left n k last t so_far ran made same = record {
     running = ap (λ r. r.control.status) made ∙ status_after k now.control ∙ so_far.running;
     named = same ∙ so_far.named;
     leads = λ m held.
         let id = old.id in
         let held_now = get-put m id (shown now) in
-        let on = local_leads (map.insert m id (shown now)) left id (shown now) held_now so_far.running last k t ran in
+        let on = local_leads (map.insert m id (shown now)) filed left id (shown now) held_now so_far.running last k t ran in
         let same_records : map.insert (map.insert m id (shown now)) id (with_machine k t (shown now)) ≡ map.insert m id (shown next) =
         put-put m id (shown now) (with_machine k t (shown now)) ∙ ap (map.insert m id) (sym made) in
         leads-on id n k _ _ _ S.Ran last (last_ran k last) (so_far.leads m held)
-        (subst (λ x. Leads id k (record { records = map.insert m id (shown now); pool = left }) last (record { records = x; pool = left }) (last_ran k last)) same_records on);
+        (subst (λ x. Leads id k (record { records = map.insert m id (shown now); outbox = filed; pool = left }) last (record { records = x; outbox = filed; pool = left }) (last_ran k last)) same_records on);
   }
 
   -- one event, as the call ensures it
-  pub record IsEvent (now next : Record A) (pool left : List ℕ) (o : StepOutcome) : Type 0 where
+  pub record IsEvent (now next : Record A) (outbox filed : List Due) (pool left : List ℕ) (o : StepOutcome) : Type 0 where
     pub answer : o ≡ step_outcome (effect_of_record (Step pool) now)
     pub made : shown next ≡ record_after (effect_of_record (Step pool) now) (shown now)
+    pub filed_is : filed ≡ outbox ++ filed_of_effect (effect_of_record (Step pool) now) now.control.pending
     pub pooled : left ≡ pool_by (effect_of_record (Step pool) now) pool
     pub same : next.id ≡ now.id
 
-  module _ (now next : Record A) (pool left : List ℕ) (o : StepOutcome) (event : IsEvent now next pool left o) (m : Records) (id : ℕ) (held : map.get m id ≡ Some (shown now)) (named : now.id ≡ id) where
-    store_event : store_after id (record { records = m; pool = pool }) ≡ record { records = map.insert m id (shown next); pool = left }
+  module _ (now next : Record A) (outbox filed : List Due) (pool left : List ℕ) (o : StepOutcome) (event : IsEvent now next outbox filed pool left o) (m : Records) (id : ℕ) (held : map.get m id ≡ Some (shown now)) (named : now.id ≡ id) where
+    store_event : store_after id (record { records = m; outbox = outbox; pool = pool }) ≡ record { records = map.insert m id (shown next); outbox = filed; pool = left }
     store_event =
         let records = sym (records_after_step pool m now.id id (shown now) (shown next) held named event.made) in
         let pools = ap (λ e. pool_by e pool) (sym (same_step pool m now.id id (shown now) held named)) ∙ sym event.pooled in
-        λ i. record { records = records i; pool = pools i }
+        let outboxes = sym (event.filed_is ∙ outbox_after_step pool m now.id id (shown now) outbox held named) in
+        λ i. record { records = records i; outbox = outboxes i; pool = pools i }
 
-    answer_event : answer_to id (record { records = m; pool = pool }) ≡ o
+    answer_event : answer_to id (record { records = m; outbox = outbox; pool = pool }) ≡ o
     answer_event = ap step_outcome (sym (same_step pool m now.id id (shown now) held named)) ∙ sym event.answer
 
-    goes_event : goes_on id (record { records = m; pool = pool }) ≡ cond (is_on o) (is_running_status next.control.status) false
+    goes_event : goes_on id (record { records = m; outbox = outbox; pool = pool }) ≡ cond (is_on o) (is_running_status next.control.status) false
     goes_event =
-        ap (λ a. cond (is_on a) (is_running (map.get (store_after id (record { records = m; pool = pool })).records id)) false) answer_event
+        ap (λ a. cond (is_on a) (is_running (map.get (store_after id (record { records = m; outbox = outbox; pool = pool })).records id)) false) answer_event
         ∙ ap (λ s. cond (is_on o) (is_running (map.get s.records id)) false) store_event
         ∙ ap (λ x. cond (is_on o) (is_running x) false) (get-put m id (shown next))
 
-  module _ (old now next : Record A) (pool before left : List ℕ) (n : ℕ) (last o : StepOutcome) (so_far : IsSliced old now pool before n last) (event : IsEvent now next before left o) where
+  module _ (old now next : Record A) (outbox due filed : List Due) (pool before left : List ℕ) (n : ℕ) (last o : StepOutcome) (so_far : IsSliced old now outbox due pool before n last) (event : IsEvent now next due filed before left o) where
     runs_on : (b r : Bool) → cond b r false ≡ true → r ≡ true
     runs_on true r h = h
     runs_on false r h = absurd (cc)
@@ -273,7 +278,7 @@ module _ {A : Type 0} where
     running_is Held h = absurd (cc)
 
     -- after which the slice goes on
-    pub sliced-event : cond (is_on o) (is_running_status next.control.status) false ≡ true → IsSliced old next pool left (n + 1) o
+    pub sliced-event : cond (is_on o) (is_running_status next.control.status) false ≡ true → IsSliced old next outbox filed pool left (n + 1) o
     sliced-event on = record {
       running = running_is next.control.status (runs_on (is_on o) (is_running_status next.control.status) on);
       named = event.same ∙ so_far.named;
@@ -281,40 +286,40 @@ module _ {A : Type 0} where
           let id = old.id in
           let q = map.insert m id (shown now) in
           let held_now = get-put m id (shown now) in
-          let one = leads-one id (record { records = q; pool = before }) last (goes_event now next before left o event q id held_now so_far.named ∙ on) in
-          let same : store_after id (record { records = q; pool = before }) ≡ record { records = map.insert m id (shown next); pool = left } =
-          store_event now next before left o event q id held_now so_far.named ∙ ap (λ x. record { records = x; pool = left }) (put-put m id (shown now) (shown next)) in
+          let one = leads-one id (record { records = q; outbox = due; pool = before }) last (goes_event now next due filed before left o event q id held_now so_far.named ∙ on) in
+          let same : store_after id (record { records = q; outbox = due; pool = before }) ≡ record { records = map.insert m id (shown next); outbox = filed; pool = left } =
+          store_event now next due filed before left o event q id held_now so_far.named ∙ ap (λ x. record { records = x; outbox = filed; pool = left }) (put-put m id (shown now) (shown next)) in
           leads-on id n 1 _ _ _ S.Ran last o (so_far.leads m held)
-          (subst (λ x. Leads id 1 (record { records = q; pool = before }) last (record { records = map.insert m id (shown next); pool = left }) x) (answer_event now next before left o event q id held_now so_far.named)
-          (subst (λ x. Leads id 1 (record { records = q; pool = before }) last x (answer_to id (record { records = q; pool = before }))) same one));
+          (subst (λ x. Leads id 1 (record { records = q; outbox = due; pool = before }) last (record { records = map.insert m id (shown next); outbox = filed; pool = left }) x) (answer_event now next due filed before left o event q id held_now so_far.named)
+          (subst (λ x. Leads id 1 (record { records = q; outbox = due; pool = before }) last x (answer_to id (record { records = q; outbox = due; pool = before }))) same one));
     }
 
     -- after which it does not
-    pub sliced-end : (budget : ℕ) → n < budget → cond (is_on o) (is_running_status next.control.status) false ≡ false → (m : Records) → map.get m old.id ≡ Some (shown old) → IsSlice old.id m pool budget (record { count = n + 1; last = o }) (shown next) left
+    pub sliced-end : (budget : ℕ) → n < budget → cond (is_on o) (is_running_status next.control.status) false ≡ false → (m : Records) → map.get m old.id ≡ Some (shown old) → IsSlice old.id (record { records = m; outbox = outbox; pool = pool }) budget (record { count = n + 1; last = o }) (shown next) filed left
     sliced-end budget within off m held =
         let id = old.id in
         let q = map.insert m id (shown now) in
         let held_now = get-put m id (shown now) in
-        let start : Store = record { records = m; pool = pool } in
-        let there : Store = record { records = q; pool = before } in
+        let start : Store = record { records = m; outbox = outbox; pool = pool } in
+        let there : Store = record { records = q; outbox = due; pool = before } in
         let led = so_far.leads m held in
-        let stops : goes_on id there ≡ false = goes_event now next before left o event q id held_now so_far.named ∙ off in
+        let stops : goes_on id there ≡ false = goes_event now next due filed before left o event q id held_now so_far.named ∙ off in
         let split : budget ≡ n + suc (budget - (n + 1)) = omega arith in
-        let answered = answer_event now next before left o event q id held_now so_far.named in
+        let answered = answer_event now next due filed before left o event q id held_now so_far.named in
         record {
           count = sym (ap (slice_count id start) split ∙ led.count (suc (budget - (n + 1))) ∙ ap (λ b. n + cond b (suc (slice_count id (store_after id there) (budget - (n + 1)))) 1) stops);
           last = sym (ap (slice_last id start S.Ran) split ∙ led.outcome (suc (budget - (n + 1))) ∙ ap (λ b. cond b (slice_last id (store_after id there) (answer_to id there) (budget - (n + 1))) (answer_to id there)) stops ∙ answered);
-          store = events-on id n 1 start ∙ ap (store_after id) led.store ∙ store_event now next before left o event q id held_now so_far.named ∙ ap (λ x. record { records = x; pool = left }) (put-put m id (shown now) (shown next));
+          store = events-on id n 1 start ∙ ap (store_after id) led.store ∙ store_event now next due filed before left o event q id held_now so_far.named ∙ ap (λ x. record { records = x; outbox = filed; pool = left }) (put-put m id (shown now) (shown next));
         }
 
   -- the budget is used
-  pub sliced-whole : (old now : Record A) (pool left : List ℕ) (n : ℕ) (last : StepOutcome) → IsSliced old now pool left n last → (m : Records) → map.get m old.id ≡ Some (shown old) → IsSlice old.id m pool n (record { count = n; last = last }) (shown now) left
-  sliced-whole old now pool left n last so_far m held =
+  pub sliced-whole : (old now : Record A) (outbox filed : List Due) (pool left : List ℕ) (n : ℕ) (last : StepOutcome) → IsSliced old now outbox filed pool left n last → (m : Records) → map.get m old.id ≡ Some (shown old) → IsSlice old.id (record { records = m; outbox = outbox; pool = pool }) n (record { count = n; last = last }) (shown now) filed left
+  sliced-whole old now outbox filed pool left n last so_far m held =
       let led = so_far.leads m held in
       let whole : n ≡ n + 0 = omega arith in
       record {
-        count = sym (ap (slice_count old.id (record { records = m; pool = pool })) whole ∙ led.count 0 ∙ sym whole);
-        last = sym (ap (slice_last old.id (record { records = m; pool = pool }) S.Ran) whole ∙ led.outcome 0);
+        count = sym (ap (slice_count old.id (record { records = m; outbox = outbox; pool = pool })) whole ∙ led.count 0 ∙ sym whole);
+        last = sym (ap (slice_last old.id (record { records = m; outbox = outbox; pool = pool }) S.Ran) whole ∙ led.outcome 0);
         store = led.store;
       }
 
@@ -326,37 +331,37 @@ still_of pool id r full Running off = absurd (cc)
 still_of pool id r full Held off = refl
 
 -- a refused event is all that the slice has
-refused : (id : ℕ) (m : Records) (pool : List ℕ) (budget : ℕ) (failure : StartFailure) (o : StepOutcome) (r : Rec) → effect_in (Step pool) id m ≡ Kept (Failed failure) → step_outcome (Kept (Failed failure)) ≡ o → is_on o ≡ false → 1 ≤ budget → map.insert m id r ≡ m → IsSlice id m pool budget (record { count = 1; last = o }) r pool
-refused id m pool zero failure o r is answers off some same = absurd (omega (arith, some))
-refused id m pool (suc budget) failure o r is answers off some same =
-    let start : Store = record { records = m; pool = pool } in
+refused : (id : ℕ) (m : Records) (outbox : List Due) (pool : List ℕ) (budget : ℕ) (failure : StartFailure) (o : StepOutcome) (r : Rec) → effect_in (Step pool) id m ≡ Kept (Failed failure) → step_outcome (Kept (Failed failure)) ≡ o → is_on o ≡ false → 1 ≤ budget → map.insert m id r ≡ m → IsSlice id (record { records = m; outbox = outbox; pool = pool }) budget (record { count = 1; last = o }) r outbox pool
+refused id m outbox pool zero failure o r is answers off some same = absurd (omega (arith, some))
+refused id m outbox pool (suc budget) failure o r is answers off some same =
+    let start : Store = record { records = m; outbox = outbox; pool = pool } in
     let answer : answer_to id start ≡ o = ap step_outcome is ∙ answers in
     let stops : goes_on id start ≡ false = ap (λ a. cond (is_on a) (is_running (map.get (store_after id start).records id)) false) answer ∙ ap (λ b. cond b (is_running (map.get (store_after id start).records id)) false) off in
     record {
       count = sym (ap (λ b. cond b (suc (slice_count id (store_after id start) budget)) 1) stops);
       last = sym (ap (λ b. cond b (slice_last id (store_after id start) (answer_to id start) budget) (answer_to id start)) stops ∙ answer);
-      store = ap (by_effect m pool id) is ∙ ap (λ x. record { records = x; pool = pool }) (sym same);
+      store = ap (by_effect m outbox pool id) is ∙ ap (λ kept. record { records = m; outbox = kept; pool = pool }) (append-nil outbox) ∙ ap (λ x. record { records = x; outbox = outbox; pool = pool }) (sym same);
     }
 
-pub still-slice : (id : ℕ) (m : Records) (pool : List ℕ) (budget : ℕ) (r : Rec) → map.get m id ≡ Some r → is_running_status r.control.status ≡ false → 1 ≤ budget → IsSlice id m pool budget (record { count = 1; last = S.NotRunning }) r pool
-still-slice id m pool budget r held off some =
+pub still-slice : (id : ℕ) (m : Records) (outbox : List Due) (pool : List ℕ) (budget : ℕ) (r : Rec) → map.get m id ≡ Some r → is_running_status r.control.status ≡ false → 1 ≤ budget → IsSlice id (record { records = m; outbox = outbox; pool = pool }) budget (record { count = 1; last = S.NotRunning }) r outbox pool
+still-slice id m outbox pool budget r held off some =
     let is : effect_in (Step pool) id m ≡ Kept (Failed NotRunning) = ap (λ o. effect_on (Step pool) id o (is_full m)) held ∙ still_of pool id r (is_full m) r.control.status off in
-    refused id m pool budget NotRunning S.NotRunning r is refl refl some (insert-same m id r held)
+    refused id m outbox pool budget NotRunning S.NotRunning r is refl refl some (insert-same m id r held)
 
 -- what a slice of a procedure that is not loaded comes to
-pub absent-count : (id : ℕ) (m : Records) (pool : List ℕ) (budget : ℕ) → map.get m id ≡ None → 1 ≤ budget → 1 ≡ slice_count id (record { records = m; pool = pool }) budget
-absent-count id m pool zero absent some = absurd (omega (arith, some))
-absent-count id m pool (suc budget) absent some =
-    let start : Store = record { records = m; pool = pool } in
+pub absent-count : (id : ℕ) (m : Records) (outbox : List Due) (pool : List ℕ) (budget : ℕ) → map.get m id ≡ None → 1 ≤ budget → 1 ≡ slice_count id (record { records = m; outbox = outbox; pool = pool }) budget
+absent-count id m outbox pool zero absent some = absurd (omega (arith, some))
+absent-count id m outbox pool (suc budget) absent some =
+    let start : Store = record { records = m; outbox = outbox; pool = pool } in
     let answer : answer_to id start ≡ S.NotLoaded = ap step_outcome (absent-step pool id m absent) in
     sym (ap (λ a. cond (cond (is_on a) (is_running (map.get (store_after id start).records id)) false) (suc (slice_count id (store_after id start) budget)) 1) answer)
 
-pub absent-last : (id : ℕ) (m : Records) (pool : List ℕ) (budget : ℕ) → map.get m id ≡ None → 1 ≤ budget → S.NotLoaded ≡ slice_last id (record { records = m; pool = pool }) S.Ran budget
-absent-last id m pool zero absent some = absurd (omega (arith, some))
-absent-last id m pool (suc budget) absent some =
-    let start : Store = record { records = m; pool = pool } in
+pub absent-last : (id : ℕ) (m : Records) (outbox : List Due) (pool : List ℕ) (budget : ℕ) → map.get m id ≡ None → 1 ≤ budget → S.NotLoaded ≡ slice_last id (record { records = m; outbox = outbox; pool = pool }) S.Ran budget
+absent-last id m outbox pool zero absent some = absurd (omega (arith, some))
+absent-last id m outbox pool (suc budget) absent some =
+    let start : Store = record { records = m; outbox = outbox; pool = pool } in
     let answer : answer_to id start ≡ S.NotLoaded = ap step_outcome (absent-step pool id m absent) in
     sym (ap (λ a. cond (cond (is_on a) (is_running (map.get (store_after id start).records id)) false) (slice_last id (store_after id start) (answer_to id start) budget) (answer_to id start)) answer ∙ answer)
 
-pub absent-store : (id : ℕ) (m : Records) (pool : List ℕ) → map.get m id ≡ None → store_after_events id 1 (record { records = m; pool = pool }) ≡ record { records = m; pool = pool }
-absent-store id m pool absent = ap (by_effect m pool id) (absent-step pool id m absent)
+pub absent-store : (id : ℕ) (m : Records) (outbox : List Due) (pool : List ℕ) → map.get m id ≡ None → store_after_events id 1 (record { records = m; outbox = outbox; pool = pool }) ≡ record { records = m; outbox = outbox; pool = pool }
+absent-store id m outbox pool absent = ap (by_effect m outbox pool id) (absent-step pool id m absent) ∙ ap (λ kept. record { records = m; outbox = kept; pool = pool }) (append-nil outbox)

@@ -1,5 +1,5 @@
 -- What a directive does to the records, by the record that a look-up finds.
-use Rattle.std.proofs.Common.{◌≡◌, ℕ, ◌+◌, ◌≤◌, ◌<◌, length, get_or, is_some, subst, Bool, true, false, List, Option, Some, None, cond, refl, sym, ap, ◌∙◌, arith}
+use Rattle.std.proofs.Common.{◌≡◌, ℕ, ◌+◌, ◌≤◌, ◌<◌, ◌++◌, length, get_or, is_some, subst, Bool, true, false, List, Option, Some, None, cond, refl, sym, ap, ◌∙◌, arith}
 use Rattle.std.specs.Prelude.{nat_le, IsSome}
 use Rattle.std.specs.FinMap as map
 use Rattle.slab.specs.Slab.{Slab, Updates, get, slab_len, with_value}
@@ -15,10 +15,12 @@ use Rattle.ocp_table.specs.declared.directive.Directive as D
 use Rattle.ocp_table.specs.declared.directive.Directive.TheVariants as directive
 use Rattle.ocp_table.specs.declared.answers.InstructionOutcome.{InstructionOutcome}
 use Rattle.ocp_table.specs.Records.{Rec, Records}
-use Rattle.ocp_table.specs.Effects.{Effect, Loaded, Unloaded, Changed, Kept, Sent, Failed, record_after, records_by, with_change, failure_of}
-use Rattle.ocp_table.specs.RequestTable.{Directive, Unload, Step, Decision, Loads, Unloads, Changes, Steps, Fails, sent, transition, failure_by}
+use Rattle.ocp_table.specs.Effects.{Effect, Loaded, Unloaded, Changed, Drained, Kept, Sent, Failed, record_after, records_by, outbox_by, overtaken, overtaken_of, filed_of, with_change, failure_of}
+use Rattle.ocp_table.specs.RequestTable.{Directive, Unload, Step, Decision, Loads, Unloads, Changes, Steps, Fails, sent, pended, transition, failure_by}
 use Rattle.ocp_table.specs.Deciding.{outcome_in, effect_of_step, decision_on, effect_by, effect_on, effect_in, is_full}
-use Rattle.ocp_table.specs.Shown.{directive_of}
+use Rattle.ocp_table.specs.Shown.{directive_of, filed_of_effect}
+use Rattle.obcp_types.specs.declared.pending.Due.{Due}
+use Rattle.std.proofs.lemmas.List.{append-nil}
 use Rattle.ocp_table.specs.Mirror.Contents.{IsSound}
 use Rattle.std.proofs.lemmas.Bool.Decides.{nat_tests}
 use Rattle.std.proofs.lemmas.List.Sums.{sum_by-set}
@@ -41,43 +43,47 @@ of_sent words there =
       | false ↦ tt
     ]
 
-of_request : (d : D.Directive) (s : Status) (p : Pending) (there : ℕ) → IsOfRequest (transition (directive_of d) (Some s) p there)
-of_request (directive.Activate arguments) Inactive p there = tt
-of_request (directive.Activate arguments) Running p there = tt
-of_request (directive.Activate arguments) Held p there = tt
-of_request (directive.Stop s) Inactive p there = tt
-of_request (directive.Stop s) Running p there = tt
-of_request (directive.Stop s) Held p there = tt
-of_request (directive.Suspend s) Inactive p there = tt
-of_request (directive.Suspend s) Running pending.Nothing there = tt
-of_request (directive.Suspend s) Running (pending.Stop t) there = tt
-of_request (directive.Suspend s) Running (pending.Suspend t) there = tt
-of_request (directive.Suspend s) Held p there = tt
-of_request directive.Resume Inactive p there = tt
-of_request directive.Resume Running p there = tt
-of_request directive.Resume Held p there = tt
-of_request directive.Abort Inactive p there = tt
-of_request directive.Abort Running p there = tt
-of_request directive.Abort Held p there = tt
-of_request (directive.Communicate words) Inactive p there = tt
-of_request (directive.Communicate words) Running p there = of_sent words.now there
-of_request (directive.Communicate words) Held p there = of_sent words.now there
+of_pended : (no_place : Bool) (p : Pending) → IsOfRequest (pended no_place p)
+of_pended true p = tt
+of_pended false p = tt
 
-absent : (d : D.Directive) → decision_on (directive_of d) None ≡ Fails NotLoaded
-absent (directive.Activate arguments) = refl
-absent (directive.Stop s) = refl
-absent (directive.Suspend s) = refl
-absent directive.Resume = refl
-absent directive.Abort = refl
-absent (directive.Communicate words) = refl
+of_request : (d : D.Directive) (no_place : Bool) (s : Status) (p : Pending) (there : ℕ) → IsOfRequest (transition (directive_of d no_place) (Some s) p there)
+of_request (directive.Activate arguments) no_place Inactive p there = tt
+of_request (directive.Activate arguments) no_place Running p there = tt
+of_request (directive.Activate arguments) no_place Held p there = tt
+of_request (directive.Stop s from) no_place Inactive p there = tt
+of_request (directive.Stop s from) no_place Running p there = of_pended no_place (pending.Stop s from)
+of_request (directive.Stop s from) no_place Held p there = tt
+of_request (directive.Suspend s from) no_place Inactive p there = tt
+of_request (directive.Suspend s from) no_place Running pending.Nothing there = of_pended no_place (pending.Suspend s from)
+of_request (directive.Suspend s from) no_place Running (pending.Stop t other) there = tt
+of_request (directive.Suspend s from) no_place Running (pending.Suspend t other) there = of_pended no_place (pending.Suspend s from)
+of_request (directive.Suspend s from) no_place Held p there = tt
+of_request directive.Resume no_place Inactive p there = tt
+of_request directive.Resume no_place Running p there = tt
+of_request directive.Resume no_place Held p there = tt
+of_request directive.Abort no_place Inactive p there = tt
+of_request directive.Abort no_place Running p there = tt
+of_request directive.Abort no_place Held p there = tt
+of_request (directive.Communicate words) no_place Inactive p there = tt
+of_request (directive.Communicate words) no_place Running p there = of_sent words.now there
+of_request (directive.Communicate words) no_place Held p there = of_sent words.now there
+
+absent : (d : D.Directive) (no_place : Bool) → decision_on (directive_of d no_place) None ≡ Fails NotLoaded
+absent (directive.Activate arguments) no_place = refl
+absent (directive.Stop s from) no_place = refl
+absent (directive.Suspend s from) no_place = refl
+absent directive.Resume no_place = refl
+absent directive.Abort no_place = refl
+absent (directive.Communicate words) no_place = refl
 
 -- ---- no procedure has the id
 
-pub absent-decision : (d : D.Directive) (o : Option Rec) → o ≡ None → decision_on (directive_of d) o ≡ Fails NotLoaded
-absent-decision d o is = ap (decision_on (directive_of d)) is ∙ absent d
+pub absent-decision : (d : D.Directive) (no_place : Bool) (o : Option Rec) → o ≡ None → decision_on (directive_of d no_place) o ≡ Fails NotLoaded
+absent-decision d no_place o is = ap (decision_on (directive_of d no_place)) is ∙ absent d no_place
 
-pub absent-effect : (d : D.Directive) (id : ℕ) (m : Records) → map.get m id ≡ None → effect_in (directive_of d) id m ≡ Kept (Failed NotLoaded)
-absent-effect d id m is = ap (λ o. effect_on (directive_of d) id o (is_full m)) is ∙ ap (λ e. effect_by e id None (is_full m)) (absent d)
+pub absent-effect : (d : D.Directive) (no_place : Bool) (id : ℕ) (m : Records) → map.get m id ≡ None → effect_in (directive_of d no_place) id m ≡ Kept (Failed NotLoaded)
+absent-effect d no_place id m is = ap (λ o. effect_on (directive_of d no_place) id o (is_full m)) is ∙ ap (λ e. effect_by e id None (is_full m)) (absent d no_place)
 
 pub absent-step : (pool : List ℕ) (id : ℕ) (m : Records) → map.get m id ≡ None → effect_in (Step pool) id m ≡ Kept (Failed NotLoaded)
 absent-step pool id m is = ap (λ o. effect_on (Step pool) id o (is_full m)) is
@@ -148,11 +154,11 @@ same_for d m n id r h here named =
     ∙ same_room (decision_on d (Some r)) id (Some r) (is_full m) h
     ∙ ap (λ o. effect_on d id o (is_full m)) (sym here)
 
-request_no_load : (d : D.Directive) (r : Rec) → IsNoLoad (decision_on (directive_of d) (Some r))
-request_no_load d r = no_load (decision_on (directive_of d) (Some r)) (of_request d r.control.status r.control.pending (length r.mailbox))
+request_no_load : (d : D.Directive) (no_place : Bool) (r : Rec) → IsNoLoad (decision_on (directive_of d no_place) (Some r))
+request_no_load d no_place r = no_load (decision_on (directive_of d no_place) (Some r)) (of_request d no_place r.control.status r.control.pending (length r.mailbox))
 
-pub same_effect : (d : D.Directive) (m : Records) (n id : ℕ) (r : Rec) → map.get m id ≡ Some r → n ≡ id → effect_on (directive_of d) n (Some r) true ≡ effect_in (directive_of d) id m
-same_effect d m n id r here named = same_for (directive_of d) m n id r (request_no_load d r) here named
+pub same_effect : (d : D.Directive) (no_place : Bool) (m : Records) (n id : ℕ) (r : Rec) → map.get m id ≡ Some r → n ≡ id → effect_on (directive_of d no_place) n (Some r) true ≡ effect_in (directive_of d no_place) id m
+same_effect d no_place m n id r here named = same_for (directive_of d no_place) m n id r (request_no_load d no_place r) here named
 
 pub same_step : (pool : List ℕ) (m : Records) (n id : ℕ) (r : Rec) → map.get m id ≡ Some r → n ≡ id → effect_on (Step pool) n (Some r) true ≡ effect_in (Step pool) id m
 same_step pool m n id r here named = same_for (Step pool) m n id r (no_load-step pool r.control.status r.control.pending (length r.mailbox)) here named
@@ -165,8 +171,8 @@ table_decides (Changes change) id o h = refl
 table_decides (Steps pool) id o h = absurd h
 table_decides (Fails failure) id o h = refl
 
-pub decided_by_table : (d : D.Directive) (id : ℕ) (r : Rec) → failure_by (decision_on (directive_of d) (Some r)) ≡ failure_of (effect_on (directive_of d) id (Some r) true)
-decided_by_table d id r = table_decides (decision_on (directive_of d) (Some r)) id (Some r) (of_request d r.control.status r.control.pending (length r.mailbox))
+pub decided_by_table : (d : D.Directive) (no_place : Bool) (id : ℕ) (r : Rec) → failure_by (decision_on (directive_of d no_place) (Some r)) ≡ failure_of (effect_on (directive_of d no_place) id (Some r) true)
+decided_by_table d no_place id r = table_decides (decision_on (directive_of d no_place) (Some r)) id (Some r) (of_request d no_place r.control.status r.control.pending (length r.mailbox))
 
 failure_of_step : (o : Option InstructionOutcome) (id : ℕ) → IsSome o → None ≡ failure_of (effect_of_step o id)
 failure_of_step (Some outcome) id is = refl
@@ -187,6 +193,7 @@ abbrev IsAbout : ℕ → Effect → Type 0
 IsAbout q (Loaded id image) = ⊥
 IsAbout q (Unloaded id) = ⊥
 IsAbout q (Changed id change) = id ≡ q
+IsAbout q Drained = ⊥
 IsAbout q (Kept why) = Unit {0}
 
 -- the record that is there, changed, is all that the effect changed
@@ -194,6 +201,7 @@ pub records_by-held : (m : Records) (id : ℕ) (r : Rec) (e : Effect) → map.ge
 records_by-held m id r (Loaded i image) here is = absurd is
 records_by-held m id r (Unloaded i) here is = absurd is
 records_by-held m id r (Changed i change) here is = sym (ap (λ k. with_change (map.get m k) k change m) is ∙ ap (λ o. with_change o id change m) here)
+records_by-held m id r Drained here is = absurd is
 records_by-held m id r (Kept why) here is = insert-same m id r here
 
 about_request : (e : Decision) (q : ℕ) (o : Option Rec) → IsOfRequest e → IsAbout q (effect_by e q o true)
@@ -203,10 +211,23 @@ about_request (Changes change) q o h = refl
 about_request (Steps pool) q o h = absurd h
 about_request (Fails failure) q o h = tt
 
-pub records-after : (d : D.Directive) (m : Records) (n id : ℕ) (r new : Rec) → map.get m id ≡ Some r → n ≡ id → new ≡ record_after (effect_on (directive_of d) n (Some r) true) r → map.insert m id new ≡ records_by (effect_in (directive_of d) id m) m
-records-after d m n id r new here named is =
-    ap (map.insert m id) (is ∙ ap (λ e. record_after e r) (same_effect d m n id r here named))
-    ∙ records_by-held m id r (effect_in (directive_of d) id m) here (subst (IsAbout id) (same_effect d m id id r here refl) (about_request (decision_on (directive_of d) (Some r)) id (Some r) (of_request d r.control.status r.control.pending (length r.mailbox))))
+pub records-after : (d : D.Directive) (no_place : Bool) (m : Records) (n id : ℕ) (r new : Rec) → map.get m id ≡ Some r → n ≡ id → new ≡ record_after (effect_on (directive_of d no_place) n (Some r) true) r → map.insert m id new ≡ records_by (effect_in (directive_of d no_place) id m) m
+records-after d no_place m n id r new here named is =
+    ap (map.insert m id) (is ∙ ap (λ e. record_after e r) (same_effect d no_place m n id r here named))
+    ∙ records_by-held m id r (effect_in (directive_of d no_place) id m) here (subst (IsAbout id) (same_effect d no_place m id id r here refl) (about_request (decision_on (directive_of d no_place) (Some r)) id (Some r) (of_request d no_place r.control.status r.control.pending (length r.mailbox))))
+
+-- what it files is all that the effect files
+pub outbox_by-held : (m : Records) (id : ℕ) (r : Rec) (outbox : List Due) (e : Effect) → map.get m id ≡ Some r → IsAbout id e → outbox ++ filed_of_effect e r.control.pending ≡ outbox_by e m outbox
+outbox_by-held m id r outbox (Loaded i image) here is = absurd is
+outbox_by-held m id r outbox (Unloaded i) here is = absurd is
+outbox_by-held m id r outbox (Changed i change) here is = sym (ap (λ k. outbox ++ filed_of change (map.get m k)) is ∙ ap (λ o. outbox ++ filed_of change o) here)
+outbox_by-held m id r outbox Drained here is = absurd is
+outbox_by-held m id r outbox (Kept why) here is = refl
+
+pub outbox-after : (d : D.Directive) (no_place : Bool) (m : Records) (n id : ℕ) (r : Rec) (outbox : List Due) → map.get m id ≡ Some r → n ≡ id → outbox ++ filed_of_effect (effect_on (directive_of d no_place) n (Some r) true) r.control.pending ≡ outbox_by (effect_in (directive_of d no_place) id m) m outbox
+outbox-after d no_place m n id r outbox here named =
+    ap (λ e. outbox ++ filed_of_effect e r.control.pending) (same_effect d no_place m n id r here named)
+    ∙ outbox_by-held m id r outbox (effect_in (directive_of d no_place) id m) here (subst (IsAbout id) (same_effect d no_place m id id r here refl) (about_request (decision_on (directive_of d no_place) (Some r)) id (Some r) (of_request d no_place r.control.status r.control.pending (length r.mailbox))))
 
 about_step : (q : ℕ) (o : Option InstructionOutcome) → IsAbout q (effect_of_step o q)
 about_step q (Some outcome) = refl
@@ -221,6 +242,19 @@ pub records_after_step : (pool : List ℕ) (m : Records) (n id : ℕ) (r new : R
 records_after_step pool m n id r new here named is =
     ap (map.insert m id) (is ∙ ap (λ e. record_after e r) (same_step pool m n id r here named))
     ∙ records_by-held m id r (effect_in (Step pool) id m) here (subst (IsAbout id) (same_step pool m id id r here refl) (about_step_of pool id r r.control.status))
+
+pub outbox_after_step : (pool : List ℕ) (m : Records) (n id : ℕ) (r : Rec) (outbox : List Due) → map.get m id ≡ Some r → n ≡ id → outbox ++ filed_of_effect (effect_on (Step pool) n (Some r) true) r.control.pending ≡ outbox_by (effect_in (Step pool) id m) m outbox
+outbox_after_step pool m n id r outbox here named =
+    ap (λ e. outbox ++ filed_of_effect e r.control.pending) (same_step pool m n id r here named)
+    ∙ outbox_by-held m id r outbox (effect_in (Step pool) id m) here (subst (IsAbout id) (same_step pool m id id r here refl) (about_step_of pool id r r.control.status))
+
+-- a failure files nothing
+pub outbox-failed : (m : Records) (outbox : List Due) (e : Effect) (why : StartFailure) → e ≡ Kept (Failed why) → outbox ≡ outbox_by e m outbox
+outbox-failed m outbox e why is = sym (ap (λ x. outbox_by x m outbox) is ∙ append-nil outbox)
+
+-- what is dropped is overtaken
+pub outbox-unloaded : (m : Records) (id : ℕ) (r : Rec) (outbox : List Due) (e : Effect) → map.get m id ≡ Some r → e ≡ Unloaded id → outbox ++ overtaken r.control.pending ≡ outbox_by e m outbox
+outbox-unloaded m id r outbox e here is = sym (ap (λ x. outbox_by x m outbox) is ∙ ap (λ o. outbox ++ overtaken_of o) here)
 
 -- ---- the slab
 

@@ -1,4 +1,6 @@
-use Rattle.std.proofs.Common.{◌-◌, ◌≤◌}
+use Rattle.std.proofs.Common.{◌-◌, ◌+◌, ◌≤◌, length}
+use Rattle.ocp_table.specs.declared.table.TheConstants.{OUTBOX_PLACES}
+use Rattle.ocp_table.specs.Outbox.{places_of}
 use Rattle.ocp_table.proofs.Slicing.{IsSliced}
 use Rattle.ocp_table.proofs.record.Record.run_slice.Given as goal
 
@@ -6,7 +8,8 @@ use Rattle.ocp_table.proofs.record.Record.run_slice.Given as goal
 abbrev pub invariant-loop-count : goal.invariant-loop-count
 invariant-loop-count g l = record {
   within : l.count ≤ l.budget;
-  sliced : IsSliced l.fn.self l.self l.fn.pool l.pool l.count l.last;
+  place : length l.outbox + places_of l.self.control.pending ≤ OUTBOX_PLACES;
+  sliced : IsSliced l.fn.self l.self l.fn.outbox l.outbox l.fn.pool l.pool l.count l.last;
 }
 
 abbrev pub decreases-loop-count : goal.decreases-loop-count
