@@ -5,6 +5,7 @@ pub mod Totals
 pub mod Weighing
 pub mod Rooms
 pub mod Asked
+pub mod Fitting
 pub mod Lawful
 pub mod Tables
 pub mod Rows

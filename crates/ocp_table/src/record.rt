@@ -123,7 +123,10 @@ impl<A: Allocator> Record<A> {
 
     // Enacts a directive that does not fail.
     fn enact(&mut self, directive: &Directive<'_>)
-        requires { HasFewArguments (directive_of directive.now false) }
+        requires few { HasFewArguments (directive_of directive.now false) }
+        requires decided { (full : Bool) ×
+            (failure_by (decision_on (directive_of directive.now full) (Some (shown self.old))) ≡
+            None) }
         ensures record { (full : Bool) →
             failure_by (decision_on (directive_of directive.now full) (Some (shown self.old))) ≡
             None →
