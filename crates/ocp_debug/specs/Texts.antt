@@ -37,8 +37,8 @@ cause_text (cause.Fault number) = codes "fault" ++ decimal number
 
 abbrev pub pending_text : Pending → List ℕ
 pending_text pending.Nothing = codes "none"
-pending_text (pending.Stop step) = codes "stop " ++ decimal step
-pending_text (pending.Suspend step) = codes "suspend " ++ decimal step
+pending_text (pending.Stop step from) = codes "stop " ++ decimal step
+pending_text (pending.Suspend step from) = codes "suspend " ++ decimal step
 
 -- `view <id> <status> <cause> place <place> depth <depth> pending <pending>`
 abbrev pub view_line : ℕ → View → List ℕ

@@ -46,7 +46,7 @@ fn fault_in<A: Allocator>(procedure: &Record<A>, command: Command) -> Option<Deb
 /// Decides: why a command is refused. No procedure has the id: NotLoaded. A breakpoint is refused as NotAnInstruction,
 /// AlreadySet and BreaksFull, and a clearing as NotSet.
 pub fn fault_of<A: Allocator>(table: &Table<A>, id: u16, command: Command) -> Option<DebugFault>
-    ensures { result ≡ fault_on command (get table.now id) }
+    ensures { result ≡ fault_on command (get table.now.records id) }
 {
     match table.record(id) {
         Some(record) => fault_in(record, command),
@@ -60,8 +60,10 @@ pub fn apply<A: Allocator>(
     id: u16,
     command: Command,
 ) -> Result<(), DebugFault>
-    ensures answer { result ≡ command_result command id table.old }
-    ensures records { table.new ≡ records_by (command_effect command id table.old) table.old }
+    ensures answer { result ≡ command_result command id table.old.records }
+    ensures records { table.new.records ≡
+        records_by (command_effect command id table.old.records) table.old.records }
+    ensures outbox { table.new.outbox ≡ table.old.outbox }
 {
     if let Some(fault) = fault_of(table, id, command) {
         return Err(fault);
@@ -72,8 +74,10 @@ pub fn apply<A: Allocator>(
 
 /// Enacts a command that is not refused.
 fn enact<A: Allocator>(table: &mut Table<A>, id: u16, command: Command)
-    requires { fault_on command (get table.old id) ≡ None }
-    ensures { table.new ≡ records_by (Changed id (change_of command)) table.old }
+    requires { fault_on command (get table.old.records id) ≡ None }
+    ensures records { table.new.records ≡
+        records_by (Changed id (change_of command)) table.old.records }
+    ensures outbox { table.new.outbox ≡ table.old.outbox }
 {
     let Some(record) = table.record(id) else {
         return;
@@ -95,9 +99,11 @@ fn enact<A: Allocator>(table: &mut Table<A>, id: u16, command: Command)
 /// Sets a breakpoint at the slot of an instruction. Refused as NotLoaded, NotAnInstruction, AlreadySet and BreaksFull, in this
 /// order, and then nothing changes.
 pub fn set_break<A: Allocator>(table: &mut Table<A>, id: u16, place: u16) -> Result<(), DebugFault>
-    ensures answer { result ≡ command_result (Command.SetBreak place) id table.old }
-    ensures records { table.new ≡
-        records_by (command_effect (Command.SetBreak place) id table.old) table.old }
+    ensures answer { result ≡ command_result (Command.SetBreak place) id table.old.records }
+    ensures records { table.new.records ≡
+        records_by (command_effect (Command.SetBreak place) id table.old.records)
+        table.old.records }
+    ensures outbox { table.new.outbox ≡ table.old.outbox }
 {
     apply(table, id, Command::SetBreak(place))
 }
@@ -108,18 +114,22 @@ pub fn clear_break<A: Allocator>(
     id: u16,
     place: u16,
 ) -> Result<(), DebugFault>
-    ensures answer { result ≡ command_result (Command.ClearBreak place) id table.old }
-    ensures records { table.new ≡
-        records_by (command_effect (Command.ClearBreak place) id table.old) table.old }
+    ensures answer { result ≡ command_result (Command.ClearBreak place) id table.old.records }
+    ensures records { table.new.records ≡
+        records_by (command_effect (Command.ClearBreak place) id table.old.records)
+        table.old.records }
+    ensures outbox { table.new.outbox ≡ table.old.outbox }
 {
     apply(table, id, Command::ClearBreak(place))
 }
 
 /// Sets whether each instruction of a procedure leaves a trace record. Refused as NotLoaded, and then nothing changes.
 pub fn set_trace<A: Allocator>(table: &mut Table<A>, id: u16, on: bool) -> Result<(), DebugFault>
-    ensures answer { result ≡ command_result (Command.SetTrace on) id table.old }
-    ensures records { table.new ≡
-        records_by (command_effect (Command.SetTrace on) id table.old) table.old }
+    ensures answer { result ≡ command_result (Command.SetTrace on) id table.old.records }
+    ensures records { table.new.records ≡
+        records_by (command_effect (Command.SetTrace on) id table.old.records)
+        table.old.records }
+    ensures outbox { table.new.outbox ≡ table.old.outbox }
 {
     apply(table, id, Command::SetTrace(on))
 }

@@ -11,7 +11,7 @@ use std::alloc::Allocator;
 
 /// Status, cause, place, depth, what is pending and the registers of a procedure, where it is loaded.
 pub fn view<A: Allocator>(table: &Table<A>, id: u16) -> Option<View>
-    ensures { result ≡ view_at (get table.now id) }
+    ensures { result ≡ view_at (get table.now.records id) }
 {
     table.view(id)
 }
@@ -25,9 +25,9 @@ pub fn memory<A: Allocator>(
     octets: &mut [u8],
 ) -> Result<(), DebugFault>
     ensures ok { OnOk result
-        (memory_at (get table.now id) address (length octets.old) ≡ Ok octets.new) }
+        (memory_at (get table.now.records id) address (length octets.old) ≡ Ok octets.new) }
     ensures fault { (fault : Fault) → result ≡ Err fault →
-        memory_at (get table.now id) address (length octets.old) ≡ Err fault }
+        memory_at (get table.now.records id) address (length octets.old) ≡ Err fault }
     ensures err { OnErr result (octets.new ≡ octets.old) }
     ensures length { length octets.new ≡ length octets.old }
 {

@@ -1,7 +1,7 @@
 //! The instruction event, and the trace record that it makes.
 ghost use Rattle.std.specs.Prelude.{◌≡◌, ◌++◌, option_to_list};
 ghost use Rattle.std.specs.FinMap.{get};
-ghost use Rattle.ocp_table.specs.Effects.{records_by, pool_by, step_outcome};
+ghost use Rattle.ocp_table.specs.Effects.{records_by, outbox_by, pool_by, step_outcome};
 ghost use Rattle.ocp_table.specs.RequestTable.{Step};
 ghost use Rattle.ocp_table.specs.Deciding.{effect_in};
 ghost use Rattle.ocp_debug.specs.Traces.{kept, traces_by};
@@ -21,7 +21,7 @@ pub(crate) struct Next {
 
 /// The next instruction, where the procedure is traced.
 fn next_at<A: Allocator>(table: &Table<A>, id: u16) -> Option<Next>
-    ensures { result ≡ next_at (get table.now id) }
+    ensures { result ≡ next_at (get table.now.records id) }
 {
     let record = table.record(id)?;
     if !record.traced {
@@ -54,7 +54,7 @@ fn trace_after<A: Allocator>(
     next: Option<Next>,
     outcome: StepOutcome,
 ) -> Option<Trace>
-    ensures { result ≡ trace_after id next outcome (get table.now id) }
+    ensures { result ≡ trace_after id next outcome (get table.now.records id) }
 {
     let next = next?;
     if !leaves_trace(outcome) {
@@ -78,11 +78,16 @@ pub fn instruction<A: Allocator>(
     pool: &mut Pool<A>,
     ring: &mut TraceRing<A>,
 ) -> StepOutcome
-    ensures answer { result ≡ step_outcome (effect_in (Step pool.old) id table.old) }
-    ensures records { table.new ≡ records_by (effect_in (Step pool.old) id table.old) table.old }
-    ensures pool { pool.new ≡ pool_by (effect_in (Step pool.old) id table.old) pool.old }
+    ensures answer { result ≡ step_outcome (effect_in (Step pool.old) id table.old.records) }
+    ensures records { table.new.records ≡
+        records_by (effect_in (Step pool.old) id table.old.records) table.old.records }
+    ensures outbox { table.new.outbox ≡
+        outbox_by (effect_in (Step pool.old) id table.old.records) table.old.records
+        table.old.outbox }
+    ensures pool { pool.new ≡ pool_by (effect_in (Step pool.old) id table.old.records) pool.old }
     ensures ring { ring.new ≡
-        kept (ring.old ++ traces_by (effect_in (Step pool.old) id table.old) table.old) }
+        kept (ring.old
+        ++ traces_by (effect_in (Step pool.old) id table.old.records) table.old.records) }
 {
     let next = next_at(table, id);
     let outcome = table.instruction(id, pool);

@@ -136,11 +136,11 @@ impl Text {
     {
         match pending {
             Pending::Nothing => self.push_all(b"none"),
-            Pending::Stop(step) => {
+            Pending::Stop(step, _) => {
                 self.push_all(b"stop ");
                 self.push_number(step);
             }
-            Pending::Suspend(step) => {
+            Pending::Suspend(step, _) => {
                 self.push_all(b"suspend ");
                 self.push_number(step);
             }
