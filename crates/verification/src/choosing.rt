@@ -1,7 +1,8 @@
 //! Which reports an outcome gives.
 
-ghost use Rattle.std.specs.Prelude.{◌≡◌};
-ghost use Rattle.verification.specs.Reports.{completion, reports_of_outcome, wants_acceptance, wants_completion, wants_start};
+ghost use Rattle.std.specs.Prelude.{◌≡◌, ◌++◌, []};
+ghost use Rattle.verification.specs.declared.notice.Notice.TheVariants.{Accepted, Started};
+ghost use Rattle.verification.specs.Reports.{completion, optional_report, reports_of_outcome, wants_acceptance, wants_completion, wants_start};
 
 use crate::notice::{Notice, NoticeList};
 use crate::outcome::Outcome;
@@ -32,6 +33,16 @@ pub fn is_completion_asked(ack: Ack) -> bool
     ack.contains(Ack::COMPLETION)
 }
 
+// The reports of acceptance and start, which come first.
+fn add_start(list: &mut NoticeList, ack: Ack)
+    requires { list.old ≡ [] }
+    ensures { list.new ≡
+        optional_report (wants_acceptance ack) Accepted ++ optional_report (wants_start ack) Started }
+{
+    list.add_if(is_acceptance_asked(ack), Notice::Accepted);
+    list.add_if(is_start_asked(ack), Notice::Started);
+}
+
 /// The reports of a request, in the order in which they are sent: acceptance, start, the place of the
 /// answer report, completion. A report of success is sent where its acknowledgement flag is set. A
 /// failed acceptance or start is sent whatever the flags are, and ends the list. The progress flag has
@@ -46,13 +57,9 @@ pub fn notices(ack: Ack, outcome: &Outcome) -> NoticeList
             list.add_if(is_acceptance_asked(ack), Notice::Accepted);
             list.add(Notice::NotStarted(*failure));
         }
-        Outcome::Started => {
-            list.add_if(is_acceptance_asked(ack), Notice::Accepted);
-            list.add_if(is_start_asked(ack), Notice::Started);
-        }
+        Outcome::Started => add_start(&mut list, ack),
         Outcome::Done => {
-            list.add_if(is_acceptance_asked(ack), Notice::Accepted);
-            list.add_if(is_start_asked(ack), Notice::Started);
+            add_start(&mut list, ack);
             list.add(Notice::Answer);
             list.add_if(is_completion_asked(ack), Notice::Completed);
         }
