@@ -1,6 +1,6 @@
 -- The places of the outbox fit after each call of a table.
 use Rattle.std.proofs.Common.{◌≡◌, ◌≤◌, ℕ, zero, suc, ◌+◌, List, [], ◌++◌, length, Option, Some, None, Bool, true, refl, sym, ap, subst, ◌∙◌, arith}
-use Rattle.std.specs.Prelude.{IfSome, IsSome}
+use Rattle.std.specs.Prelude.{IfSome}
 use Rattle.std.specs.FinMap as map
 use Rattle.std.proofs.lemmas.List.{length-append}
 use Rattle.obcp_types.specs.declared.pending.Due.{Due}
@@ -8,15 +8,14 @@ use Rattle.obcp_types.specs.declared.status.Status.{Status}
 use Rattle.obcp_types.specs.declared.status.Status.TheVariants.{Inactive, Running, Held}
 use Rattle.ocp_table.specs.declared.answers.InstructionOutcome.{InstructionOutcome}
 use Rattle.ocp_table.specs.declared.answers.Slice.{Slice}
-use Rattle.ocp_table.specs.declared.control.Pending.{Pending}
 use Rattle.ocp_table.specs.declared.control.Pending.TheVariants as pending
 use Rattle.ocp_table.specs.declared.directive.Directive as D
 use Rattle.ocp_table.specs.declared.directive.Directive.TheVariants as directive
 use Rattle.ocp_table.specs.Records.{Rec, Records}
-use Rattle.ocp_table.specs.Outbox.{places_of, places_in, pendings, is_outbox_full, HasPlaces}
-use Rattle.ocp_table.specs.Effects.{Effect, Loaded, Unloaded, Changed, Drained, Kept, Stepped, filed_by_outcome, record_after, records_by, records_with, outbox_by}
+use Rattle.ocp_table.specs.Outbox.{places_of, places_in, pendings, HasPlaces}
+use Rattle.ocp_table.specs.Effects.{Effect, Changed, Kept, Stepped, record_after, records_by, records_with, outbox_by}
 use Rattle.ocp_table.specs.RequestTable.{Step, transition}
-use Rattle.ocp_table.specs.Deciding.{outcome_in, effect_of_step, effect_by, effect_on, effect_in}
+use Rattle.ocp_table.specs.Deciding.{outcome_in, effect_of_step, effect_by, effect_on}
 use Rattle.ocp_table.specs.Shown.{directive_of, filed_of_effect}
 use Rattle.ocp_table.specs.Slices.{Store, store_after, store_after_events}
 use Rattle.ocp_table.proofs.Totals.{of, total-insert}

@@ -105,12 +105,7 @@ impl<A: Allocator> Record<A> {
     }
 
     /// Does instructions until the budget is used or the procedure no longer goes on.
-    pub(crate) fn slice(
-        &mut self,
-        pool: &mut Pool<A>,
-        outbox: &mut Outbox,
-        budget: u32,
-    ) -> Slice
+    pub(crate) fn slice(&mut self, pool: &mut Pool<A>, outbox: &mut Outbox, budget: u32) -> Slice
         requires budget { 1 ≤ budget }
         requires place { length outbox.old + places_of self.old.control.pending ≤ OUTBOX_PLACES }
         ensures slice { (m : Records) → get m self.old.id ≡ Some (shown self.old) →
