@@ -63,6 +63,17 @@ is_on S.NotLoaded = false
 is_on S.NotRunning = false
 is_on S.JournalFull = false
 
+-- whether an instruction event is done: a refused one is not
+abbrev pub is_done : StepOutcome → Bool
+is_done S.Broke = true
+is_done S.Ran = true
+is_done S.Called = true
+is_done S.Ended = true
+is_done (S.Faulted number) = true
+is_done S.NotLoaded = false
+is_done S.NotRunning = false
+is_done S.JournalFull = false
+
 -- whether it goes on after the next event
 abbrev pub goes_on : ℕ → Store → Bool
 goes_on id s =

@@ -50,15 +50,17 @@ pub enum LoadFailure {
 }
 
 impl StepOutcome {
-    ghost use Rattle.std.specs.Prelude.{◌≡◌};
+    ghost use Rattle.std.specs.Prelude.{◌≡◌, true, IsOk};
     ghost use Rattle.ocp_table.specs.Effects.{Effect, Kept, Failed, step_outcome};
     ghost use Rattle.ocp_table.specs.Shown.{AnswersStep};
-    ghost use Rattle.ocp_table.specs.Slices.{is_on};
+    ghost use Rattle.ocp_table.specs.Slices.{is_on, is_done};
 
     /// That of an instruction event which was answered so.
     #[inline(always)]
     pub(crate) fn of(answer: Result<InstructionOutcome, StartFailure>) -> StepOutcome
-        ensures { (effect : Effect) → AnswersStep answer effect → result ≡ step_outcome effect }
+        ensures outcome { (effect : Effect) → AnswersStep answer effect →
+            result ≡ step_outcome effect }
+        ensures done { IsOk answer → is_done result ≡ true }
     {
         match answer {
             Ok(InstructionOutcome::Broke) => StepOutcome::Broke,

@@ -23,7 +23,7 @@ pub struct Record<A: Allocator> {
 }
 
 impl<A: Allocator> Record<A> {
-    ghost use Rattle.std.specs.Prelude.{◌≡◌, ◌≤◌, ◌+◌, ◌++◌, Bool, [], None, Some, Ok, Err, length, true, false};
+    ghost use Rattle.std.specs.Prelude.{◌≡◌, ◌≤◌, ◌+◌, ◌++◌, Bool, [], None, Some, Ok, Err, IsOk, length, true, false};
     ghost use Rattle.obcp_types.specs.declared.status.Status.TheVariants.{Running};
     ghost use Rattle.bpf_step.specs.Machine.{started};
     ghost use Rattle.ocp_table.specs.Effects.{Started, Stepped, new_record, record_by, record_after, filed_by_outcome, failure_of, start_result, is_pended, pool_by_outcome};
@@ -192,6 +192,7 @@ impl<A: Allocator> Record<A> {
     ) -> Result<InstructionOutcome, StartFailure>
         requires { length outbox.old + places_of self.old.control.pending ≤ OUTBOX_PLACES }
         ensures answer { AnswersStep result (effect_of_record (Step pool.old) self.old) }
+        ensures done { self.old.control.status ≡ Running → IsOk result }
         ensures record { shown self.new ≡
             record_after (effect_of_record (Step pool.old) self.old) (shown self.old) }
         ensures outbox { outbox.new ≡ outbox.old

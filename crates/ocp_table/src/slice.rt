@@ -1,5 +1,5 @@
 //! A slice of a procedure that is found once.
-ghost use Rattle.std.specs.Prelude.{◌≡◌, ◌≤◌, ◌+◌, ◌++◌, length, Some, if◌then◌else◌, false};
+ghost use Rattle.std.specs.Prelude.{◌≡◌, ◌≤◌, ◌+◌, ◌++◌, length, Some, if◌then◌else◌, true, false};
 ghost use Rattle.std.specs.FinMap.{get};
 ghost use Rattle.obcp_types.specs.declared.status.Status.TheVariants.{Running};
 ghost use Rattle.bpf_step.specs.Runs.{local_run};
@@ -8,7 +8,7 @@ ghost use Rattle.ocp_table.specs.Effects.{record_after, pool_by, step_outcome};
 ghost use Rattle.ocp_table.specs.RequestTable.{Step};
 ghost use Rattle.ocp_table.specs.Outbox.{places_of};
 ghost use Rattle.ocp_table.specs.Shown.{shown, effect_of_record, filed_of_effect};
-ghost use Rattle.ocp_table.specs.Slices.{is_on, is_running_status, with_machine, IsSlice};
+ghost use Rattle.ocp_table.specs.Slices.{is_on, is_done, is_running_status, with_machine, IsSlice};
 
 use crate::outbox::Outbox;
 use crate::{OUTBOX_PLACES, Pool, Record, Slice, Status, StepOutcome};
@@ -53,6 +53,7 @@ impl<A: Allocator> Record<A> {
     fn event(&mut self, pool: &mut Pool<A>, outbox: &mut Outbox) -> StepOutcome
         requires { length outbox.old + places_of self.old.control.pending ≤ OUTBOX_PLACES }
         ensures answer { result ≡ step_outcome (effect_of_record (Step pool.old) self.old) }
+        ensures done { self.old.control.status ≡ Running → is_done result ≡ true }
         ensures record { shown self.new ≡
             record_after (effect_of_record (Step pool.old) self.old) (shown self.old) }
         ensures outbox { outbox.new ≡ outbox.old
@@ -82,6 +83,7 @@ impl<A: Allocator> Record<A> {
             IsSlice self.old.id
             (record { records = m; outbox = outbox.old; pool = pool.old })
             budget result (shown self.new) outbox.new pool.new }
+        ensures done { is_done result.last ≡ true }
         ensures place { length outbox.new + places_of self.new.control.pending ≤ OUTBOX_PLACES }
         ensures id { self.new.id ≡ self.old.id }
     {
@@ -112,6 +114,8 @@ impl<A: Allocator> Record<A> {
             IsSlice self.old.id
             (record { records = m; outbox = outbox.old; pool = pool.old })
             budget result (shown self.new) outbox.new pool.new }
+        ensures done { is_running_status self.old.control.status ≡ true →
+            is_done result.last ≡ true }
         ensures place { length outbox.new + places_of self.new.control.pending ≤ OUTBOX_PLACES }
         ensures id { self.new.id ≡ self.old.id }
     {

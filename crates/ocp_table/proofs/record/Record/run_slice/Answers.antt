@@ -1,4 +1,4 @@
-use Rattle.std.proofs.Common.{◌≡◌, ◌+◌, subst, sym, ◌∙◌, arith}
+use Rattle.std.proofs.Common.{◌≡◌, ◌+◌, refl, subst, sym, ◌∙◌, arith}
 use Rattle.ocp_table.specs.declared.answers.StepOutcome.TheVariants as S
 use Rattle.ocp_table.specs.Shown.{shown}
 use Rattle.ocp_table.specs.Slices.{last_ran, IsSlice}
@@ -9,6 +9,7 @@ pub loop-count-init : goal.loop-count-init
 loop-count-init g c = record {
   within = omega arith;
   place = c.requires.place;
+  done = refl;
   sliced = sliced-none c.args.self.now c.args.outbox.now c.args.pool.now c.requires.running;
 }
 
@@ -27,12 +28,18 @@ returns-then-not-goes_on-clause-slice g c m held =
     (record { answer = c.event-last.ensures.answer; made = c.event-last.ensures.record; filed_is = c.event-last.ensures.outbox; pooled = c.event-last.ensures.pool; same = c.event-last.ensures.id })
     c.args.budget (omega arith) (sym c.goes_on.ensures ∙ c.if-not-goes_on.true) m held
 
+pub returns-then-not-goes_on-clause-done : goal.returns-then-not-goes_on-clause-done
+returns-then-not-goes_on-clause-done g c =
+    let ran = sliced-run c.args.self.now c.loop-count.self c.run-count.new.self c.args.outbox.now c.loop-count.outbox c.args.pool.now c.loop-count.pool c.loop-count.count c.run-count.result c.loop-count.last _ c.loop-count.invariant.sliced c.run-count.ensures.ran c.run-count.ensures.record c.run-count.ensures.id in
+    c.event-last.ensures.done ran.running
+
 pub loop-count-preserved : goal.loop-count-preserved
 loop-count-preserved g c =
     let ran = sliced-run c.args.self.now c.loop-count.self c.run-count.new.self c.args.outbox.now c.loop-count.outbox c.args.pool.now c.loop-count.pool c.loop-count.count c.run-count.result c.loop-count.last _ c.loop-count.invariant.sliced c.run-count.ensures.ran c.run-count.ensures.record c.run-count.ensures.id in
     record {
       within = omega arith;
       place = c.event-last.ensures.place;
+      done = c.event-last.ensures.done ran.running;
       sliced = sliced-event c.args.self.now c.run-count.new.self c.event-last.new.self c.args.outbox.now c.loop-count.outbox c.event-last.new.outbox c.args.pool.now c.loop-count.pool c.event-last.new.pool (c.loop-count.count + c.run-count.result) _ c.event-last.result ran
           (record { answer = c.event-last.ensures.answer; made = c.event-last.ensures.record; filed_is = c.event-last.ensures.outbox; pooled = c.event-last.ensures.pool; same = c.event-last.ensures.id })
           (sym c.goes_on.ensures ∙ c.if-not-goes_on.false);

@@ -1,6 +1,7 @@
-use Rattle.std.proofs.Common.{◌-◌, ◌+◌, ◌≤◌, length}
+use Rattle.std.proofs.Common.{◌≡◌, true, ◌-◌, ◌+◌, ◌≤◌, length}
 use Rattle.ocp_table.specs.declared.table.TheConstants.{OUTBOX_PLACES}
 use Rattle.ocp_table.specs.Outbox.{places_of}
+use Rattle.ocp_table.specs.Slices.{is_done}
 use Rattle.ocp_table.proofs.Slicing.{IsSliced}
 use Rattle.ocp_table.proofs.record.Record.run_slice.Given as goal
 
@@ -9,6 +10,7 @@ abbrev pub invariant-loop-count : goal.invariant-loop-count
 invariant-loop-count g l = record {
   within : l.count ≤ l.budget;
   place : length l.outbox + places_of l.self.control.pending ≤ OUTBOX_PLACES;
+  done : is_done l.last ≡ true;
   sliced : IsSliced l.fn.self l.self l.fn.outbox l.outbox l.fn.pool l.pool l.count l.last;
 }
 
