@@ -66,5 +66,8 @@ module _ (log now : Log) (same : log ≡ now) (by time : ℕ) (told : IsTaken no
   journal_after new is = done_log log now same drain new taken_here.taken taken_here.free is
 
 -- an entry with the same reports
-pub same_receipt : (by time : ℕ) (reports reports' : List (List ℕ)) → reports ≡ reports' → record { entry = Drained by time; mark = Requested (Ok reports) } ≡ (record { entry = Drained by time; mark = Requested (Ok reports') } : Marked)
-same_receipt by time reports reports' is = ap (λ r. record { entry = Drained by time; mark = Requested (Ok r) }) is
+abbrev entered : ℕ → ℕ → List (List ℕ) → Marked
+entered by time reports = record { entry = Drained by time; mark = Requested (Ok reports) }
+
+pub same_receipt : (by time : ℕ) (reports reports' : List (List ℕ)) → reports ≡ reports' → entered by time reports ≡ entered by time reports'
+same_receipt by time reports reports' is = ap (entered by time) is
