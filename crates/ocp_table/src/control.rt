@@ -44,7 +44,7 @@ ghost use Rattle.std.specs.Prelude.{◌≡◌};
 ghost use Rattle.ocp_table.specs.Effects.{matches};
 
 impl Control {
-    ghost use Rattle.ocp_table.specs.Effects.{running, inactive, held, passed, control_at_step_end, control_by_call, control_by_outcome};
+    ghost use Rattle.ocp_table.specs.Effects.{running, inactive, held, control_at_step_end, control_by_outcome};
 
     /// That of a procedure that was started.
     pub(crate) fn running() -> Control
@@ -70,51 +70,42 @@ impl Control {
         }
     }
 
-    // That of a procedure that becomes held.
-    fn held(self, pending: Pending) -> Control
-        ensures { result ≡ held pending self }
+    // The procedure becomes held.
+    fn hold(&mut self, pending: Pending)
+        ensures { self.new ≡ held pending self.old }
     {
-        Control {
-            status: Status::Held,
-            pending,
-            pass: false,
-            cause: self.cause,
-        }
+        self.status = Status::Held;
+        self.pending = pending;
+        self.pass = false;
     }
 
-    // After an instruction.
-    fn passed(self) -> Control
-        ensures { result ≡ passed self }
-    {
-        Control {
-            pass: false,
-            ..self
-        }
-    }
-
-    // After the end of a step.
-    fn at_step_end(self, step: u16) -> Control
-        ensures { result ≡ control_at_step_end self.pending step self }
+    // The end of a step: what is pending for it is done.
+    fn end_step(&mut self, step: u16)
+        ensures { self.new ≡ control_at_step_end self.old.pending step self.old }
     {
         match self.pending {
-            Pending::Stop(wanted, _) if matches(wanted, step) => Control::inactive(Cause::Stopped),
-            Pending::Suspend(wanted, _) if matches(wanted, step) => self.held(Pending::Nothing),
-            _ => self.passed(),
+            Pending::Stop(wanted, _) if matches(wanted, step) => {
+                *self = Control::inactive(Cause::Stopped);
+            }
+            Pending::Suspend(wanted, _) if matches(wanted, step) => self.hold(Pending::Nothing),
+            _ => self.pass = false,
         }
     }
 
-    /// After an instruction event.
+    /// An instruction event was done so.
     #[inline(always)]
-    pub(crate) fn after(self, outcome: InstructionOutcome) -> Control
-        ensures { result ≡ control_by_outcome outcome self }
+    pub(crate) fn follow(&mut self, outcome: InstructionOutcome)
+        ensures { self.new ≡ control_by_outcome outcome self.old }
     {
         match outcome {
-            InstructionOutcome::Broke => self.held(self.pending),
-            InstructionOutcome::Ran => self.passed(),
-            InstructionOutcome::Called(Called::StepEnd(step)) => self.at_step_end(step),
-            InstructionOutcome::Called(_) => self.passed(),
-            InstructionOutcome::Ended => Control::inactive(Cause::Exited),
-            InstructionOutcome::Faulted(number) => Control::inactive(Cause::Fault(number)),
+            InstructionOutcome::Broke => self.hold(self.pending),
+            InstructionOutcome::Ran => self.pass = false,
+            InstructionOutcome::Called(Called::StepEnd(step)) => self.end_step(step),
+            InstructionOutcome::Called(_) => self.pass = false,
+            InstructionOutcome::Ended => *self = Control::inactive(Cause::Exited),
+            InstructionOutcome::Faulted(number) => {
+                *self = Control::inactive(Cause::Fault(number));
+            }
         }
     }
 }

@@ -111,17 +111,17 @@ impl Outbox {
 
     /// Files what an instruction event completes or overtakes.
     #[inline(always)]
-    pub(crate) fn file(&mut self, pending: Pending, outcome: InstructionOutcome)
-        requires { length self.old + places_of pending ≤ OUTBOX_PLACES }
-        ensures { self.new ≡ self.old ++ filed_by_outcome outcome pending }
+    pub(crate) fn file(&mut self, pending: &Pending, outcome: InstructionOutcome)
+        requires { length self.old + places_of pending.now ≤ OUTBOX_PLACES }
+        ensures { self.new ≡ self.old ++ filed_by_outcome outcome pending.now }
     {
         match outcome {
             InstructionOutcome::Broke => {}
             InstructionOutcome::Ran => {}
-            InstructionOutcome::Called(Called::StepEnd(step)) => self.end_step(pending, step),
+            InstructionOutcome::Called(Called::StepEnd(step)) => self.end_step(*pending, step),
             InstructionOutcome::Called(_) => {}
-            InstructionOutcome::Ended => self.overtake(pending),
-            InstructionOutcome::Faulted(_) => self.overtake(pending),
+            InstructionOutcome::Ended => self.overtake(*pending),
+            InstructionOutcome::Faulted(_) => self.overtake(*pending),
         }
     }
 }

@@ -219,12 +219,12 @@ impl<A: Allocator> Record<A> {
         ensures id { self.new.id ≡ self.old.id }
     {
         if self.breaks() {
-            self.control = self.control.after(InstructionOutcome::Broke);
+            self.control.follow(InstructionOutcome::Broke);
             return InstructionOutcome::Broke;
         }
         let outcome = self.execution.step(pool, &mut self.mailbox);
-        outbox.file(self.control.pending, outcome);
-        self.control = self.control.after(outcome);
+        outbox.file(&self.control.pending, outcome);
+        self.control.follow(outcome);
         outcome
     }
 
