@@ -1,6 +1,6 @@
 -- Which events are refused, and that a refused one leaves the world.
-use Rattle.std.proofs.Common.{◌≡◌, ℕ, Bool, true, false, cond, List, [], ◌∷◌, ◌++◌, length, Option, Some, None, refl, sym, ap, subst, ◌∙◌}
-use Rattle.std.specs.Prelude.{Result, Ok, Err, is_some, is_none, not, ◌==◌, nat_le}
+use Rattle.std.proofs.Common.{◌≡◌, ℕ, Bool, true, false, ◌+◌, cond, List, [], ◌∷◌, ◌++◌, length, Option, Some, None, refl, sym, ap, subst, ◌∙◌}
+use Rattle.std.specs.Prelude.{Result, Ok, Err, is_some, is_none, not, nat_le}
 use Rattle.std.proofs.lemmas.List.{append-nil}
 use Rattle.pus_fields.specs.declared.fault.Discard.{Discard}
 use Rattle.pus_fields.specs.declared.fault.TcFault.{TcFault}
@@ -122,7 +122,7 @@ kept_step (Changed id (Started arguments)) is w h = absurd is
 kept_step (Changed id change) is w h = absurd is
 kept_step Drained is w h = absurd is
 kept_step (Kept Unasked) is w h = absurd is
-kept_step (Kept (Failed failure)) is w h = untouched w
+kept_step (Kept (Failed failure)) is w h i = record w { outbox = append-nil w.outbox i; events = cond (h i) (w.events + 1) w.events; traces = append-nil w.traces i }
 
 -- ---- a debugger's command
 
@@ -150,10 +150,10 @@ kept_drain : (time : ℕ) (due : List Due) (w : World) → is_accepted (answer_b
 kept_drain time [] w h = untouched w
 kept_drain time (due ∷ dues) w h = absurd (true_false h)
 
--- a drain is refused where nothing is due, or it is accepted
-pub drain_undue : (time : ℕ) (due : List Due) (w : World) → IsUndue (answer_by (drain_effect time due).reply w) (not (length due == 0))
-drain_undue time [] w = refl
-drain_undue time (due ∷ dues) w = refl
+-- a drain of what is due is accepted
+pub due_accepted : (answer : Answer) (due : Bool) → IsUndue answer due → due ≡ true → is_accepted answer ≡ true
+due_accepted answer true is on = is
+due_accepted answer false is on = absurd (true_false (sym on))
 
 -- ---- any event
 

@@ -1,28 +1,35 @@
 -- Reports that are sent.
-use Rattle.std.proofs.Common.{◌≡◌, ◌+◌, ℕ, List, [], length, sym, ap, ◌∙◌, arith}
+use Rattle.std.proofs.Common.{◌≡◌, ◌+◌, ℕ, true, false, List, [], ◌∷◌, length, refl, sym, ap, subst, ◌∙◌, arith}
 use Rattle.std.specs.Prelude.{◌%◌, Ok}
 use Rattle.std.proofs.lemmas.List.{append-nil}
+use Rattle.obcp_types.specs.declared.pending.Due.{Due}
 use Rattle.verification.specs.declared.outcome.Outcome.{Outcome}
 use Rattle.ocp_table.specs.declared.directive.Directive as D
 use Rattle.ocp_table.specs.Records.{Procedures}
 use Rattle.ocp_table.specs.RequestTable.{Directive}
 use Rattle.ocp_table.specs.Outbox.{is_outbox_full}
 use Rattle.ocp_table.specs.Deciding.{effect_in}
-use Rattle.ocp_table.specs.Effects.{Effect, Kept, Unasked, records_by, outbox_by}
+use Rattle.ocp_table.specs.Effects as table
+use Rattle.ocp_table.specs.Effects.{Kept, Unasked, Drained, records_by, outbox_by}
 use Rattle.ocp_table.specs.Shown.{directive_of}
 use Rattle.ocp_debug.specs.Traces.{kept}
 use Rattle.ocp_reports.specs.declared.origin.Origin.{Origin}
 use Rattle.ocp_reports.specs.Origin.{Dispatch}
 use Rattle.ocp_reports.specs.Reports.{reports_of}
+use Rattle.ocp_reports.specs.Due.{drained}
 use Rattle.ocp_reports.specs.Packets.{packets}
 use Rattle.ocp_reports.proofs.Packets.{packets-alike, length-packets}
 use Rattle.ocp_world.specs.World.{World}
-use Rattle.ocp_world.specs.Effect.{Sends}
-use Rattle.ocp_world.specs.After.{Requested, world_after}
+use Rattle.ocp_world.specs.Effect.{Effect, Sends}
+use Rattle.ocp_world.specs.Drains.{drain_effect}
+use Rattle.ocp_world.specs.After.{Requested, answer_by, is_accepted, world_after}
 use Rattle.ocp_world.specs.Requests.{outcome_by, directive_effect}
 use Rattle.ocp_world.specs.Mirror.State.{IsWorld, DoesIn}
 use Rattle.ocp_world.specs.declared.state.State.{State}
 use Rattle.ocp_world.proofs.Calm.{directive_leaves_pool, directive_keeps_traces}
+
+true_false : true ≡ false → ⊥
+true_false e = cc
 
 module _ {A : Type 0} (w : World) (s : State A) (dispatches : List Dispatch) (reports : List (List ℕ)) (stands : IsWorld w s) (are : reports ≡ packets s.apid s.count dispatches) where
   -- the packets are those of all reports so far, of which only the count modulo 16,384 is sent
@@ -49,12 +56,41 @@ module _ {A : Type 0} (w : World) (s : State A) (dispatches : List Dispatch) (re
     ring = stands.ring ∙ ap kept (sym (append-nil w.traces));
   }
 
+-- what a drain that is accepted does: completions wait
+drain_is : (w : World) (time : ℕ) (due : List Due) → is_accepted (answer_by (drain_effect time due).reply w) ≡ true → drain_effect time due ≡ record { on_records = Drained; reply = Sends (drained time due) }
+drain_is w time [] accepted = absurd (true_false (sym accepted))
+drain_is w time (due ∷ dues) accepted = refl
+
+-- a drain that is accepted: the reports are sent, and then the outbox is emptied
+module _ {A : Type 0} (w : World) (time : ℕ) (old : State A) (stands : IsWorld w old) (accepted : is_accepted (answer_by (drain_effect time w.outbox).reply w) ≡ true) (procedures : Procedures) (records : procedures.records ≡ old.table.records) (outbox : procedures.outbox ≡ []) (reports : List (List ℕ)) (are : reports ≡ packets old.apid old.count (drained time old.table.outbox)) (count : ℕ) (next : count ≡ (old.count + length reports) % 16384) where
+  abbrev dispatches : List Dispatch
+  dispatches = drained time w.outbox
+
+  are_here : reports ≡ packets old.apid old.count dispatches
+  are_here = are ∙ ap (λ due. packets old.apid old.count (drained time due)) stands.outbox
+
+  abbrev Drains : Effect → Type 0
+  Drains effect = DoesIn w effect (Ok reports) (record old { table = procedures; count = count })
+
+  pub drained_all : Drains (drain_effect time w.outbox)
+  drained_all = subst Drains (sym (drain_is w time w.outbox accepted)) (
+    ap (λ all. Requested (Ok all)) (sent_reports w old dispatches reports stands are_here),
+    record {
+      apid = stands.apid;
+      records = records ∙ stands.records;
+      outbox = outbox;
+      pool = stands.pool;
+      count = next_count w old dispatches reports stands are_here count next;
+      ring = stands.ring ∙ ap kept (sym (append-nil w.traces));
+    },
+  )
+
 -- a request of a loaded procedure that is not refused: its reports are sent, and then the records are changed
-module _ {A : Type 0} (w : World) (origin : Origin) (d : D.Directive) (id : ℕ) (old new : State A) (outcome : Outcome) (reports : List (List ℕ)) (table : Procedures) (stands : IsWorld w old) where
+module _ {A : Type 0} (w : World) (origin : Origin) (d : D.Directive) (id : ℕ) (old new : State A) (outcome : Outcome) (reports : List (List ℕ)) (procedures : Procedures) (stands : IsWorld w old) where
   abbrev asked : Procedures → Directive
   asked t = directive_of d (is_outbox_full t.records t.outbox)
 
-  abbrev effect_at : Procedures → Effect
+  abbrev effect_at : Procedures → table.Effect
   effect_at t = effect_in (asked t) id t.records
 
   abbrev here : Procedures
@@ -63,11 +99,11 @@ module _ {A : Type 0} (w : World) (origin : Origin) (d : D.Directive) (id : ℕ)
   same_table : old.table ≡ here
   same_table = λ i. record { records = stands.records i; outbox = stands.outbox i }
 
-  module _ (became : outcome ≡ outcome_by (effect_at old.table)) (does : DoesIn w (record { on_records = Kept Unasked; reply = Sends (reports_of origin outcome []) }) (Ok reports) new) (same : new.table ≡ old.table) (records : table.records ≡ records_by (effect_at new.table) new.table.records) (outbox : table.outbox ≡ outbox_by (effect_at new.table) new.table.records new.table.outbox) where
+  module _ (became : outcome ≡ outcome_by (effect_at old.table)) (does : DoesIn w (record { on_records = Kept Unasked; reply = Sends (reports_of origin outcome []) }) (Ok reports) new) (same : new.table ≡ old.table) (records : procedures.records ≡ records_by (effect_at new.table) new.table.records) (outbox : procedures.outbox ≡ outbox_by (effect_at new.table) new.table.records new.table.outbox) where
     decided : outcome ≡ outcome_by (effect_at here)
     decided = became ∙ ap (λ t. outcome_by (effect_at t)) same_table
 
-    pub directed : DoesIn w (directive_effect origin (asked here) id w.records) (Ok reports) (record new { table = table })
+    pub directed : DoesIn w (directive_effect origin (asked here) id w.records) (Ok reports) (record new { table = procedures })
     directed = (
       ap (λ o. Requested (Ok (packets w.apid w.reports (reports_of origin o [])))) (sym decided) ∙ does.0,
       record {

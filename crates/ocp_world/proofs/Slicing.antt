@@ -1,10 +1,10 @@
 -- A slice of the state, against steps of the world.
-use Rattle.std.proofs.Common.{◌≡◌, ℕ, ◌+◌, ◌-◌, ◌<◌, Bool, true, false, replicate, cond, sym, ap, subst, ◌∙◌}
+use Rattle.std.proofs.Common.{◌≡◌, ℕ, ◌+◌, ◌-◌, ◌<◌, Bool, true, false, replicate, cond, refl, sym, ap, subst, ◌∙◌, arith}
 use Rattle.std.specs.FinMap.{get}
 use Rattle.ocp_table.specs.declared.answers.StepOutcome.{StepOutcome}
 use Rattle.ocp_table.specs.declared.answers.StepOutcome.TheVariants.{Ran}
 use Rattle.ocp_world.specs.World.{World, Step}
-use Rattle.ocp_world.specs.After.{Stepped, after}
+use Rattle.ocp_world.specs.After.{Stepped, after, is_accepted}
 use Rattle.ocp_world.specs.Replay.{replay_from}
 use Rattle.ocp_world.specs.Slice.{goes_on, is_on, is_running, outcome_in, slice_count, slice_last}
 use Rattle.ocp_world.proofs.Replays.{replay_from-steps}
@@ -16,6 +16,8 @@ module _ {A : Type 0} where
   -- n steps of a slice are made
   pub record IsSliced (old now : State A) (id budget n : ℕ) (last : StepOutcome) : Type 0 where
     pub world : (w : World) (by : ℕ) → IsWorld w old → IsWorld (replay_from w (replicate n (Step by id))) now
+    pub ready : (w : World) (by : ℕ) → IsWorld w old → is_accepted (after w (Step by id)).answer ≡ true → is_accepted (after (replay_from w (replicate n (Step by id))) (Step by id)).answer ≡ true
+    pub events : (w : World) (by : ℕ) → IsWorld w old → is_accepted (after w (Step by id)).answer ≡ true → (replay_from w (replicate n (Step by id))).events ≡ w.events + n
     pub count : (w : World) (by : ℕ) → IsWorld w old → slice_count w by id budget ≡ n + slice_count (replay_from w (replicate n (Step by id))) by id (budget - n)
     pub outcome : (w : World) (by : ℕ) → IsWorld w old → slice_last w by id Ran budget ≡ slice_last (replay_from w (replicate n (Step by id))) by id last (budget - n)
 
@@ -24,6 +26,20 @@ module _ {A : Type 0} where
     pub world : (w : World) (by : ℕ) → IsWorld w now → IsWorld (after w (Step by id)).world next
     pub answer : (w : World) (by : ℕ) → IsWorld w now → Stepped o ≡ (after w (Step by id)).answer
     pub goes : (w : World) → IsWorld w next → on ≡ cond (is_on o) (is_running (get w.records id)) false
+    pub accepted : (w : World) (by : ℕ) → IsWorld w next → on ≡ true → is_accepted (after w (Step by id)).answer ≡ true
+
+  counts_on : (total before n : ℕ) → before ≡ total + n → before + 1 ≡ total + (n + 1)
+  counts_on total before n is = omega (arith, is)
+
+  -- none are made yet
+  pub IsSliced-none : (old : State A) (id budget : ℕ) → IsSliced old old id budget 0 Ran
+  IsSliced-none old id budget = record {
+    world = λ w by stands. stands;
+    ready = λ w by stands first. first;
+    events = λ w by stands first. omega arith;
+    count = λ w by stands. let all : budget - 0 ≡ budget = omega arith in omega arith;
+    outcome = λ w by stands. refl;
+  }
 
   module _ (old now next : State A) (id budget n : ℕ) (last o : StepOutcome) (on : Bool) (within : n < budget) (so_far : IsSliced old now id budget n last) (more : IsOneMore now next id o on) where
     module _ (w : World) (by : ℕ) (stands : IsWorld w old) where
@@ -42,6 +58,12 @@ module _ {A : Type 0} where
       pub sliced_world : IsWorld (replay_from w (replicate (n + 1) (Step by id))) next
       sliced_world = subst (λ v. IsWorld v next) (sym (replay_from-steps w by id n)) next_here
 
+      pub sliced_events : is_accepted (after w (Step by id)).answer ≡ true → (replay_from w (replicate (n + 1) (Step by id))).events ≡ w.events + (n + 1)
+      sliced_events first =
+          ap (λ v. v.events) (replay_from-steps w by id n)
+          ∙ ap (λ b. cond b (here.events + 1) here.events) (so_far.ready w by stands first)
+          ∙ counts_on w.events here.events n (so_far.events w by stands first)
+
       pub sliced_count : on ≡ false → n + 1 ≡ slice_count w by id budget
       sliced_count off = count_end w by id n budget within (tested ∙ off) (so_far.count w by stands)
 
@@ -51,6 +73,8 @@ module _ {A : Type 0} where
     pub IsSliced-more : on ≡ true → IsSliced old next id budget (n + 1) o
     IsSliced-more still = record {
       world = λ w by stands. sliced_world w by stands;
+      ready = λ w by stands first. more.accepted (replay_from w (replicate (n + 1) (Step by id))) by (sliced_world w by stands) still;
+      events = λ w by stands first. sliced_events w by stands first;
       count = λ w by stands. count_more w by id n budget within (tested w by stands ∙ still) (so_far.count w by stands);
       outcome = λ w by stands. last_more w by id n budget within Ran last (so_far.outcome w by stands) (tested w by stands ∙ still) o (outcome_here w by stands);
     }

@@ -2,10 +2,10 @@
 use Rattle.std.specs.Prelude.{ℕ, ◌+◌, Bool, true, false, List, ◌++◌, length, Result, Ok, Err, if◌then◌else◌}
 use Rattle.pus_fields.specs.TelecommandFaults.{telecommand_of}
 use Rattle.ocp_table.specs.declared.answers.StepOutcome.{StepOutcome}
-use Rattle.ocp_table.specs.declared.answers.StepOutcome.TheVariants as S
 use Rattle.ocp_table.specs.RequestTable as directive
 use Rattle.ocp_table.specs.Deciding.{effect_in}
 use Rattle.ocp_table.specs.Effects.{records_by, outbox_by, pool_by}
+use Rattle.ocp_table.specs.Slices as table
 use Rattle.ocp_debug.specs.declared.command.DebugFault.{DebugFault}
 use Rattle.ocp_debug.specs.Traces.{traces_by}
 use Rattle.ocp_reports.specs.Packets.{packets}
@@ -48,14 +48,7 @@ reports_by Undue n = n
 
 -- whether an instruction is done
 abbrev pub is_done : StepOutcome → Bool
-is_done S.Broke = true
-is_done S.Ran = true
-is_done S.Called = true
-is_done S.Ended = true
-is_done (S.Faulted number) = true
-is_done S.NotLoaded = false
-is_done S.NotRunning = false
-is_done S.JournalFull = false
+is_done outcome = table.is_done outcome
 
 -- the accepted events so far
 abbrev pub events_by : Reply → ℕ → ℕ

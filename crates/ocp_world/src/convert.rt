@@ -41,9 +41,10 @@ pub fn discard_of(read: &Result<Tc<'_>, TcFault>) -> Option<Discard>
 pub fn pending_origin(origin: Origin, event: u64) -> PendingOrigin
     ensures { result ≡ pending_origin origin event }
 {
+    let request = origin.request;
     PendingOrigin {
         event,
-        request: origin.request,
+        request,
         source: origin.destination,
         ack: origin.ack,
     }
@@ -51,7 +52,7 @@ pub fn pending_origin(origin: Origin, event: u64) -> PendingOrigin
 
 /// The status report.
 pub fn status_report<A: Allocator>(table: &Table<A>) -> Report
-    ensures { result ≡ status_report table.now }
+    ensures { result ≡ status_report table.now.records }
 {
     match StatusRows::new(table.statuses()) {
         Some(rows) => Report::Status { rows },

@@ -5,7 +5,7 @@ ghost use Rattle.ocp_world.specs.World.{World, Drain};
 ghost use Rattle.ocp_world.specs.After.{after, effect_of};
 
 use crate::{EngineFault, State};
-use ocp_reports::{CopiedReports, count_after};
+use ocp_reports::{CopiedReports, Sender, count_after};
 use std::alloc::Allocator;
 
 impl<A: Allocator> State<A> {
@@ -31,7 +31,10 @@ impl<A: Allocator> State<A> {
         if !self.is_due() {
             return Err(EngineFault::NothingDue);
         }
-        let sender = self.sender();
+        let sender = Sender {
+            apid: self.apid,
+            count: self.count,
+        };
         let reports = sender.drained_reports(alloc, time, self.table.outbox())?;
         self.table.drain();
         self.count = count_after(self.count, reports.len());

@@ -15,9 +15,11 @@ impl<A: Allocator> State<A> {
     ghost use Rattle.ocp_world.specs.Replay.{replay_from};
     ghost use Rattle.ocp_world.specs.Slice.{is_on, is_running, slice_count, slice_last};
 
-    // Whether a procedure runs.
+    // Whether a procedure runs: then its next instruction event is accepted.
     fn is_running(&self, id: u16) -> bool
-        ensures { (w : World) → IsWorld w self.now → result ≡ is_running (get w.records id) }
+        ensures runs { (w : World) → IsWorld w self.now → result ≡ is_running (get w.records id) }
+        ensures accepted { (w : World) (by : ℕ) → IsWorld w self.now → result ≡ true →
+            is_accepted (after w (Step by id)).answer ≡ true }
     {
         match self.table.step_failure(id) {
             Some(_) => false,
@@ -27,8 +29,10 @@ impl<A: Allocator> State<A> {
 
     // Whether a slice goes on after this outcome.
     fn goes_on(&self, id: u16, outcome: StepOutcome) -> bool
-        ensures { (w : World) → IsWorld w self.now →
+        ensures goes { (w : World) → IsWorld w self.now →
             result ≡ (if is_on outcome then is_running (get w.records id) else false) }
+        ensures accepted { (w : World) (by : ℕ) → IsWorld w self.now → result ≡ true →
+            is_accepted (after w (Step by id)).answer ≡ true }
     {
         match outcome {
             StepOutcome::Ran => self.is_running(id),
@@ -42,6 +46,10 @@ impl<A: Allocator> State<A> {
         requires { 1 ≤ budget }
         ensures world { (w : World) (by : ℕ) → IsWorld w self.old →
             IsWorld (replay_from w (replicate result.count (Step by id))) self.new }
+        ensures events { (w : World) (by : ℕ) → IsWorld w self.old →
+            is_accepted (after w (Step by id)).answer ≡ true →
+            (replay_from w (replicate result.count (Step by id))).events ≡
+            w.events + result.count }
         ensures count { (w : World) (by : ℕ) → IsWorld w self.old →
             result.count ≡ slice_count w by id budget }
         ensures last { (w : World) (by : ℕ) → IsWorld w self.old →

@@ -146,16 +146,6 @@ impl<A: Allocator> State<A> {
         self.pool.get(index)
     }
 
-    // The sender of the next reports.
-    pub(crate) fn sender(&self) -> Sender
-        ensures { result ≡ record { apid = self.now.apid; count = self.now.count } }
-    {
-        Sender {
-            apid: self.apid,
-            count: self.count,
-        }
-    }
-
     // Sends the reports of a request that changes no procedure.
     fn reply(
         &mut self,
@@ -174,7 +164,10 @@ impl<A: Allocator> State<A> {
         ensures pool { self.new.pool ≡ self.old.pool }
         ensures ring { self.new.ring ≡ self.old.ring }
     {
-        let sender = self.sender();
+        let sender = Sender {
+            apid: self.apid,
+            count: self.count,
+        };
         let reports = sender.copied_reports(alloc, origin, outcome, answer)?;
         self.count = count_after(self.count, reports.len());
         Ok(reports)
