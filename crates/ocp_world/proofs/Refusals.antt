@@ -122,7 +122,7 @@ kept_step (Changed id (Started arguments)) is w h = absurd is
 kept_step (Changed id change) is w h = absurd is
 kept_step Drained is w h = absurd is
 kept_step (Kept Unasked) is w h = absurd is
-kept_step (Kept (Failed failure)) is w h i = record w { outbox = append-nil w.outbox i; events = cond (h i) (w.events + 1) w.events; traces = append-nil w.traces i }
+kept_step (Kept (Failed failure)) is w h = λ i. record w { outbox = append-nil w.outbox i; events = cond (h i) (w.events + 1) w.events; traces = append-nil w.traces i }
 
 -- ---- a debugger's command
 

@@ -12,6 +12,18 @@ use Rattle.ocp_world.proofs.Slices.{count_more, count_end, last_more, last_end}
 use Rattle.ocp_world.specs.Mirror.State.{IsWorld}
 use Rattle.ocp_world.specs.declared.state.State.{State}
 
+counts_on : (total before n : ℕ) → before ≡ total + n → before + 1 ≡ total + (n + 1)
+counts_on total before n is = omega (arith, is)
+
+all_left : (budget : ℕ) → budget ≡ budget - 0
+all_left budget = omega arith
+
+none_more : (count : ℕ) → count ≡ 0 + count
+none_more count = omega arith
+
+none_counted : (events : ℕ) → events ≡ events + 0
+none_counted events = omega arith
+
 module _ {A : Type 0} where
   -- n steps of a slice are made
   pub record IsSliced (old now : State A) (id budget n : ℕ) (last : StepOutcome) : Type 0 where
@@ -28,17 +40,14 @@ module _ {A : Type 0} where
     pub goes : (w : World) → IsWorld w next → on ≡ cond (is_on o) (is_running (get w.records id)) false
     pub accepted : (w : World) (by : ℕ) → IsWorld w next → on ≡ true → is_accepted (after w (Step by id)).answer ≡ true
 
-  counts_on : (total before n : ℕ) → before ≡ total + n → before + 1 ≡ total + (n + 1)
-  counts_on total before n is = omega (arith, is)
-
   -- none are made yet
   pub IsSliced-none : (old : State A) (id budget : ℕ) → IsSliced old old id budget 0 Ran
   IsSliced-none old id budget = record {
     world = λ w by stands. stands;
     ready = λ w by stands first. first;
-    events = λ w by stands first. omega arith;
-    count = λ w by stands. let all : budget - 0 ≡ budget = omega arith in omega arith;
-    outcome = λ w by stands. refl;
+    events = λ w by stands first. none_counted w.events;
+    count = λ w by stands. ap (λ k. slice_count w by id k) (all_left budget) ∙ none_more (slice_count w by id (budget - 0));
+    outcome = λ w by stands. ap (λ k. slice_last w by id Ran k) (all_left budget);
   }
 
   module _ (old now next : State A) (id budget n : ℕ) (last o : StepOutcome) (on : Bool) (within : n < budget) (so_far : IsSliced old now id budget n last) (more : IsOneMore now next id o on) where
