@@ -44,9 +44,16 @@ module _ {X : Type 0} (entry_of : X → Entry) (apid words : ℕ) (xs : List X) 
       ∙ length-expand-with_entry (map entry_of (take i xs)) (entry_of x)
 
 -- a journal's world is the replay of all its entries
-pub replayed : (log : Log) → replay log.apid log.words (expand log.entries) ≡ world_of log
+replayed : (log : Log) → replay log.apid log.words (expand log.entries) ≡ world_of log
 unfolding world_of
 replayed log = refl
+
+pub replayed_by : (log : Log) (apid words : ℕ) (entries : List Entry) → apid ≡ log.apid → words ≡ log.words → entries ≡ log.entries → replay apid words (expand entries) ≡ world_of log
+replayed_by log apid words entries named pool all =
+    ap (λ a. replay a words (expand entries)) named
+    ∙ ap (λ n. replay log.apid n (expand entries)) pool
+    ∙ ap (λ es. replay log.apid log.words (expand es)) all
+    ∙ replayed log
 
 -- a request or a drain that finds memory leaves the state of the world after it, since one that is refused changes nothing
 module _ {A : Type 0} (keeps : (w : World) (e : Event) → is_accepted (after w e).answer ≡ false → (after w e).world ≡ w) (w : World) (e : Event) (s : State A) where

@@ -24,8 +24,8 @@ loop-entry-preserved g c =
     record {
       stands = subst (λ v. IsWorld v c.enter.new.state) (sym (replay-entry entry_of c.args.apid c.args.words items i c.entry-item.result within c.entry-item.is))
           (c.in_ok-enter.ensures (replay c.args.apid c.args.words before) c.loop-entry.invariant.stands (apid-replay_from start before) numbered);
-      counted = omega (arith, c.loop-entry.invariant.counted, c.events.ensures.value, more);
-      bounded = omega (arith, c.loop-entry.invariant.bounded, c.events.ensures.bound);
+      counted = omega (arith, c.loop-entry.invariant.counted, c.events-event.ensures.value, more);
+      bounded = omega (arith, c.loop-entry.invariant.bounded, c.events-event.ensures.bound);
     }
 
 pub returns : goal.returns
