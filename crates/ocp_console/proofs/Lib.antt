@@ -2,6 +2,5 @@ pub mod Cutting
 pub mod Runs
 pub mod Scripts
 pub mod Workless
-pub mod Asking
 pub mod Requests
 pub mod Taking
