@@ -1,6 +1,6 @@
 -- A drain that is taken: its reports, its entry with its mark, and the engine's world.
-use Rattle.std.proofs.Common.{◌≡◌, ℕ, true, false, Bool, List, [], ◌∷◌, Option, Some, None, sym, ap, subst, refl, ◌∙◌}
-use Rattle.std.specs.Prelude.{Result, Ok, Err}
+use Rattle.std.proofs.Common.{◌≡◌, ℕ, true, false, Bool, List, [], ◌∷◌, sym, ap, subst, ◌∙◌}
+use Rattle.std.specs.Prelude.{Ok, Err}
 use Rattle.ocp_world.specs.declared.answers.EngineFault.{EngineFault}
 use Rattle.ocp_world.specs.declared.answers.EngineFault.TheVariants as engine
 use Rattle.ocp_world.specs.declared.state.State.{State}
@@ -15,7 +15,7 @@ use Rattle.ocp_core.specs.Mirror.Admitted.{IsTaken}
 use Rattle.ocp_core.specs.Mirror.Counted.{AreCounted}
 use Rattle.ocp_core.proofs.Keeping.{IsWorld-with_entry}
 use Rattle.ocp_core.proofs.Counting.{counted}
-use Rattle.ocp_core.proofs.Journaling.{refused_answer, full_answered, answer_taken, done_answer, done_log}
+use Rattle.ocp_core.proofs.Journaling.{refused_answer, full_answered, answer_taken, done_log}
 
 -- ---- a drain that is refused
 

@@ -8,7 +8,7 @@ use Rattle.pus_fields.specs.declared.fault.TcFault.TheVariants.{Discarded, Rejec
 use Rattle.pus_fields.specs.Telecommand.{Telecommand}
 use Rattle.pus_fields.specs.TelecommandFaults.{telecommand_of}
 use Rattle.obcp_types.specs.declared.failure.RequestFault.{RequestFault}
-use Rattle.obcp_types.specs.declared.failure.StartFailure.TheVariants.{MailboxFull, OutboxFull}
+use Rattle.obcp_types.specs.declared.failure.StartFailure.TheVariants.{MailboxFull}
 use Rattle.obcp_types.specs.declared.pending.Due.{Due}
 use Rattle.obcp_types.specs.declared.pending.PendingOrigin.{PendingOrigin}
 use Rattle.obcp_types.specs.declared.status.Status.{Status}
@@ -22,7 +22,7 @@ use Rattle.ocp_table.specs.declared.control.Pending.{Pending}
 use Rattle.ocp_table.specs.declared.control.Pending.TheVariants as pending
 use Rattle.ocp_table.specs.declared.answers.InstructionOutcome.{InstructionOutcome}
 use Rattle.ocp_table.specs.Records.{Rec, Records}
-use Rattle.ocp_table.specs.Effects.{Effect, Changed, Change, Stepped, Sent, Pended}
+use Rattle.ocp_table.specs.Effects.{Effect, Changed, Change, Stepped, Sent}
 use Rattle.ocp_table.specs.RequestTable.{Directive, Load, Unload, Activate, Stop, Suspend, Resume, Abort, Communicate, Step, Decision, Loads, Unloads, Changes, Steps, Fails, transition, sent, pended}
 use Rattle.ocp_table.specs.Deciding.{effect_in, effect_by, effect_of_load, effect_of_step, outcome_in, outcome_at, is_full, status_of, words_of, pending_of}
 use Rattle.ocp_debug.specs.declared.command.Command.TheVariants.{SetBreak, ClearBreak, SetTrace}

@@ -49,11 +49,7 @@ fn request<A: Allocator + Copy>(
 }
 
 // Does a drain.
-fn drain<A: Allocator + Copy>(
-    state: &mut State<A>,
-    alloc: A,
-    time: u32,
-) -> Result<(), AllocError>
+fn drain<A: Allocator + Copy>(state: &mut State<A>, alloc: A, time: u32) -> Result<(), AllocError>
     ensures { (w : World) (by : ℕ) → IsWorld w state.old →
         OnOk result (IsWorld (after w (Drain by time)).world state.new) }
 {

@@ -1,5 +1,4 @@
 use Rattle.std.proofs.Common.{sym, ap, ◌∙◌}
-use Rattle.std.specs.Prelude.{OnOk}
 use Rattle.pus_fields.specs.TelecommandFaults.{telecommand_of}
 use Rattle.ocp_world.specs.World.{Request as Asked}
 use Rattle.ocp_core.proofs.Replaying.{stands_after, where_ok}

@@ -1,4 +1,4 @@
-use Rattle.std.proofs.Common.{◌≡◌, refl, sym, ap, subst, true, ◌∙◌}
+use Rattle.std.proofs.Common.{◌≡◌, refl, sym, subst, true, ◌∙◌}
 use Rattle.ocp_world.specs.World.{Request, Step, Drain}
 use Rattle.ocp_world.specs.After.{Stepped}
 use Rattle.ocp_core.specs.Log.{world_of}
