@@ -109,7 +109,8 @@ matches wanted step = (wanted == 0) || (wanted == step)
 -- the end of a step
 abbrev pub control_at_step_end : Pending → ℕ → Control → Control
 control_at_step_end pending.Nothing k c = passed c
-control_at_step_end (pending.Stop s from) k c = if matches s k then inactive cause.Stopped else passed c
+control_at_step_end (pending.Stop s from) k c =
+    if matches s k then inactive cause.Stopped else passed c
 control_at_step_end (pending.Suspend s from) k c =
     if matches s k then held pending.Nothing c else passed c
 

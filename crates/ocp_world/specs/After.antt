@@ -24,8 +24,8 @@ effect_of w (Step by id) = instruction_effect (effect_in (directive.Step w.pool)
 effect_of w (Debug by id command) = debug_effect command id w.records
 effect_of w (Drain by time) = drain_effect time w.outbox
 
--- the reports of a request or of a drain, each a whole packet; the outcome of an instruction; or the
--- result of a debugger's command
+-- the reports of a request or of a drain, each a whole packet; the outcome of an instruction; or
+-- the result of a debugger's command
 pub data Answer : Type 0 where
   Requested : Result (List (List ℕ)) EngineFault → Answer
   Stepped : StepOutcome → Answer
