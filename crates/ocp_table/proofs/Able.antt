@@ -64,6 +64,12 @@ needs_call asked number old new (Needs found) pool mailbox is given =
     ap (λ k. outcome_of (Needs k) old pool mailbox) (sym given.0 ∙ is)
     ∙ ap (λ s. Some (outcome_of_call (engine_call number (read s 1) (read s 2) pool mailbox))) (sym given.1)
 
+-- the machine is left as it was
+pub needs_kept : (asked : Need) (old new : State) (o : Outcome) → Gives (local.NeedsEngine asked) old new o → new ≡ old
+needs_kept asked old new (Next s) given = absurd given
+needs_kept asked old new NoInstruction given = absurd given
+needs_kept asked old new (Needs found) given = given.1
+
 -- with breakpoints or without
 pub able_in : (r : Rec) (pool : List ℕ) → IsSome (outcome_of (one_step r.image r.machine) r.machine pool r.mailbox) → IsSome (outcome_in r pool)
 able_in r pool able =

@@ -6,7 +6,7 @@ use Rattle.bpf_step.specs.Machine.{read}
 use Rattle.bpf_step.specs.Step.{one_step}
 use Rattle.ocp_pool.specs.Call.{engine_call}
 use Rattle.ocp_table.specs.Deciding.{outcome_of, outcome_of_call}
-use Rattle.ocp_table.proofs.Able.{lines_of, small_place, needs_call}
+use Rattle.ocp_table.proofs.Able.{lines_of, small_place, needs_call, needs_kept}
 use Rattle.ocp_table.proofs.execution.Execution.step.Goals.{in-Ok, in-Err}
 use Rattle.ocp_table.proofs.execution.Execution.step.Goals as goal
 
@@ -23,3 +23,9 @@ returns-after-engine_call-clause-outcome g c =
     let answered : Some c.match-engine_call.result ≡ Some (outcome_of_call (engine_call c.in-NeedsEngine-Call.number (read c.local_step.new.self 1) (read c.local_step.new.self 2) c.args.pool.now c.args.mailbox.now)) = search rules in
     let there : c.args.self.now.machine ≡ c.self.inside.machine = search rules in
     answered ∙ sym needs ∙ sym (ap (λ o. outcome_of o c.self.inside.machine c.args.pool.now c.args.mailbox.now) image) ∙ ap (λ m. outcome_of (one_step c.args.self.now.image c.args.self.now.machine) m c.args.pool.now c.args.mailbox.now) (sym there)
+
+pub returns-after-engine_call-clause-machine : goal.returns-after-engine_call-clause-machine
+returns-after-engine_call-clause-machine g c =
+    let kept : c.local_step.new.self ≡ c.self.inside.machine = needs_kept c.in-NeedsEngine-Call.field-0 c.self.inside.machine c.local_step.new.self (one_step c.deref.result.now c.self.inside.machine) c.in-NeedsEngine-Call.ensures.answer in
+    let there : c.args.self.now.machine ≡ c.self.inside.machine = search rules in
+    elim c.match-engine_call.branch [ in-Ok w ↦ search rules | in-Err w ↦ search rules ]
