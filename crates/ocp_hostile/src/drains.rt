@@ -120,17 +120,18 @@ fn complete<A: Allocator + Copy>(alloc: A, engine: &mut Engine<A>) -> Result<(),
     Ok(())
 }
 
-/// Drains, at first with no memory, then with one more block each time, until reports are answered, and gives how many growths
-/// were refused. Each refusal leaves the engine as it was.
-fn refused<'a, D: Drained<&'a Refusing<Global>>>(
-    heap: &'a Refusing<Global>,
+/// Drains with the allocator that refuses, at first with no memory, then with one more block each time, until reports are
+/// answered, and gives how many growths were refused. Each refusal leaves the engine as it was.
+fn refused<A: Allocator + Copy, D: Drained<A>>(
+    heap: &Refusing<Global>,
+    refusing: A,
     alloc: Global,
     drained: &mut D,
 ) -> Result<u64, Fail> {
     let before = shown(alloc, drained.kept())?;
     for growths in 0..MOST {
         heap.allow(growths);
-        match drained.drained(heap) {
+        match drained.drained(refusing) {
             Ok(reports) if are_reported(&reports) => return Ok(growths),
             Ok(_) => return Err("other reports".into()),
             Err(EngineFault::Memory) => {}
@@ -148,7 +149,7 @@ fn each_growth_of_a_drain_is_refused(rt: HostRuntime) -> Result<(), Fail> {
     let heap = Refusing::new(rt.alloc(), AMPLE);
     let mut engine = Engine::new(&heap, 0x123, 16, 20)?;
     complete(&heap, &mut engine)?;
-    assert!(rt; refused(&heap, rt.alloc(), &mut engine)? > 5);
+    assert!(rt; refused(&heap, &heap, rt.alloc(), &mut engine)? > 5);
     assert!(rt; is_drain(engine.journal().entries().last()));
     assert!(rt; engine.events() == 9 && engine.room() == 14);
     assert_eq!(rt;
@@ -163,15 +164,26 @@ fn each_growth_of_a_drain_of_a_seat_is_refused(rt: HostRuntime) -> Result<(), Fa
     let heap = Refusing::new(rt.alloc(), AMPLE);
     let mut engine = Engine::new(&heap, 0x123, 16, 20)?;
     complete(&heap, &mut engine)?;
-    let _length = engine.journal().len();
-    through::<Brand>(&heap, rt.alloc(), engine, Blank::new(65))
+    by_a_seat(&heap, &heap, rt.alloc(), engine)
 }
 
-/// The same by seat 1 of a book: the journal's last entry and the seat's only receipt have a copy of the reports each.
-fn through<'a, L: Naming>(
-    heap: &'a Refusing<Global>,
+/// The same by seat 1 of a book with a name of its own.
+fn by_a_seat<A: Allocator + Copy>(
+    heap: &Refusing<Global>,
+    refusing: A,
     alloc: Global,
-    engine: Engine<&'a Refusing<Global>>,
+    engine: Engine<A>,
+) -> Result<(), Fail> {
+    let _length = engine.journal().len();
+    through::<Brand, A>(heap, refusing, alloc, engine, Blank::new(65))
+}
+
+/// The same under a name: the journal's last entry and the seat's only receipt have a copy of the reports each.
+fn through<L: Naming, A: Allocator + Copy>(
+    heap: &Refusing<Global>,
+    refusing: A,
+    alloc: Global,
+    engine: Engine<A>,
     blank: Blank,
 ) -> Result<(), Fail>
     requires name { blank.name ≡ L.name }
@@ -179,10 +191,10 @@ fn through<'a, L: Naming>(
     requires seats { blank.parts ≡ 65 }
     requires room { L.room + length engine.entries ≡ engine.capacity }
 {
-    let mut book = Book::<L, &'a Refusing<Global>>::new(engine, blank);
-    let seat = book.seat(heap)?;
+    let mut book = Book::<L, A>::new(engine, blank);
+    let seat = book.seat(refusing)?;
     let mut seated = Seated { book, seat };
-    if refused(heap, alloc, &mut seated)? < 8 {
+    if refused(heap, refusing, alloc, &mut seated)? < 8 {
         return Err("copies without memory".into());
     }
     let receipts = seated.seat.receipts();
