@@ -61,6 +61,7 @@ events_by Undue n = n
 
 abbrev pub world_after : Effect → World → World
 world_after effect w = record {
+  profile = w.profile;
   apid = w.apid;
   records = records_by effect.on_records w.records;
   outbox = outbox_by effect.on_records w.records w.outbox;

@@ -1,5 +1,6 @@
 -- What a request does.
 use Rattle.std.specs.Prelude.{ℕ, Bool, List, [], ◌∷◌, Result, Ok, Err}
+use Rattle.ocp_profile.specs.declared.profile.Profile.{Profile}
 use Rattle.pus_fields.specs.declared.fault.TcFault.{TcFault}
 use Rattle.pus_fields.specs.declared.fault.TcFault.TheVariants.{Discarded, Rejected}
 use Rattle.pus_fields.specs.Telecommand.{Telecommand}
@@ -76,10 +77,10 @@ has_no_place w = is_outbox_full w.records w.outbox
 
 abbrev pub command_effect : Command → Origin → World → Effect
 command_effect (command.Load id code) origin w =
-    directive_effect origin (directive.Load code) id w.records
+    directive_effect origin (directive.Load w.profile code) id w.records
 command_effect (command.Unload id) origin w = directive_effect origin directive.Unload id w.records
-command_effect (command.Activate id arguments) origin w =
-    directive_effect origin (directive.Activate arguments) id w.records
+command_effect (command.Activate id budget arguments) origin w =
+    directive_effect origin (directive.Activate budget arguments) id w.records
 command_effect (command.Stop id step) origin w =
     directive_effect origin (directive.Stop step (next_origin origin w) (has_no_place w)) id
     w.records
@@ -93,9 +94,9 @@ command_effect command.Status origin w =
     start_effect origin (status_report w.records ∷ []) (Kept Unasked)
 command_effect (command.Abort id) origin w = directive_effect origin directive.Abort id w.records
 
--- the request of a telecommand
-unfoldable pub command_of : Telecommand → Result Command RequestFault
-command_of tc = request_of tc.service tc.subtype tc.payload
+-- the request of a telecommand, under a profile
+unfoldable pub command_of : Profile → Telecommand → Result Command RequestFault
+command_of profile tc = request_of profile tc.service tc.subtype tc.payload
 
 abbrev pub service_effect : Result Command RequestFault → Origin → World → Effect
 service_effect (Ok request) origin w = command_effect request origin w
@@ -103,7 +104,7 @@ service_effect (Err why) origin w = refusal_effect origin (acceptance.Request wh
 
 -- what octets do, as they were read
 abbrev pub request_effect : Result Telecommand TcFault → ℕ → World → Effect
-request_effect (Ok tc) time w = service_effect (command_of tc) (origin_of tc time) w
+request_effect (Ok tc) time w = service_effect (command_of w.profile tc) (origin_of tc time) w
 request_effect (Err (Rejected rejection request)) time w =
     refusal_effect (origin_of_packet request time) (acceptance.Packet rejection)
 request_effect (Err (Discarded cause)) time w = record {

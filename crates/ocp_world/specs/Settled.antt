@@ -5,16 +5,17 @@ use Rattle.obcp_types.specs.declared.status.Status.TheVariants.{Running}
 use Rattle.bpf_step.specs.Machine.{State}
 use Rattle.bpf_step.specs.Runs.{local_run}
 use Rattle.ocp_table.specs.Records.{Rec}
-use Rattle.ocp_table.specs.Effects.{records_with}
+use Rattle.ocp_table.specs.Effects.{records_with, IsWithin}
 use Rattle.ocp_table.specs.Snapshots.{settled}
 use Rattle.ocp_world.specs.World.{World}
 
 -- the world in which this machine is put back into a procedure after so many instructions, each an
--- accepted event, and its pass flag is off
+-- accepted event that takes one from its budget, and its pass flag is off
 abbrev pub world_settled : ℕ → State → ℕ → World → World
 world_settled id machine count w = record {
+  profile = w.profile;
   apid = w.apid;
-  records = records_with (get w.records id) id (settled machine) w.records;
+  records = records_with (get w.records id) id (settled count machine) w.records;
   outbox = w.outbox;
   pool = w.pool;
   events = w.events + count;
@@ -23,10 +24,11 @@ world_settled id machine count w = record {
 }
 
 -- the procedure under this id runs and is not traced, and its machine does so many instructions by
--- itself, at least one, which leave it so
+-- itself, at least one and no more than what remains of its budget, which leave it so
 pub record RunsAlone (w : World) (id : ℕ) (r : Rec) (n : ℕ) (machine : State) : Type 0 where
   pub held : get w.records id ≡ Some r
   pub running : r.control.status ≡ Running
   pub untraced : r.traced ≡ false
   pub some : 1 ≤ n
+  pub within : IsWithin r.remaining n
   pub ran : local_run r.image r.breakpoints r.control.pass r.machine n ≡ Some machine

@@ -1,15 +1,17 @@
 -- The world of an engine, and the events that can happen in it.
 use Rattle.std.specs.Prelude.{ℕ, List, [], replicate}
 use Rattle.std.specs.FinMap.{empty}
+use Rattle.ocp_profile.specs.declared.profile.Profile.{Profile}
 use Rattle.obcp_types.specs.declared.pending.Due.{Due}
 use Rattle.ocp_table.specs.Records.{Records}
 use Rattle.ocp_debug.specs.declared.command.Command.{Command}
 use Rattle.ocp_debug.specs.declared.trace.Trace.{Trace}
 
--- the application process, its procedures, the completions that wait to be reported, the oldest
--- first, the words of its pool, how many events it has accepted and how many reports it has sent,
--- and all trace records that were made, the oldest first
+-- the profile, the application process, its procedures, the completions that wait to be reported,
+-- the oldest first, the words of its pool, how many events it has accepted and how many reports it
+-- has sent, and all trace records that were made, the oldest first
 pub record World : Type 0 where
+  pub profile : Profile
   pub apid : ℕ
   pub records : Records
   pub outbox : List Due
@@ -18,9 +20,10 @@ pub record World : Type 0 where
   pub reports : ℕ
   pub traces : List Trace
 
--- a world in which no procedure is loaded, with so many pool words, all of them 0
-abbrev pub opening : ℕ → ℕ → World
-opening apid words = record {
+-- a world of a profile in which no procedure is loaded, with so many pool words, all of them 0
+abbrev pub opening : Profile → ℕ → ℕ → World
+opening profile apid words = record {
+  profile = profile;
   apid = apid;
   records = empty;
   outbox = [];

@@ -9,17 +9,21 @@ ghost use Rattle.ocp_world.specs.Mirror.Answering.{discard_of, IsDiscard};
 
 use obcp_messages::{Report, Request, RequestFault, StatusRows, read_request};
 use obcp_types::PendingOrigin;
+use ocp_profile::Profile;
 use ocp_reports::Origin;
 use ocp_table::Table;
 use pus_fields::{Discard, Tc, TcFault};
 use std::alloc::Allocator;
 
-/// The request of a telecommand.
+/// The request of a telecommand, as a profile reads it.
 #[tactic(auto, unfolding(crate::specs::Requests::command_of))]
-pub fn command_of<'a>(telecommand: &Tc<'a>) -> Result<Request<'a>, RequestFault>
-    ensures { result ≡ command_of telecommand.now }
+pub fn command_of<'a>(
+    profile: Profile,
+    telecommand: &Tc<'a>,
+) -> Result<Request<'a>, RequestFault>
+    ensures { result ≡ command_of profile telecommand.now }
 {
-    read_request(telecommand)
+    read_request(profile, telecommand)
 }
 
 /// Why octets are discarded, as they were read, where they are: then the request is refused so in every world of this

@@ -38,18 +38,18 @@ impl<A: Allocator> State<A> {
     }
 
     /// Puts back the machine of a procedure, which did so many instructions apart.
-    pub fn settle(&mut self, id: u16, machine: Machine<A>)
+    pub fn settle(&mut self, id: u16, count: u32, machine: Machine<A>)
         requires { StandsAt (get self.old.table.records id) machine }
-        ensures { (w : World) (count : ℕ) → IsWorld w self.old →
+        ensures { (w : World) → IsWorld w self.old →
             IsWorld (world_settled id machine count w) self.new }
     {
-        self.table.settle(id, machine);
+        self.table.settle(id, count, machine);
     }
 }
 
 /// Instructions that a machine does by itself are as many instruction events of its procedure, where that runs and is not
-/// traced: each is answered so, and they move the machine alone and set the pass flag off. The function does nothing when it
-/// runs: its contract is the law.
+/// traced and its budget holds so many: each is answered so and takes one from the budget, and they move the machine alone and
+/// set the pass flag off. The function does nothing when it runs: its contract is the law.
 pub fn instructions_done_alone_are_events()
     ensures world { (w : World) (by id n : ℕ) (r : Rec) (machine : Machined) →
         RunsAlone w id r n machine →

@@ -26,6 +26,7 @@ use obcp_messages::{Report, Request};
 use obcp_types::{AcceptanceFailure, StartFailure};
 use ocp_debug::{Command, DebugFault, TraceRing};
 use ocp_pool::{MAX_POOL_WORDS, Pool};
+use ocp_profile::Profile;
 use ocp_reports::{CopiedReports, Origin, Sender, count_after};
 use ocp_table::{Directive, LoadFailure, StepOutcome, Table, View};
 use pus_fields::{Tc, TcFault};
@@ -33,7 +34,7 @@ use space_packet::{Apid, SequenceCount};
 use std::alloc::{AllocError, Allocator};
 use verification::Outcome;
 
-/// The procedures, the pool, the application process identifier, the sequence count of the next report, and the last trace
+/// The procedures with the profile, the pool, the application process identifier, the sequence count of the next report, and the last trace
 /// records.
 #[derive(Drop)]
 pub struct State<A: Allocator> {
@@ -48,17 +49,17 @@ impl<A: Allocator> State<A> {
     ghost use Rattle.ocp_world.specs.Mirror.State.{IsWorld, Does, DoesIn};
     ghost use Rattle.ocp_world.specs.Mirror.Answering.{IsRefusal, IsDebugFault};
 
-    /// The state in which no procedure is loaded, with so many pool words, all of them 0.
-    pub fn new(alloc: A, apid: Apid, words: u16) -> Result<Self, AllocError>
+    /// The state of a profile in which no procedure is loaded, with so many pool words, all of them 0.
+    pub fn new(alloc: A, profile: Profile, apid: Apid, words: u16) -> Result<Self, AllocError>
     where
         A: Copy,
         requires some { 1 ≤ words }
         requires few { words ≤ MAX_POOL_WORDS }
-        ensures { IfOk result (IsWorld (opening apid words)) }
+        ensures { IfOk result (IsWorld (opening profile apid words)) }
     {
         Ok(State {
             apid,
-            table: Table::new(alloc)?,
+            table: Table::new(alloc, profile)?,
             pool: Pool::new(alloc, words)?,
             count: first_count(),
             ring: TraceRing::new(alloc)?,
@@ -213,7 +214,7 @@ impl<A: Allocator> State<A> {
     where
         A: Copy,
         ensures { Does self.old self.new result
-            (λ w. directive_effect origin (directive.Load code.now) id w.records) }
+            (λ w. directive_effect origin (directive.Load w.profile code.now) id w.records) }
     {
         match self.table.check_load(alloc, id, code) {
             Ok(loading) => {
@@ -306,8 +307,13 @@ impl<A: Allocator> State<A> {
         match request {
             Request::Load { id, code } => self.load(alloc, origin, id, code.octets()),
             Request::Unload { id } => self.unload(alloc, origin, id),
-            Request::Activate { id, arguments } => {
-                self.direct(alloc, origin, id, Directive::Activate(arguments.octets()))
+            Request::Activate {
+                id,
+                budget,
+                arguments,
+            } => {
+                let arguments = arguments.octets();
+                self.direct(alloc, origin, id, Directive::Activate { budget, arguments })
             }
             Request::Stop { id, step } => {
                 let from = pending_origin(origin, event);
@@ -344,7 +350,7 @@ impl<A: Allocator> State<A> {
         match read {
             Ok(telecommand) => {
                 let origin = Origin::of_telecommand(&telecommand, time);
-                match command_of(&telecommand) {
+                match command_of(self.table.profile(), &telecommand) {
                     Ok(request) => self.serve(alloc, event, origin, request),
                     Err(fault) => self.refuse(alloc, origin, AcceptanceFailure::Request(fault)),
                 }

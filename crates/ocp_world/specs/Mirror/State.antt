@@ -10,6 +10,7 @@ use Rattle.ocp_world.specs.declared.state.State.{State}
 
 module _ {A : Type 0} where
   pub record IsWorld (w : World) (s : State A) : Type 0 where
+    pub profile : s.table.profile ≡ w.profile
     pub apid : s.apid ≡ w.apid
     pub records : s.table.records ≡ w.records
     pub outbox : s.table.outbox ≡ w.outbox
