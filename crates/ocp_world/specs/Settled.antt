@@ -5,7 +5,8 @@ use Rattle.obcp_types.specs.declared.status.Status.TheVariants.{Running}
 use Rattle.bpf_step.specs.Machine.{State}
 use Rattle.bpf_step.specs.Runs.{local_run}
 use Rattle.ocp_table.specs.Records.{Rec}
-use Rattle.ocp_table.specs.Effects.{records_with, IsWithin}
+use Rattle.ocp_table.specs.Effects.{records_with}
+use Rattle.ocp_table.specs.Budgets.{IsWithin}
 use Rattle.ocp_table.specs.Snapshots.{settled}
 use Rattle.ocp_world.specs.World.{World}
 
