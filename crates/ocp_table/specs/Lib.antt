@@ -1,3 +1,4 @@
+pub mod Budgets
 pub mod Records
 pub mod Outbox
 pub mod Effects

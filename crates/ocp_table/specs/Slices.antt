@@ -11,6 +11,7 @@ use Rattle.ocp_table.specs.declared.control.Control.{Control}
 use Rattle.ocp_table.specs.declared.answers.Slice.{Slice}
 use Rattle.ocp_table.specs.declared.answers.StepOutcome.{StepOutcome}
 use Rattle.ocp_table.specs.declared.answers.StepOutcome.TheVariants as S
+use Rattle.ocp_table.specs.Budgets.{less, IsWithin}
 use Rattle.ocp_table.specs.Records.{Rec, Records}
 use Rattle.ocp_table.specs.Effects.{Effect, passed, records_by, outbox_by, pool_by, step_outcome}
 use Rattle.ocp_table.specs.RequestTable.{Step}
@@ -114,7 +115,7 @@ abbrev pub control_after : ℕ → Control → Control
 control_after zero c = c
 control_after (suc n) c = passed c
 
--- a record after so many of them, which left the machine so
+-- a record after so many of them, which left the machine so: they are taken from the budget
 abbrev pub with_machine : ℕ → State → Rec → Rec
 with_machine n machine r = record {
   image = r.image;
@@ -123,13 +124,15 @@ with_machine n machine r = record {
   control = control_after n r.control;
   breakpoints = r.breakpoints;
   traced = r.traced;
+  remaining = less n r.remaining;
 }
 
--- the procedure under this id runs, and its machine does so many instructions by itself, which
--- leave it so
+-- the procedure under this id runs, so many instructions are left of its budget, and its machine
+-- does them by itself, which leave it so
 pub record RunsBy (m : Records) (id : ℕ) (r : Rec) (n : ℕ) (machine : State) : Type 0 where
   pub held : get m id ≡ Some r
   pub running : r.control.status ≡ Running
+  pub within : IsWithin r.remaining n
   pub ran : local_run r.image r.breakpoints r.control.pass r.machine n ≡ Some machine
 
 -- the answer to the last of so many events that are answered so, after this one

@@ -5,16 +5,19 @@ use Rattle.obcp_types.specs.declared.status.Status.TheVariants.{Inactive, Runnin
 use Rattle.bpf_step.specs.Machine.{State}
 use Rattle.bpf_step.specs.Step.{StandsIn}
 use Rattle.bpf_step.specs.Runs.{local_run, local_count}
+use Rattle.ocp_table.specs.Budgets.{less, within}
 use Rattle.ocp_table.specs.Records.{Rec}
 use Rattle.ocp_table.specs.Effects.{passed}
 
--- image, machine, breakpoints, pass flag and trace flag of a procedure that runs
+-- image, machine, breakpoints, pass flag, trace flag and what is left of the budget of a procedure
+-- that runs
 pub record Snapshot : Type 0 where
   pub image : List ℕ
   pub machine : State
   pub breakpoints : List ℕ
   pub pass : Bool
   pub traced : Bool
+  pub remaining : Option ℕ
 
 abbrev pub snapshot_of : Rec → Snapshot
 snapshot_of r = record {
@@ -23,6 +26,7 @@ snapshot_of r = record {
   breakpoints = r.breakpoints;
   pass = r.control.pass;
   traced = r.traced;
+  remaining = r.remaining;
 }
 
 abbrev pub snapshot_by : Status → Rec → Option Snapshot
@@ -39,23 +43,26 @@ snapshot_at (Some r) = snapshot_by r.control.status r
 abbrev pub run_of : Snapshot → ℕ → Option State
 run_of s count = local_run s.image s.breakpoints s.pass s.machine count
 
--- how many it does by itself, up to a budget: none where it is traced
+-- how many it does by itself, up to a number and to what is left of its budget: none where it is
+-- traced
 abbrev pub count_by : Bool → Snapshot → ℕ → ℕ
-count_by true s budget = 0
-count_by false s budget = local_count s.image s.breakpoints s.pass s.machine budget
+count_by true s n = 0
+count_by false s n = local_count s.image s.breakpoints s.pass s.machine n
 
 abbrev pub count_of : Snapshot → ℕ → ℕ
-count_of s budget = count_by s.traced s budget
+count_of s n = count_by s.traced s (within s.remaining n)
 
--- another machine is put back, and the pass flag goes off
-abbrev pub settled : State → Rec → Rec
-settled machine r = record {
+-- another machine that did so many instructions is put back: the pass flag goes off, and they are
+-- taken from the budget
+abbrev pub settled : ℕ → State → Rec → Rec
+settled count machine r = record {
   image = r.image;
   machine = machine;
   mailbox = r.mailbox;
   control = passed r.control;
   breakpoints = r.breakpoints;
   traced = r.traced;
+  remaining = less count r.remaining;
 }
 
 -- the machine and its saved places stand at instructions of the procedure, where it is loaded
