@@ -72,4 +72,4 @@ number_more log new e is counted = ap (λ l. (world_of l).events) is ∙ ap (λ 
 
 pub number_none : (new : Log) → new.entries ≡ [] → (world_of new).events ≡ 0
 unfolding world_of
-number_none new none = ap (λ entries. (replay new.apid new.words (expand entries)).events) none
+number_none new none = ap (λ entries. (replay new.profile new.apid new.words (expand entries)).events) none

@@ -13,6 +13,7 @@ use Rattle.ocp_core.specs.declared.answers.CommitOutcome.TheVariants.{Committed}
 use Rattle.ocp_core.proofs.Committing.{last_of_run, runs_answered}
 use Rattle.ocp_table.specs.declared.answers.StepOutcome.{StepOutcome}
 use Rattle.ocp_table.specs.declared.answers.StepOutcome.TheVariants as S
+use Rattle.ocp_profile.specs.declared.profile.Profile.{Profile}
 use Rattle.ocp_world.specs.World.{World, Event, Request, Step, Debug, Drain, opening}
 use Rattle.ocp_world.specs.After.{Answer, Stepped, Commanded, After, after, is_accepted}
 use Rattle.ocp_world.specs.Replay.{replay_from, answers}
@@ -36,7 +37,7 @@ marks_from-append w (x ∷ xs) ys =
 
 marks-with_entry : (log : Log) (e : Entry) → marks (with_entry log e) ≡ marks log ++ mark_in (world_of log) e ∷ []
 unfolding world_of marks
-marks-with_entry log e = marks_from-append (opening log.apid log.words) log.entries (e ∷ [])
+marks-with_entry log e = marks_from-append (opening log.profile log.apid log.words) log.entries (e ∷ [])
 
 -- the mark of an event's entry is its answer
 event_mark : (w : World) (e : Event) → mark_in w (entry_for e) ≡ (after w e).answer
@@ -79,11 +80,11 @@ marked_from-append w (x ∷ xs) ys =
 
 pub marked-with_entry : (log : Log) (e : Entry) → marked (with_entry log e) ≡ marked log ++ with_mark (world_of log) e ∷ []
 unfolding world_of marked
-marked-with_entry log e = marked_from-append (opening log.apid log.words) log.entries (e ∷ [])
+marked-with_entry log e = marked_from-append (opening log.profile log.apid log.words) log.entries (e ∷ [])
 
 pub marked-none : (log : Log) → log.entries ≡ [] → marked log ≡ []
 unfolding marked
-marked-none log none = ap (marked_from (opening log.apid log.words)) none
+marked-none log none = ap (marked_from (opening log.profile log.apid log.words)) none
 
 pub marked-event : (log : Log) (e : Event) → is_accepted (after (world_of log) e).answer ≡ true → is_full log ≡ false → marked (log_after log e) ≡ marked log ++ record { entry = entry_for e; mark = answer_in log e } ∷ []
 marked-event log e taken free =
@@ -137,8 +138,8 @@ commanded (Err fault) answer is taken = absurd (contrary (ap is_accepted is ∙ 
     contrary e = cc
 
 module _ {A : Type 0} where
-  abbrev pub stored : ℕ → ℕ → ℕ → List (N.Entry A) → Log
-  stored apid words capacity entries = record { apid = apid; words = words; capacity = capacity; entries = map entry_of entries }
+  abbrev pub stored : Profile → ℕ → ℕ → ℕ → List (N.Entry A) → Log
+  stored profile apid words capacity entries = record { profile = profile; apid = apid; words = words; capacity = capacity; entries = map entry_of entries }
 
   -- its entry, and its mark where that is what the entry's events are answered
   pub marks_more : (items : List (N.Entry A)) (e : N.Entry A) (log : Log) → map marked_of items ≡ marked log → mark_of e ≡ mark_in (world_of log) (entry_of e) → map marked_of (items ++ e ∷ []) ≡ marked (with_entry log (entry_of e))
@@ -149,9 +150,9 @@ module _ {A : Type 0} where
       ∙ sym (marked-with_entry log (entry_of e))
 
   -- the same for the journal that is stored
-  pub marks_kept : (apid words capacity : ℕ) (xs ys : List (N.Entry A)) (e : N.Entry A) → ys ≡ xs ++ e ∷ [] → map marked_of xs ≡ marked (stored apid words capacity xs) → mark_of e ≡ mark_in (world_of (stored apid words capacity xs)) (entry_of e) → map marked_of ys ≡ marked (stored apid words capacity ys)
-  marks_kept apid words capacity xs ys e are so_far is =
+  pub marks_kept : (profile : Profile) (apid words capacity : ℕ) (xs ys : List (N.Entry A)) (e : N.Entry A) → ys ≡ xs ++ e ∷ [] → map marked_of xs ≡ marked (stored profile apid words capacity xs) → mark_of e ≡ mark_in (world_of (stored profile apid words capacity xs)) (entry_of e) → map marked_of ys ≡ marked (stored profile apid words capacity ys)
+  marks_kept profile apid words capacity xs ys e are so_far is =
       ap (map marked_of) are
-      ∙ marks_more xs e (stored apid words capacity xs) so_far is
-      ∙ ap (λ entries. marked (record { apid = apid; words = words; capacity = capacity; entries = entries })) (sym (map-append entry_of xs (e ∷ [])))
-      ∙ ap (λ zs. marked (stored apid words capacity zs)) (sym are)
+      ∙ marks_more xs e (stored profile apid words capacity xs) so_far is
+      ∙ ap (λ entries. marked (record { profile = profile; apid = apid; words = words; capacity = capacity; entries = entries })) (sym (map-append entry_of xs (e ∷ [])))
+      ∙ ap (λ zs. marked (stored profile apid words capacity zs)) (sym are)

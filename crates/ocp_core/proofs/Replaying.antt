@@ -2,6 +2,7 @@
 use Rattle.std.proofs.Common.{◌≡◌, ◌+◌, ◌<◌, ℕ, zero, suc, List, [], ◌∷◌, ◌++◌, map, take, length, get_or, replicate, false, refl, sym, ap, subst, ◌∙◌, add-one}
 use Rattle.std.specs.Prelude.{Result, Ok, Err, OnOk}
 use Rattle.std.proofs.lemmas.List.{take_more, map-append}
+use Rattle.ocp_profile.specs.declared.profile.Profile.{Profile}
 use Rattle.ocp_world.specs.World.{World, Event, Step}
 use Rattle.ocp_world.specs.After.{Requested, after, effect_of, is_accepted}
 use Rattle.ocp_world.specs.declared.answers.EngineFault.{EngineFault}
@@ -27,13 +28,13 @@ apid-replay_from w [] = refl
 apid-replay_from w (e ∷ es) = apid-replay_from (after w e).world es
 
 -- one more entry
-module _ {X : Type 0} (entry_of : X → Entry) (apid words : ℕ) (xs : List X) (i : ℕ) (x : X) (within : i < length xs) (is : x ≡ get_or xs i x) where
-  pub replay-entry : replay apid words (expand (map entry_of (take (i + 1) xs))) ≡ replay_from (replay apid words (expand (map entry_of (take i xs)))) (events_of (entry_of x))
+module _ {X : Type 0} (entry_of : X → Entry) (profile : Profile) (apid words : ℕ) (xs : List X) (i : ℕ) (x : X) (within : i < length xs) (is : x ≡ get_or xs i x) where
+  pub replay-entry : replay profile apid words (expand (map entry_of (take (i + 1) xs))) ≡ replay_from (replay profile apid words (expand (map entry_of (take i xs)))) (events_of (entry_of x))
   replay-entry =
-      ap (λ ys. replay apid words (expand (map entry_of ys))) (take_more xs i x within)
-      ∙ ap (λ y. replay apid words (expand (map entry_of (take i xs ++ y ∷ [])))) (sym is)
-      ∙ ap (λ es. replay apid words (expand es)) (map-append entry_of (take i xs) (x ∷ []))
-      ∙ ap (replay apid words) (expand-with_entry (map entry_of (take i xs)) (entry_of x))
+      ap (λ ys. replay profile apid words (expand (map entry_of ys))) (take_more xs i x within)
+      ∙ ap (λ y. replay profile apid words (expand (map entry_of (take i xs ++ y ∷ [])))) (sym is)
+      ∙ ap (λ es. replay profile apid words (expand es)) (map-append entry_of (take i xs) (x ∷ []))
+      ∙ ap (replay profile apid words) (expand-with_entry (map entry_of (take i xs)) (entry_of x))
       ∙ replay_from-append _ (expand (map entry_of (take i xs))) (events_of (entry_of x))
 
   pub length-entry : length (expand (map entry_of (take (i + 1) xs))) ≡ length (expand (map entry_of (take i xs))) + length (events_of (entry_of x))
@@ -44,15 +45,16 @@ module _ {X : Type 0} (entry_of : X → Entry) (apid words : ℕ) (xs : List X) 
       ∙ length-expand-with_entry (map entry_of (take i xs)) (entry_of x)
 
 -- a journal's world is the replay of all its entries
-replayed : (log : Log) → replay log.apid log.words (expand log.entries) ≡ world_of log
+replayed : (log : Log) → replay log.profile log.apid log.words (expand log.entries) ≡ world_of log
 unfolding world_of
 replayed log = refl
 
-pub replayed_by : (log : Log) (apid words : ℕ) (entries : List Entry) → apid ≡ log.apid → words ≡ log.words → entries ≡ log.entries → replay apid words (expand entries) ≡ world_of log
-replayed_by log apid words entries named pool all =
-    ap (λ a. replay a words (expand entries)) named
-    ∙ ap (λ n. replay log.apid n (expand entries)) pool
-    ∙ ap (λ es. replay log.apid log.words (expand es)) all
+pub replayed_by : (log : Log) (profile : Profile) (apid words : ℕ) (entries : List Entry) → profile ≡ log.profile → apid ≡ log.apid → words ≡ log.words → entries ≡ log.entries → replay profile apid words (expand entries) ≡ world_of log
+replayed_by log profile apid words entries kind named pool all =
+    ap (λ p. replay p apid words (expand entries)) kind
+    ∙ ap (λ a. replay log.profile a words (expand entries)) named
+    ∙ ap (λ n. replay log.profile log.apid n (expand entries)) pool
+    ∙ ap (λ es. replay log.profile log.apid log.words (expand es)) all
     ∙ replayed log
 
 -- a request or a drain that finds memory leaves the state of the world after it, since one that is refused changes nothing

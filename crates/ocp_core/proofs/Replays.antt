@@ -24,4 +24,4 @@ length-expand-with_entry entries e = ap length (expand-with_entry entries e) ∙
 -- a journal with one more entry is replayed by that entry's events
 pub world_of-with_entry : (log : Log) (e : Entry) → world_of (with_entry log e) ≡ replay_from (world_of log) (events_of e)
 unfolding world_of
-world_of-with_entry log e = ap (replay log.apid log.words) (expand-with_entry log.entries e) ∙ replay_from-append _ (expand log.entries) (events_of e)
+world_of-with_entry log e = ap (replay log.profile log.apid log.words) (expand-with_entry log.entries e) ∙ replay_from-append _ (expand log.entries) (events_of e)

@@ -8,13 +8,13 @@ use Rattle.ocp_core.specs.declared.answers.CommitOutcome.TheVariants.{Empty, Sta
 use Rattle.ocp_core.specs.Log.{Log, Steps, world_of, is_full, with_entry}
 use Rattle.ocp_core.specs.Tickets.{Worked}
 
--- the procedure is loaded and runs, and its image, machine, breakpoints, pass flag and trace flag
--- are what the work began with
+-- the procedure is loaded and runs, and its image, machine, breakpoints, pass flag, trace flag and
+-- remaining budget are what the work began with
 abbrev pub IsFresh : Log → Worked → Type 0
 IsFresh log w = snapshot_at (get (world_of log).records w.id) ≡ Some w.base
 
 -- the instructions are one entry, are so many events, and leave the machine of the work, with the
--- pass flag off
+-- pass flag off and so much less of the budget
 pub record IsCommitted (old new : Log) (by : ℕ) (w : Worked) : Type 0 where
   pub journal : new ≡ with_entry old (Steps by w.id w.count)
   pub world : world_of new ≡ world_settled w.id w.end w.count (world_of old)

@@ -2,6 +2,7 @@
 -- journal's replay.
 use Rattle.std.specs.Prelude.{ℕ, List, [], ◌∷◌, ◌++◌, ◌==◌, Bool, if◌then◌else◌, length, replicate, Err}
 use Rattle.std.specs.List.{flat_map}
+use Rattle.ocp_profile.specs.declared.profile.Profile.{Profile}
 use Rattle.ocp_table.specs.declared.answers.StepOutcome.TheVariants as S
 use Rattle.ocp_world.specs.declared.answers.EngineFault.TheVariants as engine
 use Rattle.ocp_debug.specs.declared.command.Command.{Command}
@@ -28,17 +29,19 @@ events_of (Drained by time) = Drain by time ∷ []
 abbrev pub expand : List Entry → List Event
 expand entries = flat_map events_of entries
 
--- the application process identifier, the number of pool words, the number of entries at most, and
--- the entries
+-- the profile, the application process identifier, the number of pool words, the number of entries
+-- at most, and the entries
 pub record Log : Type 0 where
+  pub profile : Profile
   pub apid : ℕ
   pub words : ℕ
   pub capacity : ℕ
   pub entries : List Entry
 
 -- a journal without entries
-abbrev pub empty_log : ℕ → ℕ → ℕ → Log
-empty_log apid words capacity = record {
+abbrev pub empty_log : Profile → ℕ → ℕ → ℕ → Log
+empty_log profile apid words capacity = record {
+  profile = profile;
   apid = apid;
   words = words;
   capacity = capacity;
@@ -46,7 +49,7 @@ empty_log apid words capacity = record {
 }
 
 unfoldable pub world_of : Log → World
-world_of log = replay log.apid log.words (expand log.entries)
+world_of log = replay log.profile log.apid log.words (expand log.entries)
 
 abbrev pub is_full : Log → Bool
 is_full log = length log.entries == log.capacity

@@ -29,7 +29,7 @@ marks_from w (entry ∷ entries) =
     mark_in w entry ∷ marks_from (replay_from w (events_of entry)) entries
 
 unfoldable pub marks : Log → List Answer
-marks log = marks_from (opening log.apid log.words) log.entries
+marks log = marks_from (opening log.profile log.apid log.words) log.entries
 
 -- an entry with its mark: the answer that was given with it
 pub record Marked : Type 0 where
@@ -44,7 +44,7 @@ marked_from w (entry ∷ entries) =
 
 -- the entries of a journal with their marks
 unfoldable pub marked : Log → List Marked
-marked log = marked_from (opening log.apid log.words) log.entries
+marked log = marked_from (opening log.profile log.apid log.words) log.entries
 
 -- the seat that handed an entry in
 abbrev pub by_of : Entry → ℕ

@@ -2,6 +2,7 @@
 use Rattle.std.specs.Prelude.{◌≡◌, ℕ, true, Option, Some, None}
 use Rattle.bpf_step.specs.Machine.{State}
 use Rattle.bpf_step.specs.Step.{StandsIn}
+use Rattle.ocp_table.specs.Budgets.{IsWithin}
 use Rattle.ocp_table.specs.Records.{Rec}
 use Rattle.ocp_table.specs.Snapshots.{Snapshot, snapshot_at, run_of}
 
@@ -25,9 +26,10 @@ ticket_by id (Some base) = Some (record { id = id; base = base })
 abbrev pub ticket_at : ℕ → Option Rec → Option Taken
 ticket_at id o = ticket_by id (snapshot_at o)
 
--- the machine does that many instructions by itself, and they leave it so; none where the procedure
--- is traced
+-- the machine does that many instructions by itself, and they leave it so; they are no more than
+-- what remains of the budget, and none where the procedure is traced
 pub record IsRun (w : Worked) : Type 0 where
   pub ran : run_of w.base w.count ≡ Some w.end
+  pub within : IsWithin w.base.remaining w.count
   pub stands : StandsIn w.base.image w.end
   pub untraced : w.base.traced ≡ true → w.count ≡ 0

@@ -32,8 +32,8 @@ pub struct RunFault<A: Allocator = Global> {
 pub enum CommitOutcome {
     /// It has no instruction.
     Empty,
-    /// Its procedure is not loaded or does not run, or its program, machine, breakpoints, pass flag or trace flag are not
-    /// those that the work began with.
+    /// Its procedure is not loaded or does not run, or its program, machine, breakpoints, pass flag, trace flag or remaining
+    /// budget are not those that the work began with.
     Stale,
     /// There is no room for a further journal entry.
     JournalFull,

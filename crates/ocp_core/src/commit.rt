@@ -49,7 +49,7 @@ impl<A: Allocator> Engine<A> {
             end,
             count,
         } = work;
-        self.state.settle(id, end);
+        self.state.settle(id, count, end);
         self.journal.push(Entry::Steps {
             by,
             id,

@@ -15,6 +15,7 @@ ghost use Rattle.ocp_core.specs.Mirror.Admitted.{IsAdmitted, IsTaken};
 
 use crate::copies::next_copy;
 use crate::{EngineFault, Entry, Journal, Octets, Reports, Slice, StepOutcome};
+use ocp_profile::Profile;
 use ocp_table::View;
 use ocp_world::{State, discard_of};
 use pus_fields::{Tc, TcFault, read_tc};
@@ -46,9 +47,15 @@ impl<A: Allocator> Model for Engine<A> {
 }
 
 impl<A: Allocator> Engine<A> {
-    /// An engine without procedures, for the application process 0 to 2,046, with 1 to 256 pool words and room for 1 to
-    /// 1,000,000 journal entries, all of it reserved here.
-    pub fn new(alloc: A, apid: u16, words: u16, capacity: u32) -> Result<Self, AllocError>
+    /// An engine of a profile without procedures, for the application process 0 to 2,046, with 1 to 256 pool words and room
+    /// for 1 to 1,000,000 journal entries, all of it reserved here.
+    pub fn new(
+        alloc: A,
+        profile: Profile,
+        apid: u16,
+        words: u16,
+        capacity: u32,
+    ) -> Result<Self, AllocError>
     where
         A: Copy,
         requires apid { apid < 2047 }
@@ -56,11 +63,11 @@ impl<A: Allocator> Engine<A> {
         requires words_to { words ≤ 256 }
         requires capacity_from { 1 ≤ capacity }
         requires capacity_to { capacity ≤ 1000000 }
-        ensures { IfOk result (λ engine. engine ≡ empty_log apid words capacity) }
+        ensures { IfOk result (λ engine. engine ≡ empty_log profile apid words capacity) }
     {
         let apid = Apid::new(apid).unwrap();
-        let state = State::new(alloc, apid, words)?;
-        let journal = Journal::new(alloc, apid, words, capacity)?;
+        let state = State::new(alloc, profile, apid, words)?;
+        let journal = Journal::new(alloc, profile, apid, words, capacity)?;
         Ok(Engine { state, journal })
     }
 

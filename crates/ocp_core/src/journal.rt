@@ -4,6 +4,7 @@ ghost use Rattle.std.specs.Prelude.{◌≡◌, ◌≤◌, ◌<◌, ◌^◌, map,
 ghost use Rattle.ocp_core.specs.Log.{empty_log, is_full, with_entry, expand};
 
 use crate::Entry;
+use ocp_profile::Profile;
 use space_packet::Apid;
 use std::alloc::{AllocError, Allocator, Global};
 use std::marker::Model;
@@ -12,6 +13,7 @@ use std::marker::Model;
 /// is made.
 #[derive(Drop)]
 pub struct Journal<A: Allocator = Global> {
+    profile: Profile,
     apid: Apid,
     words: u16,
     capacity: u32,
@@ -42,22 +44,36 @@ impl<A: Allocator> Journal<A> {
     ghost use Rattle.ocp_core.specs.Journal.{entry_of, mark_of, marked_of};
     ghost use Rattle.ocp_core.specs.Mirror.Counted.{AreCounted};
 
-    /// A journal without entries, with room for so many, of an engine with 1 to 256 pool words.
+    /// A journal without entries, with room for so many, of an engine of a profile with 1 to 256 pool words.
     #[tactic(auto, unfolding(crate::specs::Marks::marked, crate::specs::Log::world_of))]
-    pub fn new(alloc: A, apid: Apid, words: u16, capacity: u32) -> Result<Self, AllocError>
+    pub fn new(
+        alloc: A,
+        profile: Profile,
+        apid: Apid,
+        words: u16,
+        capacity: u32,
+    ) -> Result<Self, AllocError>
         requires apid { apid < 2047 }
         requires words_from { 1 ≤ words }
         requires words_to { words ≤ 256 }
         requires capacity { capacity ≤ 1000000 }
-        ensures { IfOk result (λ journal. journal ≡ empty_log apid words capacity) }
+        ensures { IfOk result (λ journal. journal ≡ empty_log profile apid words capacity) }
     {
         Ok(Journal {
+            profile,
             apid,
             words,
             capacity,
             entries: Vec::with_capacity(alloc, capacity as usize)?,
             events: 0,
         })
+    }
+
+    /// The engine's profile.
+    pub fn profile(&self) -> Profile
+        ensures { result ≡ self.now.profile }
+    {
+        self.profile
     }
 
     /// The engine's application process identifier.

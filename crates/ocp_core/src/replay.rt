@@ -15,6 +15,7 @@ ghost use Rattle.ocp_core.specs.Mirror.Admitted.{HasMemory};
 use crate::laws::{machines_follow_from_their_own_events, refused_events_change_nothing};
 use crate::{Command, EngineFault, Entry, Journal};
 use bpf_step::Machine;
+use ocp_profile::Profile;
 use ocp_reports::CopiedReports;
 use ocp_world::State;
 use pus_fields::read_tc;
@@ -98,9 +99,10 @@ fn enter<A: Allocator + Copy, B: Allocator>(
     Ok(())
 }
 
-// The state after entries of an engine with this application process and so many pool words.
+// The state after entries of an engine of a profile with this application process and so many pool words.
 fn state_after<A: Allocator + Copy, B: Allocator>(
     alloc: A,
+    profile: Profile,
     apid: Apid,
     words: u16,
     entries: &[Entry<B>],
@@ -110,11 +112,11 @@ fn state_after<A: Allocator + Copy, B: Allocator>(
     requires words_to { words ≤ 256 }
     requires few { length entries.now ≤ 1000000 }
     requires accepted { let events = expand (map entry_of entries.now) in
-        (replay apid words events).events ≡ length events }
+        (replay profile apid words events).events ≡ length events }
     ensures { IfOk result (λ state.
-        IsWorld (replay apid words (expand (map entry_of entries.now))) state) }
+        IsWorld (replay profile apid words (expand (map entry_of entries.now))) state) }
 {
-    let mut state = State::new(alloc, apid, words)?;
+    let mut state = State::new(alloc, profile, apid, words)?;
     let mut event: u64 = 0;
     for entry in entries {
         enter(&mut state, alloc, apid, event, entry)?;
@@ -134,9 +136,16 @@ pub fn replay_one<A: Allocator + Copy, B: Allocator>(
     ensures replay { IfOk result (λ machine.
         machine ≡ machine_of (get (world_of journal.now).records id)) }
     ensures alone { IfOk result (λ machine. machine ≡
-        alone_after journal.now.apid journal.now.words (expand journal.now.entries) id) }
+        alone_after journal.now.profile journal.now.apid journal.now.words
+            (expand journal.now.entries) id) }
 {
     machines_follow_from_their_own_events();
-    let state = state_after(alloc, journal.apid(), journal.words(), journal.entries())?;
+    let state = state_after(
+        alloc,
+        journal.profile(),
+        journal.apid(),
+        journal.words(),
+        journal.entries(),
+    )?;
     state.machine(alloc, id)
 }

@@ -6,7 +6,7 @@ use std::alloc::{AllocError, Allocator, Global};
 use std::marker::Model;
 
 /// A copy of a running procedure: its machine twice, one to run and one to compare with, the shared program, the
-/// breakpoints, the pass flag and the trace flag.
+/// breakpoints, the pass flag, the trace flag and what remains of the budget.
 #[derive(Drop)]
 pub struct Ticket<A: Allocator = Global> {
     id: u16,
@@ -75,7 +75,8 @@ impl<A: Allocator> Ticket<A> {
         self.id
     }
 
-    /// Does instructions that need no engine, at most so many: none where the procedure is traced. It stops before the
+    /// Does instructions that need no engine, at most so many, and no more than what remains of the procedure's budget: none
+    /// where the procedure is traced. It stops before the
     /// first one that needs the engine, and before a breakpoint, which the pass flag lets the first instruction pass.
     pub fn run(self, budget: u32) -> Work<A>
         ensures id { result.id ≡ self.id }

@@ -2,6 +2,8 @@
 use Rattle.std.specs.Prelude.{◌≡◌, ℕ, List, ◌⊎◌, refl}
 use Rattle.std.proofs.Common.{inl, inr}
 use Rattle.std.specs.Coded.{Coded, code_by, coded×, coded⊎, coded_ℕ, coded_list}
+use Rattle.ocp_profile.specs.declared.profile.Profile.{Profile}
+use Rattle.ocp_profile.specs.contracts.profile.Profile as P
 use Rattle.ocp_debug.specs.declared.command.Command.{Command}
 use Rattle.ocp_debug.specs.contracts.command.Command as C
 use Rattle.ocp_core.specs.Log.{Entry, Asked, Steps, Debugged, Drained, Log}
@@ -38,8 +40,15 @@ entry_code =
 
 abbrev pub log_code : Coded Log
 log_code =
-    code_by (ℕ × (ℕ × (ℕ × List Entry)))
-    (coded× coded_ℕ (coded× coded_ℕ (coded× coded_ℕ (coded_list entry_code))))
-    (λ l. (l.apid, (l.words, (l.capacity, l.entries))))
-    (λ p. record { apid = p.0; words = p.1.0; capacity = p.1.1.0; entries = p.1.1.1 })
+    code_by (Profile × (ℕ × (ℕ × (ℕ × List Entry))))
+    (coded× (P.the_row).coded
+    (coded× coded_ℕ (coded× coded_ℕ (coded× coded_ℕ (coded_list entry_code)))))
+    (λ l. (l.profile, (l.apid, (l.words, (l.capacity, l.entries)))))
+    (λ p. record {
+      profile = p.0;
+      apid = p.1.0;
+      words = p.1.1.0;
+      capacity = p.1.1.1.0;
+      entries = p.1.1.1.1;
+    })
     (λ _. refl)

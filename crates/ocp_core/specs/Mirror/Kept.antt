@@ -8,6 +8,7 @@ use Rattle.ocp_core.specs.declared.journal.Journal.TheInside.{Inside}
 module _ {A : Type 0} where
   abbrev pub log_of : Inside A → Log
   log_of j = record {
+    profile = j.profile;
     apid = j.apid;
     words = j.words;
     capacity = j.capacity;

@@ -15,15 +15,15 @@ loop-entry-preserved g c =
     let items = c.args.entries.now in
     let i = c.loop-entry.entry-index in
     let within : i < length items = omega arith in
-    let start = opening c.args.apid c.args.words in
+    let start = opening c.args.profile c.args.apid c.args.words in
     let before = expand (map entry_of (take i items)) in
     let all : AreCounted start (expand (map entry_of items)) = omega (arith, c.requires.accepted) in
     let so_far = first_entries_counted entry_of start items i all in
-    let numbered : c.loop-entry.event ≡ (replay c.args.apid c.args.words before).events = omega (arith, so_far, c.loop-entry.invariant.counted) in
-    let more = length-entry entry_of c.args.apid c.args.words items i c.entry-item.result within c.entry-item.is in
+    let numbered : c.loop-entry.event ≡ (replay c.args.profile c.args.apid c.args.words before).events = omega (arith, so_far, c.loop-entry.invariant.counted) in
+    let more = length-entry entry_of c.args.profile c.args.apid c.args.words items i c.entry-item.result within c.entry-item.is in
     record {
-      stands = subst (λ v. IsWorld v c.enter.new.state) (sym (replay-entry entry_of c.args.apid c.args.words items i c.entry-item.result within c.entry-item.is))
-          (c.in_ok-enter.ensures (replay c.args.apid c.args.words before) c.loop-entry.invariant.stands (apid-replay_from start before) numbered);
+      stands = subst (λ v. IsWorld v c.enter.new.state) (sym (replay-entry entry_of c.args.profile c.args.apid c.args.words items i c.entry-item.result within c.entry-item.is))
+          (c.in_ok-enter.ensures (replay c.args.profile c.args.apid c.args.words before) c.loop-entry.invariant.stands (apid-replay_from start before) numbered);
       counted = omega (arith, c.loop-entry.invariant.counted, c.events-event.ensures.value, more);
       bounded = omega (arith, c.loop-entry.invariant.bounded, c.events-event.ensures.bound);
     }
@@ -33,4 +33,4 @@ returns g c =
     let items = c.args.entries.now in
     let i = c.loop-entry.entry-index in
     let all : length items ≤ i = omega arith in
-    subst (λ xs. IsWorld (replay c.args.apid c.args.words (expand (map entry_of xs))) c.loop-entry.state) (take_all i items all) c.loop-entry.invariant.stands
+    subst (λ xs. IsWorld (replay c.args.profile c.args.apid c.args.words (expand (map entry_of xs))) c.loop-entry.state) (take_all i items all) c.loop-entry.invariant.stands

@@ -40,5 +40,5 @@ invariant_of-self g c =
       counted = omega (arith, c.self.invariant.counted, c.events.ensures.value, more);
       numbered = omega (arith, c.self.invariant.numbered, c.events.ensures.value, numbered);
       bounded = search rules;
-      marks = marks_kept j.apid j.words j.capacity j.entries.items c.push_reserved.new.self.items e c.push_reserved.ensures.items c.self.invariant.marks mark;
+      marks = marks_kept j.profile j.apid j.words j.capacity j.entries.items c.push_reserved.new.self.items e c.push_reserved.ensures.items c.self.invariant.marks mark;
     }
