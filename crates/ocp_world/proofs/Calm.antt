@@ -3,6 +3,7 @@ use Rattle.std.proofs.Common.{◌≡◌, ℕ, ◌+◌, Bool, true, false, cond, 
 use Rattle.std.specs.Prelude.{Result, Ok, Err, nat_le}
 use Rattle.std.specs.FinMap.{get}
 use Rattle.std.proofs.lemmas.List.{append-nil}
+use Rattle.ocp_profile.specs.declared.profile.Profile.{Profile}
 use Rattle.bpf_types.specs.declared.line.Line.{Line}
 use Rattle.obcp_types.specs.declared.pending.Due.{Due}
 use Rattle.obcp_types.specs.declared.status.Status.{Status}
@@ -43,18 +44,18 @@ calm_pended true p = tt
 calm_pended false p = tt
 
 calm : (d : Directive) → IsRequest d → (s : Option Status) (p : Pending) (there : ℕ) → IsCalmDecision (transition d s p there)
-calm (Load image) h None p there = tt
-calm (Load image) h (Some Inactive) p there = tt
-calm (Load image) h (Some Running) p there = tt
-calm (Load image) h (Some Held) p there = tt
+calm (Load profile image) h None p there = tt
+calm (Load profile image) h (Some Inactive) p there = tt
+calm (Load profile image) h (Some Running) p there = tt
+calm (Load profile image) h (Some Held) p there = tt
 calm Unload h None p there = tt
 calm Unload h (Some Inactive) p there = tt
 calm Unload h (Some Running) p there = tt
 calm Unload h (Some Held) p there = tt
-calm (Activate arguments) h None p there = tt
-calm (Activate arguments) h (Some Inactive) p there = tt
-calm (Activate arguments) h (Some Running) p there = tt
-calm (Activate arguments) h (Some Held) p there = tt
+calm (Activate budget arguments) h None p there = tt
+calm (Activate budget arguments) h (Some Inactive) p there = tt
+calm (Activate budget arguments) h (Some Running) p there = tt
+calm (Activate budget arguments) h (Some Held) p there = tt
 calm (Stop k from full) h None p there = tt
 calm (Stop k from full) h (Some Inactive) p there = tt
 calm (Stop k from full) h (Some Running) p there = calm_pended full (pending.Stop k from)
@@ -79,13 +80,13 @@ calm (Communicate words) h (Some Running) p there = calm_sent words there
 calm (Communicate words) h (Some Held) p there = calm_sent words there
 calm (Step pool) h s p there = absurd h
 
-pool_by_load : (full : Bool) (r : Result (List (Option Line)) LoadFault) (id : ℕ) (image : List ℕ) (pool : List ℕ) → pool_by (effect_of_load full r id image) pool ≡ pool
-pool_by_load true r id image pool = refl
-pool_by_load false (Ok lines) id image pool = refl
-pool_by_load false (Err fault) id image pool = refl
+pool_by_load : (full : Bool) (r : Result (List (Option Line)) LoadFault) (profile : Profile) (id : ℕ) (image : List ℕ) (pool : List ℕ) → pool_by (effect_of_load full r profile id image) pool ≡ pool
+pool_by_load true r profile id image pool = refl
+pool_by_load false (Ok lines) profile id image pool = refl
+pool_by_load false (Err fault) profile id image pool = refl
 
 pool_by_decision : (d : Decision) → IsCalmDecision d → (id : ℕ) (o : Option Rec) (full : Bool) (pool : List ℕ) → pool_by (effect_by d id o full) pool ≡ pool
-pool_by_decision (Loads image) h id o full pool = pool_by_load full (load_result image) id image pool
+pool_by_decision (Loads profile image) h id o full pool = pool_by_load full (load_result profile image) profile id image pool
 pool_by_decision Unloads h id o full pool = refl
 pool_by_decision (Changes (Stepped outcome)) h id o full pool = absurd h
 pool_by_decision (Changes change) h id o full pool = refl
@@ -99,7 +100,7 @@ pub unload_leaves_pool : (id : ℕ) (m : Records) (pool : List ℕ) → pool_by 
 unload_leaves_pool id m pool = request_leaves_pool Unload tt id m pool
 
 is_request : (d : D.Directive) (full : Bool) → IsRequest (directive_of d full)
-is_request (asked.Activate arguments) full = tt
+is_request (asked.Activate budget arguments) full = tt
 is_request (asked.Stop k from) full = tt
 is_request (asked.Suspend k from) full = tt
 is_request asked.Resume full = tt
@@ -112,28 +113,28 @@ directive_leaves_pool d full id m pool = request_leaves_pool (directive_of d ful
 -- ---- the outbox
 
 -- a procedure that is loaded was not there before
-overtaken_by_load : (o : Option Rec) (id : ℕ) (image : List ℕ) (full : Bool) → effect_by (decision_on (Load image) o) id o full ≡ Loaded id image → overtaken_of o ≡ []
-overtaken_by_load None id image full loads = refl
-overtaken_by_load (Some r) id image full loads = absurd (elim r.control.status as (λ s. effect_by (transition (Load image) (Some s) r.control.pending (length r.mailbox)) id (Some r) full ≡ Loaded id image → ⊥) [
+overtaken_by_load : (o : Option Rec) (profile : Profile) (id : ℕ) (image : List ℕ) (full : Bool) → effect_by (decision_on (Load profile image) o) id o full ≡ Loaded profile id image → overtaken_of o ≡ []
+overtaken_by_load None profile id image full loads = refl
+overtaken_by_load (Some r) profile id image full loads = absurd (elim r.control.status as (λ s. effect_by (transition (Load profile image) (Some s) r.control.pending (length r.mailbox)) id (Some r) full ≡ Loaded profile id image → ⊥) [
   | Inactive ↦ λ h. cc
   | Running ↦ λ h. cc
   | Held ↦ λ h. cc
 ] loads)
 
-pub load_keeps_outbox : (id : ℕ) (image : List ℕ) (m : Records) (outbox : List Due) → effect_in (Load image) id m ≡ Loaded id image → outbox_by (effect_in (Load image) id m) m outbox ≡ outbox
-load_keeps_outbox id image m outbox loads =
+pub load_keeps_outbox : (profile : Profile) (id : ℕ) (image : List ℕ) (m : Records) (outbox : List Due) → effect_in (Load profile image) id m ≡ Loaded profile id image → outbox_by (effect_in (Load profile image) id m) m outbox ≡ outbox
+load_keeps_outbox profile id image m outbox loads =
     ap (λ e. outbox_by e m outbox) loads
-    ∙ ap (λ dues. outbox ++ dues) (overtaken_by_load (get m id) id image (is_full m) loads) ∙ append-nil outbox
+    ∙ ap (λ dues. outbox ++ dues) (overtaken_by_load (get m id) profile id image (is_full m) loads) ∙ append-nil outbox
 
 -- ---- the trace records
 
-traces_by_load : (full : Bool) (r : Result (List (Option Line)) LoadFault) (id : ℕ) (image : List ℕ) (m : Records) → traces_by (effect_of_load full r id image) m ≡ []
-traces_by_load true r id image m = refl
-traces_by_load false (Ok lines) id image m = refl
-traces_by_load false (Err fault) id image m = refl
+traces_by_load : (full : Bool) (r : Result (List (Option Line)) LoadFault) (profile : Profile) (id : ℕ) (image : List ℕ) (m : Records) → traces_by (effect_of_load full r profile id image) m ≡ []
+traces_by_load true r profile id image m = refl
+traces_by_load false (Ok lines) profile id image m = refl
+traces_by_load false (Err fault) profile id image m = refl
 
 traces_by_decision : (d : Decision) → IsCalmDecision d → (id : ℕ) (o : Option Rec) (full : Bool) (m : Records) → traces_by (effect_by d id o full) m ≡ []
-traces_by_decision (Loads image) h id o full m = traces_by_load full (load_result image) id image m
+traces_by_decision (Loads profile image) h id o full m = traces_by_load full (load_result profile image) profile id image m
 traces_by_decision Unloads h id o full m = refl
 traces_by_decision (Changes (Stepped outcome)) h id o full m = absurd h
 traces_by_decision (Changes change) h id o full m = refl

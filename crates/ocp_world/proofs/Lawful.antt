@@ -61,9 +61,9 @@ module _ (w : World) (q : ℕ) where
 
   module _ (asked : (d : Directive) (id : ℕ) → IsRequest d → IsKept (records_by (effect_in d id w.records) w.records)) where
     kept_by_command : (request : Command) (origin : Origin) → IsKept (records_by (command_effect request origin w).on_records w.records)
-    kept_by_command (command.Load id code) origin = asked (directive.Load code) id tt
+    kept_by_command (command.Load id code) origin = asked (directive.Load w.profile code) id tt
     kept_by_command (command.Unload id) origin = asked directive.Unload id tt
-    kept_by_command (command.Activate id arguments) origin = asked (directive.Activate arguments) id tt
+    kept_by_command (command.Activate id budget arguments) origin = asked (directive.Activate budget arguments) id tt
     kept_by_command (command.Stop id step) origin = asked (directive.Stop step (next_origin origin w) (has_no_place w)) id tt
     kept_by_command (command.Suspend id step) origin = asked (directive.Suspend step (next_origin origin w) (has_no_place w)) id tt
     kept_by_command (command.Resume id) origin = asked directive.Resume id tt
@@ -76,7 +76,7 @@ module _ (w : World) (q : ℕ) where
     kept_by_service (Err fault) origin = λ machine is. inl is
 
     kept_by_octets : (r : Result Telecommand TcFault) (time : ℕ) → IsKept (records_by (request_effect r time w).on_records w.records)
-    kept_by_octets (Ok telecommand) time = kept_by_service (command_of telecommand) (origin_of telecommand time)
+    kept_by_octets (Ok telecommand) time = kept_by_service (command_of w.profile telecommand) (origin_of telecommand time)
     kept_by_octets (Err (Rejected rejection request)) time = λ machine is. inl is
     kept_by_octets (Err (Discarded cause)) time = λ machine is. inl is
 
@@ -130,7 +130,7 @@ debugging (SetTrace on) = tt
 -- a record that runs so
 rec_of : Option Run → Option Rec
 rec_of None = None
-rec_of (Some run) = Some (record { image = run.image; machine = run.machine; mailbox = run.mailbox; control = run.control; breakpoints = []; traced = false })
+rec_of (Some run) = Some (record { image = run.image; machine = run.machine; mailbox = run.mailbox; control = run.control; breakpoints = []; traced = false; remaining = run.remaining })
 
 machine_of-run : (o : Option Rec) → machine_of o ≡ machine_of (rec_of (run_of o))
 unfolding rec_of
@@ -155,9 +155,9 @@ module _ (debugs : (change : Change) (id q : ℕ) (m : Records) → IsDebugging 
       other_stays d own h = ap machine_of (others d own id w.records (apart own id h))
 
       stays_by_command : (request : Command) (origin : Origin) → is_start_of id request ≡ false → Stays (records_by (command_effect request origin w).on_records w.records)
-      stays_by_command (command.Load own code) origin h = other_stays (directive.Load code) own h
+      stays_by_command (command.Load own code) origin h = other_stays (directive.Load w.profile code) own h
       stays_by_command (command.Unload own) origin h = other_stays directive.Unload own h
-      stays_by_command (command.Activate own arguments) origin h = other_stays (directive.Activate arguments) own h
+      stays_by_command (command.Activate own budget arguments) origin h = other_stays (directive.Activate budget arguments) own h
       stays_by_command (command.Stop own step) origin h = leaves (directive.Stop step (next_origin origin w) (has_no_place w)) own id w.records tt
       stays_by_command (command.Suspend own step) origin h = leaves (directive.Suspend step (next_origin origin w) (has_no_place w)) own id w.records tt
       stays_by_command (command.Resume own) origin h = leaves directive.Resume own id w.records tt
@@ -169,8 +169,8 @@ module _ (debugs : (change : Change) (id q : ℕ) (m : Records) → IsDebugging 
       stays_by_service (Ok request) origin h = stays_by_command request origin h
       stays_by_service (Err fault) origin h = refl
 
-      stays_by_octets : (r : Result Telecommand TcFault) (time : ℕ) → is_start_by id r ≡ false → Stays (records_by (request_effect r time w).on_records w.records)
-      stays_by_octets (Ok telecommand) time h = stays_by_service (command_of telecommand) (origin_of telecommand time) h
+      stays_by_octets : (r : Result Telecommand TcFault) (time : ℕ) → is_start_by w.profile id r ≡ false → Stays (records_by (request_effect r time w).on_records w.records)
+      stays_by_octets (Ok telecommand) time h = stays_by_service (command_of w.profile telecommand) (origin_of telecommand time) h
       stays_by_octets (Err (Rejected rejection request)) time h = refl
       stays_by_octets (Err (Discarded cause)) time h = refl
 
@@ -234,9 +234,9 @@ counted w e = counted_by (effect_of w e).reply w
 -- ---- trace records
 
 no_trace_by_request : (request : Command) (origin : Origin) (w : World) → traces_by (command_effect request origin w).on_records w.records ≡ []
-no_trace_by_request (command.Load id code) origin w = request_makes_no_trace (directive.Load code) tt id w.records
+no_trace_by_request (command.Load id code) origin w = request_makes_no_trace (directive.Load w.profile code) tt id w.records
 no_trace_by_request (command.Unload id) origin w = request_makes_no_trace directive.Unload tt id w.records
-no_trace_by_request (command.Activate id arguments) origin w = request_makes_no_trace (directive.Activate arguments) tt id w.records
+no_trace_by_request (command.Activate id budget arguments) origin w = request_makes_no_trace (directive.Activate budget arguments) tt id w.records
 no_trace_by_request (command.Stop id step) origin w = request_makes_no_trace (directive.Stop step (next_origin origin w) (has_no_place w)) tt id w.records
 no_trace_by_request (command.Suspend id step) origin w = request_makes_no_trace (directive.Suspend step (next_origin origin w) (has_no_place w)) tt id w.records
 no_trace_by_request (command.Resume id) origin w = request_makes_no_trace directive.Resume tt id w.records
@@ -249,7 +249,7 @@ no_trace_by_service (Ok request) origin w = no_trace_by_request request origin w
 no_trace_by_service (Err fault) origin w = refl
 
 no_trace_by_octets : (r : Result Telecommand TcFault) (time : ℕ) (w : World) → traces_by (request_effect r time w).on_records w.records ≡ []
-no_trace_by_octets (Ok telecommand) time w = no_trace_by_service (command_of telecommand) (origin_of telecommand time) w
+no_trace_by_octets (Ok telecommand) time w = no_trace_by_service (command_of w.profile telecommand) (origin_of telecommand time) w
 no_trace_by_octets (Err (Rejected rejection request)) time w = refl
 no_trace_by_octets (Err (Discarded cause)) time w = refl
 

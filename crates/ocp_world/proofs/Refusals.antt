@@ -68,7 +68,7 @@ module _ (origin : Origin) (w : World) where
 
 -- octets that are read are discarded, or an accepted request
 discard_read : (r : Result Telecommand TcFault) (time : ℕ) (w : World) → IsDiscard (answer_by (request_effect r time w).reply w) (discard_of r)
-discard_read (Ok telecommand) time w = accepted_service (origin_of telecommand time) w (command_of telecommand)
+discard_read (Ok telecommand) time w = accepted_service (origin_of telecommand time) w (command_of w.profile telecommand)
 discard_read (Err (Rejected rejection request)) time w = refl
 discard_read (Err (Discarded cause)) time w = refl
 
@@ -78,7 +78,7 @@ request_discard r found is w by time octets read =
     subst P (ap discard_of (sym read) ∙ sym is) (discard_read (telecommand_of w.apid octets) time w)
 
 kept_octets : (r : Result Telecommand TcFault) (time : ℕ) (w : World) → is_accepted (answer_by (request_effect r time w).reply w) ≡ false → world_after (request_effect r time w) w ≡ w
-kept_octets (Ok telecommand) time w h = absurd (true_false (sym (accepted_service (origin_of telecommand time) w (command_of telecommand)) ∙ h))
+kept_octets (Ok telecommand) time w h = absurd (true_false (sym (accepted_service (origin_of telecommand time) w (command_of w.profile telecommand)) ∙ h))
 kept_octets (Err (Rejected rejection request)) time w h = absurd (true_false h)
 kept_octets (Err (Discarded cause)) time w h = untouched w
 
@@ -253,7 +253,7 @@ module _ (origin : Origin) (w : World) where
   roomy_service (Err fault) = refl
 
 roomy_octets : (r : Result Telecommand TcFault) (time : ℕ) (w : World) → is_full (answer_by (request_effect r time w).reply w) ≡ false
-roomy_octets (Ok telecommand) time w = roomy_service (origin_of telecommand time) w (command_of telecommand)
+roomy_octets (Ok telecommand) time w = roomy_service (origin_of telecommand time) w (command_of w.profile telecommand)
 roomy_octets (Err (Rejected rejection request)) time w = refl
 roomy_octets (Err (Discarded cause)) time w = refl
 

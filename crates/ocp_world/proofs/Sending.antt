@@ -48,6 +48,7 @@ module _ {A : Type 0} (w : World) (s : State A) (dispatches : List Dispatch) (re
 
   pub IsWorld-sent : (count : ℕ) → count ≡ (s.count + length reports) % 16384 → IsWorld (world_after (record { on_records = Kept Unasked; reply = Sends dispatches }) w) (record s { count = count })
   IsWorld-sent count is = record {
+    profile = stands.profile;
     apid = stands.apid;
     records = stands.records;
     outbox = stands.outbox ∙ sym (append-nil w.outbox);
@@ -62,7 +63,7 @@ drain_is w time [] accepted = absurd (true_false (sym accepted))
 drain_is w time (due ∷ dues) accepted = refl
 
 -- a drain that is accepted: the reports are sent, and then the outbox is emptied
-module _ {A : Type 0} (w : World) (time : ℕ) (old : State A) (stands : IsWorld w old) (accepted : is_accepted (answer_by (drain_effect time w.outbox).reply w) ≡ true) (procedures : Procedures) (records : procedures.records ≡ old.table.records) (outbox : procedures.outbox ≡ []) (reports : List (List ℕ)) (are : reports ≡ packets old.apid old.count (drained time old.table.outbox)) (count : ℕ) (next : count ≡ (old.count + length reports) % 16384) where
+module _ {A : Type 0} (w : World) (time : ℕ) (old : State A) (stands : IsWorld w old) (accepted : is_accepted (answer_by (drain_effect time w.outbox).reply w) ≡ true) (procedures : Procedures) (profile : procedures.profile ≡ old.table.profile) (records : procedures.records ≡ old.table.records) (outbox : procedures.outbox ≡ []) (reports : List (List ℕ)) (are : reports ≡ packets old.apid old.count (drained time old.table.outbox)) (count : ℕ) (next : count ≡ (old.count + length reports) % 16384) where
   abbrev dispatches : List Dispatch
   dispatches = drained time w.outbox
 
@@ -76,6 +77,7 @@ module _ {A : Type 0} (w : World) (time : ℕ) (old : State A) (stands : IsWorld
   drained_all = subst Drains (sym (drain_is w time w.outbox accepted)) (
     ap (λ all. Requested (Ok all)) (sent_reports w old dispatches reports stands are_here),
     record {
+      profile = profile ∙ stands.profile;
       apid = stands.apid;
       records = records ∙ stands.records;
       outbox = outbox;
@@ -94,12 +96,12 @@ module _ {A : Type 0} (w : World) (origin : Origin) (d : D.Directive) (id : ℕ)
   effect_at t = effect_in (asked t) id t.records
 
   abbrev here : Procedures
-  here = record { records = w.records; outbox = w.outbox }
+  here = record { profile = w.profile; records = w.records; outbox = w.outbox }
 
   same_table : old.table ≡ here
-  same_table = λ i. record { records = stands.records i; outbox = stands.outbox i }
+  same_table = λ i. record { profile = stands.profile i; records = stands.records i; outbox = stands.outbox i }
 
-  module _ (became : outcome ≡ outcome_by (effect_at old.table)) (does : DoesIn w (record { on_records = Kept Unasked; reply = Sends (reports_of origin outcome []) }) (Ok reports) new) (same : new.table ≡ old.table) (records : procedures.records ≡ records_by (effect_at new.table) new.table.records) (outbox : procedures.outbox ≡ outbox_by (effect_at new.table) new.table.records new.table.outbox) where
+  module _ (became : outcome ≡ outcome_by (effect_at old.table)) (does : DoesIn w (record { on_records = Kept Unasked; reply = Sends (reports_of origin outcome []) }) (Ok reports) new) (same : new.table ≡ old.table) (profile : procedures.profile ≡ new.table.profile) (records : procedures.records ≡ records_by (effect_at new.table) new.table.records) (outbox : procedures.outbox ≡ outbox_by (effect_at new.table) new.table.records new.table.outbox) where
     decided : outcome ≡ outcome_by (effect_at here)
     decided = became ∙ ap (λ t. outcome_by (effect_at t)) same_table
 
@@ -107,6 +109,7 @@ module _ {A : Type 0} (w : World) (origin : Origin) (d : D.Directive) (id : ℕ)
     directed = (
       ap (λ o. Requested (Ok (packets w.apid w.reports (reports_of origin o [])))) (sym decided) ∙ does.0,
       record {
+        profile = profile ∙ does.1.profile;
         apid = does.1.apid;
         records = records ∙ ap (λ t. records_by (effect_at t) t.records) (same ∙ same_table);
         outbox = outbox ∙ ap (λ t. outbox_by (effect_at t) t.records t.outbox) (same ∙ same_table);

@@ -4,7 +4,7 @@ use Rattle.ocp_world.proofs.Stretches.{sliced, sliced_count, sliced_last}
 use Rattle.ocp_world.proofs.state.State.slice.Goals as goal
 
 pub returns-in-Some-clause-world : goal.returns-in-Some-clause-world
-returns-in-Some-clause-world g c = sliced c.args.self.now _ c.args.id c.in-Some.slice.count c.in-Some.ensures.untraced c.in-Some.ensures.store refl refl refl
+returns-in-Some-clause-world g c = sliced c.args.self.now _ c.args.id c.in-Some.slice.count c.in-Some.ensures.untraced c.in-Some.ensures.store c.in-Some.ensures.profile refl refl refl
 
 pub returns-in-Some-clause-events : goal.returns-in-Some-clause-events
 returns-in-Some-clause-events g c w by stands first =
