@@ -64,6 +64,7 @@ pub fn apply<A: Allocator>(
     ensures records { table.new.records ≡
         records_by (command_effect command id table.old.records) table.old.records }
     ensures outbox { table.new.outbox ≡ table.old.outbox }
+    ensures profile { table.new.profile ≡ table.old.profile }
 {
     if let Some(fault) = fault_of(table, id, command) {
         return Err(fault);
@@ -78,6 +79,7 @@ fn enact<A: Allocator>(table: &mut Table<A>, id: u16, command: Command)
     ensures records { table.new.records ≡
         records_by (Changed id (change_of command)) table.old.records }
     ensures outbox { table.new.outbox ≡ table.old.outbox }
+    ensures profile { table.new.profile ≡ table.old.profile }
 {
     let Some(record) = table.record(id) else {
         return;
@@ -104,6 +106,7 @@ pub fn set_break<A: Allocator>(table: &mut Table<A>, id: u16, place: u16) -> Res
         records_by (command_effect (Command.SetBreak place) id table.old.records)
         table.old.records }
     ensures outbox { table.new.outbox ≡ table.old.outbox }
+    ensures profile { table.new.profile ≡ table.old.profile }
 {
     apply(table, id, Command::SetBreak(place))
 }
@@ -119,6 +122,7 @@ pub fn clear_break<A: Allocator>(
         records_by (command_effect (Command.ClearBreak place) id table.old.records)
         table.old.records }
     ensures outbox { table.new.outbox ≡ table.old.outbox }
+    ensures profile { table.new.profile ≡ table.old.profile }
 {
     apply(table, id, Command::ClearBreak(place))
 }
@@ -130,6 +134,7 @@ pub fn set_trace<A: Allocator>(table: &mut Table<A>, id: u16, on: bool) -> Resul
         records_by (command_effect (Command.SetTrace on) id table.old.records)
         table.old.records }
     ensures outbox { table.new.outbox ≡ table.old.outbox }
+    ensures profile { table.new.profile ≡ table.old.profile }
 {
     apply(table, id, Command::SetTrace(on))
 }

@@ -16,7 +16,7 @@ pub fn keeping_is_kept_up()
     ensures { (old new : List Made) → kept (kept old ++ new) ≡ kept (old ++ new) }
 {}
 
-/// A debugger's command leaves each procedure's image, machine, mailbox and control.
+/// A debugger's command leaves each procedure's image, machine, mailbox and control, and what remains of its budget.
 pub fn commands_keep_runs()
     ensures { (command : Asked) (id q : ℕ) (m : Records) →
         run_of (get (records_by (command_effect command id m) m) q) ≡ run_of (get m q) }

@@ -84,6 +84,7 @@ pub fn instruction<A: Allocator>(
     ensures outbox { table.new.outbox ≡
         outbox_by (effect_in (Step pool.old) id table.old.records) table.old.records
         table.old.outbox }
+    ensures profile { table.new.profile ≡ table.old.profile }
     ensures pool { pool.new ≡ pool_by (effect_in (Step pool.old) id table.old.records) pool.old }
     ensures ring { ring.new ≡
         kept (ring.old
