@@ -5,6 +5,7 @@ use Rattle.obcp_types.specs.declared.status.Status.{Status}
 use Rattle.obcp_types.specs.declared.status.Status.TheVariants.{Inactive, Running, Held}
 use Rattle.bpf_step.specs.Machine.{State as Machined}
 use Rattle.bpf_step.specs.Step.{StandsIn}
+use Rattle.ocp_table.specs.Budgets.{IsWithin}
 use Rattle.ocp_table.specs.Records.{Rec}
 use Rattle.ocp_table.specs.Snapshots.{Snapshot, snapshot_of, snapshot_by, snapshot_at, run_of, StandsAt}
 use Rattle.ocp_world.specs.World.{World, Step}
@@ -60,6 +61,7 @@ alone log w some fresh run found = record {
   running = found.running;
   untraced = ap (λ s. s.traced) found.same ∙ untraced_by w.base.traced w.count run.untraced some;
   some = at_least_one w.count some;
+  within = subst (λ s. IsWithin s.remaining w.count) (sym found.same) run.within;
   ran = subst (λ s. run_of s w.count ≡ Some w.end) (sym found.same) run.ran;
 }
 

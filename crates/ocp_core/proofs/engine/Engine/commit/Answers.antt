@@ -11,7 +11,7 @@ pub invariant_of-self : goal.invariant_of-self
 invariant_of-self g c =
     let work : Worked = record { id = c.work.inside.id; base = c.work.inside.base; end = c.work.inside.end; count = c.work.inside.count } in
     let fresh = (c.is_at.ensures _ c.self.invariant).0 c.if-not-is_at.false in
-    IsWorld-committed c.instructions_done_alone_are_events.ensures.world c.self.inside.journal c.push.new.self c.args.by work c.settle.new.self c.if-work-eq0.false fresh c.work.invariant c.push.ensures (c.settle.ensures _ work.count c.self.invariant)
+    IsWorld-committed c.instructions_done_alone_are_events.ensures.world c.self.inside.journal c.push.new.self c.args.by work c.settle.new.self c.if-work-eq0.false fresh c.work.invariant c.push.ensures (c.settle.ensures _ c.self.invariant)
 
 pub returns : goal.returns
 returns g c =
