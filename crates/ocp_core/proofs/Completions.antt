@@ -9,6 +9,7 @@ use Rattle.std.proofs.lemmas.List.{append-nil}
 use Rattle.std.proofs.lemmas.List.Sums.{sum_by-cons, sum_by-append, sum_by_push}
 use Rattle.std.proofs.lemmas.List.Folds.{list_all-append}
 use Rattle.std.proofs.lemmas.Bool.{eqb-true, eqb-false, and_parts}
+use Rattle.ocp_profile.specs.declared.profile.Profile.{Profile}
 use Rattle.pus_fields.specs.TelecommandFaults.{telecommand_of}
 use Rattle.obcp_types.specs.declared.pending.Due.{Due}
 use Rattle.obcp_types.specs.declared.pending.PendingOrigin.{PendingOrigin}
@@ -264,27 +265,27 @@ gives_step : (w : World) (e : Event) → Gives w → Gives (after w e).world
 gives_step w e is time = gives_outbox time (effect_of w e).on_records w.records w.outbox (is time)
 
 pub each_gives_one_report : EachGivesOneReport
-each_gives_one_report apid words es time = along Gives gives_step (opening apid words) es (λ t. refl) time
+each_gives_one_report profile apid words es time = along Gives gives_step (opening profile apid words) es (λ t. refl) time
 
 module _ (f : ℕ → ℕ) where
-  balanced : (apid words : ℕ) (es : List Event) → Balanced f (replay apid words es) (all_pended apid words es) (all_reported apid words es) (all_silent apid words es)
-  balanced apid words es = (carried add_pended add_reported add_silent (λ w ps rs ss. Gives w × Balanced f w ps rs ss)
-      (λ w ps rs ss e is. (gives_step w e is.0, balanced_step f w ps rs ss e is.0 is.1)) (opening apid words) [] [] [] es
+  balanced : (profile : Profile) (apid words : ℕ) (es : List Event) → Balanced f (replay profile apid words es) (all_pended profile apid words es) (all_reported profile apid words es) (all_silent profile apid words es)
+  balanced profile apid words es = (carried add_pended add_reported add_silent (λ w ps rs ss. Gives w × Balanced f w ps rs ss)
+      (λ w ps rs ss e is. (gives_step w e is.0, balanced_step f w ps rs ss e is.0 is.1)) (opening profile apid words) [] [] [] es
       ((λ t. refl), ap (λ n. n + 0) (waiting-empty (at f)))).1
 
-  weigh-places : (apid words : ℕ) (es : List Event) → weigh f (places apid words es) ≡ weigh f (all_pended apid words es)
-  weigh-places apid words es =
-      let w = replay apid words es in
+  weigh-places : (profile : Profile) (apid words : ℕ) (es : List Event) → weigh f (places profile apid words es) ≡ weigh f (all_pended profile apid words es)
+  weigh-places profile apid words es =
+      let w = replay profile apid words es in
       let ps = pending_numbers w.records in
       let ds = due_numbers w.outbox in
-      let rs = all_reported apid words es in
-      let ss = all_silent apid words es in
+      let rs = all_reported profile apid words es in
+      let ss = all_silent profile apid words es in
       let last = weigh-append f (ps ++ ds ++ rs) ss in
       let third = weigh-append f (ps ++ ds) rs in
       let second = weigh-append f ps ds in
       let held = weigh-pending f w.records in
       let waits = weigh-due f w.outbox in
-      let is = balanced apid words es in
+      let is = balanced profile apid words es in
       omega (arith, last, third, second, held, waits, is)
 
 -- ---- each number became pending once at most
@@ -317,8 +318,8 @@ module _ (n : ℕ) where
       (λ own. subst (λ x. Fresh next (ns ++ x)) (sym own.0) (subst (λ k. Fresh k (ns ++ w.events ∷ [])) (sym own.1) (fresh_push w.events ns (count n (ns ++ w.events ∷ [])) (sum_by_push is_n ns w.events) fresh)))
       (counts w e)
 
-  few : (apid words : ℕ) (es : List Event) → count n (all_pended apid words es) ≤ 1
-  few apid words es = (carried {T = ℕ} {U = ℕ} add_pended (λ w e t. t) (λ w e u. u) (λ w ns t u. Fresh w.events ns) (λ w ns t u e is. fresh_step w ns e is) (opening apid words) [] 0 0 es (omega arith, λ later. refl)).0
+  few : (profile : Profile) (apid words : ℕ) (es : List Event) → count n (all_pended profile apid words es) ≤ 1
+  few profile apid words es = (carried {T = ℕ} {U = ℕ} add_pended (λ w e t. t) (λ w e u. u) (λ w ns t u. Fresh w.events ns) (λ w ns t u e is. fresh_step w ns e is) (opening profile apid words) [] 0 0 es (omega arith, λ later. refl)).0
 
   once : (ns : List ℕ) → count n ns ≤ 1 → count n ns ≡ cond (is_in n ns) 1 0
   once [] few = refl
@@ -334,10 +335,10 @@ module _ (n : ℕ) where
       other k x one rest = let same = rest (omega arith) in omega arith
 
 pub each_stands_once : EachStandsOnce
-each_stands_once apid words es n = weigh-places (is_n n) apid words es ∙ once n (all_pended apid words es) (few n apid words es)
+each_stands_once profile apid words es n = weigh-places (is_n n) profile apid words es ∙ once n (all_pended profile apid words es) (few n profile apid words es)
 
 pub is_reported_once_at_most : IsReportedOnceAtMost
-is_reported_once_at_most apid words es n = let is = balanced (is_n n) apid words es in let one = few n apid words es in omega (arith, is, one)
+is_reported_once_at_most profile apid words es n = let is = balanced (is_n n) profile apid words es in let one = few n profile apid words es in omega (arith, is, one)
 
 -- ---- places
 
@@ -364,4 +365,4 @@ places_step : (w : World) (e : Event) → HasPlaces w.records w.outbox → HasPl
 places_step w e fits = outbox_fits w.records w.outbox fits (effect_of w e).on_records (roomy_event w e)
 
 pub places_suffice : PlacesSuffice
-places_suffice apid words es = along (λ w. HasPlaces w.records w.outbox) places_step (opening apid words) es (subst (λ n. 0 + n ≤ 64) (sym pendings-empty) (omega arith))
+places_suffice profile apid words es = along (λ w. HasPlaces w.records w.outbox) places_step (opening profile apid words) es (subst (λ n. 0 + n ≤ 64) (sym pendings-empty) (omega arith))

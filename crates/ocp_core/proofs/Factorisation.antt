@@ -52,7 +52,7 @@ IsAlone-machine missing = refl
 IsAlone-machine (there e) = ap Some e
 
 pub factorisation : IsFactored
-factorisation apid words es q =
+factorisation profile apid words es q =
     IsAlone-machine (carried (add_image q) (add_own q) (λ w image own. IsAlone (get w.records q) image own)
     (λ w image own effect honest is. subst (λ o. IsAlone o (add_image q effect.on_records image) (add_own q effect.on_records own)) (sym (get-records_by effect.on_records w.records q)) (IsAlone-own_by q effect.on_records (get w.records q) image own is))
-    (opening apid words) None [] es (subst (λ o. IsAlone o None []) (sym (get-empty nat_cmp q)) missing))
+    (opening profile apid words) None [] es (subst (λ o. IsAlone o None []) (sym (get-empty nat_cmp q)) missing))

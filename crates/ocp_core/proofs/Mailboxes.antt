@@ -5,6 +5,7 @@ use Rattle.std.proofs.lemmas.Bool.{eqb-true}
 use Rattle.std.proofs.lemmas.List.{append-nil}
 use Rattle.std.specs.Ordering.{nat_cmp}
 use Rattle.std.specs.FinMap.{get, get-empty}
+use Rattle.ocp_profile.specs.declared.profile.Profile.{Profile}
 use Rattle.bpf_step.specs.Machine.{read}
 use Rattle.ocp_pool.specs.declared.call.Called.{Called as Call}
 use Rattle.ocp_pool.specs.declared.call.Called.TheVariants.{NextParam}
@@ -98,11 +99,11 @@ module _ (q : ℕ) where
   posted_by w (Kept why) ts ss h is = is
   posted_by w Drained ts ss h is = is
 
-  posted : (apid words : ℕ) (es : List Event) → IsPosted (get (replay apid words es).records q) (taken apid words es q) (sent apid words es q)
-  posted apid words es =
+  posted : (profile : Profile) (apid words : ℕ) (es : List Event) → IsPosted (get (replay profile apid words es).records q) (taken profile apid words es q) (sent profile apid words es q)
+  posted profile apid words es =
       carried (since_start taken_by q) (since_start sent_by q) (λ w ts ss. IsPosted (get w.records q) ts ss)
       (λ w ts ss effect h is. subst (λ o. IsPosted o (since_start taken_by q effect.on_records ts) (since_start sent_by q effect.on_records ss)) (sym (get-records_by effect.on_records w.records q)) (posted_by w effect.on_records ts ss h is))
-      (opening apid words) [] [] es (subst (λ o. IsPosted o [] []) (sym (get-empty nat_cmp q)) tt)
+      (opening profile apid words) [] [] es (subst (λ o. IsPosted o [] []) (sym (get-empty nat_cmp q)) tt)
 
 -- ---- the next word
 
@@ -143,11 +144,11 @@ module _ (o : Option Rec) (pool ts ss : List ℕ) (word : Option ℕ) (next : Is
   none_exactly = none_is_left_of next.rec ts ss posted_there word oldest_there
 
 pub words_come_in_order : WordsComeInOrder
-words_come_in_order apid words es by q word does =
-    let w = replay apid words es in
-    in_order (get w.records q) w.pool (taken apid words es q) (sent apid words es q) word (next_of w by q (Called (NextParam word)) does) (posted q apid words es)
+words_come_in_order profile apid words es by q word does =
+    let w = replay profile apid words es in
+    in_order (get w.records q) w.pool (taken profile apid words es q) (sent profile apid words es q) word (next_of w by q (Called (NextParam word)) does) (posted q profile apid words es)
 
 pub none_is_left : NoneIsLeft
-none_is_left apid words es by q word does =
-    let w = replay apid words es in
-    none_exactly (get w.records q) w.pool (taken apid words es q) (sent apid words es q) word (next_of w by q (Called (NextParam word)) does) (posted q apid words es)
+none_is_left profile apid words es by q word does =
+    let w = replay profile apid words es in
+    none_exactly (get w.records q) w.pool (taken profile apid words es q) (sent profile apid words es q) word (next_of w by q (Called (NextParam word)) does) (posted q profile apid words es)

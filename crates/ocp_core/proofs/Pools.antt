@@ -52,9 +52,9 @@ one_more start pool os None is = is
 one_more start pool os (Some o) is = ap (pool_with o) is ∙ sym (pool_from-append start os (o ∷ []))
 
 pub pool_is : PoolIsOfOperations
-pool_is apid words es = carried {T = ℕ} add_operation (λ effect t. t) (λ w os t. w.pool ≡ pool_from (replicate words 0) os)
+pool_is profile apid words es = carried {T = ℕ} add_operation (λ effect t. t) (λ w os t. w.pool ≡ pool_from (replicate words 0) os)
     (λ w os t effect honest is. pool_by-operation effect.on_records w.pool ∙ one_more (replicate words 0) w.pool os (operation_by effect.on_records) is)
-    (opening apid words) [] 0 es refl
+    (opening profile apid words) [] 0 es refl
 
 -- ---- what an instruction event is for its procedure
 
@@ -108,9 +108,9 @@ answered o pool call is =
     record { number = found.0; calls = record { rec = is.rec; is = is.is; runs = is.runs; passes = of.0; calls = found.1 }; given = found.2 }
 
 pub calls_are_answered : CallsAreAnswered
-calls_are_answered apid words es by id call does =
-    subst (λ p. IsAnswered (get (replay apid words es).records id) p call) (pool_is apid words es)
-    (answered (get (replay apid words es).records id) (replay apid words es).pool call (next_of (replay apid words es) by id (Called call) does))
+calls_are_answered profile apid words es by id call does =
+    subst (λ p. IsAnswered (get (replay profile apid words es).records id) p call) (pool_is profile apid words es)
+    (answered (get (replay profile apid words es).records id) (replay profile apid words es).pool call (next_of (replay profile apid words es) by id (Called call) does))
 
 -- ---- the words that calls answer
 
@@ -154,7 +154,7 @@ answers_word : (o : Option Rec) (pool : List ℕ) (call : Call) → IsAnswered o
 answers_word o pool call a = subst (AnswersWordIf pool) a.given (gives_word a.number (read a.calls.rec.machine 1) (read a.calls.rec.machine 2) pool a.calls.rec.mailbox)
 
 pub calls_answer_words : CallsAnswerWords
-calls_answer_words apid words es by id call does = answers_word (get (replay apid words es).records id) (pool_after words (operations apid words es)) call (calls_are_answered apid words es by id call does)
+calls_answer_words profile apid words es by id call does = answers_word (get (replay profile apid words es).records id) (pool_after words (operations profile apid words es)) call (calls_are_answered profile apid words es by id call does)
 
 -- ---- fault 4
 
@@ -241,7 +241,7 @@ faults o pool is =
     }
 
 pub faults_outside : FaultsOutside
-faults_outside apid words es by id =
-    let w = replay apid words es in
-    subst (λ p. Does w by id (Faulted 4) ↔ IsOutside (get w.records id) p) (pool_is apid words es)
+faults_outside profile apid words es by id =
+    let w = replay profile apid words es in
+    subst (λ p. Does w by id (Faulted 4) ↔ IsOutside (get w.records id) p) (pool_is profile apid words es)
     ((λ does. outside (get w.records id) w.pool (next_of w by id (Faulted 4) does)), (λ is. does_next w by id (Faulted 4) (faults (get w.records id) w.pool is)))

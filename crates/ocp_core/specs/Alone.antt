@@ -2,7 +2,8 @@
 -- other procedure is seen.
 use Rattle.std.specs.Prelude.{◌≡◌, ℕ, List, [], ◌∷◌, Option, Some, None}
 use Rattle.std.specs.FinMap.{get}
-use Rattle.bpf_step.specs.Machine.{State, started}
+use Rattle.ocp_profile.specs.declared.profile.Profile.{Profile}
+use Rattle.bpf_step.specs.Machine.{State, started, restarted}
 use Rattle.bpf_step.specs.Step.{one_step}
 use Rattle.bpf_step.specs.Calls.{state_after_engine_call}
 use Rattle.ocp_table.specs.Effects.{machine_after}
@@ -11,10 +12,10 @@ use Rattle.ocp_world.specs.World.{Event}
 use Rattle.ocp_world.specs.Replay.{replay}
 use Rattle.ocp_core.specs.Own.{Own, Start, Local, Call, own_events, image_after}
 
--- a start begins anew; an instruction is the image's at the machine's place; an engine call puts
+-- a start begins anew, with the work region that there is; an instruction is the image's at the machine's place; an engine call puts
 -- its answers in, and the place goes one slot on
 abbrev pub state_by : List ℕ → Own → State → State
-state_by image (Start arguments) s = started arguments
+state_by image (Start arguments) s = restarted arguments s
 state_by image Local s = machine_after (one_step image s) s
 state_by image (Call number r0 r1) s = state_after_engine_call s r0 r1
 
@@ -22,21 +23,22 @@ abbrev pub alone_from : List ℕ → State → List Own → State
 alone_from image s [] = s
 alone_from image s (event ∷ events) = alone_from image (state_by image event s) events
 
--- the machine of an image after its own events
-abbrev pub alone : List ℕ → List Own → State
-alone image own = alone_from image (started []) own
+-- the machine of an image after its own events, from a new machine of a profile
+abbrev pub alone : Profile → List ℕ → List Own → State
+alone profile image own = alone_from image (started profile []) own
 
 -- where there is an image
-abbrev pub alone_if : Option (List ℕ) → List Own → Option State
-alone_if None own = None
-alone_if (Some image) own = Some (alone image own)
+abbrev pub alone_if : Profile → Option (List ℕ) → List Own → Option State
+alone_if profile None own = None
+alone_if profile (Some image) own = Some (alone profile image own)
 
 -- the machine of a procedure after events of a new engine, by its own events alone
-abbrev pub alone_after : ℕ → ℕ → List Event → ℕ → Option State
-alone_after apid words es id = alone_if (image_after apid words es id) (own_events apid words es id)
+abbrev pub alone_after : Profile → ℕ → ℕ → List Event → ℕ → Option State
+alone_after profile apid words es id =
+    alone_if profile (image_after profile apid words es id) (own_events profile apid words es id)
 
 -- the law: each procedure's machine in the world, where it is loaded, is its machine alone
 abbrev pub IsFactored : Type 0
 IsFactored =
-    (apid words : ℕ) (es : List Event) (id : ℕ) →
-    machine_of (get (replay apid words es).records id) ≡ alone_after apid words es id
+    (profile : Profile) (apid words : ℕ) (es : List Event) (id : ℕ) →
+    machine_of (get (replay profile apid words es).records id) ≡ alone_after profile apid words es id

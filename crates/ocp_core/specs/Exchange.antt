@@ -25,6 +25,7 @@ traces_made w e = traces_by (effect_of w e).on_records w.records
 
 -- the worlds left are the same, but for the order of the trace records of the two events
 pub record IsSameButTraces (w : World) (one two : Event) (left right : World) : Type 0 where
+  pub profile : left.profile ≡ right.profile
   pub apid : left.apid ≡ right.apid
   pub records : left.records ≡ right.records
   pub pool : left.pool ≡ right.pool

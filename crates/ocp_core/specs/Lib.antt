@@ -11,6 +11,7 @@ pub mod Pool
 pub mod Mailbox
 pub mod Outbox
 pub mod Exchange
+pub mod Budget
 pub mod Tickets
 pub mod Commits
 pub mod Mirror

@@ -1,5 +1,6 @@
 -- The words that a procedure was sent, and those that it took, since it was last started.
 use Rattle.std.specs.Prelude.{◌≡◌, ◌↔◌, ℕ, ◌==◌, if◌then◌else◌, List, [], ◌∷◌, ◌++◌, length, slice_get, Option, Some, None}
+use Rattle.ocp_profile.specs.declared.profile.Profile.{Profile}
 use Rattle.ocp_pool.specs.declared.call.Called.{Called as Call}
 use Rattle.ocp_pool.specs.declared.call.Called.TheVariants.{NextParam}
 use Rattle.ocp_table.specs.declared.answers.InstructionOutcome.{InstructionOutcome}
@@ -11,7 +12,7 @@ use Rattle.ocp_core.specs.History.{history, gather, Does}
 
 -- a start begins both anew
 abbrev pub sent_by : Change → List ℕ → List ℕ
-sent_by (Started arguments) words = []
+sent_by (Started budget arguments) words = []
 sent_by (Sent more) words = words ++ more
 sent_by change words = words
 
@@ -24,33 +25,33 @@ taken_by_outcome (Called call) words = taken_by_call call words
 taken_by_outcome outcome words = words
 
 abbrev pub taken_by : Change → List ℕ → List ℕ
-taken_by (Started arguments) words = []
+taken_by (Started budget arguments) words = []
 taken_by (Stepped outcome) words = taken_by_outcome outcome words
 taken_by change words = words
 
 -- so do a load and an unload: until the next start nothing is sent or taken
 abbrev pub since_start : (Change → List ℕ → List ℕ) → ℕ → Effect → List ℕ → List ℕ
-since_start by id (Loaded other image) words = if id == other then [] else words
+since_start by id (Loaded profile other image) words = if id == other then [] else words
 since_start by id (Unloaded other) words = if id == other then [] else words
 since_start by id (Changed other change) words = if id == other then by change words else words
 since_start by id effect words = words
 
-abbrev pub sent : ℕ → ℕ → List Event → ℕ → List ℕ
-sent apid words es id = gather (since_start sent_by id) [] (history apid words es)
+abbrev pub sent : Profile → ℕ → ℕ → List Event → ℕ → List ℕ
+sent profile apid words es id = gather (since_start sent_by id) [] (history profile apid words es)
 
-abbrev pub taken : ℕ → ℕ → List Event → ℕ → List ℕ
-taken apid words es id = gather (since_start taken_by id) [] (history apid words es)
+abbrev pub taken : Profile → ℕ → ℕ → List Event → ℕ → List ℕ
+taken profile apid words es id = gather (since_start taken_by id) [] (history profile apid words es)
 
 -- the law: a call of next_param gives the first word sent that was not taken yet
 abbrev pub WordsComeInOrder : Type 0
 WordsComeInOrder =
-    (apid words : ℕ) (es : List Event) (by id : ℕ) (word : Option ℕ) →
-    Does (replay apid words es) by id (Called (NextParam word)) →
-    word ≡ slice_get (sent apid words es id) (length (taken apid words es id))
+    (profile : Profile) (apid words : ℕ) (es : List Event) (by id : ℕ) (word : Option ℕ) →
+    Does (replay profile apid words es) by id (Called (NextParam word)) →
+    word ≡ slice_get (sent profile apid words es id) (length (taken profile apid words es id))
 
 -- and none exactly where all were taken
 abbrev pub NoneIsLeft : Type 0
 NoneIsLeft =
-    (apid words : ℕ) (es : List Event) (by id : ℕ) (word : Option ℕ) →
-    Does (replay apid words es) by id (Called (NextParam word)) →
-    (word ≡ None) ↔ (taken apid words es id ≡ sent apid words es id)
+    (profile : Profile) (apid words : ℕ) (es : List Event) (by id : ℕ) (word : Option ℕ) →
+    Does (replay profile apid words es) by id (Called (NextParam word)) →
+    (word ≡ None) ↔ (taken profile apid words es id ≡ sent profile apid words es id)

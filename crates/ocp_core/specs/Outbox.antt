@@ -3,6 +3,7 @@
 use Rattle.std.specs.Prelude.{◌≡◌, ◌≤◌, ℕ, ◌+◌, ◌==◌, if◌then◌else◌, Bool, true, List, [], ◌∷◌, ◌++◌, map, length, Option, Some}
 use Rattle.std.specs.List.{count_by, flat_map, list_all, list_any}
 use Rattle.std.specs.FinMap.{get, values}
+use Rattle.ocp_profile.specs.declared.profile.Profile.{Profile}
 use Rattle.obcp_types.specs.declared.pending.Due.{Due}
 use Rattle.obcp_types.specs.declared.pending.PendingOrigin.{PendingOrigin}
 use Rattle.verification.specs.Reports.{wants_completion}
@@ -17,18 +18,14 @@ use Rattle.ocp_table.specs.Outbox.{pendings}
 use Rattle.ocp_reports.specs.Origin.{Dispatch}
 use Rattle.ocp_reports.specs.Due.{due_dispatches}
 use Rattle.ocp_world.specs.World.{World, Event, Drain, opening}
-use Rattle.ocp_world.specs.After.{effect_of, after}
+use Rattle.ocp_world.specs.After.{effect_of}
 use Rattle.ocp_world.specs.Replay.{replay}
-
--- what is gathered from events, each with the world before it
-abbrev pub gather_along : {S : Type 0} → (World → Event → S → S) → S → World → List Event → S
-gather_along add s w [] = s
-gather_along add s w (e ∷ es) = gather_along add (add w e s) (after w e).world es
+use Rattle.ocp_core.specs.History.{gather_along}
 
 -- the numbers that each event gives in its world, from a new engine on
-abbrev pub numbers : (World → Event → List ℕ) → ℕ → ℕ → List Event → List ℕ
-numbers give apid words es =
-    gather_along (λ w e ns. ns ++ give w e) [] (opening apid words) es
+abbrev pub numbers : (World → Event → List ℕ) → Profile → ℕ → ℕ → List Event → List ℕ
+numbers give profile apid words es =
+    gather_along (λ w e ns. ns ++ give w e) [] (opening profile apid words) es
 
 -- how often a number stands in a list, and whether it does
 abbrev pub count : ℕ → List ℕ → ℕ
@@ -47,8 +44,8 @@ pended_by effect n = []
 abbrev pub becomes_pending : World → Event → List ℕ
 becomes_pending w e = pended_by (effect_of w e).on_records w.events
 
-abbrev pub all_pended : ℕ → ℕ → List Event → List ℕ
-all_pended apid words es = numbers becomes_pending apid words es
+abbrev pub all_pended : Profile → ℕ → ℕ → List Event → List ℕ
+all_pended profile apid words es = numbers becomes_pending profile apid words es
 
 -- ---- the first place: it is pending
 
@@ -75,8 +72,8 @@ abbrev pub reported_in : World → Event → List ℕ
 reported_in w (Drain by time) = flat_map (report_numbers time) w.outbox
 reported_in w event = []
 
-abbrev pub all_reported : ℕ → ℕ → List Event → List ℕ
-all_reported apid words es = numbers reported_in apid words es
+abbrev pub all_reported : Profile → ℕ → ℕ → List Event → List ℕ
+all_reported profile apid words es = numbers reported_in profile apid words es
 
 -- ---- the fourth place: the end of a step matches it while its completion flag is off
 
@@ -100,29 +97,31 @@ silent_by effect m = []
 abbrev pub silent_in : World → Event → List ℕ
 silent_in w e = silent_by (effect_of w e).on_records w.records
 
-abbrev pub all_silent : ℕ → ℕ → List Event → List ℕ
-all_silent apid words es = numbers silent_in apid words es
+abbrev pub all_silent : Profile → ℕ → ℕ → List Event → List ℕ
+all_silent profile apid words es = numbers silent_in profile apid words es
 
 -- ---- the laws
 
 -- the numbers in the four places
-abbrev pub places : ℕ → ℕ → List Event → List ℕ
-places apid words es =
-    let w = replay apid words es in
-    pending_numbers w.records ++ due_numbers w.outbox ++ all_reported apid words es
-    ++ all_silent apid words es
+abbrev pub places : Profile → ℕ → ℕ → List Event → List ℕ
+places profile apid words es =
+    let w = replay profile apid words es in
+    pending_numbers w.records ++ due_numbers w.outbox ++ all_reported profile apid words es
+    ++ all_silent profile apid words es
 
 -- the law: each number of a stop or suspend that became pending stands in one of the places, once,
 -- and no other number stands there
 abbrev pub EachStandsOnce : Type 0
 EachStandsOnce =
-    (apid words : ℕ) (es : List Event) (n : ℕ) →
-    count n (places apid words es) ≡ (if is_in n (all_pended apid words es) then 1 else 0)
+    (profile : Profile) (apid words : ℕ) (es : List Event) (n : ℕ) →
+    count n (places profile apid words es) ≡
+    (if is_in n (all_pended profile apid words es) then 1 else 0)
 
 -- the law: so its completion is reported once at most
 abbrev pub IsReportedOnceAtMost : Type 0
 IsReportedOnceAtMost =
-    (apid words : ℕ) (es : List Event) (n : ℕ) → count n (all_reported apid words es) ≤ 1
+    (profile : Profile) (apid words : ℕ) (es : List Event) (n : ℕ) →
+    count n (all_reported profile apid words es) ≤ 1
 
 -- one report is sent of it by a drain at this time
 abbrev pub gives_one_report : ℕ → Due → Bool
@@ -131,12 +130,12 @@ gives_one_report time due = length (due_dispatches time due) == 1
 -- the law: each completion that waits gives one report, whenever a drain comes
 abbrev pub EachGivesOneReport : Type 0
 EachGivesOneReport =
-    (apid words : ℕ) (es : List Event) (time : ℕ) →
-    list_all (gives_one_report time) (replay apid words es).outbox ≡ true
+    (profile : Profile) (apid words : ℕ) (es : List Event) (time : ℕ) →
+    list_all (gives_one_report time) (replay profile apid words es).outbox ≡ true
 
 -- the law: what is pending and what waits to be reported have their places
 abbrev pub PlacesSuffice : Type 0
 PlacesSuffice =
-    (apid words : ℕ) (es : List Event) →
-    let w = replay apid words es in
+    (profile : Profile) (apid words : ℕ) (es : List Event) →
+    let w = replay profile apid words es in
     length w.outbox + pendings w.records ≤ OUTBOX_PLACES

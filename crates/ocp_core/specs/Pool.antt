@@ -1,17 +1,19 @@
 -- The pool by the operations on it, and what the engine calls are answered by it.
-use Rattle.std.specs.Prelude.{◌≡◌, ◌≤◌, ◌↔◌, ℕ, ℤ, unsigned_abs, false, List, [], ◌∷◌, ◌++◌, length, replicate, slice_get, Option, Some, None}
+use Rattle.std.specs.Prelude.{◌≡◌, ◌==◌, ◌||◌, ◌≤◌, ◌↔◌, ℕ, ℤ, unsigned_abs, Bool, true, false, List, [], ◌∷◌, ◌++◌, length, replicate, slice_get, Option, Some, None}
 use Rattle.std.specs.FinMap.{get}
+use Rattle.ocp_profile.specs.declared.profile.Profile.{Profile}
 use Rattle.obcp_types.specs.declared.status.Status.TheVariants.{Running}
 use Rattle.bpf_step.specs.declared.answer.Need.TheVariants as need
 use Rattle.bpf_step.specs.Machine.{Needs, read}
 use Rattle.bpf_step.specs.Step.{one_step}
 use Rattle.ocp_pool.specs.declared.call.Called.{Called as Call}
-use Rattle.ocp_pool.specs.declared.call.Called.TheVariants.{PoolGet, PoolSet, PoolAdd}
+use Rattle.ocp_pool.specs.declared.call.Called.TheVariants.{PoolGet, PoolSet, PoolAdd, PoolCompareSet}
 use Rattle.ocp_pool.specs.declared.call.PoolOperation.{PoolOperation}
 use Rattle.ocp_pool.specs.declared.call.PoolOperation.TheVariants.{Add}
 use Rattle.ocp_pool.specs.Call.{engine_call, operation_of, pool_with}
 use Rattle.ocp_table.specs.declared.answers.InstructionOutcome.{InstructionOutcome}
 use Rattle.ocp_table.specs.declared.answers.InstructionOutcome.TheVariants.{Called, Faulted}
+use Rattle.ocp_table.specs.Budgets.{is_spent}
 use Rattle.ocp_table.specs.Records.{Rec}
 use Rattle.ocp_table.specs.Effects.{Effect, Changed, Change, Stepped}
 use Rattle.bpf_step.specs.Runs.{breaks_at}
@@ -41,8 +43,8 @@ abbrev pub add_operation : Effect → List PoolOperation → List PoolOperation
 add_operation effect operations = with_operation (operation_by effect) operations
 
 -- the operations of all procedures, in the order of the events
-abbrev pub operations : ℕ → ℕ → List Event → List PoolOperation
-operations apid words es = gather add_operation [] (history apid words es)
+abbrev pub operations : Profile → ℕ → ℕ → List Event → List PoolOperation
+operations profile apid words es = gather add_operation [] (history profile apid words es)
 
 -- ---- the pool
 
@@ -57,61 +59,68 @@ pool_after words operations = pool_from (replicate words 0) operations
 -- the law: the pool is that of the operations alone
 abbrev pub PoolIsOfOperations : Type 0
 PoolIsOfOperations =
-    (apid words : ℕ) (es : List Event) →
-    (replay apid words es).pool ≡ pool_after words (operations apid words es)
+    (profile : Profile) (apid words : ℕ) (es : List Event) →
+    (replay profile apid words es).pool ≡ pool_after words (operations profile apid words es)
 
 -- ---- engine calls
 
--- the next instruction of a procedure is an engine call: it runs, and no breakpoint holds it
+-- the next instruction of a procedure is an engine call: it runs, no breakpoint holds it, and its
+-- budget is not spent
 pub record Calls (o : Option Rec) (number : ℤ) : Type 0 where
   pub rec : Rec
   pub is : o ≡ Some rec
   pub runs : rec.control.status ≡ Running
   pub passes : breaks_at rec.control.pass rec.breakpoints rec.machine.place ≡ false
+  pub unspent : is_spent rec.remaining ≡ false
   pub calls : one_step rec.image rec.machine ≡ Needs (need.Call number)
 
--- it is answered as the table of the engine calls says, by R1, R2, this pool and its mailbox
+-- it is answered as the table of the engine calls says, by R1, R2, R3, this pool and its mailbox
 pub record IsAnswered (o : Option Rec) (pool : List ℕ) (call : Call) : Type 0 where
   pub number : ℤ
   pub calls : Calls o number
   pub given : engine_call number (read calls.rec.machine 1) (read calls.rec.machine 2)
-      pool calls.rec.mailbox ≡ Some call
+      (read calls.rec.machine 3) pool calls.rec.mailbox ≡ Some call
 
 -- the law: each engine call is so answered, on the pool of the operations before it
 abbrev pub CallsAreAnswered : Type 0
 CallsAreAnswered =
-    (apid words : ℕ) (es : List Event) (by id : ℕ) (call : Call) →
-    let w = replay apid words es in
+    (profile : Profile) (apid words : ℕ) (es : List Event) (by id : ℕ) (call : Call) →
+    let w = replay profile apid words es in
     Does w by id (Called call) →
-    IsAnswered (get w.records id) (pool_after words (operations apid words es)) call
+    IsAnswered (get w.records id) (pool_after words (operations profile apid words es)) call
 
--- pool_get and pool_set answer the word at their index, and pool_add the word that it leaves there
+-- pool_get, pool_set and pool_compare_set answer the word at their index, and pool_add the word
+-- that it leaves there
 abbrev pub AnswersWord : List ℕ → Call → Type 0
 AnswersWord pool (PoolGet index word) = slice_get pool index ≡ Some word
 AnswersWord pool (PoolSet index value old) = slice_get pool index ≡ Some old
 AnswersWord pool (PoolAdd index value new) =
     slice_get (pool_with (Add index value) pool) index ≡ Some new
+AnswersWord pool (PoolCompareSet index expected value old) = slice_get pool index ≡ Some old
 AnswersWord pool call = Unit {0}
 
 -- the law: on the pool of the operations before the call
 abbrev pub CallsAnswerWords : Type 0
 CallsAnswerWords =
-    (apid words : ℕ) (es : List Event) (by id : ℕ) (call : Call) →
-    Does (replay apid words es) by id (Called call) →
-    AnswersWord (pool_after words (operations apid words es)) call
+    (profile : Profile) (apid words : ℕ) (es : List Event) (by id : ℕ) (call : Call) →
+    Does (replay profile apid words es) by id (Called call) →
+    AnswersWord (pool_after words (operations profile apid words es)) call
 
--- a call of pool_get, pool_set or pool_add with an index that is not below the number of pool words
+-- the numbers of pool_get, pool_set, pool_add and pool_compare_set
+abbrev pub is_pool_call : ℕ → Bool
+is_pool_call n = (n == 1) || (n == 2) || (n == 3) || (n == 6)
+
+-- a call of one of them with an index that is not below the number of pool words
 pub record IsOutside (o : Option Rec) (pool : List ℕ) : Type 0 where
   pub number : ℤ
   pub calls : Calls o number
-  pub first : 1 ≤ unsigned_abs number
-  pub last : unsigned_abs number ≤ 3
+  pub of_pool : is_pool_call (unsigned_abs number) ≡ true
   pub outside : length pool ≤ read calls.rec.machine 1
 
 -- the law: fault 4 is that of such a call, and of nothing else
 abbrev pub FaultsOutside : Type 0
 FaultsOutside =
-    (apid words : ℕ) (es : List Event) (by id : ℕ) →
-    let w = replay apid words es in
+    (profile : Profile) (apid words : ℕ) (es : List Event) (by id : ℕ) →
+    let w = replay profile apid words es in
     Does w by id (Faulted 4) ↔
-    IsOutside (get w.records id) (pool_after words (operations apid words es))
+    IsOutside (get w.records id) (pool_after words (operations profile apid words es))

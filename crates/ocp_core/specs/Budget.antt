@@ -1,0 +1,63 @@
+-- The budget that a procedure was last activated with, and how many of its instructions were done
+-- since then.
+use Rattle.std.specs.Prelude.{◌≡◌, ◌≤◌, ℕ, ◌+◌, ◌==◌, ◌&&◌, Bool, true, false, if◌then◌else◌, List}
+use Rattle.ocp_profile.specs.declared.profile.Profile.{Profile}
+use Rattle.ocp_table.specs.declared.answers.StepOutcome.TheVariants as outcome
+use Rattle.ocp_table.specs.Effects.{Effect, Loaded, Unloaded, Changed, Started}
+use Rattle.ocp_world.specs.World.{World, Event, Step, opening}
+use Rattle.ocp_world.specs.After.{Answer, Stepped, effect_of, after}
+use Rattle.ocp_core.specs.History.{history, gather, gather_along}
+
+-- ---- the budget that was given
+
+-- that of the last activation that was done, 0 where it had none; a load and an unload leave none
+abbrev pub add_given : ℕ → Effect → ℕ → ℕ
+add_given id (Loaded profile other image) given = if id == other then 0 else given
+add_given id (Unloaded other) given = if id == other then 0 else given
+add_given id (Changed other (Started budget arguments)) given =
+    if id == other then budget else given
+add_given id effect given = given
+
+abbrev pub given : Profile → ℕ → ℕ → List Event → ℕ → ℕ
+given profile apid words es id = gather (add_given id) 0 (history profile apid words es)
+
+-- ---- the instructions that were done since then
+
+-- the procedure is loaded, unloaded or activated
+abbrev pub begins_anew : ℕ → Effect → Bool
+begins_anew id (Loaded profile other image) = id == other
+begins_anew id (Unloaded other) = id == other
+begins_anew id (Changed other (Started budget arguments)) = id == other
+begins_anew id effect = false
+
+-- the answer is that an instruction was done: it ran, it was an engine call that was answered, or
+-- it was the last exit
+abbrev pub is_use : Answer → Bool
+is_use (Stepped outcome.Ran) = true
+is_use (Stepped outcome.Called) = true
+is_use (Stepped outcome.Ended) = true
+is_use answer = false
+
+-- an instruction event of the procedure that is so answered
+abbrev pub uses : ℕ → World → Event → Bool
+uses id w (Step by other) = (id == other) && is_use (after w (Step by other)).answer
+uses id w event = false
+
+abbrev pub add_used : ℕ → World → Event → ℕ → ℕ
+add_used id w e used =
+    if begins_anew id (effect_of w e).on_records then 0
+    else if uses id w e then used + 1 else used
+
+-- how many events of the procedure were so answered since its last activation
+abbrev pub used : Profile → ℕ → ℕ → List Event → ℕ → ℕ
+used profile apid words es id = gather_along (add_used id) 0 (opening profile apid words) es
+
+-- ---- the law
+
+-- with a budget above 0 they are no more than that: after every list of events, and so at each
+-- point between an activation and the next one, or the unload
+abbrev pub IsWithinBudget : Type 0
+IsWithinBudget =
+    (profile : Profile) (apid words : ℕ) (es : List Event) (id : ℕ) →
+    1 ≤ given profile apid words es id →
+    used profile apid words es id ≤ given profile apid words es id
