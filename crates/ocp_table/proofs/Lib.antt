@@ -1,3 +1,4 @@
+pub mod Budgets
 pub mod ContentsLemmas
 pub mod Able
 pub mod Each

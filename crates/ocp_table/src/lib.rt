@@ -3,6 +3,7 @@
 #![tactic(auto)]
 
 mod answers;
+mod budget;
 mod control;
 mod directive;
 mod execution;

@@ -1,3 +1,4 @@
+use crate::budget::less;
 use crate::outbox::Outbox;
 use crate::{
     Cause, Control, Directive, Execution, InstructionOutcome, OUTBOX_PLACES, Pending, View,
@@ -255,14 +256,16 @@ impl<A: Allocator> Record<A> {
         self.traced = traced;
     }
 
-    /// Puts back a machine that did instructions apart: the pass flag goes off.
-    pub(crate) fn settle(&mut self, machine: Machine<A>)
+    /// Puts back a machine that did so many instructions apart: the pass flag goes off, and they are taken from the
+    /// budget.
+    pub(crate) fn settle(&mut self, count: u32, machine: Machine<A>)
         requires { StandsIn self.old.execution.image machine }
-        ensures record { shown self.new ≡ settled machine (shown self.old) }
+        ensures record { shown self.new ≡ settled count machine (shown self.old) }
         ensures id { self.new.id ≡ self.old.id }
     {
         self.execution.settle(machine);
         self.control.pass = false;
+        self.remaining = less(count, self.remaining);
     }
 
     /// What is shown of the procedure.

@@ -3,6 +3,7 @@ ghost use Rattle.std.specs.Prelude.{◌≡◌, ◌≤◌, ◌+◌, ◌++◌, len
 ghost use Rattle.std.specs.FinMap.{get};
 ghost use Rattle.obcp_types.specs.declared.status.Status.TheVariants.{Running};
 ghost use Rattle.bpf_step.specs.Runs.{local_run};
+ghost use Rattle.ocp_table.specs.Budgets.{IsWithin};
 ghost use Rattle.ocp_table.specs.Records.{Records};
 ghost use Rattle.ocp_table.specs.Effects.{record_after, pool_by, step_outcome};
 ghost use Rattle.ocp_table.specs.RequestTable.{Step};
@@ -10,6 +11,7 @@ ghost use Rattle.ocp_table.specs.Outbox.{places_of};
 ghost use Rattle.ocp_table.specs.Shown.{shown, effect_of_record, filed_of_effect};
 ghost use Rattle.ocp_table.specs.Slices.{is_on, is_done, is_running_status, with_machine, IsSlice};
 
+use crate::budget::{less, within};
 use crate::outbox::Outbox;
 use crate::{OUTBOX_PLACES, Pool, Record, Slice, Status, StepOutcome};
 use std::alloc::Allocator;
@@ -26,9 +28,9 @@ impl<A: Allocator> Record<A> {
         }
     }
 
-    // Does instructions that need no engine, at most so many, and says how many.
+    // Does instructions that need no engine, at most so many and at most what is left of the budget, and says how many.
     #[inline(always)]
-    #[tactic(auto, using(crate::proofs::Slicing::local_count_within))]
+    #[tactic(auto, using(crate::proofs::Slicing::local_count_within, crate::proofs::Budgets::within_most, crate::proofs::Budgets::within_left))]
     fn run(&mut self, budget: u32) -> u32
         ensures ran { local_run self.old.execution.image self.old.breakpoints.items
             self.old.control.pass self.old.execution.machine result ≡
@@ -36,15 +38,18 @@ impl<A: Allocator> Record<A> {
         ensures record { shown self.new ≡
             with_machine result self.new.execution.machine (shown self.old) }
         ensures within { result ≤ budget }
+        ensures left { IsWithin self.old.remaining result }
         ensures id { self.new.id ≡ self.old.id }
     {
         let pass = self.control.pass;
+        let most = within(self.remaining, budget);
         let count = self
             .execution
-            .advance(self.breakpoints.as_slice(), pass, budget);
+            .advance(self.breakpoints.as_slice(), pass, most);
         if count > 0 {
             self.control.pass = false;
         }
+        self.remaining = less(count, self.remaining);
         count
     }
 

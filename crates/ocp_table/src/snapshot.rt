@@ -1,5 +1,6 @@
 //! What is taken of a running procedure to run it apart.
 
+use crate::budget::within;
 use crate::{Execution, MAX_BREAKPOINTS, Record};
 use arrayvec::ArrayVec;
 use bpf_step::Machine;
@@ -7,14 +8,15 @@ use obcp_types::Status;
 use std::alloc::{AllocError, Allocator, Global};
 use std::marker::Model;
 
-/// A running procedure as it stood: the shared program, a copy of the machine, the breakpoints, the pass flag and the
-/// trace flag.
+/// A running procedure as it stood: the shared program, a copy of the machine, the breakpoints, the pass flag, the trace
+/// flag, and what was left of the budget.
 #[derive(Drop)]
 pub struct Snapshot<A: Allocator = Global> {
     execution: Execution<A>,
     breakpoints: ArrayVec<u16, MAX_BREAKPOINTS>,
     pass: bool,
     traced: bool,
+    remaining: Option<u32>,
 }
 
 impl<A: Allocator> Model for Snapshot<A> {
@@ -32,6 +34,7 @@ impl<A: Allocator> Model for Snapshot<A> {
       breakpoints = s.breakpoints.items;
       pass = s.pass;
       traced = s.traced;
+      remaining = s.remaining;
     } };
 }
 
@@ -52,6 +55,7 @@ impl<A: Allocator> Snapshot<A> {
             breakpoints: procedure.breakpoints.clone()?,
             pass: procedure.control.pass,
             traced: procedure.traced,
+            remaining: procedure.remaining,
         })
     }
 
@@ -76,6 +80,7 @@ impl<A: Allocator> Snapshot<A> {
     {
         self.pass == procedure.control.pass
             && self.traced == procedure.traced
+            && self.remaining == procedure.remaining
             && self.breakpoints.as_slice() == procedure.breakpoints.as_slice()
             && self.execution.is_same(&procedure.execution)
     }
@@ -99,17 +104,21 @@ impl<A: Allocator> Snapshot<A> {
         self.execution.machine(alloc)
     }
 
-    /// Lets a machine as it stood do instructions that need no engine, at most so many, and says how many it did: none
-    /// where the procedure is traced. It stops before the first instruction that needs the engine, and before a
-    /// breakpoint, which the pass flag lets the first instruction pass.
+    /// Lets a machine as it stood do instructions that need no engine, at most so many and at most what was left of the
+    /// budget, and says how many it did: none where the procedure is traced. It stops before the first instruction that
+    /// needs the engine, and before a breakpoint, which the pass flag lets the first instruction pass.
     pub fn run(&self, machine: &mut Machine<A>, budget: u32) -> u32
         requires { machine.old ≡ self.now.machine }
         ensures ran { run_of self.now result ≡ Some machine.new }
         ensures count { result ≡ count_of self.now budget }
         ensures stands { StandsIn self.now.image machine.new }
     {
-        let budget = if self.traced { 0 } else { budget };
+        let most = if self.traced {
+            0
+        } else {
+            within(self.remaining, budget)
+        };
         self.execution
-            .run(machine, self.breakpoints.as_slice(), self.pass, budget)
+            .run(machine, self.breakpoints.as_slice(), self.pass, most)
     }
 }
