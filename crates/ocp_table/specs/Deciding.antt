@@ -6,6 +6,7 @@ use Rattle.bpf_types.specs.declared.line.Line.{Line}
 use Rattle.obcp_types.specs.declared.status.Status.{Status}
 use Rattle.obcp_types.specs.declared.failure.StartFailure.{StartFailure}
 use Rattle.obcp_types.specs.declared.failure.StartFailure.TheVariants.{TableFull, BadCode, NotRunning}
+use Rattle.ocp_profile.specs.declared.profile.Profile.{Profile}
 use Rattle.ocp_loader.specs.declared.fault.LoadFault.{LoadFault}
 use Rattle.ocp_loader.specs.FaultNumbers.{number_of, slot_of}
 use Rattle.ocp_loader.specs.LoadResult.{load_result}
@@ -18,11 +19,13 @@ use Rattle.ocp_pool.specs.declared.call.PoolFault.TheVariants.{BadPoolIndex}
 use Rattle.ocp_pool.specs.Call.{engine_call}
 use Rattle.ocp_pool.specs.Call as pool
 use Rattle.ocp_table.specs.declared.table.TheConstants.{MAX_PROCEDURES}
+use Rattle.ocp_table.specs.declared.answers.TheConstants.{BUDGET_SPENT}
 use Rattle.ocp_table.specs.declared.control.Pending.{Pending}
 use Rattle.ocp_table.specs.declared.control.Pending.TheVariants as pending
 use Rattle.ocp_table.specs.declared.answers.InstructionOutcome.{InstructionOutcome}
 use Rattle.ocp_table.specs.declared.answers.InstructionOutcome.TheVariants.{Broke, Ran, Called, Ended, Faulted}
 use Rattle.ocp_table.specs.Records.{Rec, Records}
+use Rattle.ocp_table.specs.Budgets.{is_spent}
 use Rattle.ocp_table.specs.Effects.{Effect, Loaded, Unloaded, Changed, Kept, Stepped, Failed}
 use Rattle.ocp_table.specs.RequestTable.{Directive, Decision, Loads, Unloads, Changes, Steps, Fails, transition}
 
@@ -36,10 +39,11 @@ is_full m = nat_le MAX_PROCEDURES (len m)
 abbrev pub bad_code : LoadFault → StartFailure
 bad_code fault = BadCode (number_of fault) (slot_of fault)
 
-abbrev pub effect_of_load : Bool → Result (List (Option Line)) LoadFault → ℕ → List ℕ → Effect
-effect_of_load true result id image = Kept (Failed TableFull)
-effect_of_load false (Ok lines) id image = Loaded id image
-effect_of_load false (Err fault) id image = Kept (Failed (bad_code fault))
+abbrev pub effect_of_load :
+    Bool → Result (List (Option Line)) LoadFault → Profile → ℕ → List ℕ → Effect
+effect_of_load true result profile id image = Kept (Failed TableFull)
+effect_of_load false (Ok lines) profile id image = Loaded profile id image
+effect_of_load false (Err fault) profile id image = Kept (Failed (bad_code fault))
 
 -- ---- an instruction event
 
@@ -55,14 +59,21 @@ outcome_of (Next s) machine pool mailbox = Some Ran
 outcome_of (Needs need.LastExit) machine pool mailbox = Some Ended
 outcome_of (Needs (need.Fault fault)) machine pool mailbox = Some (Faulted (fault_number fault))
 outcome_of (Needs (need.Call number)) machine pool mailbox =
-    Some (outcome_of_call (engine_call number (read machine 1) (read machine 2) pool mailbox))
+    Some (outcome_of_call
+    (engine_call number (read machine 1) (read machine 2) (read machine 3) pool mailbox))
 outcome_of NoInstruction machine pool mailbox = None
 
--- a breakpoint that stands at the place holds the procedure, unless the pass flag is on
+-- where nothing is left of the budget, that is a fault, and else the instruction is done
+abbrev pub outcome_unheld : Rec → List ℕ → Option InstructionOutcome
+outcome_unheld r pool =
+    if is_spent r.remaining then Some (Faulted BUDGET_SPENT)
+    else outcome_of (one_step r.image r.machine) r.machine pool r.mailbox
+
+-- a breakpoint that stands at the place holds the procedure before that, unless the pass flag is on
 abbrev pub outcome_in : Rec → List ℕ → Option InstructionOutcome
 outcome_in r pool =
     if breaks_at r.control.pass r.breakpoints r.machine.place then Some Broke
-    else outcome_of (one_step r.image r.machine) r.machine pool r.mailbox
+    else outcome_unheld r pool
 
 abbrev pub outcome_at : Option Rec → List ℕ → Option InstructionOutcome
 outcome_at None pool = None
@@ -92,7 +103,8 @@ abbrev pub decision_on : Directive → Option Rec → Decision
 decision_on directive o = transition directive (status_of o) (pending_of o) (words_of o)
 
 abbrev pub effect_by : Decision → ℕ → Option Rec → Bool → Effect
-effect_by (Loads image) id o full = effect_of_load full (load_result image) id image
+effect_by (Loads profile image) id o full =
+    effect_of_load full (load_result profile image) profile id image
 effect_by Unloads id o full = Unloaded id
 effect_by (Changes change) id o full = Changed id change
 effect_by (Steps pool) id o full = effect_of_step (outcome_at o pool) id

@@ -10,8 +10,9 @@ use Rattle.obcp_types.specs.declared.pending.Due.{Due}
 use Rattle.obcp_types.specs.declared.pending.PendingOrigin.{PendingOrigin}
 use Rattle.obcp_types.specs.declared.status.Status.TheVariants.{Inactive, Running, Held}
 use Rattle.verification.specs.Reports.{wants_completion}
+use Rattle.ocp_profile.specs.declared.profile.Profile.{Profile}
 use Rattle.bpf_step.specs.Machine.{State, Outcome, Next, Needs, NoInstruction}
-use Rattle.bpf_step.specs.Machine.{started}
+use Rattle.bpf_step.specs.Machine.{started, restarted}
 use Rattle.bpf_step.specs.Step.{one_step}
 use Rattle.bpf_step.specs.Calls.{state_after_engine_call}
 use Rattle.ocp_pool.specs.declared.call.Called.{Called as Call}
@@ -27,12 +28,13 @@ use Rattle.ocp_table.specs.declared.answers.InstructionOutcome.TheVariants.{Brok
 use Rattle.ocp_table.specs.declared.answers.StepOutcome.{StepOutcome}
 use Rattle.ocp_table.specs.declared.answers.StepOutcome.TheVariants as step
 use Rattle.ocp_table.specs.Records.{Rec, Records}
+use Rattle.ocp_table.specs.Budgets.{budget_of, one_less}
 
--- what an event does to the record of its procedure: it is started with arguments, sent words, a
--- stop or suspend becomes pending, it is made inactive, it runs on, an instruction event is done,
+-- what an event does to the record of its procedure: it is started with a budget (0 is none) and
+-- arguments, sent words, a stop or suspend becomes pending, it is made inactive, it runs on, an instruction event is done,
 -- or a debugger sets or clears a breakpoint or sets the trace flag
 pub data Change : Type 0 where
-  Started : List ℕ → Change
+  Started : ℕ → List ℕ → Change
   Sent : List ℕ → Change
   Pended : Pending → Change
   Quit : Cause → Change
@@ -47,10 +49,10 @@ pub data Why : Type 0 where
   Unasked : Why
   Failed : StartFailure → Why
 
--- what an event does to the records and to the outbox: a procedure is loaded, unloaded or changed,
--- the outbox is emptied, or all of it stays
+-- what an event does to the records and to the outbox: a procedure is loaded, by a profile and an
+-- image, unloaded or changed, the outbox is emptied, or all of it stays
 pub data Effect : Type 0 where
-  Loaded : ℕ → List ℕ → Effect
+  Loaded : Profile → ℕ → List ℕ → Effect
   Unloaded : ℕ → Effect
   Changed : ℕ → Change → Effect
   Drained : Effect
@@ -70,7 +72,7 @@ machine_by_outcome (Called call) image m = state_after_engine_call m (r0_of call
 machine_by_outcome outcome image m = m
 
 abbrev pub machine_by : Change → List ℕ → State → State
-machine_by (Started arguments) image m = started arguments
+machine_by (Started budget arguments) image m = restarted arguments m
 machine_by (Stepped outcome) image m = machine_by_outcome outcome image m
 machine_by change image m = m
 
@@ -79,7 +81,7 @@ mailbox_by_outcome (Called call) mailbox = mailbox_after call mailbox
 mailbox_by_outcome outcome mailbox = mailbox
 
 abbrev pub mailbox_by : Change → List ℕ → List ℕ
-mailbox_by (Started arguments) mailbox = []
+mailbox_by (Started budget arguments) mailbox = []
 mailbox_by (Sent words) mailbox = mailbox ++ words
 mailbox_by (Stepped outcome) mailbox = mailbox_by_outcome outcome mailbox
 mailbox_by change mailbox = mailbox
@@ -126,7 +128,7 @@ control_by_outcome Ended c = inactive cause.Exited
 control_by_outcome (Faulted number) c = inactive (cause.Fault number)
 
 abbrev pub control_by : Change → Control → Control
-control_by (Started arguments) c = running
+control_by (Started budget arguments) c = running
 control_by (Sent words) c = c
 control_by (Pended pending) c =
     record { status = c.status; pending = pending; pass = c.pass; cause = c.cause }
@@ -157,6 +159,21 @@ abbrev pub traced_by : Change → Bool → Bool
 traced_by (TraceSet on) traced = on
 traced_by change traced = traced
 
+-- each instruction that is done takes one from what remains of the budget; one that a breakpoint
+-- holds takes nothing, and a fault takes nothing
+abbrev pub remaining_by_outcome : InstructionOutcome → Option ℕ → Option ℕ
+remaining_by_outcome Broke remaining = remaining
+remaining_by_outcome Ran remaining = one_less remaining
+remaining_by_outcome (Called call) remaining = one_less remaining
+remaining_by_outcome Ended remaining = one_less remaining
+remaining_by_outcome (Faulted number) remaining = remaining
+
+-- a start alone sets the budget, and instructions alone take from it
+abbrev pub remaining_by : Change → Option ℕ → Option ℕ
+remaining_by (Started budget arguments) remaining = budget_of budget
+remaining_by (Stepped outcome) remaining = remaining_by_outcome outcome remaining
+remaining_by change remaining = remaining
+
 -- ---- records after an effect
 
 abbrev pub record_by : Change → Rec → Rec
@@ -167,17 +184,19 @@ record_by change r = record {
   control = control_by change r.control;
   breakpoints = breakpoints_by change r.breakpoints;
   traced = traced_by change r.traced;
+  remaining = remaining_by change r.remaining;
 }
 
 -- a procedure that was loaded
-abbrev pub new_record : List ℕ → Rec
-new_record image = record {
+abbrev pub new_record : Profile → List ℕ → Rec
+new_record profile image = record {
   image = image;
-  machine = started [];
+  machine = started profile [];
   mailbox = [];
   control = inactive cause.Nothing;
   breakpoints = [];
   traced = false;
+  remaining = None;
 }
 
 -- what an effect leaves of the record of its procedure, where that is loaded and stays
@@ -191,7 +210,7 @@ with_change None id change m = m
 with_change (Some r) id change m = insert m id (record_by change r)
 
 abbrev pub records_by : Effect → Records → Records
-records_by (Loaded id image) m = insert m id (new_record image)
+records_by (Loaded profile id image) m = insert m id (new_record profile image)
 records_by (Unloaded id) m = remove m id
 records_by (Changed id change) m = with_change (get m id) id change m
 records_by Drained m = m
@@ -230,7 +249,7 @@ filed_by_outcome (Faulted number) pending = overtaken pending
 
 -- a stop or suspend that is replaced, or whose procedure becomes inactive, is overtaken
 abbrev pub filed_by_change : Change → Pending → List Due
-filed_by_change (Started arguments) pending = overtaken pending
+filed_by_change (Started budget arguments) pending = overtaken pending
 filed_by_change (Sent words) pending = []
 filed_by_change (Pended next) pending = overtaken pending
 filed_by_change (Quit cause) pending = overtaken pending
@@ -251,7 +270,7 @@ overtaken_of (Some r) = overtaken r.control.pending
 
 -- a procedure that is loaded or unloaded had nothing pending: this leaves nothing unsaid
 abbrev pub filed_by : Effect → Records → List Due
-filed_by (Loaded id image) m = overtaken_of (get m id)
+filed_by (Loaded profile id image) m = overtaken_of (get m id)
 filed_by (Unloaded id) m = overtaken_of (get m id)
 filed_by (Changed id change) m = filed_of change (get m id)
 filed_by Drained m = []
@@ -271,6 +290,7 @@ with_breakpoints breakpoints r = record {
   control = r.control;
   breakpoints = breakpoints;
   traced = r.traced;
+  remaining = r.remaining;
 }
 
 abbrev pub with_traced : Bool → Rec → Rec
@@ -281,6 +301,7 @@ with_traced traced r = record {
   control = r.control;
   breakpoints = r.breakpoints;
   traced = traced;
+  remaining = r.remaining;
 }
 
 -- the records with what is set in the record of a procedure that is loaded

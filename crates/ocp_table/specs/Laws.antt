@@ -1,6 +1,7 @@
 -- What the laws of the table say.
-use Rattle.std.specs.Prelude.{◌≡◌, ◌⊎◌, List, ℕ, Option, Some, None}
-use Rattle.bpf_step.specs.Machine.{State, started}
+use Rattle.std.specs.Prelude.{◌≡◌, ◌⊎◌, List, [], ℕ, Option, Some, None}
+use Rattle.ocp_profile.specs.declared.profile.Profile.{Profile}
+use Rattle.bpf_step.specs.Machine.{State, started, restarted}
 use Rattle.ocp_table.specs.declared.control.Control.{Control}
 use Rattle.ocp_table.specs.Records.{Rec}
 use Rattle.ocp_table.specs.Effects.{Change, BreakSet, BreakCleared, TraceSet}
@@ -11,11 +12,18 @@ abbrev pub machine_of : Option Rec → Option State
 machine_of None = None
 machine_of (Some r) = Some r.machine
 
--- the machine that there is afterwards is the one that was there, or it was started anew
+-- a machine that was there is started anew with some arguments
+abbrev pub IsRestarted : Option State → State → Type 0
+IsRestarted None machine = ⊥
+IsRestarted (Some before) machine = (arguments : List ℕ) × (machine ≡ restarted arguments before)
+
+-- the machine that there is afterwards is the one that was there, or a new one of some profile, or
+-- the one that was there was started anew
 abbrev pub IsKeptOrStarted : Option State → Option State → Type 0
 IsKeptOrStarted old new =
     (machine : State) → new ≡ Some machine →
-    (old ≡ Some machine) ⊎ ((arguments : List ℕ) × (machine ≡ started arguments))
+    (old ≡ Some machine)
+    ⊎ (((profile : Profile) × (machine ≡ started profile [])) ⊎ IsRestarted old machine)
 
 -- a directive of a request: it is no instruction event
 abbrev pub IsRequest : Directive → Type 0
@@ -24,9 +32,9 @@ IsRequest directive = Unit {0}
 
 -- a directive that loads, drops and starts no procedure, and does no instruction
 abbrev pub LeavesMachines : Directive → Type 0
-LeavesMachines (Load image) = ⊥
+LeavesMachines (Load profile image) = ⊥
 LeavesMachines Unload = ⊥
-LeavesMachines (Activate arguments) = ⊥
+LeavesMachines (Activate budget arguments) = ⊥
 LeavesMachines (Step pool) = ⊥
 LeavesMachines directive = Unit {0}
 
@@ -36,6 +44,7 @@ pub record Run : Type 0 where
   pub machine : State
   pub mailbox : List ℕ
   pub control : Control
+  pub remaining : Option ℕ
 
 -- that of a procedure, where it is loaded
 abbrev pub run_of : Option Rec → Option Run
@@ -45,6 +54,7 @@ run_of (Some r) = Some (record {
   machine = r.machine;
   mailbox = r.mailbox;
   control = r.control;
+  remaining = r.remaining;
 })
 
 -- a change that a debugger makes

@@ -1,8 +1,9 @@
 -- A procedure's record, as a record of parts, and what a table holds.
-use Rattle.std.specs.Prelude.{ℕ, Bool, List, IsOk}
+use Rattle.std.specs.Prelude.{ℕ, Bool, List, Option, IsOk}
 use Rattle.std.specs.Ordering.{nat_cmp}
 use Rattle.std.specs.FinMap.{FinMap}
 use Rattle.obcp_types.specs.declared.pending.Due.{Due}
+use Rattle.ocp_profile.specs.declared.profile.Profile.{Profile}
 use Rattle.ocp_loader.specs.LoadResult.{load_result}
 use Rattle.ocp_loader.specs.LineAt.{IsPlace}
 use Rattle.bpf_step.specs.Machine.{State}
@@ -14,15 +15,16 @@ pub record Execution : Type 0 where
   pub image : List ℕ
   pub machine : State
 
--- the image may be run, and the machine stands at an instruction of it
+-- the image may be run by some profile, and the machine stands at an instruction of it
 pub record IsAdmittedAt (image : List ℕ) (machine : State) : Type 0 where
-  pub admitted : IsOk (load_result image)
+  pub admitted : (profile : Profile) × IsOk (load_result profile image)
   pub begins : IsPlace image 0
   pub stands : StandsIn image machine
 
 -- the mailbox has the words that the procedure was sent and has not taken, the oldest first; the
 -- control is what requests and instructions set: the status, what is pending, the pass flag, and
--- why the procedure became inactive; the breakpoints are places of the program
+-- why the procedure became inactive; the breakpoints are places of the program; the budget is the
+-- number of instructions that an activation allows, of which so many remain, where it has one
 pub record Rec : Type 0 where
   pub image : List ℕ
   pub machine : State
@@ -30,12 +32,15 @@ pub record Rec : Type 0 where
   pub control : Control
   pub breakpoints : List ℕ
   pub traced : Bool
+  pub remaining : Option ℕ
 
 -- the records, each under the id of its procedure
 abbrev pub Records : Type 0
 Records = FinMap nat_cmp Rec
 
--- the records of a table, and the completions that wait to be reported, the oldest first
+-- the profile of a table, its records, and the completions that wait to be reported, the oldest
+-- first
 pub record Procedures : Type 0 where
+  pub profile : Profile
   pub records : Records
   pub outbox : List Due

@@ -7,20 +7,21 @@ use Rattle.obcp_types.specs.declared.status.Status.TheVariants.{Inactive, Runnin
 use Rattle.obcp_types.specs.declared.failure.StartFailure.{StartFailure}
 use Rattle.obcp_types.specs.declared.failure.StartFailure.TheVariants.{AlreadyLoaded, NotLoaded, NotInactive, NotActive, NotRunning, NotHeld, StopPending, MailboxFull, OutboxFull}
 use Rattle.obcp_types.specs.declared.pending.PendingOrigin.{PendingOrigin}
+use Rattle.ocp_profile.specs.declared.profile.Profile.{Profile}
 use Rattle.ocp_pool.specs.declared.mailbox.TheConstants.{MAX_MAILBOX_WORDS}
 use Rattle.ocp_table.specs.declared.control.Cause.TheVariants.{Stopped, Aborted}
 use Rattle.ocp_table.specs.declared.control.Pending.{Pending}
 use Rattle.ocp_table.specs.declared.control.Pending.TheVariants as pending
 use Rattle.ocp_table.specs.Effects.{Change, Started, Sent, Pended, Quit, Resumed}
 
--- what is asked of a procedure: to load an image, to be dropped, to start with arguments, to stop
--- or to be held at the end of a step (0 is any), with the request's origin and whether no place is
--- free for what would be pending, to run on, to end at once, to take words, to do its next
--- instruction, with the pool as it stands
+-- what is asked of a procedure: to load an image that its profile admits, to be dropped, to start
+-- with a budget (0 is none) and arguments, to stop or to be held at the end of a step (0 is any),
+-- with the request's origin and whether no place is free for what would be pending, to run on, to
+-- end at once, to take words, to do its next instruction, with the pool as it stands
 pub data Directive : Type 0 where
-  Load : List ℕ → Directive
+  Load : Profile → List ℕ → Directive
   Unload : Directive
-  Activate : List ℕ → Directive
+  Activate : ℕ → List ℕ → Directive
   Stop : ℕ → PendingOrigin → Bool → Directive
   Suspend : ℕ → PendingOrigin → Bool → Directive
   Resume : Directive
@@ -31,7 +32,7 @@ pub data Directive : Type 0 where
 -- what becomes of it: the image is loaded, unless the table is full or it may not be run; the
 -- record is dropped, or changed; the next instruction is done; or it fails
 pub data Decision : Type 0 where
-  Loads : List ℕ → Decision
+  Loads : Profile → List ℕ → Decision
   Unloads : Decision
   Changes : Change → Decision
   Steps : List ℕ → Decision
@@ -48,18 +49,18 @@ abbrev pub pended : Bool → Pending → Decision
 pended full pending = if full then Fails OutboxFull else Changes (Pended pending)
 
 abbrev pub transition : Directive → Option Status → Pending → ℕ → Decision
-transition (Load image) None p n = Loads image
-transition (Load image) (Some Inactive) p n = Fails AlreadyLoaded
-transition (Load image) (Some Running) p n = Fails AlreadyLoaded
-transition (Load image) (Some Held) p n = Fails AlreadyLoaded
+transition (Load profile image) None p n = Loads profile image
+transition (Load profile image) (Some Inactive) p n = Fails AlreadyLoaded
+transition (Load profile image) (Some Running) p n = Fails AlreadyLoaded
+transition (Load profile image) (Some Held) p n = Fails AlreadyLoaded
 transition Unload None p n = Fails NotLoaded
 transition Unload (Some Inactive) p n = Unloads
 transition Unload (Some Running) p n = Fails NotInactive
 transition Unload (Some Held) p n = Fails NotInactive
-transition (Activate arguments) None p n = Fails NotLoaded
-transition (Activate arguments) (Some Inactive) p n = Changes (Started arguments)
-transition (Activate arguments) (Some Running) p n = Fails NotInactive
-transition (Activate arguments) (Some Held) p n = Fails NotInactive
+transition (Activate budget arguments) None p n = Fails NotLoaded
+transition (Activate budget arguments) (Some Inactive) p n = Changes (Started budget arguments)
+transition (Activate budget arguments) (Some Running) p n = Fails NotInactive
+transition (Activate budget arguments) (Some Held) p n = Fails NotInactive
 transition (Stop s from full) None p n = Fails NotLoaded
 transition (Stop s from full) (Some Inactive) p n = Fails NotActive
 transition (Stop s from full) (Some Running) p n = pended full (pending.Stop s from)

@@ -3,6 +3,7 @@ use Rattle.std.specs.Prelude.{◌≡◌, ◌≤◌, ℕ, Bool, true, List, [], m
 use Rattle.std.specs.FinMap.{entries}
 use Rattle.obcp_types.specs.declared.failure.StartFailure.{StartFailure}
 use Rattle.obcp_types.specs.declared.status.StatusRow.{StatusRow}
+use Rattle.ocp_profile.specs.declared.profile.Profile.{Profile}
 use Rattle.ocp_regions.specs.declared.regions.TheConstants.{ARGUMENT_OCTETS}
 use Rattle.obcp_types.specs.declared.pending.Due.{Due}
 use Rattle.ocp_table.specs.declared.control.Pending.{Pending}
@@ -31,17 +32,19 @@ module _ {A : Type 0} where
     control = r.control;
     breakpoints = r.breakpoints.items;
     traced = r.traced;
+    remaining = r.remaining;
   }
 
   -- a record that a load of this image under this id makes
-  pub record IsLoading (r : Record A) (id : ℕ) (image : List ℕ) : Type 0 where
+  pub record IsLoading (profile : Profile) (r : Record A) (id : ℕ) (image : List ℕ)
+      : Type 0 where
     pub named : id_of r ≡ id
-    pub shows : shown r ≡ new_record image
+    pub shows : shown r ≡ new_record profile image
     pub idle : r.control.pending ≡ pending.Nothing
 
 -- what a request asks, where all places for pending and unreported completions are taken or not
 abbrev pub directive_of : D.Directive → Bool → Directive
-directive_of (directive.Activate arguments) full = Activate arguments.now
+directive_of (directive.Activate budget arguments) full = Activate budget arguments.now
 directive_of (directive.Stop s from) full = Stop s from full
 directive_of (directive.Suspend s from) full = Suspend s from full
 directive_of directive.Resume full = Resume
@@ -61,7 +64,7 @@ filed_of_effect effect pending = []
 
 -- arguments that the machine's memory has room for
 abbrev pub HasFewArguments : Directive → Type 0
-HasFewArguments (Activate arguments) = length arguments ≤ ARGUMENT_OCTETS
+HasFewArguments (Activate budget arguments) = length arguments ≤ ARGUMENT_OCTETS
 HasFewArguments other = Unit {0}
 
 -- what an instruction event is answered, by its effect
@@ -81,6 +84,7 @@ view_of r = record {
   depth = length r.machine.frames;
   pending = r.control.pending;
   registers = r.machine.registers;
+  remaining = r.remaining;
 }
 
 abbrev pub view_at : Option Rec → Option View

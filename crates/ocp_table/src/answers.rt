@@ -1,6 +1,9 @@
 use obcp_types::StartFailure;
 use ocp_pool::Called;
 
+/// The number of the fault of a procedure whose budget is spent, after those of the machine and of the engine calls.
+pub const BUDGET_SPENT: u8 = 5;
+
 /// What an instruction event did to a running procedure.
 #[derive(Clone, Copy)]
 pub enum InstructionOutcome {
@@ -11,7 +14,7 @@ pub enum InstructionOutcome {
     Called(Called),
     /// The last exit: the procedure is inactive.
     Ended,
-    /// The number of the machine's fault: the procedure is inactive.
+    /// The number of the fault: the procedure is inactive.
     Faulted(u8),
 }
 
@@ -26,7 +29,7 @@ pub enum StepOutcome {
     Called,
     /// The last exit: the procedure is inactive.
     Ended,
-    /// The number of the machine's fault: the procedure is inactive.
+    /// The number of the fault: the procedure is inactive.
     Faulted(u8),
     NotLoaded,
     NotRunning,

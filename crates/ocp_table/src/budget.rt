@@ -1,6 +1,9 @@
 //! What is left of a procedure's budget.
 ghost use Rattle.std.specs.Prelude.{◌≡◌};
 ghost use Rattle.ocp_table.specs.Budgets.{budget_of, less, is_spent, within};
+ghost use Rattle.ocp_table.specs.Effects.{remaining_by_outcome};
+
+use crate::InstructionOutcome;
 
 /// The budget that an activation sets: 0 sets none.
 pub(crate) fn budget_of(budget: u32) -> Option<u32>
@@ -39,5 +42,19 @@ pub(crate) fn within(remaining: Option<u32>, most: u32) -> u32
     match remaining {
         Some(left) => most.min(left),
         None => most,
+    }
+}
+
+/// What is left after an instruction event that was answered so.
+#[inline(always)]
+pub(crate) fn remaining_after(outcome: InstructionOutcome, remaining: Option<u32>) -> Option<u32>
+    ensures { result ≡ remaining_by_outcome outcome remaining }
+{
+    match outcome {
+        InstructionOutcome::Broke => remaining,
+        InstructionOutcome::Ran => less(1, remaining),
+        InstructionOutcome::Called(_) => less(1, remaining),
+        InstructionOutcome::Ended => less(1, remaining),
+        InstructionOutcome::Faulted(_) => remaining,
     }
 }

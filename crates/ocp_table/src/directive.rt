@@ -7,8 +7,9 @@ use ocp_pool::Mailbox;
 /// What a request asks of a procedure that is loaded.
 #[derive(Clone, Copy)]
 pub enum Directive<'a> {
-    /// To start from its first instruction, with these arguments.
-    Activate(&'a [u8]),
+    /// To start from its first instruction, with a budget of so many instructions, where it is not 0, and with these
+    /// arguments.
+    Activate { budget: u32, arguments: &'a [u8] },
     /// To end at the end of a step: of any where the number is 0. Its completion is reported to the origin.
     Stop(u16, PendingOrigin),
     /// To be held at the end of a step: of any where the number is 0. Its completion is reported to the origin.
@@ -39,9 +40,9 @@ impl Directive<'_> {
             control.pending (length mailbox.now)) }
     {
         match (self, control.status) {
-            (Directive::Activate(_), Status::Inactive) => None,
-            (Directive::Activate(_), Status::Running) => Some(StartFailure::NotInactive),
-            (Directive::Activate(_), Status::Held) => Some(StartFailure::NotInactive),
+            (Directive::Activate { .. }, Status::Inactive) => None,
+            (Directive::Activate { .. }, Status::Running) => Some(StartFailure::NotInactive),
+            (Directive::Activate { .. }, Status::Held) => Some(StartFailure::NotInactive),
 
             (Directive::Stop(_, _), Status::Inactive) => Some(StartFailure::NotActive),
             (Directive::Stop(_, _), Status::Running) => no_place(full),

@@ -35,26 +35,28 @@ impl<A: Allocator> Model for Execution<A> {
 
 impl<A: Allocator> Execution<A> {
     ghost use Rattle.std.specs.Prelude.{◌≡◌, ◌≤◌, ◌↔◌, ℕ, List, [], None, Some, IfOk, IsSome, IsOk, IsTrue, IfErr, OnOk, OnErr, length};
+    ghost use Rattle.ocp_profile.specs.declared.profile.Profile.{Profile};
     ghost use Rattle.ocp_loader.specs.LoadResult.{load_result};
     ghost use Rattle.ocp_loader.specs.LineAt.{IsPlace, line_of};
     ghost use Rattle.ocp_regions.specs.Memory.{octets_at};
     ghost use Rattle.ocp_regions.specs.declared.fault.AccessFault.TheVariants.{AccessOutside};
-    ghost use Rattle.bpf_step.specs.Machine.{started};
+    ghost use Rattle.bpf_step.specs.Machine.{State, restarted};
     ghost use Rattle.bpf_step.specs.Step.{one_step, StandsIn};
     ghost use Rattle.bpf_step.specs.Runs.{local_run, local_count};
     ghost use Rattle.ocp_table.specs.Effects.{machine_by_outcome, mailbox_by_outcome, pool_by_outcome};
     ghost use Rattle.ocp_table.specs.Deciding.{outcome_of};
 
-    /// A new machine at a program's first instruction.
+    /// A machine at a program's first instruction.
     pub(crate) fn new(
         alloc: A,
         program: Program<A>,
         machine: Machine<A>,
     ) -> Result<Self, AllocError>
-        requires admitted { IsOk (load_result program) }
+        requires admitted { (profile : Profile) × IsOk (load_result profile program) }
         requires place { IsPlace program 0 }
-        requires machine { machine ≡ started [] }
-        ensures { IfOk result (λ e. e ≡ record { image = program; machine = started [] }) }
+        requires start { machine.place ≡ 0 }
+        requires frames { machine.frames ≡ [] }
+        ensures { IfOk result (λ e. e ≡ record { image = program; machine = machine }) }
     {
         Ok(Execution {
             program: Arc::new(alloc, program)?,
@@ -121,7 +123,7 @@ impl<A: Allocator> Execution<A> {
     pub(crate) fn start(&mut self, arguments: &[u8])
         requires { length arguments.now ≤ ARGUMENT_OCTETS }
         ensures image { self.new.image ≡ self.old.image }
-        ensures machine { self.new.machine ≡ started arguments.now }
+        ensures machine { self.new.machine ≡ restarted arguments.now self.old.machine }
     {
         self.machine.start(arguments);
     }

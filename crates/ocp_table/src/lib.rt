@@ -16,12 +16,13 @@ mod snapshot;
 mod table;
 mod view;
 
-pub use answers::{InstructionOutcome, LoadFailure, Slice, StepOutcome};
+pub use answers::{BUDGET_SPENT, InstructionOutcome, LoadFailure, Slice, StepOutcome};
 pub use control::{Cause, Control, Pending};
 pub use directive::Directive;
 pub use execution::Execution;
 pub use obcp_types::{CompletionFailure, Due, PendingOrigin, StartFailure, Status, StatusRow};
 pub use ocp_pool::{Called, Mailbox, Pool};
+pub use ocp_profile::Profile;
 pub use record::{MAX_BREAKPOINTS, Record};
 pub use snapshot::Snapshot;
 pub use table::{MAX_PROCEDURES, OUTBOX_PLACES, Table};

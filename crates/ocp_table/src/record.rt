@@ -1,7 +1,8 @@
-use crate::budget::less;
+use crate::budget::{budget_of, is_spent, less, remaining_after};
 use crate::outbox::Outbox;
 use crate::{
-    Cause, Control, Directive, Execution, InstructionOutcome, OUTBOX_PLACES, Pending, View,
+    BUDGET_SPENT, Cause, Control, Directive, Execution, InstructionOutcome, OUTBOX_PLACES, Pending,
+    View,
 };
 use arrayvec::ArrayVec;
 use bpf_step::{Machine, breaks_at};
@@ -21,22 +22,25 @@ pub struct Record<A: Allocator> {
     pub control: Control,
     pub breakpoints: ArrayVec<u16, MAX_BREAKPOINTS>,
     pub traced: bool,
+    /// How many instructions are left of the budget, where one is set.
+    pub remaining: Option<u32>,
 }
 
 impl<A: Allocator> Record<A> {
     ghost use Rattle.std.specs.Prelude.{◌≡◌, ◌≤◌, ◌+◌, ◌++◌, Bool, [], None, Some, Ok, Err, IsOk, length, true, false};
     ghost use Rattle.obcp_types.specs.declared.status.Status.TheVariants.{Running};
+    ghost use Rattle.ocp_profile.specs.declared.profile.Profile.{Profile};
     ghost use Rattle.bpf_step.specs.Machine.{started};
-    ghost use Rattle.ocp_table.specs.Effects.{Started, Stepped, new_record, record_by, record_after, filed_by_outcome, failure_of, start_result, is_pended, pool_by_outcome};
+    ghost use Rattle.ocp_table.specs.Effects.{Started, Stepped, new_record, record_by, record_after, filed_by_outcome, failure_of, start_result, is_pended, pool_by_outcome, machine_by_outcome, mailbox_by_outcome, remaining_by_outcome};
     ghost use Rattle.ocp_table.specs.RequestTable.{failure_by};
-    ghost use Rattle.ocp_table.specs.Deciding.{decision_on, outcome_in};
+    ghost use Rattle.ocp_table.specs.Deciding.{decision_on, outcome_in, outcome_unheld};
     ghost use Rattle.ocp_table.specs.Shown.{shown, view_of, directive_of, effect_of_record, filed_of_effect, HasFewArguments};
     ghost use Rattle.ocp_table.specs.Outbox.{places_of};
 
     /// A procedure that was loaded.
     pub(crate) fn new(id: u16, execution: Execution<A>) -> Self
-        requires { execution.machine ≡ started [] }
-        ensures record { shown result ≡ new_record execution.image }
+        ensures record { (profile : Profile) → execution.machine ≡ started profile [] →
+            shown result ≡ new_record profile execution.image }
         ensures id { result.id ≡ id }
     {
         Record {
@@ -46,6 +50,7 @@ impl<A: Allocator> Record<A> {
             control: Control::inactive(Cause::Nothing),
             breakpoints: ArrayVec::new(),
             traced: false,
+            remaining: None,
         }
     }
 
@@ -113,7 +118,7 @@ impl<A: Allocator> Record<A> {
             self.now.control.pending }
     {
         match directive {
-            Directive::Activate(_) => outbox.overtake(self.control.pending),
+            Directive::Activate { .. } => outbox.overtake(self.control.pending),
             Directive::Stop(_, _) => outbox.overtake(self.control.pending),
             Directive::Suspend(_, _) => outbox.overtake(self.control.pending),
             Directive::Resume => {}
@@ -137,7 +142,8 @@ impl<A: Allocator> Record<A> {
         ensures id { self.new.id ≡ self.old.id }
     {
         match directive {
-            Directive::Activate(arguments) => {
+            Directive::Activate { budget, arguments } => {
+                self.remaining = budget_of(*budget);
                 self.execution.start(arguments);
                 self.mailbox.clear();
                 self.control = Control::running();
@@ -223,9 +229,32 @@ impl<A: Allocator> Record<A> {
             self.control.follow(InstructionOutcome::Broke);
             return InstructionOutcome::Broke;
         }
-        let outcome = self.execution.step(pool, &mut self.mailbox);
+        let outcome = self.execute(pool);
         outbox.file(&self.control.pending, outcome);
         self.control.follow(outcome);
+        outcome
+    }
+
+    // The instruction of a procedure that no breakpoint holds, or the fault that its budget is spent.
+    #[inline(always)]
+    fn execute(&mut self, pool: &mut Pool<A>) -> InstructionOutcome
+        ensures outcome { outcome_unheld (shown self.old) pool.old ≡ Some result }
+        ensures image { self.new.execution.image ≡ self.old.execution.image }
+        ensures machine { self.new.execution.machine ≡
+            machine_by_outcome result self.old.execution.image self.old.execution.machine }
+        ensures mailbox { self.new.mailbox ≡ mailbox_by_outcome result self.old.mailbox }
+        ensures remaining { self.new.remaining ≡ remaining_by_outcome result self.old.remaining }
+        ensures control { self.new.control ≡ self.old.control }
+        ensures breakpoints { self.new.breakpoints ≡ self.old.breakpoints }
+        ensures traced { self.new.traced ≡ self.old.traced }
+        ensures pool { pool.new ≡ pool_by_outcome result pool.old }
+        ensures id { self.new.id ≡ self.old.id }
+    {
+        if is_spent(self.remaining) {
+            return InstructionOutcome::Faulted(BUDGET_SPENT);
+        }
+        let outcome = self.execution.step(pool, &mut self.mailbox);
+        self.remaining = remaining_after(outcome, self.remaining);
         outcome
     }
 
@@ -279,6 +308,7 @@ impl<A: Allocator> Record<A> {
             depth: self.execution.depth(),
             pending: self.control.pending,
             registers: self.execution.registers(),
+            remaining: self.remaining,
         }
     }
 }
