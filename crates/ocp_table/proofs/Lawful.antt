@@ -1,5 +1,5 @@
 -- What every directive does to the records, and what it leaves.
-use Rattle.std.proofs.Common.{◌≡◌, ◌≢◌, ℕ, Bool, true, false, cond, is_some, List, [], Option, Some, None, inl, inr, refl, sym, ap, ◌∙◌, arith, length}
+use Rattle.std.proofs.Common.{◌≡◌, ◌≢◌, ℕ, Bool, true, false, cond, is_some, List, [], Option, Some, None, inl, inr, refl, sym, ap, subst, ◌∙◌, arith, length}
 use Rattle.std.specs.Prelude.{◌⊎◌}
 use Rattle.std.specs.Ordering.{eq_by_cmp, nat_cmp}
 use Rattle.std.specs.FinMap.{get, insert, remove, get-insert, get-remove}
@@ -8,12 +8,13 @@ use Rattle.std.proofs.lemmas.Bool.{eqb-true}
 use Rattle.std.proofs.lemmas.Bool.Decides.{nat_tests}
 use Rattle.obcp_types.specs.declared.status.Status.{Status}
 use Rattle.obcp_types.specs.declared.status.Status.TheVariants.{Inactive, Running, Held}
-use Rattle.bpf_step.specs.Machine.{State, started}
+use Rattle.ocp_profile.specs.declared.profile.Profile.{Profile}
+use Rattle.bpf_step.specs.Machine.{State, started, restarted}
 use Rattle.ocp_table.specs.Records.{Rec, Records}
 use Rattle.ocp_table.specs.Effects.{Change, Changed, Started, Sent, Resumed, BreakSet, BreakCleared, TraceSet, record_by, new_record, with_change, records_by, failure_of}
 use Rattle.ocp_table.specs.RequestTable.{Directive, Step, transition}
 use Rattle.ocp_table.specs.Deciding.{effect_by, effect_on, effect_in, is_full, status_of}
-use Rattle.ocp_table.specs.Laws.{machine_of, run_of, IsKeptOrStarted, IsRequest, IsDebugging, LeavesMachines}
+use Rattle.ocp_table.specs.Laws.{machine_of, run_of, IsKeptOrStarted, IsRestarted, IsRequest, IsDebugging, LeavesMachines}
 use Rattle.ocp_table.proofs.Each.{each}
 
 -- ---- every other record stays
@@ -28,9 +29,9 @@ others_stay d id other m differs =
     let by : (c : Change) → get (with_change (get m id) id c m) other ≡ get m other = λ c. with_change-other m id c (get m id) other apart in
     each (λ d e. get (records_by e m) other ≡ get m other) id (get m id) (is_full m) (record {
       failed = λ d failure. refl;
-      loaded = λ image absent room. get-insert nat_cmp_total m id (new_record image) other ∙ ap (λ b. cond b (Some (new_record image)) (get m other)) apart;
+      loaded = λ profile image absent room. get-insert nat_cmp_total m id (new_record profile image) other ∙ ap (λ b. cond b (Some (new_record profile image)) (get m other)) apart;
       unloaded = λ r here is. get-remove nat_cmp_total m id other ∙ ap (λ b. cond b None (get m other)) apart;
-      started = λ arguments r here is. by (Started arguments);
+      started = λ budget arguments r here is. by (Started budget arguments);
       sends = λ words r here fits. by (Sent words);
       stop_pends = λ s from r here is. by _;
       suspend_pends = λ s from r here is. by _;
@@ -63,22 +64,36 @@ module _ (m : Records) (q : ℕ) where
   of_some : (a b : State) → Some a ≡ Some b → a ≡ b
   of_some a b e = cc
 
-  -- a record that is put in has a machine that was started
-  put_started : (id : ℕ) (r : Rec) (arguments : List ℕ) → r.machine ≡ started arguments → IsFit (insert m id r)
-  put_started id r arguments start machine is =
-      elim (eq_by_cmp nat_cmp q id) as (λ b. machine_of (cond b (Some r) (get m q)) ≡ Some machine → (machine_of (get m q) ≡ Some machine) ⊎ ((a : List ℕ) × (machine ≡ started a))) [
-        | true ↦ λ here. inr (arguments, sym (of_some r.machine machine here) ∙ start)
+  -- what the law says of one machine
+  abbrev Comes : State → Type 0
+  Comes machine = (machine_of (get m q) ≡ Some machine) ⊎ (((profile : Profile) × (machine ≡ started profile [])) ⊎ IsRestarted (machine_of (get m q)) machine)
+
+  -- a record that is put in has a new machine
+  put_new : (id : ℕ) (r : Rec) (profile : Profile) → r.machine ≡ started profile [] → IsFit (insert m id r)
+  put_new id r profile start machine is =
+      elim (eq_by_cmp nat_cmp q id) as (λ b. machine_of (cond b (Some r) (get m q)) ≡ Some machine → Comes machine) [
+        | true ↦ λ here. inr (inl (profile, sym (of_some r.machine machine here) ∙ start))
         | false ↦ λ here. inl here
       ] (sym (ap machine_of (get-insert nat_cmp_total m id r q)) ∙ is)
 
-  start_there : (id : ℕ) (arguments : List ℕ) (o : Option Rec) → IsFit (with_change o id (Started arguments) m)
-  start_there id arguments None = same
-  start_there id arguments (Some r) = put_started id (record_by (Started arguments) r) arguments refl
+  -- a record that is put in has the machine that was there, which was started anew
+  put_restarted : (id : ℕ) (r new : Rec) (arguments : List ℕ) → get m id ≡ Some r → new.machine ≡ restarted arguments r.machine → IsFit (insert m id new)
+  put_restarted id r new arguments here start machine is =
+      elim (eq_by_cmp nat_cmp q id) as (λ b. eq_by_cmp nat_cmp q id ≡ b → machine_of (cond b (Some new) (get m q)) ≡ Some machine → Comes machine) [
+        | true ↦ λ at now.
+            let before : machine_of (get m q) ≡ Some r.machine = ap (λ k. machine_of (get m k)) (eqb-true q id (sym (unsigned_tied q id) ∙ at)) ∙ ap machine_of here in
+            inr (inr (subst (λ o. IsRestarted o machine) (sym before) (arguments, sym (of_some new.machine machine now) ∙ start)))
+        | false ↦ λ at now. inl now
+      ] refl (sym (ap machine_of (get-insert nat_cmp_total m id new q)) ∙ is)
+
+  start_there : (id budget : ℕ) (arguments : List ℕ) (o : Option Rec) → get m id ≡ o → IsFit (with_change o id (Started budget arguments) m)
+  start_there id budget arguments None is = same
+  start_there id budget arguments (Some r) is = put_restarted id r (record_by (Started budget arguments) r) arguments is refl
 
   -- a record that is put in has the machine that was there
   put_same : (id : ℕ) (r new : Rec) → get m id ≡ Some r → new.machine ≡ r.machine → IsFit (insert m id new)
   put_same id r new here kept machine is =
-      elim (eq_by_cmp nat_cmp q id) as (λ b. eq_by_cmp nat_cmp q id ≡ b → machine_of (cond b (Some new) (get m q)) ≡ Some machine → (machine_of (get m q) ≡ Some machine) ⊎ ((a : List ℕ) × (machine ≡ started a))) [
+      elim (eq_by_cmp nat_cmp q id) as (λ b. eq_by_cmp nat_cmp q id ≡ b → machine_of (cond b (Some new) (get m q)) ≡ Some machine → Comes machine) [
         | true ↦ λ at now. inl (ap (λ k. machine_of (get m k)) (eqb-true q id (sym (unsigned_tied q id) ∙ at)) ∙ ap machine_of here ∙ ap Some (sym kept) ∙ now)
         | false ↦ λ at now. inl now
       ] refl (sym (ap machine_of (get-insert nat_cmp_total m id new q)) ∙ is)
@@ -89,7 +104,7 @@ module _ (m : Records) (q : ℕ) where
 
   drop_there : (id : ℕ) → IsFit (remove m id)
   drop_there id machine is =
-      elim (eq_by_cmp nat_cmp q id) as (λ b. machine_of (cond b None (get m q)) ≡ Some machine → (machine_of (get m q) ≡ Some machine) ⊎ ((a : List ℕ) × (machine ≡ started a))) [
+      elim (eq_by_cmp nat_cmp q id) as (λ b. machine_of (cond b None (get m q)) ≡ Some machine → Comes machine) [
         | true ↦ λ gone. absurd (cc)
         | false ↦ λ here. inl here
       ] (sym (ap machine_of (get-remove nat_cmp_total m id q)) ∙ is)
@@ -99,9 +114,9 @@ module _ (m : Records) (q : ℕ) where
       let keeps : (c : Change) → ((r : Rec) → (record_by c r).machine ≡ r.machine) → IsFit (with_change (get m id) id c m) = λ c kept. keep_there id c kept (get m id) refl in
       each (λ d e. IsRequest d → IsFit (records_by e m)) id (get m id) (is_full m) (record {
         failed = λ d failure a. same;
-        loaded = λ image absent room a. put_started id (new_record image) [] refl;
+        loaded = λ profile image absent room a. put_new id (new_record profile image) profile refl;
         unloaded = λ r here is a. drop_there id;
-        started = λ arguments r here is a. start_there id arguments (get m id);
+        started = λ budget arguments r here is a. start_there id budget arguments (get m id) refl;
         sends = λ words r here fits a. keeps (Sent words) (λ r. refl);
         stop_pends = λ s from r here is a. keeps _ (λ r. refl);
         suspend_pends = λ s from r here is a. keeps _ (λ r. refl);
@@ -131,9 +146,9 @@ machines_stay m q d id leaves =
     let keeps : (c : Change) → ((r : Rec) → (record_by c r).machine ≡ r.machine) → machine_of (get (with_change (get m id) id c m) q) ≡ machine_of (get m q) = λ c kept. part_stays machine_of m q id c (λ r. ap Some (kept r)) (get m id) refl in
     each (λ d e. LeavesMachines d → machine_of (get (records_by e m) q) ≡ machine_of (get m q)) id (get m id) (is_full m) (record {
       failed = λ d failure a. refl;
-      loaded = λ image absent room a. absurd a;
+      loaded = λ profile image absent room a. absurd a;
       unloaded = λ r here is a. absurd a;
-      started = λ arguments r here is a. absurd a;
+      started = λ budget arguments r here is a. absurd a;
       sends = λ words r here fits a. keeps (Sent words) (λ r. refl);
       stop_pends = λ s from r here is a. keeps _ (λ r. refl);
       suspend_pends = λ s from r here is a. keeps _ (λ r. refl);

@@ -18,7 +18,9 @@ use Rattle.ocp_table.specs.declared.control.Control.{Control}
 use Rattle.ocp_table.specs.declared.answers.StepOutcome.{StepOutcome}
 use Rattle.ocp_table.specs.declared.answers.StepOutcome.TheVariants as S
 use Rattle.ocp_table.specs.declared.answers.InstructionOutcome.{InstructionOutcome}
-use Rattle.ocp_table.specs.declared.answers.InstructionOutcome.TheVariants.{Broke, Ran}
+use Rattle.ocp_table.specs.declared.answers.InstructionOutcome.TheVariants.{Broke, Ran, Faulted}
+use Rattle.ocp_table.specs.declared.answers.TheConstants.{BUDGET_SPENT}
+use Rattle.ocp_table.specs.Budgets.{one_less, less, is_spent, IsWithin}
 use Rattle.ocp_table.specs.Records.{Rec, Records}
 use Rattle.ocp_table.specs.Effects.{Effect, Changed, Kept, Stepped, Failed, passed, records_by, outbox_by, filed_of, pool_by, record_after, with_change, machine_after, step_outcome}
 use Rattle.ocp_table.specs.RequestTable.{Step, transition}
@@ -28,6 +30,7 @@ use Rattle.ocp_table.specs.Shown.{shown, effect_of_record, filed_of_effect}
 use Rattle.obcp_types.specs.declared.pending.Due.{Due}
 use Rattle.std.proofs.lemmas.List.{append-nil}
 use Rattle.ocp_table.specs.Slices.{IsSlice, Store, store_after, store_after_events, answer_to, goes_on, is_running, is_running_status, is_on, slice_count, slice_last, control_after, with_machine, RunsBy, last_ran, Leads}
+use Rattle.ocp_table.proofs.Budgets.{less-none, less-next, within-fewer, not-spent}
 use Rattle.ocp_table.proofs.ContentsLemmas.{insert-same}
 use Rattle.ocp_table.proofs.Tables.{absent-step, same_step, records_after_step, outbox_after_step}
 
@@ -88,11 +91,13 @@ ran_of (Next u) s t pool mailbox h = (refl, same_Some u t h)
 ran_of (Needs need) s t pool mailbox h = absurd (cc)
 ran_of NoInstruction s t pool mailbox h = absurd (cc)
 
-ran_in : (r : Rec) (pool : List ℕ) (t : State) → local_next r.image r.breakpoints r.control.pass r.machine ≡ Some t → (outcome_in r pool ≡ Some Ran) × (machine_after (one_step r.image r.machine) r.machine ≡ t)
-ran_in r pool t h =
-    elim (breaks_at r.control.pass r.breakpoints r.machine.place) as (λ b. cond b None (next_of (one_step r.image r.machine)) ≡ Some t → (cond {A = Option InstructionOutcome} b (Some Broke) (outcome_of (one_step r.image r.machine) r.machine pool r.mailbox) ≡ Some Ran) × (machine_after (one_step r.image r.machine) r.machine ≡ t)) [
+ran_in : (r : Rec) (pool : List ℕ) (t : State) → is_spent r.remaining ≡ false → local_next r.image r.breakpoints r.control.pass r.machine ≡ Some t → (outcome_in r pool ≡ Some Ran) × (machine_after (one_step r.image r.machine) r.machine ≡ t)
+ran_in r pool t left h =
+    elim (breaks_at r.control.pass r.breakpoints r.machine.place) as (λ b. cond b None (next_of (one_step r.image r.machine)) ≡ Some t → (cond {A = Option InstructionOutcome} b (Some Broke) (cond (is_spent r.remaining) (Some (Faulted BUDGET_SPENT)) (outcome_of (one_step r.image r.machine) r.machine pool r.mailbox)) ≡ Some Ran) × (machine_after (one_step r.image r.machine) r.machine ≡ t)) [
       | true ↦ λ k. absurd (cc)
-      | false ↦ λ k. ran_of (one_step r.image r.machine) r.machine t pool r.mailbox k
+      | false ↦ λ k.
+          let ran = ran_of (one_step r.image r.machine) r.machine t pool r.mailbox k in
+          (ap (λ b. cond {A = Option InstructionOutcome} b (Some (Faulted BUDGET_SPENT)) (outcome_of (one_step r.image r.machine) r.machine pool r.mailbox)) left ∙ ran.0, ran.1)
     ] h
 
 -- the record after it
@@ -104,6 +109,7 @@ ran_on r t = record {
   control = passed r.control;
   breakpoints = r.breakpoints;
   traced = r.traced;
+  remaining = one_less r.remaining;
 }
 
 module _ (m : Records) (outbox : List Due) (pool : List ℕ) (id : ℕ) where
@@ -119,18 +125,18 @@ module _ (m : Records) (outbox : List Due) (pool : List ℕ) (id : ℕ) where
   abbrev by_change : Option Rec → Store
   by_change o = record { records = with_change o id (Stepped Ran) m; outbox = outbox ++ filed_of (Stepped Ran) o; pool = pool }
 
-  module _ (r : Rec) (t : State) (held : map.get m id ≡ Some r) (running : r.control.status ≡ Running) (next : local_next r.image r.breakpoints r.control.pass r.machine ≡ Some t) where
+  module _ (r : Rec) (t : State) (held : map.get m id ≡ Some r) (running : r.control.status ≡ Running) (left : is_spent r.remaining ≡ false) (next : local_next r.image r.breakpoints r.control.pass r.machine ≡ Some t) where
     effect_ran : effect_in (Step pool) id m ≡ Changed id (Stepped Ran)
     effect_ran =
         ap (λ o. effect_on (Step pool) id o (is_full m)) held
         ∙ ap (λ s. effect_by (transition (Step pool) (Some s) r.control.pending (length r.mailbox)) id (Some r) (is_full m)) running
-        ∙ ap (λ o. effect_of_step o id) (ran_in r pool t next).0
+        ∙ ap (λ o. effect_of_step o id) (ran_in r pool t left next).0
 
     store_ran : store_after id here ≡ at (ran_on r t)
     store_ran =
         ap by_effect effect_ran
         ∙ ap by_change held
-        ∙ ap (λ x. record { records = map.insert m id (ran_on r x); outbox = outbox ++ []; pool = pool }) (ran_in r pool t next).1
+        ∙ ap (λ x. record { records = map.insert m id (ran_on r x); outbox = outbox ++ []; pool = pool }) (ran_in r pool t left next).1
         ∙ ap (λ kept. record { records = map.insert m id (ran_on r t); outbox = kept; pool = pool }) (append-nil outbox)
 
     answer_ran : answer_to id here ≡ S.Ran
@@ -175,28 +181,34 @@ module _ (m : Records) (outbox : List Due) (pool : List ℕ) (id : ℕ) (r : Rec
   abbrev after : ℕ → State → Store
   after n t = record { records = map.insert m id (with_machine n t r); outbox = outbox; pool = pool }
 
-  one_more : (n : ℕ) (s t : State) → local_next r.image r.breakpoints (r.control.pass && (n == 0)) s ≡ Some t → Leads id 1 (after n s) (last_ran n last) (after (suc n) t) S.Ran
-  one_more n s t next =
+  one_more : (n : ℕ) (s t : State) → IsWithin r.remaining (suc n) → local_next r.image r.breakpoints (r.control.pass && (n == 0)) s ≡ Some t → Leads id 1 (after n s) (last_ran n last) (after (suc n) t) S.Ran
+  one_more n s t inside next =
       let q = with_machine n s r in
       let led : Leads id 1 (after n s) (last_ran n last) (record { records = map.insert (map.insert m id q) id (ran_on q t); outbox = outbox; pool = pool }) S.Ran =
-      one_local (map.insert m id q) outbox pool id q t (get-put m id q) (status_after n r.control ∙ running) (ap (λ b. local_next r.image r.breakpoints b s) (pass_after n r.control) ∙ next) (last_ran n last) in
+      one_local (map.insert m id q) outbox pool id q t (get-put m id q) (status_after n r.control ∙ running) (not-spent r.remaining n inside) (ap (λ b. local_next r.image r.breakpoints b s) (pass_after n r.control) ∙ next) (last_ran n last) in
       let same : map.insert (map.insert m id q) id (ran_on q t) ≡ map.insert m id (with_machine (suc n) t r) =
-      put-put m id q (ran_on q t) ∙ ap (λ c. map.insert m id (record { image = r.image; machine = t; mailbox = r.mailbox; control = c; breakpoints = r.breakpoints; traced = r.traced })) (passed_after n r.control) in
+      put-put m id q (ran_on q t)
+      ∙ ap (λ c. map.insert m id (record { image = r.image; machine = t; mailbox = r.mailbox; control = c; breakpoints = r.breakpoints; traced = r.traced; remaining = one_less (less n r.remaining) })) (passed_after n r.control)
+      ∙ ap (λ o. map.insert m id (record { image = r.image; machine = t; mailbox = r.mailbox; control = passed r.control; breakpoints = r.breakpoints; traced = r.traced; remaining = o })) (less-next n r.remaining) in
       subst (λ x. Leads id 1 (after n s) (last_ran n last) (record { records = x; outbox = outbox; pool = pool }) S.Ran) same led
 
-  pub local_leads : (n : ℕ) (t : State) → ran_for n ≡ Some t → Leads id n (record { records = m; outbox = outbox; pool = pool }) last (after n t) (last_ran n last)
-  local_leads zero t h =
-      let same : map.insert m id (with_machine 0 t r) ≡ m = ap (λ x. map.insert m id (with_machine 0 x r)) (sym (same_Some r.machine t h)) ∙ insert-same m id r held in
+  pub local_leads : (n : ℕ) (t : State) → IsWithin r.remaining n → ran_for n ≡ Some t → Leads id n (record { records = m; outbox = outbox; pool = pool }) last (after n t) (last_ran n last)
+  local_leads zero t inside h =
+      let same : map.insert m id (with_machine 0 t r) ≡ m =
+      ap (λ x. map.insert m id (with_machine 0 x r)) (sym (same_Some r.machine t h))
+      ∙ ap (λ o. map.insert m id (record { image = r.image; machine = r.machine; mailbox = r.mailbox; control = r.control; breakpoints = r.breakpoints; traced = r.traced; remaining = o })) (less-none r.remaining)
+      ∙ insert-same m id r held in
       subst (λ x. Leads id 0 (record { records = m; outbox = outbox; pool = pool }) last (record { records = x; outbox = outbox; pool = pool }) last) (sym same) (leads-none id (record { records = m; outbox = outbox; pool = pool }) last)
-  local_leads (suc n) t h =
+  local_leads (suc n) t inside h =
+      let fewer : n ≤ suc n = omega arith in
       elim (ran_for n) as (λ o. ran_for n ≡ o → option_and_then (local_next r.image r.breakpoints (r.control.pass && (n == 0))) o ≡ Some t → Leads id (suc n) (record { records = m; outbox = outbox; pool = pool }) last (after (suc n) t) S.Ran) [
         | None ↦ λ is k. absurd (cc)
         | Some s ↦ λ is k. subst (λ x. Leads id x (record { records = m; outbox = outbox; pool = pool }) last (after (suc n) t) S.Ran) (add-one n)
-            (leads-on id n 1 (record { records = m; outbox = outbox; pool = pool }) (after n s) (after (suc n) t) last (last_ran n last) S.Ran (local_leads n s is) (one_more n s t k))
+            (leads-on id n 1 (record { records = m; outbox = outbox; pool = pool }) (after n s) (after (suc n) t) last (last_ran n last) S.Ran (local_leads n s (within-fewer r.remaining n (suc n) fewer inside) is) (one_more n s t inside k))
       ] refl h
 
 pub local_events : (m : Records) (outbox : List Due) (pool : List ℕ) (id n : ℕ) (r : Rec) (t : State) (last : StepOutcome) → RunsBy m id r n t → Leads id n (record { records = m; outbox = outbox; pool = pool }) last (record { records = map.insert m id (with_machine n t r); outbox = outbox; pool = pool }) (last_ran n last)
-local_events m outbox pool id n r t last is = local_leads m outbox pool id r is.held is.running last n t is.ran
+local_events m outbox pool id n r t last is = local_leads m outbox pool id r is.held is.running last n t is.within is.ran
 
 -- a count is within its budget
 pub local_count_within : (image breakpoints : List ℕ) (pass : Bool) (s : State) (budget : ℕ) → local_count image breakpoints pass s budget ≤ budget
@@ -228,14 +240,14 @@ module _ {A : Type 0} where
   }
 
   -- a stretch that the machine does by itself
-  pub sliced-run : (old now next : Record A) (outbox filed : List Due) (pool left : List ℕ) (n k : ℕ) (last : StepOutcome) (t : State) → IsSliced old now outbox filed pool left n last → local_run now.execution.image now.breakpoints.items now.control.pass now.execution.machine k ≡ Some t → shown next ≡ with_machine k t (shown now) → next.id ≡ now.id → IsSliced old next outbox filed pool left (n + k) (last_ran k last)
-  sliced-run old now next outbox filed pool left n k last t so_far ran made same = record {
+  pub sliced-run : (old now next : Record A) (outbox filed : List Due) (pool left : List ℕ) (n k : ℕ) (last : StepOutcome) (t : State) → IsSliced old now outbox filed pool left n last → IsWithin now.remaining k → local_run now.execution.image now.breakpoints.items now.control.pass now.execution.machine k ≡ Some t → shown next ≡ with_machine k t (shown now) → next.id ≡ now.id → IsSliced old next outbox filed pool left (n + k) (last_ran k last)
+  sliced-run old now next outbox filed pool left n k last t so_far inside ran made same = record {
     running = ap (λ r. r.control.status) made ∙ status_after k now.control ∙ so_far.running;
     named = same ∙ so_far.named;
     leads = λ m held.
         let id = old.id in
         let held_now = get-put m id (shown now) in
-        let on = local_leads (map.insert m id (shown now)) filed left id (shown now) held_now so_far.running last k t ran in
+        let on = local_leads (map.insert m id (shown now)) filed left id (shown now) held_now so_far.running last k t inside ran in
         let same_records : map.insert (map.insert m id (shown now)) id (with_machine k t (shown now)) ≡ map.insert m id (shown next) =
         put-put m id (shown now) (with_machine k t (shown now)) ∙ ap (map.insert m id) (sym made) in
         leads-on id n k _ _ _ S.Ran last (last_ran k last) (so_far.leads m held)

@@ -41,6 +41,7 @@ impl<A: Allocator> Model for Snapshot<A> {
 impl<A: Allocator> Snapshot<A> {
     ghost use Rattle.std.specs.Prelude.{◌≡◌, ◌↔◌, IfOk, IsTrue, Some, None};
     ghost use Rattle.bpf_step.specs.Step.{StandsIn};
+    ghost use Rattle.ocp_table.specs.Budgets.{IsWithin};
     ghost use Rattle.ocp_table.specs.Shown.{shown};
     ghost use Rattle.ocp_table.specs.Snapshots.{snapshot_of, snapshot_at, run_of, count_of};
 
@@ -107,10 +108,12 @@ impl<A: Allocator> Snapshot<A> {
     /// Lets a machine as it stood do instructions that need no engine, at most so many and at most what was left of the
     /// budget, and says how many it did: none where the procedure is traced. It stops before the first instruction that
     /// needs the engine, and before a breakpoint, which the pass flag lets the first instruction pass.
+    #[tactic(auto, using(crate::proofs::Slicing::local_count_within, crate::proofs::Budgets::within_left))]
     pub fn run(&self, machine: &mut Machine<A>, budget: u32) -> u32
         requires { machine.old ≡ self.now.machine }
         ensures ran { run_of self.now result ≡ Some machine.new }
         ensures count { result ≡ count_of self.now budget }
+        ensures within { IsWithin self.now.remaining result }
         ensures stands { StandsIn self.now.image machine.new }
     {
         let most = if self.traced {
