@@ -1,3 +1,4 @@
+pub mod Cleared
 pub mod Entries
 pub mod Numbers
 pub mod Written
