@@ -8,12 +8,14 @@ use Rattle.obcp_messages.specs.declared.request.Request.{Request}
 use Rattle.obcp_messages.specs.declared.request.Request.TheVariants.{Load, Unload, Activate, Stop, Suspend, Resume, Communicate, Status, Abort}
 use Rattle.obcp_types.specs.declared.failure.RequestFault.{RequestFault}
 use Rattle.obcp_types.specs.declared.failure.RequestFault.TheVariants.{Service, Subtype, Layout}
+use Rattle.ocp_profile.specs.declared.profile.Profile.{Profile}
+use Rattle.ocp_profile.specs.declared.profile.Profile.TheVariants.{One, Two}
 
 -- the message subtype of a request
 abbrev pub subtype_of : Request → ℕ
 subtype_of (Load id code) = 1
 subtype_of (Unload id) = 2
-subtype_of (Activate id arguments) = 3
+subtype_of (Activate id budget arguments) = 3
 subtype_of (Stop id step) = 4
 subtype_of (Suspend id step) = 5
 subtype_of (Resume id) = 6
@@ -21,57 +23,74 @@ subtype_of (Communicate id words) = 7
 subtype_of Status = 8
 subtype_of (Abort id) = 12
 
+-- the budget's field in an activation: of four octets under profile Two, and none under One
+abbrev pub budget_data : Profile → ℕ → List ℕ
+budget_data One budget = []
+budget_data Two budget = big_bytes 4 budget
+
 -- the service data of a request: its fields one after the other
-abbrev pub request_data : Request → List ℕ
-request_data (Load id code) = big_bytes 2 id ++ big_bytes 2 (length code) ++ code
-request_data (Unload id) = big_bytes 2 id
-request_data (Activate id arguments) = big_bytes 2 id ++ big_bytes 2 (length arguments) ++ arguments
-request_data (Stop id step) = big_bytes 2 id ++ big_bytes 2 step
-request_data (Suspend id step) = big_bytes 2 id ++ big_bytes 2 step
-request_data (Resume id) = big_bytes 2 id
-request_data (Communicate id words) =
+abbrev pub request_data : Profile → Request → List ℕ
+request_data profile (Load id code) = big_bytes 2 id ++ big_bytes 2 (length code) ++ code
+request_data profile (Unload id) = big_bytes 2 id
+request_data profile (Activate id budget arguments) =
+    big_bytes 2 id ++ budget_data profile budget ++ big_bytes 2 (length arguments) ++ arguments
+request_data profile (Stop id step) = big_bytes 2 id ++ big_bytes 2 step
+request_data profile (Suspend id step) = big_bytes 2 id ++ big_bytes 2 step
+request_data profile (Resume id) = big_bytes 2 id
+request_data profile (Communicate id words) =
     big_bytes 2 id ++ big_bytes 1 (length words) ++ flat_map (big_bytes 8) words
-request_data Status = []
-request_data (Abort id) = big_bytes 2 id
+request_data profile Status = []
+request_data profile (Abort id) = big_bytes 2 id
+
+-- the budgets that an activation can carry: under profile One it is 0, which is none
+abbrev pub IsBudget : Profile → ℕ → Type 0
+IsBudget One budget = budget ≡ 0
+IsBudget Two budget = budget < 2 ^ 32
 
 -- each number of a request is in the range of its field
-abbrev pub IsRequest : Request → Type 0
-IsRequest (Load id code) = (id < 2 ^ 16) × (length code ≤ MAX_CODE_LENGTH)
-IsRequest (Unload id) = id < 2 ^ 16
-IsRequest (Activate id arguments) = (id < 2 ^ 16) × (length arguments ≤ MAX_ARGUMENTS_LENGTH)
-IsRequest (Stop id step) = (id < 2 ^ 16) × (step < 2 ^ 16)
-IsRequest (Suspend id step) = (id < 2 ^ 16) × (step < 2 ^ 16)
-IsRequest (Resume id) = id < 2 ^ 16
-IsRequest (Communicate id words) =
+abbrev pub IsRequest : Profile → Request → Type 0
+IsRequest profile (Load id code) = (id < 2 ^ 16) × (length code ≤ MAX_CODE_LENGTH)
+IsRequest profile (Unload id) = id < 2 ^ 16
+IsRequest profile (Activate id budget arguments) =
+    (id < 2 ^ 16) × IsBudget profile budget × (length arguments ≤ MAX_ARGUMENTS_LENGTH)
+IsRequest profile (Stop id step) = (id < 2 ^ 16) × (step < 2 ^ 16)
+IsRequest profile (Suspend id step) = (id < 2 ^ 16) × (step < 2 ^ 16)
+IsRequest profile (Resume id) = id < 2 ^ 16
+IsRequest profile (Communicate id words) =
     (id < 2 ^ 16) × (1 ≤ length words) × (length words ≤ MAX_WORDS)
     × All (λ word. word < 2 ^ 64) words
-IsRequest Status = Unit {0}
-IsRequest (Abort id) = id < 2 ^ 16
+IsRequest profile Status = Unit {0}
+IsRequest profile (Abort id) = id < 2 ^ 16
 
 -- the octets are the service data of this request, in a telecommand of this service and subtype
-pub record IsRequestData (service subtype : ℕ) (octets : List ℕ) (request : Request) : Type 0 where
+pub record IsRequestData (profile : Profile) (service subtype : ℕ) (octets : List ℕ) (request : Request) : Type 0 where
   pub of_service : service ≡ 18
   pub of_subtype : subtype ≡ subtype_of request
-  pub in_range : IsRequest request
-  pub fields : octets ≡ request_data request
+  pub in_range : IsRequest profile request
+  pub fields : octets ≡ request_data profile request
 
 -- what is first wrong with service data that are no request
-abbrev pub HasRequestFault : ℕ → ℕ → List ℕ → RequestFault → Type 0
-HasRequestFault service subtype octets Service = service ≢ 18
-HasRequestFault service subtype octets Subtype =
+abbrev pub HasRequestFault : Profile → ℕ → ℕ → List ℕ → RequestFault → Type 0
+HasRequestFault profile service subtype octets Service = service ≢ 18
+HasRequestFault profile service subtype octets Subtype =
     (service ≡ 18) × ((request : Request) → subtype ≢ subtype_of request)
-HasRequestFault service subtype octets Layout =
+HasRequestFault profile service subtype octets Layout =
     (service ≡ 18) × ((request : Request) × (subtype ≡ subtype_of request))
-    × ((request : Request) → IsRequestData service subtype octets request → ⊥)
+    × ((request : Request) → IsRequestData profile service subtype octets request → ⊥)
 
 -- the octets at the end of the data: a load's code, an activation's arguments
 abbrev pub trailing_octets : Request → List ℕ
 trailing_octets (Load id code) = code
 trailing_octets (Unload id) = []
-trailing_octets (Activate id arguments) = arguments
+trailing_octets (Activate id budget arguments) = arguments
 trailing_octets (Stop id step) = []
 trailing_octets (Suspend id step) = []
 trailing_octets (Resume id) = []
 trailing_octets (Communicate id words) = []
 trailing_octets Status = []
 trailing_octets (Abort id) = []
+
+-- a request that a profile can carry: under One an activation has the budget 0
+abbrev pub HasFittingBudget : Profile → Request → Type 0
+HasFittingBudget One (Activate id budget arguments) = budget ≡ 0
+HasFittingBudget _ _ = Unit {0}

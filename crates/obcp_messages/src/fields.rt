@@ -37,6 +37,13 @@ pub(crate) fn put_u16(fields: &mut Fields, number: u16)
     put_octets(fields, &number.to_be_bytes());
 }
 
+pub(crate) fn put_u32(fields: &mut Fields, number: u32)
+    requires { array_vec_len fields.old + 4 ≤ MAX_FIELDS_LENGTH }
+    ensures { fields.new.items ≡ fields.old.items ++ big_bytes 4 number }
+{
+    put_octets(fields, &number.to_be_bytes());
+}
+
 /// Words of 64 bits.
 pub(crate) fn put_words(fields: &mut Fields, words: &[u64])
     requires { array_vec_len fields.old + 8 * length words.now ≤ MAX_FIELDS_LENGTH }

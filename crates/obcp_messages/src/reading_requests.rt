@@ -1,19 +1,21 @@
 //! Reading a request.
 
-ghost use Rattle.std.specs.Prelude.{◌≡◌, ◌≤◌, ◌*◌, ◌==◌, if◌then◌else◌, length, drop, Ok, Err, MatchResult, IfOk, IfErr, IsTrue, IsFalse};
+ghost use Rattle.std.specs.Prelude.{◌≡◌, ◌≤◌, ◌+◌, ◌*◌, ◌==◌, if◌then◌else◌, length, drop, Ok, Err, MatchResult, IfOk, IfErr, IsTrue, IsFalse};
 ghost use Rattle.byteorder.specs.Endian.{big_number};
 ghost use Rattle.obcp_messages.specs.Fields.{numbers};
-ghost use Rattle.obcp_messages.specs.Reading.{is_counted, with_octets, with_words, request_in, request_of};
+ghost use Rattle.obcp_messages.specs.Reading.{activation_in, is_counted, with_budget, with_octets, with_words, request_in, request_of};
 ghost use Rattle.obcp_messages.specs.Request.{IsRequestData, HasRequestFault};
 ghost use Rattle.obcp_messages.specs.declared.request.Request.{Request};
-ghost use Rattle.obcp_messages.specs.declared.payload.TheConstants.{MAX_ARGUMENTS_LENGTH, MAX_CODE_LENGTH};
+ghost use Rattle.obcp_messages.specs.declared.payload.TheConstants.{MAX_CODE_LENGTH};
 ghost use Rattle.obcp_types.specs.declared.failure.RequestFault.TheVariants.{Layout};
+ghost use Rattle.ocp_profile.specs.declared.profile.Profile.TheVariants.{One};
 
 use crate::payload::{Arguments, Code, MAX_WORDS, Words};
 use crate::request::{Request, SERVICE};
 use arrayvec::ArrayVec;
 use byteorder::{BigEndian, ByteOrder};
 use obcp_types::RequestFault;
+use ocp_profile::Profile;
 use pus_fields::Tc;
 
 /// The one field of data that are an identifier alone.
@@ -41,17 +43,18 @@ fn id_and_step(octets: &[u8]) -> Result<(u16, u16), RequestFault>
     ))
 }
 
-/// The octets behind an identifier and their number, where they are that many.
-fn counted_octets(octets: &[u8]) -> Result<&[u8], RequestFault>
+/// The octets behind their number, which stands behind the first so many, where they are that many.
+fn counted_octets(octets: &[u8], before: usize) -> Result<&[u8], RequestFault>
+    requires { before ≤ 6 }
     ensures { MatchResult result
-        (λ rest. IsTrue (is_counted octets.now) × (rest.now ≡ drop 4 octets.now))
-        (λ fault. (fault ≡ Layout) × IsFalse (is_counted octets.now)) }
+        (λ rest. IsTrue (is_counted before octets.now) × (rest.now ≡ drop (before + 2) octets.now))
+        (λ fault. (fault ≡ Layout) × IsFalse (is_counted before octets.now)) }
 {
-    if octets.len() < 4 {
+    if octets.len() < before + 2 {
         return Err(RequestFault::Layout);
     }
-    let rest = &octets[4..];
-    if rest.len() != BigEndian::read_u16(&octets[2..]) as usize {
+    let rest = &octets[before + 2..];
+    if rest.len() != BigEndian::read_u16(&octets[before..]) as usize {
         return Err(RequestFault::Layout);
     }
     Ok(rest)
@@ -60,17 +63,36 @@ fn counted_octets(octets: &[u8]) -> Result<&[u8], RequestFault>
 fn load(octets: &[u8]) -> Result<Request<'_>, RequestFault>
     ensures { result ≡ with_octets MAX_CODE_LENGTH Request.Load octets.now }
 {
-    let code = Code::new(counted_octets(octets)?).ok_or(RequestFault::Layout)?;
+    let code = Code::new(counted_octets(octets, 2)?).ok_or(RequestFault::Layout)?;
     let id = BigEndian::read_u16(octets);
     Ok(Request::Load { id, code })
 }
 
+/// An activation with no field for a budget.
 fn activate(octets: &[u8]) -> Result<Request<'_>, RequestFault>
-    ensures { result ≡ with_octets MAX_ARGUMENTS_LENGTH Request.Activate octets.now }
+    ensures { result ≡ activation_in One octets.now }
 {
-    let arguments = Arguments::new(counted_octets(octets)?).ok_or(RequestFault::Layout)?;
+    let arguments = Arguments::new(counted_octets(octets, 2)?).ok_or(RequestFault::Layout)?;
     let id = BigEndian::read_u16(octets);
-    Ok(Request::Activate { id, arguments })
+    Ok(Request::Activate {
+        id,
+        budget: 0,
+        arguments,
+    })
+}
+
+/// An activation with a budget.
+fn activate_with_budget(octets: &[u8]) -> Result<Request<'_>, RequestFault>
+    ensures { result ≡ with_budget octets.now }
+{
+    let arguments = Arguments::new(counted_octets(octets, 6)?).ok_or(RequestFault::Layout)?;
+    let id = BigEndian::read_u16(octets);
+    let budget = BigEndian::read_u32(&octets[2..]);
+    Ok(Request::Activate {
+        id,
+        budget,
+        arguments,
+    })
 }
 
 /// The words in so many times 8 octets.
@@ -103,15 +125,18 @@ fn communicate(octets: &[u8]) -> Result<Request<'_>, RequestFault>
 }
 
 /// The request of this subtype that the data are.
-fn request_in(subtype: u8, octets: &[u8]) -> Result<Request<'_>, RequestFault>
-    ensures { result ≡ request_in subtype octets.now }
+fn request_in(profile: Profile, subtype: u8, octets: &[u8]) -> Result<Request<'_>, RequestFault>
+    ensures { result ≡ request_in profile subtype octets.now }
 {
     match subtype {
         1 => load(octets),
         2 => Ok(Request::Unload {
             id: id_alone(octets)?,
         }),
-        3 => activate(octets),
+        3 => match profile {
+            Profile::One => activate(octets),
+            Profile::Two => activate_with_budget(octets),
+        },
         4 => {
             let (id, step) = id_and_step(octets)?;
             Ok(Request::Stop { id, step })
@@ -134,26 +159,35 @@ fn request_in(subtype: u8, octets: &[u8]) -> Result<Request<'_>, RequestFault>
 }
 
 /// The request of this service and subtype that the data are.
-fn request_of_service(service: u8, subtype: u8, octets: &[u8]) -> Result<Request<'_>, RequestFault>
-    ensures { result ≡ request_of service subtype octets.now }
+fn request_of_service(
+    profile: Profile,
+    service: u8,
+    subtype: u8,
+    octets: &[u8],
+) -> Result<Request<'_>, RequestFault>
+    ensures { result ≡ request_of profile service subtype octets.now }
 {
     if service != SERVICE {
         return Err(RequestFault::Service);
     }
-    request_in(subtype, octets)
+    request_in(profile, subtype, octets)
 }
 
 /// The request that a telecommand carries. Refused as `Service` where the service is not 18, else as
 /// `Subtype` where the subtype is no request's, else as `Layout` where the data have another length
-/// than the request's fields, or a number is out of its range (ECSS-E-ST-70-41C, 8.18).
-pub fn read_request<'a>(tc: &Tc<'a>) -> Result<Request<'a>, RequestFault>
-    ensures found { IfOk result (IsRequestData tc.now.service tc.now.subtype tc.now.payload) }
+/// than the request's fields, or a number is out of its range (ECSS-E-ST-70-41C, 8.18). An activation has a field for its
+/// budget under profile Two, and none under One, where its budget is read as 0.
+pub fn read_request<'a>(profile: Profile, tc: &Tc<'a>) -> Result<Request<'a>, RequestFault>
+    ensures found { IfOk result
+        (IsRequestData profile tc.now.service tc.now.subtype tc.now.payload) }
     ensures only { (request : Request) →
-        IsRequestData tc.now.service tc.now.subtype tc.now.payload request → result ≡ Ok request }
-    ensures fault { IfErr result (HasRequestFault tc.now.service tc.now.subtype tc.now.payload) }
+        IsRequestData profile tc.now.service tc.now.subtype tc.now.payload request →
+        result ≡ Ok request }
+    ensures fault { IfErr result
+        (HasRequestFault profile tc.now.service tc.now.subtype tc.now.payload) }
     // The same as a function, for definitions that speak of requests by their octets.
-    ensures reads { result ≡ request_of tc.now.service tc.now.subtype tc.now.payload }
+    ensures reads { result ≡ request_of profile tc.now.service tc.now.subtype tc.now.payload }
 {
     let octets = tc.payload();
-    request_of_service(tc.service(), tc.subtype(), octets)
+    request_of_service(profile, tc.service(), tc.subtype(), octets)
 }

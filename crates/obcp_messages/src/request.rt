@@ -1,8 +1,9 @@
 //! Requests.
 
-ghost use Rattle.std.specs.Prelude.{◌≡◌};
+ghost use Rattle.std.specs.Prelude.{◌≡◌, ◌↔◌, IsTrue};
 
 use crate::payload::{Arguments, Code, Words};
+use ocp_profile::Profile;
 
 /// The service type of on-board control procedures.
 pub const SERVICE: u8 = 18;
@@ -11,27 +12,50 @@ pub const SERVICE: u8 = 18;
 #[derive(Drop)]
 pub enum Request<'a> {
     /// Loads a procedure, by its code.
-    Load { id: u16, code: Code<'a> },
+    Load {
+        id: u16,
+        code: Code<'a>,
+    },
     /// Unloads a procedure.
-    Unload { id: u16 },
-    /// Activates a procedure with these arguments.
-    Activate { id: u16, arguments: Arguments<'a> },
+    Unload {
+        id: u16,
+    },
+    /// Activates a procedure with these arguments and a budget of instructions; 0 is none. Profile One carries no other
+    /// budget.
+    Activate {
+        id: u16,
+        budget: u32,
+        arguments: Arguments<'a>,
+    },
     /// Stops a procedure at the end of this step.
-    Stop { id: u16, step: u16 },
+    Stop {
+        id: u16,
+        step: u16,
+    },
     /// Suspends a procedure at the end of this step.
-    Suspend { id: u16, step: u16 },
+    Suspend {
+        id: u16,
+        step: u16,
+    },
     /// Resumes a held procedure.
-    Resume { id: u16 },
+    Resume {
+        id: u16,
+    },
     /// Communicates parameters to a procedure.
-    Communicate { id: u16, words: Words },
+    Communicate {
+        id: u16,
+        words: Words,
+    },
     /// Asks for the status report.
     Status,
     /// Aborts a procedure.
-    Abort { id: u16 },
+    Abort {
+        id: u16,
+    },
 }
 
 impl Request<'_> {
-    ghost use Rattle.obcp_messages.specs.Request.{subtype_of};
+    ghost use Rattle.obcp_messages.specs.Request.{HasFittingBudget, subtype_of};
 
     /// The message subtype.
     pub fn subtype(&self) -> u8
@@ -47,6 +71,16 @@ impl Request<'_> {
             Request::Communicate { .. } => 7,
             Request::Status => 8,
             Request::Abort { .. } => 12,
+        }
+    }
+
+    /// Whether the data of this profile can carry the request: under One the budget of an activation is 0.
+    pub fn has_fitting_budget(&self, profile: Profile) -> bool
+        ensures { IsTrue result ↔ HasFittingBudget profile self.now }
+    {
+        match self {
+            Request::Activate { budget, .. } => profile == Profile::Two || *budget == 0,
+            _ => true,
         }
     }
 }

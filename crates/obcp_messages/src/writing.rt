@@ -1,19 +1,35 @@
 //! Writing requests and reports.
 
 ghost use Rattle.std.specs.Prelude.{◌≡◌, ◌<◌, ◌+◌, ◌++◌, ◌≤◌, length, OnOk, OnErr, vec_len, vec_capacity};
-ghost use Rattle.obcp_messages.specs.Request.{IsRequest, IsRequestData, request_data, subtype_of, trailing_octets};
+ghost use Rattle.arrayvec.specs.ArrayVec.{array_vec_len};
+ghost use Rattle.obcp_messages.specs.Request.{HasFittingBudget, IsRequest, IsRequestData, budget_data, request_data, subtype_of, trailing_octets};
 ghost use Rattle.obcp_messages.specs.Report.{IsReport, IsReportData, IsStartFault, report_data, service_of, kind_of, fault_data};
 
-use crate::fields::{Fields, put_octets, put_rows, put_u8, put_u16, put_words};
+use crate::fields::{
+    Fields, MAX_FIELDS_LENGTH, put_octets, put_rows, put_u8, put_u16, put_u32, put_words,
+};
 use crate::report::{BAD_CODE, Report, StartFault};
 use crate::request::Request;
 use arrayvec::ArrayVec;
+use ocp_profile::Profile;
 use std::alloc::{AllocError, Allocator};
 
+/// The budget of an activation, which profile Two alone has a field for.
+fn put_budget(profile: Profile, fields: &mut Fields, budget: u32)
+    requires { array_vec_len fields.old + 4 ≤ MAX_FIELDS_LENGTH }
+    ensures { fields.new.items ≡ fields.old.items ++ budget_data profile budget }
+{
+    match profile {
+        Profile::One => {}
+        Profile::Two => put_u32(fields, budget),
+    }
+}
+
 /// The fields of a request before the octets at its end.
-fn request_fields(request: &Request) -> Fields
-    ensures octets { result.items ++ trailing_octets request.now ≡ request_data request.now }
-    ensures in_range { IsRequest request.now }
+fn request_fields(profile: Profile, request: &Request) -> Fields
+    requires { HasFittingBudget profile request.now }
+    ensures octets { result.items ++ trailing_octets request.now ≡ request_data profile request.now }
+    ensures in_range { IsRequest profile request.now }
 {
     let mut fields = ArrayVec::new();
     match request {
@@ -21,8 +37,13 @@ fn request_fields(request: &Request) -> Fields
             put_u16(&mut fields, *id);
             put_u16(&mut fields, code.octets().len() as u16);
         }
-        Request::Activate { id, arguments } => {
+        Request::Activate {
+            id,
+            budget,
+            arguments,
+        } => {
             put_u16(&mut fields, *id);
+            put_budget(profile, &mut fields, *budget);
             put_u16(&mut fields, arguments.octets().len() as u16);
         }
         Request::Stop { id, step } | Request::Suspend { id, step } => {
@@ -53,22 +74,26 @@ fn trailing_octets<'a>(request: &Request<'a>) -> &'a [u8]
     }
 }
 
-/// Appends the service data of a request (ECSS-E-ST-70-41C, 8.18). The capacity never shrinks.
+/// Appends the service data of a request (ECSS-E-ST-70-41C, 8.18). An activation has a field for its budget under profile
+/// Two; under One its budget must be 0. The capacity never shrinks.
 pub fn write_request<A: Allocator>(
+    profile: Profile,
     request: &Request,
     out: &mut Vec<u8, A>,
 ) -> Result<(), AllocError>
-    ensures written { OnOk result (out.new.items ≡ out.old.items ++ request_data request.now) }
-    ensures laid_out { IsRequestData 18 (subtype_of request.now)
-        (request_data request.now) request.now }
+    requires { HasFittingBudget profile request.now }
+    ensures written { OnOk result
+        (out.new.items ≡ out.old.items ++ request_data profile request.now) }
+    ensures laid_out { IsRequestData profile 18 (subtype_of request.now)
+        (request_data profile request.now) request.now }
     // It is refused only where the vector had to grow, and then the vector and its capacity stay.
     ensures memory { OnErr result
-        (vec_capacity out.old < vec_len out.old + length (request_data request.now)) }
+        (vec_capacity out.old < vec_len out.old + length (request_data profile request.now)) }
     ensures err { OnErr result (out.new.items ≡ out.old.items) }
     ensures same_capacity { OnErr result (vec_capacity out.new ≡ vec_capacity out.old) }
     ensures capacity { vec_capacity out.old ≤ vec_capacity out.new }
 {
-    let fields = request_fields(request);
+    let fields = request_fields(profile, request);
     let octets = trailing_octets(request);
     out.reserve(fields.len() + octets.len())?;
     out.extend_from_slice(fields.as_slice()).unwrap();
