@@ -17,7 +17,9 @@ use Rattle.bpf_step.specs.Calls.{calls, exits}
 use Rattle.bpf_step.specs.Step.{step, step_of, one_step, Gives}
 use Rattle.ocp_pool.specs.Call.{engine_call}
 use Rattle.ocp_table.specs.declared.answers.InstructionOutcome.{InstructionOutcome}
-use Rattle.ocp_table.specs.declared.answers.InstructionOutcome.TheVariants.{Broke}
+use Rattle.ocp_table.specs.declared.answers.InstructionOutcome.TheVariants.{Broke, Faulted}
+use Rattle.ocp_table.specs.declared.answers.TheConstants.{BUDGET_SPENT}
+use Rattle.ocp_table.specs.Budgets.{is_spent}
 use Rattle.ocp_table.specs.Records.{Rec}
 use Rattle.bpf_step.specs.Runs.{breaks_at}
 use Rattle.ocp_table.specs.Deciding.{outcome_of, outcome_of_call, outcome_in}
@@ -57,12 +59,12 @@ module _ (m : State) (pool mailbox : List ℕ) where
 
 -- a machine that needs an engine call is as before it, and the call is its outcome
 pub needs_call : (asked : Need) (number : ℤ) (old new : State) (o : Outcome) (pool mailbox : List ℕ) → asked ≡ need.Call number → Gives (local.NeedsEngine asked) old new o →
-    outcome_of o old pool mailbox ≡ Some (outcome_of_call (engine_call number (read new 1) (read new 2) pool mailbox))
+    outcome_of o old pool mailbox ≡ Some (outcome_of_call (engine_call number (read new 1) (read new 2) (read new 3) pool mailbox))
 needs_call asked number old new (Next s) pool mailbox is given = absurd given
 needs_call asked number old new NoInstruction pool mailbox is given = absurd given
 needs_call asked number old new (Needs found) pool mailbox is given =
     ap (λ k. outcome_of (Needs k) old pool mailbox) (sym given.0 ∙ is)
-    ∙ ap (λ s. Some (outcome_of_call (engine_call number (read s 1) (read s 2) pool mailbox))) (sym given.1)
+    ∙ ap (λ s. Some (outcome_of_call (engine_call number (read s 1) (read s 2) (read s 3) pool mailbox))) (sym given.1)
 
 -- the machine is left as it was
 pub needs_kept : (asked : Need) (old new : State) (o : Outcome) → Gives (local.NeedsEngine asked) old new o → new ≡ old
@@ -73,9 +75,12 @@ needs_kept asked old new (Needs found) given = given.1
 -- with breakpoints or without
 pub able_in : (r : Rec) (pool : List ℕ) → IsSome (outcome_of (one_step r.image r.machine) r.machine pool r.mailbox) → IsSome (outcome_in r pool)
 able_in r pool able =
-    elim (breaks_at r.control.pass r.breakpoints r.machine.place) as (λ b. IsSome (cond {A = Option InstructionOutcome} b (Some Broke) (outcome_of (one_step r.image r.machine) r.machine pool r.mailbox))) [
+    elim (breaks_at r.control.pass r.breakpoints r.machine.place) as (λ b. IsSome (cond {A = Option InstructionOutcome} b (Some Broke) (cond (is_spent r.remaining) (Some (Faulted BUDGET_SPENT)) (outcome_of (one_step r.image r.machine) r.machine pool r.mailbox)))) [
       | true ↦ refl
-      | false ↦ able
+      | false ↦ elim (is_spent r.remaining) as (λ b. IsSome (cond {A = Option InstructionOutcome} b (Some (Faulted BUDGET_SPENT)) (outcome_of (one_step r.image r.machine) r.machine pool r.mailbox))) [
+          | true ↦ refl
+          | false ↦ able
+        ]
     ]
 
 -- what stands under an Ok

@@ -34,9 +34,9 @@ IsAsked d m effect = Unit {0}
 holds : (m : Records) (id : ℕ) → Holds (λ d effect. IsAsked d m effect) id (get m id) (is_full m)
 holds m id = record {
   failed = λ d failure. tt;
-  loaded = λ image is room. tt;
+  loaded = λ profile image is room. tt;
   unloaded = λ r is status. tt;
-  started = λ arguments r is status. tt;
+  started = λ budget arguments r is status. tt;
   sends = λ words r is fits. tt;
   stop_pends = λ s from r is status. ((refl, refl), (r, is));
   suspend_pends = λ s from r is status. ((refl, refl), (r, is));

@@ -7,6 +7,7 @@ use Rattle.obcp_types.specs.declared.status.Status.{Status}
 use Rattle.obcp_types.specs.declared.status.Status.TheVariants.{Inactive, Running, Held}
 use Rattle.obcp_types.specs.declared.failure.StartFailure.{StartFailure}
 use Rattle.obcp_types.specs.declared.failure.StartFailure.TheVariants.{AlreadyLoaded, TableFull, NotLoaded, NotInactive, NotActive, NotRunning, NotHeld, StopPending, MailboxFull, OutboxFull}
+use Rattle.ocp_profile.specs.declared.profile.Profile.{Profile}
 use Rattle.ocp_loader.specs.declared.fault.LoadFault.{LoadFault}
 use Rattle.ocp_loader.specs.LoadResult.{load_result}
 use Rattle.ocp_pool.specs.declared.mailbox.TheConstants.{MAX_MAILBOX_WORDS}
@@ -23,9 +24,9 @@ use Rattle.ocp_table.specs.Deciding.{bad_code, effect_of_load, outcome_in, effec
 -- what has to hold of each form, with what is known where it comes
 pub record Holds (P : Directive → Effect → Type 0) (id : ℕ) (o : Option Rec) (full : Bool) : Type 0 where
   pub failed : (d : Directive) (failure : StartFailure) → P d (Kept (Failed failure))
-  pub loaded : (image : List ℕ) → o ≡ None → full ≡ false → P (Load image) (Loaded id image)
+  pub loaded : (profile : Profile) (image : List ℕ) → o ≡ None → full ≡ false → P (Load profile image) (Loaded profile id image)
   pub unloaded : (r : Rec) → o ≡ Some r → r.control.status ≡ Inactive → P Unload (Unloaded id)
-  pub started : (arguments : List ℕ) (r : Rec) → o ≡ Some r → r.control.status ≡ Inactive → P (Activate arguments) (Changed id (Started arguments))
+  pub started : (budget : ℕ) (arguments : List ℕ) (r : Rec) → o ≡ Some r → r.control.status ≡ Inactive → P (Activate budget arguments) (Changed id (Started budget arguments))
   pub sends : (words : List ℕ) (r : Rec) → o ≡ Some r → length r.mailbox + length words ≤ MAX_MAILBOX_WORDS → P (Communicate words) (Changed id (Sent words))
   pub stop_pends : (s : ℕ) (from : PendingOrigin) (r : Rec) → o ≡ Some r → r.control.status ≡ Running → P (Stop s from false) (Changed id (Pended (pending.Stop s from)))
   pub suspend_pends : (s : ℕ) (from : PendingOrigin) (r : Rec) → o ≡ Some r → r.control.status ≡ Running → P (Suspend s from false) (Changed id (Pended (pending.Suspend s from)))
@@ -34,10 +35,10 @@ pub record Holds (P : Directive → Effect → Type 0) (id : ℕ) (o : Option Re
   pub resumed : (r : Rec) → o ≡ Some r → r.control.status ≡ Held → P Resume (Changed id Resumed)
   pub stepped : (pool : List ℕ) (outcome : InstructionOutcome) (r : Rec) → o ≡ Some r → r.control.status ≡ Running → outcome_in r pool ≡ Some outcome → P (Step pool) (Changed id (Stepped outcome))
 
-each_load : (P : Effect → Type 0) (id : ℕ) (full : Bool) (result : Result (List (Option Line)) LoadFault) (image : List ℕ) → ((failure : StartFailure) → P (Kept (Failed failure))) → (full ≡ false → P (Loaded id image)) → P (effect_of_load full result id image)
-each_load P id true image result failed loaded = failed TableFull
-each_load P id false (Ok lines) image failed loaded = loaded refl
-each_load P id false (Err fault) image failed loaded = failed (bad_code fault)
+each_load : (P : Effect → Type 0) (id : ℕ) (full : Bool) (result : Result (List (Option Line)) LoadFault) (profile : Profile) (image : List ℕ) → ((failure : StartFailure) → P (Kept (Failed failure))) → (full ≡ false → P (Loaded profile id image)) → P (effect_of_load full result profile id image)
+each_load P id true result profile image failed loaded = failed TableFull
+each_load P id false (Ok lines) profile image failed loaded = loaded refl
+each_load P id false (Err fault) profile image failed loaded = failed (bad_code fault)
 
 each_step : (P : Effect → Type 0) (id : ℕ) (o : Option InstructionOutcome) → P (Kept (Failed NotRunning)) → ((outcome : InstructionOutcome) → o ≡ Some outcome → P (Changed id (Stepped outcome))) → P (effect_of_step o id)
 each_step P id (Some outcome) failed stepped = stepped outcome refl
@@ -68,15 +69,15 @@ module _ (P : Directive → Effect → Type 0) (id : ℕ) (r : Rec) (full : Bool
   each_words words = each_sent (P (Communicate words)) id (Some r) full words (length r.mailbox) (h.failed (Communicate words) MailboxFull) (λ fits. h.sends words r refl fits)
 
   each_of : (d : Directive) (s : Status) → r.control.status ≡ s → P d (effect_by (transition d (Some s) r.control.pending (length r.mailbox)) id (Some r) full)
-  each_of (Load image) Inactive is = h.failed (Load image) AlreadyLoaded
-  each_of (Load image) Running is = h.failed (Load image) AlreadyLoaded
-  each_of (Load image) Held is = h.failed (Load image) AlreadyLoaded
+  each_of (Load profile image) Inactive is = h.failed (Load profile image) AlreadyLoaded
+  each_of (Load profile image) Running is = h.failed (Load profile image) AlreadyLoaded
+  each_of (Load profile image) Held is = h.failed (Load profile image) AlreadyLoaded
   each_of Unload Inactive is = h.unloaded r refl is
   each_of Unload Running is = h.failed Unload NotInactive
   each_of Unload Held is = h.failed Unload NotInactive
-  each_of (Activate arguments) Inactive is = h.started arguments r refl is
-  each_of (Activate arguments) Running is = h.failed (Activate arguments) NotInactive
-  each_of (Activate arguments) Held is = h.failed (Activate arguments) NotInactive
+  each_of (Activate budget arguments) Inactive is = h.started budget arguments r refl is
+  each_of (Activate budget arguments) Running is = h.failed (Activate budget arguments) NotInactive
+  each_of (Activate budget arguments) Held is = h.failed (Activate budget arguments) NotInactive
   each_of (Stop s from no_room) Inactive is = h.failed (Stop s from no_room) NotActive
   each_of (Stop s from no_room) Running is = each_stop s from no_room is
   each_of (Stop s from no_room) Held is = h.stopped s from no_room r refl is
@@ -98,9 +99,9 @@ module _ (P : Directive → Effect → Type 0) (id : ℕ) (r : Rec) (full : Bool
 
 pub each : (P : Directive → Effect → Type 0) (id : ℕ) (o : Option Rec) (full : Bool) → Holds P id o full → (d : Directive) → P d (effect_on d id o full)
 each P id (Some r) full h d = each_of P id r full h d r.control.status refl
-each P id None full h (Load image) = each_load (P (Load image)) id full (load_result image) image (h.failed (Load image)) (h.loaded image refl)
+each P id None full h (Load profile image) = each_load (P (Load profile image)) id full (load_result profile image) profile image (h.failed (Load profile image)) (h.loaded profile image refl)
 each P id None full h Unload = h.failed Unload NotLoaded
-each P id None full h (Activate arguments) = h.failed (Activate arguments) NotLoaded
+each P id None full h (Activate budget arguments) = h.failed (Activate budget arguments) NotLoaded
 each P id None full h (Stop s from no_room) = h.failed (Stop s from no_room) NotLoaded
 each P id None full h (Suspend s from no_room) = h.failed (Suspend s from no_room) NotLoaded
 each P id None full h Resume = h.failed Resume NotLoaded

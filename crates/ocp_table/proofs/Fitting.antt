@@ -60,7 +60,7 @@ fits_by m new outbox after e is files fits = subst (λ x. HasPlaces x after) (sy
 
 -- a request knows whether all places are taken
 pub knows_request : (d : D.Directive) (full there : Bool) → there ≡ full → Knows full (directive_of d there)
-knows_request (directive.Activate arguments) full there is = tt
+knows_request (directive.Activate budget arguments) full there is = tt
 knows_request (directive.Stop s from) full there is = is
 knows_request (directive.Suspend s from) full there is = is
 knows_request directive.Resume full there is = tt

@@ -31,7 +31,7 @@ use Rattle.ocp_table.proofs.ContentsLemmas.{insert-same, IsDistinct-with_value, 
 
 -- what a request comes to
 abbrev IsOfRequest : Decision → Type 0
-IsOfRequest (Loads image) = ⊥
+IsOfRequest (Loads profile image) = ⊥
 IsOfRequest Unloads = ⊥
 IsOfRequest (Steps pool) = ⊥
 IsOfRequest decision = Unit {0}
@@ -48,9 +48,9 @@ of_pended true p = tt
 of_pended false p = tt
 
 of_request : (d : D.Directive) (no_place : Bool) (s : Status) (p : Pending) (there : ℕ) → IsOfRequest (transition (directive_of d no_place) (Some s) p there)
-of_request (directive.Activate arguments) no_place Inactive p there = tt
-of_request (directive.Activate arguments) no_place Running p there = tt
-of_request (directive.Activate arguments) no_place Held p there = tt
+of_request (directive.Activate budget arguments) no_place Inactive p there = tt
+of_request (directive.Activate budget arguments) no_place Running p there = tt
+of_request (directive.Activate budget arguments) no_place Held p there = tt
 of_request (directive.Stop s from) no_place Inactive p there = tt
 of_request (directive.Stop s from) no_place Running p there = of_pended no_place (pending.Stop s from)
 of_request (directive.Stop s from) no_place Held p there = tt
@@ -70,7 +70,7 @@ of_request (directive.Communicate words) no_place Running p there = of_sent word
 of_request (directive.Communicate words) no_place Held p there = of_sent words.now there
 
 absent : (d : D.Directive) (no_place : Bool) → decision_on (directive_of d no_place) None ≡ Fails NotLoaded
-absent (directive.Activate arguments) no_place = refl
+absent (directive.Activate budget arguments) no_place = refl
 absent (directive.Stop s from) no_place = refl
 absent (directive.Suspend s from) no_place = refl
 absent directive.Resume no_place = refl
@@ -93,11 +93,11 @@ absent-unload id m is = ap (λ o. effect_on Unload id o (is_full m)) is
 
 -- whether the table is full is asked by a load alone
 abbrev IsNoLoad : Decision → Type 0
-IsNoLoad (Loads image) = ⊥
+IsNoLoad (Loads profile image) = ⊥
 IsNoLoad decision = Unit {0}
 
 no_load : (e : Decision) → IsOfRequest e → IsNoLoad e
-no_load (Loads image) h = h
+no_load (Loads profile image) h = h
 no_load (Steps pool) h = tt
 no_load Unloads h = tt
 no_load (Changes change) h = tt
@@ -114,7 +114,7 @@ no_load-unload Running p there = tt
 no_load-unload Held p there = tt
 
 same_room : (e : Decision) (id : ℕ) (o : Option Rec) (full : Bool) → IsNoLoad e → effect_by e id o true ≡ effect_by e id o full
-same_room (Loads image) id o full h = absurd h
+same_room (Loads profile image) id o full h = absurd h
 same_room Unloads id o full h = refl
 same_room (Changes change) id o full h = refl
 same_room (Steps pool) id o full h = refl
@@ -165,7 +165,7 @@ same_step pool m n id r here named = same_for (Step pool) m n id r (no_load-step
 
 -- the request table alone decides whether it fails
 table_decides : (e : Decision) (id : ℕ) (o : Option Rec) → IsOfRequest e → failure_by e ≡ failure_of (effect_by e id o true)
-table_decides (Loads image) id o h = absurd h
+table_decides (Loads profile image) id o h = absurd h
 table_decides Unloads id o h = absurd h
 table_decides (Changes change) id o h = refl
 table_decides (Steps pool) id o h = absurd h
@@ -190,7 +190,7 @@ step_decided_by_table pool id r able = step_decides pool id r r.control.status a
 
 -- a change of the record of this procedure, or none
 abbrev IsAbout : ℕ → Effect → Type 0
-IsAbout q (Loaded id image) = ⊥
+IsAbout q (Loaded profile id image) = ⊥
 IsAbout q (Unloaded id) = ⊥
 IsAbout q (Changed id change) = id ≡ q
 IsAbout q Drained = ⊥
@@ -198,14 +198,14 @@ IsAbout q (Kept why) = Unit {0}
 
 -- the record that is there, changed, is all that the effect changed
 pub records_by-held : (m : Records) (id : ℕ) (r : Rec) (e : Effect) → map.get m id ≡ Some r → IsAbout id e → map.insert m id (record_after e r) ≡ records_by e m
-records_by-held m id r (Loaded i image) here is = absurd is
+records_by-held m id r (Loaded profile i image) here is = absurd is
 records_by-held m id r (Unloaded i) here is = absurd is
 records_by-held m id r (Changed i change) here is = sym (ap (λ k. with_change (map.get m k) k change m) is ∙ ap (λ o. with_change o id change m) here)
 records_by-held m id r Drained here is = absurd is
 records_by-held m id r (Kept why) here is = insert-same m id r here
 
 about_request : (e : Decision) (q : ℕ) (o : Option Rec) → IsOfRequest e → IsAbout q (effect_by e q o true)
-about_request (Loads image) q o h = absurd h
+about_request (Loads profile image) q o h = absurd h
 about_request Unloads q o h = absurd h
 about_request (Changes change) q o h = refl
 about_request (Steps pool) q o h = absurd h
@@ -218,7 +218,7 @@ records-after d no_place m n id r new here named is =
 
 -- what it files is all that the effect files
 pub outbox_by-held : (m : Records) (id : ℕ) (r : Rec) (outbox : List Due) (e : Effect) → map.get m id ≡ Some r → IsAbout id e → outbox ++ filed_of_effect e r.control.pending ≡ outbox_by e m outbox
-outbox_by-held m id r outbox (Loaded i image) here is = absurd is
+outbox_by-held m id r outbox (Loaded profile i image) here is = absurd is
 outbox_by-held m id r outbox (Unloaded i) here is = absurd is
 outbox_by-held m id r outbox (Changed i change) here is = sym (ap (λ k. outbox ++ filed_of change (map.get m k)) is ∙ ap (λ o. outbox ++ filed_of change o) here)
 outbox_by-held m id r outbox Drained here is = absurd is

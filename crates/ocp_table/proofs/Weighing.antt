@@ -111,7 +111,7 @@ module _ (f : PendingOrigin → ℕ) where
   ]
 
   pub moves : (change : Change) (c : Control) → due (filed_by_change change c.pending) + silent_by_change change c.pending + entry (control_by change c).pending ≡ entry c.pending + pended_by_change change
-  moves (Started arguments) c = gone c.pending
+  moves (Started budget arguments) c = gone c.pending
   moves (Sent words) c = stays c.pending
   moves (Pended next) c = replaced c.pending next
   moves (Quit why) c = gone c.pending
@@ -151,8 +151,8 @@ module _ (f : PendingOrigin → ℕ) where
 
   -- what is pending afterwards, what was filed, and what was matched in silence, are what was pending and what became so
   pub balance : (effect : Effect) (m : Records) → waiting (records_by effect m) + (due (filed_by effect m) + silent_by effect m) ≡ waiting m + pended_by effect m
-  balance (Loaded id image) m =
-      let put = total-insert entry_in m id (new_record image) in
+  balance (Loaded profile id image) m =
+      let put = total-insert entry_in m id (new_record profile image) in
       let old = due-overtaken_of (get m id) in
       omega (arith, put, old)
   balance (Unloaded id) m =
@@ -168,7 +168,7 @@ module _ (f : PendingOrigin → ℕ) where
 
   -- what a drain takes, and the outbox afterwards, are the outbox and what was filed
   pub files : (effect : Effect) (m : Records) (outbox : List Due) → due (drained_by effect outbox) + due (outbox_by effect m outbox) ≡ due outbox + due (filed_by effect m)
-  files (Loaded id image) m outbox = filed_after outbox (filed_by (Loaded id image) m)
+  files (Loaded profile id image) m outbox = filed_after outbox (filed_by (Loaded profile id image) m)
   files (Unloaded id) m outbox = filed_after outbox (filed_by (Unloaded id) m)
   files (Changed id change) m outbox = filed_after outbox (filed_by (Changed id change) m)
   files Drained m outbox = refl
