@@ -2,9 +2,9 @@
 -- mailbox.
 use Rattle.std.specs.Prelude.{ℕ, ◌+◌, ◌%◌, ◌^◌, ℤ, ◌==◌, if◌then◌else◌, List, drop, slice_get, slice_index, slice_set, unsigned_abs, Option, Some, None, Result, Ok, Err}
 use Rattle.ocp_pool.specs.declared.call.Called.{Called}
-use Rattle.ocp_pool.specs.declared.call.Called.TheVariants.{PoolGet, PoolSet, PoolAdd, NextParam, StepEnd}
+use Rattle.ocp_pool.specs.declared.call.Called.TheVariants.{PoolGet, PoolSet, PoolAdd, NextParam, StepEnd, PoolCompareSet}
 use Rattle.ocp_pool.specs.declared.call.PoolOperation.{PoolOperation}
-use Rattle.ocp_pool.specs.declared.call.PoolOperation.TheVariants.{Set, Add}
+use Rattle.ocp_pool.specs.declared.call.PoolOperation.TheVariants.{Set, Add, CompareSet}
 use Rattle.ocp_pool.specs.declared.call.PoolFault.{PoolFault}
 use Rattle.ocp_pool.specs.declared.call.PoolFault.TheVariants.{BadPoolIndex}
 
@@ -23,15 +23,21 @@ abbrev pub pool_add : ℕ → ℕ → Option ℕ → Option Called
 pool_add r1 r2 (Some old) = Some (PoolAdd r1 r2 ((old + r2) % 2 ^ 64))
 pool_add r1 r2 None = None
 
--- what the call of a number, 1 to 5, does, by R1, R2, the pool's words and the mailbox's words;
+-- call 6: the word at the index R1 becomes R3 where it equals R2
+abbrev pub pool_compare_set : ℕ → ℕ → ℕ → Option ℕ → Option Called
+pool_compare_set r1 r2 r3 (Some old) = Some (PoolCompareSet r1 r2 r3 old)
+pool_compare_set r1 r2 r3 None = None
+
+-- what the call of a number, 1 to 6, does, by R1, R2, R3, the pool's words and the mailbox's words;
 -- none where the index is no pool word's
-abbrev pub engine_call : ℤ → ℕ → ℕ → List ℕ → List ℕ → Option Called
-engine_call number r1 r2 pool mailbox =
+abbrev pub engine_call : ℤ → ℕ → ℕ → ℕ → List ℕ → List ℕ → Option Called
+engine_call number r1 r2 r3 pool mailbox =
     if unsigned_abs number == 1 then pool_get r1 (slice_get pool r1)
     else if unsigned_abs number == 2 then pool_set r1 r2 (slice_get pool r1)
     else if unsigned_abs number == 3 then pool_add r1 r2 (slice_get pool r1)
     else if unsigned_abs number == 4 then Some (NextParam (slice_get mailbox 0))
-    else Some (StepEnd (r1 % 2 ^ 16))
+    else if unsigned_abs number == 5 then Some (StepEnd (r1 % 2 ^ 16))
+    else pool_compare_set r1 r2 r3 (slice_get pool r1)
 
 -- a call that finds no word is the fault BadPoolIndex
 abbrev pub result_of : Option Called → Result Called PoolFault
@@ -49,6 +55,7 @@ number_of (PoolSet index value old) = 2
 number_of (PoolAdd index value new) = 3
 number_of (NextParam word) = 4
 number_of (StepEnd step) = 5
+number_of (PoolCompareSet index expected value old) = 6
 
 -- next_param answers 1 where there was a word
 abbrev pub was_there : Option ℕ → ℕ
@@ -62,6 +69,7 @@ r0_of (PoolSet index value old) = old
 r0_of (PoolAdd index value new) = new
 r0_of (NextParam word) = was_there word
 r0_of (StepEnd step) = 0
+r0_of (PoolCompareSet index expected value old) = old
 
 -- what a call answers in R1, where it writes it
 abbrev pub r1_of : Called → Option ℕ
@@ -72,12 +80,15 @@ r1_of _ = None
 abbrev pub operation_of : Called → Option PoolOperation
 operation_of (PoolSet index value old) = Some (Set index value)
 operation_of (PoolAdd index value new) = Some (Add index value)
+operation_of (PoolCompareSet index expected value old) = Some (CompareSet index expected value)
 operation_of _ = None
 
 -- the pool after an operation
 abbrev pub pool_with : PoolOperation → List ℕ → List ℕ
 pool_with (Set index value) pool = slice_set pool index value
 pool_with (Add index value) pool = slice_set pool index ((slice_index pool index + value) % 2 ^ 64)
+pool_with (CompareSet index expected value) pool =
+    if slice_index pool index == expected then slice_set pool index value else pool
 
 -- and after one, if there is one
 abbrev pub pool_after_operation : Option PoolOperation → List ℕ → List ℕ

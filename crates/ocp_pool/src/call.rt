@@ -11,22 +11,54 @@ ghost use Rattle.ocp_pool.specs.Call.{number_of, r0_of, r1_of, operation_of, fau
 /// | 3 | pool_add | word R1 of the pool = it + R2, modulo 2^64 | the new word | |
 /// | 4 | next_param | the oldest word is taken out of the mailbox | 1, or 0 where it is empty | the word, if any |
 /// | 5 | step_end | a step ends, whose number is R1 modulo 65,536 | 0 | |
+/// | 6 | pool_compare_set | word R1 of the pool = R3, where it equals R2 | the word before | |
+///
+/// Call 6 is one of profile Two alone.
 #[derive(Clone, Copy)]
 pub enum Called {
-    PoolGet { index: u64, word: u64 },
-    PoolSet { index: u64, value: u64, old: u64 },
-    PoolAdd { index: u64, value: u64, new: u64 },
+    PoolGet {
+        index: u64,
+        word: u64,
+    },
+    PoolSet {
+        index: u64,
+        value: u64,
+        old: u64,
+    },
+    PoolAdd {
+        index: u64,
+        value: u64,
+        new: u64,
+    },
     NextParam(Option<u64>),
     StepEnd(u16),
+    PoolCompareSet {
+        index: u64,
+        expected: u64,
+        value: u64,
+        old: u64,
+    },
 }
 
 /// What a call does to the pool.
 #[derive(Clone, Copy)]
 pub enum PoolOperation {
     /// The word at the index becomes the value.
-    Set { index: u64, value: u64 },
+    Set {
+        index: u64,
+        value: u64,
+    },
     /// The value is added to the word at the index, modulo 2^64.
-    Add { index: u64, value: u64 },
+    Add {
+        index: u64,
+        value: u64,
+    },
+    /// The word at the index becomes the value where it equals what is expected.
+    CompareSet {
+        index: u64,
+        expected: u64,
+        value: u64,
+    },
 }
 
 /// Why an engine call is refused. Nothing changed.
@@ -37,7 +69,7 @@ pub enum PoolFault {
 }
 
 impl Called {
-    /// The number of the call, 1 to 5.
+    /// The number of the call, 1 to 6.
     pub fn number(self) -> u8
         ensures { result ≡ number_of self }
     {
@@ -47,6 +79,7 @@ impl Called {
             Called::PoolAdd { .. } => 3,
             Called::NextParam(_) => 4,
             Called::StepEnd(_) => 5,
+            Called::PoolCompareSet { .. } => 6,
         }
     }
 
@@ -56,7 +89,7 @@ impl Called {
     {
         match self {
             Called::PoolGet { word, .. } => word,
-            Called::PoolSet { old, .. } => old,
+            Called::PoolSet { old, .. } | Called::PoolCompareSet { old, .. } => old,
             Called::PoolAdd { new, .. } => new,
             Called::NextParam(Some(_)) => 1,
             Called::NextParam(None) | Called::StepEnd(_) => 0,
@@ -80,6 +113,16 @@ impl Called {
         match self {
             Called::PoolSet { index, value, .. } => Some(PoolOperation::Set { index, value }),
             Called::PoolAdd { index, value, .. } => Some(PoolOperation::Add { index, value }),
+            Called::PoolCompareSet {
+                index,
+                expected,
+                value,
+                ..
+            } => Some(PoolOperation::CompareSet {
+                index,
+                expected,
+                value,
+            }),
             _ => None,
         }
     }

@@ -1,9 +1,10 @@
 //! The engine calls.
-ghost use Rattle.std.specs.Prelude.{◌≡◌, ◌<◌, true, IfOk, OnErr};
+ghost use Rattle.std.specs.Prelude.{◌≡◌, ◌<◌, true, IfOk, OnErr, slice_get};
 ghost use Rattle.ocp_loader.specs.Image.{is_engine_call};
+ghost use Rattle.ocp_profile.specs.declared.profile.Profile.TheVariants.{Two};
 ghost use Rattle.bpf_step.specs.Machine.{read};
 ghost use Rattle.bpf_step.specs.Calls.{state_after_engine_call};
-ghost use Rattle.ocp_pool.specs.Call.{r0_of, r1_of, engine_call, result_of, pool_after, mailbox_after, pool_by, mailbox_by};
+ghost use Rattle.ocp_pool.specs.Call.{r0_of, r1_of, engine_call, result_of, pool_after, mailbox_after, pool_by, mailbox_by, pool_compare_set};
 
 use crate::call::{Called, PoolFault};
 use crate::mailbox::Mailbox;
@@ -11,16 +12,39 @@ use crate::pool::Pool;
 use bpf_step::{MAX_SLOTS, Machine};
 use std::alloc::Allocator;
 
+/// Call 6: writes the word at the index where it equals what is expected.
+fn compare_set<A: Allocator>(
+    pool: &mut Pool<A>,
+    index: u64,
+    expected: u64,
+    value: u64,
+) -> Option<Called>
+    ensures result { result ≡ pool_compare_set index expected value (slice_get pool.old index) }
+    ensures pool { pool.new ≡ pool_by result pool.old }
+{
+    let old = pool.get(index)?;
+    if old == expected {
+        pool.set(index as usize, value);
+    }
+    Some(Called::PoolCompareSet {
+        index,
+        expected,
+        value,
+        old,
+    })
+}
+
 /// What the call of a number does, with what it does to pool and mailbox.
 fn call_of<A: Allocator>(
     number: i32,
     r1: u64,
     r2: u64,
+    r3: u64,
     pool: &mut Pool<A>,
     mailbox: &mut Mailbox,
 ) -> Option<Called>
-    requires { is_engine_call number ≡ true }
-    ensures result { result ≡ engine_call number r1 r2 pool.old mailbox.old }
+    requires { is_engine_call Two number ≡ true }
+    ensures result { result ≡ engine_call number r1 r2 r3 pool.old mailbox.old }
     ensures pool { pool.new ≡ pool_by result pool.old }
     ensures mailbox { mailbox.new ≡ mailbox_by result mailbox.old }
 {
@@ -48,12 +72,13 @@ fn call_of<A: Allocator>(
             })
         }
         4 => Some(Called::NextParam(mailbox.take())),
-        _ => Some(Called::StepEnd((r1 % 0x1_0000) as u16)),
+        5 => Some(Called::StepEnd((r1 % 0x1_0000) as u16)),
+        _ => compare_set(pool, r1, r2, r3),
     }
 }
 
 /// Does an engine call: R0, and R1 where the call writes it, get its answer, every other register stays, and the place
-/// moves one slot on. It refuses with BadPoolIndex where R1 is no index of the pool at a call 1 to 3; then nothing
+/// moves one slot on. It refuses with BadPoolIndex where R1 is no index of the pool at a call 1 to 3 or 6; then nothing
 /// changes.
 pub fn engine_call<A: Allocator, B: Allocator>(
     number: i32,
@@ -61,10 +86,11 @@ pub fn engine_call<A: Allocator, B: Allocator>(
     pool: &mut Pool<B>,
     mailbox: &mut Mailbox,
 ) -> Result<Called, PoolFault>
-    requires number { is_engine_call number ≡ true }
+    requires number { is_engine_call Two number ≡ true }
     requires place { machine.old.place < MAX_SLOTS }
     ensures result { result ≡ result_of
-        (engine_call number (read machine.old 1) (read machine.old 2) pool.old mailbox.old) }
+        (engine_call number (read machine.old 1) (read machine.old 2) (read machine.old 3)
+        pool.old mailbox.old) }
     ensures machine { IfOk result (λ called.
         machine.new ≡ state_after_engine_call machine.old (r0_of called) (r1_of called)) }
     ensures pool { IfOk result (λ called. pool.new ≡ pool_after called pool.old) }
@@ -74,7 +100,14 @@ pub fn engine_call<A: Allocator, B: Allocator>(
     ensures mailbox_kept { OnErr result (mailbox.new ≡ mailbox.old) }
 {
     let registers = machine.registers();
-    match call_of(number, registers[1], registers[2], pool, mailbox) {
+    match call_of(
+        number,
+        registers[1],
+        registers[2],
+        registers[3],
+        pool,
+        mailbox,
+    ) {
         Some(called) => {
             machine.finish_call(called.r0(), called.r1());
             Ok(called)
