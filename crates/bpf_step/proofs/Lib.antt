@@ -1,3 +1,4 @@
+pub mod Addresses
 pub mod Found
 pub mod Framed
 pub mod Keeps

@@ -1,9 +1,11 @@
 //! Laws on machines. The functions do nothing when they run: their contracts are the laws.
-ghost use Rattle.std.specs.Prelude.{◌≡◌, ℕ, List};
+ghost use Rattle.std.specs.Prelude.{◌≡◌, ◌≤◌, ℕ, List, [], length, Option};
+ghost use Rattle.ocp_profile.specs.declared.profile.Profile.{Profile};
 ghost use Rattle.bpf_types.specs.declared.line.Line.{Line};
 ghost use Rattle.ocp_loader.specs.Admitted.{IsAdmitted, IsAdmittedAs};
 ghost use Rattle.ocp_loader.specs.Places.{IsAt};
-ghost use Rattle.bpf_step.specs.Machine.{State};
+ghost use Rattle.bpf_step.specs.Machine.{State, Next, started, restarted, HasMemoryOf};
+ghost use Rattle.bpf_step.specs.Calls.{state_after_engine_call};
 ghost use Rattle.bpf_step.specs.Step.{one_step, step};
 ghost use Rattle.bpf_step.specs.Reach.{Reaches, IsFound, IsFramed};
 
@@ -11,11 +13,12 @@ use ocp_loader::{
     faults_are_of_images_that_may_not_be_run, images_begin_with_an_instruction,
     lines_stand_at_their_places, places_lead_to_places,
 };
+use ocp_regions::{cleared_memory_is_the_first_one, stores_keep_the_addresses};
 
 /// The step of an admitted image is that of the line whose octets stand at the place.
 pub fn steps_are_those_of_the_lines()
-    ensures { (image : List ℕ) (lines : List Line) (s : State) (l : Line) →
-        IsAdmittedAs image lines → IsAt lines s.place l → one_step image s ≡ step l s }
+    ensures { (profile : Profile) (image : List ℕ) (lines : List Line) (s : State) (l : Line) →
+        IsAdmittedAs profile image lines → IsAt lines s.place l → one_step image s ≡ step l s }
 {
     lines_stand_at_their_places();
 }
@@ -23,7 +26,8 @@ pub fn steps_are_those_of_the_lines()
 /// The machine of an admitted image never meets an undefined opcode, a place outside the code or the second half of a
 /// wide load, whatever it runs and whatever the engine answers.
 pub fn instructions_are_always_found()
-    ensures { (image : List ℕ) (s : State) → IsAdmitted image → Reaches image s → IsFound image s }
+    ensures { (profile : Profile) (image : List ℕ) (s : State) →
+        IsAdmitted profile image → Reaches image s → IsFound image s }
 {
     images_begin_with_an_instruction();
     faults_are_of_images_that_may_not_be_run();
@@ -33,7 +37,30 @@ pub fn instructions_are_always_found()
 /// R10 of such a machine is 0x10001000 less 512 for each open local call, of which there are at most seven, and so is
 /// each saved one.
 pub fn r10_is_the_frame_pointer_of_the_depth()
-    ensures { (image : List ℕ) (s : State) → IsAdmitted image → Reaches image s → IsFramed s }
+    ensures { (profile : Profile) (image : List ℕ) (s : State) →
+        IsAdmitted profile image → Reaches image s → IsFramed s }
 {
     lines_stand_at_their_places();
+}
+
+/// A machine of a profile that is started anew is as a new one of that profile: nothing is left of what it did.
+pub fn machines_started_anew_are_as_new()
+    ensures new { (profile : Profile) (before : List ℕ) → length before ≤ 256 →
+        HasMemoryOf profile (started profile before) }
+    ensures again { (profile : Profile) (arguments : List ℕ) (s : State) → HasMemoryOf profile s →
+        restarted arguments s ≡ started profile arguments }
+    ensures first { (profile : Profile) (arguments : List ℕ) →
+        restarted arguments (started profile []) ≡ started profile arguments }
+{
+    cleared_memory_is_the_first_one();
+}
+
+/// Whatever a machine does, it keeps which addresses there are: so it stays one of its profile.
+pub fn machines_keep_their_addresses()
+    ensures stepped { (profile : Profile) (image : List ℕ) (s t : State) → HasMemoryOf profile s →
+        one_step image s ≡ Next t → HasMemoryOf profile t }
+    ensures answered { (profile : Profile) (s : State) (r0 : ℕ) (r1 : Option ℕ) →
+        HasMemoryOf profile s → HasMemoryOf profile (state_after_engine_call s r0 r1) }
+{
+    stores_keep_the_addresses();
 }

@@ -2,6 +2,7 @@
 use Rattle.std.proofs.Common.{◌≡◌, ◌≤◌, ℕ, zero, suc, ◌+◌, ◌-◌, ◌%◌, ◌^◌, List, [], ◌∷◌, ◌++◌, length, map, replicate, Option, Some, None, Result, Ok, Err, Bool, true, false, ◌&&◌, cond, refl, sym, ap, ◌∙◌, arith, length-append}
 use Rattle.std.specs.Prelude.{is_some, slice_get, nat_lt, if◌then◌else◌, not}
 use Rattle.std.proofs.lemmas.List.{length-replicate}
+use Rattle.std.proofs.lemmas.Bool.Decides.{nat_tests}
 use Rattle.std.specs.Ordering.{nat_cmp}
 use Rattle.std.specs.Cmp.{nat_cmp_total}
 use Rattle.std.specs.FinMap.{from_entries, entries, find, get, insert, get-entries, get-from_entries, get-insert, same_map, nat_cmp-IsAntisymmetric}
@@ -133,7 +134,7 @@ stored_if : (there met : Bool) (m new written : Octets) → (if not there then E
 stored_if true true m new written e = absurd cc
 stored_if true false m new written e = (refl, same_Ok written new e)
   where
-    same_Ok : (a b : Octets) → Ok {E = AccessFault} a ≡ Ok b → a ≡ b
+    same_Ok : (a b : Octets) → ◌≡◌ {A = Result Octets AccessFault} (Ok a) (Ok b) → a ≡ b
     same_Ok a b e = cc
 stored_if false met m new written e = absurd cc
 
@@ -147,11 +148,11 @@ pub cleared_zeros : (profile : Profile) → cleared (zeros profile) ≡ zeros pr
 unfolding zeros
 cleared_zeros profile =
     sym (cleared_regions (replicate 4096 0) (replicate 256 0) (replicate (work_octets profile) 0))
-    ∙ zeros_again _ _ _ profile (length-replicate 4096 0) (length-replicate 256 0) (length-replicate (work_octets profile) 0)
+    ∙ zeros_again (replicate 4096 0) (replicate 256 0) (replicate (work_octets profile) 0) profile (length-replicate {A = ℕ} 4096 0) (length-replicate {A = ℕ} 256 0) (length-replicate {A = ℕ} (work_octets profile) 0)
 
 arguments_there : (profile : Profile) → is_some (octets_at (zeros profile) 0x2000_0000 256) ≡ true
 unfolding zeros
-arguments_there profile = ap is_some (read_arguments (replicate 4096 0) (replicate 256 0) (replicate (work_octets profile) 0) 0 256 0x2000_0000 (length-replicate 4096 0) (length-replicate 256 0) (omega (arith, length-replicate {A = ℕ} 256 0)) refl)
+arguments_there profile = ap is_some (read_arguments (replicate 4096 0) (replicate 256 0) (replicate (work_octets profile) 0) 0 256 0x2000_0000 (length-replicate {A = ℕ} 4096 0) (length-replicate {A = ℕ} 256 0) (omega (arith, length-replicate {A = ℕ} 256 0)) refl)
 
 pub cleared_arguments : (profile : Profile) (octets : List ℕ) → length octets ≤ 256 → cleared (with_arguments (zeros profile) octets) ≡ zeros profile
 unfolding with_arguments

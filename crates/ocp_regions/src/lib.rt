@@ -13,4 +13,5 @@ pub mod laws;
 pub mod regions;
 
 pub use fault::AccessFault;
+pub use laws::{cleared_memory_is_the_first_one, stores_keep_the_addresses};
 pub use regions::{ARGUMENT_OCTETS, Regions};
