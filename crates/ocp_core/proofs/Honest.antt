@@ -37,7 +37,7 @@ use Rattle.ocp_world.specs.Requests.{command_effect, command_of, service_effect,
 use Rattle.ocp_world.specs.Drains.{drain_effect}
 use Rattle.ocp_world.specs.After.{effect_of}
 
--- an instruction that is done is that of the record, on this pool
+-- an instruction that is done is that of the record, on this pool; an image is loaded by this profile
 pub record IsNext (o : Option Rec) (pool : List ℕ) (outcome : InstructionOutcome) : Type 0 where
   pub rec : Rec
   pub is : o ≡ Some rec
@@ -48,9 +48,10 @@ abbrev pub IsHonestChange : Option Rec → List ℕ → Change → Type 0
 IsHonestChange o pool (Stepped outcome) = IsNext o pool outcome
 IsHonestChange o pool change = Unit {0}
 
-abbrev pub IsHonest : Records → List ℕ → Effect → Type 0
-IsHonest m pool (Changed id change) = IsHonestChange (get m id) pool change
-IsHonest m pool effect = Unit {0}
+abbrev pub IsHonest : Profile → Records → List ℕ → Effect → Type 0
+IsHonest profile m pool (Loaded by id image) = by ≡ profile
+IsHonest profile m pool (Changed id change) = IsHonestChange (get m id) pool change
+IsHonest profile m pool effect = Unit {0}
 
 -- ---- the request table
 

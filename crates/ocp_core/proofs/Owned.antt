@@ -13,7 +13,7 @@ changed_if_there change (Some r) = Some (record_by change r)
 
 -- the record of one procedure after an effect
 abbrev pub own_by : ℕ → Effect → Option Rec → Option Rec
-own_by q (Loaded id image) o = cond (q == id) (Some (new_record image)) o
+own_by q (Loaded profile id image) o = cond (q == id) (Some (new_record profile image)) o
 own_by q (Unloaded id) o = cond (q == id) None o
 own_by q (Changed id change) o = cond (q == id) (changed_if_there change o) o
 own_by q (Kept why) o = o
@@ -37,7 +37,7 @@ module _ (id : ℕ) (change : Change) (m : Records) (q : ℕ) where
   ] refl
 
 pub get-records_by : (effect : Effect) (m : Records) (q : ℕ) → map.get (records_by effect m) q ≡ own_by q effect (map.get m q)
-get-records_by (Loaded id image) m q = get-insert m id (new_record image) q
+get-records_by (Loaded profile id image) m q = get-insert m id (new_record profile image) q
 get-records_by (Unloaded id) m q = get-remove m id q
 get-records_by (Changed id change) m q = get-with_change id change m q (map.get m id) refl
 get-records_by (Kept why) m q = refl

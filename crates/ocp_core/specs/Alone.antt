@@ -12,8 +12,8 @@ use Rattle.ocp_world.specs.World.{Event}
 use Rattle.ocp_world.specs.Replay.{replay}
 use Rattle.ocp_core.specs.Own.{Own, Start, Local, Call, own_events, image_after}
 
--- a start begins anew, with the work region that there is; an instruction is the image's at the machine's place; an engine call puts
--- its answers in, and the place goes one slot on
+-- a start begins anew, with a work region as large as before; an instruction is the image's at the
+-- machine's place; an engine call puts its answers in, and the place goes one slot on
 abbrev pub state_by : List ℕ → Own → State → State
 state_by image (Start arguments) s = restarted arguments s
 state_by image Local s = machine_after (one_step image s) s
@@ -41,4 +41,5 @@ alone_after profile apid words es id =
 abbrev pub IsFactored : Type 0
 IsFactored =
     (profile : Profile) (apid words : ℕ) (es : List Event) (id : ℕ) →
-    machine_of (get (replay profile apid words es).records id) ≡ alone_after profile apid words es id
+    machine_of (get (replay profile apid words es).records id) ≡
+    alone_after profile apid words es id

@@ -8,8 +8,9 @@ use Rattle.ocp_table.specs.Effects.{Effect, Loaded, Unloaded, Changed, Change, S
 use Rattle.ocp_world.specs.World.{Event}
 use Rattle.ocp_core.specs.History.{history, gather}
 
--- it was started with arguments, whatever its budget; it did an instruction that needs no engine; or it made the engine
--- call of this number, and was answered this in R0, and in R1 where the call writes it
+-- it was started with arguments, whatever its budget; it did an instruction that needs no engine;
+-- or it made the engine call of this number, and was answered this in R0, and in R1 where the call
+-- writes it
 pub data Own : Type 0 where
   Start : List ℕ → Own
   Local : Own
