@@ -10,7 +10,7 @@ use Rattle.ocp_core.specs.History.{history_from, gather}
 use Rattle.ocp_core.proofs.Honest.{IsHonest, honest}
 
 -- two gatherings at once
-pub carried : {S T : Type 0} (add : table.Effect → S → S) (add' : table.Effect → T → T) (P : World → S → T → Type 0) → ((w : World) (s : S) (t : T) (effect : Effect) → IsHonest w.records w.pool effect.on_records → P w s t → P (world_after effect w) (add effect.on_records s) (add' effect.on_records t)) → (w : World) (s : S) (t : T) (es : List Event) → P w s t → P (replay_from w es) (gather add s (history_from w es)) (gather add' t (history_from w es))
+pub carried : {S T : Type 0} (add : table.Effect → S → S) (add' : table.Effect → T → T) (P : World → S → T → Type 0) → ((w : World) (s : S) (t : T) (effect : Effect) → IsHonest w.profile w.records w.pool effect.on_records → P w s t → P (world_after effect w) (add effect.on_records s) (add' effect.on_records t)) → (w : World) (s : S) (t : T) (es : List Event) → P w s t → P (replay_from w es) (gather add s (history_from w es)) (gather add' t (history_from w es))
 carried add add' P step w s t [] p = p
 carried add add' P step w s t (e ∷ es) p =
     carried add add' P step (world_after (effect_of w e) w) (add (effect_of w e).on_records s) (add' (effect_of w e).on_records t) es

@@ -69,7 +69,7 @@ module _ (time : ℕ) where
   gives_at_step_end (pending.Suspend s from) k = elim (matches s k) as (λ b. gives (cond b (completed from) []) ≡ true) [ true ↦ gives_completed from | false ↦ refl ]
 
   gives_change : (change : Change) (p : Pending) → gives (filed_by_change change p) ≡ true
-  gives_change (Started arguments) p = gives_overtaken p
+  gives_change (Started budget arguments) p = gives_overtaken p
   gives_change (Pended next) p = gives_overtaken p
   gives_change (Quit cause) p = gives_overtaken p
   gives_change (Stepped Ended) p = gives_overtaken p
@@ -91,7 +91,7 @@ module _ (time : ℕ) where
   gives_filed outbox dues p q = list_all-append (gives_one_report time) outbox dues ∙ ap (λ b. b && gives dues) p ∙ q
 
   gives_outbox : (effect : table.Effect) (m : Records) (outbox : List Due) → gives outbox ≡ true → gives (outbox_by effect m outbox) ≡ true
-  gives_outbox (Loaded id image) m outbox is = gives_filed outbox _ is (gives_gone (get m id))
+  gives_outbox (Loaded profile id image) m outbox is = gives_filed outbox _ is (gives_gone (get m id))
   gives_outbox (Unloaded id) m outbox is = gives_filed outbox _ is (gives_gone (get m id))
   gives_outbox (Changed id change) m outbox is = gives_filed outbox _ is (gives_of change (get m id))
   gives_outbox Drained m outbox is = refl
@@ -211,7 +211,7 @@ module _ (f : ℕ → ℕ) where
 
   -- an event that is no drain leaves no report of the outbox
   undrained : (w : World) (effect : table.Effect) → IsNumbered w effect → 0 ≡ due at (drained_by effect w.outbox)
-  undrained w (Loaded id image) is = refl
+  undrained w (Loaded profile id image) is = refl
   undrained w (Unloaded id) is = refl
   undrained w (Changed id change) is = refl
   undrained w Drained is = absurd is

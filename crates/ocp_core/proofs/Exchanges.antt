@@ -25,13 +25,15 @@ use Rattle.ocp_pool.specs.declared.call.Called.{Called as Call}
 use Rattle.ocp_pool.specs.Call.{engine_call}
 use Rattle.ocp_table.specs.declared.answers.InstructionOutcome.{InstructionOutcome}
 use Rattle.ocp_table.specs.declared.answers.InstructionOutcome.TheVariants.{Broke, Ran, Called, Ended, Faulted}
+use Rattle.ocp_table.specs.declared.answers.TheConstants.{BUDGET_SPENT}
+use Rattle.ocp_table.specs.Budgets.{is_spent}
 use Rattle.ocp_table.specs.Records.{Rec, Records}
 use Rattle.ocp_table.specs.Effects as table
 use Rattle.ocp_table.specs.Effects.{Changed, Kept, Stepped, Failed, records_by, pool_by, filed_by, filed_of, outbox_by, step_outcome}
 use Rattle.obcp_types.specs.declared.pending.Due.{Due}
 use Rattle.ocp_table.specs.RequestTable as directive
 use Rattle.ocp_table.specs.RequestTable.{transition}
-use Rattle.ocp_table.specs.Deciding.{outcome_in, outcome_of, outcome_of_call, effect_in, effect_by, effect_on, effect_of_step, is_full}
+use Rattle.ocp_table.specs.Deciding.{outcome_in, outcome_unheld, outcome_of, outcome_of_call, effect_in, effect_by, effect_on, effect_of_step, is_full}
 use Rattle.ocp_debug.specs.declared.trace.Trace.{Trace}
 use Rattle.ocp_debug.specs.Traces.{traces_by, traces_by_change}
 use Rattle.ocp_world.specs.World.{World, Event, Request, Step, Debug, Drain}
@@ -60,7 +62,7 @@ made w (e ∷ es) = traces_made w e ++ made (after w e).world es
 command-retraced : (w : World) (traces : List Trace) (request : Command) (origin : Origin) → command_effect request origin (retraced w traces) ≡ command_effect request origin w
 command-retraced w traces (command.Load id code) origin = refl
 command-retraced w traces (command.Unload id) origin = refl
-command-retraced w traces (command.Activate id arguments) origin = refl
+command-retraced w traces (command.Activate id budget arguments) origin = refl
 command-retraced w traces (command.Stop id step) origin = refl
 command-retraced w traces (command.Suspend id step) origin = refl
 command-retraced w traces (command.Resume id) origin = refl
@@ -73,7 +75,7 @@ service-retraced w traces (Ok request) origin = command-retraced w traces reques
 service-retraced w traces (Err fault) origin = refl
 
 request-retraced : (w : World) (traces : List Trace) (r : Result Telecommand TcFault) (time : ℕ) → request_effect r time (retraced w traces) ≡ request_effect r time w
-request-retraced w traces (Ok tc) time = service-retraced w traces (command_of tc) (origin_of tc time)
+request-retraced w traces (Ok tc) time = service-retraced w traces (command_of w.profile tc) (origin_of tc time)
 request-retraced w traces (Err (Rejected rejection request)) time = refl
 request-retraced w traces (Err (Discarded cause)) time = refl
 
@@ -196,12 +198,17 @@ stable_outcome : (id : ℕ) (l : Outcome) (r : Rec) (p p' : List ℕ) → IsQuie
 stable_outcome id (Next s) r p p' quiet = refl
 stable_outcome id (Needs need.LastExit) r p p' quiet = refl
 stable_outcome id (Needs (need.Fault fault)) r p p' quiet = refl
-stable_outcome id (Needs (need.Call number)) r p p' quiet = stable_call id (engine_call number (read r.machine 1) (read r.machine 2) p r.mailbox) _ quiet
+stable_outcome id (Needs (need.Call number)) r p p' quiet = stable_call id (engine_call number (read r.machine 1) (read r.machine 2) (read r.machine 3) p r.mailbox) _ quiet
 stable_outcome id NoInstruction r p p' quiet = refl
 
-stable_held : (id : ℕ) (b : Bool) (r : Rec) (p p' : List ℕ) → IsQuiet id (turn_of (cond b (Some Broke) (outcome_of (one_step r.image r.machine) r.machine p r.mailbox))) → turn_of (cond b (Some Broke) (outcome_of (one_step r.image r.machine) r.machine p' r.mailbox)) ≡ turn_of (cond b (Some Broke) (outcome_of (one_step r.image r.machine) r.machine p r.mailbox))
+-- a spent budget is a fault whatever the pool
+stable_unheld : (id : ℕ) (b : Bool) (r : Rec) (p p' : List ℕ) → IsQuiet id (turn_of (cond b (Some (Faulted BUDGET_SPENT)) (outcome_of (one_step r.image r.machine) r.machine p r.mailbox))) → turn_of (cond b (Some (Faulted BUDGET_SPENT)) (outcome_of (one_step r.image r.machine) r.machine p' r.mailbox)) ≡ turn_of (cond b (Some (Faulted BUDGET_SPENT)) (outcome_of (one_step r.image r.machine) r.machine p r.mailbox))
+stable_unheld id true r p p' quiet = refl
+stable_unheld id false r p p' quiet = stable_outcome id (one_step r.image r.machine) r p p' quiet
+
+stable_held : (id : ℕ) (b : Bool) (r : Rec) (p p' : List ℕ) → IsQuiet id (turn_of (cond b (Some Broke) (outcome_unheld r p))) → turn_of (cond b (Some Broke) (outcome_unheld r p')) ≡ turn_of (cond b (Some Broke) (outcome_unheld r p))
 stable_held id true r p p' quiet = refl
-stable_held id false r p p' quiet = stable_outcome id (one_step r.image r.machine) r p p' quiet
+stable_held id false r p p' quiet = stable_unheld id (is_spent r.remaining) r p p' quiet
 
 stable_by : (id : ℕ) (s : Status) (r : Rec) (p p' : List ℕ) → IsQuiet id (turn_by s r p) → turn_by s r p' ≡ turn_by s r p
 stable_by id Inactive r p p' quiet = refl
@@ -336,6 +343,7 @@ module _ (w : World) (i j : ℕ) (apart : i ≢ j) where
   -- the two worlds are the same apart from their traces
   same_worlds : IsQuiet i t ⊎ IsQuiet j u → both' ≡ retraced both both'.traces
   same_worlds quiet = λ k. record {
+    profile = w.profile;
     apid = w.apid;
     records = sym (records-commute i j apart t u w.records) k;
     outbox = sym (outbox-commute i j apart t u quiet w.records w.outbox) k;
@@ -378,6 +386,7 @@ module _ (w : World) (i j : ℕ) (apart : i ≢ j) where
 
     worlds : IsSameButTraces w (Step by i) (Step by' j) (replay_from left es) (replay_from right es)
     worlds = record {
+      profile = ap (λ v. v.profile) last-left ∙ sym (ap (λ v. v.profile) last-right);
       apid = ap (λ v. v.apid) last-left ∙ sym (ap (λ v. v.apid) last-right);
       records = ap (λ v. v.records) last-left ∙ sym (ap (λ v. v.records) last-right);
       pool = ap (λ v. v.pool) last-left ∙ sym (ap (λ v. v.pool) last-right);

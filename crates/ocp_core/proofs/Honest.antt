@@ -2,6 +2,7 @@
 use Rattle.std.proofs.Common.{◌≡◌, ℕ, ◌+◌, Bool, true, false, cond, List, [], ◌∷◌, length, Option, Some, None, refl, sym, ap, subst, ◌∙◌}
 use Rattle.std.specs.Prelude.{Result, Ok, Err, nat_le}
 use Rattle.std.specs.FinMap.{get}
+use Rattle.ocp_profile.specs.declared.profile.Profile.{Profile}
 use Rattle.bpf_types.specs.declared.line.Line.{Line}
 use Rattle.pus_fields.specs.declared.fault.TcFault.{TcFault}
 use Rattle.pus_fields.specs.declared.fault.TcFault.TheVariants.{Discarded, Rejected}
@@ -22,7 +23,7 @@ use Rattle.ocp_table.specs.declared.control.Pending.{Pending}
 use Rattle.ocp_table.specs.declared.control.Pending.TheVariants as pending
 use Rattle.ocp_table.specs.declared.answers.InstructionOutcome.{InstructionOutcome}
 use Rattle.ocp_table.specs.Records.{Rec, Records}
-use Rattle.ocp_table.specs.Effects.{Effect, Changed, Change, Stepped, Sent}
+use Rattle.ocp_table.specs.Effects.{Effect, Loaded, Changed, Change, Stepped, Sent}
 use Rattle.ocp_table.specs.RequestTable.{Directive, Load, Unload, Activate, Stop, Suspend, Resume, Abort, Communicate, Step, Decision, Loads, Unloads, Changes, Steps, Fails, transition, sent, pended}
 use Rattle.ocp_table.specs.Deciding.{effect_in, effect_by, effect_of_load, effect_of_step, outcome_in, outcome_at, is_full, status_of, words_of, pending_of}
 use Rattle.ocp_debug.specs.declared.command.Command.TheVariants.{SetBreak, ClearBreak, SetTrace}
@@ -37,7 +38,8 @@ use Rattle.ocp_world.specs.Requests.{command_effect, command_of, service_effect,
 use Rattle.ocp_world.specs.Drains.{drain_effect}
 use Rattle.ocp_world.specs.After.{effect_of}
 
--- an instruction that is done is that of the record, on this pool; an image is loaded by this profile
+-- an instruction that is done is that of the record, on this pool; an image is loaded by this
+-- profile
 pub record IsNext (o : Option Rec) (pool : List ℕ) (outcome : InstructionOutcome) : Type 0 where
   pub rec : Rec
   pub is : o ≡ Some rec
@@ -60,38 +62,40 @@ abbrev IsCalm : Change → Type 0
 IsCalm (Stepped outcome) = ⊥
 IsCalm change = Unit {0}
 
-abbrev IsFair : Option Rec → List ℕ → Decision → Type 0
-IsFair o pool (Changes change) = IsCalm change
-IsFair o pool (Steps words) = (words ≡ pool) × (r : Rec) × (o ≡ Some r) × (r.control.status ≡ Running)
-IsFair o pool decision = Unit {0}
+abbrev IsFair : Profile → Option Rec → List ℕ → Decision → Type 0
+IsFair profile o pool (Loads by image) = by ≡ profile
+IsFair profile o pool (Changes change) = IsCalm change
+IsFair profile o pool (Steps words) = (words ≡ pool) × (r : Rec) × (o ≡ Some r) × (r.control.status ≡ Running)
+IsFair profile o pool decision = Unit {0}
 
-abbrev IsOn : List ℕ → Directive → Type 0
-IsOn pool (Step words) = words ≡ pool
-IsOn pool directive = Unit {0}
+abbrev IsOn : Profile → List ℕ → Directive → Type 0
+IsOn profile pool (Load by image) = by ≡ profile
+IsOn profile pool (Step words) = words ≡ pool
+IsOn profile pool directive = Unit {0}
 
-module _ (pool : List ℕ) where
-  fair_words : (o : Option Rec) (words : List ℕ) (there : ℕ) → IsFair o pool (sent words there)
-  fair_words o words there = elim (nat_le (there + length words) MAX_MAILBOX_WORDS) as (λ b. IsFair o pool (cond b (Changes (Sent words)) (Fails MailboxFull))) [ true ↦ tt | false ↦ tt ]
+module _ (profile : Profile) (pool : List ℕ) where
+  fair_words : (o : Option Rec) (words : List ℕ) (there : ℕ) → IsFair profile o pool (sent words there)
+  fair_words o words there = elim (nat_le (there + length words) MAX_MAILBOX_WORDS) as (λ b. IsFair profile o pool (cond b (Changes (Sent words)) (Fails MailboxFull))) [ true ↦ tt | false ↦ tt ]
 
-  fair_pended : (o : Option Rec) (full : Bool) (p : Pending) → IsFair o pool (pended full p)
+  fair_pended : (o : Option Rec) (full : Bool) (p : Pending) → IsFair profile o pool (pended full p)
   fair_pended o true p = tt
   fair_pended o false p = tt
 
-  fair_pending : (o : Option Rec) (s : ℕ) (from : PendingOrigin) (full : Bool) (p : Pending) (there : ℕ) → IsFair o pool (transition (Suspend s from full) (Some Running) p there)
+  fair_pending : (o : Option Rec) (s : ℕ) (from : PendingOrigin) (full : Bool) (p : Pending) (there : ℕ) → IsFair profile o pool (transition (Suspend s from full) (Some Running) p there)
   fair_pending o s from full pending.Nothing there = fair_pended o full (pending.Suspend s from)
   fair_pending o s from full (pending.Suspend t other) there = fair_pended o full (pending.Suspend s from)
   fair_pending o s from full (pending.Stop t other) there = tt
 
-  fair_of : (r : Rec) (d : Directive) → IsOn pool d → (s : Status) → r.control.status ≡ s → (p : Pending) (there : ℕ) → IsFair (Some r) pool (transition d (Some s) p there)
-  fair_of r (Load image) on Inactive is p there = tt
-  fair_of r (Load image) on Running is p there = tt
-  fair_of r (Load image) on Held is p there = tt
+  fair_of : (r : Rec) (d : Directive) → IsOn profile pool d → (s : Status) → r.control.status ≡ s → (p : Pending) (there : ℕ) → IsFair profile (Some r) pool (transition d (Some s) p there)
+  fair_of r (Load by image) on Inactive is p there = tt
+  fair_of r (Load by image) on Running is p there = tt
+  fair_of r (Load by image) on Held is p there = tt
   fair_of r Unload on Inactive is p there = tt
   fair_of r Unload on Running is p there = tt
   fair_of r Unload on Held is p there = tt
-  fair_of r (Activate arguments) on Inactive is p there = tt
-  fair_of r (Activate arguments) on Running is p there = tt
-  fair_of r (Activate arguments) on Held is p there = tt
+  fair_of r (Activate budget arguments) on Inactive is p there = tt
+  fair_of r (Activate budget arguments) on Running is p there = tt
+  fair_of r (Activate budget arguments) on Held is p there = tt
   fair_of r (Stop k from full) on Inactive is p there = tt
   fair_of r (Stop k from full) on Running is p there = fair_pended (Some r) full (pending.Stop k from)
   fair_of r (Stop k from full) on Held is p there = tt
@@ -111,11 +115,11 @@ module _ (pool : List ℕ) where
   fair_of r (Step words) on Running is p there = (on, r, refl, is)
   fair_of r (Step words) on Held is p there = tt
 
-  fair : (o : Option Rec) (d : Directive) → IsOn pool d → IsFair o pool (transition d (status_of o) (pending_of o) (words_of o))
+  fair : (o : Option Rec) (d : Directive) → IsOn profile pool d → IsFair profile o pool (transition d (status_of o) (pending_of o) (words_of o))
   fair (Some r) d on = fair_of r d on r.control.status refl r.control.pending (length r.mailbox)
-  fair None (Load image) on = tt
+  fair None (Load by image) on = on
   fair None Unload on = tt
-  fair None (Activate arguments) on = tt
+  fair None (Activate budget arguments) on = tt
   fair None (Stop k from full) on = tt
   fair None (Suspend k from full) on = tt
   fair None Resume on = tt
@@ -125,13 +129,13 @@ module _ (pool : List ℕ) where
 
 -- ---- the effect of a decision
 
-module _ (m : Records) (pool : List ℕ) (id : ℕ) where
-  honest_load : (full : Bool) (result : Result (List (Option Line)) LoadFault) (image : List ℕ) → IsHonest m pool (effect_of_load full result id image)
-  honest_load true result image = tt
-  honest_load false (Ok lines) image = tt
-  honest_load false (Err fault) image = tt
+module _ (profile : Profile) (m : Records) (pool : List ℕ) (id : ℕ) where
+  honest_load : (full : Bool) (by : Profile) (result : Result (List (Option Line)) LoadFault) (image : List ℕ) → by ≡ profile → IsHonest profile m pool (effect_of_load full result by id image)
+  honest_load true by result image is = tt
+  honest_load false by (Ok lines) image is = is
+  honest_load false by (Err fault) image is = tt
 
-  honest_step : (r : Rec) → get m id ≡ Some r → r.control.status ≡ Running → (o : Option InstructionOutcome) → outcome_in r pool ≡ o → IsHonest m pool (effect_of_step o id)
+  honest_step : (r : Rec) → get m id ≡ Some r → r.control.status ≡ Running → (o : Option InstructionOutcome) → outcome_in r pool ≡ o → IsHonest profile m pool (effect_of_step o id)
   honest_step r here is (Some outcome) e = record { rec = r; is = here; runs = is; next = e }
   honest_step r here is None e = tt
 
@@ -139,59 +143,62 @@ module _ (m : Records) (pool : List ℕ) (id : ℕ) where
   honest_change o (Stepped outcome) calm = absurd calm
   honest_change o change calm = tt
 
-  honest_by : (o : Option Rec) → get m id ≡ o → (full : Bool) (d : Decision) → IsFair o pool d → IsHonest m pool (effect_by d id o full)
-  honest_by o here full (Loads image) h = honest_load full (load_result image) image
+  honest_by : (o : Option Rec) → get m id ≡ o → (full : Bool) (d : Decision) → IsFair profile o pool d → IsHonest profile m pool (effect_by d id o full)
+  honest_by o here full (Loads by image) h = honest_load full by (load_result by image) image h
   honest_by o here full Unloads h = tt
   honest_by o here full (Changes change) h = honest_change (get m id) change h
   honest_by o here full (Steps words) h =
       let same : outcome_at o words ≡ outcome_in h.1 pool = ap (λ x. outcome_at x words) h.2 ∙ ap (outcome_in h.1) h.0 in
-      subst (λ x. IsHonest m pool (effect_of_step x id)) (sym same) (honest_step h.1 (here ∙ h.2) h.3 (outcome_in h.1 pool) refl)
+      subst (λ x. IsHonest profile m pool (effect_of_step x id)) (sym same) (honest_step h.1 (here ∙ h.2) h.3 (outcome_in h.1 pool) refl)
   honest_by o here full (Fails failure) h = tt
 
-pub honest_in : (m : Records) (pool : List ℕ) (d : Directive) (id : ℕ) → IsOn pool d → IsHonest m pool (effect_in d id m)
-honest_in m pool d id on = honest_by m pool id (get m id) refl (is_full m) _ (fair pool (get m id) d on)
+pub honest_in : (profile : Profile) (m : Records) (pool : List ℕ) (d : Directive) (id : ℕ) → IsOn profile pool d → IsHonest profile m pool (effect_in d id m)
+honest_in profile m pool d id on = honest_by profile m pool id (get m id) refl (is_full m) _ (fair profile pool (get m id) d on)
 
 -- ---- events
 
 module _ (w : World) where
+  abbrev profile : Profile
+  profile = w.profile
+
   abbrev m : Records
   m = w.records
 
   abbrev pool : List ℕ
   pool = w.pool
 
-  honest_command : (request : Command) (origin : Origin) → IsHonest m pool (command_effect request origin w).on_records
-  honest_command (command.Load id code) origin = honest_in m pool (Load code) id tt
-  honest_command (command.Unload id) origin = honest_in m pool Unload id tt
-  honest_command (command.Activate id arguments) origin = honest_in m pool (Activate arguments) id tt
-  honest_command (command.Stop id step) origin = honest_in m pool (Stop step (next_origin origin w) (has_no_place w)) id tt
-  honest_command (command.Suspend id step) origin = honest_in m pool (Suspend step (next_origin origin w) (has_no_place w)) id tt
-  honest_command (command.Resume id) origin = honest_in m pool Resume id tt
-  honest_command (command.Communicate id words) origin = honest_in m pool (Communicate words) id tt
+  honest_command : (request : Command) (origin : Origin) → IsHonest profile m pool (command_effect request origin w).on_records
+  honest_command (command.Load id code) origin = honest_in profile m pool (Load profile code) id refl
+  honest_command (command.Unload id) origin = honest_in profile m pool Unload id tt
+  honest_command (command.Activate id budget arguments) origin = honest_in profile m pool (Activate budget arguments) id tt
+  honest_command (command.Stop id step) origin = honest_in profile m pool (Stop step (next_origin origin w) (has_no_place w)) id tt
+  honest_command (command.Suspend id step) origin = honest_in profile m pool (Suspend step (next_origin origin w) (has_no_place w)) id tt
+  honest_command (command.Resume id) origin = honest_in profile m pool Resume id tt
+  honest_command (command.Communicate id words) origin = honest_in profile m pool (Communicate words) id tt
   honest_command command.Status origin = tt
-  honest_command (command.Abort id) origin = honest_in m pool Abort id tt
+  honest_command (command.Abort id) origin = honest_in profile m pool Abort id tt
 
-  honest_service : (r : Result Command RequestFault) (origin : Origin) → IsHonest m pool (service_effect r origin w).on_records
+  honest_service : (r : Result Command RequestFault) (origin : Origin) → IsHonest profile m pool (service_effect r origin w).on_records
   honest_service (Ok request) origin = honest_command request origin
   honest_service (Err fault) origin = tt
 
-  honest_request : (r : Result Telecommand TcFault) (time : ℕ) → IsHonest m pool (request_effect r time w).on_records
-  honest_request (Ok tc) time = honest_service (command_of tc) (origin_of tc time)
+  honest_request : (r : Result Telecommand TcFault) (time : ℕ) → IsHonest profile m pool (request_effect r time w).on_records
+  honest_request (Ok tc) time = honest_service (command_of profile tc) (origin_of tc time)
   honest_request (Err (Rejected rejection request)) time = tt
   honest_request (Err (Discarded cause)) time = tt
 
-  honest_set : (c : debug.Command) (id : ℕ) (o : Option DebugFault) → IsHonest m pool (commands.effect_by o c id)
+  honest_set : (c : debug.Command) (id : ℕ) (o : Option DebugFault) → IsHonest profile m pool (commands.effect_by o c id)
   honest_set (SetBreak place) id None = tt
   honest_set (ClearBreak place) id None = tt
   honest_set (SetTrace on) id None = tt
   honest_set c id (Some fault) = tt
 
-  honest_drain : (time : ℕ) (due : List Due) → IsHonest m pool (drain_effect time due).on_records
+  honest_drain : (time : ℕ) (due : List Due) → IsHonest profile m pool (drain_effect time due).on_records
   honest_drain time [] = tt
   honest_drain time (d ∷ ds) = tt
 
-pub honest : (w : World) (e : Event) → IsHonest w.records w.pool (effect_of w e).on_records
+pub honest : (w : World) (e : Event) → IsHonest w.profile w.records w.pool (effect_of w e).on_records
 honest w (world.Request by time octets) = honest_request w (telecommand_of w.apid octets) time
-honest w (world.Step by id) = honest_in w.records w.pool (Step w.pool) id refl
+honest w (world.Step by id) = honest_in w.profile w.records w.pool (Step w.pool) id refl
 honest w (world.Debug by id c) = honest_set w c id (commands.fault_on c (get w.records id))
 honest w (world.Drain by time) = honest_drain w time w.outbox

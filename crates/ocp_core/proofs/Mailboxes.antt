@@ -9,7 +9,7 @@ use Rattle.ocp_profile.specs.declared.profile.Profile.{Profile}
 use Rattle.bpf_step.specs.Machine.{read}
 use Rattle.ocp_pool.specs.declared.call.Called.{Called as Call}
 use Rattle.ocp_pool.specs.declared.call.Called.TheVariants.{NextParam}
-use Rattle.ocp_pool.specs.Call.{engine_call, pool_get, pool_set, pool_add, mailbox_after}
+use Rattle.ocp_pool.specs.Call.{engine_call, pool_get, pool_set, pool_add, pool_compare_set, mailbox_after}
 use Rattle.ocp_table.specs.declared.answers.InstructionOutcome.{InstructionOutcome}
 use Rattle.ocp_table.specs.declared.answers.InstructionOutcome.TheVariants.{Called}
 use Rattle.ocp_table.specs.Records.{Rec}
@@ -33,7 +33,7 @@ abbrev IsOldestIf : Option Call → List ℕ → Type 0
 IsOldestIf None mailbox = Unit {0}
 IsOldestIf (Some call) mailbox = IsOldest call mailbox
 
-module _ (number : ℤ) (r1 r2 : ℕ) (pool mailbox : List ℕ) where
+module _ (number : ℤ) (r1 r2 r3 : ℕ) (pool mailbox : List ℕ) where
   oldest_get : (o : Option ℕ) → IsOldestIf (pool_get r1 o) mailbox
   oldest_get None = tt
   oldest_get (Some word) = tt
@@ -46,23 +46,28 @@ module _ (number : ℤ) (r1 r2 : ℕ) (pool mailbox : List ℕ) where
   oldest_add None = tt
   oldest_add (Some word) = tt
 
+  oldest_compare : (o : Option ℕ) → IsOldestIf (pool_compare_set r1 r2 r3 o) mailbox
+  oldest_compare None = tt
+  oldest_compare (Some word) = tt
+
   either : (b : Bool) (x y : Option Call) → IsOldestIf x mailbox → IsOldestIf y mailbox → IsOldestIf (cond b x y) mailbox
   either true x y p q = p
   either false x y p q = q
 
-  gives_oldest : IsOldestIf (engine_call number r1 r2 pool mailbox) mailbox
+  gives_oldest : IsOldestIf (engine_call number r1 r2 r3 pool mailbox) mailbox
   gives_oldest =
       either (unsigned_abs number == 1) _ _ (oldest_get (slice_get pool r1))
       (either (unsigned_abs number == 2) _ _ (oldest_set (slice_get pool r1))
       (either (unsigned_abs number == 3) _ _ (oldest_add (slice_get pool r1))
-      (either (unsigned_abs number == 4) _ _ refl tt)))
+      (either (unsigned_abs number == 4) _ _ refl
+      (either (unsigned_abs number == 6) _ _ (oldest_compare (slice_get pool r1)) tt))))
 
 IsOldest-answered : (r : Rec) (pool : List ℕ) (call : Call) → IsAnswered (Some r) pool call → IsOldest call r.mailbox
 IsOldest-answered r pool call a =
     let same : r ≡ a.calls.rec = (let e = a.calls.is in cc) in
     subst (λ c. IsOldestIf c r.mailbox)
-    (ap (λ (x : Rec). engine_call a.number (read x.machine 1) (read x.machine 2) pool x.mailbox) same ∙ a.given)
-    (gives_oldest a.number (read r.machine 1) (read r.machine 2) pool r.mailbox)
+    (ap (λ (x : Rec). engine_call a.number (read x.machine 1) (read x.machine 2) (read x.machine 3) pool x.mailbox) same ∙ a.given)
+    (gives_oldest a.number (read r.machine 1) (read r.machine 2) (read r.machine 3) pool r.mailbox)
 
 -- ---- the words taken and those left are the words sent
 
@@ -83,14 +88,14 @@ posted_outcome outcome r pool ts ss h is = is
 
 posted_change : (change : Change) (o : Option Rec) (pool ts ss : List ℕ) → IsHonestChange o pool change → IsPosted o ts ss → IsPosted (changed_if_there change o) (taken_by change ts) (sent_by change ss)
 posted_change change None pool ts ss h is = tt
-posted_change (Started arguments) (Some r) pool ts ss h is = refl
+posted_change (Started budget arguments) (Some r) pool ts ss h is = refl
 posted_change (Sent words) (Some r) pool ts ss h is = sym (append_assoc ts r.mailbox words) ∙ ap (λ xs. xs ++ words) is
 posted_change (Stepped outcome) (Some r) pool ts ss h is = posted_outcome outcome r pool ts ss h is
 posted_change change (Some r) pool ts ss h is = is
 
 module _ (q : ℕ) where
-  posted_by : (w : World) (effect : Effect) (ts ss : List ℕ) → IsHonest w.records w.pool effect → IsPosted (get w.records q) ts ss → IsPosted (own_by q effect (get w.records q)) (since_start taken_by q effect ts) (since_start sent_by q effect ss)
-  posted_by w (Loaded id image) ts ss h is = elim (q == id) as (λ b. IsPosted (cond b (Some (new_record image)) (get w.records q)) (cond b [] ts) (cond b [] ss)) [ true ↦ refl | false ↦ is ]
+  posted_by : (w : World) (effect : Effect) (ts ss : List ℕ) → IsHonest w.profile w.records w.pool effect → IsPosted (get w.records q) ts ss → IsPosted (own_by q effect (get w.records q)) (since_start taken_by q effect ts) (since_start sent_by q effect ss)
+  posted_by w (Loaded profile id image) ts ss h is = elim (q == id) as (λ b. IsPosted (cond b (Some (new_record profile image)) (get w.records q)) (cond b [] ts) (cond b [] ss)) [ true ↦ refl | false ↦ is ]
   posted_by w (Unloaded id) ts ss h is = elim (q == id) as (λ b. IsPosted (cond b None (get w.records q)) (cond b [] ts) (cond b [] ss)) [ true ↦ tt | false ↦ is ]
   posted_by w (Changed id change) ts ss h is = elim (q == id) as (λ b. (q == id) ≡ b → IsPosted (cond b (changed_if_there change (get w.records q)) (get w.records q)) (cond b (taken_by change ts) ts) (cond b (sent_by change ss) ss)) [
     | true ↦ λ e. posted_change change (get w.records q) w.pool ts ss (subst (λ k. IsHonestChange (get w.records k) w.pool change) (sym (eqb-true q id e)) h) is

@@ -69,9 +69,9 @@ module _ (w : World) where
   -- ---- requests, instructions and commands
 
   numbered_command : (request : Command) (origin : Origin) → IsNumbered w (command_effect request origin w).on_records
-  numbered_command (command.Load id code) origin = numbered_in (Load code) id tt
+  numbered_command (command.Load id code) origin = numbered_in (Load w.profile code) id tt
   numbered_command (command.Unload id) origin = numbered_in Unload id tt
-  numbered_command (command.Activate id arguments) origin = numbered_in (Activate arguments) id tt
+  numbered_command (command.Activate id budget arguments) origin = numbered_in (Activate budget arguments) id tt
   numbered_command (command.Stop id step) origin = numbered_in (Stop step (next_origin origin w) (has_no_place w)) id (refl, refl)
   numbered_command (command.Suspend id step) origin = numbered_in (Suspend step (next_origin origin w) (has_no_place w)) id (refl, refl)
   numbered_command (command.Resume id) origin = numbered_in Resume id tt
@@ -84,7 +84,7 @@ module _ (w : World) where
   numbered_service (Err why) origin = tt
 
   pub numbered_request : (r : Result Telecommand TcFault) (time : ℕ) → IsNumbered w (request_effect r time w).on_records
-  numbered_request (Ok tc) time = numbered_service (command_of tc) (origin_of tc time)
+  numbered_request (Ok tc) time = numbered_service (command_of w.profile tc) (origin_of tc time)
   numbered_request (Err (Rejected rejection request)) time = tt
   numbered_request (Err (Discarded cause)) time = tt
 
@@ -112,9 +112,9 @@ module _ (n : ℕ) where
   counts_start origin answer effect = inl (refl, omega arith)
 
   counts_command : (w : World) (request : Command) (origin : Origin) → Counts n (command_effect request origin w)
-  counts_command w (command.Load id code) origin = counts_start origin [] (effect_in (Load code) id w.records)
+  counts_command w (command.Load id code) origin = counts_start origin [] (effect_in (Load w.profile code) id w.records)
   counts_command w (command.Unload id) origin = counts_start origin [] (effect_in Unload id w.records)
-  counts_command w (command.Activate id arguments) origin = counts_start origin [] (effect_in (Activate arguments) id w.records)
+  counts_command w (command.Activate id budget arguments) origin = counts_start origin [] (effect_in (Activate budget arguments) id w.records)
   counts_command w (command.Stop id step) origin = counts_start origin [] (effect_in (Stop step (next_origin origin w) (has_no_place w)) id w.records)
   counts_command w (command.Suspend id step) origin = counts_start origin [] (effect_in (Suspend step (next_origin origin w) (has_no_place w)) id w.records)
   counts_command w (command.Resume id) origin = counts_start origin [] (effect_in Resume id w.records)
@@ -127,7 +127,7 @@ module _ (n : ℕ) where
   counts_service w (Err why) origin = inl (refl, omega arith)
 
   counts_request : (w : World) (r : Result Telecommand TcFault) (time : ℕ) → Counts n (request_effect r time w)
-  counts_request w (Ok tc) time = counts_service w (command_of tc) (origin_of tc time)
+  counts_request w (Ok tc) time = counts_service w (command_of w.profile tc) (origin_of tc time)
   counts_request w (Err (Rejected rejection request)) time = inl (refl, omega arith)
   counts_request w (Err (Discarded cause)) time = inl (refl, omega arith)
 

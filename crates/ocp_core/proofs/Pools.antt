@@ -15,17 +15,19 @@ use Rattle.bpf_step.specs.Step.{one_step}
 use Rattle.ocp_pool.specs.declared.call.Called.{Called as Call}
 use Rattle.ocp_pool.specs.declared.call.Called.TheVariants.{NextParam, StepEnd}
 use Rattle.ocp_pool.specs.declared.call.PoolOperation.{PoolOperation}
-use Rattle.ocp_pool.specs.Call.{engine_call, pool_get, pool_set, pool_add, pool_with, pool_after_operation}
+use Rattle.ocp_pool.specs.Call.{engine_call, pool_get, pool_set, pool_add, pool_compare_set, pool_with, pool_after_operation}
 use Rattle.ocp_table.specs.declared.answers.InstructionOutcome.{InstructionOutcome}
 use Rattle.ocp_table.specs.declared.answers.InstructionOutcome.TheVariants.{Broke, Called, Faulted}
+use Rattle.ocp_table.specs.declared.answers.TheConstants.{BUDGET_SPENT}
+use Rattle.ocp_table.specs.Budgets.{is_spent}
 use Rattle.ocp_table.specs.Records.{Rec}
 use Rattle.ocp_table.specs.Effects.{Effect, Changed, Change, Stepped, pool_by, pool_by_change, pool_by_outcome}
 use Rattle.ocp_table.specs.RequestTable.{Step, transition}
-use Rattle.ocp_table.specs.Deciding.{outcome_in, outcome_of, outcome_of_call, effect_on, effect_by, effect_of_step, is_full}
+use Rattle.ocp_table.specs.Deciding.{outcome_in, outcome_unheld, outcome_of, outcome_of_call, effect_on, effect_by, effect_of_step, is_full}
 use Rattle.ocp_world.specs.World.{World, opening}
 use Rattle.ocp_world.specs.Replay.{replay}
 use Rattle.ocp_core.specs.History.{Does}
-use Rattle.ocp_core.specs.Pool.{operation_by, operation_by_change, operation_by_outcome, with_operation, add_operation, operations, pool_from, pool_after, PoolIsOfOperations, IsAnswered, CallsAreAnswered, AnswersWord, CallsAnswerWords, IsOutside, FaultsOutside}
+use Rattle.ocp_core.specs.Pool.{operation_by, operation_by_change, operation_by_outcome, with_operation, add_operation, operations, pool_from, pool_after, PoolIsOfOperations, IsAnswered, CallsAreAnswered, AnswersWord, CallsAnswerWords, is_pool_call, IsOutside, FaultsOutside}
 use Rattle.ocp_core.proofs.Honest.{IsNext, IsHonest, honest_in}
 use Rattle.ocp_core.proofs.Carried.{carried}
 
@@ -60,7 +62,7 @@ pool_is profile apid words es = carried {T = ℕ} add_operation (λ effect t. t)
 
 -- it is that of the record's next instruction
 pub next_of : (w : World) (by id : ℕ) (outcome : InstructionOutcome) → Does w by id outcome → IsNext (get w.records id) w.pool outcome
-next_of w by id outcome is = subst (IsHonest w.records w.pool) is (honest_in w.records w.pool (Step w.pool) id refl)
+next_of w by id outcome is = subst (IsHonest w.profile w.records w.pool) is (honest_in w.profile w.records w.pool (Step w.pool) id refl)
 
 -- and that instruction is done
 does_next : (w : World) (by id : ℕ) (outcome : InstructionOutcome) → IsNext (get w.records id) w.pool outcome → Does w by id outcome
@@ -72,23 +74,27 @@ does_next w by id outcome is =
 -- ---- an engine call that was answered
 
 module _ (r : Rec) (pool : List ℕ) where
-  -- an outcome other than a breakpoint is that of the machine's instruction
+  -- an outcome other than a breakpoint and a spent budget is that of the machine's instruction
   module _ (outcome : InstructionOutcome) where
     abbrev result : Option InstructionOutcome
     result = outcome_of (one_step r.image r.machine) r.machine pool r.mailbox
 
     abbrev IsOfMachine : Type 0
-    IsOfMachine = (breaks_at r.control.pass r.breakpoints r.machine.place ≡ false) × (result ≡ Some outcome)
+    IsOfMachine = (breaks_at r.control.pass r.breakpoints r.machine.place ≡ false) × (is_spent r.remaining ≡ false) × (result ≡ Some outcome)
 
-    not_held : (b : Bool) → breaks_at r.control.pass r.breakpoints r.machine.place ≡ b → (Some Broke ≡ Some outcome → ⊥) → cond b (Some Broke) result ≡ Some outcome → IsOfMachine
-    not_held true is differs e = absurd (differs e)
-    not_held false is differs e = (is, e)
+    unspent : (b : Bool) → is_spent r.remaining ≡ b → (Some (Faulted BUDGET_SPENT) ≡ Some outcome → ⊥) → cond b (Some (Faulted BUDGET_SPENT)) result ≡ Some outcome → (is_spent r.remaining ≡ false) × (result ≡ Some outcome)
+    unspent true is differs e = absurd (differs e)
+    unspent false is differs e = (is, e)
 
-    of_machine : (Some Broke ≡ Some outcome → ⊥) → outcome_in r pool ≡ Some outcome → IsOfMachine
-    of_machine differs e = not_held (breaks_at r.control.pass r.breakpoints r.machine.place) refl differs e
+    not_held : (b : Bool) → breaks_at r.control.pass r.breakpoints r.machine.place ≡ b → (Some Broke ≡ Some outcome → ⊥) → (Some (Faulted BUDGET_SPENT) ≡ Some outcome → ⊥) → cond b (Some Broke) (outcome_unheld r pool) ≡ Some outcome → IsOfMachine
+    not_held true is differs differs_spent e = absurd (differs e)
+    not_held false is differs differs_spent e = (is, unspent (is_spent r.remaining) refl differs_spent e)
+
+    of_machine : (Some Broke ≡ Some outcome → ⊥) → (Some (Faulted BUDGET_SPENT) ≡ Some outcome → ⊥) → outcome_in r pool ≡ Some outcome → IsOfMachine
+    of_machine differs differs_spent e = not_held (breaks_at r.control.pass r.breakpoints r.machine.place) refl differs differs_spent e
 
   abbrev answer_of : ℤ → Option Call
-  answer_of number = engine_call number (read r.machine 1) (read r.machine 2) pool r.mailbox
+  answer_of number = engine_call number (read r.machine 1) (read r.machine 2) (read r.machine 3) pool r.mailbox
 
   answered_call : (call : Call) (c : Option Call) → Some (outcome_of_call c) ≡ Some (Called call) → c ≡ Some call
   answered_call call (Some other) e = cc
@@ -103,9 +109,9 @@ module _ (r : Rec) (pool : List ℕ) where
 
 pub answered : (o : Option Rec) (pool : List ℕ) (call : Call) → IsNext o pool (Called call) → IsAnswered o pool call
 answered o pool call is =
-    let of : IsOfMachine is.rec pool (Called call) = of_machine is.rec pool (Called call) (λ e. cc) is.next in
-    let found = answered_need is.rec pool call (one_step is.rec.image is.rec.machine) of.1 in
-    record { number = found.0; calls = record { rec = is.rec; is = is.is; runs = is.runs; passes = of.0; calls = found.1 }; given = found.2 }
+    let of : IsOfMachine is.rec pool (Called call) = of_machine is.rec pool (Called call) (λ e. cc) (λ e. cc) is.next in
+    let found = answered_need is.rec pool call (one_step is.rec.image is.rec.machine) of.2 in
+    record { number = found.0; calls = record { rec = is.rec; is = is.is; runs = is.runs; passes = of.0; unspent = of.1; calls = found.1 }; given = found.2 }
 
 pub calls_are_answered : CallsAreAnswered
 calls_are_answered profile apid words es by id call does =
@@ -126,7 +132,7 @@ set_gives pool index word value is =
     slice_get-get_or (slice_set pool index new) index 0 (subst (λ n. index < n) (sym (length-set pool index new)) within)
     ∙ ap Some (get_or-set_same pool index new 0 within ∙ ap (λ old. (old + value) % 2 ^ 64) there)
 
-module _ (number : ℤ) (r1 r2 : ℕ) (pool mailbox : List ℕ) where
+module _ (number : ℤ) (r1 r2 r3 : ℕ) (pool mailbox : List ℕ) where
   word_get : (o : Option ℕ) → slice_get pool r1 ≡ o → AnswersWordIf pool (pool_get r1 o)
   word_get None is = tt
   word_get (Some word) is = is
@@ -139,19 +145,24 @@ module _ (number : ℤ) (r1 r2 : ℕ) (pool mailbox : List ℕ) where
   word_add None is = tt
   word_add (Some word) is = set_gives pool r1 word r2 is
 
+  word_compare : (o : Option ℕ) → slice_get pool r1 ≡ o → AnswersWordIf pool (pool_compare_set r1 r2 r3 o)
+  word_compare None is = tt
+  word_compare (Some word) is = is
+
   either : (b : Bool) (x y : Option Call) → AnswersWordIf pool x → AnswersWordIf pool y → AnswersWordIf pool (cond b x y)
   either true x y p q = p
   either false x y p q = q
 
-  gives_word : AnswersWordIf pool (engine_call number r1 r2 pool mailbox)
+  gives_word : AnswersWordIf pool (engine_call number r1 r2 r3 pool mailbox)
   gives_word =
       either (unsigned_abs number == 1) _ _ (word_get (slice_get pool r1) refl)
       (either (unsigned_abs number == 2) _ _ (word_set (slice_get pool r1) refl)
       (either (unsigned_abs number == 3) _ _ (word_add (slice_get pool r1) refl)
-      (either (unsigned_abs number == 4) _ _ tt tt)))
+      (either (unsigned_abs number == 4) _ _ tt
+      (either (unsigned_abs number == 6) _ _ (word_compare (slice_get pool r1) refl) tt))))
 
 answers_word : (o : Option Rec) (pool : List ℕ) (call : Call) → IsAnswered o pool call → AnswersWord pool call
-answers_word o pool call a = subst (AnswersWordIf pool) a.given (gives_word a.number (read a.calls.rec.machine 1) (read a.calls.rec.machine 2) pool a.calls.rec.mailbox)
+answers_word o pool call a = subst (AnswersWordIf pool) a.given (gives_word a.number (read a.calls.rec.machine 1) (read a.calls.rec.machine 2) (read a.calls.rec.machine 3) pool a.calls.rec.mailbox)
 
 pub calls_answer_words : CallsAnswerWords
 calls_answer_words profile apid words es by id call does = answers_word (get (replay profile apid words es).records id) (pool_after words (operations profile apid words es)) call (calls_are_answered profile apid words es by id call does)
@@ -166,11 +177,10 @@ past xs i none = elim (slice_get_cases xs i).1 [
 
 -- a call of this number finds no word
 record FindsNone (k r1 : ℕ) (pool : List ℕ) : Type 0 where
-  first : 1 ≤ k
-  last : k ≤ 3
+  of_pool : is_pool_call k ≡ true
   none : slice_get pool r1 ≡ None
 
-module _ (r1 r2 : ℕ) (pool mailbox : List ℕ) where
+module _ (r1 r2 r3 : ℕ) (pool mailbox : List ℕ) where
   none_get : (o : Option ℕ) → pool_get r1 o ≡ None → o ≡ None
   none_get None e = refl
   none_get (Some word) e = cc
@@ -183,27 +193,42 @@ module _ (r1 r2 : ℕ) (pool mailbox : List ℕ) where
   none_add None e = refl
   none_add (Some word) e = cc
 
-  abbrev by_number : ℕ → Bool → Bool → Bool → Bool → Option Call
-  by_number k a b c d = cond a (pool_get r1 (slice_get pool r1)) (cond b (pool_set r1 r2 (slice_get pool r1)) (cond c (pool_add r1 r2 (slice_get pool r1)) (cond d (Some (NextParam (slice_get mailbox 0))) (Some (StepEnd (r1 % 2 ^ 16))))))
+  none_compare : (o : Option ℕ) → pool_compare_set r1 r2 r3 o ≡ None → o ≡ None
+  none_compare None e = refl
+  none_compare (Some word) e = cc
 
-  finds_none_by : (k : ℕ) (a b c d : Bool) → (k == 1) ≡ a → (k == 2) ≡ b → (k == 3) ≡ c → by_number k a b c d ≡ None → FindsNone k r1 pool
-  finds_none_by k true b c d is _ _ e = record { first = omega (arith, eqb-true k 1 is); last = omega (arith, eqb-true k 1 is); none = none_get (slice_get pool r1) e }
-  finds_none_by k false true c d _ is _ e = record { first = omega (arith, eqb-true k 2 is); last = omega (arith, eqb-true k 2 is); none = none_set (slice_get pool r1) e }
-  finds_none_by k false false true d _ _ is e = record { first = omega (arith, eqb-true k 3 is); last = omega (arith, eqb-true k 3 is); none = none_add (slice_get pool r1) e }
-  finds_none_by k false false false true _ _ _ e = cc
-  finds_none_by k false false false false _ _ _ e = cc
+  abbrev by_number : Bool → Bool → Bool → Bool → Bool → Option Call
+  by_number a b c d f = cond a (pool_get r1 (slice_get pool r1)) (cond b (pool_set r1 r2 (slice_get pool r1)) (cond c (pool_add r1 r2 (slice_get pool r1)) (cond d (Some (NextParam (slice_get mailbox 0))) (cond f (pool_compare_set r1 r2 r3 (slice_get pool r1)) (Some (StepEnd (r1 % 2 ^ 16)))))))
 
-  finds_none : (number : ℤ) → engine_call number r1 r2 pool mailbox ≡ None → FindsNone (unsigned_abs number) r1 pool
-  finds_none number e = finds_none_by (unsigned_abs number) (unsigned_abs number == 1) (unsigned_abs number == 2) (unsigned_abs number == 3) (unsigned_abs number == 4) refl refl refl e
+  finds_none_by : (a b c d f : Bool) → by_number a b c d f ≡ None → ((a || b || c || f) ≡ true) × (slice_get pool r1 ≡ None)
+  finds_none_by true b c d f e = (refl, none_get (slice_get pool r1) e)
+  finds_none_by false true c d f e = (refl, none_set (slice_get pool r1) e)
+  finds_none_by false false true d f e = (refl, none_add (slice_get pool r1) e)
+  finds_none_by false false false true f e = cc
+  finds_none_by false false false false true e = (refl, none_compare (slice_get pool r1) e)
+  finds_none_by false false false false false e = cc
 
-  none_by : (k : ℕ) (a b c d : Bool) → (k == 1) ≡ a → (k == 2) ≡ b → (k == 3) ≡ c → FindsNone k r1 pool → by_number k a b c d ≡ None
-  none_by k true b c d _ _ _ is = ap (pool_get r1) is.none
-  none_by k false true c d _ _ _ is = ap (pool_set r1 r2) is.none
-  none_by k false false true d _ _ _ is = ap (pool_add r1 r2) is.none
-  none_by k false false false d is_1 is_2 is_3 is = absurd (grind (arith, nat_tests, is.first, is.last, is_1, is_2, is_3))
+  finds_none : (number : ℤ) → engine_call number r1 r2 r3 pool mailbox ≡ None → FindsNone (unsigned_abs number) r1 pool
+  finds_none number e =
+      let k = unsigned_abs number in
+      let found = finds_none_by (k == 1) (k == 2) (k == 3) (k == 4) (k == 6) e in
+      record { of_pool = found.0; none = found.1 }
 
-  gives_none : (number : ℤ) → FindsNone (unsigned_abs number) r1 pool → engine_call number r1 r2 pool mailbox ≡ None
-  gives_none number is = none_by (unsigned_abs number) (unsigned_abs number == 1) (unsigned_abs number == 2) (unsigned_abs number == 3) (unsigned_abs number == 4) refl refl refl is
+  none_by : (a b c d f : Bool) → (d ≡ true → f ≡ false) → (a || b || c || f) ≡ true → slice_get pool r1 ≡ None → by_number a b c d f ≡ None
+  none_by true b c d f apart is none = ap (pool_get r1) none
+  none_by false true c d f apart is none = ap (pool_set r1 r2) none
+  none_by false false true d f apart is none = ap (pool_add r1 r2) none
+  none_by false false false true f apart is none = absurd (contrary (sym is ∙ apart refl))
+    where
+      contrary : true ≡ false → ⊥
+      contrary e = cc
+  none_by false false false false true apart is none = ap (pool_compare_set r1 r2 r3) none
+  none_by false false false false false apart is none = cc
+
+  gives_none : (number : ℤ) → FindsNone (unsigned_abs number) r1 pool → engine_call number r1 r2 r3 pool mailbox ≡ None
+  gives_none number is =
+      let k = unsigned_abs number in
+      none_by (k == 1) (k == 2) (k == 3) (k == 4) (k == 6) (λ four. subst (λ n. (n == 6) ≡ false) (sym (eqb-true k 4 four)) refl) is.of_pool is.none
 
 module _ (r : Rec) (pool : List ℕ) where
   no_fault_4 : (fault : MachineFault) → Some (Faulted (fault_number fault)) ≡ Some (Faulted 4) → ⊥
@@ -224,20 +249,20 @@ module _ (r : Rec) (pool : List ℕ) where
 
 outside : (o : Option Rec) (pool : List ℕ) → IsNext o pool (Faulted 4) → IsOutside o pool
 outside o pool is =
-    let of : IsOfMachine is.rec pool (Faulted 4) = of_machine is.rec pool (Faulted 4) (λ e. cc) is.next in
-    let found = outside_need is.rec pool (one_step is.rec.image is.rec.machine) of.1 in
-    let none = finds_none (read is.rec.machine 1) (read is.rec.machine 2) pool is.rec.mailbox found.0 found.2 in
-    record { number = found.0; calls = record { rec = is.rec; is = is.is; runs = is.runs; passes = of.0; calls = found.1 }; first = none.first; last = none.last; outside = past pool (read is.rec.machine 1) none.none }
+    let of : IsOfMachine is.rec pool (Faulted 4) = of_machine is.rec pool (Faulted 4) (λ e. cc) (λ e. cc) is.next in
+    let found = outside_need is.rec pool (one_step is.rec.image is.rec.machine) of.2 in
+    let none = finds_none (read is.rec.machine 1) (read is.rec.machine 2) (read is.rec.machine 3) pool is.rec.mailbox found.0 found.2 in
+    record { number = found.0; calls = record { rec = is.rec; is = is.is; runs = is.runs; passes = of.0; unspent = of.1; calls = found.1 }; of_pool = none.of_pool; outside = past pool (read is.rec.machine 1) none.none }
 
 faults : (o : Option Rec) (pool : List ℕ) → IsOutside o pool → IsNext o pool (Faulted 4)
 faults o pool is =
     let r = is.calls.rec in
-    let none : answer_of r pool is.number ≡ None = gives_none (read r.machine 1) (read r.machine 2) pool r.mailbox is.number (record { first = is.first; last = is.last; none = slice_get_past pool (read r.machine 1) is.outside }) in
+    let none : answer_of r pool is.number ≡ None = gives_none (read r.machine 1) (read r.machine 2) (read r.machine 3) pool r.mailbox is.number (record { of_pool = is.of_pool; none = slice_get_past pool (read r.machine 1) is.outside }) in
     record {
       rec = r;
       is = is.calls.is;
       runs = is.calls.runs;
-      next = ap (λ b. cond b (Some Broke) (outcome_of (one_step r.image r.machine) r.machine pool r.mailbox)) is.calls.passes ∙ ap (λ l. outcome_of l r.machine pool r.mailbox) is.calls.calls ∙ ap (λ c. Some (outcome_of_call c)) none;
+      next = ap (λ b. cond b (Some Broke) (outcome_unheld r pool)) is.calls.passes ∙ ap (λ b. cond b (Some (Faulted BUDGET_SPENT)) (outcome_of (one_step r.image r.machine) r.machine pool r.mailbox)) is.calls.unspent ∙ ap (λ l. outcome_of l r.machine pool r.mailbox) is.calls.calls ∙ ap (λ c. Some (outcome_of_call c)) none;
     }
 
 pub faults_outside : FaultsOutside
