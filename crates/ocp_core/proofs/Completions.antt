@@ -37,7 +37,8 @@ use Rattle.ocp_world.specs.Requests.{has_no_place}
 use Rattle.ocp_world.specs.Drains.{drain_effect}
 use Rattle.ocp_world.specs.After.{effect_of, after, world_after, events_by}
 use Rattle.ocp_world.specs.Replay.{replay_from, replay}
-use Rattle.ocp_core.specs.Outbox.{gather_along, count, is_in, number_in, pended_by, becomes_pending, all_pended, pending_numbers, due_numbers, report_numbers, reported_in, all_reported, unless_asked, silent_at_step_end, silent_by_change, silent_by, silent_in, all_silent, places, gives_one_report, EachStandsOnce, IsReportedOnceAtMost, EachGivesOneReport, PlacesSuffice}
+use Rattle.ocp_core.specs.Outbox.{count, is_in, number_in, pended_by, becomes_pending, all_pended, pending_numbers, due_numbers, report_numbers, reported_in, all_reported, unless_asked, silent_at_step_end, silent_by_change, silent_by, silent_in, all_silent, places, gives_one_report, EachStandsOnce, IsReportedOnceAtMost, EachGivesOneReport, PlacesSuffice}
+use Rattle.ocp_core.proofs.Carried.{carried_along}
 use Rattle.ocp_core.proofs.Numbered.{IsNumberedChange, IsNumbered, numbered_request, numbered_step, numbered_debug, counts}
 
 -- ---- each completion that waits gives one report
@@ -239,11 +240,6 @@ module _ (f : ℕ → ℕ) where
 
 -- ---- over every list of events
 
--- three gatherings at once
-carried : {S T U : Type 0} (add : World → Event → S → S) (add' : World → Event → T → T) (add'' : World → Event → U → U) (P : World → S → T → U → Type 0) → ((w : World) (s : S) (t : T) (u : U) (e : Event) → P w s t u → P (after w e).world (add w e s) (add' w e t) (add'' w e u)) → (w : World) (s : S) (t : T) (u : U) (es : List Event) → P w s t u → P (replay_from w es) (gather_along add s w es) (gather_along add' t w es) (gather_along add'' u w es)
-carried add add' add'' P step w s t u [] p = p
-carried add add' add'' P step w s t u (e ∷ es) p = carried add add' add'' P step (after w e).world (add w e s) (add' w e t) (add'' w e u) es (step w s t u e p)
-
 -- what holds of the world alone
 along : (P : World → Type 0) → ((w : World) (e : Event) → P w → P (after w e).world) → (w : World) (es : List Event) → P w → P (replay_from w es)
 along P step w [] p = p
@@ -269,7 +265,7 @@ each_gives_one_report profile apid words es time = along Gives gives_step (openi
 
 module _ (f : ℕ → ℕ) where
   balanced : (profile : Profile) (apid words : ℕ) (es : List Event) → Balanced f (replay profile apid words es) (all_pended profile apid words es) (all_reported profile apid words es) (all_silent profile apid words es)
-  balanced profile apid words es = (carried add_pended add_reported add_silent (λ w ps rs ss. Gives w × Balanced f w ps rs ss)
+  balanced profile apid words es = (carried_along add_pended add_reported add_silent (λ w ps rs ss. Gives w × Balanced f w ps rs ss)
       (λ w ps rs ss e is. (gives_step w e is.0, balanced_step f w ps rs ss e is.0 is.1)) (opening profile apid words) [] [] [] es
       ((λ t. refl), ap (λ n. n + 0) (waiting-empty (at f)))).1
 
@@ -319,7 +315,7 @@ module _ (n : ℕ) where
       (counts w e)
 
   few : (profile : Profile) (apid words : ℕ) (es : List Event) → count n (all_pended profile apid words es) ≤ 1
-  few profile apid words es = (carried {T = ℕ} {U = ℕ} add_pended (λ w e t. t) (λ w e u. u) (λ w ns t u. Fresh w.events ns) (λ w ns t u e is. fresh_step w ns e is) (opening profile apid words) [] 0 0 es (omega arith, λ later. refl)).0
+  few profile apid words es = (carried_along {T = ℕ} {U = ℕ} add_pended (λ w e t. t) (λ w e u. u) (λ w ns t u. Fresh w.events ns) (λ w ns t u e is. fresh_step w ns e is) (opening profile apid words) [] 0 0 es (omega arith, λ later. refl)).0
 
   once : (ns : List ℕ) → count n ns ≤ 1 → count n ns ≡ cond (is_in n ns) 1 0
   once [] few = refl

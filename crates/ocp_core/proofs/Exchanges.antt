@@ -47,6 +47,7 @@ use Rattle.ocp_world.specs.After as world
 use Rattle.ocp_world.specs.Replay.{answers, replay_from}
 use Rattle.ocp_core.specs.Exchange.{is_felt, traces_made, IsSameButTraces, IsExchanged, MayBeExchanged, MayBeExchangedInLists}
 use Rattle.ocp_core.proofs.Replays.{replay_from-append, answers-append}
+use Rattle.ocp_core.proofs.Turns.{Turn, Refuses, Makes, by_turn, turn_of, turn_by, turn, turn_in, effect-turn}
 use Rattle.ocp_core.proofs.Owned.{changed_if_there, own_by, get-records_by}
 
 -- ---- no event reads the traces
@@ -109,52 +110,13 @@ replay_from-retraced w traces (e ∷ es) =
     ∙ replay_from-retraced (after w e).world (traces ++ traces_made w e) es
     ∙ ap (retraced (replay_from (after w e).world es)) (append_assoc traces (traces_made w e) (made (after w e).world es))
 
--- ---- an instruction event, as one of two forms
-
-data Turn : Type 0 where
-  Refuses : StartFailure → Turn
-  Makes : InstructionOutcome → Turn
-
-abbrev by_turn : ℕ → Turn → table.Effect
-by_turn id (Refuses failure) = Kept (Failed failure)
-by_turn id (Makes outcome) = Changed id (Stepped outcome)
-
-abbrev turn_of : Option InstructionOutcome → Turn
-turn_of (Some outcome) = Makes outcome
-turn_of None = Refuses NotRunning
-
-abbrev turn_by : Status → Rec → List ℕ → Turn
-turn_by Inactive r pool = Refuses NotRunning
-turn_by Running r pool = turn_of (outcome_in r pool)
-turn_by Held r pool = Refuses NotRunning
-
-abbrev turn : Option Rec → List ℕ → Turn
-turn None pool = Refuses NotLoaded
-turn (Some r) pool = turn_by r.control.status r pool
-
-effect_of_step-turn : (id : ℕ) (o : Option InstructionOutcome) → effect_of_step o id ≡ by_turn id (turn_of o)
-effect_of_step-turn id (Some outcome) = refl
-effect_of_step-turn id None = refl
-
-effect_on-turn : (id : ℕ) (o : Option Rec) (pool : List ℕ) (full : Bool) → effect_on (directive.Step pool) id o full ≡ by_turn id (turn o pool)
-effect_on-turn id None pool full = refl
-effect_on-turn id (Some r) pool full = elim r.control.status as (λ s. effect_by (transition (directive.Step pool) (Some s) r.control.pending (length r.mailbox)) id (Some r) full ≡ by_turn id (turn_by s r pool)) [
-  | Inactive ↦ refl
-  | Running ↦ effect_of_step-turn id (outcome_in r pool)
-  | Held ↦ refl
-]
-
-abbrev turn_in : World → ℕ → Turn
-turn_in w id = turn (get w.records id) w.pool
+-- ---- an instruction event, by its form
 
 abbrev step_world : World → ℕ → Turn → World
 step_world w id t = world_after (instruction_effect (by_turn id t)) w
 
 abbrev step_answer : ℕ → Turn → Answer
 step_answer id t = world.Stepped (step_outcome (by_turn id t))
-
-effect-turn : (w : World) (id : ℕ) → effect_in (directive.Step w.pool) id w.records ≡ by_turn id (turn_in w id)
-effect-turn w id = effect_on-turn id (get w.records id) w.pool (is_full w.records)
 
 world-turn : (w : World) (by id : ℕ) (t : Turn) → turn_in w id ≡ t → (after w (Step by id)).world ≡ step_world w id t
 world-turn w by id t is = ap (λ e. world_after (instruction_effect e) w) (effect-turn w id) ∙ ap (step_world w id) is

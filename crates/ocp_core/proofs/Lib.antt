@@ -11,6 +11,8 @@ pub mod Pools
 pub mod Mailboxes
 pub mod Numbered
 pub mod Completions
+pub mod Turns
+pub mod Budgets
 pub mod Exchanges
 pub mod Committing
 pub mod Marking

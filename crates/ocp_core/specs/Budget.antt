@@ -6,7 +6,7 @@ use Rattle.ocp_table.specs.declared.answers.StepOutcome.TheVariants as outcome
 use Rattle.ocp_table.specs.Effects.{Effect, Loaded, Unloaded, Changed, Started}
 use Rattle.ocp_world.specs.World.{World, Event, Step, opening}
 use Rattle.ocp_world.specs.After.{Answer, Stepped, effect_of, after}
-use Rattle.ocp_core.specs.History.{history, gather, gather_along}
+use Rattle.ocp_core.specs.History.{gather_along}
 
 -- ---- the budget that was given
 
@@ -19,7 +19,8 @@ add_given id (Changed other (Started budget arguments)) given =
 add_given id effect given = given
 
 abbrev pub given : Profile → ℕ → ℕ → List Event → ℕ → ℕ
-given profile apid words es id = gather (add_given id) 0 (history profile apid words es)
+given profile apid words es id =
+    gather_along (λ w e. add_given id (effect_of w e).on_records) 0 (opening profile apid words) es
 
 -- ---- the instructions that were done since then
 
