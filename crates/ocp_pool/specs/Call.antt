@@ -36,8 +36,8 @@ engine_call number r1 r2 r3 pool mailbox =
     else if unsigned_abs number == 2 then pool_set r1 r2 (slice_get pool r1)
     else if unsigned_abs number == 3 then pool_add r1 r2 (slice_get pool r1)
     else if unsigned_abs number == 4 then Some (NextParam (slice_get mailbox 0))
-    else if unsigned_abs number == 5 then Some (StepEnd (r1 % 2 ^ 16))
-    else pool_compare_set r1 r2 r3 (slice_get pool r1)
+    else if unsigned_abs number == 6 then pool_compare_set r1 r2 r3 (slice_get pool r1)
+    else Some (StepEnd (r1 % 2 ^ 16))
 
 -- a call that finds no word is the fault BadPoolIndex
 abbrev pub result_of : Option Called → Result Called PoolFault

@@ -72,8 +72,8 @@ fn call_of<A: Allocator>(
             })
         }
         4 => Some(Called::NextParam(mailbox.take())),
-        5 => Some(Called::StepEnd((r1 % 0x1_0000) as u16)),
-        _ => compare_set(pool, r1, r2, r3),
+        6 => compare_set(pool, r1, r2, r3),
+        _ => Some(Called::StepEnd((r1 % 0x1_0000) as u16)),
     }
 }
 
