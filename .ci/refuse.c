@@ -1,0 +1,44 @@
+#define _GNU_SOURCE
+#include <dlfcn.h>
+#include <fcntl.h>
+#include <stdatomic.h>
+#include <stddef.h>
+#include <stdio.h>
+#include <stdlib.h>
+#include <unistd.h>
+
+/* Refuses the growth of number REFUSE that a program asks for (1 is the first), and then makes the file REFUSED. */
+
+static atomic_ulong asked;
+static unsigned long refused;
+static void *(*real_malloc)(size_t);
+static void *(*real_realloc)(void *, size_t);
+
+__attribute__((constructor)) static void begin(void) {
+    const char *number = getenv("REFUSE");
+    real_malloc = dlsym(RTLD_NEXT, "malloc");
+    real_realloc = dlsym(RTLD_NEXT, "realloc");
+    atomic_store(&asked, 0);
+    refused = number ? strtoul(number, NULL, 10) : 0;
+}
+
+/* Says so in a file, where it refuses. */
+static int is_refused(void) {
+    const char *file;
+    int out;
+    if (atomic_fetch_add(&asked, 1) + 1 != refused) return 0;
+    file = getenv("REFUSED");
+    out = file ? open(file, O_WRONLY | O_CREAT, 0644) : -1;
+    if (out >= 0) close(out);
+    return 1;
+}
+
+void *malloc(size_t size) {
+    if (!real_malloc) real_malloc = dlsym(RTLD_NEXT, "malloc");
+    return is_refused() ? NULL : real_malloc(size);
+}
+
+void *realloc(void *block, size_t size) {
+    if (!real_realloc) real_realloc = dlsym(RTLD_NEXT, "realloc");
+    return is_refused() ? NULL : real_realloc(block, size);
+}
