@@ -12,9 +12,11 @@ ghost use Rattle.ocp_core.specs.declared.answers.CommitOutcome.TheVariants.{Comm
 
 use ocp_world::instructions_done_alone_are_events;
 
+mod budgets;
 mod completions;
 mod procedures;
 
+pub use budgets::budgets_are_kept;
 pub use completions::{completions_are_reported_once_at_most, each_completion_stands_in_one_place};
 pub use ocp_world::laws::{
     a_debugger_changes_breakpoints_and_trace_flags_alone, an_instruction_changes_its_own_procedure,

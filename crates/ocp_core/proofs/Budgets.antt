@@ -1,0 +1,180 @@
+-- With a budget above 0 no more instructions are done than that.
+use Rattle.std.proofs.Common.{◌≡◌, ◌≤◌, ℕ, ◌+◌, Option, Some, None, Bool, true, false, cond, List, refl, sym, ap, subst, ◌∙◌, arith}
+use Rattle.std.specs.Prelude.{◌==◌, ◌&&◌}
+use Rattle.std.proofs.lemmas.Bool.{eqb-true, eqb-false}
+use Rattle.std.specs.Ordering.{nat_cmp}
+use Rattle.std.specs.FinMap.{get, get-empty}
+use Rattle.obcp_types.specs.declared.failure.StartFailure.{StartFailure}
+use Rattle.obcp_types.specs.declared.failure.StartFailure.TheVariants.{NotLoaded}
+use Rattle.obcp_types.specs.declared.status.Status.{Status}
+use Rattle.obcp_types.specs.declared.status.Status.TheVariants.{Inactive, Running, Held}
+use Rattle.bpf_step.specs.Runs.{breaks_at}
+use Rattle.bpf_step.specs.Step.{one_step}
+use Rattle.ocp_table.specs.declared.answers.InstructionOutcome.{InstructionOutcome}
+use Rattle.ocp_table.specs.declared.answers.InstructionOutcome.TheVariants.{Broke, Ran, Called, Ended, Faulted}
+use Rattle.ocp_table.specs.declared.answers.TheConstants.{BUDGET_SPENT}
+use Rattle.ocp_table.specs.Budgets.{budget_of, one_less, is_spent}
+use Rattle.ocp_table.specs.Records.{Rec}
+use Rattle.ocp_table.specs.Effects as table
+use Rattle.ocp_table.specs.Effects.{Effect, Loaded, Unloaded, Changed, Kept, Drained, Change, Started, Failed, remaining_by, remaining_by_outcome, step_outcome, step_outcome_of, new_record}
+use Rattle.ocp_table.specs.Deciding.{outcome_of}
+use Rattle.ocp_world.specs.World.{World, Event, Request, Step, Debug, Drain, opening}
+use Rattle.ocp_world.specs.After.{Answer, Stepped, effect_of, after}
+use Rattle.ocp_world.specs.Replay.{replay}
+use Rattle.ocp_core.specs.Budget.{add_given, given, begins_anew, is_use, add_used, used, IsWithinBudget}
+use Rattle.ocp_core.proofs.Owned.{changed_if_there, own_by, get-records_by}
+use Rattle.ocp_core.proofs.Carried.{carried_along}
+use Rattle.ocp_core.proofs.Turns.{Turn, Refuses, Makes, by_turn, turn_of, turn_by, turn, turn_in, effect-turn}
+
+-- ---- what was used and what remains are within the budget
+
+abbrev IsKept : Option ℕ → ℕ → ℕ → Type 0
+IsKept None given used = given ≡ 0
+IsKept (Some left) given used = used + left ≤ given
+
+abbrev IsKeptOf : Option Rec → ℕ → ℕ → Type 0
+IsKeptOf None given used = used ≡ 0
+IsKeptOf (Some r) given used = IsKept r.remaining given used
+
+kept_started : (budget : ℕ) → IsKept (budget_of budget) budget 0
+kept_started budget = elim (budget == 0) as (λ b. (budget == 0) ≡ b → IsKept (cond b None (Some budget)) budget 0) [
+  | true ↦ λ e. eqb-true budget 0 e
+  | false ↦ λ e. omega arith
+] refl
+
+-- an instruction takes one
+kept_use : (left : Option ℕ) (given used : ℕ) → is_spent left ≡ false → IsKept left given used → IsKept (one_less left) given (used + 1)
+kept_use None given used some is = is
+kept_use (Some k) given used some is = let h : k ≡ 0 → ⊥ = eqb-false k 0 some in omega arith
+
+kept_less : (left : Option ℕ) (given used : ℕ) → IsKept left given used → IsKept (one_less left) given used
+kept_less None given used is = is
+kept_less (Some k) given used is = omega arith
+
+kept_outcome : (outcome : InstructionOutcome) (left : Option ℕ) (given used : ℕ) → IsKept left given used → IsKept (remaining_by_outcome outcome left) given used
+kept_outcome Broke left given used is = is
+kept_outcome Ran left given used is = kept_less left given used is
+kept_outcome (Called call) left given used is = kept_less left given used is
+kept_outcome Ended left given used is = kept_less left given used is
+kept_outcome (Faulted number) left given used is = is
+
+-- ---- an event that is no instruction
+
+kept_change : (change : Change) (o : Option Rec) (given used : ℕ) → ((r : Rec) → IsKept r.remaining given used → IsKept (remaining_by change r.remaining) given used) → IsKeptOf o given used → IsKeptOf (changed_if_there change o) given used
+kept_change change None given used keeps is = is
+kept_change change (Some r) given used keeps is = keeps r is
+
+kept_start : (budget : ℕ) (arguments : List ℕ) (o : Option Rec) → IsKeptOf (changed_if_there (Started budget arguments) o) budget 0
+kept_start budget arguments None = refl
+kept_start budget arguments (Some r) = kept_started budget
+
+module _ (q : ℕ) (o : Option Rec) (given used : ℕ) (is : IsKeptOf o given used) where
+  kept_changed : (id : ℕ) (change : Change) → ((r : Rec) → IsKept r.remaining given used → IsKept (remaining_by change r.remaining) given used) → IsKeptOf (own_by q (Changed id change) o) given used
+  kept_changed id change keeps = elim (q == id) as (λ b. IsKeptOf (cond b (changed_if_there change o) o) given used) [ true ↦ kept_change change o given used keeps is | false ↦ is ]
+
+  kept_apart : (effect : Effect) → IsKeptOf (own_by q effect o) (add_given q effect given) (cond (begins_anew q effect) 0 used)
+  kept_apart (Loaded profile id image) = elim (q == id) as (λ b. IsKeptOf (cond b (Some (new_record profile image)) o) (cond b 0 given) (cond b 0 used)) [ true ↦ refl | false ↦ is ]
+  kept_apart (Unloaded id) = elim (q == id) as (λ b. IsKeptOf (cond b None o) (cond b 0 given) (cond b 0 used)) [ true ↦ refl | false ↦ is ]
+  kept_apart (Changed id (Started budget arguments)) = elim (q == id) as (λ b. IsKeptOf (cond b (changed_if_there (Started budget arguments) o) o) (cond b budget given) (cond b 0 used)) [ true ↦ kept_start budget arguments o | false ↦ is ]
+  kept_apart (Changed id (table.Stepped outcome)) = kept_changed id (table.Stepped outcome) (λ r here. kept_outcome outcome r.remaining given used here)
+  kept_apart (Changed id change) = kept_changed id change (λ r here. here)
+  kept_apart Drained = is
+  kept_apart (Kept why) = is
+
+-- ---- an instruction
+
+-- it is done only where its budget is not spent
+abbrev IsAble : Option Rec → InstructionOutcome → Type 0
+IsAble None outcome = ⊥
+IsAble (Some r) Ran = is_spent r.remaining ≡ false
+IsAble (Some r) (Called call) = is_spent r.remaining ≡ false
+IsAble (Some r) Ended = is_spent r.remaining ≡ false
+IsAble (Some r) outcome = Unit {0}
+
+abbrev IsAbleTurn : Option Rec → Turn → Type 0
+IsAbleTurn o (Refuses failure) = Unit {0}
+IsAbleTurn o (Makes outcome) = IsAble o outcome
+
+module _ (r : Rec) (pool : List ℕ) where
+  able_outcome : is_spent r.remaining ≡ false → (outcome : InstructionOutcome) → IsAble (Some r) outcome
+  able_outcome some Broke = tt
+  able_outcome some Ran = some
+  able_outcome some (Called call) = some
+  able_outcome some Ended = some
+  able_outcome some (Faulted number) = tt
+
+  able_of : is_spent r.remaining ≡ false → (t : Turn) → IsAbleTurn (Some r) t
+  able_of some (Refuses failure) = tt
+  able_of some (Makes outcome) = able_outcome some outcome
+
+  abbrev of_machine : Option InstructionOutcome
+  of_machine = outcome_of (one_step r.image r.machine) r.machine pool r.mailbox
+
+  able_unheld : (held spent : Bool) → is_spent r.remaining ≡ spent → IsAbleTurn (Some r) (turn_of (cond held (Some Broke) (cond spent (Some (Faulted BUDGET_SPENT)) of_machine)))
+  able_unheld true spent is = tt
+  able_unheld false true is = tt
+  able_unheld false false is = able_of is (turn_of of_machine)
+
+  able_by : (s : Status) → IsAbleTurn (Some r) (turn_by s r pool)
+  able_by Inactive = tt
+  able_by Running = able_unheld (breaks_at r.control.pass r.breakpoints r.machine.place) (is_spent r.remaining) refl
+  able_by Held = tt
+
+able : (o : Option Rec) (pool : List ℕ) → IsAbleTurn o (turn o pool)
+able None pool = tt
+able (Some r) pool = able_by r pool r.control.status
+
+refuses_use : (failure : StartFailure) → is_use (Stepped (step_outcome (Kept (Failed failure)))) ≡ false
+refuses_use NotLoaded = refl
+refuses_use failure = refl
+
+kept_made : (outcome : InstructionOutcome) (o : Option Rec) (given used : ℕ) → IsAble o outcome → IsKeptOf o given used → IsKeptOf (changed_if_there (table.Stepped outcome) o) given (cond (is_use (Stepped (step_outcome_of outcome))) (used + 1) used)
+kept_made outcome None given used able is = absurd able
+kept_made Broke (Some r) given used able is = is
+kept_made Ran (Some r) given used able is = kept_use r.remaining given used able is
+kept_made (Called call) (Some r) given used able is = kept_use r.remaining given used able is
+kept_made Ended (Some r) given used able is = kept_use r.remaining given used able is
+kept_made (Faulted number) (Some r) given used able is = is
+
+abbrev IsKeptBy : ℕ → ℕ → Option Rec → ℕ → ℕ → Effect → Type 0
+IsKeptBy q id o given used effect = IsKeptOf (own_by q effect o) (add_given q effect given) (cond (begins_anew q effect) 0 (cond ((q == id) && is_use (Stepped (step_outcome effect))) (used + 1) used))
+
+kept_turn : (q id : ℕ) (o : Option Rec) (given used : ℕ) (t : Turn) → ((q == id) ≡ true → IsAbleTurn o t) → IsKeptOf o given used → IsKeptBy q id o given used (by_turn id t)
+kept_turn q id o given used (Refuses failure) able is = elim (q == id) as (λ b. IsKeptOf o given (cond (b && is_use (Stepped (step_outcome (Kept (Failed failure))))) (used + 1) used)) [
+  | true ↦ subst (λ c. IsKeptOf o given (cond c (used + 1) used)) (sym (refuses_use failure)) is
+  | false ↦ is
+]
+kept_turn q id o given used (Makes outcome) able is = elim (q == id) as (λ b. (b ≡ true → IsAble o outcome) → IsKeptOf (cond b (changed_if_there (table.Stepped outcome) o) o) given (cond (b && is_use (Stepped (step_outcome_of outcome))) (used + 1) used)) [
+  | true ↦ λ able. kept_made outcome o given used (able refl) is
+  | false ↦ λ able. is
+] able
+
+-- ---- every event
+
+module _ (q : ℕ) (w : World) (given used : ℕ) (is : IsKeptOf (get w.records q) given used) where
+  kept_step : (id : ℕ) → IsKeptBy q id (get w.records q) given used (by_turn id (turn_in w id))
+  kept_step id = kept_turn q id (get w.records q) given used (turn_in w id) (λ same. subst (λ k. IsAbleTurn (get w.records k) (turn_in w id)) (sym (eqb-true q id same)) (able (get w.records id) w.pool)) is
+
+  -- the record of q after an event is that after its effect
+  there : (e : Event) → IsKeptOf (own_by q (effect_of w e).on_records (get w.records q)) (add_given q (effect_of w e).on_records given) (add_used q w e used) → IsKeptOf (get (after w e).world.records q) (add_given q (effect_of w e).on_records given) (add_used q w e used)
+  there e kept = subst (λ o. IsKeptOf o (add_given q (effect_of w e).on_records given) (add_used q w e used)) (sym (get-records_by (effect_of w e).on_records w.records q)) kept
+
+  kept_event : (e : Event) → IsKeptOf (get (after w e).world.records q) (add_given q (effect_of w e).on_records given) (add_used q w e used)
+  kept_event (Step by id) = there (Step by id) (subst (IsKeptBy q id (get w.records q) given used) (sym (effect-turn w id)) (kept_step id))
+  kept_event (Request by time octets) = there (Request by time octets) (kept_apart q (get w.records q) given used is (effect_of w (Request by time octets)).on_records)
+  kept_event (Debug by id command) = there (Debug by id command) (kept_apart q (get w.records q) given used is (effect_of w (Debug by id command)).on_records)
+  kept_event (Drain by time) = there (Drain by time) (kept_apart q (get w.records q) given used is (effect_of w (Drain by time)).on_records)
+
+at_most : (o : Option Rec) (given used : ℕ) → IsKeptOf o given used → 1 ≤ given → used ≤ given
+at_most None given used is some = omega arith
+at_most (Some r) given used is some = of_left r.remaining is
+  where
+    of_left : (left : Option ℕ) → IsKept left given used → used ≤ given
+    of_left None is = absurd (omega arith)
+    of_left (Some k) is = omega arith
+
+pub is_within_budget : IsWithinBudget
+is_within_budget profile apid words es q some =
+    at_most (get (replay profile apid words es).records q) (given profile apid words es q) (used profile apid words es q)
+    (carried_along {U = ℕ} (λ w e n. add_given q (effect_of w e).on_records n) (add_used q) (λ w e u. u) (λ w n m u. IsKeptOf (get w.records q) n m)
+    (λ w n m u e is. kept_event q w n m is e) (opening profile apid words) 0 0 0 es (subst (λ o. IsKeptOf o 0 0) (sym (get-empty nat_cmp q)) refl)) some
