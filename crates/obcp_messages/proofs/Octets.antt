@@ -6,7 +6,7 @@ use Rattle.std.proofs.lemmas.Bool.{cases_lt}
 use Rattle.std.proofs.lemmas.List.{length-take, length-take-le, get_or-take, get_or_past, get_or-drop, length-drop, drop_more}
 use Rattle.std.proofs.Math.Seq.{take-add}
 use Rattle.std.proofs.lemmas.List.Elements.{All-nil, All-cons, All-get_or}
-use Rattle.std.proofs.lemmas.Nat.{be_bytes_2, be_bytes_8}
+use Rattle.std.proofs.lemmas.Nat.{be_bytes_2, be_bytes_4, be_bytes_8}
 use Rattle.byteorder.specs.Endian.{big_bytes, big_number}
 use Rattle.byteorder.specs.Numbers.{big_from-lt}
 use Rattle.obcp_messages.specs.Fields.{numbers}
@@ -43,6 +43,12 @@ octets_of_two octets long h =
     let a : get_or (take 2 octets) 0 0 ≡ get_or octets 0 0 = get_or-take 2 octets 0 0 (omega arith) in
     let b : get_or (take 2 octets) 1 0 ≡ get_or octets 1 0 = get_or-take 2 octets 1 0 (omega arith) in
     be_bytes_2 (take 2 octets) (big_number 2 octets) (length-take-le 2 octets long) (octets_taken 2 octets h) (omega (arith, a, b))
+
+pub octets_of_four : (octets : List ℕ) → 4 ≤ length octets → AreOctets octets → big_bytes 4 (big_number 4 octets) ≡ take 4 octets
+octets_of_four octets long h =
+    let at : (i : ℕ) → i < 4 → get_or (take 4 octets) i 0 ≡ get_or octets i 0 = λ i l. get_or-take 4 octets i 0 l in
+    be_bytes_4 (take 4 octets) (big_number 4 octets) (length-take-le 4 octets long) (octets_taken 4 octets h)
+    (omega (arith, at 0 (omega arith), at 1 (omega arith), at 2 (omega arith), at 3 (omega arith)))
 
 pub octets_of_eight : (octets : List ℕ) → 8 ≤ length octets → AreOctets octets → big_bytes 8 (big_number 8 octets) ≡ take 8 octets
 octets_of_eight octets long h =

@@ -8,17 +8,19 @@ use Rattle.std.proofs.lemmas.List.Elements.{All-head, All-tail}
 use Rattle.std.proofs.lemmas.Result.{IfOk-weaker}
 use Rattle.std.proofs.Math.Seq.{take-add}
 use Rattle.std.proofs.lemmas.Bool.Decides.{nat_tests}
-use Rattle.std.proofs.lemmas.List.{take_all, take-append-drop, length-drop, nil_from_length}
+use Rattle.std.proofs.lemmas.List.{take_all, take-append-drop, length-drop, drop-drop, nil_from_length}
 use Rattle.byteorder.specs.Endian.{big_bytes, big_number}
 use Rattle.byteorder.specs.Numbers.{big_from-lt, big_number-reads_back}
 use Rattle.obcp_messages.specs.Fields.{numbers}
 use Rattle.obcp_messages.specs.Request.{IsRequest, IsRequestData, request_data, subtype_of}
-use Rattle.obcp_messages.specs.Reading.{with_id, with_step, is_counted, with_octets, with_words, request_in, request_of}
+use Rattle.obcp_messages.specs.Reading.{with_id, with_step, is_counted, with_octets, with_budget, with_words, activation_in, request_in, request_of}
 use Rattle.obcp_messages.specs.declared.request.Request.{Request}
 use Rattle.obcp_messages.specs.declared.request.Request.TheVariants.{Load, Unload, Activate, Stop, Suspend, Resume, Communicate, Status, Abort}
 use Rattle.obcp_types.specs.declared.failure.RequestFault.{RequestFault}
 use Rattle.obcp_types.specs.declared.failure.RequestFault.TheVariants.{Layout}
-use Rattle.obcp_messages.proofs.Octets.{AreOctets, both_parts, octets_dropped, octets_of_two, octets_of_words, length-numbers, joined, one_octet, words_fit}
+use Rattle.ocp_profile.specs.declared.profile.Profile.{Profile}
+use Rattle.ocp_profile.specs.declared.profile.Profile.TheVariants.{One, Two}
+use Rattle.obcp_messages.proofs.Octets.{AreOctets, both_parts, octets_dropped, octets_of_two, octets_of_four, octets_of_words, length-numbers, joined, one_octet, words_fit}
 
 -- ---- what is read is laid out so
 
@@ -50,31 +52,62 @@ step_read make octets P holds h =
     holds same (big_from-lt 0 2 octets h) (big_from-lt 0 2 (drop 2 octets) rest))
     (λ _. tt)
 
--- an identifier, a number and as many octets
-counted_read : (octets : List ℕ) → is_counted octets ≡ true → AreOctets octets →
-    (octets ≡ big_bytes 2 (big_number 2 octets) ++ big_bytes 2 (length (drop 4 octets)) ++ drop 4 octets) × (length octets ≡ 4 + length (drop 4 octets))
-counted_read octets e h =
-    let long : 4 ≤ length octets = grind (arith, nat_tests) in
-    let size : length octets ≡ 4 + big_number 2 (drop 2 octets) = grind (arith, nat_tests) in
-    let len : length (drop 2 octets) ≡ length octets - 2 = length-drop 2 octets in
-    let rest_len : length (drop 4 octets) ≡ length octets - 4 = length-drop 4 octets in
-    let number : big_number 2 (drop 2 octets) ≡ length (drop 4 octets) = omega (arith, size, rest_len) in
-    let front : big_bytes 2 (big_number 2 octets) ≡ take 2 octets = octets_of_two octets (omega arith) h in
-    let middle : big_bytes 2 (length (drop 4 octets)) ≡ take 2 (drop 2 octets) =
-    ap (big_bytes 2) (sym number) ∙ octets_of_two (drop 2 octets) (omega (arith, len)) (octets_dropped 2 octets h) in
-    let first : big_bytes 2 (big_number 2 octets) ++ big_bytes 2 (length (drop 4 octets)) ≡ take 4 octets = joined front middle ∙ sym (take-add 2 2 octets) in
-    (sym (ap (λ x. x ++ drop 4 octets) first ∙ take-append-drop 4 octets), omega (arith, size, number))
+-- behind so many octets a number and as many octets
+counted_read : (n : ℕ) (octets : List ℕ) → is_counted n octets ≡ true → AreOctets octets →
+    (big_bytes 2 (length (drop (n + 2) octets)) ++ drop (n + 2) octets ≡ drop n octets) × (length octets ≡ n + 2 + length (drop (n + 2) octets))
+counted_read n octets e h =
+    let test = both_parts (nat_le (n + 2) (length octets)) (length octets == n + 2 + big_number 2 (drop n octets)) e in
+    let long : n + 2 ≤ length octets = leb-true (n + 2) (length octets) test.0 in
+    let size : length octets ≡ n + 2 + big_number 2 (drop n octets) = eqb-true (length octets) (n + 2 + big_number 2 (drop n octets)) test.1 in
+    let len : length (drop n octets) ≡ length octets - n = length-drop n octets in
+    let rest_len : length (drop (n + 2) octets) ≡ length octets - (n + 2) = length-drop (n + 2) octets in
+    let number : big_number 2 (drop n octets) ≡ length (drop (n + 2) octets) = omega (arith, size, rest_len) in
+    let front : big_bytes 2 (length (drop (n + 2) octets)) ≡ take 2 (drop n octets) =
+    ap (big_bytes 2) (sym number) ∙ octets_of_two (drop n octets) (omega (arith, len)) (octets_dropped n octets h) in
+    let back : drop (n + 2) octets ≡ drop 2 (drop n octets) = sym (drop-drop 2 n octets) in
+    (joined front back ∙ take-append-drop 2 (drop n octets), omega (arith, size, number))
 
 octets_read : (most : ℕ) (make : ℕ → List ℕ → Request) (octets : List ℕ) (P : Request → Type 0) →
     (octets ≡ big_bytes 2 (big_number 2 octets) ++ big_bytes 2 (length (drop 4 octets)) ++ drop 4 octets → big_number 2 octets < 2 ^ 16 → length (drop 4 octets) ≤ most → P (make (big_number 2 octets) (drop 4 octets))) →
     AreOctets octets → Reads P (with_octets most make octets)
 octets_read most make octets P holds h =
-    cond_both (is_counted octets && nat_le (length octets) (4 + most)) (Ok (make (big_number 2 octets) (drop 4 octets))) (Err Layout) (Reads P)
-    (λ e. let is : (is_counted octets ≡ true) × (nat_le (length octets) (4 + most) ≡ true) = both_parts (is_counted octets) (nat_le (length octets) (4 + most)) e in
-    let counted = counted_read octets is.0 h in
+    cond_both (is_counted 2 octets && nat_le (length octets) (4 + most)) (Ok (make (big_number 2 octets) (drop 4 octets))) (Err Layout) (Reads P)
+    (λ e. let is : (is_counted 2 octets ≡ true) × (nat_le (length octets) (4 + most) ≡ true) = both_parts (is_counted 2 octets) (nat_le (length octets) (4 + most)) e in
+    let counted = counted_read 2 octets is.0 h in
+    let front : big_bytes 2 (big_number 2 octets) ≡ take 2 octets = octets_of_two octets (omega (arith, counted.1)) h in
+    let same : octets ≡ big_bytes 2 (big_number 2 octets) ++ big_bytes 2 (length (drop 4 octets)) ++ drop 4 octets = sym (joined front counted.0 ∙ take-append-drop 2 octets) in
     let fits : length (drop 4 octets) ≤ most = let low = leb-true (length octets) (4 + most) is.1 in omega (arith, counted.1, low) in
-    holds counted.0 (big_from-lt 0 2 octets h) fits)
+    holds same (big_from-lt 0 2 octets h) fits)
     (λ _. tt)
+
+-- an identifier, a budget, a number and as many octets
+budget_read : (octets : List ℕ) (P : Request → Type 0) →
+    (octets ≡ big_bytes 2 (big_number 2 octets) ++ big_bytes 4 (big_number 4 (drop 2 octets)) ++ big_bytes 2 (length (drop 8 octets)) ++ drop 8 octets →
+    big_number 2 octets < 2 ^ 16 → big_number 4 (drop 2 octets) < 2 ^ 32 → length (drop 8 octets) ≤ 256 →
+    P (Activate (big_number 2 octets) (big_number 4 (drop 2 octets)) (drop 8 octets))) →
+    AreOctets octets → Reads P (with_budget octets)
+budget_read octets P holds h =
+    cond_both (is_counted 6 octets && nat_le (length octets) 264) (Ok (Activate (big_number 2 octets) (big_number 4 (drop 2 octets)) (drop 8 octets))) (Err Layout) (Reads P)
+    (λ e. let is : (is_counted 6 octets ≡ true) × (nat_le (length octets) 264 ≡ true) = both_parts (is_counted 6 octets) (nat_le (length octets) 264) e in
+    let counted = counted_read 6 octets is.0 h in
+    let rest = octets_dropped 2 octets h in
+    let len : length (drop 2 octets) ≡ length octets - 2 = length-drop 2 octets in
+    let front : big_bytes 2 (big_number 2 octets) ≡ take 2 octets = octets_of_two octets (omega (arith, counted.1)) h in
+    let middle : big_bytes 4 (big_number 4 (drop 2 octets)) ≡ take 4 (drop 2 octets) = octets_of_four (drop 2 octets) (omega (arith, counted.1, len)) rest in
+    let back : big_bytes 2 (length (drop 8 octets)) ++ drop 8 octets ≡ drop 4 (drop 2 octets) = counted.0 ∙ sym (drop-drop 4 2 octets) in
+    let behind : big_bytes 4 (big_number 4 (drop 2 octets)) ++ big_bytes 2 (length (drop 8 octets)) ++ drop 8 octets ≡ drop 2 octets = joined middle back ∙ take-append-drop 4 (drop 2 octets) in
+    let same : octets ≡ big_bytes 2 (big_number 2 octets) ++ big_bytes 4 (big_number 4 (drop 2 octets)) ++ big_bytes 2 (length (drop 8 octets)) ++ drop 8 octets = sym (joined front behind ∙ take-append-drop 2 octets) in
+    let fits : length (drop 8 octets) ≤ 256 = let low = leb-true (length octets) 264 is.1 in omega (arith, counted.1, low) in
+    holds same (big_from-lt 0 2 octets h) (big_from-lt 0 4 (drop 2 octets) rest) fits)
+    (λ _. tt)
+
+activation_read : (profile : Profile) (subtype : ℕ) (octets : List ℕ) → subtype ≡ 3 → AreOctets octets → Reads (IsRequestData profile 18 subtype octets) (activation_in profile octets)
+activation_read One subtype octets e h =
+    octets_read 256 (λ id arguments. Activate id 0 arguments) octets (IsRequestData One 18 subtype octets)
+    (λ same id most. record { of_service = refl; of_subtype = e; in_range = (id, refl, most); fields = same }) h
+activation_read Two subtype octets e h =
+    budget_read octets (IsRequestData Two 18 subtype octets)
+    (λ same id budget most. record { of_service = refl; of_subtype = e; in_range = (id, budget, most); fields = same }) h
 
 words_read : (octets : List ℕ) (P : Request → Type 0) →
     ((id : ℕ) (words : List ℕ) → octets ≡ big_bytes 2 id ++ big_bytes 1 (length words) ++ flat_map (big_bytes 8) words → id < 2 ^ 16 → 1 ≤ length words → length words ≤ 8 → All (λ word. word < 2 ^ 64) words → P (Communicate id words)) →
@@ -101,15 +134,15 @@ words_read octets P holds h =
     (λ _. tt)
 
 -- the data that are read as a request are its fields
-read_in : (subtype : ℕ) (octets : List ℕ) → AreOctets octets → IfOk (request_in subtype octets) (IsRequestData 18 subtype octets)
-read_in subtype octets h =
-    let P : Request → Type 0 = λ request. IsRequestData 18 subtype octets request in
+read_in : (profile : Profile) (subtype : ℕ) (octets : List ℕ) → AreOctets octets → IfOk (request_in profile subtype octets) (IsRequestData profile 18 subtype octets)
+read_in profile subtype octets h =
+    let P : Request → Type 0 = λ request. IsRequestData profile 18 subtype octets request in
     cond_both (subtype == 1) _ _ (Reads P)
     (λ e. octets_read 65535 Load octets P (λ same id most. record { of_service = refl; of_subtype = eqb-true subtype 1 e; in_range = (id, omega arith); fields = same }) h)
     (λ _. cond_both (subtype == 2) _ _ (Reads P)
     (λ e. id_read Unload octets P (λ _ same id. record { of_service = refl; of_subtype = eqb-true subtype 2 e; in_range = id; fields = same }) h)
     (λ _. cond_both (subtype == 3) _ _ (Reads P)
-    (λ e. octets_read 256 Activate octets P (λ same id most. record { of_service = refl; of_subtype = eqb-true subtype 3 e; in_range = (id, most); fields = same }) h)
+    (λ e. activation_read profile subtype octets (eqb-true subtype 3 e) h)
     (λ _. cond_both (subtype == 4) _ _ (Reads P)
     (λ e. step_read Stop octets P (λ same id step. record { of_service = refl; of_subtype = eqb-true subtype 4 e; in_range = (id, step); fields = same }) h)
     (λ _. cond_both (subtype == 5) _ _ (Reads P)
@@ -126,13 +159,13 @@ read_in subtype octets h =
     (λ e. id_read Abort octets P (λ _ same id. record { of_service = refl; of_subtype = eqb-true subtype 12 e; in_range = id; fields = same }) h)
     (λ _. tt)))))))))
 
-pub request_is_read : (service subtype : ℕ) (octets : List ℕ) → AreOctets octets → IfOk (request_of service subtype octets) (IsRequestData service subtype octets)
-request_is_read service subtype octets h =
-    let P : Request → Type 0 = λ request. IsRequestData service subtype octets request in
+pub request_is_read : (profile : Profile) (service subtype : ℕ) (octets : List ℕ) → AreOctets octets → IfOk (request_of profile service subtype octets) (IsRequestData profile service subtype octets)
+request_is_read profile service subtype octets h =
+    let P : Request → Type 0 = λ request. IsRequestData profile service subtype octets request in
     cond_both (service == 18) _ _ (Reads P)
-    (λ e. IfOk-weaker (request_in subtype octets) (IsRequestData 18 subtype octets) P
+    (λ e. IfOk-weaker (request_in profile subtype octets) (IsRequestData profile 18 subtype octets) P
     (λ request p. record { of_service = eqb-true service 18 e; of_subtype = p.of_subtype; in_range = p.in_range; fields = p.fields })
-    (read_in subtype octets h))
+    (read_in profile subtype octets h))
     (λ _. tt)
 
 -- ---- what is laid out so is read
@@ -151,9 +184,24 @@ octets_written most make id code h k fits =
     let octets : List ℕ = big_bytes 2 id ++ big_bytes 2 (length code) ++ code in
     let number : big_number 2 octets ≡ id = big_number-reads_back 2 id (big_bytes 2 (length code) ++ code) h in
     let size : big_number 2 (drop 2 octets) ≡ length code = big_number-reads_back 2 (length code) code k in
-    let counted : is_counted octets ≡ true = both_true (le-leb 4 (length octets) (omega arith)) (eq-eqb (length octets) (4 + big_number 2 (drop 2 octets)) (omega (arith, size))) in
-    let test : (is_counted octets && nat_le (length octets) (4 + most)) ≡ true = both_true counted (le-leb (length octets) (4 + most) (omega arith)) in
+    let counted : is_counted 2 octets ≡ true = both_true (le-leb 4 (length octets) (omega arith)) (eq-eqb (length octets) (4 + big_number 2 (drop 2 octets)) (omega (arith, size))) in
+    let test : (is_counted 2 octets && nat_le (length octets) (4 + most)) ≡ true = both_true counted (le-leb (length octets) (4 + most) (omega arith)) in
     cond-true _ _ _ test ∙ ap (λ n. Ok (make n code)) number
+
+-- an activation, with its budget where the profile has one
+activation_written : (profile : Profile) (id budget : ℕ) (arguments : List ℕ) → IsRequest profile (Activate id budget arguments) →
+    activation_in profile (request_data profile (Activate id budget arguments)) ≡ Ok (Activate id budget arguments)
+activation_written One id budget arguments h =
+    octets_written 256 (λ n code. Activate n 0 code) id arguments h.0 (omega (arith, h.2)) h.2
+    ∙ ap (λ n. Ok (Activate id n arguments)) (sym h.1)
+activation_written Two id budget arguments h =
+    let octets : List ℕ = big_bytes 2 id ++ big_bytes 4 budget ++ big_bytes 2 (length arguments) ++ arguments in
+    let number : big_number 2 octets ≡ id = big_number-reads_back 2 id (big_bytes 4 budget ++ big_bytes 2 (length arguments) ++ arguments) h.0 in
+    let left : big_number 4 (drop 2 octets) ≡ budget = big_number-reads_back 4 budget (big_bytes 2 (length arguments) ++ arguments) h.1 in
+    let size : big_number 2 (drop 6 octets) ≡ length arguments = big_number-reads_back 2 (length arguments) arguments (omega (arith, h.2)) in
+    let counted : is_counted 6 octets ≡ true = both_true (le-leb 8 (length octets) (omega arith)) (eq-eqb (length octets) (8 + big_number 2 (drop 6 octets)) (omega (arith, size))) in
+    let test : (is_counted 6 octets && nat_le (length octets) 264) ≡ true = both_true counted (le-leb (length octets) 264 (omega (arith, h.2))) in
+    cond-true _ _ _ test ∙ ap (λ n. Ok (Activate n (big_number 4 (drop 2 octets)) arguments)) number ∙ ap (λ n. Ok (Activate id n arguments)) left
 
 words_back : (words : List ℕ) → All (λ word. word < 2 ^ 64) words → numbers 8 (length words) (flat_map (big_bytes 8) words) ≡ words
 words_back [] h = refl
@@ -183,18 +231,18 @@ words_written id words h some most fits =
     ∙ ap (λ n. Ok (Communicate id (numbers 8 n (drop 3 octets)))) count
     ∙ ap (λ ws. Ok (Communicate id ws)) (words_back words fits)
 
-pub data_is_read : (request : Request) → IsRequest request → request_in (subtype_of request) (request_data request) ≡ Ok request
-data_is_read (Load id code) h = octets_written 65535 Load id code h.0 (omega arith) h.1
-data_is_read (Unload id) h = id_written Unload id h
-data_is_read (Activate id arguments) h = octets_written 256 Activate id arguments h.0 (omega arith) h.1
-data_is_read (Stop id step) h = step_written Stop id step h.0 h.1
-data_is_read (Suspend id step) h = step_written Suspend id step h.0 h.1
-data_is_read (Resume id) h = id_written Resume id h
-data_is_read (Communicate id words) h = words_written id words h.0 h.1 h.2 h.3
-data_is_read Status h = refl
-data_is_read (Abort id) h = id_written Abort id h
+pub data_is_read : (profile : Profile) (request : Request) → IsRequest profile request → request_in profile (subtype_of request) (request_data profile request) ≡ Ok request
+data_is_read profile (Load id code) h = octets_written 65535 Load id code h.0 (omega arith) h.1
+data_is_read profile (Unload id) h = id_written Unload id h
+data_is_read profile (Activate id budget arguments) h = activation_written profile id budget arguments h
+data_is_read profile (Stop id step) h = step_written Stop id step h.0 h.1
+data_is_read profile (Suspend id step) h = step_written Suspend id step h.0 h.1
+data_is_read profile (Resume id) h = id_written Resume id h
+data_is_read profile (Communicate id words) h = words_written id words h.0 h.1 h.2 h.3
+data_is_read profile Status h = refl
+data_is_read profile (Abort id) h = id_written Abort id h
 
-pub only_request : (service subtype : ℕ) (octets : List ℕ) (request : Request) → IsRequestData service subtype octets request → request_of service subtype octets ≡ Ok request
-only_request service subtype octets request p =
-    ap (λ n. request_of n subtype octets) p.of_service ∙ ap (λ n. request_in n octets) p.of_subtype
-    ∙ ap (request_in (subtype_of request)) p.fields ∙ data_is_read request p.in_range
+pub only_request : (profile : Profile) (service subtype : ℕ) (octets : List ℕ) (request : Request) → IsRequestData profile service subtype octets request → request_of profile service subtype octets ≡ Ok request
+only_request profile service subtype octets request p =
+    ap (λ n. request_of profile n subtype octets) p.of_service ∙ ap (λ n. request_in profile n octets) p.of_subtype
+    ∙ ap (request_in profile (subtype_of request)) p.fields ∙ data_is_read profile request p.in_range

@@ -63,7 +63,8 @@ IsRequest profile Status = Unit {0}
 IsRequest profile (Abort id) = id < 2 ^ 16
 
 -- the octets are the service data of this request, in a telecommand of this service and subtype
-pub record IsRequestData (profile : Profile) (service subtype : ℕ) (octets : List ℕ) (request : Request) : Type 0 where
+pub record IsRequestData (profile : Profile) (service subtype : ℕ) (octets : List ℕ)
+    (request : Request) : Type 0 where
   pub of_service : service ≡ 18
   pub of_subtype : subtype ≡ subtype_of request
   pub in_range : IsRequest profile request
