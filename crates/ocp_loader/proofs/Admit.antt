@@ -2,6 +2,7 @@
 use Rattle.std.proofs.Common.{◌≡◌, ℕ, zero, suc, ◌+◌, ◌-◌, ◌*◌, ◌<◌, ◌⊎◌, inl, inr, Bool, true, false, List, [], ◌∷◌, ◌++◌, length, drop, Option, Some, None, Ok, IsSome, refl, ap, sym, ◌∙◌, subst, arith, length-append, append_assoc}
 use Rattle.std.proofs.lemmas.Option.{same_Some}
 use Rattle.std.proofs.lemmas.List.Elements.{All-push, All-nil}
+use Rattle.ocp_profile.specs.declared.profile.Profile.{Profile}
 use Rattle.bpf_types.specs.declared.line.Line.{Line}
 use Rattle.bpf_types.specs.Line.{is_wide, spelling}
 use Rattle.bpf_decode.specs.Decoding.{BeginsWith}
@@ -15,14 +16,14 @@ use Rattle.ocp_loader.proofs.Sound.{IsSound, admitted_of}
 use Rattle.ocp_loader.proofs.Laid.{by_slot-append, Next, all_next, within}
 use Rattle.ocp_loader.proofs.Stay.{IsFine, fine, aimed_at, last_at, last_of, wide_last}
 
-pub read_none : (image : List ℕ) → IsRead image 0 [] false
-read_none image = record { lines = []; slots = refl; plain = All-nil IsPlain; octets = refl }
+pub read_none : (profile : Profile) (image : List ℕ) → IsRead profile image 0 [] false
+read_none profile image = record { lines = []; slots = refl; plain = All-nil (IsPlain profile); octets = refl }
 
-pub read_second : (image : List ℕ) (n : ℕ) (lines : List (Option Line)) → IsRead image n lines true → IsRead image (n + 1) (lines ++ None ∷ []) false
-read_second image n lines r = record { lines = r.lines; slots = r.slots ∙ sym (append_nil (lines ++ None ∷ [])); plain = r.plain; octets = let k : 8 * ((n + 1) + 0) ≡ 8 * (n + 1) = omega arith in rw k r.octets }
+pub read_second : (profile : Profile) (image : List ℕ) (n : ℕ) (lines : List (Option Line)) → IsRead profile image n lines true → IsRead profile image (n + 1) (lines ++ None ∷ []) false
+read_second profile image n lines r = record { lines = r.lines; slots = r.slots ∙ sym (append_nil (lines ++ None ∷ [])); plain = r.plain; octets = let k : 8 * ((n + 1) + 0) ≡ 8 * (n + 1) = omega arith in rw k r.octets }
 
-pub read_line : (image : List ℕ) (n : ℕ) (lines : List (Option Line)) (l : Line) → IsRead image n lines false → BeginsWith (drop (8 * n) image) l → IsPlain l → IsRead image (n + 1) (lines ++ Some l ∷ []) (is_wide l)
-read_line image n lines l r (range, more, begins) p =
+pub read_line : (profile : Profile) (image : List ℕ) (n : ℕ) (lines : List (Option Line)) (l : Line) → IsRead profile image n lines false → BeginsWith (drop (8 * n) image) l → IsPlain profile l → IsRead profile image (n + 1) (lines ++ Some l ∷ []) (is_wide l)
+read_line profile image n lines l r (range, more, begins) p =
     let ls = r.lines in
     let s = second_of (is_wide l) in
     let z : 8 * (n + 0) ≡ 8 * n = omega arith in
@@ -33,7 +34,7 @@ read_line image n lines l r (range, more, begins) p =
     record {
       lines = ls ++ l ∷ [];
       slots = by_slot-append ls (l ∷ []) ∙ ap (λ xs. xs ++ ((Some l ∷ s) ++ [])) (r.slots ∙ append_nil lines) ∙ ap (λ xs. lines ++ xs) (append_nil (Some l ∷ s)) ∙ sym (append_assoc lines (Some l ∷ []) s);
-      plain = All-push IsPlain ls l r.plain p;
+      plain = All-push (IsPlain profile) ls l r.plain p;
       octets = so_far ∙ ap (λ xs. image_of ls ++ xs) (begins ∙ ap (λ xs. spelling l ++ xs) rest) ∙ sym (append_assoc (image_of ls) (spelling l) _) ∙ ap (λ xs. xs ++ drop (8 * ((n + 1) + length s)) image) (sym (image_of-append ls (l ∷ []) ∙ ap (λ xs. image_of ls ++ xs) (append_nil (spelling l))));
     }
   where
@@ -80,8 +81,8 @@ narrow m false w last = refl
 narrow m true w last = let no_last : is_last m ≡ false = wide_last m w in absurd cc
 
 -- no second slot is missing at the end
-no_more : (ls : List Line) (lines : List (Option Line)) → IsFine lines → by_slot ls ≡ lines ++ None ∷ [] → ⊥
-no_more ls lines f e =
+no_more : (profile : Profile) (ls : List Line) (lines : List (Option Line)) → IsFine profile lines → by_slot ls ≡ lines ++ None ∷ [] → ⊥
+no_more profile ls lines f e =
     let m = f.ends.0 in
     let p = length lines - 1 in
     let some : p < length lines = within lines p m f.ends.1 in
@@ -99,23 +100,23 @@ no_more ls lines f e =
     ]
 
 -- an image that is judged to be fine is that of its lines
-sound : (image : List ℕ) (slots : ℕ) (lines : List (Option Line)) (second : Bool) → load_result image ≡ Ok lines → length image ≡ 8 * slots → IsRead image slots lines second → (ls : List Line) × IsSound image ls
+sound : (profile : Profile) (image : List ℕ) (slots : ℕ) (lines : List (Option Line)) (second : Bool) → load_result profile image ≡ Ok lines → length image ≡ 8 * slots → IsRead profile image slots lines second → (ls : List Line) × IsSound profile image ls
 unfolding Ends
-sound image slots lines true j n r = absurd (no_more r.lines lines (fine image lines j) r.slots)
-sound image slots lines false j n r =
+sound profile image slots lines true j n r = absurd (no_more profile r.lines lines (fine profile image lines j) r.slots)
+sound profile image slots lines false j n r =
     let ls = r.lines in
-    let f : IsFine lines = fine image lines j in
+    let f : IsFine profile lines = fine profile image lines j in
     let same : lines ≡ by_slot ls = sym (r.slots ∙ append_nil lines) in
     let k : 8 * (slots + 0) ≡ length image = omega (arith, n) in
-    let fine_ls : IsFine (by_slot ls) = subst IsFine same f in (
+    let fine_ls : IsFine profile (by_slot ls) = subst (IsFine profile) same f in (
       ls,
       record {
         whole = (r.plain, r.octets ∙ ap (λ xs. image_of ls ++ xs) (ap (λ k. drop k image) k ∙ drop_all image) ∙ append_nil (image_of ls));
         short = fine_ls.short;
-        aimed = λ slot l h. aimed_at (by_slot ls) slot l fine_ls h;
+        aimed = λ slot l h. aimed_at profile (by_slot ls) slot l fine_ls h;
         ends = last_line ls fine_ls.ends.0 fine_ls.ends.1 fine_ls.ends.2;
       },
     )
 
-pub admitted : (image : List ℕ) (slots : ℕ) (lines : List (Option Line)) (second : Bool) → load_result image ≡ Ok lines → length image ≡ 8 * slots → IsRead image slots lines second → IsAdmitted image
-admitted image slots lines second j n r = let s = sound image slots lines second j n r in record { lines = s.0; admitted = admitted_of image s.0 s.1 }
+pub admitted : (profile : Profile) (image : List ℕ) (slots : ℕ) (lines : List (Option Line)) (second : Bool) → load_result profile image ≡ Ok lines → length image ≡ 8 * slots → IsRead profile image slots lines second → IsAdmitted profile image
+admitted profile image slots lines second j n r = let s = sound profile image slots lines second j n r in record { lines = s.0; admitted = admitted_of profile image s.0 s.1 }

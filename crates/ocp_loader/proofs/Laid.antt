@@ -2,6 +2,7 @@
 use Rattle.std.proofs.Common.{◌≡◌, ℕ, zero, suc, ◌+◌, ◌*◌, ◌<◌, ◌⊎◌, inl, inr, Bool, true, false, List, [], ◌∷◌, ◌++◌, length, Option, Some, None, Result, Ok, Err, IfOk, IsSome, refl, ap, sym, ◌∙◌, arith, length-append, append_assoc, drop}
 use Rattle.std.specs.Prelude.{if◌then◌else◌}
 use Rattle.std.proofs.lemmas.Option.{same_Some}
+use Rattle.ocp_profile.specs.declared.profile.Profile.{Profile}
 use Rattle.bpf_types.specs.declared.line.Line.{Line}
 use Rattle.bpf_types.specs.Line.{is_wide, slots_if}
 use Rattle.bpf_decode.specs.Mirror.Decoding.{decode_result}
@@ -80,18 +81,18 @@ laid_added : (n : ℕ) (lines : List (Option Line)) (x : Result Line LoadFault) 
 laid_added n lines (Ok l) h laid = (count lines (Some l) n h, laid_line lines l (is_wide l) refl laid)
 laid_added n lines (Err fault) h laid = tt
 
-laid_step : (image : List ℕ) (n : ℕ) (lines : List (Option Line)) (second : Bool) → length lines ≡ n → IsLaid lines second →
-    IfOk (slot_read image n (Ok (record { lines = lines; second = second }))) (IsLaidOut (suc n))
-laid_step image n lines true h laid = (count lines None n h, laid_second lines laid)
-laid_step image n lines false h laid = laid_added n lines (line_read n (decode_result (drop (8 * n) image))) h laid
+laid_step : (profile : Profile) (image : List ℕ) (n : ℕ) (lines : List (Option Line)) (second : Bool) → length lines ≡ n → IsLaid lines second →
+    IfOk (slot_read profile image n (Ok (record { lines = lines; second = second }))) (IsLaidOut (suc n))
+laid_step profile image n lines true h laid = (count lines None n h, laid_second lines laid)
+laid_step profile image n lines false h laid = laid_added n lines (line_read profile n (decode_result (drop (8 * n) image))) h laid
 
-laid_next : (image : List ℕ) (n : ℕ) (q : Result Reading LoadFault) → IfOk q (IsLaidOut n) → IfOk (slot_read image n q) (IsLaidOut (suc n))
-laid_next image n (Ok r) h = laid_step image n r.lines r.second h.0 h.1
-laid_next image n (Err fault) h = tt
+laid_next : (profile : Profile) (image : List ℕ) (n : ℕ) (q : Result Reading LoadFault) → IfOk q (IsLaidOut n) → IfOk (slot_read profile image n q) (IsLaidOut (suc n))
+laid_next profile image n (Ok r) h = laid_step profile image n r.lines r.second h.0 h.1
+laid_next profile image n (Err fault) h = tt
 
-pub laid_out : (image : List ℕ) (n : ℕ) → IfOk (slots_read image n) (IsLaidOut n)
-laid_out image zero = (refl, ([], refl))
-laid_out image (suc n) = laid_next image n (slots_read image n) (laid_out image n)
+pub laid_out : (profile : Profile) (image : List ℕ) (n : ℕ) → IfOk (slots_read profile image n) (IsLaidOut n)
+laid_out profile image zero = (refl, ([], refl))
+laid_out profile image (suc n) = laid_next profile image n (slots_read profile image n) (laid_out profile image n)
 
 -- where no slot leads to no line, each has a valid target
 aimed_or : (o : Option ℕ) (fine : Bool) (n : ℕ) → or_at o fine n ≡ None → (o ≡ None) × (fine ≡ true)
@@ -118,8 +119,8 @@ within (x ∷ lines) zero l h = omega arith
 within (x ∷ lines) (suc p) l h = let i : p < length lines = within lines p l h in omega arith
 
 -- each engine call has a number of an engine call
-abbrev pub AllCalled : List (Option Line) → Type 0
-AllCalled lines = (p : ℕ) (l : Line) → line_in lines p ≡ Some l → calls_well l ≡ true
+abbrev pub AllCalled : Profile → List (Option Line) → Type 0
+AllCalled profile lines = (p : ℕ) (l : Line) → line_in lines p ≡ Some l → calls_well profile l ≡ true
 
 in_pushed : (lines : List (Option Line)) (x : Option Line) (p : ℕ) (l : Line) → line_in (lines ++ x ∷ []) p ≡ Some l → (line_in lines p ≡ Some l) ⊎ (x ≡ Some l)
 in_pushed [] (Some m) zero l h = inr h
@@ -128,31 +129,31 @@ in_pushed [] x (suc p) l h = absurd cc
 in_pushed (y ∷ lines) x zero l h = inl h
 in_pushed (y ∷ lines) x (suc p) l h = in_pushed lines x p l h
 
-called_pushed : (lines : List (Option Line)) (m : Line) → calls_well m ≡ true → AllCalled lines → AllCalled (lines ++ Some m ∷ [])
-called_pushed lines m w a p l h = elim (in_pushed lines (Some m) p l h) [
+called_pushed : (profile : Profile) (lines : List (Option Line)) (m : Line) → calls_well profile m ≡ true → AllCalled profile lines → AllCalled profile (lines ++ Some m ∷ [])
+called_pushed profile lines m w a p l h = elim (in_pushed lines (Some m) p l h) [
   | inl i ↦ a p l i
-  | inr e ↦ ap calls_well (sym (same_Some m l e)) ∙ w
+  | inr e ↦ ap (calls_well profile) (sym (same_Some m l e)) ∙ w
 ]
 
-called_none : (lines : List (Option Line)) → AllCalled lines → AllCalled (lines ++ None ∷ [])
-called_none lines a p l h = elim (in_pushed lines None p l h) [ inl i ↦ a p l i | inr e ↦ absurd cc ]
+called_none : (profile : Profile) (lines : List (Option Line)) → AllCalled profile lines → AllCalled profile (lines ++ None ∷ [])
+called_none profile lines a p l h = elim (in_pushed lines None p l h) [ inl i ↦ a p l i | inr e ↦ absurd cc ]
 
-called_line : (lines : List (Option Line)) (slot : ℕ) (m : Line) (b : Bool) → calls_well m ≡ b → AllCalled lines → IfOk (line_added lines (if b then Ok m else Err (BadCall slot))) (λ r. AllCalled r.lines)
-called_line lines slot m true w a = called_pushed lines m w a
-called_line lines slot m false w a = tt
+called_line : (profile : Profile) (lines : List (Option Line)) (slot : ℕ) (m : Line) (b : Bool) → calls_well profile m ≡ b → AllCalled profile lines → IfOk (line_added lines (if b then Ok m else Err (BadCall slot))) (λ r. AllCalled profile r.lines)
+called_line profile lines slot m true w a = called_pushed profile lines m w a
+called_line profile lines slot m false w a = tt
 
-called_added : (lines : List (Option Line)) (slot : ℕ) (x : Result Line DecodeFault) → AllCalled lines → IfOk (line_added lines (line_read slot x)) (λ r. AllCalled r.lines)
-called_added lines slot (Ok m) a = called_line lines slot m (calls_well m) refl a
-called_added lines slot (Err f) a = tt
+called_added : (profile : Profile) (lines : List (Option Line)) (slot : ℕ) (x : Result Line DecodeFault) → AllCalled profile lines → IfOk (line_added lines (line_read profile slot x)) (λ r. AllCalled profile r.lines)
+called_added profile lines slot (Ok m) a = called_line profile lines slot m (calls_well profile m) refl a
+called_added profile lines slot (Err f) a = tt
 
-called_step : (image : List ℕ) (n : ℕ) (lines : List (Option Line)) (second : Bool) → AllCalled lines → IfOk (slot_read image n (Ok (record { lines = lines; second = second }))) (λ r. AllCalled r.lines)
-called_step image n lines true a = called_none lines a
-called_step image n lines false a = called_added lines n (decode_result (drop (8 * n) image)) a
+called_step : (profile : Profile) (image : List ℕ) (n : ℕ) (lines : List (Option Line)) (second : Bool) → AllCalled profile lines → IfOk (slot_read profile image n (Ok (record { lines = lines; second = second }))) (λ r. AllCalled profile r.lines)
+called_step profile image n lines true a = called_none profile lines a
+called_step profile image n lines false a = called_added profile lines n (decode_result (drop (8 * n) image)) a
 
-called_next : (image : List ℕ) (n : ℕ) (q : Result Reading LoadFault) → IfOk q (λ r. AllCalled r.lines) → IfOk (slot_read image n q) (λ r. AllCalled r.lines)
-called_next image n (Ok r) a = called_step image n r.lines r.second a
-called_next image n (Err f) a = tt
+called_next : (profile : Profile) (image : List ℕ) (n : ℕ) (q : Result Reading LoadFault) → IfOk q (λ r. AllCalled profile r.lines) → IfOk (slot_read profile image n q) (λ r. AllCalled profile r.lines)
+called_next profile image n (Ok r) a = called_step profile image n r.lines r.second a
+called_next profile image n (Err f) a = tt
 
-pub all_called : (image : List ℕ) (n : ℕ) → IfOk (slots_read image n) (λ r. AllCalled r.lines)
-all_called image zero = λ p l h. absurd cc
-all_called image (suc n) = called_next image n (slots_read image n) (all_called image n)
+pub all_called : (profile : Profile) (image : List ℕ) (n : ℕ) → IfOk (slots_read profile image n) (λ r. AllCalled profile r.lines)
+all_called profile image zero = λ p l h. absurd cc
+all_called profile image (suc n) = called_next profile image n (slots_read profile image n) (all_called profile image n)

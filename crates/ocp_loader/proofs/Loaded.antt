@@ -3,6 +3,7 @@ use Rattle.std.proofs.Common.{◌≡◌, ℕ, zero, suc, ◌+◌, ◌*◌, ◌/�
 use Rattle.std.specs.Prelude.{if◌then◌else◌}
 use Rattle.std.specs.List.{All}
 use Rattle.std.proofs.lemmas.List.Elements.{All-head, All-tail, All-nil}
+use Rattle.ocp_profile.specs.declared.profile.Profile.{Profile}
 use Rattle.bpf_types.specs.declared.line.Line.{Line}
 use Rattle.bpf_types.specs.Line.{spelling, IsLine, WritesFramePointer}
 use Rattle.bpf_decode.specs.declared.fault.DecodeFault.{DecodeFault}
@@ -28,61 +29,61 @@ use Rattle.ocp_loader.proofs.Complete.{AreDecoded, HasRead, line_reads, reads}
 abbrev pub AreRefused : Type 0
 AreRefused = (octets : List ℕ) (l : Line) → BeginsWith octets l → WritesFramePointer l → decode_result octets ≡ Err fault.WritesFramePointer
 
-no_error : (image : List ℕ) (k n : ℕ) (f : LoadFault) (r : Reading) → slots_read image k ≡ Err f → k ≤ n → slots_read image n ≡ Ok r → ⊥
-no_error image k n f r e l h = let s : slots_read image n ≡ Err f = stays image k n f e l in absurd cc
+no_error : (profile : Profile) (image : List ℕ) (k n : ℕ) (f : LoadFault) (r : Reading) → slots_read profile image k ≡ Err f → k ≤ n → slots_read profile image n ≡ Ok r → ⊥
+no_error profile image k n f r e l h = let s : slots_read profile image n ≡ Err f = stays profile image k n f e l in absurd cc
 
-decode_stop : (image : List ℕ) (n : ℕ) (lines : List (Option Line)) (f : DecodeFault) → slots_read image n ≡ Ok (record { lines = lines; second = false }) → decode_result (drop (8 * n) image) ≡ Err f →
-    slots_read image (suc n) ≡ Err (Decode f n)
-decode_stop image n lines f so_far d = ap (slot_read image n) so_far ∙ ap (λ x. line_added lines (line_read n x)) d
+decode_stop : (profile : Profile) (image : List ℕ) (n : ℕ) (lines : List (Option Line)) (f : DecodeFault) → slots_read profile image n ≡ Ok (record { lines = lines; second = false }) → decode_result (drop (8 * n) image) ≡ Err f →
+    slots_read profile image (suc n) ≡ Err (Decode f n)
+decode_stop profile image n lines f so_far d = ap (slot_read profile image n) so_far ∙ ap (λ x. line_added lines (line_read profile n x)) d
 
-call_stop : (image : List ℕ) (n : ℕ) (lines : List (Option Line)) (l : Line) → slots_read image n ≡ Ok (record { lines = lines; second = false }) → decode_result (drop (8 * n) image) ≡ Ok l → calls_well l ≡ false →
-    slots_read image (suc n) ≡ Err (BadCall n)
-call_stop image n lines l so_far d c = ap (slot_read image n) so_far ∙ ap (λ x. line_added lines (line_read n x)) d ∙ ap (λ x. line_added lines (if x then Ok l else Err (BadCall n))) c
+call_stop : (profile : Profile) (image : List ℕ) (n : ℕ) (lines : List (Option Line)) (l : Line) → slots_read profile image n ≡ Ok (record { lines = lines; second = false }) → decode_result (drop (8 * n) image) ≡ Ok l → calls_well profile l ≡ false →
+    slots_read profile image (suc n) ≡ Err (BadCall n)
+call_stop profile image n lines l so_far d c = ap (slot_read profile image n) so_far ∙ ap (λ x. line_added lines (line_read profile n x)) d ∙ ap (λ x. line_added lines (if x then Ok l else Err (BadCall n))) c
 
 -- an instruction that was read may stand in an image
-line_plain : AreDecoded → AreRefused → (image : List ℕ) (n k : ℕ) (lines : List (Option Line)) (l : Line) (r : Reading) → BeginsWith (drop (8 * n) image) l →
-    slots_read image n ≡ Ok (record { lines = lines; second = false }) → suc n ≤ k → slots_read image k ≡ Ok r → IsPlain l
-line_plain decodes refuses image n k lines l r b so_far le h = elim (decide l) [
-  | inl w ↦ absurd (no_error image (suc n) k (Decode fault.WritesFramePointer n) r (decode_stop image n lines fault.WritesFramePointer so_far (refuses (drop (8 * n) image) l b w)) le h)
-  | inr p ↦ (b.0, p, well (calls_well l) refl p)
+line_plain : (profile : Profile) → AreDecoded → AreRefused → (image : List ℕ) (n k : ℕ) (lines : List (Option Line)) (l : Line) (r : Reading) → BeginsWith (drop (8 * n) image) l →
+    slots_read profile image n ≡ Ok (record { lines = lines; second = false }) → suc n ≤ k → slots_read profile image k ≡ Ok r → IsPlain profile l
+line_plain profile decodes refuses image n k lines l r b so_far le h = elim (decide l) [
+  | inl w ↦ absurd (no_error profile image (suc n) k (Decode fault.WritesFramePointer n) r (decode_stop profile image n lines fault.WritesFramePointer so_far (refuses (drop (8 * n) image) l b w)) le h)
+  | inr p ↦ (b.0, p, well (calls_well profile l) refl p)
 ]
   where
-    well : (c : Bool) → calls_well l ≡ c → ¬ WritesFramePointer l → calls_well l ≡ true
+    well : (c : Bool) → calls_well profile l ≡ c → ¬ WritesFramePointer l → calls_well profile l ≡ true
     well true e p = e
-    well false e p = absurd (no_error image (suc n) k (BadCall n) r (call_stop image n lines l so_far (decodes (drop (8 * n) image) l b p) e) le h)
+    well false e p = absurd (no_error profile image (suc n) k (BadCall n) r (call_stop profile image n lines l so_far (decodes (drop (8 * n) image) l b p) e) le h)
 
 all_front : (P : Line → Type 0) (l : Line) (ls : List Line) → P l → All P ls → All P (l ∷ ls)
 all_front P l ls h a zero d lt = h
 all_front P l ls h a (suc k) d lt = a k d (omega (arith, lt))
 
-all_plain : AreDecoded → AreRefused → (image : List ℕ) (before after : List Line) (k : ℕ) (r : Reading) → image ≡ image_of (before ++ after) → All IsLine after →
-    HasRead image before → length (by_slot (before ++ after)) ≤ k → slots_read image k ≡ Ok r → All IsPlain after
-all_plain decodes refuses image before [] k r e range so_far le h = All-nil IsPlain
-all_plain decodes refuses image before (l ∷ after) k r e range so_far le h =
+all_plain : (profile : Profile) → AreDecoded → AreRefused → (image : List ℕ) (before after : List Line) (k : ℕ) (r : Reading) → image ≡ image_of (before ++ after) → All IsLine after →
+    HasRead profile image before → length (by_slot (before ++ after)) ≤ k → slots_read profile image k ≡ Ok r → All (IsPlain profile) after
+all_plain profile decodes refuses image before [] k r e range so_far le h = All-nil (IsPlain profile)
+all_plain profile decodes refuses image before (l ∷ after) k r e range so_far le h =
     let n = length (by_slot before) in
     let again : (before ++ l ∷ []) ++ after ≡ before ++ l ∷ after = append_assoc before (l ∷ []) after in
     let parts : image ≡ image_of before ++ (spelling l ++ image_of after) = e ∙ image_of-append before (l ∷ after) in
     let here : drop (8 * n) image ≡ spelling l ++ image_of after =
     ap (λ (i : ℕ). drop i image) (sym (length_image before)) ∙ ap (λ (xs : List ℕ). drop (length (image_of before)) xs) parts ∙ drop_front (image_of before) (spelling l ++ image_of after) in
     let some : suc n ≤ k = omega (arith, le, ap length (by_slot-append before (l ∷ after)), length-append (by_slot before) (by_slot (l ∷ after)), length-append (slots_of l) (by_slot after)) in
-    let p : IsPlain l = line_plain decodes refuses image n k (by_slot before) l r (All-head IsLine l after range, image_of after, here) so_far some h in
-    let done = line_reads decodes image before l after e p so_far in
-    all_front IsPlain l after p
-    (all_plain decodes refuses image (before ++ l ∷ []) after k r (e ∙ ap image_of (sym again)) (All-tail IsLine l after range) done (omega (arith, le, ap (λ (ls : List Line). length (by_slot ls)) again)) h)
+    let p : IsPlain profile l = line_plain profile decodes refuses image n k (by_slot before) l r (All-head IsLine l after range, image_of after, here) so_far some h in
+    let done = line_reads profile decodes image before l after e p so_far in
+    all_front (IsPlain profile) l after p
+    (all_plain profile decodes refuses image (before ++ l ∷ []) after k r (e ∙ ap image_of (sym again)) (All-tail IsLine l after range) done (omega (arith, le, ap (λ (ls : List Line). length (by_slot ls)) again)) h)
 
-pub may_run : AreDecoded → AreRefused → (image : List ℕ) (ls : List Line) (ms : List (Option Line)) → IsImageOf image ls → load_result image ≡ Ok ms → IsAdmitted image
-may_run decodes refuses image ls ms is h =
+pub may_run : (profile : Profile) → AreDecoded → AreRefused → (image : List ℕ) (ls : List Line) (ms : List (Option Line)) → IsImageOf image ls → load_result profile image ≡ Ok ms → IsAdmitted profile image
+may_run profile decodes refuses image ls ms is h =
     let n = length (by_slot ls) in
     let count : length image ≡ 8 * n = ap length is.octets ∙ length_image ls in
     let same : length image / 8 ≡ n = omega (arith, count) in
-    let loaded = read_lines image ms h in
-    let read : slots_read image n ≡ Ok loaded.0 = ap (slots_read image) (sym same) ∙ loaded.1 in
-    let plain : All IsPlain ls = all_plain decodes refuses image [] ls n loaded.0 is.octets is.ranges refl (omega arith) read in
-    let whole : slots_read image n ≡ Ok (record { lines = by_slot ls; second = false }) = reads decodes image [] ls is.octets plain refl in
+    let loaded = read_lines profile image ms h in
+    let read : slots_read profile image n ≡ Ok loaded.0 = ap (slots_read profile image) (sym same) ∙ loaded.1 in
+    let plain : All (IsPlain profile) ls = all_plain profile decodes refuses image [] ls n loaded.0 is.octets is.ranges refl (omega arith) read in
+    let whole : slots_read profile image n ≡ Ok (record { lines = by_slot ls; second = false }) = reads profile decodes image [] ls is.octets plain refl in
     let reading : record { lines = by_slot ls; second = false } ≡ loaded.0 = cc in
     let lines : by_slot ls ≡ ms = ap (λ (r : Reading). r.lines) reading ∙ loaded.2 in
     let k : 8 * (n + 0) ≡ length image = omega (arith, count) in
-    admitted image n ms false h count
+    admitted profile image n ms false h count
     (record {
       lines = ls;
       slots = lines ∙ sym (append_nil ms);

@@ -3,6 +3,8 @@ use Rattle.std.proofs.Common.{◌≡◌, ℕ, zero, suc, ◌+◌, ◌*◌, ◌�
 use Rattle.std.specs.Prelude.{is_some}
 use Rattle.std.specs.List.{All}
 use Rattle.std.proofs.lemmas.Option.{same_Some}
+use Rattle.ocp_profile.specs.declared.profile.Profile.{Profile}
+use Rattle.ocp_profile.specs.declared.profile.Profile.TheVariants.{Two}
 use Rattle.bpf_types.specs.declared.line.Line.{Line}
 use Rattle.bpf_types.specs.Line.{is_wide, IsLine}
 use Rattle.bpf_listing.specs.Listing.{image_of}
@@ -12,6 +14,7 @@ use Rattle.ocp_loader.specs.Mirror.Reading.{IsPlain}
 use Rattle.ocp_loader.specs.Mirror.Checks.{is_place, is_target}
 use Rattle.ocp_loader.specs.Admitted.{IsLawful, IsAdmittedAs}
 use Rattle.ocp_loader.proofs.Laid.{by_slot-append}
+use Rattle.ocp_loader.proofs.Stay.{called_by}
 use Rattle.ocp_loader.proofs.Octets.{length_image, place_by_slot}
 
 -- one line in front
@@ -77,44 +80,54 @@ pub target_at : (ls : List Line) (p : ℕ) (l : Line) → HasValidTarget ls p l 
 target_at ls p l a = target_by ls (target_of p l) a
 
 -- the same as IsAdmittedAs, by slot
-pub record IsSound (image : List ℕ) (lines : List Line) : Type 0 where
-  pub whole : All IsPlain lines × (image ≡ image_of lines)
+pub record IsSound (profile : Profile) (image : List ℕ) (lines : List Line) : Type 0 where
+  pub whole : All (IsPlain profile) lines × (image ≡ image_of lines)
   pub short : length (by_slot lines) ≤ 2048
   pub aimed : (slot : ℕ) (l : Line) → line_in (by_slot lines) slot ≡ Some l → is_target (by_slot lines) (target_of slot l) ≡ true
   pub ends : (before : List Line) × (l : Line) × (lines ≡ before ++ l ∷ []) × (is_last l ≡ true)
 
-pub ranges_of : (ls : List Line) → All IsPlain ls → All IsLine ls
-ranges_of ls a = λ k d lt. (a k d lt).0
+pub ranges_of : (profile : Profile) (ls : List Line) → All (IsPlain profile) ls → All IsLine ls
+ranges_of profile ls a = λ k d lt. (a k d lt).0
 
-pub lawful_of : (ls : List Line) → All IsPlain ls → All IsLawful ls
-lawful_of ls a = λ k d lt. ((a k d lt).1, (a k d lt).2)
+pub lawful_of : (profile : Profile) (ls : List Line) → All (IsPlain profile) ls → All (IsLawful profile) ls
+lawful_of profile ls a = λ k d lt. ((a k d lt).1, (a k d lt).2)
 
-plain_of : (ls : List Line) → All IsLine ls → All IsLawful ls → All IsPlain ls
-plain_of ls a w = λ k d lt. (a k d lt, (w k d lt).0, (w k d lt).1)
+plain_of : (profile : Profile) (ls : List Line) → All IsLine ls → All (IsLawful profile) ls → All (IsPlain profile) ls
+plain_of profile ls a w = λ k d lt. (a k d lt, (w k d lt).0, (w k d lt).1)
 
 some_slots : (before ls : List Line) (l : Line) → ls ≡ before ++ l ∷ [] → 1 ≤ length (by_slot ls)
 some_slots before ls l e =
     let n : length (by_slot ls) ≡ length (by_slot before) + length (by_slot (l ∷ [])) = ap (λ xs. length (by_slot xs)) e ∙ ap length (by_slot-append before (l ∷ [])) ∙ length-append (by_slot before) (by_slot (l ∷ [])) in
     omega (arith, n)
 
-pub admitted_of : (image : List ℕ) (lines : List Line) → IsSound image lines → IsAdmittedAs image lines
-admitted_of image lines s =
+pub admitted_of : (profile : Profile) (image : List ℕ) (lines : List Line) → IsSound profile image lines → IsAdmittedAs profile image lines
+admitted_of profile image lines s =
     let n : length image ≡ 8 * length (by_slot lines) = ap length s.whole.1 ∙ length_image lines in
     let some = some_slots s.ends.0 lines s.ends.1 s.ends.2 in
     record {
       slots = record { whole = omega (arith, n); some = omega (arith, n, some); few = omega (arith, n, s.short) };
-      whole = record { ranges = ranges_of lines s.whole.0; octets = s.whole.1 };
-      lawful = lawful_of lines s.whole.0;
+      whole = record { ranges = ranges_of profile lines s.whole.0; octets = s.whole.1 };
+      lawful = lawful_of profile lines s.whole.0;
       aimed = λ slot l a. aimed_of lines slot l (s.aimed slot l (of_at lines slot l a));
       ends = record { slot = place_of s.ends.0; line = s.ends.1; last = record { before = s.ends.0; order = s.ends.2; place = refl }; leaves = s.ends.3 };
     }
 
-pub sound_of : (image : List ℕ) (lines : List Line) → IsAdmittedAs image lines → IsSound image lines
-sound_of image lines a =
+pub sound_of : (profile : Profile) (image : List ℕ) (lines : List Line) → IsAdmittedAs profile image lines → IsSound profile image lines
+sound_of profile image lines a =
     let n : length image ≡ 8 * length (by_slot lines) = ap length a.whole.octets ∙ length_image lines in
     record {
-      whole = (plain_of lines a.whole.ranges a.lawful, a.whole.octets);
+      whole = (plain_of profile lines a.whole.ranges a.lawful, a.whole.octets);
       short = omega (arith, n, a.slots.few);
       aimed = λ slot l h. target_at lines slot l (a.aimed slot l (at_of lines slot l h));
       ends = (a.ends.last.before, a.ends.line, a.ends.last.order, a.ends.leaves);
     }
+
+-- what may be run under a profile may be run under Two
+pub admitted_by_two : (profile : Profile) (image : List ℕ) (lines : List Line) → IsAdmittedAs profile image lines → IsAdmittedAs Two image lines
+admitted_by_two profile image lines a = record {
+  slots = a.slots;
+  whole = a.whole;
+  lawful = λ k d lt. let h = a.lawful k d lt in (h.0, called_by profile _ h.1);
+  aimed = a.aimed;
+  ends = a.ends;
+}

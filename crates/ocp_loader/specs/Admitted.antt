@@ -1,15 +1,16 @@
 -- Which images may be run, in words of their lines.
 use Rattle.std.specs.Prelude.{◌≡◌, ℕ, ◌/◌, ◌%◌, ◌≤◌, true, List, length}
 use Rattle.std.specs.List.{All}
+use Rattle.ocp_profile.specs.declared.profile.Profile.{Profile}
 use Rattle.bpf_types.specs.declared.line.Line.{Line}
 use Rattle.bpf_types.specs.Line.{WritesFramePointer}
 use Rattle.bpf_listing.specs.Listing.{IsImageOf}
 use Rattle.ocp_loader.specs.Image.{max_slots, calls_well, is_last}
 use Rattle.ocp_loader.specs.Places.{IsLast, AllHaveValidTargets}
 
--- a line that may stand in an image, wherever it leads
-abbrev pub IsLawful : Line → Type 0
-IsLawful l = ¬ WritesFramePointer l × (calls_well l ≡ true)
+-- a line that may stand in an image under the profile, wherever it leads
+abbrev pub IsLawful : Profile → Line → Type 0
+IsLawful profile l = ¬ WritesFramePointer l × (calls_well profile l ≡ true)
 
 -- the octets are 1 to 2,048 whole slots
 pub record HasSlots (image : List ℕ) : Type 0 where
@@ -24,15 +25,15 @@ pub record EndsWell (lines : List Line) : Type 0 where
   pub last : IsLast lines slot line
   pub leaves : is_last line ≡ true
 
--- the image may be run, and these are its lines
-pub record IsAdmittedAs (image : List ℕ) (lines : List Line) : Type 0 where
+-- the image may be run under the profile, and these are its lines
+pub record IsAdmittedAs (profile : Profile) (image : List ℕ) (lines : List Line) : Type 0 where
   pub slots : HasSlots image
   pub whole : IsImageOf image lines
-  pub lawful : All IsLawful lines
+  pub lawful : All (IsLawful profile) lines
   pub aimed : AllHaveValidTargets lines
   pub ends : EndsWell lines
 
--- the image may be run
-pub record IsAdmitted (image : List ℕ) : Type 0 where
+-- the image may be run under the profile
+pub record IsAdmitted (profile : Profile) (image : List ℕ) : Type 0 where
   pub lines : List Line
-  pub admitted : IsAdmittedAs image lines
+  pub admitted : IsAdmittedAs profile image lines
