@@ -4,6 +4,7 @@ use Rattle.std.specs.Prelude.{codes, ◌&&◌, ◌==◌, slice_index}
 use Rattle.std.specs.List.{All, list_all}
 use Rattle.std.specs.Str.Lines.{strip_carriage_return}
 use Rattle.std.proofs.lemmas.Bool.Decides.{nat_tests}
+use Rattle.ocp_profile.specs.declared.profile.Profile.{Profile}
 use Rattle.bpf_types.specs.declared.line.Line.{Line}
 use Rattle.bpf_types.specs.Line.{IsLine, slots_in}
 use Rattle.bpf_listing.specs.Canonical.{canonical}
@@ -90,15 +91,15 @@ listing_means texts writes ls h = record {
 }
 
 -- an image that may be run, of these lines, may be run as these lines
-pub admitted_as : ((image : List ℕ) (a b : List Line) → IsImageOf image a → IsImageOf image b → a ≡ b) → (image : List ℕ) (lines : List Line) → IsAdmitted image → IsImageOf image lines → IsAdmittedAs image lines
-admitted_as one image lines h k = subst (IsAdmittedAs image) (one image h.lines lines h.admitted.whole k) h.admitted
+pub admitted_as : (profile : Profile) → ((image : List ℕ) (a b : List Line) → IsImageOf image a → IsImageOf image b → a ≡ b) → (image : List ℕ) (lines : List Line) → IsAdmitted profile image → IsImageOf image lines → IsAdmittedAs profile image lines
+admitted_as profile one image lines h k = subst (IsAdmittedAs profile image) (one image h.lines lines h.admitted.whole k) h.admitted
 
 -- the listing of an image that may be run means its instructions and no others
-pub listing_means_image : AreTexts → AreWritten → (image : List ℕ) (lines : List Line) → IsAdmittedAs image lines → Means (listing lines) lines
-listing_means_image texts writes image lines h = listing_means texts writes lines h.whole.ranges
+pub listing_means_image : (profile : Profile) → AreTexts → AreWritten → (image : List ℕ) (lines : List Line) → IsAdmittedAs profile image lines → Means (listing lines) lines
+listing_means_image profile texts writes image lines h = listing_means texts writes lines h.whole.ranges
 
-pub listing_means_no_other : AreTexts → AreWritten → AreMeantOnce → (image : List ℕ) (lines ls : List Line) → IsAdmittedAs image lines → Means (listing lines) ls → ls ≡ lines
-listing_means_no_other texts writes meaning image lines ls h k = meaning (listing lines) ls lines k (listing_means_image texts writes image lines h)
+pub listing_means_no_other : (profile : Profile) → AreTexts → AreWritten → AreMeantOnce → (image : List ℕ) (lines ls : List Line) → IsAdmittedAs profile image lines → Means (listing lines) ls → ls ≡ lines
+listing_means_no_other profile texts writes meaning image lines ls h k = meaning (listing lines) ls lines k (listing_means_image profile texts writes image lines h)
 
 -- what is refused where an image would do is memory
 pub memory_alone : {V E : Type 0} (m fault : E) (image : V) (result : Result V E) → result ≡ Err fault → (result ≡ Err m) ⊎ (result ≡ Ok image) → fault ≡ m

@@ -4,6 +4,7 @@ use Rattle.std.specs.Prelude.{FitsSigned}
 use Rattle.std.specs.Int.{w16, w32}
 use Rattle.std.specs.List.{All}
 use Rattle.std.proofs.lemmas.Bool.Decides.{Decides-ltb}
+use Rattle.ocp_profile.specs.declared.profile.Profile.{Profile}
 use Rattle.bpf_types.specs.declared.line.Line.{Line}
 use Rattle.bpf_types.specs.declared.line.Line.TheVariants as line
 use Rattle.bpf_types.specs.Line.{IsLine}
@@ -261,55 +262,55 @@ same_fault : {V E : Type 0} (r : Result V E) (a b : E) → r ≡ Err a → r ≡
 same_fault r a b p q = let e = sym p ∙ q in cc
 
 -- an image without octets has a fault of its length
-empty_code : (ls : List Line) (f : LoadFault) → ls ≡ [] → load_result (image_of ls) ≡ Err f → nat_le (number_of f) 3 ≡ true
+empty_code : (profile : Profile) (ls : List Line) (f : LoadFault) → ls ≡ [] → load_result profile (image_of ls) ≡ Err f → nat_le (number_of f) 3 ≡ true
 unfolding load_result
-empty_code [] f none e = ap (λ (g : LoadFault). nat_le (number_of g) 3) (same_fault (load_result []) EmptyCode f refl e)
-empty_code (l ∷ ls) f none e = absurd cc
+empty_code profile [] f none e = ap (λ (g : LoadFault). nat_le (number_of g) 3) (same_fault (load_result profile []) EmptyCode f refl e)
+empty_code profile (l ∷ ls) f none e = absurd cc
 
-line_of_fault : (ws : List Written) (ls : List Line) (f : LoadFault) → AreInstructions ws (entries_of 1 0 ws) ls → load_result (image_of ls) ≡ Err f
+line_of_fault : (profile : Profile) (ws : List Written) (ls : List Line) (f : LoadFault) → AreInstructions ws (entries_of 1 0 ws) ls → load_result profile (image_of ls) ≡ Err f
     → (number : ℕ) × IsLineOf (nat_le (number_of f) 3) (entries_of 1 0 ws) (slot_of f) number
-line_of_fault ws ls f is e = by (nat_le (number_of f) 3) refl
+line_of_fault profile ws ls f is e = by (nat_le (number_of f) 3) refl
   where
     by : (b : Bool) → nat_le (number_of f) 3 ≡ b → (number : ℕ) × IsLineOf b (entries_of 1 0 ws) (slot_of f) number
     by true low = (0, refl)
     by false high =
         let up = line_up_to (entries_of 1 0 ws) (slot_of f) in
-        let some = λ (none : entries_of 1 0 ws ≡ []). (let bad = sym high ∙ empty_code ls f (none_of_none ws (entries_of 1 0 ws) ls none is) e in absurd cc) in
+        let some = λ (none : entries_of 1 0 ws ≡ []). (let bad = sym high ∙ empty_code profile ls f (none_of_none ws (entries_of 1 0 ws) ls none is) e in absurd cc) in
         (up.0, line_found 1 ws (entries_of 1 0 ws) (slot_of f) up.0 refl some up.1)
 
-of_image : (text : List ℕ) (ws : List Written) (ls : List Line) → IsWritten text ws → AreInstructions ws (entries_of 1 0 ws) ls → HasMeaning text ⊎ HasSomeFault text
-of_image text ws ls w is = by (load_result (image_of ls)) refl
+of_image : (profile : Profile) (text : List ℕ) (ws : List Written) (ls : List Line) → IsWritten text ws → AreInstructions ws (entries_of 1 0 ws) ls → HasMeaning profile text ⊎ HasSomeFault profile text
+of_image profile text ws ls w is = by (load_result profile (image_of ls)) refl
   where
-    by : (r : Result (List (Option Line)) LoadFault) → load_result (image_of ls) ≡ r → HasMeaning text ⊎ HasSomeFault text
+    by : (r : Result (List (Option Line)) LoadFault) → load_result profile (image_of ls) ≡ r → HasMeaning profile text ⊎ HasSomeFault profile text
     by (Ok lines) e = inl (record { lines = ls; means = record { lines = ws; written = w; instructions = is }; loads = ap is_ok e })
     by (Err f) e =
-        let at = line_of_fault ws ls f is e in
+        let at = line_of_fault profile ws ls f is e in
         inr (record {
           line = at.0;
           why = why.Load f;
           fault = inr (inr (record { lines = ws; instructions = ls; written = w; meant = is; refused = e; counted = at.1 }));
         })
 
-of_written : (text : List ℕ) (ws : List Written) → IsWritten text ws → AreMeant ws (entries_of 1 0 ws) ⊎ SomeMiss ws (entries_of 1 0 ws) → HasMeaning text ⊎ HasSomeFault text
-of_written text ws w (inl (ls, is)) = of_image text ws ls w is
-of_written text ws w (inr (n, y, f)) = inr (record { line = n; why = y; fault = inr (inl (record { lines = ws; written = w; first = f })) })
+of_written : (profile : Profile) (text : List ℕ) (ws : List Written) → IsWritten text ws → AreMeant ws (entries_of 1 0 ws) ⊎ SomeMiss ws (entries_of 1 0 ws) → HasMeaning profile text ⊎ HasSomeFault profile text
+of_written profile text ws w (inl (ls, is)) = of_image profile text ws ls w is
+of_written profile text ws w (inr (n, y, f)) = inr (record { line = n; why = y; fault = inr (inl (record { lines = ws; written = w; first = f })) })
 
 -- all lines are read
-pub all_read : (text rest : List ℕ) → rest ≡ [] → Progress text rest ⊎ SomeLineFault text → HasMeaning text ⊎ HasSomeFault text
-all_read text rest e (inr (n, y, f)) = inr (record { line = n; why = y; fault = inl f })
-all_read text rest e (inl t) =
+pub all_read : (profile : Profile) (text rest : List ℕ) → rest ≡ [] → Progress text rest ⊎ SomeLineFault text → HasMeaning profile text ⊎ HasSomeFault profile text
+all_read profile text rest e (inr (n, y, f)) = inr (record { line = n; why = y; fault = inl f })
+all_read profile text rest e (inl t) =
     let w : IsWritten text t.written = record {
       each = subst (λ (ls : List (List ℕ)). EachWritten ls t.written) (sym (t.whole ∙ ap (λ (r : List ℕ). t.done ++ line_texts r) e ∙ append-nil t.done)) t.each;
       distinct = t.distinct;
     } in
-    of_written text t.written w (all_entries t.written 1 0 (line_texts text) t.written w.each)
+    of_written profile text t.written w (all_entries t.written 1 0 (line_texts text) t.written w.each)
 
 -- what the law of meanings and faults says
-abbrev pub HasFaultOfImage : Type 0
-HasFaultOfImage = (text : List ℕ) (lines : List Line) (number : ℕ) (y : Why) → Means text lines → IsFault text number y → (fault : LoadFault) × (y ≡ why.Load fault) × (load_result (image_of lines) ≡ Err fault)
+abbrev pub HasFaultOfImage : Profile → Type 0
+HasFaultOfImage profile = (text : List ℕ) (lines : List Line) (number : ℕ) (y : Why) → Means text lines → IsFault profile text number y → (fault : LoadFault) × (y ≡ why.Load fault) × (load_result profile (image_of lines) ≡ Err fault)
 
-pub no_fault : HasFaultOfImage → (text : List ℕ) → HasMeaning text → HasSomeFault text → ⊥
-no_fault law text m f =
+pub no_fault : (profile : Profile) → HasFaultOfImage profile → (text : List ℕ) → HasMeaning profile text → HasSomeFault profile text → ⊥
+no_fault profile law text m f =
     let q = law text m.lines f.line f.why m.means f.fault in
     let bad = sym (ap is_ok q.2) ∙ m.loads in
     absurd cc

@@ -3,6 +3,7 @@ use Rattle.std.proofs.Common.{Bool, true, false, ◌⊎◌, ◌≡◌, ◌<◌, 
 use Rattle.std.specs.Prelude.{nat_le}
 use Rattle.std.specs.List.{All}
 use Rattle.std.proofs.lemmas.List.Elements.{All-head, All-tail}
+use Rattle.ocp_profile.specs.declared.profile.Profile.{Profile}
 use Rattle.bpf_types.specs.declared.line.Line.{Line}
 use Rattle.bpf_types.specs.Line.{IsLine}
 use Rattle.bpf_listing.specs.Listing.{image_of}
@@ -222,14 +223,14 @@ one_line_of true es slot m n h k = h ∙ sym k
 one_line_of false es slot m n h k = one_line_of_slot es slot m n h k
 
 -- the instructions of a text are those whose image has the fault
-pub load_fault_of : AreReadOnce → (text : List ℕ) (ws : List Written) (ls : List Line) (number : ℕ) (fault : LoadFault) → IsWritten text ws → AreInstructions ws (entries_of 1 0 ws) ls → HasLoadFault text number fault → load_result (image_of ls) ≡ Err fault
-load_fault_of once text ws ls number fault h is k =
+pub load_fault_of : (profile : Profile) → AreReadOnce → (text : List ℕ) (ws : List Written) (ls : List Line) (number : ℕ) (fault : LoadFault) → IsWritten text ws → AreInstructions ws (entries_of 1 0 ws) ls → HasLoadFault profile text number fault → load_result profile (image_of ls) ≡ Err fault
+load_fault_of profile once text ws ls number fault h is k =
     let same = meant_by once k.lines ws k.instructions ls (one_list once text k.lines ws k.written h) k.meant is in
-    subst (λ (x : List Line). load_result (image_of x) ≡ Err fault) same k.refused
+    subst (λ (x : List Line). load_result profile (image_of x) ≡ Err fault) same k.refused
 
-one_load_fault : AreReadOnce → (text : List ℕ) (m n : ℕ) (f g : LoadFault) → HasLoadFault text m f → HasLoadFault text n g → (m ≡ n) × (f ≡ g)
-one_load_fault once text m n f g h k =
-    let also = load_fault_of once text h.lines h.instructions n g h.written h.meant k in
+one_load_fault : (profile : Profile) → AreReadOnce → (text : List ℕ) (m n : ℕ) (f g : LoadFault) → HasLoadFault profile text m f → HasLoadFault profile text n g → (m ≡ n) × (f ≡ g)
+one_load_fault profile once text m n f g h k =
+    let also = load_fault_of profile once text h.lines h.instructions n g h.written h.meant k in
     let is = h.refused in
     let same : g ≡ f = cc in
     let lines = one_list once text k.lines h.lines k.written h.written in (
@@ -240,50 +241,50 @@ one_load_fault once text m n f g h k =
 
 -- ---- the fault of a text
 
-loads : AreReadOnce → (text : List ℕ) (m n : ℕ) (y z : Why) → IsLoadFault text m y → IsLoadFault text n z → (m ≡ n) × (y ≡ z)
-loads once text m n (why.Load f) (why.Load g) h k = let p = one_load_fault once text m n f g h k in (p.0, ap why.Load p.1)
-loads once text m n (why.Load f) why.Syntax h k = absurd k
-loads once text m n (why.Load f) why.Range h k = absurd k
-loads once text m n (why.Load f) why.DuplicateLabel h k = absurd k
-loads once text m n (why.Load f) why.UnknownLabel h k = absurd k
-loads once text m n why.Syntax z h k = absurd h
-loads once text m n why.Range z h k = absurd h
-loads once text m n why.DuplicateLabel z h k = absurd h
-loads once text m n why.UnknownLabel z h k = absurd h
+loads : (profile : Profile) → AreReadOnce → (text : List ℕ) (m n : ℕ) (y z : Why) → IsLoadFault profile text m y → IsLoadFault profile text n z → (m ≡ n) × (y ≡ z)
+loads profile once text m n (why.Load f) (why.Load g) h k = let p = one_load_fault profile once text m n f g h k in (p.0, ap why.Load p.1)
+loads profile once text m n (why.Load f) why.Syntax h k = absurd k
+loads profile once text m n (why.Load f) why.Range h k = absurd k
+loads profile once text m n (why.Load f) why.DuplicateLabel h k = absurd k
+loads profile once text m n (why.Load f) why.UnknownLabel h k = absurd k
+loads profile once text m n why.Syntax z h k = absurd h
+loads profile once text m n why.Range z h k = absurd h
+loads profile once text m n why.DuplicateLabel z h k = absurd h
+loads profile once text m n why.UnknownLabel z h k = absurd h
 
 -- a text whose image has a fault has none of the earlier ones
-load_alone : AreReadOnce → (text : List ℕ) (m n : ℕ) (y z : Why) → IsLoadFault text m y → HasLineFault text n z ⊎ HasNameFault text n z → ⊥
-load_alone once text m n (why.Load f) z h (inl k) = written_no_fault once text h.lines n z h.written k
-load_alone once text m n (why.Load f) z h (inr k) = meant_no_miss once text h.lines h.instructions n z h.written h.meant k
-load_alone once text m n why.Syntax z h k = h
-load_alone once text m n why.Range z h k = h
-load_alone once text m n why.DuplicateLabel z h k = h
-load_alone once text m n why.UnknownLabel z h k = h
+load_alone : (profile : Profile) → AreReadOnce → (text : List ℕ) (m n : ℕ) (y z : Why) → IsLoadFault profile text m y → HasLineFault text n z ⊎ HasNameFault text n z → ⊥
+load_alone profile once text m n (why.Load f) z h (inl k) = written_no_fault once text h.lines n z h.written k
+load_alone profile once text m n (why.Load f) z h (inr k) = meant_no_miss once text h.lines h.instructions n z h.written h.meant k
+load_alone profile once text m n why.Syntax z h k = h
+load_alone profile once text m n why.Range z h k = h
+load_alone profile once text m n why.DuplicateLabel z h k = h
+load_alone profile once text m n why.UnknownLabel z h k = h
 
-pub one_fault : AreReadOnce → (text : List ℕ) (m n : ℕ) (y z : Why) → IsFault text m y → IsFault text n z → (m ≡ n) × (y ≡ z)
-one_fault once text m n y z (inl h) (inl k) = one_line_fault once text m n y z h k
-one_fault once text m n y z (inl h) (inr (inl k)) = absurd (written_no_fault once text k.lines m y k.written h)
-one_fault once text m n y z (inl h) (inr (inr k)) = absurd (load_alone once text n m z y k (inl h))
-one_fault once text m n y z (inr (inl h)) (inl k) = absurd (written_no_fault once text h.lines n z h.written k)
-one_fault once text m n y z (inr (inl h)) (inr (inl k)) = one_name_fault once text m n y z h k
-one_fault once text m n y z (inr (inl h)) (inr (inr k)) = absurd (load_alone once text n m z y k (inr h))
-one_fault once text m n y z (inr (inr h)) (inl k) = absurd (load_alone once text m n y z h (inl k))
-one_fault once text m n y z (inr (inr h)) (inr (inl k)) = absurd (load_alone once text m n y z h (inr k))
-one_fault once text m n y z (inr (inr h)) (inr (inr k)) = loads once text m n y z h k
+pub one_fault : (profile : Profile) → AreReadOnce → (text : List ℕ) (m n : ℕ) (y z : Why) → IsFault profile text m y → IsFault profile text n z → (m ≡ n) × (y ≡ z)
+one_fault profile once text m n y z (inl h) (inl k) = one_line_fault once text m n y z h k
+one_fault profile once text m n y z (inl h) (inr (inl k)) = absurd (written_no_fault once text k.lines m y k.written h)
+one_fault profile once text m n y z (inl h) (inr (inr k)) = absurd (load_alone profile once text n m z y k (inl h))
+one_fault profile once text m n y z (inr (inl h)) (inl k) = absurd (written_no_fault once text h.lines n z h.written k)
+one_fault profile once text m n y z (inr (inl h)) (inr (inl k)) = one_name_fault once text m n y z h k
+one_fault profile once text m n y z (inr (inl h)) (inr (inr k)) = absurd (load_alone profile once text n m z y k (inr h))
+one_fault profile once text m n y z (inr (inr h)) (inl k) = absurd (load_alone profile once text m n y z h (inl k))
+one_fault profile once text m n y z (inr (inr h)) (inr (inl k)) = absurd (load_alone profile once text m n y z h (inr k))
+one_fault profile once text m n y z (inr (inr h)) (inr (inr k)) = loads profile once text m n y z h k
 
 -- the fault of a text that means instructions is that of their image
-loaded : AreReadOnce → (text : List ℕ) (ls : List Line) (number : ℕ) (y : Why) → Means text ls → IsLoadFault text number y → (fault : LoadFault) × (y ≡ why.Load fault) × (load_result (image_of ls) ≡ Err fault)
-loaded once text ls number (why.Load fault) h k = (fault, refl, load_fault_of once text h.lines ls number fault h.written h.instructions k)
-loaded once text ls number why.Syntax h k = absurd k
-loaded once text ls number why.Range h k = absurd k
-loaded once text ls number why.DuplicateLabel h k = absurd k
-loaded once text ls number why.UnknownLabel h k = absurd k
+loaded : (profile : Profile) → AreReadOnce → (text : List ℕ) (ls : List Line) (number : ℕ) (y : Why) → Means text ls → IsLoadFault profile text number y → (fault : LoadFault) × (y ≡ why.Load fault) × (load_result profile (image_of ls) ≡ Err fault)
+loaded profile once text ls number (why.Load fault) h k = (fault, refl, load_fault_of profile once text h.lines ls number fault h.written h.instructions k)
+loaded profile once text ls number why.Syntax h k = absurd k
+loaded profile once text ls number why.Range h k = absurd k
+loaded profile once text ls number why.DuplicateLabel h k = absurd k
+loaded profile once text ls number why.UnknownLabel h k = absurd k
 
-pub fault_of_meaning : AreReadOnce → (text : List ℕ) (ls : List Line) (number : ℕ) (y : Why) → Means text ls → IsFault text number y → (fault : LoadFault) × (y ≡ why.Load fault) × (load_result (image_of ls) ≡ Err fault)
-fault_of_meaning once text ls number y h (inl k) = absurd (written_no_fault once text h.lines number y h.written k)
-fault_of_meaning once text ls number y h (inr (inl k)) = absurd (meant_no_miss once text h.lines ls number y h.written h.instructions k)
-fault_of_meaning once text ls number y h (inr (inr k)) = loaded once text ls number y h k
+pub fault_of_meaning : (profile : Profile) → AreReadOnce → (text : List ℕ) (ls : List Line) (number : ℕ) (y : Why) → Means text ls → IsFault profile text number y → (fault : LoadFault) × (y ≡ why.Load fault) × (load_result profile (image_of ls) ≡ Err fault)
+fault_of_meaning profile once text ls number y h (inl k) = absurd (written_no_fault once text h.lines number y h.written k)
+fault_of_meaning profile once text ls number y h (inr (inl k)) = absurd (meant_no_miss once text h.lines ls number y h.written h.instructions k)
+fault_of_meaning profile once text ls number y h (inr (inr k)) = loaded profile once text ls number y h k
 
 -- a text that means the instructions of an admitted image has no fault
-pub meaning_or_fault : AreReadOnce → ((image : List ℕ) (fault : LoadFault) → load_result image ≡ Err fault → ¬ IsAdmitted image) → (text : List ℕ) (ls : List Line) (number : ℕ) (y : Why) → Means text ls → IsAdmitted (image_of ls) → IsFault text number y → ⊥
-meaning_or_fault once refused text ls number y h a k = let p = fault_of_meaning once text ls number y h k in refused (image_of ls) p.0 p.2 a
+pub meaning_or_fault : (profile : Profile) → AreReadOnce → ((image : List ℕ) (fault : LoadFault) → load_result profile image ≡ Err fault → ¬ IsAdmitted profile image) → (text : List ℕ) (ls : List Line) (number : ℕ) (y : Why) → Means text ls → IsAdmitted profile (image_of ls) → IsFault profile text number y → ⊥
+meaning_or_fault profile once refused text ls number y h a k = let p = fault_of_meaning profile once text ls number y h k in refused (image_of ls) p.0 p.2 a

@@ -1,5 +1,6 @@
 -- What the assembler answers.
 use Rattle.std.specs.Prelude.{ℕ, List, IsOk}
+use Rattle.ocp_profile.specs.declared.profile.Profile.{Profile}
 use Rattle.bpf_types.specs.declared.line.Line.{Line}
 use Rattle.bpf_listing.specs.Listing.{image_of}
 use Rattle.ocp_loader.specs.LoadResult.{load_result}
@@ -11,26 +12,26 @@ use Rattle.bpf_assembler.specs.declared.fault.AsmFault.{AsmFault}
 use Rattle.bpf_assembler.specs.declared.fault.AsmFault.TheVariants.{Memory, At}
 
 -- the text means the lines of the image, which may be run
-pub record IsImageOfText (text image : List ℕ) : Type 0 where
+pub record IsImageOfText (profile : Profile) (text image : List ℕ) : Type 0 where
   pub lines : List Line
   pub means : Means text lines
-  pub admitted : IsAdmittedAs image lines
+  pub admitted : IsAdmittedAs profile image lines
 
 -- memory was refused, or the text has the fault
-abbrev pub IsFaultOf : List ℕ → AsmFault → Type 0
-IsFaultOf text Memory = Unit {0}
-IsFaultOf text (At number y) = IsFault text number y
+abbrev pub IsFaultOf : Profile → List ℕ → AsmFault → Type 0
+IsFaultOf profile text Memory = Unit {0}
+IsFaultOf profile text (At number y) = IsFault profile text number y
 
 -- ---- a text means instructions that may be run, or has a fault
 
 -- the text means instructions, whose image has no fault
-pub record HasMeaning (text : List ℕ) : Type 0 where
+pub record HasMeaning (profile : Profile) (text : List ℕ) : Type 0 where
   pub lines : List Line
   pub means : Means text lines
-  pub loads : IsOk (load_result (image_of lines))
+  pub loads : IsOk (load_result profile (image_of lines))
 
 -- the text has a fault in a line
-pub record HasSomeFault (text : List ℕ) : Type 0 where
+pub record HasSomeFault (profile : Profile) (text : List ℕ) : Type 0 where
   pub line : ℕ
   pub why : Why
-  pub fault : IsFault text line why
+  pub fault : IsFault profile text line why

@@ -1,6 +1,7 @@
 -- The fault of an assembly text.
 use Rattle.std.specs.Prelude.{◌≡◌, ◌<◌, ◌≤◌, ◌+◌, ℕ, nat_le, List, [], ◌∷◌, ◌++◌, length, Option, Some, None, Err, Bool, true, false, ◌⊎◌}
 use Rattle.std.specs.List.{All}
+use Rattle.ocp_profile.specs.declared.profile.Profile.{Profile}
 use Rattle.bpf_types.specs.declared.line.Line.{Line}
 use Rattle.bpf_types.specs.Line.{IsLine}
 use Rattle.bpf_listing.specs.Listing.{image_of}
@@ -81,22 +82,22 @@ IsLineOf true entries slot number = number ≡ 0
 IsLineOf false entries slot number = IsLineOfSlot entries slot number
 
 -- the image of the instructions may not be run; faults 1 to 3, those of its length, have line 0
-pub record HasLoadFault (text : List ℕ) (number : ℕ) (fault : LoadFault) : Type 0 where
+pub record HasLoadFault (profile : Profile) (text : List ℕ) (number : ℕ) (fault : LoadFault) : Type 0 where
   pub lines : List Written
   pub instructions : List Line
   pub written : IsWritten text lines
   pub meant : AreInstructions lines (entries_of 1 0 lines) instructions
-  pub refused : load_result (image_of instructions) ≡ Err fault
+  pub refused : load_result profile (image_of instructions) ≡ Err fault
   pub counted : IsLineOf (nat_le (number_of fault) 3) (entries_of 1 0 lines) (slot_of fault) number
 
-abbrev pub IsLoadFault : List ℕ → ℕ → Why → Type 0
-IsLoadFault text number (why.Load fault) = HasLoadFault text number fault
-IsLoadFault text number y = ⊥
+abbrev pub IsLoadFault : Profile → List ℕ → ℕ → Why → Type 0
+IsLoadFault profile text number (why.Load fault) = HasLoadFault profile text number fault
+IsLoadFault profile text number y = ⊥
 
 -- ---- the fault of a text
 
 -- The first line that has a fault by itself and by the labels before it; where no line has one, the
 -- first instruction that misses its label; where none does, the fault of the image.
-abbrev pub IsFault : List ℕ → ℕ → Why → Type 0
-IsFault text number y =
-    HasLineFault text number y ⊎ HasNameFault text number y ⊎ IsLoadFault text number y
+abbrev pub IsFault : Profile → List ℕ → ℕ → Why → Type 0
+IsFault profile text number y =
+    HasLineFault text number y ⊎ HasNameFault text number y ⊎ IsLoadFault profile text number y

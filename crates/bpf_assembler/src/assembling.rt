@@ -3,7 +3,7 @@
 ghost use Rattle.std.specs.Prelude.{◌≡◌, ◌⊎◌, ℕ, List, Ok, Err, map, IfOk, IfErr};
 ghost use Rattle.bpf_types.specs.declared.line.Line.{Line};
 ghost use Rattle.bpf_listing.specs.Listing.{listing};
-ghost use Rattle.ocp_loader.specs.Admitted.{IsAdmitted, IsAdmittedAs};
+ghost use Rattle.ocp_loader.specs.Admitted.{MayBeRun, IsAdmittedAs};
 ghost use Rattle.bpf_assembler.specs.Text.{Means};
 ghost use Rattle.bpf_assembler.specs.Faults.{IsFault};
 ghost use Rattle.bpf_assembler.specs.Mirror.Passes.{IsReported, entry};
@@ -19,6 +19,7 @@ use crate::resolving::{line_up_to, resolve_all};
 use crate::table::{Row, Table};
 use bpf_listing::images_are_unique;
 use ocp_loader::{LoadFault, load};
+use ocp_profile::Profile;
 use std::alloc::{Allocator, Global};
 use std::collections::BTreeMap;
 use std::marker::Model;
@@ -31,20 +32,20 @@ pub struct Image<A: Allocator = Global> {
 
 impl<A: Allocator> Model for Image<A> {
     ghost use Rattle.std.specs.Prelude.{ℕ, List};
-    ghost use Rattle.ocp_loader.specs.Admitted.{IsAdmitted};
+    ghost use Rattle.ocp_loader.specs.Admitted.{MayBeRun};
 
     ghost Value = { List ℕ };
 
     ghost view = { λ i. i.octets.items };
 
-    ghost invariant = { λ i. IsAdmitted i.octets.items };
+    ghost invariant = { λ i. MayBeRun i.octets.items };
 }
 
 impl<A: Allocator> Image<A> {
     /// The octets of the image.
     pub fn octets(&self) -> &[u8]
         ensures value { result.now ≡ self.now }
-        ensures admitted { IsAdmitted result.now }
+        ensures admitted { MayBeRun result.now }
     {
         &self.octets
     }
@@ -68,10 +69,14 @@ fn fault_with_line(rows: &[Row<'_>], fault: LoadFault) -> AsmFault
     }
 }
 
-/// The image of the instructions that a text means.
-fn image_of<A: Allocator + Copy>(alloc: A, text: &[u8]) -> Result<Image<A>, AsmFault>
-    ensures means { IfOk result (IsImageOfText text.now) }
-    ensures fault { IfErr result (IsFaultOf text.now) }
+/// The image of the instructions that a text means, where it may be run under the profile.
+fn image_of<A: Allocator + Copy>(
+    alloc: A,
+    profile: Profile,
+    text: &[u8],
+) -> Result<Image<A>, AsmFault>
+    ensures means { IfOk result (IsImageOfText profile text.now) }
+    ensures fault { IfErr result (IsFaultOf profile text.now) }
 {
     images_are_unique();
     let mut table = Table {
@@ -82,35 +87,39 @@ fn image_of<A: Allocator + Copy>(alloc: A, text: &[u8]) -> Result<Image<A>, AsmF
     };
     collect(&mut table, text)?;
     let octets = resolve_all(alloc, &table.labels, &table.rows)?;
-    match load(alloc, &octets) {
+    match load(alloc, profile, &octets) {
         Ok(_) => Ok(Image { octets }),
         Err(fault) => Err(fault_with_line(&table.rows, fault)),
     }
 }
 
-/// The image of the instructions that a text means, where it may be run.
+/// The image of the instructions that a text means, where it may be run under the profile.
 ///
-/// The listing of an image that may be run means its instructions, so it gives that image.
+/// The listing of an image that may be run under it means its instructions, so it gives that image.
 ///
 /// Else refused: line by line with Syntax, Range or DuplicateLabel; then in line order with UnknownLabel, or Range of the
 /// distance of a label; then with the fault of the image (`load`), at the line of the instruction at its slot, or at line 0
 /// where the image is empty or too long. Memory may stand in place of any other answer. The time is linear in the text, but
 /// for a logarithm of the number of labels for each label and each name.
-pub fn assemble<A: Allocator + Copy>(alloc: A, text: &[u8]) -> Result<Image<A>, AsmFault>
-    ensures means { IfOk result (IsImageOfText text.now) }
-    ensures fault { IfErr result (IsFaultOf text.now) }
+pub fn assemble<A: Allocator + Copy>(
+    alloc: A,
+    profile: Profile,
+    text: &[u8],
+) -> Result<Image<A>, AsmFault>
+    ensures means { IfOk result (IsImageOfText profile text.now) }
+    ensures fault { IfErr result (IsFaultOf profile text.now) }
     ensures lines { (lines : List Line) → Means text.now lines →
-        IfOk result (λ image. IsAdmittedAs image lines) }
-    ensures only { (image : List ℕ) → IsImageOfText text.now image →
+        IfOk result (λ image. IsAdmittedAs profile image lines) }
+    ensures only { (image : List ℕ) → IsImageOfText profile text.now image →
         (result ≡ Err Memory) ⊎ (result ≡ Ok image) }
-    ensures only_fault { (line : ℕ) (why : Why) → IsFault text.now line why →
+    ensures only_fault { (line : ℕ) (why : Why) → IsFault profile text.now line why →
         (result ≡ Err Memory) ⊎ (result ≡ Err (At line why)) }
-    ensures listed { (image : List ℕ) (lines : List Line) → IsAdmittedAs image lines →
+    ensures listed { (image : List ℕ) (lines : List Line) → IsAdmittedAs profile image lines →
         text.now ≡ listing lines → (result ≡ Err Memory) ⊎ (result ≡ Ok image) }
 {
     meanings_are_unique();
     faults_are_unique();
     meanings_exclude_faults();
     admitted_images_are_meant_by_their_listings();
-    image_of(alloc, text)
+    image_of(alloc, profile, text)
 }

@@ -10,29 +10,32 @@ ghost use Rattle.bpf_assembler.specs.declared.fault.AsmFault.TheVariants.{Memory
 use crate::assembling::assemble;
 use crate::fault::AsmFault;
 use ocp_loader::{LoadFault, load};
+use ocp_profile::Profile;
 use std::alloc::Allocator;
 
-/// Appends the canonical form of an assembly text to the octets: the text is assembled, the image loaded and the program
-/// listed. The load is refused only where memory runs out. Each instruction that the text means has its line.
+/// Appends the canonical form of an assembly text to the octets: the text is assembled under the profile, the image loaded
+/// and the program listed. The load is refused only where memory runs out. Each instruction that the text means has its
+/// line.
 ///
 /// Refused as `assemble` is, and as Memory where memory for the program or its listing is refused. A refusal leaves
 /// `out` and its capacity as they were. The capacity never shrinks.
 pub fn write_canonical<A: Allocator + Copy, B: Allocator>(
     alloc: A,
+    profile: Profile,
     text: &[u8],
     out: &mut Vec<u8, B>,
 ) -> Result<(), AsmFault>
     ensures ok { OnOk result ((lines : List Line) × Means text.now lines ×
         (out.new.items ≡ out.old.items ++ listing lines)) }
-    ensures only { (image : List ℕ) → IsImageOfText text.now image →
+    ensures only { (image : List ℕ) → IsImageOfText profile text.now image →
         (result ≡ Err Memory) ⊎ (result ≡ Ok tt) }
-    ensures fault { IfErr result (IsFaultOf text.now) }
+    ensures fault { IfErr result (IsFaultOf profile text.now) }
     ensures err { OnErr result (out.new.items ≡ out.old.items) }
     ensures same_capacity { OnErr result (vec_capacity out.new ≡ vec_capacity out.old) }
     ensures capacity { vec_capacity out.old ≤ vec_capacity out.new }
 {
-    let image = assemble(alloc, text)?;
-    match load(alloc, image.octets()) {
+    let image = assemble(alloc, profile, text)?;
+    match load(alloc, profile, image.octets()) {
         Ok(program) => {
             program.listing(out)?;
             Ok(())

@@ -1,6 +1,7 @@
 //! Laws of assembly text.
 
 ghost use Rattle.std.specs.Prelude.{◌≡◌, ◌↔◌, ◌⊎◌, ◌∷◌, ◌++◌, List, ℕ, Some, Err, length};
+ghost use Rattle.ocp_profile.specs.declared.profile.Profile.{Profile};
 ghost use Rattle.bpf_types.specs.declared.line.Line.{Line};
 ghost use Rattle.bpf_listing.specs.Listing.{image_of};
 ghost use Rattle.ocp_loader.specs.declared.fault.LoadFault.{LoadFault};
@@ -30,19 +31,21 @@ pub fn meanings_are_unique()
 
 /// A text has at most one fault, of one line.
 pub fn faults_are_unique()
-    ensures { (text : List ℕ) (m n : ℕ) (y z : Why) → IsFault text m y → IsFault text n z →
-        (m ≡ n) × (y ≡ z) }
+    ensures { (profile : Profile) (text : List ℕ) (m n : ℕ) (y z : Why) → IsFault profile text m y →
+        IsFault profile text n z → (m ≡ n) × (y ≡ z) }
 {
     readings_are_unique();
 }
 
 /// A text that means instructions has no fault but that of their image; so it has none where their image may be run.
 pub fn meanings_exclude_faults()
-    ensures image { (text : List ℕ) (lines : List Line) (number : ℕ) (y : Why) → Means text lines →
-        IsFault text number y →
-        (fault : LoadFault) × (y ≡ Load fault) × (load_result (image_of lines) ≡ Err fault) }
-    ensures admitted { (text : List ℕ) (lines : List Line) (number : ℕ) (y : Why) →
-        Means text lines → IsAdmitted (image_of lines) → ¬ IsFault text number y }
+    ensures image { (profile : Profile) (text : List ℕ) (lines : List Line) (number : ℕ) (y : Why) →
+        Means text lines → IsFault profile text number y →
+        (fault : LoadFault) × (y ≡ Load fault)
+        × (load_result profile (image_of lines) ≡ Err fault) }
+    ensures admitted { (profile : Profile) (text : List ℕ) (lines : List Line) (number : ℕ)
+        (y : Why) → Means text lines → IsAdmitted profile (image_of lines) →
+        ¬ IsFault profile text number y }
 {
     readings_are_unique();
     faults_are_of_images_that_may_not_be_run();
@@ -62,11 +65,12 @@ pub fn named_jumps_lead_to_their_labels()
     places_are_counted_in_slots();
 }
 
-/// Each text means instructions whose image has no fault, or has a fault itself; and not both. When it runs it reads the
-/// lines of the text, and keeps nothing of them.
+/// Under each profile a text means instructions whose image has no fault, or has a fault itself; and not both. When it runs
+/// it reads the lines of the text, and keeps nothing of them.
 pub fn texts_have_a_meaning_or_a_fault(text: &[u8])
-    ensures one { HasMeaning text.now ⊎ HasSomeFault text.now }
-    ensures not_both { HasMeaning text.now → ¬ HasSomeFault text.now }
+    ensures one { (profile : Profile) → HasMeaning profile text.now ⊎ HasSomeFault profile text.now }
+    ensures not_both { (profile : Profile) →
+        HasMeaning profile text.now → ¬ HasSomeFault profile text.now }
 {
     meanings_exclude_faults();
     let mut rest = text;

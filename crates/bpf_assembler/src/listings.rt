@@ -3,6 +3,7 @@
 
 ghost use Rattle.std.specs.Prelude.{◌≡◌, ℕ, List};
 ghost use Rattle.std.specs.List.{All};
+ghost use Rattle.ocp_profile.specs.declared.profile.Profile.{Profile};
 ghost use Rattle.bpf_types.specs.declared.line.Line.{Line};
 ghost use Rattle.bpf_types.specs.Line.{IsLine};
 ghost use Rattle.bpf_listing.specs.Canonical.{canonical};
@@ -25,12 +26,12 @@ pub fn listings_mean_their_instructions()
 /// The listing of an image that may be run means the instructions of the image, and no others. And where an image that may
 /// be run is that of the instructions that a text means, these are the instructions that are listed of it.
 pub fn admitted_images_are_meant_by_their_listings()
-    ensures means { (image : List ℕ) (lines : List Line) → IsAdmittedAs image lines →
-        Means (listing lines) lines }
-    ensures only { (image : List ℕ) (lines others : List Line) → IsAdmittedAs image lines →
-        Means (listing lines) others → others ≡ lines }
-    ensures listed { (image : List ℕ) (lines : List Line) → IsAdmitted image →
-        IsImageOf image lines → IsAdmittedAs image lines }
+    ensures means { (profile : Profile) (image : List ℕ) (lines : List Line) →
+        IsAdmittedAs profile image lines → Means (listing lines) lines }
+    ensures only { (profile : Profile) (image : List ℕ) (lines others : List Line) →
+        IsAdmittedAs profile image lines → Means (listing lines) others → others ≡ lines }
+    ensures listed { (profile : Profile) (image : List ℕ) (lines : List Line) →
+        IsAdmitted profile image → IsImageOf image lines → IsAdmittedAs profile image lines }
 {
     listings_have_a_line_for_each_instruction();
     canonical_texts_are_read_back();

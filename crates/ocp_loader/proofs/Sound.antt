@@ -1,5 +1,5 @@
 -- The line at a slot is the one that stands at that place.
-use Rattle.std.proofs.Common.{◌≡◌, ℕ, zero, suc, ◌+◌, ◌*◌, ◌≤◌, ℤ, pos, negsuc, Bool, true, false, List, [], ◌∷◌, ◌++◌, length, Option, Some, None, IsSome, refl, ap, sym, ◌∙◌, subst, arith, length-append}
+use Rattle.std.proofs.Common.{get_or, ◌≡◌, ℕ, zero, suc, ◌+◌, ◌*◌, ◌≤◌, ℤ, pos, negsuc, Bool, true, false, List, [], ◌∷◌, ◌++◌, length, Option, Some, None, IsSome, refl, ap, sym, ◌∙◌, subst, arith, length-append}
 use Rattle.std.specs.Prelude.{is_some}
 use Rattle.std.specs.List.{All}
 use Rattle.std.proofs.lemmas.Option.{same_Some}
@@ -127,7 +127,7 @@ pub admitted_by_two : (profile : Profile) (image : List ℕ) (lines : List Line)
 admitted_by_two profile image lines a = record {
   slots = a.slots;
   whole = a.whole;
-  lawful = λ k d lt. let h = a.lawful k d lt in (h.0, called_by profile _ h.1);
+  lawful = λ k d lt. let h = a.lawful k d lt in (h.0, called_by profile (get_or lines k d) h.1);
   aimed = a.aimed;
   ends = a.ends;
 }

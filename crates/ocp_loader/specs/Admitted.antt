@@ -37,3 +37,7 @@ pub record IsAdmittedAs (profile : Profile) (image : List ℕ) (lines : List Lin
 pub record IsAdmitted (profile : Profile) (image : List ℕ) : Type 0 where
   pub lines : List Line
   pub admitted : IsAdmittedAs profile image lines
+
+-- the image may be run under some profile
+abbrev pub MayBeRun : List ℕ → Type 0
+MayBeRun image = (profile : Profile) × IsAdmitted profile image

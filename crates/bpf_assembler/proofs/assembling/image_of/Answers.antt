@@ -13,8 +13,8 @@ returns-in-Ok-clause-means g c =
     let t = c.in_ok-collect.ensures in
     let u = c.collect.new.table in
     let resolved = subst (λ (rs : List Row). AreResolved t.lines (map entry rs) c.in_ok-octets.octets.items) c.deref.ensures.value (c.in_ok-octets.ensures t.lines t.labels) in
-    let admitted = subst IsAdmitted c.deref-2.ensures.value c.in-Ok.ensures.admitted in
-    assembled c.images_are_unique.ensures c.args.text.now u.labels u.rows.items c.in_ok-octets.octets.items t resolved admitted
+    let admitted = subst (IsAdmitted c.args.profile) c.deref-2.ensures.value c.in-Ok.ensures.admitted in
+    assembled c.args.profile c.images_are_unique.ensures c.args.text.now u.labels u.rows.items c.in_ok-octets.octets.items t resolved admitted
 
 pub returns : goal.returns
 returns g c =
@@ -23,7 +23,7 @@ returns g c =
     let resolved = subst (λ (rs : List Row). AreResolved t.lines (map entry rs) c.in_ok-octets.octets.items) c.deref.ensures.value (c.in_ok-octets.ensures t.lines t.labels) in
     let octets = c.in_ok-octets.octets.items in
     let fault = c.in-Err.fault in
-    let refused = subst (λ (code : List ℕ). (fault ≡ load.Memory) ⊎ (load_result code ≡ Err fault)) c.deref-2.ensures.value c.in-Err.ensures.err in
-    let first = subst (λ (code : List ℕ). IsFirstFault code fault) c.deref-2.ensures.value c.in-Err.ensures.first in
+    let refused = subst (λ (code : List ℕ). (fault ≡ load.Memory) ⊎ (load_result c.args.profile code ≡ Err fault)) c.deref-2.ensures.value c.in-Err.ensures.err in
+    let first = subst (λ (code : List ℕ). IsFirstFault c.args.profile code fault) c.deref-2.ensures.value c.in-Err.ensures.first in
     let reported = subst (λ (rs : List Row). IsReported (map entry rs) fault c.fault_with_line.result) c.deref-in-Err.ensures.value c.fault_with_line.ensures in
-    record { means = tt; fault = reported_fault c.args.text.now u.labels u.rows.items octets fault c.fault_with_line.result t resolved refused first reported }
+    record { means = tt; fault = reported_fault c.args.profile c.args.text.now u.labels u.rows.items octets fault c.fault_with_line.result t resolved refused first reported }

@@ -2,4 +2,4 @@ use Rattle.bpf_assembler.proofs.UniqueTexts.{one_fault}
 use Rattle.bpf_assembler.proofs.laws.faults_are_unique.Goals as goal
 
 pub returns : goal.returns
-returns c = one_fault c.readings_are_unique.ensures
+returns c = λ profile. one_fault profile c.readings_are_unique.ensures
