@@ -1,6 +1,7 @@
 -- What `asm` writes of its input.
 use Rattle.std.specs.Prelude.{◌≡◌, ◌<◌, ℕ, Bool, true, false, List, ◌++◌, length, codes, ◌⊎◌}
 use Rattle.std.specs.Fmt.{decimal}
+use Rattle.ocp_profile.specs.declared.profile.Profile.{Profile}
 use Rattle.hex.specs.Hex.{encode_lower}
 use Rattle.ocp_loader.specs.FaultNumbers.{number_of}
 use Rattle.bpf_assembler.specs.declared.fault.Why.{Why}
@@ -28,21 +29,21 @@ pub record IsTooLong (input output : List ℕ) : Type 0 where
   pub text : output ≡ error_line 0 (codes "TooLong")
 
 -- the text has a fault, and the output is its line
-pub record HasFaultLine (input output : List ℕ) : Type 0 where
+pub record HasFaultLine (profile : Profile) (input output : List ℕ) : Type 0 where
   pub few : IsShort input
   pub line : ℕ
   pub why : Why
-  pub fault : IsFault input line why
+  pub fault : IsFault profile input line why
   pub text : output ≡ error_line line (why_name why)
 
 -- the text means an image that may be run, and the output is its line
-pub record HasImageLine (input output : List ℕ) : Type 0 where
+pub record HasImageLine (profile : Profile) (input output : List ℕ) : Type 0 where
   pub few : IsShort input
   pub image : List ℕ
-  pub meant : IsImageOfText input image
+  pub meant : IsImageOfText profile input image
   pub text : output ≡ image_line image
 
 -- what `asm` writes of an input, and whether it is an image: else it is the line of a fault
-abbrev pub Assembles : List ℕ → List ℕ → Bool → Type 0
-Assembles input output true = HasImageLine input output
-Assembles input output false = IsTooLong input output ⊎ HasFaultLine input output
+abbrev pub Assembles : Profile → List ℕ → List ℕ → Bool → Type 0
+Assembles profile input output true = HasImageLine profile input output
+Assembles profile input output false = IsTooLong input output ⊎ HasFaultLine profile input output

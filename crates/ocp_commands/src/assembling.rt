@@ -1,6 +1,7 @@
 //! The command `asm`.
 
 ghost use Rattle.std.specs.Prelude.{◌≡◌, List, ℕ, ◌<◌, ◌-◌, ◌^◌, ◌↔◌, length, IfOk, IfErr, IfSome, IsErrOf, string_bytes};
+ghost use Rattle.ocp_profile.specs.declared.profile.Profile.{Profile};
 ghost use Rattle.bpf_assembler.specs.Faults.{IsFault};
 ghost use Rattle.bpf_assembler.specs.Assembling.{IsImageOfText};
 ghost use Rattle.ocp_ports.specs.Reading.{max_input, IsShort, ReadsWhile};
@@ -11,6 +12,7 @@ ghost use Rattle.ocp_commands.specs.Assembly.{image_line, why_name, IsTooLong, H
 use crate::output::{Output, write_output};
 use bpf_assembler::{AsmFault, Why, assemble};
 use ocp_ports::{ConsoleFault, Sink, Source, error_text, read_whole};
+use ocp_profile::Profile;
 use std::alloc::{AllocError, Allocator};
 
 /// The line of an image.
@@ -44,8 +46,9 @@ fn output_of_fault<A: Allocator + Copy>(
     line: u64,
     why: Why,
 ) -> Result<Output<A>, AllocError>
-    ensures { (input : List ℕ) → IsShort input → IsFault input line why →
-        IfOk result (λ output. Assembles input output.text.items output.done) }
+    ensures { (profile : Profile) (input : List ℕ) → IsShort input →
+        IsFault profile input line why →
+        IfOk result (λ output. Assembles profile input output.text.items output.done) }
 {
     let name = name_of_why(alloc, why)?;
     let text = error_text(alloc, line, name.as_str())?;
@@ -54,8 +57,8 @@ fn output_of_fault<A: Allocator + Copy>(
 
 /// The output where the input is too long.
 fn output_too_long<A: Allocator>(alloc: A) -> Result<Output<A>, AllocError>
-    ensures { (input : List ℕ) → max_input < length input →
-        IfOk result (λ output. Assembles input output.text.items output.done) }
+    ensures { (profile : Profile) (input : List ℕ) → max_input < length input →
+        IfOk result (λ output. Assembles profile input output.text.items output.done) }
 {
     let text = error_text(alloc, 0, "TooLong")?;
     Ok(Output::of_fault(text))
@@ -63,26 +66,31 @@ fn output_too_long<A: Allocator>(alloc: A) -> Result<Output<A>, AllocError>
 
 /// The output where the text means this image.
 fn output_of_image<A: Allocator>(alloc: A, image: &[u8]) -> Result<Output<A>, AllocError>
-    ensures { (input : List ℕ) → IsShort input → IsImageOfText input image.now →
-        IfOk result (λ output. Assembles input output.text.items output.done) }
+    ensures { (profile : Profile) (input : List ℕ) → IsShort input →
+        IsImageOfText profile input image.now →
+        IfOk result (λ output. Assembles profile input output.text.items output.done) }
 {
     let text = image_text(alloc, image)?;
     Ok(Output::of_text(text.into_bytes()))
 }
 
 /// The output for an input that is not too long.
-fn output_of<A: Allocator + Copy>(alloc: A, input: &[u8]) -> Result<Output<A>, AllocError>
+fn output_of<A: Allocator + Copy>(
+    alloc: A,
+    profile: Profile,
+    input: &[u8],
+) -> Result<Output<A>, AllocError>
     requires { IsShort input.now }
-    ensures { IfOk result (λ output. Assembles input.now output.text.items output.done) }
+    ensures { IfOk result (λ output. Assembles profile input.now output.text.items output.done) }
 {
-    match assemble(alloc, input) {
+    match assemble(alloc, profile, input) {
         Ok(image) => output_of_image(alloc, image.octets()),
         Err(AsmFault::At { line, why }) => output_of_fault(alloc, line, why),
         Err(AsmFault::Memory) => Err(AllocError),
     }
 }
 
-/// Reads assembly text, and writes the image that it means as one line of lower-case hexadecimal digits.
+/// Reads assembly text, and writes the image that it means under the profile as one line of lower-case hexadecimal digits.
 ///
 /// False where the output is the line of a fault of the input: `error 0 TooLong` (over 1,048,576 octets), which is found
 /// first, or `error <line> <name>` with the name of the assembler's fault, which is `Load <number>` for a fault of the
@@ -90,13 +98,14 @@ fn output_of<A: Allocator + Copy>(alloc: A, input: &[u8]) -> Result<Output<A>, A
 /// is written after `Read` and `Memory`, and a prefix of it after `Write`.
 pub fn asm<R: Source, W: Sink, A: Allocator + Copy>(
     alloc: A,
+    profile: Profile,
     reader: &mut R,
     writer: &mut W,
 ) -> Result<bool, ConsoleFault>
     requires reads { R.failed_reads reader.old < 2 ^ 64 - 1 }
     requires writes { W.failed_writes writer.old < 2 ^ 64 - 1 }
     ensures assembles { IfSome (R.remaining reader.old)
-        (λ input. Writes (Assembles input) (W.contents writer.old) (W.contents writer.new) result) }
+        (λ input. Writes (Assembles profile input) (W.contents writer.old) (W.contents writer.new) result) }
     ensures machine { IfErr result IsMachineFault }
     ensures reads { IfSome (R.remaining reader.old)
         (λ input. ReadsWhile IsShort input (R.remaining reader.new)) }
@@ -106,7 +115,7 @@ pub fn asm<R: Source, W: Sink, A: Allocator + Copy>(
         (W.failed_writes writer.old < W.failed_writes writer.new) }
 {
     let output = match read_whole(alloc, reader)? {
-        Some(input) => output_of(alloc, &input)?,
+        Some(input) => output_of(alloc, profile, &input)?,
         None => output_too_long(alloc)?,
     };
     write_output(writer, &output)

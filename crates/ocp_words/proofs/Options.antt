@@ -1,6 +1,7 @@
 -- What a typed getter read.
 use Rattle.std.proofs.Common.{◌≡◌, ℕ, List, Option, Some, None, Result, Ok, refl, sym, ◌∙◌, subst, ap₂, option_map, Box}
 use Rattle.std.specs.Box.{box_value}
+use Rattle.ocp_profile.specs.declared.profile.Profile.{Profile}
 use Rattle.clap.specs.declared.parser.matches.ArgMatches.{ArgMatches}
 use Rattle.clap.specs.declared.parser.matches.SubCommand.{SubCommand}
 use Rattle.clap.specs.declared.parser.matches.ArgMatches.TheViews.{out-ArgMatches, out-SubCommand}
@@ -8,7 +9,7 @@ use Rattle.clap.specs.Words.{subcommand_name_of, subcommand_rows, subcommand_row
 use Rattle.clap.specs.Matches.{ReadsOne}
 use Rattle.std.specs.Prelude.{codes, IfSome}
 use Rattle.clap.specs.Words.{Row}
-use Rattle.ocp_words.specs.Jobs.{HasNumber, HasSettings}
+use Rattle.ocp_words.specs.Jobs.{HasNumber, HasProfile, HasSettings}
 use Rattle.ocp_words.specs.declared.job.Settings.{Settings}
 
 pub one_read : {T E : Type 0} (gives : List ℕ → Result T E → Type 0) (o : Option (List ℕ)) (r : Option T) (v : T) → r ≡ Some v → (o ≡ None → r ≡ None) → ((t : List ℕ) → o ≡ Some t → ReadsOne gives t r) → (t : List ℕ) × (o ≡ Some t) × gives t (Ok v)
@@ -29,11 +30,12 @@ name_part m = go (out-ArgMatches m).subcommand
     go None = refl
     go (Some b) = refl
 
-pub some_settings : (rows : List Row) (apid pool journal : ℕ) (o : Option Settings) → IfSome o (λ s. (s.apid ≡ apid) × (s.pool_words ≡ pool) × (s.capacity ≡ journal))
-    → HasNumber 16 (codes "apid") rows apid → HasNumber 16 (codes "pool") rows pool → HasNumber 32 (codes "journal") rows journal → IfSome o (HasSettings rows)
-some_settings rows apid pool journal None e a p j = tt
-some_settings rows apid pool journal (Some s) e a p j = record {
-  apid = subst (HasNumber 16 (codes "apid") rows) (sym e.0) a;
-  pool_words = subst (HasNumber 16 (codes "pool") rows) (sym e.1) p;
-  capacity = subst (HasNumber 32 (codes "journal") rows) (sym e.2) j;
+pub some_settings : (rows : List Row) (profile : Profile) (apid pool journal : ℕ) (o : Option Settings) → IfSome o (λ s. (s.profile ≡ profile) × (s.apid ≡ apid) × (s.pool_words ≡ pool) × (s.capacity ≡ journal))
+    → HasProfile rows profile → HasNumber 16 (codes "apid") rows apid → HasNumber 16 (codes "pool") rows pool → HasNumber 32 (codes "journal") rows journal → IfSome o (HasSettings rows)
+some_settings rows profile apid pool journal None e q a p j = tt
+some_settings rows profile apid pool journal (Some s) e q a p j = record {
+  profile = subst (HasProfile rows) (sym e.0) q;
+  apid = subst (HasNumber 16 (codes "apid") rows) (sym e.1) a;
+  pool_words = subst (HasNumber 16 (codes "pool") rows) (sym e.2) p;
+  capacity = subst (HasNumber 32 (codes "journal") rows) (sym e.3) j;
 }

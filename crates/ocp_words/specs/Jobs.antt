@@ -1,6 +1,9 @@
 -- The job that words ask for.
 use Rattle.std.specs.Prelude.{◌≡◌, ℕ, Option, Some, None, Ok, List, codes}
 use Rattle.std.specs.Str.Parse.{ParsesUnsigned}
+use Rattle.ocp_profile.specs.declared.profile.Profile.{Profile}
+use Rattle.ocp_profile.specs.declared.profile.Profile.TheVariants.{One}
+use Rattle.ocp_profile.specs.Numbers.{number_of}
 use Rattle.clap.specs.Words.{Row, Text, one_of}
 use Rattle.ocp_words.specs.declared.job.Job.{Job}
 use Rattle.ocp_words.specs.declared.job.Job.TheVariants.{Assemble, List as Listing, Run}
@@ -15,22 +18,28 @@ abbrev pub HasNumber : ℕ → Text → List Row → ℕ → Type 0
 HasNumber bits id rows n =
     (text : Text) × (one_of id rows ≡ Some text) × ParsesUnsigned {E = Unit {0}} bits 10 text (Ok n)
 
+-- the number of the profile stands in these rows
+abbrev pub HasProfile : List Row → Profile → Type 0
+HasProfile rows profile = HasNumber 8 (codes "profile") rows (number_of profile)
+
 -- the settings are the numbers that stand in these rows
 pub record HasSettings (rows : List Row) (s : Settings) : Type 0 where
+  pub profile : HasProfile rows s.profile
   pub apid : HasNumber 16 (codes "apid") rows s.apid
   pub pool_words : HasNumber 16 (codes "pool") rows s.pool_words
   pub capacity : HasNumber 32 (codes "journal") rows s.capacity
 
 -- a run with the defaults
 abbrev pub HasDefaults : Job → Type 0
-HasDefaults (Run s) = (s.apid ≡ 291) × (s.pool_words ≡ 16) × (s.capacity ≡ 100000)
-HasDefaults Assemble = ⊥
+HasDefaults (Run s) =
+    (s.profile ≡ One) × (s.apid ≡ 291) × (s.pool_words ≡ 16) × (s.capacity ≡ 100000)
+HasDefaults (Assemble profile) = ⊥
 HasDefaults Listing = ⊥
 
 -- the job of a subcommand and what was found for its options
 abbrev pub IsJob : Option (Text × List Row) → Job → Type 0
 IsJob None job = HasDefaults job
-IsJob (Some found) Assemble = found.0 ≡ codes "asm"
+IsJob (Some found) (Assemble profile) = (found.0 ≡ codes "asm") × HasProfile found.1 profile
 IsJob (Some found) Listing = found.0 ≡ codes "list"
 IsJob (Some found) (Run s) = (found.0 ≡ codes "run") × HasSettings found.1 s
 

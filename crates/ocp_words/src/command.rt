@@ -4,7 +4,7 @@ ghost use Rattle.std.specs.Prelude.{◌≡◌, ℕ, IfOk, codes, pos, false};
 ghost use Rattle.clap.specs.Words.{app_of, rule_of, new_app};
 ghost use Rattle.clap.specs.declared.builder.command.Command.TheViews.{out-Command};
 ghost use Rattle.clap.specs.declared.builder.value_parser.ValueParser.TheVariants.{Signed};
-ghost use Rattle.ocp_words.specs.Words.{ocp, run, number_option, apid_option as apid_rule, pool_option as pool_rule, journal_option as journal_rule};
+ghost use Rattle.ocp_words.specs.Words.{ocp, asm, run, number_option, profile_option as profile_rule, apid_option as apid_rule, pool_option as pool_rule, journal_option as journal_rule};
 
 use crate::help;
 use clap::builder::ValueParser;
@@ -47,6 +47,14 @@ fn option<'a>(
         .help(help)
 }
 
+fn profile_option<'a>(alloc: Global) -> Arg<'a>
+    ensures rule { rule_of result ≡ profile_rule }
+    ensures global { result.global ≡ false }
+{
+    let help = "The profile of procedures and requests, 1 or 2";
+    option(alloc, "profile", "1", value_parser!(u8).range(1..=2), help)
+}
+
 fn apid_option<'a>(alloc: Global) -> Arg<'a>
     ensures rule { rule_of result ≡ apid_rule }
     ensures global { result.global ≡ false }
@@ -83,12 +91,23 @@ fn journal_option<'a>(alloc: Global) -> Arg<'a>
     )
 }
 
+/// The command `asm` and its option.
+fn asm_command<'a>(alloc: Global) -> Result<Command<'a>, AllocError>
+    ensures app { IfOk result (λ c. app_of c ≡ asm) }
+    ensures global { IfOk result (λ c. (out-Command c).has_globals ≡ false) }
+{
+    let plain = plain_command(alloc, "asm", help::ASM_USAGE, help::ASM, help::ASM_HELP);
+    let asm = plain.arg(profile_option(alloc))?;
+    Ok(asm)
+}
+
 /// The command `run` and its options.
 fn run_command<'a>(alloc: Global) -> Result<Command<'a>, AllocError>
     ensures app { IfOk result (λ c. app_of c ≡ run) }
     ensures global { IfOk result (λ c. (out-Command c).has_globals ≡ false) }
 {
     let run = plain_command(alloc, "run", help::RUN_USAGE, help::RUN, help::RUN_HELP)
+        .arg(profile_option(alloc))?
         .arg(apid_option(alloc))?
         .arg(pool_option(alloc))?
         .arg(journal_option(alloc))?;
@@ -100,7 +119,7 @@ pub(crate) fn ocp_command<'a>(alloc: Global) -> Result<Command<'a>, AllocError>
     ensures { IfOk result (λ c. app_of c ≡ ocp) }
 {
     let run = run_command(alloc)?;
-    let asm = plain_command(alloc, "asm", help::ASM_USAGE, help::ASM, help::ASM_HELP);
+    let asm = asm_command(alloc)?;
     let list = plain_command(alloc, "list", help::LIST_USAGE, help::LIST, help::LIST_HELP);
     let ocp = plain_command(alloc, "ocp", help::OCP_USAGE, help::OCP, help::OCP_HELP)
         .version(help::VERSION)

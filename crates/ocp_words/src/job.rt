@@ -5,6 +5,7 @@ ghost use Rattle.ocp_words.specs.Limits.{max_apid, max_pool_words, max_capacity}
 ghost use Rattle.ocp_words.specs.declared.job.WordsFault.TheVariants.{Memory};
 
 use clap::Error;
+use ocp_profile::Profile;
 use std::alloc::{AllocError, AllocFailed};
 
 /// The greatest application process identifier of an engine.
@@ -19,6 +20,8 @@ pub const MAX_CAPACITY: u32 = 1_000_000;
 /// What a run of the console is made with.
 #[derive(Clone, Copy)]
 pub struct Settings {
+    /// The profile that the engine follows.
+    pub profile: Profile,
     /// The engine's application process identifier, 0 to 2,046.
     pub apid: u16,
     /// How many words the pool has, 1 to 256.
@@ -31,18 +34,20 @@ pub struct Settings {
 }
 
 impl Settings {
-    /// These numbers, if each is in its range.
-    pub fn new(apid: u16, pool_words: u16, capacity: u32) -> Option<Settings>
+    /// The profile and these numbers, if each is in its range.
+    pub fn new(profile: Profile, apid: u16, pool_words: u16, capacity: u32) -> Option<Settings>
         ensures some { IsSome result ↔
             ((apid ≤ max_apid) × ((1 ≤ pool_words) × (pool_words ≤ max_pool_words)) ×
             ((1 ≤ capacity) × (capacity ≤ max_capacity))) }
         ensures numbers { IfSome result (λ s.
-            (s.apid ≡ apid) × (s.pool_words ≡ pool_words) × (s.capacity ≡ capacity)) }
+            (s.profile ≡ profile) × (s.apid ≡ apid) × (s.pool_words ≡ pool_words)
+            × (s.capacity ≡ capacity)) }
     {
         let pool_fits = 1 <= pool_words && pool_words <= MAX_POOL_WORDS;
         let capacity_fits = 1 <= capacity && capacity <= MAX_CAPACITY;
         if apid <= MAX_APID && pool_fits && capacity_fits {
             Some(Settings {
+                profile,
                 apid,
                 pool_words,
                 capacity,
@@ -56,8 +61,8 @@ impl Settings {
 /// What the program is to do.
 #[derive(Clone, Copy)]
 pub enum Job {
-    /// Assembly text in, its image in hexadecimal digits out.
-    Assemble,
+    /// Assembly text in, its image under the profile in hexadecimal digits out.
+    Assemble(Profile),
     /// An image in hexadecimal digits in, its listing out.
     List,
     /// A script in, its transcript out.

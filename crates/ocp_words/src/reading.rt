@@ -3,29 +3,51 @@
 ghost use Rattle.std.specs.Prelude.{◌≡◌, IfOk, IfSome, IsOk, [], map, ◌≢◌};
 ghost use Rattle.clap.specs.Words.{subcommand_of, rows_of, found_of};
 ghost use Rattle.ocp_words.specs.Words.{ocp};
-ghost use Rattle.ocp_words.specs.Jobs.{HasSettings, HasDefaults, IsJob, IsMistake};
+ghost use Rattle.ocp_words.specs.Jobs.{HasProfile, HasSettings, HasDefaults, IsJob, IsMistake};
 
 use crate::command::ocp_command;
 use crate::job::{Job, Settings, WordsFault};
-use clap::ArgMatches;
 use clap::error::ErrorKind;
+use clap::{ArgMatches, Command};
+use ocp_profile::Profile;
 use std::alloc::Global;
 
 /// The settings of a run with no words.
 const DEFAULTS: Settings = Settings {
+    profile: Profile::One,
     apid: 291,
     pool_words: 16,
     capacity: 100_000,
 };
 
+/// The profile in the matches of a command, if its number is there.
+fn profile_of(matches: &ArgMatches<'_>) -> Option<Profile>
+    ensures { IfSome result (HasProfile (rows_of (found_of matches.now))) }
+{
+    match matches.get_one::<u8>("profile")? {
+        1 => Some(Profile::One),
+        2 => Some(Profile::Two),
+        _ => None,
+    }
+}
+
 /// The settings in the matches of `run`, if they are there and each in its range.
 fn settings_of(matches: &ArgMatches<'_>) -> Option<Settings>
     ensures { IfSome result (HasSettings (rows_of (found_of matches.now))) }
 {
+    let profile = profile_of(matches)?;
     let apid = matches.get_one::<u16>("apid")?;
     let pool_words = matches.get_one::<u16>("pool")?;
     let capacity = matches.get_one::<u32>("journal")?;
-    Settings::new(apid, pool_words, capacity)
+    Settings::new(profile, apid, pool_words, capacity)
+}
+
+/// A number that `clap` always finds is not there.
+fn number_is_missing(command: &mut Command<'_>) -> WordsFault {
+    match command.error(ErrorKind::ValueValidation, "a number is missing") {
+        Ok(error) => WordsFault::Usage(error),
+        Err(_) => WordsFault::Memory,
+    }
 }
 
 /// The job that the words after the program's name ask for: the subcommand and the numbers that
@@ -52,14 +74,14 @@ pub fn read_words<'a>(alloc: Global, words: &'a [&'a str]) -> Result<Job, WordsF
     };
     match matches.subcommand() {
         None => Ok(Job::Run(DEFAULTS)),
-        Some(("asm", _)) => Ok(Job::Assemble),
+        Some(("asm", inner)) => match profile_of(inner) {
+            Some(profile) => Ok(Job::Assemble(profile)),
+            None => Err(number_is_missing(&mut command)),
+        },
         Some(("list", _)) => Ok(Job::List),
         Some(("run", inner)) => match settings_of(inner) {
             Some(settings) => Ok(Job::Run(settings)),
-            None => Err(WordsFault::Usage(command.error(
-                ErrorKind::ValueValidation,
-                "a number is missing",
-            )?)),
+            None => Err(number_is_missing(&mut command)),
         },
         Some(_) => Err(WordsFault::Usage(command.error(
             ErrorKind::InvalidSubcommand,

@@ -11,4 +11,4 @@ returns c =
     let top : app_of c.in_ok-bin_name.field-0 ≡ named = ap app_of_fields c.in_ok-bin_name.ensures.0 ∙ ap app_of_fields c.no_binary_name.ensures ∙ ap unnamed (ap app_of_fields c.version.ensures ∙ ap versioned c.plain_command.ensures.app) in
     c.in_ok-ocp.ensures.shape c.in_ok-run.ensures.global
     ∙ ap₂ with_subcommand (c.in_ok-subcommand-2.ensures.shape c.plain_command-list.ensures.global
-    ∙ ap₂ with_subcommand (c.in_ok-subcommand.ensures.shape c.plain_command-asm.ensures.global ∙ ap₂ with_subcommand top (ap (λ (a : App). a.top) c.plain_command-asm.ensures.app)) (ap (λ (a : App). a.top) c.plain_command-list.ensures.app)) (ap (λ (a : App). a.top) c.in_ok-run.ensures.app)
+    ∙ ap₂ with_subcommand (c.in_ok-subcommand.ensures.shape c.in_ok-asm.ensures.global ∙ ap₂ with_subcommand top (ap (λ (a : App). a.top) c.in_ok-asm.ensures.app)) (ap (λ (a : App). a.top) c.plain_command-list.ensures.app)) (ap (λ (a : App). a.top) c.in_ok-run.ensures.app)
