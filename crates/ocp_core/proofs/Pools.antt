@@ -1,6 +1,6 @@
 -- The pool of a replay, and the answers of engine calls.
 use Rattle.std.proofs.Common.{◌≡◌, ◌≤◌, ◌<◌, ◌+◌, ℕ, ℤ, List, [], ◌∷◌, ◌++◌, Option, Some, None, Bool, true, false, cond, inl, inr, refl, sym, ap, subst, ◌∙◌, replicate, length, arith}
-use Rattle.std.specs.Prelude.{◌==◌, ◌↔◌, ◌%◌, ◌^◌, slice_get, slice_index, slice_set, unsigned_abs}
+use Rattle.std.specs.Prelude.{◌==◌, ◌||◌, ◌↔◌, ◌%◌, ◌^◌, slice_get, slice_index, slice_set, unsigned_abs}
 use Rattle.std.specs.FinMap.{get}
 use Rattle.std.proofs.lemmas.Bool.{eqb-true}
 use Rattle.std.proofs.lemmas.Bool.Decides.{nat_tests}
@@ -88,7 +88,7 @@ module _ (r : Rec) (pool : List ℕ) where
 
     not_held : (b : Bool) → breaks_at r.control.pass r.breakpoints r.machine.place ≡ b → (Some Broke ≡ Some outcome → ⊥) → (Some (Faulted BUDGET_SPENT) ≡ Some outcome → ⊥) → cond b (Some Broke) (outcome_unheld r pool) ≡ Some outcome → IsOfMachine
     not_held true is differs differs_spent e = absurd (differs e)
-    not_held false is differs differs_spent e = (is, unspent (is_spent r.remaining) refl differs_spent e)
+    not_held false is differs differs_spent e = let here = unspent (is_spent r.remaining) refl differs_spent e in (is, here.0, here.1)
 
     of_machine : (Some Broke ≡ Some outcome → ⊥) → (Some (Faulted BUDGET_SPENT) ≡ Some outcome → ⊥) → outcome_in r pool ≡ Some outcome → IsOfMachine
     of_machine differs differs_spent e = not_held (breaks_at r.control.pass r.breakpoints r.machine.place) refl differs differs_spent e
