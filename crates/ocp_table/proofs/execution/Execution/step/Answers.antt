@@ -12,15 +12,16 @@ use Rattle.ocp_table.proofs.execution.Execution.step.Goals as goal
 
 pub engine_call-requires-clause-place : goal.engine_call-requires-clause-place
 engine_call-requires-clause-place g c =
-    let lines = lines_of (load_result c.deref.result.now) (subst (λ i. IsOk (load_result i)) (sym c.deref.ensures) c.self.invariant.admitted) in
-    let next : c.local_step.new.self.place + 1 < MAX_SLOTS = small_place c.deref.result.now _ (λ l is. c.places_lead_to_places.ensures.slots _ lines.0 _ l lines.1 is) ((rw c.in-NeedsEngine-Call.field-0-is at c.in-NeedsEngine-Call.ensures.may_finish).0) in
+    let profile = c.self.invariant.admitted.0 in
+    let lines = lines_of (load_result profile c.deref.result.now) (subst (λ i. IsOk (load_result profile i)) (sym c.deref.ensures) c.self.invariant.admitted.1) in
+    let next : c.local_step.new.self.place + 1 < MAX_SLOTS = small_place c.deref.result.now _ (λ l is. c.places_lead_to_places.ensures.slots profile _ lines.0 _ l lines.1 is) ((rw c.in-NeedsEngine-Call.field-0-is at c.in-NeedsEngine-Call.ensures.may_finish).0) in
     omega (arith, next)
 
 pub returns-after-engine_call-clause-outcome : goal.returns-after-engine_call-clause-outcome
 returns-after-engine_call-clause-outcome g c =
     let needs = needs_call c.in-NeedsEngine-Call.field-0 c.in-NeedsEngine-Call.number c.self.inside.machine c.local_step.new.self (one_step c.deref.result.now c.self.inside.machine) c.args.pool.now c.args.mailbox.now c.in-NeedsEngine-Call.field-0-is c.in-NeedsEngine-Call.ensures.answer in
     let image : one_step c.args.self.now.image c.args.self.now.machine ≡ one_step c.deref.result.now c.self.inside.machine = search rules in
-    let answered : Some c.match-engine_call.result ≡ Some (outcome_of_call (engine_call c.in-NeedsEngine-Call.number (read c.local_step.new.self 1) (read c.local_step.new.self 2) c.args.pool.now c.args.mailbox.now)) = search rules in
+    let answered : Some c.match-engine_call.result ≡ Some (outcome_of_call (engine_call c.in-NeedsEngine-Call.number (read c.local_step.new.self 1) (read c.local_step.new.self 2) (read c.local_step.new.self 3) c.args.pool.now c.args.mailbox.now)) = search rules in
     let there : c.args.self.now.machine ≡ c.self.inside.machine = search rules in
     answered ∙ sym needs ∙ sym (ap (λ o. outcome_of o c.self.inside.machine c.args.pool.now c.args.mailbox.now) image) ∙ ap (λ m. outcome_of (one_step c.args.self.now.image c.args.self.now.machine) m c.args.pool.now c.args.mailbox.now) (sym there)
 
