@@ -78,9 +78,9 @@ able_in r pool able =
     elim (breaks_at r.control.pass r.breakpoints r.machine.place) as (λ b. IsSome (cond {A = Option InstructionOutcome} b (Some Broke) (cond (is_spent r.remaining) (Some (Faulted BUDGET_SPENT)) (outcome_of (one_step r.image r.machine) r.machine pool r.mailbox)))) [
       | true ↦ refl
       | false ↦ elim (is_spent r.remaining) as (λ b. IsSome (cond {A = Option InstructionOutcome} b (Some (Faulted BUDGET_SPENT)) (outcome_of (one_step r.image r.machine) r.machine pool r.mailbox))) [
-          | true ↦ refl
-          | false ↦ able
-        ]
+        | true ↦ refl
+        | false ↦ able
+      ]
     ]
 
 -- what stands under an Ok

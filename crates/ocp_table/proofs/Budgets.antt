@@ -35,7 +35,7 @@ within-fewer (Some left) n k fewer is = omega (arith, fewer, is)
 -- before the last of them something is left
 pub not-spent : (o : Option ℕ) (n : ℕ) → IsWithin o (suc n) → is_spent (less n o) ≡ false
 not-spent None n is = refl
-not-spent (Some left) n is = 
+not-spent (Some left) n is =
     let some : 1 ≤ left - n = omega (arith, is) in
     grind (arith, nat_tests, some)
 

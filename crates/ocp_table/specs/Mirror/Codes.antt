@@ -26,13 +26,15 @@ execution_code =
 abbrev pub rest_code : Coded (List ℕ × (Bool × Option ℕ))
 rest_code = coded× octets (coded× coded_bool (coded_option coded_ℕ))
 
+abbrev pub rest_of : Rec → List ℕ × (Bool × Option ℕ)
+rest_of r = (r.breakpoints, (r.traced, r.remaining))
+
 abbrev pub rec_code : Coded Rec
 rec_code =
     code_by (List ℕ × (State × (List ℕ × (Control × (List ℕ × (Bool × Option ℕ))))))
     (coded× octets (coded× state_code (coded× octets
     (coded× (C.the_row).coded rest_code))))
-    (λ r. (r.image, (r.machine, (r.mailbox, (r.control,
-      (r.breakpoints, (r.traced, r.remaining)))))))
+    (λ r. (r.image, (r.machine, (r.mailbox, (r.control, rest_of r)))))
     (λ p. record {
       image = p.0;
       machine = p.1.0;
@@ -58,12 +60,14 @@ procedures_code =
     (λ p. record { profile = p.0; records = p.1.0; outbox = p.1.1 })
     (λ _. refl)
 
+abbrev pub rest_taken : Snapshot → List ℕ × (Bool × Option ℕ)
+rest_taken s = (s.breakpoints, (s.traced, s.remaining))
+
 abbrev pub snapshot_code : Coded Snapshot
 snapshot_code =
     code_by (Execution × (Bool × (List ℕ × (Bool × Option ℕ))))
     (coded× execution_code (coded× coded_bool rest_code))
-    (λ s. (record { image = s.image; machine = s.machine },
-      (s.pass, (s.breakpoints, (s.traced, s.remaining)))))
+    (λ s. (record { image = s.image; machine = s.machine }, (s.pass, rest_taken s)))
     (λ p. record {
       image = p.0.image;
       machine = p.0.machine;
