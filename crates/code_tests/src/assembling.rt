@@ -1,6 +1,7 @@
 //! Whole texts and their images. Wanted octets are typed from the instruction table, wanted lines are counted.
 use bpf_assembler::canonical::write_canonical;
 use bpf_assembler::{AsmFault, Why, assemble};
+use ocp_profile::Profile;
 use std::alloc::{AllocError, Global};
 use std::test::Fail;
 
@@ -66,9 +67,9 @@ const LOAD_FAULTS: [(&[u8], u64, u8); 5] = [
     (b"; nothing\nend:\n", 0, 1),
 ];
 
-/// Whether the text means this image.
-fn gives(alloc: Global, text: &[u8], octets: &[u8]) -> bool {
-    match assemble(alloc, text) {
+/// Whether the text means this image under the profile.
+fn gives(alloc: Global, profile: Profile, text: &[u8], octets: &[u8]) -> bool {
+    match assemble(alloc, profile, text) {
         Ok(image) => image.octets() == octets,
         Err(_) => false,
     }
@@ -76,15 +77,15 @@ fn gives(alloc: Global, text: &[u8], octets: &[u8]) -> bool {
 
 /// Whether the text has this fault at this line.
 fn has_fault(alloc: Global, text: &[u8], line: u64, why: Why) -> bool {
-    match assemble(alloc, text) {
+    match assemble(alloc, Profile::One, text) {
         Ok(_) => false,
         Err(fault) => fault == AsmFault::At { line, why },
     }
 }
 
-/// Whether the text has the fault of its image with this number at this line.
-fn is_refused(alloc: Global, text: &[u8], line: u64, number: u8) -> bool {
-    match assemble(alloc, text) {
+/// Whether the text has the fault of its image with this number at this line, under the profile.
+fn is_refused(alloc: Global, profile: Profile, text: &[u8], line: u64, number: u8) -> bool {
+    match assemble(alloc, profile, text) {
         Err(
             AsmFault::At {
                 line: at,
@@ -128,8 +129,24 @@ fn labels(alloc: Global) -> Result<Vec<u8>, AllocError> {
 #[test]
 fn texts_are_assembled(rt: HostRuntime) {
     for (text, octets) in IMAGES {
-        assert!(rt; gives(rt.alloc(), text, octets), "{text:?}");
+        assert!(rt; gives(rt.alloc(), Profile::One, text, octets), "{text:?}");
     }
+}
+
+/// `call 6`, `exit`.
+const SIXTH: [u8; 16] = [0x85, 0, 0, 0, 6, 0, 0, 0, 0x95, 0, 0, 0, 0, 0, 0, 0];
+
+#[test]
+fn the_sixth_call_is_assembled_under_profile_two(rt: HostRuntime) {
+    for (text, octets) in IMAGES {
+        assert!(rt; gives(rt.alloc(), Profile::Two, text, octets), "{text:?}");
+    }
+    let text = b"; compare and set\ncall 6\nexit\n";
+    assert!(rt; is_refused(rt.alloc(), Profile::One, text, 2, 9));
+    assert!(rt; gives(rt.alloc(), Profile::Two, text, &SIXTH));
+    let text = b"exit\ncall 7\nexit\n";
+    assert!(rt; is_refused(rt.alloc(), Profile::One, text, 2, 9));
+    assert!(rt; is_refused(rt.alloc(), Profile::Two, text, 2, 9));
 }
 
 #[test]
@@ -138,14 +155,17 @@ fn faults_have_their_line(rt: HostRuntime) {
         assert!(rt; has_fault(rt.alloc(), text, line, why), "{text:?}");
     }
     for (text, line, number) in LOAD_FAULTS {
-        assert!(rt; is_refused(rt.alloc(), text, line, number), "{text:?}");
+        assert!(rt;
+            is_refused(rt.alloc(), Profile::One, text, line, number),
+            "{text:?}"
+        );
     }
 }
 
 #[test]
 fn a_label_may_be_too_far(rt: HostRuntime) -> Result<(), Fail> {
     let text = repeated(rt.alloc(), b"ja far\n", b"exit\n", 32767, b"far:")?;
-    assert!(rt; is_refused(rt.alloc(), &text, 0, 3));
+    assert!(rt; is_refused(rt.alloc(), Profile::One, &text, 0, 3));
     let text = repeated(rt.alloc(), b"ja far\n", b"exit\n", 32768, b"far:")?;
     assert!(rt; has_fault(rt.alloc(), &text, 1, Why::Range));
     Ok(())
@@ -154,16 +174,16 @@ fn a_label_may_be_too_far(rt: HostRuntime) -> Result<(), Fail> {
 #[test]
 fn a_long_text_is_assembled_soon(rt: HostRuntime) -> Result<(), Fail> {
     let text = labels(rt.alloc())?;
-    assert!(rt; text.len() == 1_048_576 && is_refused(rt.alloc(), &text, 0, 1));
+    assert!(rt; text.len() == 1_048_576 && is_refused(rt.alloc(), Profile::One, &text, 0, 1));
     let text = repeated(rt.alloc(), b"", b"exit\n", 209_715, b"\n")?;
-    assert!(rt; text.len() == 1_048_576 && is_refused(rt.alloc(), &text, 0, 3));
+    assert!(rt; text.len() == 1_048_576 && is_refused(rt.alloc(), Profile::One, &text, 0, 3));
     Ok(())
 }
 
 /// Whether the canonical form of the text is this one.
 fn becomes(alloc: Global, text: &[u8], form: &[u8]) -> bool {
     let mut out = Vec::new(alloc);
-    match write_canonical(alloc, text, &mut out) {
+    match write_canonical(alloc, Profile::One, text, &mut out) {
         Ok(()) => out.as_slice() == form,
         Err(_) => false,
     }

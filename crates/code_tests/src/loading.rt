@@ -1,6 +1,7 @@
 //! Images that are loaded, and the faults of others: numbers and slots are counted by hand from the images.
 use bpf_types::Line;
 use ocp_loader::{LoadFault, load};
+use ocp_profile::Profile;
 use std::alloc::Global;
 use std::test::Fail;
 
@@ -21,8 +22,8 @@ const OVER_ONE: [u8; 8] = [0x05, 0, 1, 0, 0, 0, 0, 0];
 /// An opcode of no row.
 const UNKNOWN: [u8; 8] = [0xdf, 0, 0, 0, 0, 0, 0, 0];
 
-/// Images with the number and the slot of their fault, or with none: first the faults of an instruction, then those of a
-/// target, then those of the end.
+/// Images with the number and the slot of their fault under profile One, or with none: first the faults of an instruction,
+/// then those of a target, then those of the end.
 const IMAGES: [(&[[u8; 8]], Option<(u8, u16)>); 22] = [
     (&[], Some((1, 0))),
     (&[MOV, WIDE], Some((4, 1))),
@@ -68,13 +69,19 @@ const IMAGES: [(&[[u8; 8]], Option<(u8, u16)>); 22] = [
     (&[MOV, [0x05, 0, 0xfe, 0xff, 0, 0, 0, 0]], None),
 ];
 
-/// The number and the slot of the fault that the image has.
-fn fault_of(alloc: Global, slots: &[[u8; 8]]) -> Result<Option<(u8, u16)>, Fail> {
+/// mov64 r0, 0, call 6 and exit
+const SIXTH: [[u8; 8]; 3] = [MOV, [0x85, 0, 0, 0, 6, 0, 0, 0], EXIT];
+
+/// mov64 r0, 0, call 7 and exit
+const SEVENTH: [[u8; 8]; 3] = [MOV, [0x85, 0, 0, 0, 7, 0, 0, 0], EXIT];
+
+/// The number and the slot of the fault that the image has under the profile.
+fn fault_of(alloc: Global, profile: Profile, slots: &[[u8; 8]]) -> Result<Option<(u8, u16)>, Fail> {
     let mut code = Vec::new(alloc);
     for slot in slots {
         code.extend_from_slice(slot)?;
     }
-    match load(alloc, &code) {
+    match load(alloc, profile, &code) {
         Ok(_) => Ok(None),
         Err(LoadFault::Memory) => Err(Fail::new("no memory")),
         Err(fault) => Ok(Some((fault.number(), fault.slot()))),
@@ -84,15 +91,33 @@ fn fault_of(alloc: Global, slots: &[[u8; 8]]) -> Result<Option<(u8, u16)>, Fail>
 #[test]
 fn each_fault_has_its_number_and_slot(rt: HostRuntime) -> Result<(), Fail> {
     for (slots, wanted) in IMAGES {
-        let found = fault_of(rt.alloc(), slots)?;
+        let found = fault_of(rt.alloc(), Profile::One, slots)?;
         assert!(rt; found == wanted, "{slots:?}");
     }
     Ok(())
 }
 
 #[test]
+fn under_profile_two_the_sixth_call_is_admitted(rt: HostRuntime) -> Result<(), Fail> {
+    let alloc = rt.alloc();
+    for (slots, wanted) in IMAGES {
+        if slots != SIXTH.as_slice() {
+            assert!(rt;
+                fault_of(alloc, Profile::Two, slots)? == wanted,
+                "{slots:?}"
+            );
+        }
+    }
+    assert_eq!(rt; fault_of(alloc, Profile::One, &SIXTH)?, Some((9, 1)));
+    assert_eq!(rt; fault_of(alloc, Profile::Two, &SIXTH)?, None);
+    assert_eq!(rt; fault_of(alloc, Profile::One, &SEVENTH)?, Some((9, 1)));
+    assert_eq!(rt; fault_of(alloc, Profile::Two, &SEVENTH)?, Some((9, 1)));
+    Ok(())
+}
+
+#[test]
 fn a_ragged_image_has_a_fault_of_its_own(rt: HostRuntime) {
-    let ragged = load(rt.alloc(), &[0xff, 0, 0, 0, 0, 0, 0]);
+    let ragged = load(rt.alloc(), Profile::One, &[0xff, 0, 0, 0, 0, 0, 0]);
     assert!(rt; matches!(ragged, Err(LoadFault::RaggedCode)));
     assert_eq!(rt; LoadFault::RaggedCode.number(), 2);
     assert_eq!(rt; LoadFault::RaggedCode.slot(), 0);
@@ -106,9 +131,9 @@ fn at_most_2048_slots_are_loaded(rt: HostRuntime) -> Result<(), Fail> {
         code.extend_from_slice(&MOV)?;
     }
     code.extend_from_slice(&EXIT)?;
-    assert_eq!(rt; load(alloc, &code)?.slots(), 2048);
+    assert_eq!(rt; load(alloc, Profile::One, &code)?.slots(), 2048);
     code.extend_from_slice(&EXIT)?;
-    assert!(rt; matches!(load(alloc, &code), Err(LoadFault::TooLong)));
+    assert!(rt; matches!(load(alloc, Profile::One, &code), Err(LoadFault::TooLong)));
     assert_eq!(rt; LoadFault::TooLong.number(), 3);
     Ok(())
 }
@@ -120,7 +145,7 @@ const WIDE_AND_EXIT: [u8; 24] = [
 
 #[test]
 fn a_program_gives_its_lines_by_slot(rt: HostRuntime) -> Result<(), Fail> {
-    let program = load(rt.alloc(), &WIDE_AND_EXIT)?;
+    let program = load(rt.alloc(), Profile::One, &WIDE_AND_EXIT)?;
     assert_eq!(rt; program.slots(), 3);
     assert_eq!(rt; program.octets(), WIDE_AND_EXIT.as_slice());
     let wide = matches!(
@@ -140,14 +165,14 @@ fn a_program_gives_its_lines_by_slot(rt: HostRuntime) -> Result<(), Fail> {
 #[test]
 fn a_program_is_listed_and_compared(rt: HostRuntime) -> Result<(), Fail> {
     let alloc = rt.alloc();
-    let program = load(alloc, &WIDE_AND_EXIT)?;
+    let program = load(alloc, Profile::One, &WIDE_AND_EXIT)?;
     let mut text = Vec::from_slice(alloc, b">")?;
     program.listing(&mut text)?;
     assert_eq!(rt;
         text.as_slice(),
         b">lddw r1, 0x0000000100000005\nexit\n".as_slice()
     );
-    let other = load(alloc, &EXIT)?;
+    let other = load(alloc, Profile::One, &EXIT)?;
     assert!(rt; program.is_same(&program));
     assert!(rt; !program.is_same(&other));
     Ok(())

@@ -1,13 +1,14 @@
 //! Machines by themselves. Wanted values are counted by hand from the text of RFC 9669.
 use bpf_step::Machine;
+use ocp_profile::Profile;
 use ocp_regions::AccessFault;
 use std::test::Fail;
 
 #[test]
 fn a_start_keeps_nothing_old(rt: HostRuntime) -> Result<(), Fail> {
     let alloc = rt.alloc();
-    let fresh = Machine::new(alloc)?;
-    let mut machine = Machine::new(alloc)?;
+    let fresh = Machine::new(alloc, Profile::One)?;
+    let mut machine = Machine::new(alloc, Profile::One)?;
     assert!(rt; machine.is_same(&fresh));
     machine.start(&[7, 8]);
     machine.finish_call(5, Some(6));
@@ -32,7 +33,7 @@ fn a_start_keeps_nothing_old(rt: HostRuntime) -> Result<(), Fail> {
 
 #[test]
 fn arguments_are_read_at_their_address(rt: HostRuntime) -> Result<(), Fail> {
-    let mut machine = Machine::new(rt.alloc())?;
+    let mut machine = Machine::new(rt.alloc(), Profile::One)?;
     machine.start(&[7, 8]);
     assert_eq!(rt;
         machine.registers(),

@@ -1,11 +1,12 @@
 //! The memory of a machine by itself. Wanted octets are worked out from the regions' first addresses and lengths.
 use bpf_types::Size;
+use ocp_profile::Profile;
 use ocp_regions::Regions;
 use std::test::Fail;
 
 #[test]
 fn a_store_changes_its_octets_alone(rt: HostRuntime) -> Result<(), Fail> {
-    let mut memory = Regions::new(rt.alloc())?;
+    let mut memory = Regions::new(rt.alloc(), Profile::One)?;
     assert!(rt;
         memory
             .store(0x3000_0000, Size::Double, 0x8877_6655_4433_2211)
@@ -22,8 +23,8 @@ fn a_store_changes_its_octets_alone(rt: HostRuntime) -> Result<(), Fail> {
 #[test]
 fn memory_is_copied_compared_and_cleared(rt: HostRuntime) -> Result<(), Fail> {
     let alloc = rt.alloc();
-    let zeros = Regions::new(alloc)?;
-    let mut memory = Regions::new(alloc)?;
+    let zeros = Regions::new(alloc, Profile::One)?;
+    let mut memory = Regions::new(alloc, Profile::One)?;
     memory.set_arguments(&[1, 2, 3]);
     memory.set_arguments(&[4]);
     let mut octets = [9; 3];
@@ -39,5 +40,23 @@ fn memory_is_copied_compared_and_cleared(rt: HostRuntime) -> Result<(), Fail> {
     assert!(rt; !memory.is_same(&zeros));
     memory.clear();
     assert!(rt; memory.is_same(&zeros));
+    Ok(())
+}
+
+#[test]
+fn the_work_region_of_profile_two_has_4096_octets(rt: HostRuntime) -> Result<(), Fail> {
+    let alloc = rt.alloc();
+    let mut short = Regions::new(alloc, Profile::One)?;
+    let mut long = Regions::new(alloc, Profile::Two)?;
+    assert!(rt; short.store(0x3000_03ff, Size::Byte, 1).is_ok());
+    assert!(rt; short.store(0x3000_0400, Size::Byte, 1).is_err());
+    assert!(rt; long.store(0x3000_0400, Size::Byte, 1).is_ok());
+    assert!(rt; long.store(0x3000_0fff, Size::Byte, 2).is_ok());
+    assert!(rt; long.store(0x3000_1000, Size::Byte, 3).is_err());
+    assert_eq!(rt; long.load(0x3000_0ffe, Size::Half), Ok(0x0200));
+    let zeros = Regions::new(alloc, Profile::Two)?;
+    assert!(rt; !long.is_same(&zeros));
+    long.clear();
+    assert!(rt; long.is_same(&zeros));
     Ok(())
 }

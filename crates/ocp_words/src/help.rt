@@ -18,7 +18,7 @@ Exit status:
 
 Manual: docs/MANUAL.md. On one page: docs/CARD.md";
 
-pub(crate) const ASM_USAGE: &str = "ocp asm < TEXT";
+pub(crate) const ASM_USAGE: &str = "ocp asm [OPTIONS] < TEXT";
 
 pub(crate) const ASM: &str =
     "Reads assembly text, and writes its image as one line of hexadecimal digits";
@@ -32,6 +32,7 @@ Fault lines:
 
 Load faults:
   1 EmptyCode, 3 TooLong, 8 WritesFramePointer, 9 BadCall, 10 BadTarget, 11 FallsOffEnd
+  With --profile 2 call 6 is no BadCall
 
 Exit status:
   0 done, 1 a fault line is the output, 2 a mistake in the words, 3 a device or memory failed
@@ -80,12 +81,13 @@ pub(crate) const RUN_HELP: &str = "Console lines:
 Verbs of send:
   load <id> [<hex>], unload <id>, activate <id> [<hex>], stop <id> <step>, suspend <id> <step>,
   resume <id>, abort <id>, communicate <id> <number> .., status
+  With --profile 2: activate <id> <budget> [<hex>], where budget 0 is none
 
 Outcomes of step:
   Ran, Called, Broke, Ended, Faulted <n>, NotLoaded, NotRunning, JournalFull
 
 Faults of a procedure:
-  1 AccessOutside, 2 WriteToArguments, 3 CallDepth, 4 BadPoolIndex
+  1 AccessOutside, 2 WriteToArguments, 3 CallDepth, 4 BadPoolIndex, 5 BudgetSpent
 
 Codes of a failed acceptance (tm 1 2):
   1 Segmented, 2 NoSecondary, 3 NoRoom, 4 Pec, 5 PusVersion, 6 Service, 7 Subtype, 8 Layout
