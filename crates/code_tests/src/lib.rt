@@ -17,3 +17,5 @@ mod machine;
 mod memory;
 #[cfg(test)]
 mod spelling;
+#[cfg(test)]
+mod work_region;

@@ -4,6 +4,7 @@ use crate::drains::REQUESTED;
 use crate::heap::Refusing;
 use crate::requests::REQUESTS;
 use ocp_core::{Engine, Event, RunRefusal, StepOutcome, replay_one};
+use ocp_profile::Profile;
 use std::alloc::{Allocator, Global};
 use std::test::Fail;
 
@@ -40,7 +41,7 @@ fn traces<A: Allocator + Copy>(alloc: A, engine: &Engine<A>) -> Option<bool> {
 
 /// Whether a new engine is empty: none where memory was refused.
 fn begins<A: Allocator + Copy>(alloc: A) -> Option<bool> {
-    let engine = Engine::new(alloc, 0x123, 16, 20).ok()?;
+    let engine = Engine::new(alloc, Profile::One, 0x123, 16, 20).ok()?;
     Some(engine.room() == 20 && engine.events() == 0)
 }
 
@@ -117,7 +118,7 @@ fn all_refused<'a>(
 #[test]
 fn each_growth_of_what_is_made_of_an_engine_is_refused(rt: HostRuntime) -> Result<(), Fail> {
     let heap = Refusing::new(rt.alloc(), AMPLE);
-    let mut engine = Engine::new(&heap, 0x123, 16, 20)?;
+    let mut engine = Engine::new(&heap, Profile::One, 0x123, 16, 20)?;
     all_refused(&heap, &mut engine)?;
     assert_eq!(rt; engine.events(), 4);
     Ok(())
@@ -166,7 +167,7 @@ fn is_run<'a>(
 /// gives how many growths were refused.
 fn run_refused(heap: &Refusing<Global>, events: &[Event<'_>]) -> Result<u64, Fail> {
     for growths in 0..MOST {
-        let mut engine = Engine::new(heap, 0x123, 16, 20)?;
+        let mut engine = Engine::new(heap, Profile::One, 0x123, 16, 20)?;
         if is_run(heap, &mut engine, growths, events)? {
             return Ok(growths);
         }

@@ -2,6 +2,7 @@
 use crate::devices::{Giver, Taker};
 use crate::heap::Refusing;
 use ocp_console::{ConsoleFault, Crew, CrewFault, Device, Settings, asm, list, run};
+use ocp_profile::Profile;
 use std::alloc::{Allocator, Global};
 use std::test::Fail;
 
@@ -103,11 +104,11 @@ fn perform<A: Allocator + Copy>(
         inner: taker,
         failed: 0,
     };
-    let Some(settings) = Settings::new(0x123, 16, 10) else {
+    let Some(settings) = Settings::new(Profile::One, 0x123, 16, 10) else {
         return (End::Other, writer.inner);
     };
     let ended = match command {
-        Command::Assemble => asm(alloc, &mut reader, &mut writer),
+        Command::Assemble => asm(alloc, Profile::One, &mut reader, &mut writer),
         Command::List => list(alloc, &mut reader, &mut writer),
         Command::Run(fault) => {
             let crew = Refuser(fault);

@@ -6,6 +6,7 @@ ghost use Rattle.std.specs.Prelude.{◌≡◌, ◌+◌, length};
 use crate::engine::shown;
 use crate::heap::Refusing;
 use ocp_core::{Engine, EngineFault, Entry, Reports, StepOutcome};
+use ocp_profile::Profile;
 use ocp_seats::{Book, Naming, Seat};
 use std::alloc::{Allocator, Global};
 use std::marker::Brand;
@@ -147,7 +148,7 @@ fn refused<A: Allocator + Copy, D: Drained<A>>(
 #[test]
 fn each_growth_of_a_drain_is_refused(rt: HostRuntime) -> Result<(), Fail> {
     let heap = Refusing::new(rt.alloc(), AMPLE);
-    let mut engine = Engine::new(&heap, 0x123, 16, 20)?;
+    let mut engine = Engine::new(&heap, Profile::One, 0x123, 16, 20)?;
     complete(&heap, &mut engine)?;
     assert!(rt; refused(&heap, &heap, rt.alloc(), &mut engine)? > 5);
     assert!(rt; is_drain(engine.journal().entries().last()));
@@ -162,7 +163,7 @@ fn each_growth_of_a_drain_is_refused(rt: HostRuntime) -> Result<(), Fail> {
 #[test]
 fn each_growth_of_a_drain_of_a_seat_is_refused(rt: HostRuntime) -> Result<(), Fail> {
     let heap = Refusing::new(rt.alloc(), AMPLE);
-    let mut engine = Engine::new(&heap, 0x123, 16, 20)?;
+    let mut engine = Engine::new(&heap, Profile::One, 0x123, 16, 20)?;
     complete(&heap, &mut engine)?;
     by_a_seat(&heap, &heap, rt.alloc(), engine)
 }

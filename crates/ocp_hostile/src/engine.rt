@@ -3,6 +3,7 @@ use crate::heap::Refusing;
 use crate::requests::REQUESTS;
 use ocp_core::{Engine, EngineFault, StepOutcome};
 use ocp_debug::view_text;
+use ocp_profile::Profile;
 use std::alloc::{AllocError, Allocator, Global};
 use std::test::Fail;
 
@@ -101,7 +102,7 @@ fn all_refused<'a>(
 #[test]
 fn each_growth_of_a_request_is_refused(rt: HostRuntime) -> Result<(), Fail> {
     let heap = Refusing::new(rt.alloc(), AMPLE);
-    let mut engine = Engine::new(&heap, 0x123, 16, 20)?;
+    let mut engine = Engine::new(&heap, Profile::One, 0x123, 16, 20)?;
     all_refused(&heap, rt.alloc(), &mut engine)?;
     assert!(rt; engine.events() == 17 && engine.room() == 3);
     Ok(())

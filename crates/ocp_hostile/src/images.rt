@@ -1,6 +1,7 @@
 //! Octets that are no procedure. Faults, slots and their numbers were worked out by a script that knows the instruction
 //! table alone.
 use ocp_loader::load;
+use ocp_profile::Profile;
 use pus_fields::{TmFault, read_tm};
 use std::alloc::Global;
 use std::test::Fail;
@@ -40,7 +41,7 @@ fn image_of(number: usize) -> [u8; 64] {
 
 /// The number of the fault of an image and its slot, or zeros where there is none.
 fn fault_of(alloc: Global, image: &[u8]) -> (u8, u16) {
-    match load(alloc, image) {
+    match load(alloc, Profile::One, image) {
         Ok(_) => (0, 0),
         Err(fault) => (fault.number(), fault.slot()),
     }

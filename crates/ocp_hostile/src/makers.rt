@@ -5,6 +5,7 @@ use bpf_step::Machine;
 use ocp_debug::TraceRing;
 use ocp_loader::{LoadFault, load};
 use ocp_pool::Pool;
+use ocp_profile::Profile;
 use ocp_regions::Regions;
 use ocp_table::{LoadFailure, Table};
 use std::alloc::{AllocError, Allocator, Global};
@@ -52,7 +53,7 @@ const MADE: [Made; 10] = [
 
 /// Whether the image is loaded: none where memory was refused.
 fn loads<A: Allocator + Copy>(alloc: A) -> Option<bool> {
-    match load(alloc, &IMAGE) {
+    match load(alloc, Profile::One, &IMAGE) {
         Ok(program) => Some(program.slots() == 4 && program.octets() == IMAGE.as_slice()),
         Err(LoadFault::Memory) => None,
         Err(_) => Some(false),
@@ -61,7 +62,7 @@ fn loads<A: Allocator + Copy>(alloc: A) -> Option<bool> {
 
 /// Whether the text is assembled: none where memory was refused.
 fn assembles<A: Allocator + Copy>(alloc: A) -> Option<bool> {
-    match assemble(alloc, TEXT) {
+    match assemble(alloc, Profile::One, TEXT) {
         Ok(image) => Some(image.octets() == IMAGE.as_slice()),
         Err(AsmFault::Memory) => None,
         Err(_) => Some(false),
@@ -70,7 +71,7 @@ fn assembles<A: Allocator + Copy>(alloc: A) -> Option<bool> {
 
 /// Whether a memory of the allocator is all zeros.
 fn remembers<A: Allocator + Copy>(alloc: A) -> Result<bool, AllocError> {
-    let memory = Regions::new(alloc)?;
+    let memory = Regions::new(alloc, Profile::One)?;
     let mut octets = [1; 8];
     Ok(memory.octets(0x3000_03f8, &mut octets).is_ok() && octets == [0; 8])
 }
@@ -104,11 +105,11 @@ struct Begun<'a> {
 
 impl<'a> Begun<'a> {
     fn new(heap: &'a Refusing<Global>, alloc: Global) -> Result<Begun<'a>, AllocError> {
-        let mut memory = Regions::new(alloc)?;
+        let mut memory = Regions::new(alloc, Profile::One)?;
         memory.set_arguments(&[7, 8]);
-        let mut machine = Machine::new(alloc)?;
+        let mut machine = Machine::new(alloc, Profile::One)?;
         machine.start(&[7, 8]);
-        let table = Table::new(heap)?;
+        let table = Table::new(heap, Profile::One)?;
         Ok(Begun {
             memory,
             machine,
@@ -123,13 +124,13 @@ impl<'a> Begun<'a> {
             Made::Image => assembles(heap),
             Made::Memory => remembers(heap).ok(),
             Made::CopyOfMemory => remembers_too(heap, &self.memory).ok(),
-            Made::Machine => Machine::new(heap).map(|machine| machine.place() == 0).ok(),
+            Made::Machine => Machine::new(heap, Profile::Two).map(|machine| machine.place() == 0).ok(),
             Made::CopyOfMachine => {
                 let copied = self.machine.copy(heap).ok()?;
                 Some(self.machine.is_same(&copied))
             }
             Made::Pool => Pool::new(heap, 256).map(|pool| pool.words() == 256).ok(),
-            Made::Table => Table::new(heap).map(|table| table.len() == 0).ok(),
+            Made::Table => Table::new(heap, Profile::One).map(|table| table.len() == 0).ok(),
             Made::Procedure => takes_in(heap, &mut self.table),
             Made::Ring => TraceRing::new(heap).map(|ring| ring.len() == 0).ok(),
         }

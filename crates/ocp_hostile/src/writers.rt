@@ -6,6 +6,7 @@ use bpf_types::Line;
 use obcp_messages::{PlainCode, Report, Request, StartFault, write_report, write_request};
 use ocp_debug::{Trace, trace_text, view_text};
 use ocp_loader::load;
+use ocp_profile::Profile;
 use ocp_table::StepOutcome;
 use pus_fields::{Ack, Tc, Tm, write_tc, write_tm};
 use space_packet::{Apid, Primary, SequenceCount, SequenceFlags, write};
@@ -137,12 +138,12 @@ fn append<A: Allocator>(alloc: Global, text: Text, out: &mut Vec<u8, A>) -> Opti
         Text::Packet => packet(out),
         Text::Telecommand => telecommand(out),
         Text::Telemetry => telemetry(out),
-        Text::Request => write_request(&Request::Stop { id: 7, step: 2 }, out).ok(),
+        Text::Request => write_request(Profile::One, &Request::Stop { id: 7, step: 2 }, out).ok(),
         Text::Report => report(out),
         Text::Line => line_text(Line::Exit, out).ok(),
         Text::Disassembly => disassemble(&IMAGE, out).ok(),
-        Text::Listing => load(alloc, &IMAGE).ok()?.listing(out).ok(),
-        Text::Canonical => write_canonical(alloc, LISTING, out).ok(),
+        Text::Listing => load(alloc, Profile::One, &IMAGE).ok()?.listing(out).ok(),
+        Text::Canonical => write_canonical(alloc, Profile::One, LISTING, out).ok(),
         Text::View => view_text(7, None, out).ok(),
         Text::Trace => trace(out),
     }

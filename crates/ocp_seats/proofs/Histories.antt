@@ -23,7 +23,7 @@ entries_from w (e ∷ es) = ap (λ rest. e ∷ rest) (entries_from (replay_from 
 
 entries_are : (log : Log) → map (λ (m : Marked). m.entry) (marked log) ≡ log.entries
 unfolding marked
-entries_are log = entries_from (opening log.apid log.words) log.entries
+entries_are log = entries_from (opening log.profile log.apid log.words) log.entries
 
 marks_from : (w : World) (es : List Entry) (k : ℕ) (m : Marked) → slice_get (marked_from w es) k ≡ Some m → m.mark ≡ mark_in (replay_from w (expand (take k es))) m.entry
 marks_from w [] k m is = cc
@@ -36,7 +36,7 @@ marks_from w (e ∷ es) (suc k) m is =
 
 marks_are : (log : Log) (k : ℕ) (m : Marked) → slice_get (marked log) k ≡ Some m → m.mark ≡ mark_in (world_before log k) m.entry
 unfolding marked world_of
-marks_are log k m is = marks_from (opening log.apid log.words) log.entries k m is
+marks_are log k m is = marks_from (opening log.profile log.apid log.words) log.entries k m is
 
 pub history_of : (log : Log) (start : ℕ) (seats : List Seated) → IsReceipted (drop start (marked log)) seats → IsHistory log start seats
 history_of log start seats receipted = record {

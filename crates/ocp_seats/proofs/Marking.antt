@@ -17,7 +17,7 @@ marked_from-append w (x ∷ xs) ys =
 
 pub marked-with_entry : (log : Log) (e : Entry) → marked (with_entry log e) ≡ marked log ++ record { entry = e; mark = mark_in (world_of log) e } ∷ []
 unfolding world_of marked
-marked-with_entry log e = marked_from-append (opening log.apid log.words) log.entries (e ∷ [])
+marked-with_entry log e = marked_from-append (opening log.profile log.apid log.words) log.entries (e ∷ [])
 
 -- the mark of an event's entry is its answer
 pub event_mark : (w : World) (e : Event) → mark_in w (entry_for e) ≡ (after w e).answer

@@ -2,6 +2,7 @@
 //! standards.
 use crate::harness::{are_packets, is_answered, send_all, slice};
 use ocp_core::{Answer, Engine, EngineFault, Entry, Event, RunRefusal, StepOutcome};
+use ocp_profile::Profile;
 use ocp_table::Status;
 use std::alloc::Global;
 use std::process::Abort;
@@ -70,7 +71,7 @@ const STATUS_REPORTS: [&[u8]; 3] = [
 
 #[test]
 fn reports_of_a_load_and_an_activation(rt: HostRuntime) -> Result<(), Fail> {
-    let mut engine = Engine::new(rt.alloc(), 0x123, 16, 100_000)?;
+    let mut engine = Engine::new(rt.alloc(), Profile::One, 0x123, 16, 100_000)?;
     load_and_activate(&rt, rt.alloc(), &mut engine)
 }
 
@@ -84,7 +85,7 @@ fn load_and_activate(rt: &impl Abort, alloc: Global, engine: &mut Engine) -> Res
 
 #[test]
 fn status_is_reported_to_its_source(rt: HostRuntime) -> Result<(), Fail> {
-    let mut engine = Engine::new(rt.alloc(), 0x123, 16, 100_000)?;
+    let mut engine = Engine::new(rt.alloc(), Profile::One, 0x123, 16, 100_000)?;
     let is_reported = is_answered(rt.alloc(), &mut engine, 0, &STATUS, &STATUS_REPORTS);
     assert!(rt; is_reported?);
     Ok(())
@@ -127,7 +128,7 @@ const COMPLETIONS: [&[u8]; 2] = [
 
 #[test]
 fn completions_are_reported_by_a_drain(rt: HostRuntime) -> Result<(), Fail> {
-    let mut engine = Engine::new(rt.alloc(), 0x123, 16, 6)?;
+    let mut engine = Engine::new(rt.alloc(), Profile::One, 0x123, 16, 6)?;
     complete_and_drain(&rt, rt.alloc(), &mut engine)
 }
 
@@ -190,7 +191,7 @@ const REFUSED: [(&[u8], &[u8]); 4] = [
 
 #[test]
 fn failed_acceptances_are_reported(rt: HostRuntime) -> Result<(), Fail> {
-    let mut engine = Engine::new(rt.alloc(), 0x123, 16, 4)?;
+    let mut engine = Engine::new(rt.alloc(), Profile::One, 0x123, 16, 4)?;
     fail_acceptances(&rt, rt.alloc(), &mut engine)
 }
 
@@ -207,7 +208,7 @@ fn fail_acceptances(rt: &impl Abort, alloc: Global, engine: &mut Engine) -> Resu
 
 #[test]
 fn a_run_answers_each_event(rt: HostRuntime) -> Result<(), Fail> {
-    let mut engine = Engine::new(rt.alloc(), 0x123, 16, 3)?;
+    let mut engine = Engine::new(rt.alloc(), Profile::One, 0x123, 16, 3)?;
     run_to_the_end(&rt, rt.alloc(), &mut engine)
 }
 
@@ -265,7 +266,7 @@ fn handed_in(entry: &Entry) -> Option<(u16, u32)> {
 
 #[test]
 fn a_run_ends_at_a_full_journal(rt: HostRuntime) -> Result<(), Fail> {
-    let mut engine = Engine::new(rt.alloc(), 0x123, 16, 2)?;
+    let mut engine = Engine::new(rt.alloc(), Profile::One, 0x123, 16, 2)?;
     run_out_of_room(&rt, rt.alloc(), &mut engine)?;
     entries_are_kept(&rt, &engine)
 }

@@ -1,6 +1,7 @@
 //! Pool, mailbox and engine calls by themselves. Wanted values are those of the table of engine calls.
 use bpf_step::Machine;
 use ocp_pool::{Mailbox, Pool, engine_call};
+use ocp_profile::Profile;
 use std::test::Fail;
 
 /// Calls made in this order by a machine with 3 in R2: the number, R1 before it, and R0 and R1 after it, where it is
@@ -40,7 +41,7 @@ fn answer_of(
 
 #[test]
 fn calls_answer_as_their_table_says(rt: HostRuntime) -> Result<(), Fail> {
-    let mut machine = Machine::new(rt.alloc())?;
+    let mut machine = Machine::new(rt.alloc(), Profile::Two)?;
     let mut pool = Pool::new(rt.alloc(), 2)?;
     let mut mailbox = Mailbox::new();
     mailbox.append(&[7, 8]);

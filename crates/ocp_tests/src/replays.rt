@@ -2,6 +2,7 @@
 //! the tables of the profile alone.
 use crate::harness::{drain, send, send_all, slice, step};
 use ocp_core::{Engine, StepOutcome, replay_one};
+use ocp_profile::Profile;
 use std::alloc::Global;
 use std::process::Abort;
 use std::test::Fail;
@@ -59,7 +60,7 @@ const ADDERS: [&[u8]; 4] = [
 #[test]
 fn each_of_two_adders_has_its_own_answer(rt: HostRuntime) -> Result<(), Fail> {
     for (first, second) in [(1, 2), (2, 1)] {
-        let mut engine = Engine::new(rt.alloc(), 0x123, 16, 100)?;
+        let mut engine = Engine::new(rt.alloc(), Profile::One, 0x123, 16, 100)?;
         add_in_turn(&rt, rt.alloc(), &mut engine, first, second)?;
     }
     Ok(())
@@ -119,7 +120,7 @@ const LOOPS: [&[u8]; 6] = [
 
 #[test]
 fn three_loops_end_alike(rt: HostRuntime) -> Result<(), Fail> {
-    let mut engine = Engine::new(rt.alloc(), 0x123, 16, 100)?;
+    let mut engine = Engine::new(rt.alloc(), Profile::One, 0x123, 16, 100)?;
     loop_in_turn(&rt, rt.alloc(), &mut engine)
 }
 
@@ -163,7 +164,7 @@ const UNLOAD: [u8; 15] = [
 
 #[test]
 fn an_unload_and_a_load_begin_anew(rt: HostRuntime) -> Result<(), Fail> {
-    let mut engine = Engine::new(rt.alloc(), 0x123, 16, 100)?;
+    let mut engine = Engine::new(rt.alloc(), Profile::One, 0x123, 16, 100)?;
     load_again(&rt, rt.alloc(), &mut engine)
 }
 
@@ -295,7 +296,7 @@ fn next(number: u32) -> u32 {
 
 #[test]
 fn each_of_three_procedures_is_the_one_shown(rt: HostRuntime) -> Result<(), Fail> {
-    let mut engine = Engine::new(rt.alloc(), 0x123, 16, 1_000)?;
+    let mut engine = Engine::new(rt.alloc(), Profile::One, 0x123, 16, 1_000)?;
     run_at_random(&rt, rt.alloc(), &mut engine)
 }
 

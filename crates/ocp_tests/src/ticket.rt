@@ -1,6 +1,7 @@
 //! Tickets: a procedure that runs apart while requests come, and how its work comes back.
 use crate::harness::{send, send_all};
 use ocp_core::{CommitOutcome, Engine, StepOutcome, Ticket};
+use ocp_profile::Profile;
 use ocp_table::{Cause, Status};
 use std::alloc::Global;
 use std::process::Abort;
@@ -34,7 +35,7 @@ fn ticket(alloc: Global, engine: &Engine) -> Result<Ticket, Fail> {
 
 #[test]
 fn a_work_of_an_aborted_procedure_is_stale(rt: HostRuntime) -> Result<(), Fail> {
-    let mut engine = Engine::new(rt.alloc(), 0x123, 16, 100)?;
+    let mut engine = Engine::new(rt.alloc(), Profile::One, 0x123, 16, 100)?;
     abort_a_ticket(&rt, rt.alloc(), &mut engine)
 }
 
@@ -54,7 +55,7 @@ fn abort_a_ticket(rt: &impl Abort, alloc: Global, engine: &mut Engine) -> Result
 
 #[test]
 fn a_work_is_committed_to_a_machine_that_is_the_same_again(rt: HostRuntime) -> Result<(), Fail> {
-    let mut engine = Engine::new(rt.alloc(), 0x123, 16, 100)?;
+    let mut engine = Engine::new(rt.alloc(), Profile::One, 0x123, 16, 100)?;
     activate_again(&rt, rt.alloc(), &mut engine)
 }
 
@@ -75,7 +76,7 @@ fn activate_again(rt: &impl Abort, alloc: Global, engine: &mut Engine) -> Result
 
 #[test]
 fn works_are_refused_in_their_order(rt: HostRuntime) -> Result<(), Fail> {
-    let mut engine = Engine::new(rt.alloc(), 0x123, 16, 2)?;
+    let mut engine = Engine::new(rt.alloc(), Profile::One, 0x123, 16, 2)?;
     refuse_works(&rt, rt.alloc(), &mut engine)
 }
 

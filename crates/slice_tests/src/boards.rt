@@ -3,6 +3,7 @@
 ghost use Rattle.std.specs.Prelude.{◌≡◌, ◌+◌, length};
 
 use crate::packets::{STATUS, takes_loops};
+use ocp_profile::Profile;
 use ocp_slices::{
     Board, Book, CommitOutcome, DebugFault, Engine, EngineFault, Naming, Reports, Seat, SeatFault,
     SharedEngine, Slice, StepOutcome, TakeFault, Ticket, Work,
@@ -91,7 +92,7 @@ impl<L: Naming> Board<L> for Counting<L> {
 
 #[test]
 fn answers_are_the_boards(rt: HostRuntime) -> Result<(), Fail> {
-    let mut engine = Engine::new(rt.alloc(), 0x123, 16, 100)?;
+    let mut engine = Engine::new(rt.alloc(), Profile::One, 0x123, 16, 100)?;
     assert!(rt; takes_loops(rt.alloc(), &mut engine, 1));
     let _length = engine.journal().len();
     through::<Brand, _>(&rt, rt.alloc(), engine, Blank::new(65))

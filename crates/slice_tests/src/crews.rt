@@ -4,6 +4,7 @@ ghost use Rattle.std.specs.Prelude.{◌≡◌, ◌+◌, length};
 
 use crate::packets::{STATUS, activate_loop, is_done, suspend_loop, takes_loops};
 use ocp_core::replay_one;
+use ocp_profile::Profile;
 use ocp_slices::{CommitOutcome, Engine, Gate, Naming, Open, Seat, SharedEngine, work};
 use std::alloc::{AllocError, Global};
 use std::marker::Brand;
@@ -20,7 +21,7 @@ const LIMIT: u32 = 1_000_000_000;
 #[test]
 fn three_loops_end_under_any_number_of_workers(rt: HostRuntime) -> Result<(), Fail> {
     for workers in [1, 2, 16] {
-        let mut engine = Engine::new(rt.alloc(), 0x123, 16, 10_000)?;
+        let mut engine = Engine::new(rt.alloc(), Profile::One, 0x123, 16, 10_000)?;
         assert!(rt; takes_loops(rt.alloc(), &mut engine, 3));
         let engine = work(&rt, rt.alloc(), engine, workers, 100, 1000, &Open)?;
         for id in 1..4 {
@@ -88,7 +89,7 @@ impl Gate for Meeting {
 
 #[test]
 fn two_workers_run_at_once(rt: HostRuntime) -> Result<(), Fail> {
-    let mut engine = Engine::new(rt.alloc(), 0x123, 16, 10_000)?;
+    let mut engine = Engine::new(rt.alloc(), Profile::One, 0x123, 16, 10_000)?;
     assert!(rt; takes_loops(rt.alloc(), &mut engine, 2));
     let gate = Meeting::new();
     let engine = work(&rt, rt.alloc(), engine, 2, 100, 5, &gate)?;
@@ -101,7 +102,7 @@ fn two_workers_run_at_once(rt: HostRuntime) -> Result<(), Fail> {
 
 #[test]
 fn sixteen_workers_with_all_calls_between(rt: HostRuntime) -> Result<(), Fail> {
-    let mut engine = Engine::new(rt.alloc(), 0x123, 16, 4_000)?;
+    let mut engine = Engine::new(rt.alloc(), Profile::One, 0x123, 16, 4_000)?;
     assert!(rt; takes_loops(rt.alloc(), &mut engine, 16));
     let _length = engine.journal().len();
     let engine = mixed::<Brand, _>(&rt, rt.alloc(), engine, Blank::new(65))?;

@@ -2,6 +2,7 @@
 
 ghost use Rattle.std.specs.Prelude.{◌≤◌};
 
+use ocp_profile::Profile;
 use ocp_slices::{CloseFault, Engine, Naming, Seat, SharedEngine, StillShared};
 use ocp_table::{Cause, Status, View};
 use pus_fields::crc16;
@@ -138,7 +139,7 @@ pub(crate) fn engine_of(alloc: Global, capacity: u32, packets: &[&[u8]]) -> Resu
     requires from { 1 ≤ capacity }
     requires to { capacity ≤ 1000000 }
 {
-    let mut engine = Engine::new(alloc, 0x123, 16, capacity)?;
+    let mut engine = Engine::new(alloc, Profile::One, 0x123, 16, capacity)?;
     if takes(alloc, &mut engine, packets) {
         Ok(engine)
     } else {

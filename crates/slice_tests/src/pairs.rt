@@ -3,6 +3,7 @@
 ghost use Rattle.std.specs.Prelude.{◌≡◌, ◌+◌, length};
 
 use crate::packets::{STATUS, closes, is_taken, takes_loops};
+use ocp_profile::Profile;
 use ocp_slices::{Engine, Naming, Seat, SharedEngine, StepOutcome};
 use std::alloc::Global;
 use std::marker::Brand;
@@ -18,7 +19,7 @@ const LIMIT: u32 = 1_000_000_000;
 
 #[test]
 fn two_threads_wait_for_each_other(rt: HostRuntime) -> Result<(), Fail> {
-    let mut engine = Engine::new(rt.alloc(), 0x123, 16, 100)?;
+    let mut engine = Engine::new(rt.alloc(), Profile::One, 0x123, 16, 100)?;
     assert!(rt; takes_loops(rt.alloc(), &mut engine, 1));
     let _length = engine.journal().len();
     let engine = both::<Brand, _>(&rt, rt.alloc(), engine, Blank::new(65))?;

@@ -5,6 +5,7 @@ ghost use Rattle.std.specs.Prelude.{◌≡◌, ◌≤◌, ◌+◌, length};
 use crate::packets::{
     ABORT_SEVEN, ACTIVATE_SEVEN, LOAD_SEVEN, closes, engine_of, is_taken, takes_loops,
 };
+use ocp_profile::Profile;
 use ocp_slices::{
     CommitOutcome, Engine, MAX_SEATS, Naming, Open, Seat, SeatFault, SharedEngine, StepOutcome,
     TakeFault, Turn,
@@ -119,7 +120,7 @@ fn refuse_works<L: Naming, R: Wait + Abort>(
 
 #[test]
 fn seats_are_64(rt: HostRuntime) -> Result<(), Fail> {
-    let mut engine = Engine::new(rt.alloc(), 0x123, 16, 10)?;
+    let mut engine = Engine::new(rt.alloc(), Profile::One, 0x123, 16, 10)?;
     assert!(rt; takes_loops(rt.alloc(), &mut engine, 2));
     let _length = engine.journal().len();
     hand_out::<Brand, _>(&rt, rt.alloc(), engine, Blank::new(65))
