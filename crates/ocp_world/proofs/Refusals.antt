@@ -86,7 +86,7 @@ kept_octets (Err (Discarded cause)) time w h = untouched w
 
 -- an instruction that is done changes a record, or it fails
 abbrev pub IsInstruction : table.Effect → Type 0
-IsInstruction (Loaded id image) = ⊥
+IsInstruction (Loaded profile id image) = ⊥
 IsInstruction (Unloaded id) = ⊥
 IsInstruction (Changed id (Instructed outcome)) = Unit {0}
 IsInstruction (Changed id change) = ⊥
@@ -111,7 +111,7 @@ pub is_instruction : (pool : List ℕ) (m : Records) (id : ℕ) → IsInstructio
 is_instruction pool m id = step_on pool id (get m id) (is_full_table m)
 
 kept_step : (effect : table.Effect) → IsInstruction effect → (w : World) → is_accepted (answer_by (instruction_effect effect).reply w) ≡ false → world_after (instruction_effect effect) w ≡ w
-kept_step (Loaded id image) is w h = absurd is
+kept_step (Loaded profile id image) is w h = absurd is
 kept_step (Unloaded id) is w h = absurd is
 kept_step (Changed id (Instructed did.Broke)) is w h = absurd (true_false h)
 kept_step (Changed id (Instructed did.Ran)) is w h = absurd (true_false h)
@@ -170,7 +170,7 @@ failed_outcome failure.NotLoaded = refl
 failed_outcome other = refl
 
 pub refused_step : (effect : table.Effect) → IsInstruction effect → is_some (failure_of effect) ≡ true → is_accepted (Stepped (step_outcome effect)) ≡ false
-refused_step (Loaded id image) is h = absurd is
+refused_step (Loaded profile id image) is h = absurd is
 refused_step (Unloaded id) is h = absurd is
 refused_step (Changed id (Instructed outcome)) is h = absurd (true_false (sym h))
 refused_step (Changed id change) is h = absurd is
@@ -179,7 +179,7 @@ refused_step (Kept Unasked) is h = absurd is
 refused_step (Kept (Failed failure)) is h = failed_outcome failure
 
 allowed_step : (effect : table.Effect) → IsInstruction effect → failure_of effect ≡ None → is_accepted (Stepped (step_outcome effect)) ≡ true
-allowed_step (Loaded id image) is h = absurd is
+allowed_step (Loaded profile id image) is h = absurd is
 allowed_step (Unloaded id) is h = absurd is
 allowed_step (Changed id (Instructed did.Broke)) is h = refl
 allowed_step (Changed id (Instructed did.Ran)) is h = refl
@@ -193,7 +193,7 @@ allowed_step (Kept Unasked) is h = absurd is
 allowed_step (Kept (Failed failure)) is h = absurd (some_none h)
 
 failed_step : (effect : table.Effect) → IsInstruction effect → (failure : StartFailure) → failure_of effect ≡ Some failure → effect ≡ Kept (Failed failure)
-failed_step (Loaded id image) is failure h = absurd is
+failed_step (Loaded profile id image) is failure h = absurd is
 failed_step (Unloaded id) is failure h = absurd is
 failed_step (Changed id (Instructed outcome)) is failure h = absurd (some_none (sym h))
 failed_step (Changed id change) is failure h = absurd is
@@ -266,7 +266,7 @@ roomy_failure failure.NotLoaded = refl
 roomy_failure other = refl
 
 roomy_step : (effect : table.Effect) → IsInstruction effect → is_full (Stepped (step_outcome effect)) ≡ false
-roomy_step (Loaded id image) is = absurd is
+roomy_step (Loaded profile id image) is = absurd is
 roomy_step (Unloaded id) is = absurd is
 roomy_step (Changed id (Instructed did.Broke)) is = refl
 roomy_step (Changed id (Instructed did.Ran)) is = refl
