@@ -1,85 +1,100 @@
 -- With a budget above 0 no more instructions are done than that.
-use Rattle.std.proofs.Common.{◌≡◌, ◌≤◌, ℕ, ◌+◌, Option, Some, None, Bool, true, false, cond, List, refl, sym, ap, subst, ◌∙◌, arith}
+use Rattle.std.proofs.Common.{◌≡◌, ◌≤◌, ℕ, ◌+◌, ◌-◌, Option, Some, None, Bool, true, false, cond, List, refl, sym, ap, subst, ◌∙◌, arith}
 use Rattle.std.specs.Prelude.{◌==◌, ◌&&◌}
 use Rattle.std.proofs.lemmas.Bool.{eqb-true, eqb-false}
 use Rattle.std.specs.Ordering.{nat_cmp}
 use Rattle.std.specs.FinMap.{get, get-empty}
+use Rattle.ocp_profile.specs.declared.profile.Profile.{Profile}
+use Rattle.pus_fields.specs.TelecommandFaults.{telecommand_of}
 use Rattle.obcp_types.specs.declared.failure.StartFailure.{StartFailure}
 use Rattle.obcp_types.specs.declared.failure.StartFailure.TheVariants.{NotLoaded}
 use Rattle.obcp_types.specs.declared.status.Status.{Status}
 use Rattle.obcp_types.specs.declared.status.Status.TheVariants.{Inactive, Running, Held}
+use Rattle.bpf_step.specs.declared.answer.MachineFault.{MachineFault}
+use Rattle.bpf_step.specs.declared.answer.MachineFault.TheVariants.{AccessOutside, WriteToArguments, CallDepth}
+use Rattle.bpf_step.specs.declared.answer.Need.TheVariants as need
+use Rattle.bpf_step.specs.Machine.{Outcome, Next, Needs, NoInstruction, read, fault_number}
 use Rattle.bpf_step.specs.Runs.{breaks_at}
 use Rattle.bpf_step.specs.Step.{one_step}
+use Rattle.ocp_pool.specs.declared.call.Called.{Called as Call}
+use Rattle.ocp_pool.specs.Call.{engine_call}
 use Rattle.ocp_table.specs.declared.answers.InstructionOutcome.{InstructionOutcome}
 use Rattle.ocp_table.specs.declared.answers.InstructionOutcome.TheVariants.{Broke, Ran, Called, Ended, Faulted}
 use Rattle.ocp_table.specs.declared.answers.TheConstants.{BUDGET_SPENT}
-use Rattle.ocp_table.specs.Budgets.{budget_of, one_less, is_spent}
+use Rattle.ocp_table.specs.Budgets.{budget_of, one_less, less, is_spent}
 use Rattle.ocp_table.specs.Records.{Rec}
 use Rattle.ocp_table.specs.Effects as table
-use Rattle.ocp_table.specs.Effects.{Effect, Loaded, Unloaded, Changed, Kept, Drained, Change, Started, Failed, remaining_by, remaining_by_outcome, step_outcome, step_outcome_of, new_record}
-use Rattle.ocp_table.specs.Deciding.{outcome_of}
+use Rattle.ocp_table.specs.Effects.{Effect, Loaded, Unloaded, Changed, Kept, Drained, Change, Started, Failed, remaining_by, step_outcome, step_outcome_of, new_record}
+use Rattle.ocp_table.specs.Deciding.{outcome_of, outcome_of_call, outcome_unheld}
 use Rattle.ocp_world.specs.World.{World, Event, Request, Step, Debug, Drain, opening}
 use Rattle.ocp_world.specs.After.{Answer, Stepped, effect_of, after}
 use Rattle.ocp_world.specs.Replay.{replay}
-use Rattle.ocp_core.specs.Budget.{add_given, given, begins_anew, is_use, add_used, used, IsWithinBudget}
+use Rattle.ocp_core.specs.Budget.{add_given, given, begins_anew, is_use, add_used, used, IsWithinBudget, RemainsAreCounted, FindsNothing, FaultsSpent}
 use Rattle.ocp_core.proofs.Owned.{changed_if_there, own_by, get-records_by}
 use Rattle.ocp_core.proofs.Carried.{carried_along}
+use Rattle.ocp_core.proofs.Honest.{IsNext}
+use Rattle.ocp_core.proofs.Idle.{IsIdle, idle_request, idle_debug, idle_drain}
+use Rattle.ocp_core.proofs.Pools.{next_of, does_next}
 use Rattle.ocp_core.proofs.Turns.{Turn, Refuses, Makes, by_turn, turn_of, turn_by, turn, turn_in, effect-turn}
 
--- ---- what was used and what remains are within the budget
+-- ---- what remains is what was given less what was used
 
-abbrev IsKept : Option ℕ → ℕ → ℕ → Type 0
-IsKept None given used = given ≡ 0
-IsKept (Some left) given used = used + left ≤ given
+record IsKept (left : Option ℕ) (given used : ℕ) : Type 0 where
+  counted : left ≡ less used (budget_of given)
+  within : 1 ≤ given → used ≤ given
 
 abbrev IsKeptOf : Option Rec → ℕ → ℕ → Type 0
 IsKeptOf None given used = used ≡ 0
 IsKeptOf (Some r) given used = IsKept r.remaining given used
 
+less_none : (left : Option ℕ) → left ≡ less 0 left
+less_none None = refl
+less_none (Some k) = ap Some (omega arith)
+
+less_one : (used : ℕ) (left : Option ℕ) → one_less (less used left) ≡ less (used + 1) left
+less_one used None = refl
+less_one used (Some k) = ap Some (omega arith)
+
 kept_started : (budget : ℕ) → IsKept (budget_of budget) budget 0
-kept_started budget = elim (budget == 0) as (λ b. (budget == 0) ≡ b → IsKept (cond b None (Some budget)) budget 0) [
-  | true ↦ λ e. eqb-true budget 0 e
-  | false ↦ λ e. omega arith
-] refl
+kept_started budget = record { counted = less_none (budget_of budget); within = λ some. omega arith }
+
+-- where something is left, less than what was given was used
+left_over : (given used : ℕ) → is_spent (less used (budget_of given)) ≡ false → 1 ≤ given → used + 1 ≤ given
+left_over given used unspent some = elim (given == 0) as (λ b. (given == 0) ≡ b → is_spent (less used (cond b None (Some given))) ≡ false → used + 1 ≤ given) [
+  | true ↦ λ e h. let none : given ≡ 0 = eqb-true given 0 e in absurd (omega arith)
+  | false ↦ λ e h. let k : given - used ≡ 0 → ⊥ = eqb-false (given - used) 0 h in omega arith
+] refl unspent
 
 -- an instruction takes one
 kept_use : (left : Option ℕ) (given used : ℕ) → is_spent left ≡ false → IsKept left given used → IsKept (one_less left) given (used + 1)
-kept_use None given used some is = is
-kept_use (Some k) given used some is = let h : k ≡ 0 → ⊥ = eqb-false k 0 some in omega arith
-
-kept_less : (left : Option ℕ) (given used : ℕ) → IsKept left given used → IsKept (one_less left) given used
-kept_less None given used is = is
-kept_less (Some k) given used is = omega arith
-
-kept_outcome : (outcome : InstructionOutcome) (left : Option ℕ) (given used : ℕ) → IsKept left given used → IsKept (remaining_by_outcome outcome left) given used
-kept_outcome Broke left given used is = is
-kept_outcome Ran left given used is = kept_less left given used is
-kept_outcome (Called call) left given used is = kept_less left given used is
-kept_outcome Ended left given used is = kept_less left given used is
-kept_outcome (Faulted number) left given used is = is
+kept_use left given used some is = record {
+  counted = ap one_less is.counted ∙ less_one used (budget_of given);
+  within = left_over given used (subst (λ l. is_spent l ≡ false) is.counted some);
+}
 
 -- ---- an event that is no instruction
-
-kept_change : (change : Change) (o : Option Rec) (given used : ℕ) → ((r : Rec) → IsKept r.remaining given used → IsKept (remaining_by change r.remaining) given used) → IsKeptOf o given used → IsKeptOf (changed_if_there change o) given used
-kept_change change None given used keeps is = is
-kept_change change (Some r) given used keeps is = keeps r is
 
 kept_start : (budget : ℕ) (arguments : List ℕ) (o : Option Rec) → IsKeptOf (changed_if_there (Started budget arguments) o) budget 0
 kept_start budget arguments None = refl
 kept_start budget arguments (Some r) = kept_started budget
 
-module _ (q : ℕ) (o : Option Rec) (given used : ℕ) (is : IsKeptOf o given used) where
-  kept_changed : (id : ℕ) (change : Change) → ((r : Rec) → IsKept r.remaining given used → IsKept (remaining_by change r.remaining) given used) → IsKeptOf (own_by q (Changed id change) o) given used
-  kept_changed id change keeps = elim (q == id) as (λ b. IsKeptOf (cond b (changed_if_there change o) o) given used) [ true ↦ kept_change change o given used keeps is | false ↦ is ]
+-- a change that leaves what remains
+kept_change : (change : Change) (o : Option Rec) (given used : ℕ) → ((r : Rec) → remaining_by change r.remaining ≡ r.remaining) → IsKeptOf o given used → IsKeptOf (changed_if_there change o) given used
+kept_change change None given used leaves is = is
+kept_change change (Some r) given used leaves is = subst (λ l. IsKept l given used) (sym (leaves r)) is
 
-  kept_apart : (effect : Effect) → IsKeptOf (own_by q effect o) (add_given q effect given) (cond (begins_anew q effect) 0 used)
-  kept_apart (Loaded profile id image) = elim (q == id) as (λ b. IsKeptOf (cond b (Some (new_record profile image)) o) (cond b 0 given) (cond b 0 used)) [ true ↦ refl | false ↦ is ]
-  kept_apart (Unloaded id) = elim (q == id) as (λ b. IsKeptOf (cond b None o) (cond b 0 given) (cond b 0 used)) [ true ↦ refl | false ↦ is ]
-  kept_apart (Changed id (Started budget arguments)) = elim (q == id) as (λ b. IsKeptOf (cond b (changed_if_there (Started budget arguments) o) o) (cond b budget given) (cond b 0 used)) [ true ↦ kept_start budget arguments o | false ↦ is ]
-  kept_apart (Changed id (table.Stepped outcome)) = kept_changed id (table.Stepped outcome) (λ r here. kept_outcome outcome r.remaining given used here)
-  kept_apart (Changed id change) = kept_changed id change (λ r here. here)
-  kept_apart Drained = is
-  kept_apart (Kept why) = is
+module _ (q : ℕ) (o : Option Rec) (given used : ℕ) (is : IsKeptOf o given used) where
+  kept_changed : (id : ℕ) (change : Change) → ((r : Rec) → remaining_by change r.remaining ≡ r.remaining) → IsKeptOf (own_by q (Changed id change) o) given used
+  kept_changed id change leaves = elim (q == id) as (λ b. IsKeptOf (cond b (changed_if_there change o) o) given used) [ true ↦ kept_change change o given used leaves is | false ↦ is ]
+
+  kept_apart : (effect : Effect) → IsIdle effect → IsKeptOf (own_by q effect o) (add_given q effect given) (cond (begins_anew q effect) 0 used)
+  kept_apart (Loaded profile id image) idle = elim (q == id) as (λ b. IsKeptOf (cond b (Some (new_record profile image)) o) (cond b 0 given) (cond b 0 used)) [ true ↦ kept_started 0 | false ↦ is ]
+  kept_apart (Unloaded id) idle = elim (q == id) as (λ b. IsKeptOf (cond b None o) (cond b 0 given) (cond b 0 used)) [ true ↦ refl | false ↦ is ]
+  kept_apart (Changed id (Started budget arguments)) idle = elim (q == id) as (λ b. IsKeptOf (cond b (changed_if_there (Started budget arguments) o) o) (cond b budget given) (cond b 0 used)) [ true ↦ kept_start budget arguments o | false ↦ is ]
+  kept_apart (Changed id (table.Stepped outcome)) idle = absurd idle
+  kept_apart (Changed id change) idle = kept_changed id change (λ r. refl)
+  kept_apart Drained idle = is
+  kept_apart (Kept why) idle = is
 
 -- ---- an instruction
 
@@ -161,20 +176,64 @@ module _ (q : ℕ) (w : World) (given used : ℕ) (is : IsKeptOf (get w.records 
 
   kept_event : (e : Event) → IsKeptOf (get (after w e).world.records q) (add_given q (effect_of w e).on_records given) (add_used q w e used)
   kept_event (Step by id) = there (Step by id) (subst (IsKeptBy q id (get w.records q) given used) (sym (effect-turn w id)) (kept_step id))
-  kept_event (Request by time octets) = there (Request by time octets) (kept_apart q (get w.records q) given used is (effect_of w (Request by time octets)).on_records)
-  kept_event (Debug by id command) = there (Debug by id command) (kept_apart q (get w.records q) given used is (effect_of w (Debug by id command)).on_records)
-  kept_event (Drain by time) = there (Drain by time) (kept_apart q (get w.records q) given used is (effect_of w (Drain by time)).on_records)
+  kept_event (Request by time octets) = there (Request by time octets) (kept_apart q (get w.records q) given used is (effect_of w (Request by time octets)).on_records (idle_request w (telecommand_of w.apid octets) time))
+  kept_event (Debug by id command) = there (Debug by id command) (kept_apart q (get w.records q) given used is (effect_of w (Debug by id command)).on_records (idle_debug w command id))
+  kept_event (Drain by time) = there (Drain by time) (kept_apart q (get w.records q) given used is (effect_of w (Drain by time)).on_records (idle_drain time w.outbox))
+
+kept : (profile : Profile) (apid words : ℕ) (es : List Event) (q : ℕ) → IsKeptOf (get (replay profile apid words es).records q) (given profile apid words es q) (used profile apid words es q)
+kept profile apid words es q =
+    carried_along {U = ℕ} (λ w e n. add_given q (effect_of w e).on_records n) (add_used q) (λ w e u. u) (λ w n m u. IsKeptOf (get w.records q) n m)
+    (λ w n m u e is. kept_event q w n m is e) (opening profile apid words) 0 0 0 es (subst (λ o. IsKeptOf o 0 0) (sym (get-empty nat_cmp q)) refl)
 
 at_most : (o : Option Rec) (given used : ℕ) → IsKeptOf o given used → 1 ≤ given → used ≤ given
 at_most None given used is some = omega arith
-at_most (Some r) given used is some = of_left r.remaining is
-  where
-    of_left : (left : Option ℕ) → IsKept left given used → used ≤ given
-    of_left None is = absurd (omega arith)
-    of_left (Some k) is = omega arith
+at_most (Some r) given used is some = is.within some
 
 pub is_within_budget : IsWithinBudget
-is_within_budget profile apid words es q some =
-    at_most (get (replay profile apid words es).records q) (given profile apid words es q) (used profile apid words es q)
-    (carried_along {U = ℕ} (λ w e n. add_given q (effect_of w e).on_records n) (add_used q) (λ w e u. u) (λ w n m u. IsKeptOf (get w.records q) n m)
-    (λ w n m u e is. kept_event q w n m is e) (opening profile apid words) 0 0 0 es (subst (λ o. IsKeptOf o 0 0) (sym (get-empty nat_cmp q)) refl)) some
+is_within_budget profile apid words es q some = at_most (get (replay profile apid words es).records q) (given profile apid words es q) (used profile apid words es q) (kept profile apid words es q) some
+
+pub remains_are_counted : RemainsAreCounted
+remains_are_counted profile apid words es q r here =
+    (subst (λ o. IsKeptOf o (given profile apid words es q) (used profile apid words es q)) here (kept profile apid words es q)).counted
+
+-- ---- fault 5
+
+no_fault_5 : (fault : MachineFault) → Some (Faulted (fault_number fault)) ≡ Some (Faulted 5) → ⊥
+no_fault_5 AccessOutside e = cc
+no_fault_5 WriteToArguments e = cc
+no_fault_5 CallDepth e = cc
+
+module _ (r : Rec) (pool : List ℕ) where
+  not_of_call : (c : Option Call) → Some (outcome_of_call c) ≡ Some (Faulted 5) → ⊥
+  not_of_call (Some call) e = cc
+  not_of_call None e = cc
+
+  not_of_machine : (l : Outcome) → outcome_of l r.machine pool r.mailbox ≡ Some (Faulted 5) → ⊥
+  not_of_machine (Next s) e = cc
+  not_of_machine (Needs need.LastExit) e = cc
+  not_of_machine (Needs (need.Fault fault)) e = no_fault_5 fault e
+  not_of_machine (Needs (need.Call number)) e = not_of_call (engine_call number (read r.machine 1) (read r.machine 2) (read r.machine 3) pool r.mailbox) e
+  not_of_machine NoInstruction e = cc
+
+  finds_by : (held spent : Bool) → cond held (Some Broke) (cond spent (Some (Faulted BUDGET_SPENT)) (of_machine r pool)) ≡ Some (Faulted 5) → (held ≡ false) × (spent ≡ true)
+  finds_by true spent e = cc
+  finds_by false true e = (refl, refl)
+  finds_by false false e = absurd (not_of_machine (one_step r.image r.machine) e)
+
+finds : (o : Option Rec) (pool : List ℕ) → IsNext o pool (Faulted 5) → FindsNothing o
+finds o pool is =
+    let found = finds_by is.rec pool (breaks_at is.rec.control.pass is.rec.breakpoints is.rec.machine.place) (is_spent is.rec.remaining) is.next in
+    record { rec = is.rec; is = is.is; runs = is.runs; passes = found.0; spent = found.1 }
+
+faults : (o : Option Rec) (pool : List ℕ) → FindsNothing o → IsNext o pool (Faulted 5)
+faults o pool is = record {
+  rec = is.rec;
+  is = is.is;
+  runs = is.runs;
+  next = ap (λ b. cond b (Some Broke) (outcome_unheld is.rec pool)) is.passes ∙ ap (λ b. cond b (Some (Faulted BUDGET_SPENT)) (of_machine is.rec pool)) is.spent;
+}
+
+pub faults_spent : FaultsSpent
+faults_spent profile apid words es by id =
+    let w = replay profile apid words es in
+    ((λ does. finds (get w.records id) w.pool (next_of w by id (Faulted 5) does)), (λ is. does_next w by id (Faulted 5) (faults (get w.records id) w.pool is)))

@@ -11,6 +11,7 @@ pub mod Pools
 pub mod Mailboxes
 pub mod Numbered
 pub mod Completions
+pub mod Idle
 pub mod Turns
 pub mod Budgets
 pub mod Exchanges

@@ -65,7 +65,7 @@ pub next_of : (w : World) (by id : ℕ) (outcome : InstructionOutcome) → Does 
 next_of w by id outcome is = subst (IsHonest w.profile w.records w.pool) is (honest_in w.profile w.records w.pool (Step w.pool) id refl)
 
 -- and that instruction is done
-does_next : (w : World) (by id : ℕ) (outcome : InstructionOutcome) → IsNext (get w.records id) w.pool outcome → Does w by id outcome
+pub does_next : (w : World) (by id : ℕ) (outcome : InstructionOutcome) → IsNext (get w.records id) w.pool outcome → Does w by id outcome
 does_next w by id outcome is =
     ap (λ o. effect_on (Step w.pool) id o (is_full w.records)) is.is
     ∙ ap (λ s. effect_by (transition (Step w.pool) (Some s) is.rec.control.pending (length is.rec.mailbox)) id (Some is.rec) (is_full w.records)) is.runs

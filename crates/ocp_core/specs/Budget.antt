@@ -1,12 +1,19 @@
 -- The budget that a procedure was last activated with, and how many of its instructions were done
 -- since then.
-use Rattle.std.specs.Prelude.{◌≡◌, ◌≤◌, ℕ, ◌+◌, ◌==◌, ◌&&◌, Bool, true, false, if◌then◌else◌, List}
+use Rattle.std.specs.Prelude.{◌≡◌, ◌≤◌, ◌↔◌, ℕ, ◌+◌, ◌==◌, ◌&&◌, Bool, true, false, if◌then◌else◌, List, Option, Some}
+use Rattle.std.specs.FinMap.{get}
 use Rattle.ocp_profile.specs.declared.profile.Profile.{Profile}
+use Rattle.obcp_types.specs.declared.status.Status.TheVariants.{Running}
+use Rattle.bpf_step.specs.Runs.{breaks_at}
+use Rattle.ocp_table.specs.declared.answers.InstructionOutcome.TheVariants.{Faulted}
 use Rattle.ocp_table.specs.declared.answers.StepOutcome.TheVariants as outcome
+use Rattle.ocp_table.specs.Budgets.{budget_of, less, is_spent}
+use Rattle.ocp_table.specs.Records.{Rec}
 use Rattle.ocp_table.specs.Effects.{Effect, Loaded, Unloaded, Changed, Started}
 use Rattle.ocp_world.specs.World.{World, Event, Step, opening}
 use Rattle.ocp_world.specs.After.{Answer, Stepped, effect_of, after}
-use Rattle.ocp_core.specs.History.{gather_along}
+use Rattle.ocp_world.specs.Replay.{replay}
+use Rattle.ocp_core.specs.History.{gather_along, Does}
 
 -- ---- the budget that was given
 
@@ -53,7 +60,7 @@ add_used id w e used =
 abbrev pub used : Profile → ℕ → ℕ → List Event → ℕ → ℕ
 used profile apid words es id = gather_along (add_used id) 0 (opening profile apid words) es
 
--- ---- the law
+-- ---- the laws
 
 -- with a budget above 0 they are no more than that: after every list of events, and so at each
 -- point between an activation and the next one, or the unload
@@ -62,3 +69,26 @@ IsWithinBudget =
     (profile : Profile) (apid words : ℕ) (es : List Event) (id : ℕ) →
     1 ≤ given profile apid words es id →
     used profile apid words es id ≤ given profile apid words es id
+
+-- what remains to a procedure is what it was given less what it used, and without a budget none
+abbrev pub RemainsAreCounted : Type 0
+RemainsAreCounted =
+    (profile : Profile) (apid words : ℕ) (es : List Event) (id : ℕ) (r : Rec) →
+    get (replay profile apid words es).records id ≡ Some r →
+    r.remaining ≡
+    less (used profile apid words es id) (budget_of (given profile apid words es id))
+
+-- the next instruction of a procedure finds its budget spent: it runs, and no breakpoint holds it
+pub record FindsNothing (o : Option Rec) : Type 0 where
+  pub rec : Rec
+  pub is : o ≡ Some rec
+  pub runs : rec.control.status ≡ Running
+  pub passes : breaks_at rec.control.pass rec.breakpoints rec.machine.place ≡ false
+  pub spent : is_spent rec.remaining ≡ true
+
+-- the law: fault 5 is that of a spent budget, and of nothing else
+abbrev pub FaultsSpent : Type 0
+FaultsSpent =
+    (profile : Profile) (apid words : ℕ) (es : List Event) (by id : ℕ) →
+    let w = replay profile apid words es in
+    Does w by id (Faulted 5) ↔ FindsNothing (get w.records id)
