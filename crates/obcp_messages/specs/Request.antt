@@ -91,7 +91,12 @@ trailing_octets (Communicate id words) = []
 trailing_octets Status = []
 trailing_octets (Abort id) = []
 
--- a request that a profile can carry: under One an activation has the budget 0
+-- under profile One a budget is 0, which is none
+abbrev pub IsFittingBudget : Profile → ℕ → Type 0
+IsFittingBudget One budget = budget ≡ 0
+IsFittingBudget Two budget = Unit {0}
+
+-- a request that a profile can carry: an activation has a fitting budget
 abbrev pub HasFittingBudget : Profile → Request → Type 0
-HasFittingBudget One (Activate id budget arguments) = budget ≡ 0
-HasFittingBudget _ _ = Unit {0}
+HasFittingBudget profile (Activate id budget arguments) = IsFittingBudget profile budget
+HasFittingBudget profile _ = Unit {0}

@@ -4,6 +4,9 @@ use Rattle.std.specs.List.{starts_with}
 use Rattle.std.specs.Str.{bytes_eq}
 use Rattle.std.specs.Option.{option_map}
 use Rattle.ocp_lines.specs.Words.{Word, words_of, number_up_to, octets_up_to, address_in}
+use Rattle.ocp_profile.specs.declared.profile.Profile.{Profile}
+use Rattle.ocp_profile.specs.declared.profile.Profile.TheVariants.{One, Two}
+use Rattle.obcp_messages.specs.Request.{HasFittingBudget}
 use Rattle.obcp_messages.specs.declared.request.Request.{Request}
 use Rattle.obcp_messages.specs.declared.request.Request.TheVariants.{Load, Unload, Activate, Stop, Suspend, Resume, Abort, Communicate, Status}
 use Rattle.obcp_messages.specs.declared.payload.TheConstants.{MAX_ARGUMENTS_LENGTH, MAX_WORDS}
@@ -41,7 +44,7 @@ pub data Said : Type 0 where
 abbrev pub request_of : {A : Type 0} → Verb A → Request
 request_of (verb.Load id code) = Load id code
 request_of (verb.Unload id) = Unload id
-request_of (verb.Activate id arguments) = Activate id arguments
+request_of (verb.Activate id budget arguments) = Activate id budget arguments
 request_of (verb.Stop id step) = Stop id step
 request_of (verb.Suspend id step) = Suspend id step
 request_of (verb.Resume id) = Resume id
@@ -118,6 +121,10 @@ three (Some x) (Some y) (Some z) f = Some (f x y z)
 abbrev pub short : Word → Option ℕ
 short word = number_up_to (2 ^ 16 - 1) word
 
+-- a time, or the budget of an activation
+abbrev pub long : Word → Option ℕ
+long word = number_up_to (2 ^ 32 - 1) word
+
 -- an identifier, and a place or a step
 abbrev pub two_shorts : List Word → Option (ℕ × ℕ)
 two_shorts words = two_words (λ id next. both (short id) (short next) (λ i n. (i, n))) words
@@ -174,10 +181,15 @@ load_in words =
     first_word (λ id rest.
     both (short id) (word_or_none (octets_up_to MAX_OCTETS_LENGTH) rest) Load) words
 
--- `activate <id> [<hex>]`
-abbrev pub activate_in : List Word → Option Request
-activate_in words = first_word (λ id rest.
-    both (short id) (word_or_none (octets_up_to MAX_ARGUMENTS_LENGTH) rest) Activate) words
+-- `activate <id> [<hex>]`, and under profile Two `activate <id> <budget> [<hex>]`
+abbrev pub activate_in : Profile → List Word → Option Request
+activate_in One words = first_word (λ id rest.
+    both (short id) (word_or_none (octets_up_to MAX_ARGUMENTS_LENGTH) rest)
+    (λ i octets. Activate i 0 octets)) words
+activate_in Two words = first_word (λ id rest.
+    first_word (λ most behind.
+    three (short id) (long most) (word_or_none (octets_up_to MAX_ARGUMENTS_LENGTH) behind)
+    Activate) rest) words
 
 -- the identifier of `unload <id>`, `resume <id>` and `abort <id>`
 abbrev pub id_in : List Word → Option ℕ
@@ -201,10 +213,10 @@ plain_verb_in name words =
     else if bytes_eq name (codes "status") then no_word Status words
     else None
 
-abbrev pub verb_in : Word → List Word → Option Request
-verb_in name words =
+abbrev pub verb_in : Profile → Word → List Word → Option Request
+verb_in profile name words =
     if bytes_eq name (codes "load") then load_in words
-    else if bytes_eq name (codes "activate") then activate_in words
+    else if bytes_eq name (codes "activate") then activate_in profile words
     else plain_verb_in name words
 
 -- ---- the lines
@@ -214,14 +226,14 @@ abbrev pub up_in : List Word → Option Said
 up_in words = word_or_none (λ word. option_map Up (octets_up_to MAX_OCTETS_LENGTH word)) words
 
 -- `send <ack 0 to 15> <verb> ..`
-abbrev pub send_in : List Word → Option Said
-send_in words = first_word (λ ack rest.
+abbrev pub send_in : Profile → List Word → Option Said
+send_in profile words = first_word (λ ack rest.
     first_word (λ name arguments.
-    both (number_up_to 15 ack) (verb_in name arguments) Send) rest) words
+    both (number_up_to 15 ack) (verb_in profile name arguments) Send) rest) words
 
 -- the number of `time <u32>`
 abbrev pub time_in : List Word → Option ℕ
-time_in words = one_word (number_up_to (2 ^ 32 - 1)) words
+time_in words = one_word long words
 
 -- the identifier and the number of `step <id> <n>`
 abbrev pub count_in : List Word → Option (ℕ × ℕ)
@@ -277,45 +289,56 @@ plain_command_in name words =
     else if bytes_eq name (codes "work") then option_map (λ p. Work p.0 p.1 p.2) (work_in words)
     else debugger_command_in name words
 
-abbrev pub command_in : Word → List Word → Option Said
-command_in name words =
+abbrev pub command_in : Profile → Word → List Word → Option Said
+command_in profile name words =
     if bytes_eq name (codes "up") then up_in words
-    else if bytes_eq name (codes "send") then send_in words
+    else if bytes_eq name (codes "send") then send_in profile words
     else plain_command_in name words
 
 -- the command of the words of a line: a line with no words is blank
-abbrev pub words_say : List Word → Option Said
-words_say [] = Some Nothing
-words_say (name ∷ words) = command_in name words
+abbrev pub words_say : Profile → List Word → Option Said
+words_say profile [] = Some Nothing
+words_say profile (name ∷ words) = command_in profile name words
 
 -- The command that a line says, or none where its form is no other's. A line whose first octet is
 -- `#` is a comment.
-unfoldable pub command_of : List ℕ → Option Said
-command_of line =
-    if starts_with nat_eq line (codes "#") then Some Nothing else words_say (words_of line)
+unfoldable pub command_of : Profile → List ℕ → Option Said
+command_of profile line =
+    if starts_with nat_eq line (codes "#") then Some Nothing
+    else words_say profile (words_of line)
+
+-- what a line of a profile can say: a request that the profile can carry
+abbrev pub IsSayable : Profile → Said → Type 0
+IsSayable profile (Send ack request) = HasFittingBudget profile request
+IsSayable profile _ = Unit {0}
 
 -- ---- which lines take memory: those with a word in the place of hexadecimal digits
 
--- `load <id> <hex>` and `activate <id> <hex>`
-abbrev pub verb_takes_octets : Word → List Word → Bool
-verb_takes_octets name words =
+-- how many words an activation with hexadecimal digits has
+abbrev pub activation_words : Profile → ℕ
+activation_words One = 2
+activation_words Two = 3
+
+-- `load <id> <hex>`, and `activate <id> <hex>` or `activate <id> <budget> <hex>`
+abbrev pub verb_takes_octets : Profile → Word → List Word → Bool
+verb_takes_octets profile name words =
     if bytes_eq name (codes "load") then length words == 2
-    else if bytes_eq name (codes "activate") then length words == 2
+    else if bytes_eq name (codes "activate") then length words == activation_words profile
     else false
 
 -- `send <ack> <verb> ..` with such a verb
-abbrev pub send_takes_octets : List Word → Bool
-send_takes_octets [] = false
-send_takes_octets (ack ∷ []) = false
-send_takes_octets (ack ∷ name ∷ words) = verb_takes_octets name words
+abbrev pub send_takes_octets : Profile → List Word → Bool
+send_takes_octets profile [] = false
+send_takes_octets profile (ack ∷ []) = false
+send_takes_octets profile (ack ∷ name ∷ words) = verb_takes_octets profile name words
 
 -- `up <hex>`, or such a `send`
-abbrev pub command_takes_octets : Word → List Word → Bool
-command_takes_octets name words =
+abbrev pub command_takes_octets : Profile → Word → List Word → Bool
+command_takes_octets profile name words =
     if bytes_eq name (codes "up") then length words == 1
-    else if bytes_eq name (codes "send") then send_takes_octets words
+    else if bytes_eq name (codes "send") then send_takes_octets profile words
     else false
 
-abbrev pub takes_octets : List Word → Bool
-takes_octets [] = false
-takes_octets (name ∷ words) = command_takes_octets name words
+abbrev pub takes_octets : Profile → List Word → Bool
+takes_octets profile [] = false
+takes_octets profile (name ∷ words) = command_takes_octets profile name words

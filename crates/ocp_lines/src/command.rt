@@ -11,14 +11,37 @@ use std::alloc::{Allocator, Global};
 /// What a `send` line asks of the engine.
 #[derive(Drop)]
 pub enum Verb<A: Allocator = Global> {
-    Load { id: u16, code: Octets<A> },
-    Unload { id: u16 },
-    Activate { id: u16, arguments: Arguments<A> },
-    Stop { id: u16, step: u16 },
-    Suspend { id: u16, step: u16 },
-    Resume { id: u16 },
-    Abort { id: u16 },
-    Communicate { id: u16, parameters: Parameters },
+    Load {
+        id: u16,
+        code: Octets<A>,
+    },
+    Unload {
+        id: u16,
+    },
+    /// Under profile One the budget is 0.
+    Activate {
+        id: u16,
+        budget: u32,
+        arguments: Arguments<A>,
+    },
+    Stop {
+        id: u16,
+        step: u16,
+    },
+    Suspend {
+        id: u16,
+        step: u16,
+    },
+    Resume {
+        id: u16,
+    },
+    Abort {
+        id: u16,
+    },
+    Communicate {
+        id: u16,
+        parameters: Parameters,
+    },
     Status,
 }
 

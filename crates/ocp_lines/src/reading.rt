@@ -1,9 +1,10 @@
 //! Reading a line.
 
-ghost use Rattle.std.specs.Prelude.{◌≡◌, length, IfOk, OnErr, IsTrue};
+ghost use Rattle.std.specs.Prelude.{◌≡◌, length, IfOk, IfSome, OnErr, IsTrue};
 ghost use Rattle.std.specs.Option.{option_map};
+ghost use Rattle.ocp_profile.specs.declared.profile.Profile.{Profile};
 ghost use Rattle.ocp_lines.specs.Words.{words_of};
-ghost use Rattle.ocp_lines.specs.Grammar.{said_by, up_in, send_in, time_in, count_in, view_in, pool_in, work_in, switch, trace_in, memory_in, debugger_command_in, plain_command_in, command_in, command_of, takes_octets, send_takes_octets, command_takes_octets};
+ghost use Rattle.ocp_lines.specs.Grammar.{IsSayable, said_by, up_in, send_in, time_in, count_in, view_in, pool_in, work_in, switch, trace_in, memory_in, debugger_command_in, plain_command_in, command_in, command_of, takes_octets, send_takes_octets, command_takes_octets};
 
 use crate::command::{
     Command, Flags, MAX_BUDGET, MAX_MEMORY_LENGTH, MAX_STEPS, MAX_TURNS, MAX_WORKERS, MemoryLength,
@@ -11,15 +12,18 @@ use crate::command::{
 };
 use crate::verbs::verb;
 use crate::words::{
-    address, next_word, no_word, number, octets, one_word, short, three_words, two_shorts,
+    address, long, next_word, no_word, number, octets, one_word, short, three_words, two_shorts,
     two_words, word_or_none,
 };
+use ocp_profile::Profile;
 use std::alloc::{AllocError, Allocator};
 
 fn up<A: Allocator>(alloc: A, arguments: &[u8]) -> Result<Option<Command<A>>, AllocError>
     ensures command { IfOk result
         (λ command. option_map said_by command ≡ up_in (words_of arguments.now)) }
     ensures memory { OnErr result (length (words_of arguments.now) ≡ 1) }
+    ensures fits { (profile : Profile) → IfOk result
+        (λ command. IfSome command (λ command. IsSayable profile (said_by command))) }
 {
     let Some(word) = word_or_none(arguments) else {
         return Ok(None);
@@ -30,10 +34,16 @@ fn up<A: Allocator>(alloc: A, arguments: &[u8]) -> Result<Option<Command<A>>, Al
     }
 }
 
-fn send<A: Allocator>(alloc: A, arguments: &[u8]) -> Result<Option<Command<A>>, AllocError>
+fn send<A: Allocator>(
+    alloc: A,
+    profile: Profile,
+    arguments: &[u8],
+) -> Result<Option<Command<A>>, AllocError>
     ensures command { IfOk result
-        (λ command. option_map said_by command ≡ send_in (words_of arguments.now)) }
-    ensures memory { OnErr result (IsTrue (send_takes_octets (words_of arguments.now))) }
+        (λ command. option_map said_by command ≡ send_in profile (words_of arguments.now)) }
+    ensures memory { OnErr result (IsTrue (send_takes_octets profile (words_of arguments.now))) }
+    ensures fits { IfOk result
+        (λ command. IfSome command (λ command. IsSayable profile (said_by command))) }
 {
     let Some((flags, rest)) = next_word(arguments) else {
         return Ok(None);
@@ -41,7 +51,7 @@ fn send<A: Allocator>(alloc: A, arguments: &[u8]) -> Result<Option<Command<A>>, 
     let (Some(flags), Some((name, rest))) = (number(flags, 15), next_word(rest)) else {
         return Ok(None);
     };
-    match verb(alloc, name, rest)? {
+    match verb(alloc, profile, name, rest)? {
         Some(verb) => Ok(Some(Command::Send {
             flags: Flags {
                 number: flags as u8,
@@ -55,8 +65,7 @@ fn send<A: Allocator>(alloc: A, arguments: &[u8]) -> Result<Option<Command<A>>, 
 fn time(arguments: &[u8]) -> Option<u32>
     ensures { result ≡ time_in (words_of arguments.now) }
 {
-    let time = number(one_word(arguments)?, 0xffff_ffff)?;
-    Some(time as u32)
+    long(one_word(arguments)?)
 }
 
 /// The identifier and the number of a `step` line.
@@ -98,7 +107,9 @@ fn switch(word: &[u8]) -> Option<bool>
 }
 
 fn trace<A: Allocator>(arguments: &[u8]) -> Option<Command<A>>
-    ensures { option_map said_by result ≡ trace_in (words_of arguments.now) }
+    ensures command { option_map said_by result ≡ trace_in (words_of arguments.now) }
+    ensures fits { (profile : Profile) →
+        IfSome result (λ command. IsSayable profile (said_by command)) }
 {
     if no_word(arguments) {
         return Some(Command::Traces);
@@ -158,7 +169,10 @@ fn shift(arguments: &[u8]) -> Option<Shift>
 
 /// The debugger's command of this name with these arguments.
 fn debugger_command<A: Allocator>(name: &[u8], arguments: &[u8]) -> Option<Command<A>>
-    ensures { option_map said_by result ≡ debugger_command_in name.now (words_of arguments.now) }
+    ensures command { option_map said_by result ≡
+        debugger_command_in name.now (words_of arguments.now) }
+    ensures fits { (profile : Profile) →
+        IfSome result (λ command. IsSayable profile (said_by command)) }
 {
     if name == b"break".as_slice() {
         let (id, place) = two_shorts(arguments)?;
@@ -184,7 +198,10 @@ fn debugger_command<A: Allocator>(name: &[u8], arguments: &[u8]) -> Option<Comma
 
 /// The command of this name with these arguments, which are no octets.
 fn plain_command<A: Allocator>(name: &[u8], arguments: &[u8]) -> Option<Command<A>>
-    ensures { option_map said_by result ≡ plain_command_in name.now (words_of arguments.now) }
+    ensures command { option_map said_by result ≡
+        plain_command_in name.now (words_of arguments.now) }
+    ensures fits { (profile : Profile) →
+        IfSome result (λ command. IsSayable profile (said_by command)) }
 {
     if name == b"time".as_slice() {
         Some(Command::Time(time(arguments)?))
@@ -207,18 +224,21 @@ fn plain_command<A: Allocator>(name: &[u8], arguments: &[u8]) -> Option<Command<
 /// The command of this name with these arguments.
 fn command<A: Allocator>(
     alloc: A,
+    profile: Profile,
     name: &[u8],
     arguments: &[u8],
 ) -> Result<Option<Command<A>>, AllocError>
     ensures command { IfOk result (λ command. option_map said_by command ≡
-        command_in name.now (words_of arguments.now)) }
+        command_in profile name.now (words_of arguments.now)) }
     ensures memory { OnErr result
-        (IsTrue (command_takes_octets name.now (words_of arguments.now))) }
+        (IsTrue (command_takes_octets profile name.now (words_of arguments.now))) }
+    ensures fits { IfOk result
+        (λ command. IfSome command (λ command. IsSayable profile (said_by command))) }
 {
     if name == b"up".as_slice() {
         up(alloc, arguments)
     } else if name == b"send".as_slice() {
-        send(alloc, arguments)
+        send(alloc, profile, arguments)
     } else {
         Ok(plain_command(name, arguments))
     }
@@ -227,17 +247,26 @@ fn command<A: Allocator>(
 /// The command that a line says, without its newline, or none where it is no command. A line of
 /// spaces alone is blank, and one whose first octet is `#` a comment: both say nothing. Words are
 /// parted by spaces, numbers are decimal digits, and octets pairs of hexadecimal digits of both
-/// cases. Only memory is refused, and only for a line with a word in the place of octets.
+/// cases. An activation has a budget under profile Two, and under One none. Only memory is refused, and
+/// only for a line with a word in the place of octets.
 #[tactic(auto, unfolding(crate::specs::Grammar::command_of))]
-pub fn read_command<A: Allocator>(alloc: A, line: &[u8]) -> Result<Option<Command<A>>, AllocError>
-    ensures command { IfOk result (λ command. option_map said_by command ≡ command_of line.now) }
-    ensures memory { OnErr result (IsTrue (takes_octets (words_of line.now))) }
+pub fn read_command<A: Allocator>(
+    alloc: A,
+    profile: Profile,
+    line: &[u8],
+) -> Result<Option<Command<A>>, AllocError>
+    ensures command { IfOk result
+        (λ command. option_map said_by command ≡ command_of profile line.now) }
+    ensures memory { OnErr result (IsTrue (takes_octets profile (words_of line.now))) }
+    // A request that it says is one that the profile can carry.
+    ensures fits { IfOk result
+        (λ command. IfSome command (λ command. IsSayable profile (said_by command))) }
 {
     if line.starts_with(b"#") {
         return Ok(Some(Command::Nothing));
     }
     match next_word(line) {
         None => Ok(Some(Command::Nothing)),
-        Some((name, arguments)) => command(alloc, name, arguments),
+        Some((name, arguments)) => command(alloc, profile, name, arguments),
     }
 }

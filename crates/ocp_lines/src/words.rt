@@ -4,7 +4,7 @@ ghost use Rattle.std.specs.Prelude.{◌≡◌, ◌<◌, ◌≤◌, ◌^◌, ◌-
 ghost use Rattle.std.specs.List.{list_all};
 ghost use Rattle.hex.specs.Hex.{hex_digit_value};
 ghost use Rattle.ocp_lines.specs.Words.{words_of, is_solid, number_up_to, octets_up_to, value_of, max_address_digits, hexadecimal, address_in};
-ghost use Rattle.ocp_lines.specs.Grammar.{two_shorts};
+ghost use Rattle.ocp_lines.specs.Grammar.{long, two_shorts};
 ghost use Rattle.ocp_lines.specs.declared.octets.TheConstants.{MAX_OCTETS_LENGTH};
 ghost use Rattle.obcp_messages.specs.declared.payload.TheConstants.{MAX_ARGUMENTS_LENGTH};
 
@@ -123,6 +123,14 @@ pub(crate) fn short(word: &[u8]) -> Option<u16>
 {
     let value = number(word, u64::from(u16::MAX))?;
     Some(value as u16)
+}
+
+/// The number that a word says, if it has at most 32 bits.
+pub(crate) fn long(word: &[u8]) -> Option<u32>
+    ensures { result ≡ long word.now }
+{
+    let value = number(word, u64::from(u32::MAX))?;
+    Some(value as u32)
 }
 
 /// The numbers that two words say, if each has at most 16 bits.
