@@ -124,13 +124,17 @@ impl<'a> Begun<'a> {
             Made::Image => assembles(heap),
             Made::Memory => remembers(heap).ok(),
             Made::CopyOfMemory => remembers_too(heap, &self.memory).ok(),
-            Made::Machine => Machine::new(heap, Profile::Two).map(|machine| machine.place() == 0).ok(),
+            Made::Machine => Machine::new(heap, Profile::Two)
+                .map(|machine| machine.place() == 0)
+                .ok(),
             Made::CopyOfMachine => {
                 let copied = self.machine.copy(heap).ok()?;
                 Some(self.machine.is_same(&copied))
             }
             Made::Pool => Pool::new(heap, 256).map(|pool| pool.words() == 256).ok(),
-            Made::Table => Table::new(heap, Profile::One).map(|table| table.len() == 0).ok(),
+            Made::Table => Table::new(heap, Profile::One)
+                .map(|table| table.len() == 0)
+                .ok(),
             Made::Procedure => takes_in(heap, &mut self.table),
             Made::Ring => TraceRing::new(heap).map(|ring| ring.len() == 0).ok(),
         }

@@ -10,13 +10,11 @@ pub fn cleared_memory_is_the_first_one()
     ensures zeros { (profile : Profile) → cleared (zeros profile) ≡ zeros profile }
     ensures arguments { (profile : Profile) (octets : List ℕ) → length octets ≤ 256 →
         cleared (with_arguments (zeros profile) octets) ≡ zeros profile }
-{
-}
+{}
 
 /// A store keeps which addresses there are.
 #[tactic(auto, using(crate::proofs::Cleared::cleared_store))]
 pub fn stores_keep_the_addresses()
     ensures { (old new : Octets) (address n number : ℕ) →
         stored old address n number ≡ Ok new → cleared new ≡ cleared old }
-{
-}
+{}

@@ -76,7 +76,10 @@ fn spend(rt: &impl Abort, alloc: Global, engine: &mut Engine) -> Result<(), Fail
     assert_eq!(rt; engine.commit(1, none), CommitOutcome::Empty);
     assert_eq!(rt; step(engine, 1), StepOutcome::Faulted(5));
     let view = engine.view(1).ok_or("not loaded")?;
-    assert_eq!(rt; (view.status, view.cause), (Status::Inactive, Cause::Fault(5)));
+    assert_eq!(rt;
+        (view.status, view.cause),
+        (Status::Inactive, Cause::Fault(5))
+    );
     assert_eq!(rt; (view.remaining, view.registers[1]), (Some(0), 424));
     assert_eq!(rt; step(engine, 1), StepOutcome::NotRunning);
     assert_eq!(rt; engine.events(), 153);

@@ -1,4 +1,4 @@
-//! Tests of one engine that several seats and threads share. The crate has no code of its own.
+//! Tests of one engine that threads share, and of another board behind the lock. The crate has no code of its own.
 #![tactic(auto)]
 
 #[cfg(test)]
@@ -6,10 +6,6 @@ mod boards;
 #[cfg(test)]
 mod crews;
 #[cfg(test)]
-mod drains;
-#[cfg(test)]
 mod packets;
 #[cfg(test)]
 mod pairs;
-#[cfg(test)]
-mod seats;

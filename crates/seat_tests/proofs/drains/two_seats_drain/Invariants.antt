@@ -1,5 +1,5 @@
 use Rattle.std.proofs.Common.{◌-◌, length}
-use Rattle.slice_tests.proofs.drains.two_seats_drain.Given as goal
+use Rattle.seat_tests.proofs.drains.two_seats_drain.Given as goal
 
 abbrev pub ghosts-by_two-L-Ledger : goal.ghosts-by_two-L-Ledger
 ghosts-by_two-L-Ledger g a = record { name = a.blank.name; parts = a.blank.parts }

@@ -5,6 +5,7 @@ ghost use Rattle.std.specs.Prelude.{◌≡◌, ◌+◌, length};
 use crate::packets::{
     ACTIVATE_FOUR, LOAD_FOUR, STOP_FOUR, SUSPEND_FOUR, closes, engine_of, is_taken,
 };
+use ocp_profile::Profile;
 use ocp_slices::{Engine, EngineFault, Entry, Naming, Reports, Seat, SharedEngine, StepOutcome};
 use std::alloc::Global;
 use std::marker::Brand;
@@ -45,7 +46,7 @@ fn is_receipted<L: Naming>(seat: &Seat<L>, wanted: &[u8]) -> bool {
 
 #[test]
 fn two_seats_drain(rt: HostRuntime) -> Result<(), Fail> {
-    let engine = engine_of(rt.alloc(), 8, &[&LOAD_FOUR, &ACTIVATE_FOUR])?;
+    let engine = engine_of(rt.alloc(), Profile::One, 8, &[&LOAD_FOUR, &ACTIVATE_FOUR])?;
     let _length = engine.journal().len();
     let engine = by_two::<Brand, _>(&rt, rt.alloc(), engine, Blank::new(65))?;
     assert_eq!(rt; (engine.events(), engine.room()), (10, 1));
@@ -111,7 +112,12 @@ fn complete<L: Naming, R: Wait + Abort>(
 #[test]
 fn drains_are_refused_in_their_order(rt: HostRuntime) -> Result<(), Fail> {
     for (capacity, fault) in [(3, EngineFault::NothingDue), (4, EngineFault::JournalFull)] {
-        let engine = engine_of(rt.alloc(), capacity, &[&LOAD_FOUR, &ACTIVATE_FOUR])?;
+        let engine = engine_of(
+            rt.alloc(),
+            Profile::One,
+            capacity,
+            &[&LOAD_FOUR, &ACTIVATE_FOUR],
+        )?;
         let _length = engine.journal().len();
         let engine = in_full::<Brand, _>(&rt, rt.alloc(), engine, Blank::new(65), fault)?;
         assert_eq!(rt; engine.room(), 0);

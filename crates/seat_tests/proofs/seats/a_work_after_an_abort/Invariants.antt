@@ -1,5 +1,5 @@
 use Rattle.std.proofs.Common.{◌-◌, length}
-use Rattle.slice_tests.proofs.seats.a_work_after_an_abort.Given as goal
+use Rattle.seat_tests.proofs.seats.a_work_after_an_abort.Given as goal
 
 abbrev pub ghosts-after_an_abort-L-Ledger : goal.ghosts-after_an_abort-L-Ledger
 ghosts-after_an_abort-L-Ledger g a = record { name = a.blank.name; parts = a.blank.parts }

@@ -1,5 +1,5 @@
 use Rattle.std.proofs.Common.{◌-◌, length}
-use Rattle.slice_tests.proofs.seats.a_full_journal.Given as goal
+use Rattle.seat_tests.proofs.seats.a_full_journal.Given as goal
 
 abbrev pub ghosts-in_full-L-Ledger : goal.ghosts-in_full-L-Ledger
 ghosts-in_full-L-Ledger g a = record { name = a.blank.name; parts = a.blank.parts }

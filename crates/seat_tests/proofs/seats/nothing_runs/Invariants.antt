@@ -1,5 +1,5 @@
 use Rattle.std.proofs.Common.{◌-◌, length}
-use Rattle.slice_tests.proofs.seats.nothing_runs.Given as goal
+use Rattle.seat_tests.proofs.seats.nothing_runs.Given as goal
 
 abbrev pub ghosts-while_idle-L-Ledger : goal.ghosts-while_idle-L-Ledger
 ghosts-while_idle-L-Ledger g a = record { name = a.blank.name; parts = a.blank.parts }

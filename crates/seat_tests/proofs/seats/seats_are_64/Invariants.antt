@@ -1,5 +1,5 @@
 use Rattle.std.proofs.Common.{◌-◌, length}
-use Rattle.slice_tests.proofs.seats.seats_are_64.Given as goal
+use Rattle.seat_tests.proofs.seats.seats_are_64.Given as goal
 
 abbrev pub ghosts-hand_out-L-Ledger : goal.ghosts-hand_out-L-Ledger
 ghosts-hand_out-L-Ledger g a = record { name = a.blank.name; parts = a.blank.parts }

@@ -3,7 +3,8 @@
 ghost use Rattle.std.specs.Prelude.{◌≡◌, ◌≤◌, ◌+◌, length};
 
 use crate::packets::{
-    ABORT_SEVEN, ACTIVATE_SEVEN, LOAD_SEVEN, closes, engine_of, is_taken, takes_loops,
+    ABORT_SEVEN, ACTIVATE_250, ACTIVATE_ONE, ACTIVATE_SEVEN, ACTIVATE_TWO, LOAD_ONE, LOAD_SEVEN,
+    LOAD_TWO, closes, engine_of, is_taken,
 };
 use ocp_profile::Profile;
 use ocp_slices::{
@@ -21,7 +22,12 @@ use std::test::Fail;
 #[test]
 fn a_work_after_an_abort(rt: HostRuntime) -> Result<(), Fail> {
     for again in [false, true] {
-        let engine = engine_of(rt.alloc(), 100, &[&LOAD_SEVEN, &ACTIVATE_SEVEN])?;
+        let engine = engine_of(
+            rt.alloc(),
+            Profile::One,
+            100,
+            &[&LOAD_SEVEN, &ACTIVATE_SEVEN],
+        )?;
         let _length = engine.journal().len();
         let engine = after_an_abort::<Brand, _>(&rt, rt.alloc(), engine, Blank::new(65), again)?;
         let view = engine.view(7).ok_or("loaded")?;
@@ -77,7 +83,7 @@ fn abort_a_ticket<L: Naming, R: Wait + Abort>(
 
 #[test]
 fn a_full_journal(rt: HostRuntime) -> Result<(), Fail> {
-    let engine = engine_of(rt.alloc(), 2, &[&LOAD_SEVEN, &ACTIVATE_SEVEN])?;
+    let engine = engine_of(rt.alloc(), Profile::One, 2, &[&LOAD_SEVEN, &ACTIVATE_SEVEN])?;
     let _length = engine.journal().len();
     let engine = in_full::<Brand, _>(&rt, rt.alloc(), engine, Blank::new(65))?;
     assert_eq!(rt; (engine.events(), engine.room()), (2, 0));
@@ -120,8 +126,8 @@ fn refuse_works<L: Naming, R: Wait + Abort>(
 
 #[test]
 fn seats_are_64(rt: HostRuntime) -> Result<(), Fail> {
-    let mut engine = Engine::new(rt.alloc(), Profile::One, 0x123, 16, 10)?;
-    assert!(rt; takes_loops(rt.alloc(), &mut engine, 2));
+    let packets: [&[u8]; 4] = [&LOAD_ONE, &ACTIVATE_ONE, &LOAD_TWO, &ACTIVATE_TWO];
+    let engine = engine_of(rt.alloc(), Profile::One, 10, &packets)?;
     let _length = engine.journal().len();
     hand_out::<Brand, _>(&rt, rt.alloc(), engine, Blank::new(65))
 }
@@ -184,7 +190,7 @@ fn other_seats<L: Naming, R: Wait + Abort>(
 
 #[test]
 fn nothing_runs(rt: HostRuntime) -> Result<(), Fail> {
-    let engine = engine_of(rt.alloc(), 10, &[&LOAD_SEVEN])?;
+    let engine = engine_of(rt.alloc(), Profile::One, 10, &[&LOAD_SEVEN])?;
     let _length = engine.journal().len();
     let engine = while_idle::<Brand, _>(&rt, rt.alloc(), engine, Blank::new(65))?;
     assert_eq!(rt; engine.events(), 1);
@@ -219,4 +225,51 @@ fn rest<L: Naming, R: Wait + Abort>(
     assert_eq!(rt; shared.turn(rt, alloc, seat, 10, &Open), Turn::Idle);
     assert_eq!(rt; shared.step(rt, seat, 7), StepOutcome::NotRunning);
     assert_eq!(rt; shared.step(rt, seat, 8), StepOutcome::NotLoaded);
+}
+
+#[test]
+fn a_budget_over_three_works(rt: HostRuntime) -> Result<(), Fail> {
+    let engine = engine_of(rt.alloc(), Profile::Two, 10, &[&LOAD_ONE, &ACTIVATE_250])?;
+    let _length = engine.journal().len();
+    let engine = within::<Brand, _>(&rt, rt.alloc(), engine, Blank::new(65))?;
+    let view = engine.view(1).ok_or("loaded")?;
+    assert_eq!(rt; (view.cause, view.remaining), (Cause::Fault(5), Some(0)));
+    assert_eq!(rt; engine.events(), 253);
+    Ok(())
+}
+
+// Works of at most 100 instructions, until the budget is spent; then a step finds nothing of it.
+fn within<L: Naming, R: Wait + Abort>(
+    rt: &R,
+    alloc: Global,
+    engine: Engine,
+    blank: Blank,
+) -> Result<Engine, Fail>
+    requires name { blank.name ≡ L.name }
+    requires parts { blank.parts ≡ L.parts }
+    requires seats { blank.parts ≡ 65 }
+    requires room { L.room + length engine.entries ≡ engine.capacity }
+{
+    let shared = SharedEngine::<L>::new(engine, blank);
+    let mut seat = shared.seat(rt, alloc)?;
+    spend(rt, alloc, &shared, &mut seat)?;
+    closes(rt, alloc, shared, seat, None)
+}
+
+fn spend<L: Naming, R: Wait + Abort>(
+    rt: &R,
+    alloc: Global,
+    shared: &SharedEngine<L>,
+    seat: &mut Seat<L>,
+) -> Result<(), Fail> {
+    for count in [100, 100, 50] {
+        let work = shared.take(rt, alloc)?.run(100);
+        assert_eq!(rt; work.count(), count);
+        assert_eq!(rt;
+            shared.commit(rt, seat, work),
+            CommitOutcome::Committed(count)
+        );
+    }
+    assert_eq!(rt; shared.step(rt, seat, 1), StepOutcome::Faulted(5));
+    Ok(())
 }

@@ -1,5 +1,5 @@
 use Rattle.std.proofs.Common.{◌-◌, length}
-use Rattle.slice_tests.proofs.drains.drains_are_refused_in_their_order.Given as goal
+use Rattle.seat_tests.proofs.drains.drains_are_refused_in_their_order.Given as goal
 
 abbrev pub ghosts-in_full-L-Ledger : goal.ghosts-in_full-L-Ledger
 ghosts-in_full-L-Ledger g a = record { name = a.blank.name; parts = a.blank.parts }
