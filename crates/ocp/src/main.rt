@@ -45,7 +45,7 @@ fn perform<C: Crew<Engine>>(rt: &HostRuntime, crew: &C, job: Job) -> ExitCode
         failed: 0,
     };
     let answer = match job {
-        Job::Assemble => asm(rt.alloc(), &mut reader, &mut writer),
+        Job::Assemble(profile) => asm(rt.alloc(), profile, &mut reader, &mut writer),
         Job::List => list(rt.alloc(), &mut reader, &mut writer),
         Job::Run(settings) => {
             run(rt.alloc(), settings, crew, &mut reader, &mut writer).map(|()| true)

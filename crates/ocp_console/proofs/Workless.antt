@@ -12,6 +12,7 @@ use Rattle.ocp_words.specs.declared.job.Settings.{Settings}
 use Rattle.ocp_console.specs.Answering.{State, Effect, Does, Works, effect_of, response, respond}
 use Rattle.ocp_console.specs.Crew.{CrewAnswers}
 use Rattle.ocp_console.specs.Script as script
+use Rattle.ocp_profile.specs.declared.profile.Profile.{Profile}
 use Rattle.ocp_console.specs.Script.{Run, with_prefix, Writing, BreaksOff, Follows, Stops, AtStep, Writes, WritesScript, PrintsBy, Prints, Ends, Goes, step_of, run_step, run_of, transcript, AreWorkless, IsWorkless}
 
 -- what was written is the text of a run, which ended so; or there was a failure, and it is a prefix
@@ -57,9 +58,9 @@ no_work : (state : State) (said : Option Said) (workers budget turns : ℕ) → 
 no_work state None w b t e = absurd cc
 no_work state (Some said) w b t e = ap (λ (s : Said). Some s) (works state said w b t cc)
 
-not_asked : (state : State) (line : List ℕ) → ((workers budget turns : ℕ) → command_of line ≢ Some (Work workers budget turns)) → (workers budget turns : ℕ) → respond state line ≢ Some (Works workers budget turns)
+not_asked : (state : State) (line : List ℕ) → ((profile : Profile) (workers budget turns : ℕ) → command_of profile line ≢ Some (Work workers budget turns)) → (workers budget turns : ℕ) → respond state line ≢ Some (Works workers budget turns)
 unfolding respond
-not_asked state line none w b t e = none w b t (no_work state (command_of line) w b t e)
+not_asked state line none w b t e = none state.profile w b t (no_work state (command_of state.profile line) w b t e)
 
 -- the step of a line that asks for no work
 abbrev IsAlone : script.Step → Type 0
@@ -73,7 +74,7 @@ alone-test : (test : Bool) (name : List ℕ) (fault : ConsoleFault) (step : scri
 alone-test true name fault step h w b t e = absurd cc
 alone-test false name fault step h w b t e = h w b t e
 
-alone : (state : State) (before : ℕ) (line : Line) → ((workers budget turns : ℕ) → command_of (text_of line) ≢ Some (Work workers budget turns)) → IsAlone (step_of state before line)
+alone : (state : State) (before : ℕ) (line : Line) → ((profile : Profile) (workers budget turns : ℕ) → command_of profile (text_of line) ≢ Some (Work workers budget turns)) → IsAlone (step_of state before line)
 alone state before line none =
     alone-test (nat_le 100000 before) _ _ _ (alone-test (nat_lt 40000 (length (octets_of line))) _ _ _ (alone-answer (respond state (text_of line)) _ _ (not_asked state (text_of line) none)))
 

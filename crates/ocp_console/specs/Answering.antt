@@ -2,6 +2,7 @@
 use Rattle.std.specs.Prelude.{ℕ, ◌+◌, ◌%◌, List, [], length, Option, Some, None, Result, Ok, Err, codes, slice_get}
 use Rattle.std.specs.List.{flat_map}
 use Rattle.std.specs.FinMap.{get}
+use Rattle.ocp_profile.specs.declared.profile.Profile.{Profile}
 use Rattle.space_packet.specs.declared.range.TheConstants.{SEQUENCE_COUNTS}
 use Rattle.pus_fields.specs.Acknowledgement.{flags}
 use Rattle.pus_fields.specs.Telecommand.{telecommand_octets}
@@ -24,22 +25,30 @@ use Rattle.ocp_words.specs.declared.job.Settings.{Settings}
 use Rattle.ocp_console.specs.declared.console.Console.{Console}
 use Rattle.ocp_console.specs.Texts.{report_line, discard_line, refusal_line, step_line, break_line, unbreak_line, switch_line, memory_line, pool_line, journal_line}
 
--- What a console keeps from line to line: the engine, which is its journal; the application process
--- identifier of the ground's telecommands; the time of the next requests and drains; the ground
+-- What a console keeps from line to line: the profile of its lines and telecommands; the engine,
+-- which is its journal; the application process identifier of the ground's telecommands; the time of the next requests and drains; the ground
 -- count, which is the sequence count of the next telecommand.
 pub record State : Type 0 where
+  pub profile : Profile
   pub engine : Log
   pub apid : ℕ
   pub time : ℕ
   pub count : ℕ
 
 abbrev pub state_of : {A : Type 0} → Console A → State
-state_of c = record { engine = c.engine; apid = c.apid; time = c.time; count = c.count }
+state_of c = record {
+  profile = c.profile;
+  engine = c.engine;
+  apid = c.apid;
+  time = c.time;
+  count = c.count;
+}
 
 -- the state before the first line
 abbrev pub opening : Settings → State
 opening settings = record {
-  engine = empty_log settings.apid settings.pool_words settings.capacity;
+  profile = settings.profile;
+  engine = empty_log settings.profile settings.apid settings.pool_words settings.capacity;
   apid = settings.apid;
   time = 0;
   count = 0;
@@ -80,15 +89,15 @@ abbrev pub on_drain : State → State × List ℕ
 on_drain state = on_event state (event.Drain 0 state.time)
 
 -- the telecommand of a request of service 18, from source 0
-abbrev pub telecommand : ℕ → ℕ → ℕ → Request → List ℕ
-telecommand apid count ack request = telecommand_octets (record {
+abbrev pub telecommand : Profile → ℕ → ℕ → ℕ → Request → List ℕ
+telecommand profile apid count ack request = telecommand_octets (record {
   apid = apid;
   count = count;
   ack = flags ack;
   service = 18;
   subtype = subtype_of request;
   source = 0;
-  payload = request_data request;
+  payload = request_data profile request;
 })
 
 -- the ground count rises with each telecommand
@@ -98,7 +107,8 @@ with_next_count state = record state { count = (state.count + 1) % SEQUENCE_COUN
 -- a telecommand of this request reaches the engine
 abbrev pub on_request : State → ℕ → Request → State × List ℕ
 on_request state ack request =
-    on_octets (with_next_count state) (telecommand state.apid state.count ack request)
+    on_octets (with_next_count state)
+    (telecommand state.profile state.apid state.count ack request)
 
 -- ---- the debugger
 
@@ -172,4 +182,4 @@ response state (Some said) = Some (effect_of state said)
 
 -- what a line asks for; none where it is no command
 unfoldable pub respond : State → List ℕ → Option Effect
-respond state line = response state (command_of line)
+respond state line = response state (command_of state.profile line)

@@ -3,6 +3,7 @@ use Rattle.std.specs.Prelude.{◌≡◌, ◌≢◌, ◌⊎◌, ℕ, ◌+◌, nat
 use Rattle.std.specs.Io.KnownBytes.{Appends}
 use Rattle.std.specs.Option.{option_map_or}
 use Rattle.text_lines.specs.Lines.{Line, lines_of, octets_of, text_of}
+use Rattle.ocp_profile.specs.declared.profile.Profile.{Profile}
 use Rattle.ocp_ports.specs.declared.fault.ConsoleFault.{ConsoleFault}
 use Rattle.ocp_ports.specs.declared.fault.ConsoleFault.TheVariants as faults
 use Rattle.ocp_ports.specs.Printing.{PrintsPrefix, error_line}
@@ -55,11 +56,12 @@ run_of state before (line ∷ lines) =
 abbrev pub transcript : Settings → List ℕ → Run
 transcript settings octets = run_of (opening settings) 0 (lines_of octets)
 
--- none of these lines is a `work` line
+-- none of these lines is a `work` line, in either profile
 abbrev pub AreWorkless : List Line → Type 0
 AreWorkless [] = Unit {0}
 AreWorkless (line ∷ lines) =
-    ((workers budget turns : ℕ) → command_of (text_of line) ≢ Some (Work workers budget turns))
+    ((profile : Profile) (workers budget turns : ℕ) →
+    command_of profile (text_of line) ≢ Some (Work workers budget turns))
     × AreWorkless lines
 
 -- a script without `work` lines

@@ -22,7 +22,7 @@ pub(crate) fn answer<A: Allocator + Copy>(
     ensures kept { IfOk result (λ answered. IfSome answered
         (λ reply. IsKept (state_of console.old) (state_of console.new) reply)) }
 {
-    match read_command(alloc, line)? {
+    match read_command(alloc, console.profile, line)? {
         None => Ok(None),
         Some(command) => Ok(Some(console.obey(alloc, command)?)),
     }

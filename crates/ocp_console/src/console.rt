@@ -3,7 +3,7 @@
 ghost use Rattle.std.specs.Prelude.{◌≡◌, ◌<◌, ◌≤◌, length, IfOk, IfErr};
 ghost use Rattle.space_packet.specs.declared.range.TheConstants.{IDLE_APID};
 ghost use Rattle.pus_fields.specs.declared.writing.TheConstants.{MAX_TELECOMMAND_DATA};
-ghost use Rattle.obcp_messages.specs.Request.{request_data};
+ghost use Rattle.obcp_messages.specs.Request.{HasFittingBudget, request_data};
 
 use crate::crew::Crew;
 use crate::debugging::{break_text, no_octets_text, octets_text, switch_text, unbreak_text};
@@ -14,6 +14,7 @@ use obcp_messages::{Arguments, Code, Request, Words};
 use ocp_core::Engine;
 use ocp_debug::view_text;
 use ocp_lines::{Command, Flags, MAX_MEMORY_LENGTH, MemoryLength, Shift, Verb};
+use ocp_profile::Profile;
 use ocp_words::Settings;
 use space_packet::{Apid, SequenceCount};
 use std::alloc::{AllocError, Allocator, Global};
@@ -21,6 +22,8 @@ use std::alloc::{AllocError, Allocator, Global};
 /// What a console keeps from line to line.
 #[derive(Drop)]
 pub(crate) struct Console<A: Allocator> {
+    /// The profile of the lines and telecommands, which the engine follows.
+    pub profile: Profile,
     pub engine: Engine<A>,
     /// The application process identifier of the ground's telecommands.
     pub apid: Apid,
@@ -41,7 +44,7 @@ pub(crate) enum Reply<A: Allocator = Global> {
 }
 
 impl<A: Allocator + Copy> Console<A> {
-    ghost use Rattle.ocp_lines.specs.Grammar.{said_by, request_of};
+    ghost use Rattle.ocp_lines.specs.Grammar.{IsSayable, said_by, request_of};
     ghost use Rattle.ocp_console.specs.Answering.{state_of, opening, on_octets, on_drain, on_request, trace_lines, view_text, memory_text, effect_of, Works};
     ghost use Rattle.ocp_console.specs.Crew.{HasDone, HasRefused};
     ghost use Rattle.ocp_console.specs.Texts.{work_line};
@@ -51,8 +54,15 @@ impl<A: Allocator + Copy> Console<A> {
     pub fn new(alloc: A, settings: Settings) -> Result<Console<A>, AllocError>
         ensures { IfOk result (λ console. state_of console ≡ opening settings) }
     {
-        let engine = Engine::new(alloc, settings.apid, settings.pool_words, settings.capacity)?;
+        let engine = Engine::new(
+            alloc,
+            settings.profile,
+            settings.apid,
+            settings.pool_words,
+            settings.capacity,
+        )?;
         Ok(Console {
+            profile: settings.profile,
             engine,
             apid: Apid::new(settings.apid).unwrap(),
             time: 0,
@@ -81,18 +91,20 @@ impl<A: Allocator + Copy> Console<A> {
 
     /// A telecommand of this request reaches the engine.
     fn ask(&mut self, alloc: A, flags: Flags, request: &Request) -> Result<Vec<u8, A>, AllocError>
-        requires { length (request_data request.now) ≤ MAX_TELECOMMAND_DATA }
+        requires short { length (request_data self.old.profile request.now) ≤ MAX_TELECOMMAND_DATA }
+        requires fits { HasFittingBudget self.old.profile request.now }
         ensures { IfOk result
             (λ output. (state_of self.new, output.items) ≡
             on_request (state_of self.old) flags.number request.now) }
     {
-        let packet = telecommand(alloc, self.apid, self.count, flags, request)?;
+        let packet = telecommand(alloc, self.profile, self.apid, self.count, flags, request)?;
         self.count = self.count.next();
         self.receive(alloc, packet.as_slice())
     }
 
     /// What a `send` line does.
     fn send(&mut self, alloc: A, flags: Flags, verb: Verb<A>) -> Result<Vec<u8, A>, AllocError>
+        requires { HasFittingBudget self.old.profile (request_of verb) }
         ensures { IfOk result
             (λ output. (state_of self.new, output.items) ≡
             on_request (state_of self.old) flags.number (request_of verb)) }
@@ -103,9 +115,21 @@ impl<A: Allocator + Copy> Console<A> {
                 self.ask(alloc, flags, &Request::Load { id, code })
             }
             Verb::Unload { id } => self.ask(alloc, flags, &Request::Unload { id }),
-            Verb::Activate { id, arguments } => {
+            Verb::Activate {
+                id,
+                budget,
+                arguments,
+            } => {
                 let arguments = Arguments::new(arguments.as_slice()).unwrap();
-                self.ask(alloc, flags, &Request::Activate { id, arguments })
+                self.ask(
+                    alloc,
+                    flags,
+                    &Request::Activate {
+                        id,
+                        budget,
+                        arguments,
+                    },
+                )
             }
             Verb::Stop { id, step } => self.ask(alloc, flags, &Request::Stop { id, step }),
             Verb::Suspend { id, step } => self.ask(alloc, flags, &Request::Suspend { id, step }),
@@ -158,6 +182,7 @@ impl<A: Allocator + Copy> Console<A> {
 
     /// Does what a line says that needs no crew.
     pub fn obey(&mut self, alloc: A, command: Command<A>) -> Result<Reply<A>, AllocError>
+        requires { IsSayable self.old.profile (said_by command) }
         ensures effect { IfOk result (λ reply. effect_by (state_of self.new) reply ≡
             effect_of (state_of self.old) (said_by command)) }
         ensures kept { IfOk result
@@ -214,6 +239,7 @@ impl<A: Allocator + Copy> Console<A> {
             (Works shift.workers shift.budget shift.turns) refused) }
     {
         let Console {
+            profile,
             engine,
             apid,
             time,
@@ -221,6 +247,7 @@ impl<A: Allocator + Copy> Console<A> {
         } = self;
         let engine = crew.work(engine, shift.workers, shift.budget, shift.turns)?;
         Ok(Console {
+            profile,
             engine,
             apid,
             time,

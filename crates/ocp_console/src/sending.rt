@@ -3,12 +3,13 @@
 ghost use Rattle.std.specs.Prelude.{◌≡◌, ◌<◌, ◌≤◌, length, IfOk};
 ghost use Rattle.space_packet.specs.declared.range.TheConstants.{IDLE_APID};
 ghost use Rattle.pus_fields.specs.declared.writing.TheConstants.{MAX_TELECOMMAND_DATA};
-ghost use Rattle.obcp_messages.specs.Request.{request_data};
+ghost use Rattle.obcp_messages.specs.Request.{HasFittingBudget, request_data};
 ghost use Rattle.ocp_console.specs.Answering.{telecommand};
 
 use bitflags::Flags as _;
 use obcp_messages::{Request, SERVICE, write_request};
 use ocp_lines::Flags;
+use ocp_profile::Profile;
 use pus_fields::{Ack, Tc, WriteFault, write_tc};
 use space_packet::{Apid, SequenceCount};
 use std::alloc::{AllocError, Allocator};
@@ -16,18 +17,20 @@ use std::alloc::{AllocError, Allocator};
 /// The octets of the telecommand of a request, from source 0.
 pub(crate) fn telecommand<A: Allocator + Copy>(
     alloc: A,
+    profile: Profile,
     apid: Apid,
     count: SequenceCount,
     flags: Flags,
     request: &Request,
 ) -> Result<Vec<u8, A>, AllocError>
     requires apid { apid < IDLE_APID }
-    requires short { length (request_data request.now) ≤ MAX_TELECOMMAND_DATA }
+    requires short { length (request_data profile request.now) ≤ MAX_TELECOMMAND_DATA }
+    requires fits { HasFittingBudget profile request.now }
     ensures { IfOk result
-        (λ packet. packet.items ≡ telecommand apid count flags.number request.now) }
+        (λ packet. packet.items ≡ telecommand profile apid count flags.number request.now) }
 {
     let mut payload = Vec::new(alloc);
-    write_request(request, &mut payload)?;
+    write_request(profile, request, &mut payload)?;
     let ack = Ack::from_bits_retain(flags.number);
     let tc = Tc::new(apid, count, ack, SERVICE, request.subtype(), 0, &payload).unwrap();
     let mut packet = Vec::new(alloc);

@@ -2,6 +2,7 @@
 use super::Console;
 use ocp_core::Entry;
 use ocp_lines::read_command;
+use ocp_profile::Profile;
 use ocp_words::Settings;
 use std::test::Fail;
 
@@ -19,7 +20,7 @@ fn seat_and_time(entry: &Entry) -> (u16, u32) {
 
 #[test]
 fn entries_have_seat_0_and_the_time_of_the_last_time_line(rt: HostRuntime) -> Result<(), Fail> {
-    let settings = Settings::new(291, 16, 10).expect(&rt, "settings in range");
+    let settings = Settings::new(Profile::One, 291, 16, 10).expect(&rt, "settings in range");
     let mut console = Console::new(rt.alloc(), settings)?;
     let script: [&[u8]; 12] = [
         b"send 0 load 7 9500000000000000",
@@ -36,7 +37,10 @@ fn entries_have_seat_0_and_the_time_of_the_last_time_line(rt: HostRuntime) -> Re
         b"drain",
     ];
     for line in script {
-        let command = read_command(rt.alloc(), line)?.expect(&rt, "a line of the console");
+        let command = read_command(rt.alloc(), Profile::One, line)?.expect(
+            &rt,
+            "a line of the console",
+        );
         console.obey(rt.alloc(), command)?;
     }
     let entries = console.engine.journal().entries();
