@@ -27,7 +27,7 @@ use Rattle.ocp_table.specs.Effects as table
 use Rattle.ocp_table.specs.Effects.{Effect, Loaded, Unloaded, Changed, Kept, Drained, Change, Started, Failed, remaining_by, step_outcome, step_outcome_of, new_record}
 use Rattle.ocp_table.specs.Deciding.{outcome_of, outcome_of_call, outcome_unheld}
 use Rattle.ocp_world.specs.World.{World, Event, Request, Step, Debug, Drain, opening}
-use Rattle.ocp_world.specs.After.{Answer, Stepped, effect_of, after}
+use Rattle.ocp_world.specs.After.{Stepped, effect_of, after}
 use Rattle.ocp_world.specs.Replay.{replay}
 use Rattle.ocp_core.specs.Budget.{add_given, given, begins_anew, is_use, add_used, used, IsWithinBudget, RemainsAreCounted, FindsNothing, FaultsSpent}
 use Rattle.ocp_core.proofs.Owned.{changed_if_there, own_by, get-records_by}

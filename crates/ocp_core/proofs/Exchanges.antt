@@ -1,6 +1,6 @@
 -- Two adjacent instruction events of two procedures, of which at most one is an engine call, an end or a fault, may be
 -- exchanged.
-use Rattle.std.proofs.Common.{◌≡◌, ◌≢◌, ◌+◌, ℕ, List, [], ◌∷◌, ◌++◌, Option, Some, None, Bool, true, false, cond, inl, inr, refl, sym, ap, subst, ◌∙◌, append_assoc, length}
+use Rattle.std.proofs.Common.{◌≡◌, ◌≢◌, ◌+◌, ℕ, List, [], ◌∷◌, ◌++◌, Option, Some, None, Bool, true, false, cond, inl, inr, refl, sym, ap, subst, ◌∙◌, append_assoc}
 use Rattle.std.specs.Prelude.{◌==◌, ◌⊎◌, Result, Ok, Err}
 use Rattle.std.proofs.lemmas.Bool.{ne_eqb, eqb-true, eqb-false, and_cases}
 use Rattle.std.proofs.lemmas.List.{append-nil}
@@ -11,8 +11,6 @@ use Rattle.pus_fields.specs.declared.fault.TcFault.TheVariants.{Discarded, Rejec
 use Rattle.pus_fields.specs.Telecommand.{Telecommand}
 use Rattle.pus_fields.specs.TelecommandFaults.{telecommand_of}
 use Rattle.obcp_types.specs.declared.failure.RequestFault.{RequestFault}
-use Rattle.obcp_types.specs.declared.failure.StartFailure.{StartFailure}
-use Rattle.obcp_types.specs.declared.failure.StartFailure.TheVariants.{NotLoaded, NotRunning}
 use Rattle.obcp_types.specs.declared.status.Status.{Status}
 use Rattle.obcp_types.specs.declared.status.Status.TheVariants.{Inactive, Running, Held}
 use Rattle.obcp_messages.specs.declared.request.Request.{Request as Command}
@@ -28,12 +26,9 @@ use Rattle.ocp_table.specs.declared.answers.InstructionOutcome.TheVariants.{Brok
 use Rattle.ocp_table.specs.declared.answers.TheConstants.{BUDGET_SPENT}
 use Rattle.ocp_table.specs.Budgets.{is_spent}
 use Rattle.ocp_table.specs.Records.{Rec, Records}
-use Rattle.ocp_table.specs.Effects as table
-use Rattle.ocp_table.specs.Effects.{Changed, Kept, Stepped, Failed, records_by, pool_by, filed_by, filed_of, outbox_by, step_outcome}
+use Rattle.ocp_table.specs.Effects.{Stepped, records_by, pool_by, filed_by, filed_of, outbox_by, step_outcome}
 use Rattle.obcp_types.specs.declared.pending.Due.{Due}
-use Rattle.ocp_table.specs.RequestTable as directive
-use Rattle.ocp_table.specs.RequestTable.{transition}
-use Rattle.ocp_table.specs.Deciding.{outcome_in, outcome_unheld, outcome_of, outcome_of_call, effect_in, effect_by, effect_on, effect_of_step, is_full}
+use Rattle.ocp_table.specs.Deciding.{outcome_unheld, outcome_of, outcome_of_call}
 use Rattle.ocp_debug.specs.declared.trace.Trace.{Trace}
 use Rattle.ocp_debug.specs.Traces.{traces_by, traces_by_change}
 use Rattle.ocp_world.specs.World.{World, Event, Request, Step, Debug, Drain}

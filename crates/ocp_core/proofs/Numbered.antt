@@ -15,7 +15,7 @@ use Rattle.obcp_messages.specs.declared.request.Request.TheVariants as command
 use Rattle.ocp_table.specs.declared.control.Pending.{Pending}
 use Rattle.ocp_table.specs.Records.{Rec, Records}
 use Rattle.ocp_table.specs.Effects as table
-use Rattle.ocp_table.specs.Effects.{Change, Pended, Loaded, Unloaded, Changed, Drained, Kept, step_outcome}
+use Rattle.ocp_table.specs.Effects.{Change, Pended, Changed, Drained, step_outcome}
 use Rattle.ocp_table.specs.RequestTable.{Directive, Load, Unload, Activate, Stop, Suspend, Resume, Abort, Communicate, Step}
 use Rattle.ocp_table.specs.Deciding.{effect_in}
 use Rattle.ocp_table.proofs.Asked.{Asks, IsThere, IsAsked, asked}
