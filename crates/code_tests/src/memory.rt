@@ -44,19 +44,15 @@ fn memory_is_copied_compared_and_cleared(rt: HostRuntime) -> Result<(), Fail> {
 }
 
 #[test]
-fn the_work_region_of_profile_two_has_4096_octets(rt: HostRuntime) -> Result<(), Fail> {
+fn memory_of_profile_two_is_cleared_and_stays_long(rt: HostRuntime) -> Result<(), Fail> {
     let alloc = rt.alloc();
-    let mut short = Regions::new(alloc, Profile::One)?;
-    let mut long = Regions::new(alloc, Profile::Two)?;
-    assert!(rt; short.store(0x3000_03ff, Size::Byte, 1).is_ok());
-    assert!(rt; short.store(0x3000_0400, Size::Byte, 1).is_err());
-    assert!(rt; long.store(0x3000_0400, Size::Byte, 1).is_ok());
-    assert!(rt; long.store(0x3000_0fff, Size::Byte, 2).is_ok());
-    assert!(rt; long.store(0x3000_1000, Size::Byte, 3).is_err());
-    assert_eq!(rt; long.load(0x3000_0ffe, Size::Half), Ok(0x0200));
     let zeros = Regions::new(alloc, Profile::Two)?;
-    assert!(rt; !long.is_same(&zeros));
-    long.clear();
-    assert!(rt; long.is_same(&zeros));
+    let mut memory = Regions::new(alloc, Profile::Two)?;
+    assert!(rt; !memory.is_same(&Regions::new(alloc, Profile::One)?));
+    assert!(rt; memory.store(0x3000_0fff, Size::Byte, 7).is_ok());
+    assert!(rt; !memory.is_same(&zeros));
+    memory.clear();
+    assert!(rt; memory.is_same(&zeros));
+    assert!(rt; memory.store(0x3000_0fff, Size::Byte, 7).is_ok());
     Ok(())
 }

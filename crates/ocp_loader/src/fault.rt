@@ -14,7 +14,7 @@ pub enum LoadFault {
     TooLong,
     /// The octets at the slot are no instruction that may be loaded.
     Decode(DecodeFault, u16),
-    /// A numbered call is not that of an engine call.
+    /// A numbered call is not that of an engine call of the profile.
     BadCall(u16),
     /// A jump or a local call leads to no first slot of an instruction.
     BadTarget(u16),
