@@ -21,7 +21,7 @@ pub returns-after-engine_call-clause-outcome : goal.returns-after-engine_call-cl
 returns-after-engine_call-clause-outcome g c =
     let needs = needs_call c.in-NeedsEngine-Call.field-0 c.in-NeedsEngine-Call.number c.self.inside.machine c.local_step.new.self (one_step c.deref.result.now c.self.inside.machine) c.args.pool.now c.args.mailbox.now c.in-NeedsEngine-Call.field-0-is c.in-NeedsEngine-Call.ensures.answer in
     let image : one_step c.args.self.now.image c.args.self.now.machine ≡ one_step c.deref.result.now c.self.inside.machine = search rules in
-    let answered : Some c.match-engine_call.result ≡ Some (outcome_of_call (engine_call c.in-NeedsEngine-Call.number (read c.local_step.new.self 1) (read c.local_step.new.self 2) (read c.local_step.new.self 3) c.args.pool.now c.args.mailbox.now)) = search rules in
+    let answered : Some c.match-engine_call.result ≡ Some (outcome_of_call (engine_call c.in-NeedsEngine-Call.number (read c.local_step.new.self 1) (read c.local_step.new.self 2) (read c.local_step.new.self 3) c.args.pool.now c.args.mailbox.now)) = elim c.match-engine_call.branch [ in-Ok w ↦ search rules | in-Err w ↦ search rules ] in
     let there : c.args.self.now.machine ≡ c.self.inside.machine = search rules in
     answered ∙ sym needs ∙ sym (ap (λ o. outcome_of o c.self.inside.machine c.args.pool.now c.args.mailbox.now) image) ∙ ap (λ m. outcome_of (one_step c.args.self.now.image c.args.self.now.machine) m c.args.pool.now c.args.mailbox.now) (sym there)
 
