@@ -4,9 +4,9 @@ use ocp_pool::{Mailbox, Pool, engine_call};
 use ocp_profile::Profile;
 use std::test::Fail;
 
-/// Calls made in this order by a machine with 3 in R2: the number, R1 before it, and R0 and R1 after it, where it is
+/// Calls made in this order by a machine with 3 in R2 and 0 in R3: the number, R1 before it, and R0 and R1 after it, where it is
 /// not refused. The pool has two words, and the mailbox 7 and 8.
-const CALLS: [(i32, u64, Option<(u64, u64)>); 13] = [
+const CALLS: [(i32, u64, Option<(u64, u64)>); 20] = [
     (1, 1, Some((0, 1))),
     (2, 1, Some((0, 1))),
     (2, 1, Some((3, 1))),
@@ -20,6 +20,13 @@ const CALLS: [(i32, u64, Option<(u64, u64)>); 13] = [
     (4, 9, Some((1, 8))),
     (4, 9, Some((0, 9))),
     (5, 0x1_0007, Some((0, 0x1_0007))),
+    (6, 1, Some((6, 1))),
+    (1, 1, Some((6, 1))),
+    (2, 0, Some((0, 0))),
+    (6, 0, Some((3, 0))),
+    (6, 0, Some((0, 0))),
+    (6, 2, None),
+    (6, 0x1_0000_0000, None),
 ];
 
 /// R0 and R1 after a call, with this R1 and with 3 in R2 before it.
@@ -32,7 +39,7 @@ fn answer_of(
 ) -> Option<(u64, u64)> {
     machine.start(&[0; 3]);
     machine.finish_call(9, Some(r1));
-    if number < 1 || number > 5 {
+    if number < 1 || number > 6 {
         return None;
     }
     engine_call(number, machine, pool, mailbox).ok()?;

@@ -2,38 +2,60 @@
 use ocp_words::{Job, WordsFault, read_words};
 use std::alloc::Global;
 
-/// Words, and what they ask for: the three numbers of `run`, or the name of another answer.
-const ANSWERS: [(&[&str], Result<(u16, u16, u32), &str>); 11] = [
+/// What a line of words asks for: the profile's number, and of `run` three numbers more.
+#[derive(Clone, Copy, PartialEq, Eq, Debug)]
+enum Asked {
+    Run(u8, u16, u16, u32),
+    Assemble(u8),
+    List,
+    Usage,
+    Memory,
+}
+
+/// Words, and what they ask for.
+const ANSWERS: [(&[&str], Asked); 18] = [
     (
         &["run", "--apid", "5", "--pool", "2", "--journal", "9"],
-        Ok((5, 2, 9)),
+        Asked::Run(1, 5, 2, 9),
     ),
-    (&["run"], Ok((291, 16, 100_000))),
-    (&[], Ok((291, 16, 100_000))),
-    (&["asm"], Err("asm")),
-    (&["list"], Err("list")),
-    (&["run", "--apid", "2047"], Err("usage")),
-    (&["run", "--pool", "0"], Err("usage")),
-    (&["run", "--pool", "257"], Err("usage")),
-    (&["run", "--journal", "0"], Err("usage")),
-    (&["run", "--journal", "1000001"], Err("usage")),
-    (&["bogus"], Err("usage")),
+    (&["run"], Asked::Run(1, 291, 16, 100_000)),
+    (&[], Asked::Run(1, 291, 16, 100_000)),
+    (&["run", "--profile", "1"], Asked::Run(1, 291, 16, 100_000)),
+    (&["run", "--profile", "2"], Asked::Run(2, 291, 16, 100_000)),
+    (&["asm"], Asked::Assemble(1)),
+    (&["asm", "--profile", "2"], Asked::Assemble(2)),
+    (&["list"], Asked::List),
+    (&["list", "--profile", "2"], Asked::Usage),
+    (&["run", "--profile", "0"], Asked::Usage),
+    (&["asm", "--profile", "3"], Asked::Usage),
+    (&["run", "--profile", "1", "--profile", "2"], Asked::Usage),
+    (&["run", "--apid", "2047"], Asked::Usage),
+    (&["run", "--pool", "0"], Asked::Usage),
+    (&["run", "--pool", "257"], Asked::Usage),
+    (&["run", "--journal", "0"], Asked::Usage),
+    (&["run", "--journal", "1000001"], Asked::Usage),
+    (&["bogus"], Asked::Usage),
 ];
 
 /// What words ask for.
-fn answer(alloc: Global, words: &'static [&'static str]) -> Result<(u16, u16, u32), &'static str> {
+fn answer(alloc: Global, words: &'static [&'static str]) -> Asked {
     match read_words(alloc, words) {
-        Ok(Job::Run(settings)) => Ok((settings.apid, settings.pool_words, settings.capacity)),
-        Ok(Job::Assemble) => Err("asm"),
-        Ok(Job::List) => Err("list"),
-        Err(WordsFault::Usage(_)) => Err("usage"),
-        Err(WordsFault::Memory) => Err("memory"),
+        Ok(Job::Run(settings)) => Asked::Run(
+            settings.profile.number(),
+            settings.apid,
+            settings.pool_words,
+            settings.capacity,
+        ),
+        Ok(Job::Assemble(profile)) => Asked::Assemble(profile.number()),
+        Ok(Job::List) => Asked::List,
+        Err(WordsFault::Usage(_)) => Asked::Usage,
+        Err(WordsFault::Memory) => Asked::Memory,
     }
 }
 
 #[test]
 fn words_ask_for_their_job(rt: HostRuntime) {
     for (words, wanted) in ANSWERS {
-        assert!(rt; answer(rt.alloc(), words) == wanted, "{words:?}");
+        assert_eq!(rt; answer(rt.alloc(), words), wanted, "{words:?}");
     }
 }
