@@ -31,7 +31,7 @@ impl<A: Allocator> Record<A> {
     ghost use Rattle.obcp_types.specs.declared.status.Status.TheVariants.{Running};
     ghost use Rattle.ocp_profile.specs.declared.profile.Profile.{Profile};
     ghost use Rattle.bpf_step.specs.Machine.{started};
-    ghost use Rattle.ocp_table.specs.Effects.{Started, Stepped, new_record, record_by, record_after, filed_by_outcome, failure_of, start_result, is_pended, pool_by_outcome, machine_by_outcome, mailbox_by_outcome, remaining_by_outcome};
+    ghost use Rattle.ocp_table.specs.Effects.{Stepped, new_record, record_by, record_after, filed_by_outcome, failure_of, start_result, is_pended, pool_by_outcome, machine_by_outcome, mailbox_by_outcome, remaining_by_outcome};
     ghost use Rattle.ocp_table.specs.RequestTable.{failure_by};
     ghost use Rattle.ocp_table.specs.Deciding.{decision_on, outcome_in, outcome_unheld};
     ghost use Rattle.ocp_table.specs.Shown.{shown, view_of, directive_of, effect_of_record, filed_of_effect, HasFewArguments};
