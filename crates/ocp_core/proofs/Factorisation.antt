@@ -57,6 +57,6 @@ pub factorisation : IsFactored
 factorisation profile apid words es q =
     IsAlone-machine profile (carried (add_image q) (add_own q) (λ w image own. (w.profile ≡ profile) × IsAlone profile (get w.records q) image own)
     (λ w image own effect honest is.
-        let by : IsHonest profile w.records w.pool effect.on_records = subst (λ p. IsHonest p w.records w.pool effect.on_records) is.0 honest in
-        (is.0, subst (λ o. IsAlone profile o (add_image q effect.on_records image) (add_own q effect.on_records own)) (sym (get-records_by effect.on_records w.records q)) (IsAlone-own_by profile w.records w.pool q effect.on_records (get w.records q) image own by is.1)))
+    let by : IsHonest profile w.records w.pool effect.on_records = subst (λ p. IsHonest p w.records w.pool effect.on_records) is.0 honest in
+    (is.0, subst (λ o. IsAlone profile o (add_image q effect.on_records image) (add_own q effect.on_records own)) (sym (get-records_by effect.on_records w.records q)) (IsAlone-own_by profile w.records w.pool q effect.on_records (get w.records q) image own by is.1)))
     (opening profile apid words) None [] es (refl, subst (λ o. IsAlone profile o None []) (sym (get-empty nat_cmp q)) missing)).1

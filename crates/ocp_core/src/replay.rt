@@ -137,7 +137,7 @@ pub fn replay_one<A: Allocator + Copy, B: Allocator>(
         machine ≡ machine_of (get (world_of journal.now).records id)) }
     ensures alone { IfOk result (λ machine. machine ≡
         alone_after journal.now.profile journal.now.apid journal.now.words
-            (expand journal.now.entries) id) }
+        (expand journal.now.entries) id) }
 {
     machines_follow_from_their_own_events();
     let state = state_after(
