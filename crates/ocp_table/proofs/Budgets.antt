@@ -1,6 +1,5 @@
 -- What is left of a budget, stretch by stretch.
 use Rattle.std.proofs.Common.{◌≡◌, ℕ, suc, ◌+◌, ◌-◌, ◌≤◌, false, Option, Some, None, refl, ap, arith}
-use Rattle.std.specs.Prelude.{◌==◌}
 use Rattle.std.proofs.Math.Nat.{min-le_left, min-le_right}
 use Rattle.std.proofs.lemmas.Bool.Decides.{nat_tests}
 use Rattle.ocp_table.specs.Budgets.{one_less, less, is_spent, IsWithin, within}
