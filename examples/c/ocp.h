@@ -15,8 +15,10 @@ typedef unsigned long word; /* 64 bits */
 
 /* Memory. The stack has 512 octets for each of at most eight frames. */
 #define ARGUMENTS ((const octet *)0x20000000) /* 256 octets, read only */
-#define WORK ((octet *)0x30000000)            /* 1,024 octets, zeros at the start */
+#define WORK ((octet *)0x30000000)            /* zeros at the start; 1,024 octets, under profile 2 4,096 */
+#ifndef WORK_OCTETS
 #define WORK_OCTETS 1024UL
+#endif
 
 /* Engine calls. The number of the call is the address that is called.
  *
@@ -24,12 +26,14 @@ typedef unsigned long word; /* 64 bits */
  * pool_set   writes that word, and gives the word before
  * pool_add   adds to that word, and gives the sum
  * step_end   ends a step: a stop or suspend that is pending for it is done here
+ * pool_compare_set   (profile 2) writes that word where it has the expected value, and gives the word before
  *
  * An index that the pool does not have is fault 4, and ends the procedure. */
 static word (*const pool_get)(word index) = (void *)1;
 static word (*const pool_set)(word index, word value) = (void *)2;
 static word (*const pool_add)(word index, word value) = (void *)3;
 static word (*const step_end)(word step) = (void *)5;
+static word (*const pool_compare_set)(word index, word expected, word value) = (void *)6;
 
 /* The oldest word of the mailbox, which is taken out. Gives 1 where there was one, and else 0. The call writes R1 as
  * well as R0, which no C function does, so it is written as assembly. */
