@@ -17,10 +17,7 @@ use std::alloc::Allocator;
 
 /// The request of a telecommand, as a profile reads it.
 #[tactic(auto, unfolding(crate::specs::Requests::command_of))]
-pub fn command_of<'a>(
-    profile: Profile,
-    telecommand: &Tc<'a>,
-) -> Result<Request<'a>, RequestFault>
+pub fn command_of<'a>(profile: Profile, telecommand: &Tc<'a>) -> Result<Request<'a>, RequestFault>
     ensures { result ≡ command_of profile telecommand.now }
 {
     read_request(profile, telecommand)

@@ -34,8 +34,8 @@ use space_packet::{Apid, SequenceCount};
 use std::alloc::{AllocError, Allocator};
 use verification::Outcome;
 
-/// The procedures with the profile, the pool, the application process identifier, the sequence count of the next report, and the last trace
-/// records.
+/// The procedures with the profile, the pool, the application process identifier, the sequence count of the next report, and
+/// the last trace records.
 #[derive(Drop)]
 pub struct State<A: Allocator> {
     pub(crate) apid: Apid,
