@@ -9,7 +9,7 @@ use Rattle.ocp_core.proofs.replay.state_after.Given as goal
 -- the state is the replay of the entries so far, whose events are counted
 abbrev pub invariant-loop-entry : goal.invariant-loop-entry
 invariant-loop-entry g l = record {
-  stands : IsWorld (replay l.profile l.apid l.words (expand (map entry_of (take l.entry-index l.entries)))) l.state;
+  stands : IsWorld (replay l.fn.profile l.apid l.words (expand (map entry_of (take l.entry-index l.entries)))) l.state;
   counted : l.event ≡ length (expand (map entry_of (take l.entry-index l.entries)));
   bounded : l.event ≤ 2 ^ 32 * l.entry-index;
 }
