@@ -56,8 +56,8 @@ fn output_of_fault<A: Allocator + Copy>(
 }
 
 /// The output where the input is too long.
-fn output_too_long<A: Allocator>(alloc: A) -> Result<Output<A>, AllocError>
-    ensures { (profile : Profile) (input : List ℕ) → max_input < length input →
+fn output_too_long<A: Allocator>(alloc: A, profile: Profile) -> Result<Output<A>, AllocError>
+    ensures { (input : List ℕ) → max_input < length input →
         IfOk result (λ output. Assembles profile input output.text.items output.done) }
 {
     let text = error_text(alloc, 0, "TooLong")?;
@@ -116,7 +116,7 @@ pub fn asm<R: Source, W: Sink, A: Allocator + Copy>(
 {
     let output = match read_whole(alloc, reader)? {
         Some(input) => output_of(alloc, profile, &input)?,
-        None => output_too_long(alloc)?,
+        None => output_too_long(alloc, profile)?,
     };
     write_output(writer, &output)
 }
