@@ -82,7 +82,8 @@ IsLineOf true entries slot number = number ≡ 0
 IsLineOf false entries slot number = IsLineOfSlot entries slot number
 
 -- the image of the instructions may not be run; faults 1 to 3, those of its length, have line 0
-pub record HasLoadFault (profile : Profile) (text : List ℕ) (number : ℕ) (fault : LoadFault) : Type 0 where
+pub record HasLoadFault (profile : Profile) (text : List ℕ) (number : ℕ) (fault : LoadFault)
+    : Type 0 where
   pub lines : List Written
   pub instructions : List Line
   pub written : IsWritten text lines

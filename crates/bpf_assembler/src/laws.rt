@@ -68,7 +68,8 @@ pub fn named_jumps_lead_to_their_labels()
 /// Under each profile a text means instructions whose image has no fault, or has a fault itself; and not both. When it runs
 /// it reads the lines of the text, and keeps nothing of them.
 pub fn texts_have_a_meaning_or_a_fault(text: &[u8])
-    ensures one { (profile : Profile) → HasMeaning profile text.now ⊎ HasSomeFault profile text.now }
+    ensures one { (profile : Profile) →
+        HasMeaning profile text.now ⊎ HasSomeFault profile text.now }
     ensures not_both { (profile : Profile) →
         HasMeaning profile text.now → ¬ HasSomeFault profile text.now }
 {

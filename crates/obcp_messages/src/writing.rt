@@ -28,7 +28,8 @@ fn put_budget(profile: Profile, fields: &mut Fields, budget: u32)
 /// The fields of a request before the octets at its end.
 fn request_fields(profile: Profile, request: &Request) -> Fields
     requires { HasFittingBudget profile request.now }
-    ensures octets { result.items ++ trailing_octets request.now ≡ request_data profile request.now }
+    ensures octets { result.items ++ trailing_octets request.now ≡
+        request_data profile request.now }
     ensures in_range { IsRequest profile request.now }
 {
     let mut fields = ArrayVec::new();

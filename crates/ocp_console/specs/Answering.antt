@@ -26,8 +26,9 @@ use Rattle.ocp_console.specs.declared.console.Console.{Console}
 use Rattle.ocp_console.specs.Texts.{report_line, discard_line, refusal_line, step_line, break_line, unbreak_line, switch_line, memory_line, pool_line, journal_line}
 
 -- What a console keeps from line to line: the profile of its lines and telecommands; the engine,
--- which is its journal; the application process identifier of the ground's telecommands; the time of the next requests and drains; the ground
--- count, which is the sequence count of the next telecommand.
+-- which is its journal; the application process identifier of the ground's telecommands; the time
+-- of the next requests and drains; the ground count, which is the sequence count of the next
+-- telecommand.
 pub record State : Type 0 where
   pub profile : Profile
   pub engine : Log

@@ -31,8 +31,8 @@ use Rattle.ocp_table.specs.Records.{Rec, Records}
 use Rattle.ocp_table.specs.Budgets.{budget_of, one_less}
 
 -- what an event does to the record of its procedure: it is started with a budget (0 is none) and
--- arguments, sent words, a stop or suspend becomes pending, it is made inactive, it runs on, an instruction event is done,
--- or a debugger sets or clears a breakpoint or sets the trace flag
+-- arguments, sent words, a stop or suspend becomes pending, it is made inactive, it runs on, an
+-- instruction event is done, or a debugger sets or clears a breakpoint or sets the trace flag
 pub data Change : Type 0 where
   Started : ℕ → List ℕ → Change
   Sent : List ℕ → Change
