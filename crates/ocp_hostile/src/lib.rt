@@ -20,4 +20,6 @@ mod makers;
 #[cfg(test)]
 mod requests;
 #[cfg(test)]
+mod seats;
+#[cfg(test)]
 mod writers;

@@ -1,0 +1,202 @@
+//! Growths that the calls of a book ask for, refused one after another: its seats, the requests of a seat and the procedure that
+//! it takes. The packets of reports were written by a script that knows the tables of the profile alone.
+
+ghost use Rattle.std.specs.Prelude.{◌≡◌, ◌+◌, length};
+
+use crate::drains::REQUESTED;
+use crate::engine::shown;
+use crate::heap::Refusing;
+use ocp_core::{Engine, EngineFault, Reports};
+use ocp_profile::Profile;
+use ocp_seats::{Book, Naming, Seat, SeatFault, TakeFault};
+use std::alloc::{Allocator, Global};
+use std::marker::Brand;
+use std::sync::ledger::Blank;
+use std::test::Fail;
+
+/// More blocks than any of these calls asks for.
+const AMPLE: u64 = 1_000_000;
+
+/// How many growths are refused at most before a call has to succeed.
+const MOST: u64 = 100;
+
+/// The time of each request.
+const TIME: u32 = 0x0102_0304;
+
+/// The packets of the reports of each request of `REQUESTED`: the suspend and the stop are accepted.
+const ANSWERED: [&[u8]; 4] = [
+    &[],
+    &[],
+    &[
+        0x09, 0x23, 0xc0, 0x00, 0x00, 0x10, 0x20, 0x01, 0x01, 0x00, 0x00, 0x00, 0x00, 0x01, 0x02,
+        0x03, 0x04, 0x19, 0x23, 0xc0, 0x02, 0x17, 0x0d,
+    ],
+    &[
+        0x09, 0x23, 0xc0, 0x01, 0x00, 0x10, 0x20, 0x01, 0x01, 0x00, 0x00, 0x00, 0x07, 0x01, 0x02,
+        0x03, 0x04, 0x19, 0x23, 0xc0, 0x03, 0x46, 0xb6,
+    ],
+];
+
+/// Whether the reports are one packet, or none where no octets are wanted.
+fn are<A: Allocator>(reports: &Reports<A>, wanted: &[u8]) -> bool {
+    let packets = reports.packets();
+    if wanted.is_empty() {
+        return packets.is_empty();
+    }
+    packets.len() == 1 && packets[0].as_slice() == wanted
+}
+
+/// The calls of a book that ask for memory; a request has the packets of its reports.
+#[derive(Clone, Copy)]
+enum Asked<'a> {
+    Seat,
+    Request(&'a [u8], &'a [u8]),
+    Take,
+}
+
+/// Whether seat 2 is handed out: none where memory was refused.
+fn hands_out<L: Naming, A: Allocator>(refusing: A, book: &mut Book<L, A>) -> Option<bool> {
+    match book.seat(refusing) {
+        Ok(seat) => Some(seat.number() == 2),
+        Err(SeatFault::Memory) => None,
+        Err(SeatFault::SeatsFull) => Some(false),
+    }
+}
+
+/// Whether the request has the wanted reports: none where memory was refused.
+fn reports<L: Naming, A: Allocator + Copy>(
+    refusing: A,
+    book: &mut Book<L, A>,
+    seat: &mut Seat<L, A>,
+    octets: &[u8],
+    wanted: &[u8],
+) -> Option<bool> {
+    match book.request(refusing, seat, TIME, octets) {
+        Ok(reports) => Some(are(&reports, wanted)),
+        Err(EngineFault::Memory) => None,
+        Err(_) => Some(false),
+    }
+}
+
+/// Whether procedure 4 is taken: none where memory was refused.
+fn takes<L: Naming, A: Allocator + Copy>(refusing: A, book: &mut Book<L, A>) -> Option<bool> {
+    match book.take(refusing) {
+        Ok(ticket) => Some(ticket.id() == 4),
+        Err(TakeFault::Memory) => None,
+        Err(TakeFault::NoneRunning) => Some(false),
+    }
+}
+
+/// Whether a call of the book, or of its seat 1, answers as wanted: none where memory was refused.
+fn answers<L: Naming, A: Allocator + Copy>(
+    refusing: A,
+    book: &mut Book<L, A>,
+    seat: &mut Seat<L, A>,
+    asked: Asked,
+) -> Option<bool> {
+    match asked {
+        Asked::Seat => hands_out(refusing, book),
+        Asked::Request(octets, wanted) => reports(refusing, book, seat, octets, wanted),
+        Asked::Take => takes(refusing, book),
+    }
+}
+
+/// What a book and its seat show: the engine, how many seats are handed out, and how many receipts the seat has.
+fn all_shown<L: Naming, A: Allocator>(
+    alloc: Global,
+    book: &Book<L, A>,
+    seat: &Seat<L, A>,
+) -> Result<Vec<u8>, Fail> {
+    let mut text = shown(alloc, book.engine())?;
+    text.extend_from_slice(&book.handed_out().to_be_bytes())?;
+    text.extend_from_slice(&seat.receipts().len().to_be_bytes())?;
+    Ok(text)
+}
+
+/// Makes a call, at first with no memory, then with one more block each time, until it is answered, and gives how many growths
+/// were refused. Each refusal leaves the book and the seat as they were.
+fn refused<L: Naming, A: Allocator + Copy>(
+    heap: &Refusing<Global>,
+    refusing: A,
+    alloc: Global,
+    book: &mut Book<L, A>,
+    seat: &mut Seat<L, A>,
+    asked: Asked,
+) -> Result<u64, Fail> {
+    let before = all_shown(alloc, book, seat)?;
+    for growths in 0..MOST {
+        heap.allow(growths);
+        match answers(refusing, book, seat, asked) {
+            None => {}
+            Some(true) => return Ok(growths),
+            Some(false) => return Err("another answer".into()),
+        }
+        if all_shown(alloc, book, seat)?.as_slice() != before.as_slice() {
+            return Err("a refused call changed the book".into());
+        }
+    }
+    Err("growths without end".into())
+}
+
+/// The calls in their order: a second seat, the requests of the first, which keeps a receipt for each, and between its activation
+/// and its suspension procedure 4.
+fn all_refused<L: Naming, A: Allocator + Copy>(
+    heap: &Refusing<Global>,
+    refusing: A,
+    alloc: Global,
+    book: &mut Book<L, A>,
+    seat: &mut Seat<L, A>,
+) -> Result<(), Fail> {
+    if refused(heap, refusing, alloc, book, seat, Asked::Seat)? != 1 {
+        return Err("other growths of a seat".into());
+    }
+    for (index, (octets, wanted)) in REQUESTED.iter().zip(ANSWERED.iter()).enumerate() {
+        let asked = Asked::Request(octets, wanted);
+        if refused(heap, refusing, alloc, book, seat, asked)? < 3 {
+            return Err("a request without copies".into());
+        }
+        if index == 1 && refused(heap, refusing, alloc, book, seat, Asked::Take)? == 0 {
+            return Err("a ticket without memory".into());
+        }
+    }
+    if seat.receipts().len() != 4 || book.handed_out() != 2 || book.engine().events() != 4 {
+        return Err("other receipts".into());
+    }
+    Ok(())
+}
+
+#[test]
+fn each_growth_of_a_book_is_refused(rt: HostRuntime) -> Result<(), Fail> {
+    let heap = Refusing::new(rt.alloc(), AMPLE);
+    let engine = Engine::new(&heap, Profile::One, 0x123, 16, 20)?;
+    by_a_seat(&heap, &heap, rt.alloc(), engine)
+}
+
+/// The same by a book with a name of its own.
+fn by_a_seat<A: Allocator + Copy>(
+    heap: &Refusing<Global>,
+    refusing: A,
+    alloc: Global,
+    engine: Engine<A>,
+) -> Result<(), Fail> {
+    let _length = engine.journal().len();
+    through::<Brand, A>(heap, refusing, alloc, engine, Blank::new(65))
+}
+
+/// The same under a name.
+fn through<L: Naming, A: Allocator + Copy>(
+    heap: &Refusing<Global>,
+    refusing: A,
+    alloc: Global,
+    engine: Engine<A>,
+    blank: Blank,
+) -> Result<(), Fail>
+    requires name { blank.name ≡ L.name }
+    requires parts { blank.parts ≡ L.parts }
+    requires seats { blank.parts ≡ 65 }
+    requires room { L.room + length engine.entries ≡ engine.capacity }
+{
+    let mut book = Book::<L, A>::new(engine, blank);
+    let mut seat = book.seat(refusing)?;
+    all_refused(heap, refusing, alloc, &mut book, &mut seat)
+}
