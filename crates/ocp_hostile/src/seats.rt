@@ -1,12 +1,12 @@
-//! Growths that the calls of a book ask for, refused one after another: its seats, the requests of a seat and the procedure that
-//! it takes. The packets of reports were written by a script that knows the tables of the profile alone.
+//! Growths that the calls of a book ask for, refused one after another: its seats, the requests of a seat, the procedure that it
+//! takes and the drain. The packets of reports were written by a script that knows the tables of the profile alone.
 
 ghost use Rattle.std.specs.Prelude.{◌≡◌, ◌+◌, length};
 
-use crate::drains::REQUESTED;
+use crate::drains::{REPORTED, REQUESTED, are, is_drain};
 use crate::engine::shown;
 use crate::heap::Refusing;
-use ocp_core::{Engine, EngineFault, Reports};
+use ocp_core::{Engine, EngineFault, Reports, StepOutcome};
 use ocp_profile::Profile;
 use ocp_seats::{Book, Naming, Seat, SeatFault, TakeFault};
 use std::alloc::{Allocator, Global};
@@ -24,34 +24,26 @@ const MOST: u64 = 100;
 const TIME: u32 = 0x0102_0304;
 
 /// The packets of the reports of each request of `REQUESTED`: the suspend and the stop are accepted.
-const ANSWERED: [&[u8]; 4] = [
+const ANSWERED: [&[&[u8]]; 4] = [
     &[],
     &[],
-    &[
+    &[&[
         0x09, 0x23, 0xc0, 0x00, 0x00, 0x10, 0x20, 0x01, 0x01, 0x00, 0x00, 0x00, 0x00, 0x01, 0x02,
         0x03, 0x04, 0x19, 0x23, 0xc0, 0x02, 0x17, 0x0d,
-    ],
-    &[
+    ]],
+    &[&[
         0x09, 0x23, 0xc0, 0x01, 0x00, 0x10, 0x20, 0x01, 0x01, 0x00, 0x00, 0x00, 0x07, 0x01, 0x02,
         0x03, 0x04, 0x19, 0x23, 0xc0, 0x03, 0x46, 0xb6,
-    ],
+    ]],
 ];
-
-/// Whether the reports are one packet, or none where no octets are wanted.
-fn are<A: Allocator>(reports: &Reports<A>, wanted: &[u8]) -> bool {
-    let packets = reports.packets();
-    if wanted.is_empty() {
-        return packets.is_empty();
-    }
-    packets.len() == 1 && packets[0].as_slice() == wanted
-}
 
 /// The calls of a book that ask for memory; a request has the packets of its reports.
 #[derive(Clone, Copy)]
 enum Asked<'a> {
     Seat,
-    Request(&'a [u8], &'a [u8]),
+    Request(&'a [u8], &'a [&'a [u8]]),
     Take,
+    Drain,
 }
 
 /// Whether seat 2 is handed out: none where memory was refused.
@@ -63,15 +55,12 @@ fn hands_out<L: Naming, A: Allocator>(refusing: A, book: &mut Book<L, A>) -> Opt
     }
 }
 
-/// Whether the request has the wanted reports: none where memory was refused.
-fn reports<L: Naming, A: Allocator + Copy>(
-    refusing: A,
-    book: &mut Book<L, A>,
-    seat: &mut Seat<L, A>,
-    octets: &[u8],
-    wanted: &[u8],
+/// Whether a request or a drain has the wanted reports: none where memory was refused.
+fn reports<A: Allocator>(
+    answer: Result<Reports<A>, EngineFault>,
+    wanted: &[&[u8]],
 ) -> Option<bool> {
-    match book.request(refusing, seat, TIME, octets) {
+    match answer {
         Ok(reports) => Some(are(&reports, wanted)),
         Err(EngineFault::Memory) => None,
         Err(_) => Some(false),
@@ -96,8 +85,11 @@ fn answers<L: Naming, A: Allocator + Copy>(
 ) -> Option<bool> {
     match asked {
         Asked::Seat => hands_out(refusing, book),
-        Asked::Request(octets, wanted) => reports(refusing, book, seat, octets, wanted),
+        Asked::Request(octets, wanted) => {
+            reports(book.request(refusing, seat, TIME, octets), wanted)
+        }
         Asked::Take => takes(refusing, book),
+        Asked::Drain => reports(book.drain(refusing, seat, TIME), &REPORTED),
     }
 }
 
@@ -138,9 +130,9 @@ fn refused<L: Naming, A: Allocator + Copy>(
     Err("growths without end".into())
 }
 
-/// The calls in their order: a second seat, the requests of the first, which keeps a receipt for each, and between its activation
-/// and its suspension procedure 4.
-fn all_refused<L: Naming, A: Allocator + Copy>(
+/// A second seat, then the requests of the first, which keeps a receipt for each, and between its activation and its suspension
+/// procedure 4.
+fn requests_refused<L: Naming, A: Allocator + Copy>(
     heap: &Refusing<Global>,
     refusing: A,
     alloc: Global,
@@ -159,8 +151,32 @@ fn all_refused<L: Naming, A: Allocator + Copy>(
             return Err("a ticket without memory".into());
         }
     }
-    if seat.receipts().len() != 4 || book.handed_out() != 2 || book.engine().events() != 4 {
-        return Err("other receipts".into());
+    Ok(())
+}
+
+/// The procedure's four instructions up to the end of step 2, then a drain of the two completions, of which the journal's last
+/// entry and the seat's last receipt have a copy each.
+fn drain_refused<L: Naming, A: Allocator + Copy>(
+    heap: &Refusing<Global>,
+    refusing: A,
+    alloc: Global,
+    book: &mut Book<L, A>,
+    seat: &mut Seat<L, A>,
+) -> Result<(), Fail> {
+    let slice = book.slice(seat, 4, 9);
+    if slice.count != 4 || slice.last != StepOutcome::Called {
+        return Err("four instructions".into());
+    }
+    if refused(heap, refusing, alloc, book, seat, Asked::Drain)? < 8 {
+        return Err("copies without memory".into());
+    }
+    let receipts = seat.receipts();
+    let entries = book.engine().journal().entries();
+    if receipts.len() != 6 || !is_drain(receipts.last()) || !is_drain(entries.last()) {
+        return Err("other entries".into());
+    }
+    if book.handed_out() != 2 || book.engine().events() != 9 {
+        return Err("other seats or events".into());
     }
     Ok(())
 }
@@ -198,5 +214,6 @@ fn through<L: Naming, A: Allocator + Copy>(
 {
     let mut book = Book::<L, A>::new(engine, blank);
     let mut seat = book.seat(refusing)?;
-    all_refused(heap, refusing, alloc, &mut book, &mut seat)
+    requests_refused(heap, refusing, alloc, &mut book, &mut seat)?;
+    drain_refused(heap, refusing, alloc, &mut book, &mut seat)
 }
