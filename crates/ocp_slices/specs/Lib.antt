@@ -1,3 +1,4 @@
 pub mod Closed
 pub mod Continuing
 pub mod Turns
+pub mod WorkFaults

@@ -123,6 +123,11 @@ impl From<AllocError> for WorkFault {
 }
 
 impl From<SeatFault> for WorkFault {
+    ghost use Rattle.std.specs.Prelude.{◌≡◌};
+    ghost use Rattle.ocp_slices.specs.WorkFaults.{fault_of_seat};
+
+    ghost from_gives = { λ fault r. r ≡ fault_of_seat fault };
+
     fn from(fault: SeatFault) -> Self {
         match fault {
             SeatFault::Memory => WorkFault::Memory,
