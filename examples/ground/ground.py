@@ -16,6 +16,7 @@ import binascii
 import select
 import shlex
 import socket
+import struct
 import subprocess
 import sys
 import time
@@ -292,7 +293,7 @@ class Ground:
         """Sends it; gives its request ID, by which the reports name it."""
         packet = request.packet(self.count, flags, self.source, self.apid)
         self.count = (self.count + 1) & 0x3FFF
-        if flags & (ALL_FLAGS):
+        if flags & ALL_FLAGS:
             self.open[packet[:4]] = (request, flags)
         self.link.send(packet)
         return packet[:4]
@@ -381,6 +382,32 @@ class Socket:
 
     def close(self):
         self.socket.close()
+
+
+class Capture:
+    """A link whose packets, both ways, are also kept in a file that Wireshark reads (pcap, link type USER15)."""
+
+    def __init__(self, link, file):
+        self.link, self.file = link, file
+        file.write(struct.pack("<IHHiIII", 0xA1B2C3D4, 2, 4, 0, 0, BLOCK, 162))
+
+    def keep(self, octets):
+        seconds, parts = divmod(time.time_ns() // 1000, 1000000)
+        self.file.write(struct.pack("<IIII", seconds, parts, len(octets), len(octets)) + octets)
+        self.file.flush()
+
+    def send(self, packet):
+        self.keep(packet)
+        self.link.send(packet)
+
+    def receive(self, seconds):
+        octets = self.link.receive(seconds)
+        if octets:
+            self.keep(octets)
+        return octets
+
+    def close(self):
+        self.link.close()
 
 
 # ---- the command
@@ -478,14 +505,18 @@ def options_of(words):
     parser.add_argument("--count", type=int, default=0, help="count of the first request (default 0)")
     parser.add_argument("--flags", type=int, default=ALL_FLAGS, help="1 accepted, 2 started, 8 completed (default 11)")
     parser.add_argument("--seconds", type=float, default=10.0, help="how long a last report is waited for (default 10)")
+    parser.add_argument("--capture", metavar="FILE", help="also keep the packets in a file that Wireshark reads")
     parser.add_argument("words", nargs="+", metavar="COMMAND", help=", ".join(f"{k} {v}".strip() for k, v in FORMS.items()))
     return parser.parse_args(words)
 
 
 def link_of(options):
+    """The engine that the options name; its packets are kept where they say so."""
     if options.pipe is not None:
-        return Pipes(shlex.split(options.pipe) or [""])
-    return Socket("tcp", options.tcp) if options.tcp is not None else Socket("udp", options.udp, options.own)
+        link = Pipes(shlex.split(options.pipe) or [""])
+    else:
+        link = Socket("tcp", options.tcp) if options.tcp is not None else Socket("udp", options.udp, options.own)
+    return Capture(link, open(options.capture, "wb")) if options.capture else link
 
 
 def run(options, commands):
@@ -520,6 +551,9 @@ def main(words):
         return 2
     except LinkFault as fault:
         print(f"ground: {fault}", file=sys.stderr)
+        return 3
+    except OSError as fault:
+        print(f"ground: {fault.filename or 'output'}: {fault.strerror}", file=sys.stderr)
         return 3
     except KeyboardInterrupt:
         return 3
