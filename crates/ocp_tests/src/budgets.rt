@@ -32,6 +32,31 @@ const ABORT: [u8; 15] = [
     0x19, 0x23, 0xc0, 0x00, 0x00, 0x08, 0x20, 0x12, 0x0c, 0x00, 0x00, 0x00, 0x01, 0xac, 0x23,
 ];
 
+// Loads of `mov64 r0, 5`, `add64 r0, 2`, `exit` and of `mov64 r2, 0`, `ldxdw r0, [r2+0]`, which is fault 1, `exit`, as procedure
+// 7, and its activation with a budget of 5.
+const LOAD_THREE: [u8; 41] = [
+    0x19, 0x23, 0xc0, 0x00, 0x00, 0x22, 0x20, 0x12, 0x01, 0x00, 0x00, 0x00, 0x07, 0x00, 0x18, 0xb7,
+    0x00, 0x00, 0x00, 0x05, 0x00, 0x00, 0x00, 0x07, 0x00, 0x00, 0x00, 0x02, 0x00, 0x00, 0x00, 0x95,
+    0x00, 0x00, 0x00, 0x00, 0x00, 0x00, 0x00, 0x1c, 0xdb,
+];
+
+const LOAD_FAULT: [u8; 41] = [
+    0x19, 0x23, 0xc0, 0x00, 0x00, 0x22, 0x20, 0x12, 0x01, 0x00, 0x00, 0x00, 0x07, 0x00, 0x18, 0xb7,
+    0x02, 0x00, 0x00, 0x00, 0x00, 0x00, 0x00, 0x79, 0x20, 0x00, 0x00, 0x00, 0x00, 0x00, 0x00, 0x95,
+    0x00, 0x00, 0x00, 0x00, 0x00, 0x00, 0x00, 0x96, 0x44,
+];
+
+const ACTIVATE_5: [u8; 21] = [
+    0x19, 0x23, 0xc0, 0x01, 0x00, 0x0e, 0x20, 0x12, 0x03, 0x00, 0x00, 0x00, 0x07, 0x00, 0x00, 0x00,
+    0x05, 0x00, 0x00, 0x6e, 0x08,
+];
+
+// A load, the cause of its end, and what remains of 5: the last exit takes one, a fault takes none.
+const ENDS: [(&[u8], Cause, u32); 2] = [
+    (&LOAD_THREE, Cause::Exited, 2),
+    (&LOAD_FAULT, Cause::Fault(1), 4),
+];
+
 // The work of a ticket for procedure 1 that is run for at most 100 instructions.
 fn work(alloc: Global, engine: &Engine) -> Result<Work, Fail> {
     match engine.ticket(alloc, 1)? {
@@ -112,4 +137,23 @@ fn a_slice_ends_with_the_budget(rt: HostRuntime) -> Result<(), Fail> {
     assert_eq!(rt; slice(&mut engine, 1, 200), (200, StepOutcome::Ran));
     assert_eq!(rt; slice(&mut engine, 1, 200), (51, StepOutcome::Faulted(5)));
     Ok(())
+}
+
+#[test]
+fn an_exit_takes_one_of_the_budget_and_a_fault_none(rt: HostRuntime) -> Result<(), Fail> {
+    for (load, cause, remaining) in ENDS {
+        let mut engine = Engine::new(rt.alloc(), Profile::Two, 0x123, 16, 100)?;
+        assert_eq!(rt;
+            ended(rt.alloc(), &mut engine, load)?,
+            (cause, Some(remaining))
+        );
+    }
+    Ok(())
+}
+
+fn ended(alloc: Global, engine: &mut Engine, load: &[u8]) -> Result<(Cause, Option<u32>), Fail> {
+    send_all(alloc, engine, &[load, &ACTIVATE_5])?;
+    let _last = slice(engine, 7, 9);
+    let view = engine.view(7).ok_or("loaded")?;
+    Ok((view.cause, view.remaining))
 }
