@@ -8,7 +8,7 @@ _ocp() {
         help) words='asm list run' ;;
         *) words='' ;;
     esac
-    [ "$COMP_CWORD" != 1 ] || words='asm list run help build live try --help --version'
+    [ "$COMP_CWORD" != 1 ] || words='asm list run help bench build live try --help --version'
     mapfile -t COMPREPLY < <(compgen -W "$words" -- "${COMP_WORDS[COMP_CWORD]}")
 }
 complete -o default -F _ocp ocp ./ocp
