@@ -1,4 +1,4 @@
--- Labels and the jumps that name them, in words of the image.
+-- Labels and the jumps that name them, in words of the image (RFC 9669, section 4.3).
 use Rattle.std.specs.Prelude.{◌≡◌, ◌+◌, ℕ, pos, ◌-ℤ◌, List, [], ◌∷◌, ◌++◌, length, take, Option, Some, None}
 use Rattle.bpf_types.specs.declared.line.Line.{Line}
 use Rattle.ocp_loader.specs.Image.{target_of}

@@ -1,5 +1,6 @@
 -- The canonical text of an instruction, without a newline: its mnemonic, which ends in 32 or 64
--- where the instruction has a class, one space, and its operands, parted by a comma and a space.
+-- where the instruction has a class, one space, and its operands, parted by a comma and a space
+-- (a form of this product; the instructions are those of RFC 9669, sections 4 and 5).
 use Rattle.std.specs.Prelude.{ℕ, ◌/◌, ◌%◌, zero, suc, ℤ, pos, negsuc, List, [], ◌∷◌, ◌++◌, codes, false}
 use Rattle.std.specs.Fmt.{decimal, signed_decimal, digit_glyph}
 use Rattle.bpf_types.specs.declared.line.Line.{Line}

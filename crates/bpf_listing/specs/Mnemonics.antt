@@ -1,4 +1,4 @@
--- The first word of an instruction's text.
+-- The first word of an instruction's text (RFC 9669, sections 4 and 5).
 use Rattle.std.specs.Prelude.{ℕ, List, ◌++◌, codes}
 use Rattle.bpf_listing.specs.declared.mnemonic.Mnemonic.{Mnemonic}
 use Rattle.bpf_listing.specs.declared.mnemonic.Mnemonic.TheVariants as word

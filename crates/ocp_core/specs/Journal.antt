@@ -12,6 +12,7 @@ use Rattle.ocp_world.specs.After.{Answer, Requested, Stepped, Commanded}
 use Rattle.ocp_core.specs.Log.{Entry, Asked, Steps, Debugged, Drained}
 use Rattle.ocp_core.specs.Marks.{Marked}
 
+-- the event that a value of the code stands for
 abbrev pub event_of : E.Event → Event
 event_of (event.Request by time octets) = Request by time octets.now
 event_of (event.Step by id) = Step by id

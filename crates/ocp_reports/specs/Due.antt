@@ -1,4 +1,4 @@
--- The reports of completions that waited, as they are sent.
+-- The reports of completions that waited, as they are sent (ECSS-E-ST-70-41C, 6.1.5).
 use Rattle.std.specs.Prelude.{ℕ, List, []}
 use Rattle.std.specs.List.{flat_map}
 use Rattle.std.specs.Option.{option_map_or}

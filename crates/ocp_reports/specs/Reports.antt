@@ -1,4 +1,4 @@
--- The reports of a request.
+-- The reports of a request (ECSS-E-ST-70-41C, 6.1; CCSDS 133.0-B, 4.1).
 use Rattle.std.specs.Prelude.{ℕ, List, [], ◌∷◌, map}
 use Rattle.std.specs.List.{flat_map}
 use Rattle.obcp_messages.specs.declared.report.Report.{Report}

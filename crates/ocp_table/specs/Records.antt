@@ -1,4 +1,5 @@
--- A procedure's record, as a record of parts, and what a table holds.
+-- A procedure's record, as a record of parts, and what a table holds (ECSS-E-ST-70-41C,
+-- 6.18).
 use Rattle.std.specs.Prelude.{ℕ, Bool, List, Option, IsOk}
 use Rattle.std.specs.Ordering.{nat_cmp}
 use Rattle.std.specs.FinMap.{FinMap}

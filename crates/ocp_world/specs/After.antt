@@ -1,4 +1,4 @@
--- The world after an event, and the answer.
+-- The world after an event, and the answer (ECSS-E-ST-70-41C, 6.1 and 6.18).
 use Rattle.std.specs.Prelude.{ℕ, ◌+◌, Bool, true, false, List, ◌++◌, length, Result, Ok, Err, if◌then◌else◌}
 use Rattle.pus_fields.specs.TelecommandFaults.{telecommand_of}
 use Rattle.ocp_table.specs.declared.answers.StepOutcome.{StepOutcome}

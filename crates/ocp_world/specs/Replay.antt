@@ -4,6 +4,7 @@ use Rattle.ocp_profile.specs.declared.profile.Profile.{Profile}
 use Rattle.ocp_world.specs.World.{World, Event, opening}
 use Rattle.ocp_world.specs.After.{Answer, after}
 
+-- the world after events from a world on
 abbrev pub replay_from : World → List Event → World
 replay_from w [] = w
 replay_from w (e ∷ es) = replay_from (after w e).world es

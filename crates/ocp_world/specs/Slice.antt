@@ -14,6 +14,7 @@ is_running_status Inactive = false
 is_running_status Running = true
 is_running_status Held = false
 
+-- whether the procedure of a record, where there is one, runs
 abbrev pub is_running : Option Rec → Bool
 is_running None = false
 is_running (Some r) = is_running_status r.control.status

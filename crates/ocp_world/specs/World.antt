@@ -1,4 +1,5 @@
--- The world of an engine, and the events that can happen in it.
+-- The world of an engine, and the events that can happen in it (ECSS-E-ST-70-41C, 6.1 and
+-- 6.18).
 use Rattle.std.specs.Prelude.{ℕ, List, [], replicate}
 use Rattle.std.specs.FinMap.{empty}
 use Rattle.ocp_profile.specs.declared.profile.Profile.{Profile}

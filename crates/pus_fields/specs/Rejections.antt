@@ -1,5 +1,5 @@
 -- What can be wrong with a packet that is to have a secondary header and an error control, in
--- order.
+-- order (ECSS-E-ST-70-41C, 7.4).
 use Rattle.std.specs.Prelude.{◌≡◌, ◌≢◌, ◌<◌, ◌≤◌, ℕ, ◌-◌, ◌/◌, ◌^◌, ◌==◌, nat_lt, not, true, false, List, length, take, drop, slice_index, if◌then◌else◌, Option, Some, None}
 use Rattle.byteorder.specs.Endian.{big_number}
 use Rattle.space_packet.specs.declared.primary.Primary.{Primary}
