@@ -16,7 +16,7 @@ Exit status:
   2  a mistake in the words: standard error says which
   3  reading, writing, memory or workers failed: standard error says 'fault <name>'
 
-Manual: docs/MANUAL.md. On one page: docs/CARD.md";
+Manuals: docs/MANUAL.md, docs/AUTHOR.md. On one page: docs/CARD.md";
 
 pub(crate) const ASM_USAGE: &str = "ocp asm [OPTIONS] < TEXT";
 
@@ -38,7 +38,7 @@ Exit status:
   0 done, 1 a fault line is the output, 2 a mistake in the words, 3 a device or memory failed
 
 Example: `echo exit | ocp asm` writes 9500000000000000
-Manual: docs/MANUAL.md, sections 6 and 7; Why Syntax?: 13. Every mnemonic: docs/CARD.md";
+Manual: docs/AUTHOR.md, sections 2 and 3; Why Syntax?: 5. Every mnemonic: docs/CARD.md";
 
 pub(crate) const LIST_USAGE: &str = "ocp list < IMAGE";
 
@@ -54,7 +54,7 @@ Exit status:
   0 done, 1 a fault line is the output, 2 a mistake in the words, 3 a device or memory failed
 
 Example: `echo 9500000000000000 | ocp list` writes exit
-Manual: docs/MANUAL.md, section 7";
+Manual: docs/AUTHOR.md, section 3";
 
 pub(crate) const RUN_USAGE: &str = "ocp run [OPTIONS] < SCRIPT";
 
@@ -111,4 +111,4 @@ Exit status:
   workers failed
 
 Example: `echo journal | ocp run --pool 8` writes journal 0
-Manual: docs/MANUAL.md, section 4; Why Syntax?: 13";
+Manual: docs/MANUAL.md, section 4; Why Syntax?: 10";
