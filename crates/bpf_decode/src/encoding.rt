@@ -1,3 +1,4 @@
+//! The octets of an instruction.
 // Instructions as octets.
 ghost use Rattle.std.specs.Prelude.{◌≡◌, ◌*◌, ◌+◌, ◌≤◌, ℕ, List, [], length, take, IfSome, IfNone, pos};
 ghost use Rattle.bpf_types.specs.declared.line.Line.TheVariants as Variants;

@@ -1,3 +1,4 @@
+//! Laws on spellings and faults. The functions do nothing when they run.
 // What holds of all instructions and all octets.
 ghost use Rattle.std.specs.Prelude.{◌≡◌, ◌⊎◌, ℕ, List, Ok, Err};
 ghost use Rattle.bpf_types.specs.declared.line.Line.{Line};

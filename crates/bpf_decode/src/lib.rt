@@ -1,4 +1,4 @@
-// Between octets and typed instructions: the instruction table of RFC 9669, both ways.
+//! Between octets and typed instructions: the instruction table of RFC 9669, both ways.
 #![tactic(auto)]
 
 mod codes;

@@ -1,3 +1,4 @@
+//! What the offset and the operand bit of an opcode say.
 // The rows of the instruction table, found by the fields of a slot.
 ghost use Rattle.std.specs.Prelude.{◌≡◌, ◌+◌, ◌/◌, ◌%◌, ◌⊎◌, [], IfSome, pos};
 ghost use Rattle.bpf_types.specs.Line.{first_slot, second_slot, arithmetic_class, jump_class, order_opcode, extension_opcode, code_of, offset_of, swap_width_bits, extension_offset, extension_width};

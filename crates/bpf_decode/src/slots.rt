@@ -1,3 +1,4 @@
+//! The fields of the slots of an image.
 // Instructions among the octets of code.
 ghost use Rattle.std.specs.Prelude.{◌≡◌, ◌≢◌, ◌≤◌, ◌<◌, ◌+◌, ◌*◌, ◌/◌, ◌%◌, ◌⊎◌, length, drop, take, IfOk, IfErr, IfSome, IfNone, Ok, Err, IsTrue, slice_index};
 ghost use Rattle.bpf_decode.specs.declared.fault.DecodeFault.{DecodeFault};

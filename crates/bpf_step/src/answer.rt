@@ -1,3 +1,4 @@
+//! What an instruction gives that is not done by the machine alone.
 ghost use Rattle.std.specs.Prelude.{◌≡◌};
 ghost use Rattle.bpf_step.specs.Machine.{fault_number};
 

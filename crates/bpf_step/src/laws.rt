@@ -23,8 +23,8 @@ pub fn steps_are_those_of_the_lines()
     lines_stand_at_their_places();
 }
 
-/// The machine of an admitted image never meets an undefined opcode, a place outside the code or the second half of a
-/// wide load, whatever it runs and whatever the engine answers.
+/// The machine of an admitted image never meets an undefined opcode, a place outside the code or
+/// the second half of a wide load, whatever it runs and whatever the engine answers.
 pub fn instructions_are_always_found()
     ensures { (profile : Profile) (image : List ℕ) (s : State) →
         IsAdmitted profile image → Reaches image s → IsFound image s }
@@ -34,8 +34,8 @@ pub fn instructions_are_always_found()
     places_lead_to_places();
 }
 
-/// R10 of such a machine is 0x10001000 less 512 for each open local call, of which there are at most seven, and so is
-/// each saved one.
+/// R10 of such a machine is 0x10001000 less 512 for each open local call, of which there are at
+/// most seven, and so is each saved one.
 pub fn r10_is_the_frame_pointer_of_the_depth()
     ensures { (profile : Profile) (image : List ℕ) (s : State) →
         IsAdmitted profile image → Reaches image s → IsFramed s }
@@ -43,7 +43,8 @@ pub fn r10_is_the_frame_pointer_of_the_depth()
     lines_stand_at_their_places();
 }
 
-/// A machine of a profile that is started anew is as a new one of that profile: nothing is left of what it did.
+/// A machine of a profile that is started anew is as a new one of that profile: nothing is left of
+/// what it did.
 pub fn machines_started_anew_are_as_new()
     ensures new { (profile : Profile) (before : List ℕ) → length before ≤ 256 →
         HasMemoryOf profile (started profile before) }

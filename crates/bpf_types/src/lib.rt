@@ -1,4 +1,5 @@
-// The instructions of RFC 9669, typed: each line of code is one row of the instruction table, with its fields in their ranges.
+//! The instructions of RFC 9669, typed: each line of code is one row of the instruction table, with
+//! its fields in their ranges.
 #![tactic(auto)]
 
 pub mod line;

@@ -1,9 +1,10 @@
+//! The typed instructions of RFC 9669.
 ghost use Rattle.bpf_types.specs.Line.{IsLine};
 
 use crate::reg::Reg;
 
-/// How many bits an arithmetic instruction or a jump works on: W32 for the classes ALU and JMP32, W64 for ALU64 and
-/// JMP (RFC 9669, section 3.3).
+/// How many bits an arithmetic instruction or a jump works on: W32 for the classes ALU and JMP32,
+/// W64 for ALU64 and JMP (RFC 9669, section 3.3).
 #[derive(Clone, Copy, PartialEq, Eq, Debug)]
 pub enum Width {
     W32,
@@ -39,7 +40,8 @@ pub enum Operand {
     Register(Reg),
 }
 
-/// The moves that extend the sign, from so many bits to the width of their class (RFC 9669, section 4.1).
+/// The moves that extend the sign, from so many bits to the width of their class (RFC 9669, section
+/// 4.1).
 #[derive(Clone, Copy, PartialEq, Eq, Debug)]
 pub enum Extension {
     From8To32,
@@ -96,7 +98,8 @@ impl Extension {
     }
 }
 
-/// What a byte order instruction does: to little-endian, to big-endian, or swap (RFC 9669, section 4.2).
+/// What a byte order instruction does: to little-endian, to big-endian, or swap (RFC 9669, section
+/// 4.2).
 #[derive(Clone, Copy, PartialEq, Eq, Debug)]
 pub enum Order {
     Little,
@@ -144,7 +147,8 @@ impl SwapWidth {
     }
 }
 
-/// What a jump tests of its two operands (RFC 9669, section 4.3). `Set` asks whether they have a bit in common.
+/// What a jump tests of its two operands (RFC 9669, section 4.3). `Set` asks whether they have a
+/// bit in common.
 #[derive(Clone, Copy, PartialEq, Eq, Debug)]
 pub enum Comparison {
     Equal,
@@ -196,8 +200,8 @@ pub enum SignedSize {
     Byte,
 }
 
-/// One typed instruction of RFC 9669, in the conformance groups base32, base64, divmul32 and divmul64. A distance
-/// counts slots from the instruction that follows.
+/// One typed instruction of RFC 9669, in the conformance groups base32, base64, divmul32 and
+/// divmul64. A distance counts slots from the instruction that follows.
 #[derive(Clone, Copy, PartialEq, Eq, Debug)]
 pub enum Line {
     /// `dst = dst operation operand`.
@@ -324,7 +328,8 @@ impl Line {
         matches!(self, Line::LoadWide { .. })
     }
 
-    /// How many slots of 8 octets the instruction has: 2 for a wide load, and else 1 (RFC 9669, section 3.2).
+    /// How many slots of 8 octets the instruction has: 2 for a wide load, and else 1 (RFC 9669,
+    /// section 3.2).
     #[inline(always)]
     pub fn slots(self) -> u16
         ensures exact { result ≡ slots_in self }
@@ -338,7 +343,8 @@ impl Line {
     }
 }
 
-/// A law: each line has its fields in the ranges of their types, which definitions over lines ask for.
+/// A law: each line has its fields in the ranges of their types, which definitions over lines ask
+/// for.
 pub fn lines_are_in_range(line: Line)
     ensures { IsLine line }
 {}

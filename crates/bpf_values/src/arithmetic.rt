@@ -126,7 +126,8 @@ fn low8(register: u64) -> i8
     ((register % 0x100) as u8).cast_signed()
 }
 
-/// The result of an operation of this width. One of 32 bits works on the low halves, and its upper half is zero.
+/// The result of an operation of this width. One of 32 bits works on the low halves, and its upper
+/// half is zero.
 #[inline(always)]
 pub fn value(width: Width, operation: Operation, dst: u64, src: u64) -> u64
     ensures { result ≡ value width operation dst src }

@@ -1,4 +1,5 @@
-//! Whole texts and their images. Wanted octets are typed from the instruction table, wanted lines are counted.
+//! Whole texts and their images. Wanted octets are typed from the instruction table, wanted lines
+//! are counted.
 use bpf_assembler::canonical::write_canonical;
 use bpf_assembler::{AsmFault, Why, assemble};
 use ocp_profile::Profile;

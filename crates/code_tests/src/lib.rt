@@ -1,4 +1,5 @@
-//! Tests of procedure code: instructions, their texts, images, memory and machines. The crate has no code of its own.
+//! Tests of procedure code: instructions, their texts, images, memory and machines. The crate has
+//! no code of its own.
 #![tactic(auto)]
 
 #[cfg(test)]

@@ -1,10 +1,12 @@
+//! Tests of listings and canonical texts.
 use bpf_decode::DecodeFault;
 use bpf_listing::{
     DisassembleFault, Jump, Mnemonic, disassemble, line_text, mnemonic_of, read_line,
 };
 use std::test::Fail;
 
-/// An instruction of each mnemonic and operand form, by its opcode of RFC 9669; then numbers at the ends of their ranges.
+/// An instruction of each mnemonic and operand form, by its opcode of RFC 9669; then numbers at the
+/// ends of their ranges.
 const IMAGE: &[u8] = b"\
 \x07\x01\x00\x00\x05\x00\x00\x00\
 \x0c\x21\x00\x00\x00\x00\x00\x00\

@@ -1,4 +1,5 @@
-//! Images that are loaded, and the faults of others: numbers and slots are counted by hand from the images.
+//! Images that are loaded, and the faults of others: numbers and slots are counted by hand from the
+//! images.
 use bpf_types::Line;
 use ocp_loader::{LoadFault, load};
 use ocp_profile::Profile;
@@ -22,8 +23,8 @@ const OVER_ONE: [u8; 8] = [0x05, 0, 1, 0, 0, 0, 0, 0];
 /// An opcode of no row.
 const UNKNOWN: [u8; 8] = [0xdf, 0, 0, 0, 0, 0, 0, 0];
 
-/// Images with the number and the slot of their fault under profile One, or with none: first the faults of an instruction,
-/// then those of a target, then those of the end.
+/// Images with the number and the slot of their fault under profile One, or with none: first the
+/// faults of an instruction, then those of a target, then those of the end.
 const IMAGES: [(&[[u8; 8]], Option<(u8, u16)>); 22] = [
     (&[], Some((1, 0))),
     (&[MOV, WIDE], Some((4, 1))),

@@ -1,4 +1,5 @@
-//! The memory of a machine by itself. Wanted octets are worked out from the regions' first addresses and lengths.
+//! The memory of a machine by itself. Wanted octets are worked out from the regions' first
+//! addresses and lengths.
 use bpf_types::Size;
 use ocp_profile::Profile;
 use ocp_regions::Regions;

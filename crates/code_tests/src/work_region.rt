@@ -1,5 +1,5 @@
-//! The work region's last addresses under each profile. Wanted answers are worked out from its first address, 0x30000000, and
-//! its length: 1,024 octets, or 4,096 under profile Two.
+//! The work region's last addresses under each profile. Wanted answers are worked out from its
+//! first address, 0x30000000, and its length: 1,024 octets, or 4,096 under profile Two.
 use bpf_types::Size;
 use ocp_profile::Profile;
 use ocp_regions::{AccessFault, Regions};

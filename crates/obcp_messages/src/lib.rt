@@ -1,5 +1,5 @@
-//! Requests and status reports of service 18 (on-board control procedures), and reports of service 1
-//! (request verification) of ECSS-E-ST-70-41C: the service data of their packets.
+//! Requests and status reports of service 18 (on-board control procedures), and reports of service
+//! 1 (request verification) of ECSS-E-ST-70-41C: the service data of their packets.
 #![tactic(auto)]
 
 mod fault;

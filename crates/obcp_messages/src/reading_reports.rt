@@ -160,9 +160,9 @@ fn report_in(service: u8, subtype: u8, octets: &[u8]) -> Result<Report, ReportFa
     }
 }
 
-/// The report of a telemetry packet's service, subtype and data. Refused as `Kind` where service and
-/// subtype are none of the reports', else as `Layout` where the data have another length than the
-/// report's fields, a number is out of its range, or the identifiers of status rows do not rise
+/// The report of a telemetry packet's service, subtype and data. Refused as `Kind` where service
+/// and subtype are none of the reports', else as `Layout` where the data have another length than
+/// the report's fields, a number is out of its range, or the identifiers of status rows do not rise
 /// (ECSS-E-ST-70-41C, 8.1 and 8.18).
 pub fn read_report(service: u8, subtype: u8, octets: &[u8]) -> Result<Report, ReportFault>
     ensures found { IfOk result (IsReportData service subtype octets.now) }

@@ -173,10 +173,11 @@ fn request_of_service(
     request_in(profile, subtype, octets)
 }
 
-/// The request that a telecommand carries. Refused as `Service` where the service is not 18, else as
-/// `Subtype` where the subtype is no request's, else as `Layout` where the data have another length
-/// than the request's fields, or a number is out of its range (ECSS-E-ST-70-41C, 8.18). An activation has a field for its
-/// budget under profile Two, and none under One, where its budget is read as 0.
+/// The request that a telecommand carries. Refused as `Service` where the service is not 18, else
+/// as `Subtype` where the subtype is no request's, else as `Layout` where the data have another
+/// length than the request's fields, or a number is out of its range (ECSS-E-ST-70-41C, 8.18). An
+/// activation has a field for its budget under profile Two, and none under One, where its budget is
+/// read as 0.
 pub fn read_request<'a>(profile: Profile, tc: &Tc<'a>) -> Result<Request<'a>, RequestFault>
     ensures found { IfOk result
         (IsRequestData profile tc.now.service tc.now.subtype tc.now.payload) }

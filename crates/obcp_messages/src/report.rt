@@ -80,8 +80,8 @@ impl From<StartFailure> for StartFault {
     }
 }
 
-/// A report of service 1 (request verification, ECSS-E-ST-70-41C, 6.1), with the request's first four
-/// octets, or the status report of service 18.
+/// A report of service 1 (request verification, ECSS-E-ST-70-41C, 6.1), with the request's first
+/// four octets, or the status report of service 18.
 #[derive(Drop)]
 pub enum Report {
     /// The request was accepted.

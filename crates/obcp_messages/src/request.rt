@@ -20,8 +20,8 @@ pub enum Request<'a> {
     Unload {
         id: u16,
     },
-    /// Activates a procedure with these arguments and a budget of instructions; 0 is none. Profile One carries no other
-    /// budget.
+    /// Activates a procedure with these arguments and a budget of instructions; 0 is none. Profile
+    /// One carries no other budget.
     Activate {
         id: u16,
         budget: u32,
@@ -74,7 +74,8 @@ impl Request<'_> {
         }
     }
 
-    /// Whether the data of this profile can carry the request: under One the budget of an activation is 0.
+    /// Whether the data of this profile can carry the request: under One the budget of an
+    /// activation is 0.
     pub fn has_fitting_budget(&self, profile: Profile) -> bool
         ensures { IsTrue result ↔ HasFittingBudget profile self.now }
     {

@@ -75,8 +75,8 @@ fn trailing_octets<'a>(request: &Request<'a>) -> &'a [u8]
     }
 }
 
-/// Appends the service data of a request (ECSS-E-ST-70-41C, 8.18). An activation has a field for its budget under profile
-/// Two; under One its budget must be 0. The capacity never shrinks.
+/// Appends the service data of a request (ECSS-E-ST-70-41C, 8.18). An activation has a field for
+/// its budget under profile Two; under One its budget must be 0. The capacity never shrinks.
 pub fn write_request<A: Allocator>(
     profile: Profile,
     request: &Request,
@@ -146,7 +146,8 @@ fn report_fields(report: &Report) -> Fields
     fields
 }
 
-/// Appends the service data of a report (ECSS-E-ST-70-41C, 8.1 and 8.18). The capacity never shrinks.
+/// Appends the service data of a report (ECSS-E-ST-70-41C, 8.1 and 8.18). The capacity never
+/// shrinks.
 pub fn write_report<A: Allocator>(report: &Report, out: &mut Vec<u8, A>) -> Result<(), AllocError>
     ensures written { OnOk result (out.new.items ≡ out.old.items ++ report_data report.now) }
     ensures laid_out { IsReportData (service_of report.now) (kind_of report.now)

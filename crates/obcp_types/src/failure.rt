@@ -94,7 +94,8 @@ impl StartFailure {
     }
 }
 
-/// Why an execution was not completed (ECSS-E-ST-70-41C, 6.1.5.3). The codes are this product's own.
+/// Why an execution was not completed (ECSS-E-ST-70-41C, 6.1.5.3). The codes are this product's
+/// own.
 #[derive(Clone, Copy, PartialEq, Eq, Debug)]
 pub enum CompletionFailure {
     /// Code 26: something else came in between.

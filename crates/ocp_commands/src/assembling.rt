@@ -105,7 +105,8 @@ pub fn asm<R: Source, W: Sink, A: Allocator + Copy>(
     requires reads { R.failed_reads reader.old < 2 ^ 64 - 1 }
     requires writes { W.failed_writes writer.old < 2 ^ 64 - 1 }
     ensures assembles { IfSome (R.remaining reader.old)
-        (λ input. Writes (Assembles profile input) (W.contents writer.old) (W.contents writer.new) result) }
+        (λ input. Writes (Assembles profile input)
+            (W.contents writer.old) (W.contents writer.new) result) }
     ensures machine { IfErr result IsMachineFault }
     ensures reads { IfSome (R.remaining reader.old)
         (λ input. ReadsWhile IsShort input (R.remaining reader.new)) }

@@ -43,8 +43,8 @@ fn fault_in<A: Allocator>(procedure: &Record<A>, command: Command) -> Option<Deb
     }
 }
 
-/// Decides: why a command is refused. No procedure has the id: NotLoaded. A breakpoint is refused as NotAnInstruction,
-/// AlreadySet and BreaksFull, and a clearing as NotSet.
+/// Decides: why a command is refused. No procedure has the id: NotLoaded. A breakpoint is refused
+/// as NotAnInstruction, AlreadySet and BreaksFull, and a clearing as NotSet.
 pub fn fault_of<A: Allocator>(table: &Table<A>, id: u16, command: Command) -> Option<DebugFault>
     ensures { result ≡ fault_on command (get table.now.records id) }
 {
@@ -98,8 +98,8 @@ fn enact<A: Allocator>(table: &mut Table<A>, id: u16, command: Command)
     }
 }
 
-/// Sets a breakpoint at the slot of an instruction. Refused as NotLoaded, NotAnInstruction, AlreadySet and BreaksFull, in this
-/// order, and then nothing changes.
+/// Sets a breakpoint at the slot of an instruction. Refused as NotLoaded, NotAnInstruction,
+/// AlreadySet and BreaksFull, in this order, and then nothing changes.
 pub fn set_break<A: Allocator>(table: &mut Table<A>, id: u16, place: u16) -> Result<(), DebugFault>
     ensures answer { result ≡ command_result (Command.SetBreak place) id table.old.records }
     ensures records { table.new.records ≡
@@ -111,7 +111,8 @@ pub fn set_break<A: Allocator>(table: &mut Table<A>, id: u16, place: u16) -> Res
     apply(table, id, Command::SetBreak(place))
 }
 
-/// Clears the breakpoint at a slot. Refused as NotLoaded and NotSet, in this order, and then nothing changes.
+/// Clears the breakpoint at a slot. Refused as NotLoaded and NotSet, in this order, and then
+/// nothing changes.
 pub fn clear_break<A: Allocator>(
     table: &mut Table<A>,
     id: u16,
@@ -127,7 +128,8 @@ pub fn clear_break<A: Allocator>(
     apply(table, id, Command::ClearBreak(place))
 }
 
-/// Sets whether each instruction of a procedure leaves a trace record. Refused as NotLoaded, and then nothing changes.
+/// Sets whether each instruction of a procedure leaves a trace record. Refused as NotLoaded, and
+/// then nothing changes.
 pub fn set_trace<A: Allocator>(table: &mut Table<A>, id: u16, on: bool) -> Result<(), DebugFault>
     ensures answer { result ≡ command_result (Command.SetTrace on) id table.old.records }
     ensures records { table.new.records ≡

@@ -1,4 +1,5 @@
-//! Laws on commands and traces. The functions do nothing when they run: their contracts are the laws.
+//! Laws on commands and traces. The functions do nothing when they run: their contracts are the
+//! laws.
 ghost use Rattle.std.specs.Prelude.{◌≡◌, ◌++◌, ℕ, List};
 ghost use Rattle.std.specs.FinMap.{get};
 ghost use Rattle.ocp_table.specs.Records.{Records};
@@ -16,7 +17,8 @@ pub fn keeping_is_kept_up()
     ensures { (old new : List Made) → kept (kept old ++ new) ≡ kept (old ++ new) }
 {}
 
-/// A debugger's command leaves each procedure's image, machine, mailbox and control, and what remains of its budget.
+/// A debugger's command leaves each procedure's image, machine, mailbox and control, and what
+/// remains of its budget.
 pub fn commands_keep_runs()
     ensures { (command : Asked) (id q : ℕ) (m : Records) →
         run_of (get (records_by (command_effect command id m) m) q) ≡ run_of (get m q) }

@@ -1,4 +1,5 @@
-//! The debugger: breakpoints, the trace flag, views, memory, and the trace of the last 256 instructions, with their texts.
+//! The debugger: breakpoints, the trace flag, views, memory, and the trace of the last 256
+//! instructions, with their texts.
 #![tactic(auto)]
 
 mod breakpoints;

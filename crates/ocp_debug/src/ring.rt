@@ -83,8 +83,8 @@ impl<A: Allocator> TraceRing<A> {
 
     /// Appends the line of each record, the oldest first.
     ///
-    /// The only refusal is that of memory, and comes only where the lines do not fit into the capacity that `output` has. It
-    /// leaves `output` as it was.
+    /// The only refusal is that of memory, and comes only where the lines do not fit into the
+    /// capacity that `output` has. It leaves `output` as it was.
     pub fn write_lines<B: Allocator>(&self, output: &mut Vec<u8, B>) -> Result<(), AllocError>
         ensures ok { OnOk result
             (output.new.items ≡ output.old.items ++ flat_map trace_line self.now) }

@@ -70,9 +70,10 @@ fn trace_after<A: Allocator>(
     })
 }
 
-/// The instruction event of a running procedure: its next instruction is done, or a breakpoint holds it, or its budget is spent,
-/// which is a fault. It is refused as not loaded, or as not running, and then changes nothing. An instruction of a traced
-/// procedure leaves its record in the ring, and so does a fault.
+/// The instruction event of a running procedure: its next instruction is done, or a breakpoint
+/// holds it, or its budget is spent, which is a fault. It is refused as not loaded, or as not
+/// running, and then changes nothing. An instruction of a traced procedure leaves its record in the
+/// ring, and so does a fault.
 pub fn instruction<A: Allocator>(
     table: &mut Table<A>,
     id: u16,

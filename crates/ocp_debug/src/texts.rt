@@ -65,10 +65,11 @@ fn absent_line(id: u16) -> Text
     text
 }
 
-/// Appends the lines of a view: the status and the eleven registers, or that the procedure is not loaded.
+/// Appends the lines of a view: the status and the eleven registers, or that the procedure is not
+/// loaded.
 ///
-/// The only refusal is that of memory, and comes only where the text does not fit into the capacity that `output` has. It
-/// leaves `output` as it was.
+/// The only refusal is that of memory, and comes only where the text does not fit into the capacity
+/// that `output` has. It leaves `output` as it was.
 pub fn view_text<B: Allocator>(
     id: u16,
     view: Option<View>,
@@ -121,8 +122,8 @@ fn push_words(text: &mut Text, words: &[u64])
 
 /// Appends the line of a trace record.
 ///
-/// The only refusal is that of memory, and comes only where the text does not fit into the capacity that `output` has. It
-/// leaves `output` as it was.
+/// The only refusal is that of memory, and comes only where the text does not fit into the capacity
+/// that `output` has. It leaves `output` as it was.
 pub fn trace_text<B: Allocator>(trace: &Trace, output: &mut Vec<u8, B>) -> Result<(), AllocError>
     ensures ok { OnOk result (output.new.items ≡ output.old.items ++ trace_line trace.now) }
     ensures err { OnErr result (output.new.items ≡ output.old.items) }

@@ -1,4 +1,5 @@
--- Which images may be run, in words of their lines (slots of 8 octets: RFC 9669, section 3; calls: 4.3.1).
+-- Which images may be run, in words of their lines (slots of 8 octets: RFC 9669, section 3;
+-- calls: 4.3.1).
 use Rattle.std.specs.Prelude.{◌≡◌, ℕ, ◌/◌, ◌%◌, ◌≤◌, true, List, length}
 use Rattle.std.specs.List.{All}
 use Rattle.ocp_profile.specs.declared.profile.Profile.{Profile}

@@ -90,7 +90,8 @@ fn is_last(line: Line) -> bool
     matches!(line, Line::Jump { .. } | Line::LongJump { .. } | Line::Exit)
 }
 
-/// The fault of the last line, which is in the last slot or, where none is there, in the two last ones.
+/// The fault of the last line, which is in the last slot or, where none is there, in the two last
+/// ones.
 fn end_fault(slots: u16, line: Option<Line>) -> Option<LoadFault>
     ensures { result ≡ end_fault slots line }
 {

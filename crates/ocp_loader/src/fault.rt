@@ -1,9 +1,11 @@
+//! Why an image is not loaded.
 use bpf_decode::DecodeFault;
 use std::alloc::AllocError;
 
-/// Why an image is not loaded, in the order in which faults are looked for: the three of the length, then slot by slot
-/// those of the instructions and their calls, then the targets in slot order, then the end. Memory may stand in place of
-/// any other answer. A slot is the first one of the instruction at fault.
+/// Why an image is not loaded, in the order in which faults are looked for: the three of the
+/// length, then slot by slot those of the instructions and their calls, then the targets in slot
+/// order, then the end. Memory may stand in place of any other answer. A slot is the first one of
+/// the instruction at fault.
 #[derive(Clone, Copy, PartialEq, Eq, Debug)]
 pub enum LoadFault {
     /// There are no octets.

@@ -1,4 +1,5 @@
-//! Laws on images and their lines. The functions do nothing when they run: their contracts are the laws.
+//! Laws on images and their lines. The functions do nothing when they run: their contracts are the
+//! laws.
 ghost use Rattle.std.specs.Prelude.{◌≡◌, ℕ, ℤ, true, ◌<◌, ◌↔◌, ◌++◌, List, length, Option, Some, Ok, Err};
 ghost use Rattle.ocp_profile.specs.declared.profile.Profile.{Profile};
 ghost use Rattle.ocp_profile.specs.declared.profile.Profile.TheVariants.{Two};
@@ -15,7 +16,8 @@ ghost use Rattle.ocp_loader.specs.LoadResult.{load_result};
 
 use bpf_decode::{instructions_are_decoded, writes_of_the_frame_pointer_are_refused};
 
-/// An image that may be run is judged to be its lines by slot; so an image that has a fault may not be run.
+/// An image that may be run is judged to be its lines by slot; so an image that has a fault may not
+/// be run.
 pub fn faults_are_of_images_that_may_not_be_run()
     ensures admitted { (profile : Profile) (image : List ℕ) (lines : List Line) →
         IsAdmittedAs profile image lines → load_result profile image ≡ Ok (by_slot lines) }
@@ -25,8 +27,8 @@ pub fn faults_are_of_images_that_may_not_be_run()
     instructions_are_decoded();
 }
 
-/// An image of instructions that loads may be run: so of each image of instructions it is said whether it may be run, by
-/// its load result.
+/// An image of instructions that loads may be run: so of each image of instructions it is said
+/// whether it may be run, by its load result.
 pub fn images_that_load_may_be_run()
     ensures { (profile : Profile) (image : List ℕ) (instructions : List Line)
         (lines : List (Option Line)) → IsImageOf image instructions →
@@ -36,7 +38,8 @@ pub fn images_that_load_may_be_run()
     writes_of_the_frame_pointer_are_refused();
 }
 
-/// The place of a line is the number of slots of the lines before it: a wide load has two, each other line has one.
+/// The place of a line is the number of slots of the lines before it: a wide load has two, each
+/// other line has one.
 #[tactic(auto, using(crate::proofs::Octets::place_by_slot))]
 pub fn places_are_counted_in_slots()
     ensures { (before : List Line) → place_of before ≡ length (by_slot before) }
@@ -49,18 +52,19 @@ pub fn images_begin_with_an_instruction()
     faults_are_of_images_that_may_not_be_run();
 }
 
-/// Of an image that may be run: from the place of a line, every place that follows is the place of a line, be it the
-/// next one or the target of a jump or a local call. So no undefined opcode, no place outside the code and no second
-/// half of a wide load is met.
+/// Of an image that may be run: from the place of a line, every place that follows is the place of
+/// a line, be it the next one or the target of a jump or a local call. So no undefined opcode, no
+/// place outside the code and no second half of a wide load is met.
 pub fn places_lead_to_places()
     ensures lines { (profile : Profile) (image : List ℕ) (lines : List Line) (slot : ℕ)
         (l : Line) → IsAdmittedAs profile image lines → IsAt lines slot l → Continues lines slot l }
     ensures slots { (profile : Profile) (image : List ℕ) (lines : List (Option Line)) (slot : ℕ)
-        (l : Line) → load_result profile image ≡ Ok lines → line_of image slot ≡ Some l → IsLineAt image slot l }
+        (l : Line) → load_result profile image ≡ Ok lines → line_of image slot ≡ Some l →
+        IsLineAt image slot l }
 {}
 
-/// The instructions that an image begins with, one after another, are its lines at their slots, whether it may be run or
-/// not; at the second slot of a wide load there is none.
+/// The instructions that an image begins with, one after another, are its lines at their slots,
+/// whether it may be run or not; at the second slot of a wide load there is none.
 pub fn instructions_in_order_are_lines()
     ensures { (image more : List ℕ) (lines : List Line) (slot : ℕ) →
         All IsLine lines → NoneWritesFramePointer lines → image ≡ image_of lines ++ more →
@@ -69,8 +73,8 @@ pub fn instructions_in_order_are_lines()
     instructions_are_decoded();
 }
 
-/// Of an image that may be run: the line at a slot, which is said by decoding alone, is the one that was loaded there; and
-/// there is one at slot 0.
+/// Of an image that may be run: the line at a slot, which is said by decoding alone, is the one
+/// that was loaded there; and there is one at slot 0.
 pub fn lines_agree_with_the_load_result()
     ensures agree { (profile : Profile) (image : List ℕ) (lines : List (Option Line)) (slot : ℕ) →
         load_result profile image ≡ Ok lines → line_of image slot ≡ line_in lines slot }
@@ -86,9 +90,9 @@ pub fn lines_stand_at_their_places()
     faults_are_of_images_that_may_not_be_run();
 }
 
-/// The engine calls of every profile are among those of profile Two, so what may be run under a profile may be run under
-/// Two. With `places_lead_to_places`: each numbered call that is met in an image that may be run under some profile is an
-/// engine call of profile Two.
+/// The engine calls of every profile are among those of profile Two, so what may be run under a
+/// profile may be run under Two. With `places_lead_to_places`: each numbered call that is met in an
+/// image that may be run under some profile is an engine call of profile Two.
 pub fn two_has_the_engine_calls_of_every_profile()
     ensures numbers { (profile : Profile) (number : ℤ) → is_engine_call profile number ≡ true →
         is_engine_call Two number ≡ true }

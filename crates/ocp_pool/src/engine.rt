@@ -77,9 +77,9 @@ fn call_of<A: Allocator>(
     }
 }
 
-/// Does an engine call: R0, and R1 where the call writes it, get its answer, every other register stays, and the place
-/// moves one slot on. It refuses with BadPoolIndex where R1 is no index of the pool at a call 1 to 3 or 6; then nothing
-/// changes.
+/// Does an engine call: R0, and R1 where the call writes it, get its answer, every other register
+/// stays, and the place moves one slot on. It refuses with BadPoolIndex where R1 is no index of the
+/// pool at a call 1 to 3 or 6; then nothing changes.
 pub fn engine_call<A: Allocator, B: Allocator>(
     number: i32,
     machine: &mut Machine<A>,

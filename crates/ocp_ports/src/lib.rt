@@ -1,4 +1,5 @@
-//! Where the commands read and write: sources and sinks that count their failed calls, whole inputs and whole outputs.
+//! Where the commands read and write: sources and sinks that count their failed calls, whole inputs
+//! and whole outputs.
 #![tactic(auto)]
 
 mod device;

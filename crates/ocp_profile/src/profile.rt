@@ -2,8 +2,8 @@
 
 ghost use Rattle.std.specs.Prelude.{◌≡◌};
 
-/// A profile. Under Two an activation carries a budget of instructions, the work region has 4,096 octets, and there is an
-/// engine call that compares a word of the pool and sets it.
+/// A profile. Under Two an activation carries a budget of instructions, the work region has 4,096
+/// octets, and there is an engine call that compares a word of the pool and sets it.
 #[derive(Clone, Copy, PartialEq, Eq, Debug, Default)]
 pub enum Profile {
     #[default]

@@ -1,3 +1,4 @@
+//! Octets of a region, and the number that they make.
 // Single accesses to one region.
 ghost use Rattle.std.specs.Prelude.{◌≡◌, ◌≤◌, ◌<◌, ◌+◌, ◌-◌, ◌^◌, ◌++◌, ◌↔◌, IfSome, IsTrue, None, length, take, drop, replicate};
 ghost use Rattle.std.proofs.lemmas.List.Edits.{sets};

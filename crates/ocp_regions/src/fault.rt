@@ -1,3 +1,4 @@
+//! Why an access is refused.
 /// Why an access is refused. Nothing was read or written.
 #[derive(Clone, Copy, PartialEq, Eq, Debug)]
 pub enum AccessFault {

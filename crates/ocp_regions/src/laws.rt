@@ -3,8 +3,8 @@ ghost use Rattle.std.specs.Prelude.{◌≡◌, ◌≤◌, ℕ, List, length, Ok}
 ghost use Rattle.ocp_profile.specs.declared.profile.Profile.{Profile};
 ghost use Rattle.ocp_regions.specs.Memory.{Octets, zeros, cleared, with_arguments, stored};
 
-/// A profile's memory of zeros is cleared as it is, and so it is again with arguments in it: clearing leaves nothing of
-/// them, and the addresses are the profile's.
+/// A profile's memory of zeros is cleared as it is, and so it is again with arguments in it:
+/// clearing leaves nothing of them, and the addresses are the profile's.
 #[tactic(auto, using(crate::proofs::Cleared::cleared_zeros, crate::proofs::Cleared::cleared_arguments))]
 pub fn cleared_memory_is_the_first_one()
     ensures zeros { (profile : Profile) → cleared (zeros profile) ≡ zeros profile }

@@ -9,8 +9,8 @@ use std::marker::Model;
 // One for the journal, and one for the receipt.
 const COPIES: usize = 2;
 
-/// The reports of a request, seen as their list, with two copies of them for those who keep them: the journal, and a seat as
-/// its receipt.
+/// The reports of a request, seen as their list, with two copies of them for those who keep them:
+/// the journal, and a seat as its receipt.
 #[derive(Drop)]
 pub struct CopiedReports<A: Allocator = Global> {
     // The copies and the reports themselves.

@@ -1,4 +1,5 @@
-//! The reports of a request, octet for octet: where they go, what they say and the packets that they are.
+//! The reports of a request, octet for octet: where they go, what they say and the packets that
+//! they are.
 #![tactic(auto)]
 
 mod copied;

@@ -4,8 +4,8 @@ use bitflags::Flags;
 use obcp_types::Due;
 use pus_fields::{Ack, Tc};
 
-/// What a request's reports repeat of it: its first four octets, its acknowledgement flags, the destination of the
-/// reports and the time at which it came.
+/// What a request's reports repeat of it: its first four octets, its acknowledgement flags, the
+/// destination of the reports and the time at which it came.
 #[derive(Clone, Copy)]
 pub struct Origin {
     pub request: [u8; 4],
@@ -31,8 +31,8 @@ impl Origin {
         }
     }
 
-    /// That of a packet whose secondary header is not read: its reports go to destination 0, and no report of success is
-    /// asked for.
+    /// That of a packet whose secondary header is not read: its reports go to destination 0, and no
+    /// report of success is asked for.
     pub fn of_packet(request: [u8; 4], time: u32) -> Origin
         ensures { result ≡ origin_of_packet request time }
     {
@@ -44,7 +44,8 @@ impl Origin {
         }
     }
 
-    /// That of a completion that waited, sent at this time: its report goes to the source of the request.
+    /// That of a completion that waited, sent at this time: its report goes to the source of the
+    /// request.
     pub fn of_due(due: &Due, time: u32) -> Origin
         ensures { result ≡ origin_of_due time due.now }
     {

@@ -186,8 +186,8 @@ impl Sender {
         }
     }
 
-    /// The packets of the reports of completions that waited, the first one first, sent at this time to the sources of their
-    /// requests; with copies of them.
+    /// The packets of the reports of completions that waited, the first one first, sent at this
+    /// time to the sources of their requests; with copies of them.
     pub fn drained_reports<A: Allocator + Copy>(
         &self,
         alloc: A,

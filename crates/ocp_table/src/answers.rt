@@ -1,3 +1,4 @@
+//! What became of an event of a procedure.
 use obcp_types::StartFailure;
 use ocp_pool::Called;
 

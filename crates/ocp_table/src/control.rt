@@ -1,3 +1,4 @@
+//! What requests and instructions set of a procedure.
 use crate::InstructionOutcome;
 use obcp_types::{PendingOrigin, Status};
 use ocp_pool::Called;

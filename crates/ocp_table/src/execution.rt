@@ -1,3 +1,4 @@
+//! A program and the machine that runs it.
 use crate::InstructionOutcome;
 use bpf_step::{Local, Machine, Need};
 use bpf_types::Line;

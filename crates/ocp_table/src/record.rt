@@ -1,3 +1,4 @@
+//! A procedure under its identifier.
 use crate::budget::{budget_of, is_spent, less, remaining_after};
 use crate::outbox::Outbox;
 use crate::{

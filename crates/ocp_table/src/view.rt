@@ -1,3 +1,4 @@
+//! What is shown of a procedure.
 use crate::{Cause, Pending};
 use obcp_types::Status;
 

@@ -1,5 +1,5 @@
-//! Budgets under profile Two: what a ticket comes back with, and where a budget is spent. Wanted counts are worked out from
-//! the budget and the loop's instructions.
+//! Budgets under profile Two: what a ticket comes back with, and where a budget is spent. Wanted
+//! counts are worked out from the budget and the loop's instructions.
 use crate::harness::{send_all, slice, step};
 use ocp_core::{CommitOutcome, Engine, StepOutcome, Work};
 use ocp_profile::Profile;

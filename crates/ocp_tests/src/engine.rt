@@ -1,5 +1,5 @@
-//! Engines: the octets of their reports, and lists of events. Wanted octets are counted by hand from the text of the
-//! standards.
+//! Engines: the octets of their reports, and lists of events. Wanted octets are counted by hand
+//! from the text of the standards.
 use crate::harness::{are_packets, is_answered, send_all, slice};
 use ocp_core::{Answer, Engine, EngineFault, Entry, Event, RunRefusal, StepOutcome};
 use ocp_profile::Profile;

@@ -1,5 +1,6 @@
-//! What tests do to an engine. None of these functions has a contract: what comes back is for the test to see, and a test
-//! that knows no more is quick to prove. Each lets go of what it was answered, so that the tests hold an engine alone.
+//! What tests do to an engine. None of these functions has a contract: what comes back is for the
+//! test to see, and a test that knows no more is quick to prove. Each lets go of what it was
+//! answered, so that the tests hold an engine alone.
 use ocp_core::{Engine, EngineFault, Reports, StepOutcome};
 use std::alloc::Global;
 use std::test::Fail;

@@ -1,11 +1,12 @@
-//! Pool, mailbox and engine calls by themselves. Wanted values are those of the table of engine calls.
+//! Pool, mailbox and engine calls by themselves. Wanted values are those of the table of engine
+//! calls.
 use bpf_step::Machine;
 use ocp_pool::{Mailbox, Pool, engine_call};
 use ocp_profile::Profile;
 use std::test::Fail;
 
-/// Calls made in this order by a machine with 3 in R2 and 0 in R3: the number, R1 before it, and R0 and R1 after it, where it is
-/// not refused. The pool has two words, and the mailbox 7 and 8.
+/// Calls made in this order by a machine with 3 in R2 and 0 in R3: the number, R1 before it, and R0
+/// and R1 after it, where it is not refused. The pool has two words, and the mailbox 7 and 8.
 const CALLS: [(i32, u64, Option<(u64, u64)>); 20] = [
     (1, 1, Some((0, 1))),
     (2, 1, Some((0, 1))),

@@ -1,5 +1,5 @@
-//! One procedure of a journal by itself, against what the engine shows of it. The packets were written by a script that knows
-//! the tables of the profile alone.
+//! One procedure of a journal by itself, against what the engine shows of it. The packets were
+//! written by a script that knows the tables of the profile alone.
 use crate::harness::{drain, send, send_all, slice, step};
 use ocp_core::{Engine, StepOutcome, replay_one};
 use ocp_profile::Profile;

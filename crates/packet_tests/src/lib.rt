@@ -1,4 +1,5 @@
-//! Tests of packets, of requests and reports in them, and of which reports a request gives. The crate has no code of its own.
+//! Tests of packets, of requests and reports in them, and of which reports a request gives. The
+//! crate has no code of its own.
 #![tactic(auto)]
 
 #[cfg(test)]

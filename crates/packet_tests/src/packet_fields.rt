@@ -1,5 +1,5 @@
-//! Telecommand and telemetry packets, octet for octet. Wanted octets are worked out by hand from the standard's fields,
-//! and their error controls by another program.
+//! Telecommand and telemetry packets, octet for octet. Wanted octets are worked out by hand from
+//! the standard's fields, and their error controls by another program.
 ghost use Rattle.std.specs.Prelude.{◌<◌, IfOk};
 
 use bitflags::Flags;
@@ -18,7 +18,8 @@ const ERROR_CONTROLS: [(&[u8], u16); 4] = [
     (b"123456789", 0x29b1),
 ];
 
-/// Service 18, subtype 8 of source 7 with the flags acceptance and completion, the fifth packet of process 0x123.
+/// Service 18, subtype 8 of source 7 with the flags acceptance and completion, the fifth packet of
+/// process 0x123.
 const REQUEST: [u8; 13] = [
     0x19, 0x23, 0xc0, 0x05, 0x00, 0x06, 0x29, 0x12, 0x08, 0x00, 0x07, 0xd9, 0x42,
 ];

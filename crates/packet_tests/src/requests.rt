@@ -26,8 +26,8 @@ const NINE_WORDS: [u8; 75] = [
     0, 0, 0, 0, 0, 0, 0, 0, 0, 0, 0,
 ];
 
-/// The data of the requests that are the same in both profiles: those of the worked runs, and each number at both ends of
-/// its range, by subtype.
+/// The data of the requests that are the same in both profiles: those of the worked runs, and each
+/// number at both ends of its range, by subtype.
 const REQUESTS: [(u8, &[u8]); 12] = [
     (
         1,
@@ -56,7 +56,8 @@ const ACTIVATIONS: [&[u8]; 3] = [
     &[0xff, 0xff, 0, 1, 0xff],
 ];
 
-/// Activations of profile Two, with their budgets: an identifier, a budget of four octets, a number, and as many octets.
+/// Activations of profile Two, with their budgets: an identifier, a budget of four octets, a
+/// number, and as many octets.
 const ACTIVATIONS_WITH_BUDGETS: [(&[u8], u32); 5] = [
     (&[0, 7, 0, 0, 0, 0, 0, 0], 0),
     (&[0, 7, 0, 0, 0, 2, 0, 0], 2),

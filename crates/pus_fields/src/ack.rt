@@ -4,8 +4,8 @@ ghost use Rattle.std.specs.Prelude.{⊤, ◌≡◌, [], ◌∷◌, codes};
 
 use bitflags::{Flag, Flags, bitflag_items};
 
-/// Which reports of success the sender of a telecommand asks for: acceptance 1, start 2, progress 4,
-/// completion 8 (ECSS-E-ST-70-41C, 7.4.4.1).
+/// Which reports of success the sender of a telecommand asks for: acceptance 1, start 2, progress
+/// 4, completion 8 (ECSS-E-ST-70-41C, 7.4.4.1).
 #[derive(Clone, Copy, PartialEq, Eq, Debug)]
 pub struct Ack(u8);
 

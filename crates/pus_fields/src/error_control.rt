@@ -45,7 +45,8 @@ fn remainder(octet: u8, zeros: usize) -> u16
     REMAINDERS[zeros][usize::from(octet)]
 }
 
-/// The register after eight octets: the sum of their remainders, with the register's octets added to the first two.
+/// The register after eight octets: the sum of their remainders, with the register's octets added
+/// to the first two.
 #[inline(always)]
 fn register_after_eight(register: u16, octets: &[u8; 8]) -> u16
     ensures { (rest remainder : List Bool) →
@@ -77,8 +78,8 @@ fn register_after_octets(register: u16, octets: &[u8]) -> u16
     next
 }
 
-/// The error control of the octets (ECSS-E-ST-70-41C, annex B): the remainder of the polynomial of their
-/// bits, with 16 zeros behind and the first 16 inverted, by x^16 + x^12 + x^5 + 1.
+/// The error control of the octets (ECSS-E-ST-70-41C, annex B): the remainder of the polynomial of
+/// their bits, with 16 zeros behind and the first 16 inverted, by x^16 + x^12 + x^5 + 1.
 pub fn crc16(octets: &[u8]) -> u16
     ensures check { IsErrorControl octets.now result }
     ensures value { result ≡ error_control octets.now }

@@ -39,8 +39,8 @@ pub enum Rejection {
     PusVersion,
 }
 
-/// The first thing that is wrong with octets that are to be a telecommand: each discard comes before
-/// each rejection.
+/// The first thing that is wrong with octets that are to be a telecommand: each discard comes
+/// before each rejection.
 #[derive(Clone, Copy, Debug, PartialEq, Eq)]
 pub enum TcFault {
     /// Nobody is told.

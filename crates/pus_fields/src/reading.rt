@@ -42,9 +42,9 @@ fn tc_in<'a>(header: &Primary, field: &'a [u8]) -> Tc<'a>
 }
 
 /// The telecommand for this application process that the octets are (CCSDS 133.0-B, 4.1;
-/// ECSS-E-ST-70-41C, 7.4.4). Refusals, in this order: the packet is discarded as Short, Version, Length,
-/// NotTelecommand, OtherApid; it is rejected, with the request identifier, as Segmented, NoSecondary,
-/// NoRoom, Pec, PusVersion.
+/// ECSS-E-ST-70-41C, 7.4.4). Refusals, in this order: the packet is discarded as Short, Version,
+/// Length, NotTelecommand, OtherApid; it is rejected, with the request identifier, as Segmented,
+/// NoSecondary, NoRoom, Pec, PusVersion.
 pub fn read_tc<'a>(apid: Apid, octets: &'a [u8]) -> Result<Tc<'a>, TcFault>
     requires { apid < IDLE_APID }
     ensures ok { IfOk result (λ tc. IsTelecommand octets.now tc × (tc.apid ≡ apid)) }
@@ -95,9 +95,9 @@ fn is_in_profile(field: &[u8]) -> bool
     field[0] % 16 == 0 && BigEndian::read_u16(&field[3..]) == 0
 }
 
-/// The telemetry that the octets are (CCSDS 133.0-B, 4.1; ECSS-E-ST-70-41C, 7.4.3). Refusals, in this
-/// order: Short, Version, Length, NotTelemetry, Segmented, NoSecondary, NoRoom, Pec, PusVersion,
-/// NotProfile.
+/// The telemetry that the octets are (CCSDS 133.0-B, 4.1; ECSS-E-ST-70-41C, 7.4.3). Refusals, in
+/// this order: Short, Version, Length, NotTelemetry, Segmented, NoSecondary, NoRoom, Pec,
+/// PusVersion, NotProfile.
 pub fn read_tm(octets: &[u8]) -> Result<Tm, TmFault>
     ensures ok { IfOk result (IsTelemetry octets.now) }
     ensures only { (tm : Telemetry) → IsTelemetry octets.now tm → result ≡ Ok tm }

@@ -11,9 +11,9 @@ use byteorder::{BigEndian, ByteOrder};
 use space_packet::{Apid, IDLE_APID, SequenceCount};
 use std::marker::Model;
 
-/// A telecommand (ECSS-E-ST-70-41C, 7.4.4): application process identifier 0 to 2,046, sequence count 0
-/// to 16,383, the four acknowledgement flags, service type, message subtype, source identifier and
-/// payload, which is borrowed.
+/// A telecommand (ECSS-E-ST-70-41C, 7.4.4): application process identifier 0 to 2,046, sequence
+/// count 0 to 16,383, the four acknowledgement flags, service type, message subtype, source
+/// identifier and payload, which is borrowed.
 #[derive(Drop)]
 pub struct Tc<'a> {
     // The first four octets of its packet.
@@ -50,8 +50,8 @@ impl<'a> Model for Tc<'a> {
 }
 
 impl<'a> Tc<'a> {
-    /// A telecommand, where the identifier is not that of idle packets, 2,047, and there are no other
-    /// acknowledgement flags than the four.
+    /// A telecommand, where the identifier is not that of idle packets, 2,047, and there are no
+    /// other acknowledgement flags than the four.
     pub fn new(
         apid: Apid,
         count: SequenceCount,

@@ -6,9 +6,9 @@ ghost use Rattle.space_packet.specs.declared.range.TheConstants.{APIDS, SEQUENCE
 use space_packet::{Apid, SequenceCount};
 use std::marker::Model;
 
-/// A telemetry packet (ECSS-E-ST-70-41C, 7.4.3): application process identifier 0 to 2,047, sequence
-/// count 0 to 16,383, service type, message subtype, destination identifier, time in whole seconds and
-/// payload, which is borrowed.
+/// A telemetry packet (ECSS-E-ST-70-41C, 7.4.3): application process identifier 0 to 2,047,
+/// sequence count 0 to 16,383, service type, message subtype, destination identifier, time in whole
+/// seconds and payload, which is borrowed.
 #[derive(Drop)]
 pub struct Tm<'a> {
     apid: Apid,

@@ -41,9 +41,9 @@ fn append_tc<A: Allocator>(tc: &Tc, out: &mut Vec<u8, A>)
     append_octets(out, payload);
 }
 
-/// Appends the packet of a telecommand (CCSDS 133.0-B, 4.1; ECSS-E-ST-70-41C, 7.4.4): 13 octets more than
-/// its payload has. It is refused, with the vector and its capacity as they were, where 1. the payload has over
-/// 65,529 octets; 2. memory runs out. The capacity never shrinks.
+/// Appends the packet of a telecommand (CCSDS 133.0-B, 4.1; ECSS-E-ST-70-41C, 7.4.4): 13 octets
+/// more than its payload has. It is refused, with the vector and its capacity as they were, where
+/// 1. the payload has over 65,529 octets; 2. memory runs out. The capacity never shrinks.
 pub fn write_tc<A: Allocator>(tc: &Tc, out: &mut Vec<u8, A>) -> Result<(), WriteFault>
     ensures written { OnOk result ((packet : List ℕ) × IsTelecommand packet tc.now
         × (out.new.items ≡ out.old.items ++ packet)) }
@@ -91,9 +91,9 @@ fn append_tm<A: Allocator>(tm: &Tm, out: &mut Vec<u8, A>)
     append_octets(out, payload);
 }
 
-/// Appends the packet of telemetry (CCSDS 133.0-B, 4.1; ECSS-E-ST-70-41C, 7.4.3): 19 octets more than its
-/// payload has. It is refused, with the vector and its capacity as they were, where 1. the payload has over
-/// 65,523 octets; 2. memory runs out. The capacity never shrinks.
+/// Appends the packet of telemetry (CCSDS 133.0-B, 4.1; ECSS-E-ST-70-41C, 7.4.3): 19 octets more
+/// than its payload has. It is refused, with the vector and its capacity as they were, where 1. the
+/// payload has over 65,523 octets; 2. memory runs out. The capacity never shrinks.
 pub fn write_tm<A: Allocator>(tm: &Tm, out: &mut Vec<u8, A>) -> Result<(), WriteFault>
     ensures written { OnOk result ((packet : List ℕ) × IsTelemetry packet tm.now
         × (out.new.items ≡ out.old.items ++ packet)) }

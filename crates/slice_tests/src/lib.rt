@@ -1,4 +1,5 @@
-//! Tests of one engine that threads share, and of another board behind the lock. The crate has no code of its own.
+//! Tests of one engine that threads share, and of another board behind the lock. The crate has no
+//! code of its own.
 #![tactic(auto)]
 
 #[cfg(test)]

@@ -1,4 +1,5 @@
-//! Telecommand packets, written by a script that knows the tables of the profile alone, and engines that took them.
+//! Telecommand packets, written by a script that knows the tables of the profile alone, and engines
+//! that took them.
 
 ghost use Rattle.std.specs.Prelude.{◌≤◌};
 

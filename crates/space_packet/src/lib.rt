@@ -1,8 +1,8 @@
 //! The space packet of CCSDS 133.0-B: a primary header of six octets, and a data field of 1 to
 //! 65,536 octets.
 //!
-//! `read` takes one packet apart and `write` appends one; both are the relation `IsPacket`, in which
-//! the header is one number of 48 bits.
+//! `read` takes one packet apart and `write` appends one; both are the relation `IsPacket`, in
+//! which the header is one number of 48 bits.
 #![tactic(auto)]
 
 mod fault;

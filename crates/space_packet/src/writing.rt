@@ -14,8 +14,8 @@ pub const MAX_DATA_LENGTH: usize = 65_536;
 
 /// Appends the packet with this header and this data field.
 ///
-/// Refusals, in this order: `NoData` (an empty data field), `TooLong` (over 65,536 octets), `Memory`.
-/// A refusal leaves the vector and its capacity as they were. The capacity never shrinks.
+/// Refusals, in this order: `NoData` (an empty data field), `TooLong` (over 65,536 octets),
+/// `Memory`. A refusal leaves the vector and its capacity as they were. The capacity never shrinks.
 pub fn write<A: Allocator>(
     header: &Primary,
     payload: &[u8],

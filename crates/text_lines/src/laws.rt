@@ -5,8 +5,8 @@ ghost use Rattle.std.specs.List.{All};
 ghost use Rattle.std.specs.Str.Lines.{strip_carriage_return};
 ghost use Rattle.text_lines.specs.Lines.{Ended, Open, lines_of, line_texts};
 
-/// A text is cut at its newlines: a line is what stands in front of one, without a carriage return directly before it; and
-/// what stands behind the last one, unless that is nothing.
+/// A text is cut at its newlines: a line is what stands in front of one, without a carriage return
+/// directly before it; and what stands behind the last one, unless that is nothing.
 pub fn texts_are_cut_at_newlines()
     ensures nothing { line_texts [] ≡ [] }
     ensures ended { (line rest : List ℕ) → All (λ octet. octet ≢ 10) line →

@@ -1,5 +1,5 @@
-//! Lines of a text: a newline ends a line, one carriage return directly before it is no part of the line, and octets after
-//! the last newline are a line too.
+//! Lines of a text: a newline ends a line, one carriage return directly before it is no part of the
+//! line, and octets after the last newline are a line too.
 #![tactic(auto)]
 
 mod cut;

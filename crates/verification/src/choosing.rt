@@ -37,16 +37,17 @@ pub fn is_completion_asked(ack: Ack) -> bool
 fn add_start(list: &mut NoticeList, ack: Ack)
     requires { list.old ≡ [] }
     ensures { list.new ≡
-        optional_report (wants_acceptance ack) Accepted ++ optional_report (wants_start ack) Started }
+        optional_report (wants_acceptance ack) Accepted ++
+        optional_report (wants_start ack) Started }
 {
     list.add_if(is_acceptance_asked(ack), Notice::Accepted);
     list.add_if(is_start_asked(ack), Notice::Started);
 }
 
-/// The reports of a request, in the order in which they are sent: acceptance, start, the place of the
-/// answer report, completion. A report of success is sent where its acknowledgement flag is set. A
-/// failed acceptance or start is sent whatever the flags are, and ends the list. The progress flag has
-/// no effect (ECSS-E-ST-70-41C, 6.1).
+/// The reports of a request, in the order in which they are sent: acceptance, start, the place of
+/// the answer report, completion. A report of success is sent where its acknowledgement flag is
+/// set. A failed acceptance or start is sent whatever the flags are, and ends the list. The
+/// progress flag has no effect (ECSS-E-ST-70-41C, 6.1).
 pub fn notices(ack: Ack, outcome: &Outcome) -> NoticeList
     ensures { result ≡ reports_of_outcome ack outcome.now }
 {
@@ -67,8 +68,8 @@ pub fn notices(ack: Ack, outcome: &Outcome) -> NoticeList
     list
 }
 
-/// The report of a completion that comes after its request. One that failed is reported whatever the flags are, and
-/// one that did not where its flag is set (ECSS-E-ST-70-41C, 6.1.5).
+/// The report of a completion that comes after its request. One that failed is reported whatever
+/// the flags are, and one that did not where its flag is set (ECSS-E-ST-70-41C, 6.1.5).
 pub fn completion(ack: Ack, failure: Option<CompletionFailure>) -> Option<Notice>
     ensures { result ≡ completion ack failure }
 {

@@ -28,7 +28,8 @@ or_at None false slot = Some slot
 -- the first of n slots whose line leads to no line
 abbrev pub first_bad_target : List (Option Line) → ℕ → Option ℕ
 first_bad_target lines zero = None
-first_bad_target lines (suc n) = or_at (first_bad_target lines n) (has_valid_target lines n (line_in lines n)) n
+first_bad_target lines (suc n) =
+    or_at (first_bad_target lines n) (has_valid_target lines n (line_in lines n)) n
 
 -- the last line, in the last slot or the two last ones
 abbrev pub end_fault : ℕ → Option Line → Option LoadFault
