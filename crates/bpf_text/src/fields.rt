@@ -90,10 +90,10 @@ pub fn second(token: &[u8]) -> Result<Operand, LineFault>
 {
     match register_of(token) {
         Some(register) => Ok(Operand::Register(register)),
-        None => match immediate(token) {
-            Ok(imm) => Ok(Operand::Immediate(imm)),
-            Err(fault) => Err(fault),
-        },
+        None => {
+            let imm = immediate(token)?;
+            Ok(Operand::Immediate(imm))
+        }
     }
 }
 
@@ -238,10 +238,8 @@ pub fn short_target(token: &[u8]) -> Result<(i16, Option<&[u8]>), LineFault>
     if is_name(token) {
         return Ok((0, Some(token)));
     }
-    match short_distance(token) {
-        Ok(distance) => Ok((distance, None)),
-        Err(fault) => Err(fault),
-    }
+    let distance = short_distance(token)?;
+    Ok((distance, None))
 }
 
 /// The distance of 32 bits that the token is, or the name with a distance of 0.
@@ -251,8 +249,6 @@ pub fn long_target(token: &[u8]) -> Result<(i32, Option<&[u8]>), LineFault>
     if is_name(token) {
         return Ok((0, Some(token)));
     }
-    match long_distance(token) {
-        Ok(distance) => Ok((distance, None)),
-        Err(fault) => Err(fault),
-    }
+    let distance = long_distance(token)?;
+    Ok((distance, None))
 }

@@ -25,50 +25,44 @@ fn arithmetic<'a>(
 ) -> Result<Source<'a>, LineFault>
     ensures { Judges (word.Arithmetic width operation) (texts operands.now) result }
 {
-    match register_and_second(operands) {
-        Ok((dst, operand)) => Ok(Source {
-            line: Line::Arithmetic {
-                width,
-                operation,
-                dst,
-                operand,
-            },
-            name: None,
-        }),
-        Err(fault) => Err(fault),
-    }
+    let (dst, operand) = register_and_second(operands)?;
+    Ok(Source {
+        line: Line::Arithmetic {
+            width,
+            operation,
+            dst,
+            operand,
+        },
+        name: None,
+    })
 }
 
 /// The operand of a negation.
 fn negate<'a>(width: Width, operands: &[&'a [u8]]) -> Result<Source<'a>, LineFault>
     ensures { Judges (word.Negate width) (texts operands.now) result }
 {
-    match one_register(operands) {
-        Ok(dst) => Ok(Source {
-            line: Line::Negate { width, dst },
-            name: None,
-        }),
-        Err(fault) => Err(fault),
-    }
+    let dst = one_register(operands)?;
+    Ok(Source {
+        line: Line::Negate { width, dst },
+        name: None,
+    })
 }
 
 /// The operands of a move that extends the sign.
 fn move_extended<'a>(width: Width, operands: &[&'a [u8]]) -> Result<Source<'a>, LineFault>
     ensures { Judges (word.MoveExtended width) (texts operands.now) result }
 {
-    match registers_and_number(operands) {
-        Ok(found) => match Extension::new(width, found.1) {
-            Some(extension) => Ok(Source {
-                line: Line::MoveExtended {
-                    extension,
-                    dst: found.0.0,
-                    src: found.0.1,
-                },
-                name: None,
-            }),
-            None => Err(LineFault::Range),
-        },
-        Err(fault) => Err(fault),
+    let ((dst, src), bits) = registers_and_number(operands)?;
+    match Extension::new(width, bits) {
+        Some(extension) => Ok(Source {
+            line: Line::MoveExtended {
+                extension,
+                dst,
+                src,
+            },
+            name: None,
+        }),
+        None => Err(LineFault::Range),
     }
 }
 
@@ -76,19 +70,13 @@ fn move_extended<'a>(width: Width, operands: &[&'a [u8]]) -> Result<Source<'a>, 
 fn byte_order<'a>(order: Order, operands: &[&'a [u8]]) -> Result<Source<'a>, LineFault>
     ensures { Judges (word.ByteOrder order) (texts operands.now) result }
 {
-    match register_and_number(operands) {
-        Ok(found) => match SwapWidth::new(found.1) {
-            Some(width) => Ok(Source {
-                line: Line::ByteOrder {
-                    order,
-                    width,
-                    dst: found.0,
-                },
-                name: None,
-            }),
-            None => Err(LineFault::Range),
-        },
-        Err(fault) => Err(fault),
+    let (dst, bits) = register_and_number(operands)?;
+    match SwapWidth::new(bits) {
+        Some(width) => Ok(Source {
+            line: Line::ByteOrder { order, width, dst },
+            name: None,
+        }),
+        None => Err(LineFault::Range),
     }
 }
 
@@ -96,39 +84,33 @@ fn byte_order<'a>(order: Order, operands: &[&'a [u8]]) -> Result<Source<'a>, Lin
 fn load_wide<'a>(operands: &[&'a [u8]]) -> Result<Source<'a>, LineFault>
     ensures { Judges word.LoadWide (texts operands.now) result }
 {
-    match register_and_number(operands) {
-        Ok((dst, value)) => Ok(Source {
-            line: Line::LoadWide { dst, value },
-            name: None,
-        }),
-        Err(fault) => Err(fault),
-    }
+    let (dst, value) = register_and_number(operands)?;
+    Ok(Source {
+        line: Line::LoadWide { dst, value },
+        name: None,
+    })
 }
 
 /// The operand of a jump by the offset field.
 fn short_jump<'a>(operands: &[&'a [u8]]) -> Result<Source<'a>, LineFault>
     ensures { Judges (word.Jump leap.Short) (texts operands.now) result }
 {
-    match one_short_target(operands) {
-        Ok((distance, name)) => Ok(Source {
-            line: Line::Jump { distance },
-            name,
-        }),
-        Err(fault) => Err(fault),
-    }
+    let (distance, name) = one_short_target(operands)?;
+    Ok(Source {
+        line: Line::Jump { distance },
+        name,
+    })
 }
 
 /// The operand of a jump by the imm field.
 fn long_jump<'a>(operands: &[&'a [u8]]) -> Result<Source<'a>, LineFault>
     ensures { Judges (word.Jump leap.Long) (texts operands.now) result }
 {
-    match one_long_target(operands) {
-        Ok((distance, name)) => Ok(Source {
-            line: Line::LongJump { distance },
-            name,
-        }),
-        Err(fault) => Err(fault),
-    }
+    let (distance, name) = one_long_target(operands)?;
+    Ok(Source {
+        line: Line::LongJump { distance },
+        name,
+    })
 }
 
 /// The operands of a jump that tests.
@@ -171,20 +153,20 @@ fn call<'a>(operands: &[&'a [u8]]) -> Result<Source<'a>, LineFault>
     ensures { Judges (word.Jump leap.Call) (texts operands.now) result }
 {
     match local(operands) {
-        Some(others) => match one_long_target(others) {
-            Ok((distance, name)) => Ok(Source {
+        Some(others) => {
+            let (distance, name) = one_long_target(others)?;
+            Ok(Source {
                 line: Line::CallLocal { distance },
                 name,
-            }),
-            Err(fault) => Err(fault),
-        },
-        None => match one_immediate(operands) {
-            Ok(number) => Ok(Source {
+            })
+        }
+        None => {
+            let number = one_immediate(operands)?;
+            Ok(Source {
                 line: Line::Call { number },
                 name: None,
-            }),
-            Err(fault) => Err(fault),
-        },
+            })
+        }
     }
 }
 
@@ -205,72 +187,64 @@ fn exit<'a>(operands: &[&'a [u8]]) -> Result<Source<'a>, LineFault>
 fn load<'a>(size: Size, operands: &[&'a [u8]]) -> Result<Source<'a>, LineFault>
     ensures { Judges (word.Access (access.Load size)) (texts operands.now) result }
 {
-    match load_operands(operands) {
-        Ok((dst, (base, offset))) => Ok(Source {
-            line: Line::Load {
-                size,
-                dst,
-                base,
-                offset,
-            },
-            name: None,
-        }),
-        Err(fault) => Err(fault),
-    }
+    let (dst, (base, offset)) = load_operands(operands)?;
+    Ok(Source {
+        line: Line::Load {
+            size,
+            dst,
+            base,
+            offset,
+        },
+        name: None,
+    })
 }
 
 /// The operands of a load that extends the sign.
 fn load_extended<'a>(size: SignedSize, operands: &[&'a [u8]]) -> Result<Source<'a>, LineFault>
     ensures { Judges (word.Access (access.LoadExtended size)) (texts operands.now) result }
 {
-    match load_operands(operands) {
-        Ok((dst, (base, offset))) => Ok(Source {
-            line: Line::LoadExtended {
-                size,
-                dst,
-                base,
-                offset,
-            },
-            name: None,
-        }),
-        Err(fault) => Err(fault),
-    }
+    let (dst, (base, offset)) = load_operands(operands)?;
+    Ok(Source {
+        line: Line::LoadExtended {
+            size,
+            dst,
+            base,
+            offset,
+        },
+        name: None,
+    })
 }
 
 /// The operands of a store of a register.
 fn store<'a>(size: Size, operands: &[&'a [u8]]) -> Result<Source<'a>, LineFault>
     ensures { Judges (word.Access (access.Store size)) (texts operands.now) result }
 {
-    match store_operands(operands) {
-        Ok(((base, offset), src)) => Ok(Source {
-            line: Line::Store {
-                size,
-                base,
-                offset,
-                src,
-            },
-            name: None,
-        }),
-        Err(fault) => Err(fault),
-    }
+    let ((base, offset), src) = store_operands(operands)?;
+    Ok(Source {
+        line: Line::Store {
+            size,
+            base,
+            offset,
+            src,
+        },
+        name: None,
+    })
 }
 
 /// The operands of a store of a constant.
 fn store_immediate<'a>(size: Size, operands: &[&'a [u8]]) -> Result<Source<'a>, LineFault>
     ensures { Judges (word.Access (access.StoreImmediate size)) (texts operands.now) result }
 {
-    match store_immediate_operands(operands) {
-        Ok(((base, offset), value)) => Ok(Source {
-            line: Line::StoreImmediate {
-                size,
-                base,
-                offset,
-                value,
-            },
-            name: None,
-        }),
-        Err(fault) => Err(fault),
-    }
+    let ((base, offset), value) = store_immediate_operands(operands)?;
+    Ok(Source {
+        line: Line::StoreImmediate {
+            size,
+            base,
+            offset,
+            value,
+        },
+        name: None,
+    })
 }
 
 /// The instruction of a mnemonic and its operands.

@@ -1,10 +1,13 @@
 use Rattle.std.proofs.Common.{ℕ}
+use Rattle.std.proofs.lemmas.Result.{err_from_is_err_and}
 use Rattle.bpf_text.specs.Judged.{texts}
 use Rattle.bpf_text.proofs.JudgeLemmas.{extended_err, odd_extended}
 use Rattle.bpf_text.proofs.statements.move_extended.Goals as goal
 
-pub returns-in-Err : goal.returns-in-Err
-returns-in-Err c = extended_err c.args.width (texts c.args.operands.now) c.in-Err.fault (λ (p : (ℕ × ℕ) × ℕ). p) c.in-Err.ensures
+pub returns-in_err-dst : goal.returns-in_err-dst
+returns-in_err-dst c =
+    let p = err_from_is_err_and c.from_residual.result c.from_residual.ensures.1 in
+    rw (p.1, p.2) (extended_err c.args.width (texts c.args.operands.now) c.in_err-dst.field-0.0 (λ (p : (ℕ × ℕ) × ℕ). p) c.in_err-dst.ensures)
 
 pub returns-in-None : goal.returns-in-None
-returns-in-None c = odd_extended c.args.width (texts c.args.operands.now) _ _ _ c.in-Ok.ensures.0 c.in-None.ensures.none
+returns-in-None c = odd_extended c.args.width (texts c.args.operands.now) _ _ _ c.in_ok-dst.ensures.0 c.in-None.ensures.none
