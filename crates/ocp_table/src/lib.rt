@@ -4,6 +4,7 @@
 
 mod answers;
 mod budget;
+mod change;
 mod control;
 mod directive;
 mod execution;
@@ -17,6 +18,7 @@ mod table;
 mod view;
 
 pub use answers::{BUDGET_SPENT, InstructionOutcome, LoadFailure, Slice, StepOutcome};
+pub use change::Change;
 pub use control::{Cause, Control, Pending};
 pub use directive::Directive;
 pub use execution::Execution;

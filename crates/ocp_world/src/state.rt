@@ -6,10 +6,8 @@ ghost use Rattle.std.specs.Option.{option_to_list};
 ghost use Rattle.std.specs.FinMap.{get};
 ghost use Rattle.pus_fields.specs.TelecommandFaults.{telecommand_of};
 ghost use Rattle.ocp_table.specs.RequestTable as directive;
-ghost use Rattle.ocp_table.specs.Effects.{Kept, Unasked, Failed, failure_of};
-ghost use Rattle.ocp_table.specs.Deciding.{effect_in};
-ghost use Rattle.ocp_table.specs.Outbox.{is_outbox_full};
-ghost use Rattle.ocp_table.specs.Shown.{view_at, directive_of, HasFewArguments};
+ghost use Rattle.ocp_table.specs.Effects.{Changed, Kept, Unasked, Failed};
+ghost use Rattle.ocp_table.specs.Shown.{view_at, change_of, directive_of, HasFewArguments};
 ghost use Rattle.ocp_debug.specs.declared.command.DebugFault.{DebugFault as Fault};
 ghost use Rattle.ocp_debug.specs.Memory.{memory_at};
 ghost use Rattle.ocp_debug.specs.Traces.{kept};
@@ -28,7 +26,7 @@ use ocp_debug::{Command, DebugFault, TraceRing};
 use ocp_pool::{MAX_POOL_WORDS, Pool};
 use ocp_profile::Profile;
 use ocp_reports::{CopiedReports, Origin, Sender, count_after};
-use ocp_table::{Directive, LoadFailure, StepOutcome, Table, View};
+use ocp_table::{Change, Directive, LoadFailure, StepOutcome, Table, View};
 use pus_fields::{Tc, TcFault};
 use space_packet::{Apid, SequenceCount};
 use std::alloc::{AllocError, Allocator};
@@ -235,24 +233,13 @@ impl<A: Allocator> State<A> {
         ensures { Does self.old self.new result
             (λ w. directive_effect origin directive.Unload id w.records) }
     {
-        if let Some(failure) = self.table.unload_failure(id) {
-            return self.fail(alloc, origin, failure);
-        }
-        let reports = self.reply(alloc, origin, Outcome::Done, &None)?;
-        self.table.unload(id).unwrap();
-        Ok(reports)
-    }
-
-    // What becomes of a request that does not fail: it is done, or its stop or suspend waits.
-    fn outcome_of(&self, id: u16, directive: &Directive<'_>) -> Outcome
-        ensures { let m = self.now.table.records in
-            let asked = directive_of directive.now (is_outbox_full m self.now.table.outbox) in
-            failure_of (effect_in asked id m) ≡ None → result ≡ outcome_by (effect_in asked id m) }
-    {
-        if self.table.becomes_pending(id, directive) {
-            Outcome::Started
-        } else {
-            Outcome::Done
+        match self.table.check_unload(id) {
+            Ok(()) => {
+                let reports = self.reply(alloc, origin, Outcome::Done, &None)?;
+                self.table.remove(id);
+                Ok(reports)
+            }
+            Err(failure) => self.fail(alloc, origin, failure),
         }
     }
 
@@ -271,13 +258,14 @@ impl<A: Allocator> State<A> {
             (λ w. directive_effect origin (directive_of directive.entry (has_no_place w)) id
             w.records) }
     {
-        if let Some(failure) = self.table.failure(id, &directive) {
-            return self.fail(alloc, origin, failure);
+        match self.table.decide(id, directive) {
+            Ok(change) => {
+                let reports = self.reply(alloc, origin, outcome_of(change), &None)?;
+                self.table.enact(id, change);
+                Ok(reports)
+            }
+            Err(failure) => self.fail(alloc, origin, failure),
         }
-        let outcome = self.outcome_of(id, &directive);
-        let reports = self.reply(alloc, origin, outcome, &None)?;
-        self.table.apply(id, directive).unwrap();
-        Ok(reports)
     }
 
     // Reports the status of all procedures.
@@ -361,6 +349,18 @@ impl<A: Allocator> State<A> {
                 AcceptanceFailure::Packet(rejection),
             ),
             Err(TcFault::Discarded(cause)) => Err(EngineFault::Discarded(cause)),
+        }
+    }
+}
+
+// What becomes of a request that does not fail: its stop or suspend waits, or it is done.
+fn outcome_of(change: Change<'_>) -> Outcome
+    ensures { (id : ℕ) → result ≡ outcome_by (Changed id (change_of change.entry)) }
+{
+    match change {
+        Change::Pended(_) => Outcome::Started,
+        Change::Started { .. } | Change::Sent(_) | Change::Quit(_) | Change::Resumed => {
+            Outcome::Done
         }
     }
 }
