@@ -51,7 +51,8 @@ impl<A: Allocator> Image<A> {
     }
 }
 
-/// The fault of an image, at the line of the instruction at its slot, or at line 0 where it is one of the image's length.
+/// The fault of an image, at the line of the instruction at its slot, or at line 0 where it is one
+/// of the image's length.
 fn fault_with_line(rows: &[Row<'_>], fault: LoadFault) -> AsmFault
     ensures { IsReported (map entry rows.now) fault result }
 {
@@ -97,10 +98,11 @@ fn image_of<A: Allocator + Copy>(
 ///
 /// The listing of an image that may be run under it means its instructions, so it gives that image.
 ///
-/// Else refused: line by line with Syntax, Range or DuplicateLabel; then in line order with UnknownLabel, or Range of the
-/// distance of a label; then with the fault of the image (`load`), at the line of the instruction at its slot, or at line 0
-/// where the image is empty or too long. Memory may stand in place of any other answer. The time is linear in the text, but
-/// for a logarithm of the number of labels for each label and each name.
+/// Else refused: line by line with Syntax, Range or DuplicateLabel; then in line order with
+/// UnknownLabel, or Range of the distance of a label; then with the fault of the image (`load`), at
+/// the line of the instruction at its slot, or at line 0 where the image is empty or too long.
+/// Memory may stand in place of any other answer. The time is linear in the text, but for a
+/// logarithm of the number of labels for each label and each name.
 pub fn assemble<A: Allocator + Copy>(
     alloc: A,
     profile: Profile,

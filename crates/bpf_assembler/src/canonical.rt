@@ -13,12 +13,12 @@ use ocp_loader::{LoadFault, load};
 use ocp_profile::Profile;
 use std::alloc::Allocator;
 
-/// Appends the canonical form of an assembly text to the octets: the text is assembled under the profile, the image loaded
-/// and the program listed. The load is refused only where memory runs out. Each instruction that the text means has its
-/// line.
+/// Appends the canonical form of an assembly text to the octets: the text is assembled under the
+/// profile, the image loaded and the program listed. The load is refused only where memory runs
+/// out. Each instruction that the text means has its line.
 ///
-/// Refused as `assemble` is, and as Memory where memory for the program or its listing is refused. A refusal leaves
-/// `out` and its capacity as they were. The capacity never shrinks.
+/// Refused as `assemble` is, and as Memory where memory for the program or its listing is refused.
+/// A refusal leaves `out` and its capacity as they were. The capacity never shrinks.
 pub fn write_canonical<A: Allocator + Copy, B: Allocator>(
     alloc: A,
     profile: Profile,

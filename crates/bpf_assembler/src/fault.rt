@@ -6,8 +6,9 @@ ghost use Rattle.bpf_assembler.specs.declared.fault.AsmFault.TheVariants.{Memory
 use ocp_loader::LoadFault;
 use std::alloc::{AllocError, AllocFailed};
 
-/// What a line of a text has that is no image, in the order in which faults are looked for: line by line the first three;
-/// then in line order UnknownLabel, and Range of the distance of a label; then the fault of the image.
+/// What a line of a text has that is no image, in the order in which faults are looked for: line by
+/// line the first three; then in line order UnknownLabel, and Range of the distance of a label;
+/// then the fault of the image.
 #[derive(Clone, Copy, PartialEq, Eq, Debug)]
 pub enum Why {
     /// The line has not the form of one.
@@ -22,8 +23,8 @@ pub enum Why {
     Load(LoadFault),
 }
 
-/// Why a text has no image: what the line of a number has, counted from 1, where line 0 is the text as a whole. Memory may
-/// stand in place of any other answer.
+/// Why a text has no image: what the line of a number has, counted from 1, where line 0 is the text
+/// as a whole. Memory may stand in place of any other answer.
 #[derive(Clone, Copy, PartialEq, Eq, Debug)]
 pub enum AsmFault {
     At { line: u64, why: Why },

@@ -1,5 +1,5 @@
-//! Laws of canonical texts and listings, which are assembly text. The functions do nothing when they run: their contracts
-//! are the laws.
+//! Laws of canonical texts and listings, which are assembly text. The functions do nothing when
+//! they run: their contracts are the laws.
 
 ghost use Rattle.std.specs.Prelude.{◌≡◌, ℕ, List};
 ghost use Rattle.std.specs.List.{All};
@@ -23,8 +23,9 @@ pub fn listings_mean_their_instructions()
     listings_have_a_line_for_each_instruction();
 }
 
-/// The listing of an image that may be run means the instructions of the image, and no others. And where an image that may
-/// be run is that of the instructions that a text means, these are the instructions that are listed of it.
+/// The listing of an image that may be run means the instructions of the image, and no others. And
+/// where an image that may be run is that of the instructions that a text means, these are the
+/// instructions that are listed of it.
 pub fn admitted_images_are_meant_by_their_listings()
     ensures means { (profile : Profile) (image : List ℕ) (lines : List Line) →
         IsAdmittedAs profile image lines → Means (listing lines) lines }

@@ -1,4 +1,5 @@
-//! The second pass: the octets of the instructions, with the distances of the labels that they name.
+//! The second pass: the octets of the instructions, with the distances of the labels that they
+//! name.
 
 ghost use Rattle.std.specs.Prelude.{◌≡◌, List, map, MatchOption, FitsSigned};
 ghost use Rattle.std.specs.Int.{w16, w32};

@@ -36,7 +36,8 @@ pub fn put<'a, A: Allocator + Clone>(
     Ok(())
 }
 
-/// An instruction with the number of its line and its place, and the label's name that stands in place of its distance.
+/// An instruction with the number of its line and its place, and the label's name that stands in
+/// place of its distance.
 #[derive(Clone, Copy)]
 pub struct Row<'a> {
     pub number: u64,
@@ -45,7 +46,8 @@ pub struct Row<'a> {
     pub name: Option<&'a [u8]>,
 }
 
-/// The labels and the instructions of the lines so far, how many lines those are, and the slot after them.
+/// The labels and the instructions of the lines so far, how many lines those are, and the slot
+/// after them.
 #[derive(Drop)]
 pub struct Table<'a, A: Allocator> {
     pub labels: BTreeMap<&'a [u8], u64, A>,

@@ -351,7 +351,8 @@ fn second_octets(line: Line) -> Option<[u8; 8]>
     }
 }
 
-/// The octets that spell an instruction: 16 of a wide load, and 8 of any other (RFC 9669, section 3).
+/// The octets that spell an instruction: 16 of a wide load, and 8 of any other (RFC 9669, section
+/// 3).
 pub fn encode(line: Line) -> Slots
     ensures spelling { result ≡ spelling line }
     ensures spelled { Spells result line }

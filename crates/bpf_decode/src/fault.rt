@@ -1,5 +1,6 @@
 //! Why octets are no instruction that may be loaded.
-/// Why the octets at a slot are no instruction that may be loaded, in the order in which they are asked.
+/// Why the octets at a slot are no instruction that may be loaded, in the order in which they are
+/// asked.
 #[derive(Clone, Copy, PartialEq, Eq, Debug)]
 pub enum DecodeFault {
     /// The opcode of a wide load, 0x18, with no second slot behind it.
@@ -8,7 +9,8 @@ pub enum DecodeFault {
     UnknownOpcode,
     /// A register field of the first slot is over 10.
     BadRegister,
-    /// A field that its row does not name is not zero, or one that it names has a value that the row does not allow.
+    /// A field that its row does not name is not zero, or one that it names has a value that the
+    /// row does not allow.
     ReservedField,
     /// The instruction writes R10, which is read-only.
     WritesFramePointer,

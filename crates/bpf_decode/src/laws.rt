@@ -14,8 +14,8 @@ pub fn spellings_are_unique()
     ensures one_spelling { (a b : List ℕ) (line : Line) → Spells a line → Spells b line → a ≡ b }
 {}
 
-/// Octets begin with one instruction at most, so that no spelling begins another one; and an instruction that has a
-/// fault writes R10.
+/// Octets begin with one instruction at most, so that no spelling begins another one; and an
+/// instruction that has a fault writes R10.
 pub fn instructions_are_unique()
     ensures one { (octets : List ℕ) (a b : Line) → BeginsWith octets a → BeginsWith octets b →
         a ≡ b }

@@ -145,7 +145,8 @@ fn decode_octets(octets: &[u8]) -> Result<Line, DecodeFault>
 
 /// The instruction at a slot, counted in slots of 8 octets (RFC 9669, section 3).
 ///
-/// Refused, in this order: `CutWide`, `UnknownOpcode`, `BadRegister`, `ReservedField`, `WritesFramePointer`.
+/// Refused, in this order: `CutWide`, `UnknownOpcode`, `BadRegister`, `ReservedField`,
+/// `WritesFramePointer`.
 pub fn decode_at(code: &[u8], slot: usize) -> Result<Line, DecodeFault>
     requires { 8 * slot + 8 ≤ length code.now }
     ensures exact { result ≡ decode_result (drop (8 * slot) code.now) }

@@ -18,7 +18,8 @@ use std::alloc::Allocator;
 pub enum DisassembleFault {
     /// The length is no multiple of 8.
     Ragged,
-    /// The octets from this slot on begin with no instruction that may be loaded. A slot has 8 octets, and the first is slot 0.
+    /// The octets from this slot on begin with no instruction that may be loaded. A slot has 8
+    /// octets, and the first is slot 0.
     Decode(DecodeFault, usize),
     /// Memory for the text was refused.
     Memory,
@@ -133,12 +134,13 @@ fn has_room<A: Allocator>(out: &mut Vec<u8, A>, len: u128) -> bool
     }
 }
 
-/// Appends the listing of an image to `out`: the canonical text of each instruction, with a newline. The empty image has
-/// the empty listing.
+/// Appends the listing of an image to `out`: the canonical text of each instruction, with a
+/// newline. The empty image has the empty listing.
 ///
-/// Refused with `Ragged` where the length of `code` is no multiple of 8, then with `Decode` and the first fault and its
-/// slot, then with `Memory`, only where the listing does not fit into the capacity that `out` has. A refusal leaves `out` and
-/// its capacity as they were, and the capacity never shrinks. The time is linear in the image.
+/// Refused with `Ragged` where the length of `code` is no multiple of 8, then with `Decode` and the
+/// first fault and its slot, then with `Memory`, only where the listing does not fit into the
+/// capacity that `out` has. A refusal leaves `out` and its capacity as they were, and the capacity
+/// never shrinks. The time is linear in the image.
 pub fn disassemble<A: Allocator>(code: &[u8], out: &mut Vec<u8, A>) -> Result<(), DisassembleFault>
     ensures ok { OnOk result (IsListed code.now out.old.items out.new.items) }
     ensures only { (lines : List Line) → IsImageOf code.now lines → NoneWritesFramePointer lines →

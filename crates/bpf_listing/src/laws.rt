@@ -25,8 +25,8 @@ pub fn canonical_texts_are_unique()
     ensures { (a b : Line) → IsLine a → IsLine b → canonical a ≡ canonical b → a ≡ b }
 {}
 
-/// A canonical text is of digits, lower-case letters, spaces and the signs `+ , - [ ]`; so it has no newline, and a listing
-/// has one for each instruction.
+/// A canonical text is of digits, lower-case letters, spaces and the signs `+ , - [ ]`; so it has
+/// no newline, and a listing has one for each instruction.
 pub fn listings_have_a_line_for_each_instruction()
     ensures octets { (line : Line) → IsLine line →
         IsTrue (list_all is_text_octet (canonical line)) }
@@ -48,8 +48,8 @@ pub fn images_have_a_listing_or_a_fault()
     octets_have_an_instruction_or_a_fault();
 }
 
-/// Octets have one listing at most, and then they are whole slots and have no fault; or they have one first fault at one
-/// slot.
+/// Octets have one listing at most, and then they are whole slots and have no fault; or they have
+/// one first fault at one slot.
 pub fn listings_and_faults_are_unique()
     ensures listing { (image a b : List ℕ) → IsListed image [] a → IsListed image [] b → a ≡ b }
     ensures slots { (image a : List ℕ) → IsListed image [] a → length image % 8 ≡ 0 }

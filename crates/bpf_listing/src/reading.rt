@@ -166,7 +166,8 @@ fn access_of(access: Access, first: Field, second: Field, third: Field) -> Optio
     })
 }
 
-/// The instruction that a mnemonic, the first three numbers of the operands, and the operands can only be.
+/// The instruction that a mnemonic, the first three numbers of the operands, and the operands can
+/// only be.
 fn line_of(
     mnemonic: Mnemonic,
     first: Field,
@@ -217,7 +218,8 @@ fn candidate(text: &[u8]) -> Option<Line>
     line_of(mnemonic, first, second, third, operands)
 }
 
-/// The instruction whose canonical text this is, without a newline, or `None` where the text is no instruction's.
+/// The instruction whose canonical text this is, without a newline, or `None` where the text is no
+/// instruction's.
 pub fn read_line(text: &[u8]) -> Option<Line>
     ensures some { IfSome result (λ line. IsLine line × (text.now ≡ canonical line)) }
     ensures only { (line : Line) → IsLine line → text.now ≡ canonical line → result ≡ Some line }

@@ -15,7 +15,8 @@ pub struct Scan {
     /// The numbers that are over, and how many they are.
     pub fields: [Field; 3],
     pub count: usize,
-    /// The number that the last octet belongs to, where it is inside of one, and the last octet that is no digit.
+    /// The number that the last octet belongs to, where it is inside of one, and the last octet
+    /// that is no digit.
     pub mark: u8,
     pub number: u64,
     pub inside: bool,
@@ -54,8 +55,8 @@ fn feed(scan: Scan, octet: u8) -> Scan
     }
 }
 
-/// The first three numbers of a text, each with the octet in front of it. A number is taken modulo 2^64, and one that is
-/// missing is 0.
+/// The first three numbers of a text, each with the octet in front of it. A number is taken modulo
+/// 2^64, and one that is missing is 0.
 pub fn fields_of(text: &[u8]) -> [Field; 3]
     ensures { result ≡ fields_in text.now }
 {

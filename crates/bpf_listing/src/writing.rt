@@ -251,8 +251,9 @@ pub fn text_of(line: Line) -> Text
 
 /// Appends the canonical text of an instruction to `out`, without a newline.
 ///
-/// The only refusal is that of memory, and comes only where the text does not fit into the capacity that `out` has. A
-/// refusal leaves `out` and its capacity as they were. The capacity never shrinks.
+/// The only refusal is that of memory, and comes only where the text does not fit into the capacity
+/// that `out` has. A refusal leaves `out` and its capacity as they were. The capacity never
+/// shrinks.
 pub fn line_text<A: Allocator>(line: Line, out: &mut Vec<u8, A>) -> Result<(), AllocError>
     ensures ok { OnOk result (out.new.items ≡ out.old.items ++ canonical line) }
     ensures err { OnErr result (out.new.items ≡ out.old.items) }

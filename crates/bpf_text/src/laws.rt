@@ -1,4 +1,5 @@
-//! Laws of the lines of assembly text. The functions do nothing when they run: their contracts are the laws.
+//! Laws of the lines of assembly text. The functions do nothing when they run: their contracts are
+//! the laws.
 
 ghost use Rattle.std.specs.Prelude.{◌≡◌, ℕ, List, Result, MatchResult};
 ghost use Rattle.bpf_types.specs.declared.line.Line.{Line};
@@ -12,7 +13,8 @@ ghost use Rattle.bpf_text.specs.declared.line.LineFault.{LineFault};
 
 use bpf_listing::mnemonics_are_unique;
 
-/// A line of text whose numbers are in their ranges is read in one way: it says one label and one instruction.
+/// A line of text whose numbers are in their ranges is read in one way: it says one label and one
+/// instruction.
 pub fn readings_are_unique()
     ensures { (text : List ℕ) (w v : Written) → Writes text w → InRange w.body → Writes text v →
         w ≡ v }
@@ -20,8 +22,8 @@ pub fn readings_are_unique()
     mnemonics_are_unique();
 }
 
-/// The canonical text of an instruction is a line of assembly text with that instruction, and with no label; `read_line`
-/// answers that instruction.
+/// The canonical text of an instruction is a line of assembly text with that instruction, and with
+/// no label; `read_line` answers that instruction.
 pub fn canonical_texts_are_read_back()
     ensures writes { (line : Line) → IsLine line → Writes (canonical line) (alone line) }
     ensures reads { (line : Line) (result : Result Parsed LineFault) → IsLine line →

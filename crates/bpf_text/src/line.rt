@@ -16,7 +16,8 @@ pub struct Parsed<'a> {
     pub body: Option<Source<'a>>,
 }
 
-/// Why a line by itself is no line of assembly text: it has not the form of one, or a number of it is out of its range.
+/// Why a line by itself is no line of assembly text: it has not the form of one, or a number of it
+/// is out of its range.
 #[derive(Clone, Copy)]
 pub enum LineFault {
     Syntax,

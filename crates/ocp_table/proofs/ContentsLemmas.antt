@@ -214,6 +214,15 @@ module _ {T X : Type 0} (id_of : T → ℕ) (shown : T → X) where
 
 module _ {X : Type 0} where
   -- to insert what is there already changes nothing
+  pub remove-same : (m : map.FinMap nat_cmp X) (k : ℕ) → map.get m k ≡ None → map.remove m k ≡ m
+  remove-same m k h = map.same_map nat_cmp_total map.nat_cmp-IsAntisymmetric _ _ (λ q.
+      map.get-remove nat_cmp_total m k q
+      ∙ ap (λ b. cond b None (map.get m q)) (unsigned_tied q k)
+      ∙ elim (q == k) as (λ b. (q == k) ≡ b → cond b None (map.get m q) ≡ map.get m q) [
+        | true ↦ λ e. sym h ∙ ap (map.get m) (sym (eqb-true q k e))
+        | false ↦ λ e. refl
+      ] refl)
+
   pub insert-same : (m : map.FinMap nat_cmp X) (k : ℕ) (x : X) → map.get m k ≡ Some x → map.insert m k x ≡ m
   insert-same m k x h = map.same_map nat_cmp_total map.nat_cmp-IsAntisymmetric _ _ (λ q.
       map.get-insert nat_cmp_total m k x q

@@ -1,5 +1,5 @@
 -- The places of the outbox fit after each call of a table.
-use Rattle.std.proofs.Common.{◌≡◌, ◌≤◌, ℕ, zero, suc, ◌+◌, List, [], ◌++◌, length, Option, Some, None, Bool, true, refl, sym, ap, subst, ◌∙◌, arith}
+use Rattle.std.proofs.Common.{◌≡◌, ◌≤◌, ℕ, zero, suc, ◌+◌, List, [], ◌++◌, length, Option, Some, None, true, refl, sym, ap, subst, ◌∙◌, arith}
 use Rattle.std.specs.Prelude.{IfSome}
 use Rattle.std.specs.FinMap as map
 use Rattle.std.proofs.lemmas.List.{length-append}
@@ -9,18 +9,16 @@ use Rattle.obcp_types.specs.declared.status.Status.TheVariants.{Inactive, Runnin
 use Rattle.ocp_table.specs.declared.answers.InstructionOutcome.{InstructionOutcome}
 use Rattle.ocp_table.specs.declared.answers.Slice.{Slice}
 use Rattle.ocp_table.specs.declared.control.Pending.TheVariants as pending
-use Rattle.ocp_table.specs.declared.directive.Directive as D
-use Rattle.ocp_table.specs.declared.directive.Directive.TheVariants as directive
 use Rattle.ocp_table.specs.Records.{Rec, Records}
 use Rattle.ocp_table.specs.Outbox.{places_of, places_in, pendings, HasPlaces}
 use Rattle.ocp_table.specs.Effects.{Effect, Changed, Kept, Stepped, record_after, records_by, records_with, outbox_by}
 use Rattle.ocp_table.specs.RequestTable.{Step, transition}
 use Rattle.ocp_table.specs.Deciding.{outcome_in, effect_of_step, effect_by, effect_on}
-use Rattle.ocp_table.specs.Shown.{directive_of, filed_of_effect}
+use Rattle.ocp_table.specs.Shown.{filed_of_effect}
 use Rattle.ocp_table.specs.Slices.{Store, store_after, store_after_events}
 use Rattle.ocp_table.proofs.Totals.{of, total-insert}
 use Rattle.ocp_table.proofs.Rooms.{pendings-empty, filed-fits}
-use Rattle.ocp_table.proofs.Asked.{Knows, places-after}
+use Rattle.ocp_table.proofs.Asked.{places-after}
 
 -- ---- an event of a record
 
@@ -57,15 +55,6 @@ event-fits pool id r next outbox filed files is fits =
 
 pub fits_by : (m new : Records) (outbox after : List Due) (e : Effect) → new ≡ records_by e m → after ≡ outbox_by e m outbox → HasPlaces (records_by e m) (outbox_by e m outbox) → HasPlaces new after
 fits_by m new outbox after e is files fits = subst (λ x. HasPlaces x after) (sym is) (subst (HasPlaces (records_by e m)) (sym files) fits)
-
--- a request knows whether all places are taken
-pub knows_request : (d : D.Directive) (full there : Bool) → there ≡ full → Knows full (directive_of d there)
-knows_request (directive.Activate budget arguments) full there is = tt
-knows_request (directive.Stop s from) full there is = is
-knows_request (directive.Suspend s from) full there is = is
-knows_request directive.Resume full there is = tt
-knows_request directive.Abort full there is = tt
-knows_request (directive.Communicate words) full there is = tt
 
 pub fits-none : (m : Records) (outbox : List Due) → m ≡ map.empty → outbox ≡ [] → HasPlaces m outbox
 fits-none m outbox is nothing =

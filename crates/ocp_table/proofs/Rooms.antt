@@ -12,6 +12,7 @@ use Rattle.ocp_table.specs.declared.control.Pending.TheVariants as pending
 use Rattle.ocp_table.specs.Records.{Rec, Records}
 use Rattle.ocp_table.specs.Effects.{Change, Pended, Effect, Changed, control_by, records_by, filed_by_change, outbox_by}
 use Rattle.ocp_table.specs.Outbox.{places_of, places_in, pendings, is_outbox_full}
+use Rattle.ocp_table.specs.Shown.{HasPlaceFor}
 use Rattle.ocp_table.proofs.Weighing.{entry, entry_in, waiting, waiting-empty, due, pended_by_change, pended_there, pended_by, moves, waiting-there, balance, files}
 
 -- ---- each origin weighs one
@@ -69,12 +70,8 @@ place_there m outbox id r fits is = let there = pendings-there m id r is in omeg
 -- ---- effects
 
 -- only where a place is free does something become pending
-abbrev pub IsRoomyChange : Bool → Change → Type 0
-IsRoomyChange full (Pended p) = full ≡ false
-IsRoomyChange full change = Unit {0}
-
 abbrev pub IsRoomy : Bool → Effect → Type 0
-IsRoomy full (Changed id change) = IsRoomyChange full change
+IsRoomy full (Changed id change) = HasPlaceFor full change
 IsRoomy full effect = Unit {0}
 
 entry-small : (p : Pending) → entry one p ≤ 1
@@ -86,7 +83,7 @@ module _ (m : Records) (outbox : List Due) (fits : length outbox + pendings m �
   free : is_outbox_full m outbox ≡ false → length outbox + pendings m < 64
   free is = leb-false 64 (length outbox + pendings m) is
 
-  roomy_change : (o : Option Rec) (change : Change) → IsRoomyChange (is_outbox_full m outbox) change → length outbox + pendings m + pended_there one change o ≤ 64
+  roomy_change : (o : Option Rec) (change : Change) → HasPlaceFor (is_outbox_full m outbox) change → length outbox + pendings m + pended_there one change o ≤ 64
   roomy_change None change is = omega (arith, fits)
   roomy_change (Some r) (Pended p) is = let room = free is in let small = entry-small p in omega (arith, room, small)
   roomy_change (Some r) change is = omega (arith, fits)

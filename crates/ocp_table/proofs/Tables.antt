@@ -1,24 +1,22 @@
 -- What a directive does to the records, by the record that a look-up finds.
 use Rattle.std.proofs.Common.{◌≡◌, ℕ, ◌+◌, ◌≤◌, ◌<◌, ◌++◌, length, get_or, is_some, subst, Bool, true, false, List, Option, Some, None, cond, refl, sym, ap, ◌∙◌, arith}
-use Rattle.std.specs.Prelude.{nat_le, IsSome}
+use Rattle.std.specs.Prelude.{IsSome, Result, Ok, Err}
 use Rattle.std.specs.FinMap as map
 use Rattle.slab.specs.Slab.{Slab, Updates, get, slab_len, with_value}
 use Rattle.obcp_types.specs.declared.status.Status.{Status}
 use Rattle.obcp_types.specs.declared.status.Status.TheVariants.{Inactive, Running, Held}
 use Rattle.obcp_types.specs.declared.failure.StartFailure.{StartFailure}
-use Rattle.obcp_types.specs.declared.failure.StartFailure.TheVariants.{NotLoaded, MailboxFull}
-use Rattle.ocp_pool.specs.declared.mailbox.TheConstants.{MAX_MAILBOX_WORDS}
-use Rattle.ocp_table.specs.declared.control.Pending.{Pending}
-use Rattle.ocp_table.specs.declared.control.Pending.TheVariants as pending
+use Rattle.obcp_types.specs.declared.failure.StartFailure.TheVariants.{NotLoaded}
 use Rattle.ocp_table.specs.declared.table.TheConstants.{MAX_PROCEDURES}
+use Rattle.ocp_table.specs.declared.change.Change as C
 use Rattle.ocp_table.specs.declared.directive.Directive as D
 use Rattle.ocp_table.specs.declared.directive.Directive.TheVariants as directive
 use Rattle.ocp_table.specs.declared.answers.InstructionOutcome.{InstructionOutcome}
 use Rattle.ocp_table.specs.Records.{Rec, Records}
-use Rattle.ocp_table.specs.Effects.{Effect, Loaded, Unloaded, Changed, Drained, Kept, Sent, Failed, record_after, records_by, outbox_by, overtaken, overtaken_of, filed_of, with_change, failure_of}
-use Rattle.ocp_table.specs.RequestTable.{Directive, Unload, Step, Decision, Loads, Unloads, Changes, Steps, Fails, sent, pended, transition, failure_by}
+use Rattle.ocp_table.specs.Effects.{Change, Effect, Loaded, Unloaded, Changed, Drained, Kept, Failed, record_by, record_after, records_by, outbox_by, filed_by_change, overtaken, overtaken_of, filed_of, with_change, failure_of}
+use Rattle.ocp_table.specs.RequestTable.{Unload, Step, Fails, transition, failure_by}
 use Rattle.ocp_table.specs.Deciding.{outcome_in, effect_of_step, decision_on, effect_by, effect_on, effect_in, is_full}
-use Rattle.ocp_table.specs.Shown.{directive_of, filed_of_effect}
+use Rattle.ocp_table.specs.Shown.{directive_of, decision_of, effect_of_decided, filed_of_effect}
 use Rattle.obcp_types.specs.declared.pending.Due.{Due}
 use Rattle.std.proofs.lemmas.List.{append-nil}
 use Rattle.ocp_table.specs.Mirror.Contents.{IsSound}
@@ -27,47 +25,7 @@ use Rattle.std.proofs.lemmas.List.Sums.{sum_by-set}
 use Rattle.slab.proofs.SlabLemmas.{ContainsKey-within}
 use Rattle.ocp_table.proofs.ContentsLemmas.{insert-same, IsDistinct-with_value, IsDistinct-removed}
 
--- ---- requests
-
--- what a request comes to
-abbrev IsOfRequest : Decision → Type 0
-IsOfRequest (Loads profile image) = ⊥
-IsOfRequest Unloads = ⊥
-IsOfRequest (Steps pool) = ⊥
-IsOfRequest decision = Unit {0}
-
-of_sent : (words : List ℕ) (there : ℕ) → IsOfRequest (sent words there)
-of_sent words there =
-    elim (nat_le (there + length words) MAX_MAILBOX_WORDS) as (λ b. IsOfRequest (cond b (Changes (Sent words)) (Fails MailboxFull))) [
-      | true ↦ tt
-      | false ↦ tt
-    ]
-
-of_pended : (no_place : Bool) (p : Pending) → IsOfRequest (pended no_place p)
-of_pended true p = tt
-of_pended false p = tt
-
-of_request : (d : D.Directive) (no_place : Bool) (s : Status) (p : Pending) (there : ℕ) → IsOfRequest (transition (directive_of d no_place) (Some s) p there)
-of_request (directive.Activate budget arguments) no_place Inactive p there = tt
-of_request (directive.Activate budget arguments) no_place Running p there = tt
-of_request (directive.Activate budget arguments) no_place Held p there = tt
-of_request (directive.Stop s from) no_place Inactive p there = tt
-of_request (directive.Stop s from) no_place Running p there = of_pended no_place (pending.Stop s from)
-of_request (directive.Stop s from) no_place Held p there = tt
-of_request (directive.Suspend s from) no_place Inactive p there = tt
-of_request (directive.Suspend s from) no_place Running pending.Nothing there = of_pended no_place (pending.Suspend s from)
-of_request (directive.Suspend s from) no_place Running (pending.Stop t other) there = tt
-of_request (directive.Suspend s from) no_place Running (pending.Suspend t other) there = of_pended no_place (pending.Suspend s from)
-of_request (directive.Suspend s from) no_place Held p there = tt
-of_request directive.Resume no_place Inactive p there = tt
-of_request directive.Resume no_place Running p there = tt
-of_request directive.Resume no_place Held p there = tt
-of_request directive.Abort no_place Inactive p there = tt
-of_request directive.Abort no_place Running p there = tt
-of_request directive.Abort no_place Held p there = tt
-of_request (directive.Communicate words) no_place Inactive p there = tt
-of_request (directive.Communicate words) no_place Running p there = of_sent words.now there
-of_request (directive.Communicate words) no_place Held p there = of_sent words.now there
+-- ---- no procedure has the id
 
 absent : (d : D.Directive) (no_place : Bool) → decision_on (directive_of d no_place) None ≡ Fails NotLoaded
 absent (directive.Activate budget arguments) no_place = refl
@@ -76,11 +34,6 @@ absent (directive.Suspend s from) no_place = refl
 absent directive.Resume no_place = refl
 absent directive.Abort no_place = refl
 absent (directive.Communicate words) no_place = refl
-
--- ---- no procedure has the id
-
-pub absent-decision : (d : D.Directive) (no_place : Bool) (o : Option Rec) → o ≡ None → decision_on (directive_of d no_place) o ≡ Fails NotLoaded
-absent-decision d no_place o is = ap (decision_on (directive_of d no_place)) is ∙ absent d no_place
 
 pub absent-effect : (d : D.Directive) (no_place : Bool) (id : ℕ) (m : Records) → map.get m id ≡ None → effect_in (directive_of d no_place) id m ≡ Kept (Failed NotLoaded)
 absent-effect d no_place id m is = ap (λ o. effect_on (directive_of d no_place) id o (is_full m)) is ∙ ap (λ e. effect_by e id None (is_full m)) (absent d no_place)
@@ -91,88 +44,39 @@ absent-step pool id m is = ap (λ o. effect_on (Step pool) id o (is_full m)) is
 pub absent-unload : (id : ℕ) (m : Records) → map.get m id ≡ None → effect_in Unload id m ≡ Kept (Failed NotLoaded)
 absent-unload id m is = ap (λ o. effect_on Unload id o (is_full m)) is
 
--- whether the table is full is asked by a load alone
-abbrev IsNoLoad : Decision → Type 0
-IsNoLoad (Loads profile image) = ⊥
-IsNoLoad decision = Unit {0}
-
-no_load : (e : Decision) → IsOfRequest e → IsNoLoad e
-no_load (Loads profile image) h = h
-no_load (Steps pool) h = tt
-no_load Unloads h = tt
-no_load (Changes change) h = tt
-no_load (Fails failure) h = tt
-
-no_load-step : (pool : List ℕ) (s : Status) (p : Pending) (there : ℕ) → IsNoLoad (transition (Step pool) (Some s) p there)
-no_load-step pool Inactive p there = tt
-no_load-step pool Running p there = tt
-no_load-step pool Held p there = tt
-
-no_load-unload : (s : Status) (p : Pending) (there : ℕ) → IsNoLoad (transition Unload (Some s) p there)
-no_load-unload Inactive p there = tt
-no_load-unload Running p there = tt
-no_load-unload Held p there = tt
-
-same_room : (e : Decision) (id : ℕ) (o : Option Rec) (full : Bool) → IsNoLoad e → effect_by e id o true ≡ effect_by e id o full
-same_room (Loads profile image) id o full h = absurd h
-same_room Unloads id o full h = refl
-same_room (Changes change) id o full h = refl
-same_room (Steps pool) id o full h = refl
-same_room (Fails failure) id o full h = refl
-
--- ---- an unload
-
-pub same_unload : (m : Records) (n id : ℕ) (r : Rec) → map.get m id ≡ Some r → n ≡ id → effect_on Unload n (Some r) true ≡ effect_in Unload id m
-same_unload m n id r here named =
-    ap (λ i. effect_on Unload i (Some r) true) named
-    ∙ same_room (decision_on Unload (Some r)) id (Some r) (is_full m) (no_load-unload r.control.status r.control.pending (length r.mailbox))
-    ∙ ap (λ o. effect_on Unload id o (is_full m)) (sym here)
-
-unload_of : (id : ℕ) (r : Rec) (s : Status) → None ≡ failure_by (transition Unload (Some s) r.control.pending (length r.mailbox)) → effect_by (transition Unload (Some s) r.control.pending (length r.mailbox)) id (Some r) true ≡ Unloaded id
-unload_of id r Inactive h = refl
-unload_of id r Running h = absurd (cc)
-unload_of id r Held h = absurd (cc)
-
--- an unload that does not fail
-pub unloads : (id : ℕ) (r : Rec) → None ≡ failure_by (decision_on Unload (Some r)) → effect_on Unload id (Some r) true ≡ Unloaded id
-unloads id r h = unload_of id r r.control.status h
-
-unload_fails_of : (id : ℕ) (r : Rec) (f : StartFailure) (s : Status) → Some f ≡ failure_by (transition Unload (Some s) r.control.pending (length r.mailbox)) → effect_by (transition Unload (Some s) r.control.pending (length r.mailbox)) id (Some r) true ≡ Kept (Failed f)
-unload_fails_of id r f Inactive h = absurd (cc)
-unload_fails_of id r f Running h = cc
-unload_fails_of id r f Held h = cc
-
--- and one that does
-pub unload_fails : (id : ℕ) (r : Rec) (f : StartFailure) → Some f ≡ failure_by (decision_on Unload (Some r)) → effect_on Unload id (Some r) true ≡ Kept (Failed f)
-unload_fails id r f h = unload_fails_of id r f r.control.status h
-
 -- ---- what is decided of a record that is there
 
-same_for : (d : Directive) (m : Records) (n id : ℕ) (r : Rec) → IsNoLoad (decision_on d (Some r)) → map.get m id ≡ Some r → n ≡ id → effect_on d n (Some r) true ≡ effect_in d id m
-same_for d m n id r h here named =
-    ap (λ i. effect_on d i (Some r) true) named
-    ∙ same_room (decision_on d (Some r)) id (Some r) (is_full m) h
-    ∙ ap (λ o. effect_on d id o (is_full m)) (sym here)
-
-request_no_load : (d : D.Directive) (no_place : Bool) (r : Rec) → IsNoLoad (decision_on (directive_of d no_place) (Some r))
-request_no_load d no_place r = no_load (decision_on (directive_of d no_place) (Some r)) (of_request d no_place r.control.status r.control.pending (length r.mailbox))
-
-pub same_effect : (d : D.Directive) (no_place : Bool) (m : Records) (n id : ℕ) (r : Rec) → map.get m id ≡ Some r → n ≡ id → effect_on (directive_of d no_place) n (Some r) true ≡ effect_in (directive_of d no_place) id m
-same_effect d no_place m n id r here named = same_for (directive_of d no_place) m n id r (request_no_load d no_place r) here named
+-- whether the table is full is asked by a load alone
+same_step_of : (pool : List ℕ) (id : ℕ) (r : Rec) (s : Status) (full : Bool) → effect_by (transition (Step pool) (Some s) r.control.pending (length r.mailbox)) id (Some r) true ≡ effect_by (transition (Step pool) (Some s) r.control.pending (length r.mailbox)) id (Some r) full
+same_step_of pool id r Inactive full = refl
+same_step_of pool id r Running full = refl
+same_step_of pool id r Held full = refl
 
 pub same_step : (pool : List ℕ) (m : Records) (n id : ℕ) (r : Rec) → map.get m id ≡ Some r → n ≡ id → effect_on (Step pool) n (Some r) true ≡ effect_in (Step pool) id m
-same_step pool m n id r here named = same_for (Step pool) m n id r (no_load-step pool r.control.status r.control.pending (length r.mailbox)) here named
+same_step pool m n id r here named =
+    ap (λ i. effect_on (Step pool) i (Some r) true) named
+    ∙ same_step_of pool id r r.control.status (is_full m)
+    ∙ ap (λ o. effect_on (Step pool) id o (is_full m)) (sym here)
 
--- the request table alone decides whether it fails
-table_decides : (e : Decision) (id : ℕ) (o : Option Rec) → IsOfRequest e → failure_by e ≡ failure_of (effect_by e id o true)
-table_decides (Loads profile image) id o h = absurd h
-table_decides Unloads id o h = absurd h
-table_decides (Changes change) id o h = refl
-table_decides (Steps pool) id o h = absurd h
-table_decides (Fails failure) id o h = refl
+-- what a directive was decided to do is its effect
+pub effect-decided : (d : D.Directive) (no_place : Bool) (result : Result C.Change StartFailure) (m : Records) (id : ℕ) (r : Rec) → map.get m id ≡ Some r → decision_of result ≡ decision_on (directive_of d no_place) (Some r) → effect_in (directive_of d no_place) id m ≡ effect_of_decided id result
+effect-decided d no_place result m id r here is =
+    ap (λ o. effect_on (directive_of d no_place) id o (is_full m)) here
+    ∙ ap (λ e. effect_by e id (Some r) (is_full m)) (sym is)
+    ∙ by_result result
+  where
+    by_result : (x : Result C.Change StartFailure) → effect_by (decision_of x) id (Some r) (is_full m) ≡ effect_of_decided id x
+    by_result (Ok change) = refl
+    by_result (Err failure) = refl
 
-pub decided_by_table : (d : D.Directive) (no_place : Bool) (id : ℕ) (r : Rec) → failure_by (decision_on (directive_of d no_place) (Some r)) ≡ failure_of (effect_on (directive_of d no_place) id (Some r) true)
-decided_by_table d no_place id r = table_decides (decision_on (directive_of d no_place) (Some r)) id (Some r) (of_request d no_place r.control.status r.control.pending (length r.mailbox))
+-- an unload
+unload_of : (id : ℕ) (r : Rec) (s : Status) (full : Bool) → s ≡ Inactive → effect_by (transition Unload (Some s) r.control.pending (length r.mailbox)) id (Some r) full ≡ Unloaded id
+unload_of id r Inactive full is = refl
+unload_of id r Running full is = absurd (cc)
+unload_of id r Held full is = absurd (cc)
+
+pub unloads : (m : Records) (id : ℕ) (r : Rec) → map.get m id ≡ Some r → r.control.status ≡ Inactive → effect_in Unload id m ≡ Unloaded id
+unloads m id r here is = ap (λ o. effect_on Unload id o (is_full m)) here ∙ unload_of id r r.control.status (is_full m) is
 
 failure_of_step : (o : Option InstructionOutcome) (id : ℕ) → IsSome o → None ≡ failure_of (effect_of_step o id)
 failure_of_step (Some outcome) id is = refl
@@ -204,18 +108,6 @@ records_by-held m id r (Changed i change) here is = sym (ap (λ k. with_change (
 records_by-held m id r Drained here is = absurd is
 records_by-held m id r (Kept why) here is = insert-same m id r here
 
-about_request : (e : Decision) (q : ℕ) (o : Option Rec) → IsOfRequest e → IsAbout q (effect_by e q o true)
-about_request (Loads profile image) q o h = absurd h
-about_request Unloads q o h = absurd h
-about_request (Changes change) q o h = refl
-about_request (Steps pool) q o h = absurd h
-about_request (Fails failure) q o h = tt
-
-pub records-after : (d : D.Directive) (no_place : Bool) (m : Records) (n id : ℕ) (r new : Rec) → map.get m id ≡ Some r → n ≡ id → new ≡ record_after (effect_on (directive_of d no_place) n (Some r) true) r → map.insert m id new ≡ records_by (effect_in (directive_of d no_place) id m) m
-records-after d no_place m n id r new here named is =
-    ap (map.insert m id) (is ∙ ap (λ e. record_after e r) (same_effect d no_place m n id r here named))
-    ∙ records_by-held m id r (effect_in (directive_of d no_place) id m) here (subst (IsAbout id) (same_effect d no_place m id id r here refl) (about_request (decision_on (directive_of d no_place) (Some r)) id (Some r) (of_request d no_place r.control.status r.control.pending (length r.mailbox))))
-
 -- what it files is all that the effect files
 pub outbox_by-held : (m : Records) (id : ℕ) (r : Rec) (outbox : List Due) (e : Effect) → map.get m id ≡ Some r → IsAbout id e → outbox ++ filed_of_effect e r.control.pending ≡ outbox_by e m outbox
 outbox_by-held m id r outbox (Loaded profile i image) here is = absurd is
@@ -223,11 +115,6 @@ outbox_by-held m id r outbox (Unloaded i) here is = absurd is
 outbox_by-held m id r outbox (Changed i change) here is = sym (ap (λ k. outbox ++ filed_of change (map.get m k)) is ∙ ap (λ o. outbox ++ filed_of change o) here)
 outbox_by-held m id r outbox Drained here is = absurd is
 outbox_by-held m id r outbox (Kept why) here is = refl
-
-pub outbox-after : (d : D.Directive) (no_place : Bool) (m : Records) (n id : ℕ) (r : Rec) (outbox : List Due) → map.get m id ≡ Some r → n ≡ id → outbox ++ filed_of_effect (effect_on (directive_of d no_place) n (Some r) true) r.control.pending ≡ outbox_by (effect_in (directive_of d no_place) id m) m outbox
-outbox-after d no_place m n id r outbox here named =
-    ap (λ e. outbox ++ filed_of_effect e r.control.pending) (same_effect d no_place m n id r here named)
-    ∙ outbox_by-held m id r outbox (effect_in (directive_of d no_place) id m) here (subst (IsAbout id) (same_effect d no_place m id id r here refl) (about_request (decision_on (directive_of d no_place) (Some r)) id (Some r) (of_request d no_place r.control.status r.control.pending (length r.mailbox))))
 
 about_step : (q : ℕ) (o : Option InstructionOutcome) → IsAbout q (effect_of_step o q)
 about_step q (Some outcome) = refl
@@ -253,8 +140,26 @@ pub outbox-failed : (m : Records) (outbox : List Due) (e : Effect) (why : StartF
 outbox-failed m outbox e why is = sym (ap (λ x. outbox_by x m outbox) is ∙ append-nil outbox)
 
 -- what is dropped is overtaken
-pub outbox-unloaded : (m : Records) (id : ℕ) (r : Rec) (outbox : List Due) (e : Effect) → map.get m id ≡ Some r → e ≡ Unloaded id → outbox ++ overtaken r.control.pending ≡ outbox_by e m outbox
-outbox-unloaded m id r outbox e here is = sym (ap (λ x. outbox_by x m outbox) is ∙ ap (λ o. outbox ++ overtaken_of o) here)
+pub outbox-unloaded : (m : Records) (id : ℕ) (r : Rec) (outbox : List Due) → map.get m id ≡ Some r → outbox ++ overtaken r.control.pending ≡ outbox_by (Unloaded id) m outbox
+outbox-unloaded m id r outbox here = sym (ap (λ o. outbox ++ overtaken_of o) here)
+
+pub outbox-missing : (m : Records) (id : ℕ) (outbox : List Due) → map.get m id ≡ None → outbox ≡ outbox_by (Unloaded id) m outbox
+outbox-missing m id outbox none = sym (ap (λ o. outbox ++ overtaken_of o) none ∙ append-nil outbox)
+
+-- ---- a change that was decided
+
+module _ (m : Records) (id : ℕ) (change : Change) where
+  pub records-changed : (r new : Rec) → map.get m id ≡ Some r → new ≡ record_by change r → map.insert m id new ≡ records_by (Changed id change) m
+  records-changed r new here is = ap (map.insert m id) is ∙ sym (ap (λ o. with_change o id change m) here)
+
+  pub records-unchanged : map.get m id ≡ None → m ≡ records_by (Changed id change) m
+  records-unchanged none = sym (ap (λ o. with_change o id change m) none)
+
+  pub outbox-changed : (r : Rec) (outbox : List Due) → map.get m id ≡ Some r → outbox ++ filed_by_change change r.control.pending ≡ outbox_by (Changed id change) m outbox
+  outbox-changed r outbox here = sym (ap (λ o. outbox ++ filed_of change o) here)
+
+  pub outbox-unchanged : (outbox : List Due) → map.get m id ≡ None → outbox ≡ outbox_by (Changed id change) m outbox
+  outbox-unchanged outbox none = sym (ap (λ o. outbox ++ filed_of change o) none ∙ append-nil outbox)
 
 -- ---- the slab
 

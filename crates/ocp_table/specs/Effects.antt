@@ -334,15 +334,6 @@ abbrev pub result_of : Option StartFailure → Result (Unit {0}) StartFailure
 result_of None = Ok tt
 result_of (Some failure) = Err failure
 
--- a stop or suspend became pending
-abbrev pub is_pended_by : Change → Bool
-is_pended_by (Pended pending) = true
-is_pended_by change = false
-
-abbrev pub is_pended : Effect → Bool
-is_pended (Changed id change) = is_pended_by change
-is_pended effect = false
-
 -- the answer to a request
 abbrev pub start_result : Effect → Result (Unit {0}) StartFailure
 start_result effect = result_of (failure_of effect)

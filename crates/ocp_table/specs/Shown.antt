@@ -1,22 +1,25 @@
 -- What contracts see of a record and of a directive, and what readers show of a record.
-use Rattle.std.specs.Prelude.{◌≡◌, ◌≤◌, ℕ, Bool, true, List, [], map, length, Option, Some, None, Result, Ok, Err}
+use Rattle.std.specs.Prelude.{◌≡◌, ◌≤◌, ℕ, ◌+◌, Bool, true, false, List, [], map, length, Option, Some, None, Result, Ok, Err}
 use Rattle.std.specs.FinMap.{entries}
 use Rattle.obcp_types.specs.declared.failure.StartFailure.{StartFailure}
 use Rattle.obcp_types.specs.declared.status.StatusRow.{StatusRow}
 use Rattle.ocp_profile.specs.declared.profile.Profile.{Profile}
+use Rattle.ocp_pool.specs.declared.mailbox.TheConstants.{MAX_MAILBOX_WORDS}
 use Rattle.ocp_regions.specs.declared.regions.TheConstants.{ARGUMENT_OCTETS}
 use Rattle.obcp_types.specs.declared.pending.Due.{Due}
 use Rattle.ocp_table.specs.declared.control.Pending.{Pending}
 use Rattle.ocp_table.specs.declared.control.Pending.TheVariants as pending
 use Rattle.ocp_table.specs.declared.view.View.{View}
+use Rattle.ocp_table.specs.declared.change.Change as C
+use Rattle.ocp_table.specs.declared.change.Change.TheVariants as change
 use Rattle.ocp_table.specs.declared.directive.Directive as D
 use Rattle.ocp_table.specs.declared.directive.Directive.TheVariants as directive
 use Rattle.ocp_table.specs.declared.answers.InstructionOutcome.{InstructionOutcome}
 use Rattle.ocp_table.specs.declared.record.Record.{Record}
 use Rattle.ocp_table.specs.Records.{Rec, Records}
-use Rattle.ocp_table.specs.Effects.{Effect, Unloaded, Changed, Kept, Stepped, Failed, new_record, overtaken, filed_by_change}
-use Rattle.ocp_table.specs.RequestTable.{Directive, Activate, Stop, Suspend, Resume, Abort, Communicate}
-use Rattle.ocp_table.specs.Deciding.{effect_on}
+use Rattle.ocp_table.specs.Effects.{Effect, Unloaded, Changed, Kept, Change, Started, Sent, Pended, Quit, Resumed, Stepped, Failed, new_record, overtaken, filed_by_change}
+use Rattle.ocp_table.specs.RequestTable.{Directive, Activate, Stop, Suspend, Resume, Abort, Communicate, Decision, Changes, Fails}
+use Rattle.ocp_table.specs.Deciding.{effect_on, words_of}
 
 -- ---- what contracts see
 
@@ -51,6 +54,23 @@ directive_of directive.Resume full = Resume
 directive_of directive.Abort full = Abort
 directive_of (directive.Communicate words) full = Communicate words.now
 
+-- what a request does to the record of its procedure
+abbrev pub change_of : C.Change → Change
+change_of (change.Started budget arguments) = Started budget arguments.now
+change_of (change.Sent words) = Sent words.now
+change_of (change.Pended pending) = Pended pending
+change_of (change.Quit cause) = Quit cause
+change_of change.Resumed = Resumed
+
+-- and what was decided of it
+abbrev pub decision_of : Result C.Change StartFailure → Decision
+decision_of (Ok change) = Changes (change_of change)
+decision_of (Err failure) = Fails failure
+
+abbrev pub effect_of_decided : ℕ → Result C.Change StartFailure → Effect
+effect_of_decided id (Ok change) = Changed id (change_of change)
+effect_of_decided id (Err failure) = Kept (Failed failure)
+
 -- the effect of a directive on a record of the table, in which whether the table is full is not
 -- asked
 abbrev pub effect_of_record : {A : Type 0} → Directive → Record A → Effect
@@ -66,6 +86,17 @@ filed_of_effect effect pending = []
 abbrev pub HasFewArguments : Directive → Type 0
 HasFewArguments (Activate budget arguments) = length arguments ≤ ARGUMENT_OCTETS
 HasFewArguments other = Unit {0}
+
+-- a change for whose arguments and words there is room
+abbrev pub FitsIn : Change → Option Rec → Type 0
+FitsIn (Started budget arguments) o = length arguments ≤ ARGUMENT_OCTETS
+FitsIn (Sent words) o = words_of o + length words ≤ MAX_MAILBOX_WORDS
+FitsIn other o = Unit {0}
+
+-- a change whose completion finds a place, where all places are taken or not
+abbrev pub HasPlaceFor : Bool → Change → Type 0
+HasPlaceFor full (Pended pending) = full ≡ false
+HasPlaceFor full other = Unit {0}
 
 -- what an instruction event is answered, by its effect
 abbrev pub AnswersStep : Result InstructionOutcome StartFailure → Effect → Type 0

@@ -2,7 +2,8 @@
 use obcp_types::StartFailure;
 use ocp_pool::Called;
 
-/// The number of the fault of a procedure whose budget is spent, after those of the machine and of the engine calls.
+/// The number of the fault of a procedure whose budget is spent, after those of the machine and of
+/// the engine calls.
 pub const BUDGET_SPENT: u8 = 5;
 
 /// What an instruction event did to a running procedure.
@@ -19,8 +20,8 @@ pub enum InstructionOutcome {
     Faulted(u8),
 }
 
-/// What became of an instruction event. The last three change nothing, and come in this order. A table has no journal, and
-/// never answers the last one.
+/// What became of an instruction event. The last three change nothing, and come in this order. A
+/// table has no journal, and never answers the last one.
 #[derive(Clone, Copy, PartialEq, Eq, Debug)]
 pub enum StepOutcome {
     /// A breakpoint stands at the place: the procedure is held, and nothing was run.

@@ -15,8 +15,8 @@ pub enum Cause {
     Fault(u8),
 }
 
-/// What is done at the end of a step: of any step where the number is 0, and else of that one. It has the origin of its
-/// request, to which its completion is reported.
+/// What is done at the end of a step: of any step where the number is 0, and else of that one. It
+/// has the origin of its request, to which its completion is reported.
 #[derive(Clone, Copy, PartialEq, Eq, Debug)]
 pub enum Pending {
     Nothing,

@@ -9,8 +9,8 @@ use std::alloc::{AllocError, Allocator};
 use std::marker::Model;
 use std::sync::Arc;
 
-/// A program, which may be shared, and the machine that runs it. The machine always stands at an instruction of the
-/// program.
+/// A program, which may be shared, and the machine that runs it. The machine always stands at an
+/// instruction of the program.
 #[derive(Drop)]
 pub struct Execution<A: Allocator> {
     program: Arc<Program<A>, A>,
@@ -93,7 +93,8 @@ impl<A: Allocator> Execution<A> {
         self.machine.is_same(&other.machine) && self.program.is_same(&other.program)
     }
 
-    /// Lets a machine like this one do instructions that need no engine, at most so many, and says how many it did.
+    /// Lets a machine like this one do instructions that need no engine, at most so many, and says
+    /// how many it did.
     pub(crate) fn run(
         &self,
         machine: &mut Machine<A>,
@@ -165,8 +166,8 @@ impl<A: Allocator> Execution<A> {
         }
     }
 
-    /// Does instructions that need no engine, at most so many, and says how many. It stops before a breakpoint, which the
-    /// pass flag lets the first instruction pass.
+    /// Does instructions that need no engine, at most so many, and says how many. It stops before a
+    /// breakpoint, which the pass flag lets the first instruction pass.
     #[inline(always)]
     pub(crate) fn advance(&mut self, breakpoints: &[u16], pass: bool, budget: u32) -> u32
         ensures ran { local_run self.old.image breakpoints.now pass self.old.machine result ≡
@@ -192,15 +193,16 @@ impl<A: Allocator> Execution<A> {
         self.machine.depth()
     }
 
-    /// The line whose first slot this is; none at the second slot of a wide load or behind the code.
+    /// The line whose first slot this is; none at the second slot of a wide load or behind the
+    /// code.
     pub fn line_at(&self, slot: u16) -> Option<Line>
         ensures { result ≡ line_of self.now.image slot }
     {
         self.program.line_at(slot)
     }
 
-    /// Reads octets of the memory from an address on, one into each of the slice. It refuses with AccessOutside where one of
-    /// them is not there, and the slice keeps its octets.
+    /// Reads octets of the memory from an address on, one into each of the slice. It refuses with
+    /// AccessOutside where one of them is not there, and the slice keeps its octets.
     pub fn octets(&self, address: u64, octets: &mut [u8]) -> Result<(), AccessFault>
         ensures ok { OnOk result
             (octets_at self.now.machine.memory address (length octets.old) ≡ Some octets.new) }

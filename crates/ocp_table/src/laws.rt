@@ -1,4 +1,5 @@
-//! Laws on effects and records. The functions do nothing when they run: their contracts are the laws.
+//! Laws on effects and records. The functions do nothing when they run: their contracts are the
+//! laws.
 ghost use Rattle.std.specs.Prelude.{◌≡◌, ◌≢◌, ℕ, List, true, Some, is_some};
 ghost use Rattle.std.specs.FinMap.{get, insert};
 ghost use Rattle.obcp_types.specs.declared.failure.StartFailure.{StartFailure as Failure};
@@ -30,8 +31,8 @@ pub fn only_running_procedures_step()
         is_some (failure_of (effect_in (Step pool) id m)) ≡ true }
 {}
 
-/// A request leaves each procedure's machine, or starts it anew, or loads a new one: it is never changed in the midst of its
-/// run.
+/// A request leaves each procedure's machine, or starts it anew, or loads a new one: it is never
+/// changed in the midst of its run.
 pub fn requests_keep_or_start_machines()
     ensures { (directive : Asked) (id q : ℕ) (m : Records) → IsRequest directive →
         IsKeptOrStarted
@@ -45,15 +46,16 @@ pub fn other_requests_keep_machines()
         machine_of (get (records_by (effect_in directive id m) m) q) ≡ machine_of (get m q) }
 {}
 
-/// What a debugger changes leaves each procedure's image, machine, mailbox and control, and what is left of its budget.
+/// What a debugger changes leaves each procedure's image, machine, mailbox and control, and what is
+/// left of its budget.
 pub fn debugging_keeps_runs()
     ensures { (change : Change) (id q : ℕ) (m : Records) → IsDebugging change →
         run_of (get (records_by (Changed id change) m) q) ≡ run_of (get m q) }
 {}
 
-/// Instructions that a machine does by itself, of which so many are left of the budget, are as many instruction events of
-/// its procedure: each is answered so, and a slice goes on after it. They move the machine, the pass flag goes off with the
-/// first, and each takes one from the budget.
+/// Instructions that a machine does by itself, of which so many are left of the budget, are as many
+/// instruction events of its procedure: each is answered so, and a slice goes on after it. They
+/// move the machine, the pass flag goes off with the first, and each takes one from the budget.
 pub fn local_instructions_are_events()
     ensures { (s : Store) (id n : ℕ) (r : Rec) (machine : State) (last : StepOutcome) →
         RunsBy s.records id r n machine →

@@ -1,9 +1,10 @@
-//! The table of procedures: at most sixteen records, each under its id, and what each request and each instruction does
-//! to them.
+//! The table of procedures: at most sixteen records, each under its id, and what each request and
+//! each instruction does to them.
 #![tactic(auto)]
 
 mod answers;
 mod budget;
+mod change;
 mod control;
 mod directive;
 mod execution;
@@ -17,6 +18,7 @@ mod table;
 mod view;
 
 pub use answers::{BUDGET_SPENT, InstructionOutcome, LoadFailure, Slice, StepOutcome};
+pub use change::Change;
 pub use control::{Cause, Control, Pending};
 pub use directive::Directive;
 pub use execution::Execution;

@@ -32,7 +32,7 @@ impl<A: Allocator> Record<A> {
     ghost use Rattle.obcp_types.specs.declared.status.Status.TheVariants.{Running};
     ghost use Rattle.ocp_profile.specs.declared.profile.Profile.{Profile};
     ghost use Rattle.bpf_step.specs.Machine.{started};
-    ghost use Rattle.ocp_table.specs.Effects.{Stepped, new_record, record_by, record_after, filed_by_outcome, failure_of, start_result, is_pended, pool_by_outcome, machine_by_outcome, mailbox_by_outcome, remaining_by_outcome};
+    ghost use Rattle.ocp_table.specs.Effects.{Stepped, new_record, record_by, record_after, filed_by_outcome, failure_of, pool_by_outcome, control_by_outcome, machine_by_outcome, mailbox_by_outcome, remaining_by_outcome};
     ghost use Rattle.ocp_table.specs.RequestTable.{failure_by};
     ghost use Rattle.ocp_table.specs.Deciding.{decision_on, outcome_in, outcome_unheld};
     ghost use Rattle.ocp_table.specs.Shown.{shown, view_of, directive_of, effect_of_record, filed_of_effect, HasFewArguments};
@@ -55,127 +55,6 @@ impl<A: Allocator> Record<A> {
         }
     }
 
-    /// Decides: why a directive fails, where all places for completions are taken or not.
-    pub(crate) fn failure(&self, directive: &Directive<'_>, full: bool) -> Option<StartFailure>
-        ensures table { result ≡
-            failure_by (decision_on (directive_of directive.now full) (Some (shown self.now))) }
-        ensures effect { result ≡
-            failure_of (effect_of_record (directive_of directive.now full) self.now) }
-    {
-        directive.failure(self.control, &self.mailbox, full)
-    }
-
-    /// Decides: whether a directive becomes pending.
-    pub(crate) fn becomes_pending(&self, directive: &Directive<'_>, full: bool) -> bool
-        ensures { result ≡
-            is_pended (effect_of_record (directive_of directive.now full) self.now) }
-    {
-        match (directive, self.control.status) {
-            (Directive::Stop(_, _), Status::Running) => !full,
-            (Directive::Suspend(_, _), Status::Running) => match self.control.pending {
-                Pending::Stop(_, _) => false,
-                Pending::Suspend(_, _) => !full,
-                Pending::Nothing => !full,
-            },
-            _ => false,
-        }
-    }
-
-    /// Enacts a directive, or fails and changes nothing. What it overtakes goes to the outbox.
-    pub(crate) fn apply(
-        &mut self,
-        directive: &Directive<'_>,
-        full: bool,
-        outbox: &mut Outbox,
-    ) -> Result<(), StartFailure>
-        requires few { HasFewArguments (directive_of directive.now false) }
-        requires place { length outbox.old + places_of self.old.control.pending ≤ OUTBOX_PLACES }
-        ensures answer { result ≡
-            start_result (effect_of_record (directive_of directive.now full) self.old) }
-        ensures record { shown self.new ≡
-            record_after (effect_of_record (directive_of directive.now full) self.old)
-            (shown self.old) }
-        ensures outbox { outbox.new ≡ outbox.old
-            ++ filed_of_effect (effect_of_record (directive_of directive.now full) self.old)
-            self.old.control.pending }
-        ensures id { self.new.id ≡ self.old.id }
-    {
-        if let Some(failure) = self.failure(directive, full) {
-            return Err(failure);
-        }
-        self.overtake(directive, outbox);
-        self.enact(directive);
-        Ok(())
-    }
-
-    // Files what a directive overtakes that does not fail.
-    fn overtake(&self, directive: &Directive<'_>, outbox: &mut Outbox)
-        requires { length outbox.old + places_of self.now.control.pending ≤ OUTBOX_PLACES }
-        ensures { (full : Bool) →
-            failure_by (decision_on (directive_of directive.now full) (Some (shown self.now))) ≡
-            None →
-            outbox.new ≡ outbox.old
-            ++ filed_of_effect (effect_of_record (directive_of directive.now full) self.now)
-            self.now.control.pending }
-    {
-        match directive {
-            Directive::Activate { .. } => outbox.overtake(self.control.pending),
-            Directive::Stop(_, _) => outbox.overtake(self.control.pending),
-            Directive::Suspend(_, _) => outbox.overtake(self.control.pending),
-            Directive::Resume => {}
-            Directive::Abort => outbox.overtake(self.control.pending),
-            Directive::Communicate(_) => {}
-        }
-    }
-
-    // Enacts a directive that does not fail.
-    fn enact(&mut self, directive: &Directive<'_>)
-        requires few { HasFewArguments (directive_of directive.now false) }
-        requires decided { (full : Bool) ×
-            (failure_by (decision_on (directive_of directive.now full) (Some (shown self.old))) ≡
-            None) }
-        ensures record { (full : Bool) →
-            failure_by (decision_on (directive_of directive.now full) (Some (shown self.old))) ≡
-            None →
-            shown self.new ≡
-            record_after (effect_of_record (directive_of directive.now full) self.old)
-            (shown self.old) }
-        ensures id { self.new.id ≡ self.old.id }
-    {
-        match directive {
-            Directive::Activate { budget, arguments } => {
-                self.remaining = budget_of(*budget);
-                self.execution.start(arguments);
-                self.mailbox.clear();
-                self.control = Control::running();
-            }
-            Directive::Stop(step, origin) => match self.control.status {
-                Status::Held => self.control = Control::inactive(Cause::Stopped),
-                _ => self.control.pending = Pending::Stop(*step, *origin),
-            },
-            Directive::Suspend(step, origin) => {
-                self.control.pending = Pending::Suspend(*step, *origin);
-            }
-            Directive::Resume => {
-                self.control.status = Status::Running;
-                self.control.pass = true;
-            }
-            Directive::Abort => self.control = Control::inactive(Cause::Aborted),
-            Directive::Communicate(words) => self.mailbox.append(words),
-        }
-    }
-
-    /// Decides: why an unload fails.
-    pub(crate) fn unload_failure(&self) -> Option<StartFailure>
-        ensures table { result ≡ failure_by (decision_on Unload (Some (shown self.now))) }
-        ensures effect { result ≡ failure_of (effect_of_record Unload self.now) }
-    {
-        match self.control.status {
-            Status::Inactive => None,
-            Status::Running | Status::Held => Some(StartFailure::NotInactive),
-        }
-    }
-
     /// Decides: why an instruction event fails.
     pub(crate) fn step_failure(&self) -> Option<StartFailure>
         ensures table { (pool : List ℕ) →
@@ -190,8 +69,8 @@ impl<A: Allocator> Record<A> {
         }
     }
 
-    /// The instruction event of a running procedure, or it fails and changes nothing. What it completes or overtakes goes
-    /// to the outbox.
+    /// The instruction event of a running procedure, or it fails and changes nothing. What it
+    /// completes or overtakes goes to the outbox.
     #[inline(always)]
     pub(crate) fn step(
         &mut self,
@@ -226,14 +105,27 @@ impl<A: Allocator> Record<A> {
         ensures pool { pool.new ≡ pool_by_outcome result pool.old }
         ensures id { self.new.id ≡ self.old.id }
     {
-        if self.breaks() {
-            self.control.follow(InstructionOutcome::Broke);
-            return InstructionOutcome::Broke;
-        }
-        let outcome = self.execute(pool);
+        let outcome = if self.breaks() {
+            InstructionOutcome::Broke
+        } else {
+            self.execute(pool)
+        };
+        self.note(outcome, outbox);
+        outcome
+    }
+
+    // Writes down what an instruction event did: what it completes or overtakes goes to the outbox, and the control
+    // follows.
+    #[inline(always)]
+    fn note(&mut self, outcome: InstructionOutcome, outbox: &mut Outbox)
+        requires { length outbox.old + places_of self.old.control.pending ≤ OUTBOX_PLACES }
+        ensures record { self.new ≡
+            record self.old { control = control_by_outcome outcome self.old.control } }
+        ensures outbox { outbox.new ≡ outbox.old
+            ++ filed_by_outcome outcome self.old.control.pending }
+    {
         outbox.file(&self.control.pending, outcome);
         self.control.follow(outcome);
-        outcome
     }
 
     // The instruction of a procedure that no breakpoint holds, or the fault that its budget is spent.
@@ -286,8 +178,8 @@ impl<A: Allocator> Record<A> {
         self.traced = traced;
     }
 
-    /// Puts back a machine that did so many instructions apart: the pass flag goes off, and they are taken from the
-    /// budget.
+    /// Puts back a machine that did so many instructions apart: the pass flag goes off, and they
+    /// are taken from the budget.
     pub(crate) fn settle(&mut self, count: u32, machine: Machine<A>)
         requires { StandsIn self.old.execution.image machine }
         ensures record { shown self.new ≡ settled count machine (shown self.old) }

@@ -8,8 +8,8 @@ use obcp_types::Status;
 use std::alloc::{AllocError, Allocator, Global};
 use std::marker::Model;
 
-/// A running procedure as it stood: the shared program, a copy of the machine, the breakpoints, the pass flag, the trace
-/// flag, and what was left of the budget.
+/// A running procedure as it stood: the shared program, a copy of the machine, the breakpoints, the
+/// pass flag, the trace flag, and what was left of the budget.
 #[derive(Drop)]
 pub struct Snapshot<A: Allocator = Global> {
     execution: Execution<A>,
@@ -105,9 +105,10 @@ impl<A: Allocator> Snapshot<A> {
         self.execution.machine(alloc)
     }
 
-    /// Lets a machine as it stood do instructions that need no engine, at most so many and at most what was left of the
-    /// budget, and says how many it did: none where the procedure is traced. It stops before the first instruction that
-    /// needs the engine, and before a breakpoint, which the pass flag lets the first instruction pass.
+    /// Lets a machine as it stood do instructions that need no engine, at most so many and at most
+    /// what was left of the budget, and says how many it did: none where the procedure is traced.
+    /// It stops before the first instruction that needs the engine, and before a breakpoint, which
+    /// the pass flag lets the first instruction pass.
     #[tactic(auto, using(crate::proofs::Slicing::local_count_within, crate::proofs::Budgets::within_left))]
     pub fn run(&self, machine: &mut Machine<A>, budget: u32) -> u32
         requires { machine.old ≡ self.now.machine }

@@ -6,8 +6,8 @@ ghost use Rattle.ocp_world.specs.declared.answers.EngineFault.TheVariants.{Memor
 use pus_fields::Discard;
 use std::alloc::AllocError;
 
-/// Why a request or a drain has no reports. Nothing is changed. Those of a request come in this order: discarded, a full
-/// journal, memory; those of a drain: nothing due, a full journal, memory.
+/// Why a request or a drain has no reports. Nothing is changed. Those of a request come in this
+/// order: discarded, a full journal, memory; those of a drain: nothing due, a full journal, memory.
 #[derive(Clone, Copy, PartialEq, Eq, Debug)]
 pub enum EngineFault {
     /// The octets are no telecommand for this engine, and nobody is told.

@@ -23,8 +23,8 @@ pub fn command_of<'a>(profile: Profile, telecommand: &Tc<'a>) -> Result<Request<
     read_request(profile, telecommand)
 }
 
-/// Why octets are discarded, as they were read, where they are: then the request is refused so in every world of this
-/// application process, and else it is accepted.
+/// Why octets are discarded, as they were read, where they are: then the request is refused so in
+/// every world of this application process, and else it is accepted.
 #[tactic(auto, using(crate::proofs::Refusals::request_discard))]
 pub fn discard_of(read: &Result<Tc<'_>, TcFault>) -> Option<Discard>
     ensures cause { result ≡ discard_of read.now }
@@ -38,7 +38,8 @@ pub fn discard_of(read: &Result<Tc<'_>, TcFault>) -> Option<Discard>
     }
 }
 
-/// Where the completion of a pending stop or suspend goes, by the origin of its request and the number of its event.
+/// Where the completion of a pending stop or suspend goes, by the origin of its request and the
+/// number of its event.
 pub fn pending_origin(origin: Origin, event: u64) -> PendingOrigin
     ensures { result ≡ pending_origin origin event }
 {

@@ -20,8 +20,9 @@ impl<A: Allocator> State<A> {
         !self.table.outbox().is_empty()
     }
 
-    /// Sends the reports of all completions that wait, the oldest first, at this time, each to the source of its request:
-    /// then none waits any more. It fails where none waits, and for memory, and then changes nothing.
+    /// Sends the reports of all completions that wait, the oldest first, at this time, each to the
+    /// source of its request: then none waits any more. It fails where none waits, and for memory,
+    /// and then changes nothing.
     pub fn drain(&mut self, alloc: A, time: u32) -> Result<CopiedReports<A>, EngineFault>
     where
         A: Copy,

@@ -47,8 +47,8 @@ pub fn an_instruction_changes_its_own_procedure()
     a_directive_changes_its_own_procedure();
 }
 
-/// A request leaves each procedure's machine, or starts it anew, or the procedure goes: it is never changed in the midst
-/// of its run.
+/// A request leaves each procedure's machine, or starts it anew, or the procedure goes: it is never
+/// changed in the midst of its run.
 pub fn requests_keep_or_start_machines()
     ensures { (w : World) (by time : ℕ) (octets : List ℕ) (id : ℕ) →
         let next = (after w (Request by time octets)).world in
@@ -66,8 +66,8 @@ pub fn a_drain_empties_the_outbox_alone()
     ensures traces { (w : World) (by time : ℕ) → (after w (Drain by time)).world.traces ≡ w.traces }
 {}
 
-/// Each event but a load, an unload and an activation leaves the machine of every procedure, apart from the instruction of a
-/// running procedure, which changes its own.
+/// Each event but a load, an unload and an activation leaves the machine of every procedure, apart
+/// from the instruction of a running procedure, which changes its own.
 pub fn only_starts_and_own_instructions_change_machines()
     ensures { (w : World) (e : Event) (id : ℕ) →
         may_change_machine w e id ≡ false →
@@ -79,8 +79,8 @@ pub fn only_starts_and_own_instructions_change_machines()
     debugging_keeps_runs();
 }
 
-/// A debugger's command leaves all of each procedure but its breakpoints and its trace flag, and the pool, the completions
-/// that wait, the count of reports and the trace records.
+/// A debugger's command leaves all of each procedure but its breakpoints and its trace flag, and
+/// the pool, the completions that wait, the count of reports and the trace records.
 pub fn a_debugger_changes_breakpoints_and_trace_flags_alone()
     ensures procedures { (w : World) (by own id : ℕ) (command : Asked) →
         let next = (after w (Debug by own command)).world in

@@ -29,7 +29,8 @@ impl<A: Allocator> State<A> {
         self.table.snapshot(alloc, id)
     }
 
-    /// Whether a procedure is loaded and runs, and its parts are the same by value as when they were taken.
+    /// Whether a procedure is loaded and runs, and its parts are the same by value as when they
+    /// were taken.
     pub fn is_at(&self, id: u16, snapshot: &Snapshot<A>) -> bool
         ensures { (w : World) → IsWorld w self.now →
             IsTrue result ↔ (snapshot_at (get w.records id) ≡ Some snapshot.now) }
@@ -47,9 +48,10 @@ impl<A: Allocator> State<A> {
     }
 }
 
-/// Instructions that a machine does by itself are as many instruction events of its procedure, where that runs and is not
-/// traced and its budget holds so many: each is answered so and takes one from the budget, and they move the machine alone and
-/// set the pass flag off. The function does nothing when it runs: its contract is the law.
+/// Instructions that a machine does by itself are as many instruction events of its procedure,
+/// where that runs and is not traced and its budget holds so many: each is answered so and takes
+/// one from the budget, and they move the machine alone and set the pass flag off. The function
+/// does nothing when it runs: its contract is the law.
 pub fn instructions_done_alone_are_events()
     ensures world { (w : World) (by id n : ℕ) (r : Rec) (machine : Machined) →
         RunsAlone w id r n machine →

@@ -71,8 +71,8 @@ impl<A: Allocator> State<A> {
         }
     }
 
-    /// Does instructions of one procedure until the budget is used or it no longer goes on. Each of them is an accepted event,
-    /// where the first is.
+    /// Does instructions of one procedure until the budget is used or it no longer goes on. Each of
+    /// them is an accepted event, where the first is.
     pub fn slice(&mut self, id: u16, budget: u32) -> Slice
         requires { 1 ≤ budget }
         ensures world { (w : World) (by : ℕ) → IsWorld w self.old →

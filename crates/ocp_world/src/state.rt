@@ -6,10 +6,8 @@ ghost use Rattle.std.specs.Option.{option_to_list};
 ghost use Rattle.std.specs.FinMap.{get};
 ghost use Rattle.pus_fields.specs.TelecommandFaults.{telecommand_of};
 ghost use Rattle.ocp_table.specs.RequestTable as directive;
-ghost use Rattle.ocp_table.specs.Effects.{Kept, Unasked, Failed, failure_of};
-ghost use Rattle.ocp_table.specs.Deciding.{effect_in};
-ghost use Rattle.ocp_table.specs.Outbox.{is_outbox_full};
-ghost use Rattle.ocp_table.specs.Shown.{view_at, directive_of, HasFewArguments};
+ghost use Rattle.ocp_table.specs.Effects.{Changed, Kept, Unasked, Failed};
+ghost use Rattle.ocp_table.specs.Shown.{view_at, change_of, directive_of, HasFewArguments};
 ghost use Rattle.ocp_debug.specs.declared.command.DebugFault.{DebugFault as Fault};
 ghost use Rattle.ocp_debug.specs.Memory.{memory_at};
 ghost use Rattle.ocp_debug.specs.Traces.{kept};
@@ -28,14 +26,14 @@ use ocp_debug::{Command, DebugFault, TraceRing};
 use ocp_pool::{MAX_POOL_WORDS, Pool};
 use ocp_profile::Profile;
 use ocp_reports::{CopiedReports, Origin, Sender, count_after};
-use ocp_table::{Directive, LoadFailure, StepOutcome, Table, View};
+use ocp_table::{Change, Directive, LoadFailure, StepOutcome, Table, View};
 use pus_fields::{Tc, TcFault};
 use space_packet::{Apid, SequenceCount};
 use std::alloc::{AllocError, Allocator};
 use verification::Outcome;
 
-/// The procedures with the profile, the pool, the application process identifier, the sequence count of the next report, and
-/// the last trace records.
+/// The procedures with the profile, the pool, the application process identifier, the sequence
+/// count of the next report, and the last trace records.
 #[derive(Drop)]
 pub struct State<A: Allocator> {
     pub(crate) apid: Apid,
@@ -49,7 +47,8 @@ impl<A: Allocator> State<A> {
     ghost use Rattle.ocp_world.specs.Mirror.State.{IsWorld, Does, DoesIn};
     ghost use Rattle.ocp_world.specs.Mirror.Answering.{IsRefusal, IsDebugFault};
 
-    /// The state of a profile in which no procedure is loaded, with so many pool words, all of them 0.
+    /// The state of a profile in which no procedure is loaded, with so many pool words, all of them
+    /// 0.
     pub fn new(alloc: A, profile: Profile, apid: Apid, words: u16) -> Result<Self, AllocError>
     where
         A: Copy,
@@ -113,8 +112,8 @@ impl<A: Allocator> State<A> {
         ocp_debug::apply(&mut self.table, id, command)
     }
 
-    /// Reads octets of a procedure's memory from an address on. Where they do not all lie in it, or no procedure has this
-    /// id, the octets handed in stay.
+    /// Reads octets of a procedure's memory from an address on. Where they do not all lie in it, or
+    /// no procedure has this id, the octets handed in stay.
     pub fn memory(&self, id: u16, address: u64, octets: &mut [u8]) -> Result<(), DebugFault>
         ensures ok { (w : World) → IsWorld w self.now → OnOk result
             (memory_at (get w.records id) address (length octets.old) ≡ Ok octets.new) }
@@ -126,8 +125,9 @@ impl<A: Allocator> State<A> {
         ocp_debug::memory(&self.table, id, address, octets)
     }
 
-    /// Appends the lines of the last 256 trace records. The only refusal is that of memory, and comes only where the lines do
-    /// not fit into the capacity that the output has; the output then stays as it was.
+    /// Appends the lines of the last 256 trace records. The only refusal is that of memory, and
+    /// comes only where the lines do not fit into the capacity that the output has; the output then
+    /// stays as it was.
     pub fn write_traces<B: Allocator>(&self, output: &mut Vec<u8, B>) -> Result<(), AllocError>
         ensures ok { (w : World) → IsWorld w self.now → OnOk result
             (output.new.items ≡ output.old.items ++ flat_map trace_line (kept w.traces)) }
@@ -235,24 +235,13 @@ impl<A: Allocator> State<A> {
         ensures { Does self.old self.new result
             (λ w. directive_effect origin directive.Unload id w.records) }
     {
-        if let Some(failure) = self.table.unload_failure(id) {
-            return self.fail(alloc, origin, failure);
-        }
-        let reports = self.reply(alloc, origin, Outcome::Done, &None)?;
-        self.table.unload(id).unwrap();
-        Ok(reports)
-    }
-
-    // What becomes of a request that does not fail: it is done, or its stop or suspend waits.
-    fn outcome_of(&self, id: u16, directive: &Directive<'_>) -> Outcome
-        ensures { let m = self.now.table.records in
-            let asked = directive_of directive.now (is_outbox_full m self.now.table.outbox) in
-            failure_of (effect_in asked id m) ≡ None → result ≡ outcome_by (effect_in asked id m) }
-    {
-        if self.table.becomes_pending(id, directive) {
-            Outcome::Started
-        } else {
-            Outcome::Done
+        match self.table.check_unload(id) {
+            Ok(()) => {
+                let reports = self.reply(alloc, origin, Outcome::Done, &None)?;
+                self.table.remove(id);
+                Ok(reports)
+            }
+            Err(failure) => self.fail(alloc, origin, failure),
         }
     }
 
@@ -271,13 +260,14 @@ impl<A: Allocator> State<A> {
             (λ w. directive_effect origin (directive_of directive.entry (has_no_place w)) id
             w.records) }
     {
-        if let Some(failure) = self.table.failure(id, &directive) {
-            return self.fail(alloc, origin, failure);
+        match self.table.decide(id, directive) {
+            Ok(change) => {
+                let reports = self.reply(alloc, origin, outcome_of(change), &None)?;
+                self.table.enact(id, change);
+                Ok(reports)
+            }
+            Err(failure) => self.fail(alloc, origin, failure),
         }
-        let outcome = self.outcome_of(id, &directive);
-        let reports = self.reply(alloc, origin, outcome, &None)?;
-        self.table.apply(id, directive).unwrap();
-        Ok(reports)
     }
 
     // Reports the status of all procedures.
@@ -332,8 +322,8 @@ impl<A: Allocator> State<A> {
         }
     }
 
-    /// Does what a telecommand asks for, as it was read at this time, and sends its reports. The event has this number: so
-    /// many were accepted before it.
+    /// Does what a telecommand asks for, as it was read at this time, and sends its reports. The
+    /// event has this number: so many were accepted before it.
     pub fn receive(
         &mut self,
         alloc: A,
@@ -361,6 +351,18 @@ impl<A: Allocator> State<A> {
                 AcceptanceFailure::Packet(rejection),
             ),
             Err(TcFault::Discarded(cause)) => Err(EngineFault::Discarded(cause)),
+        }
+    }
+}
+
+// What becomes of a request that does not fail: its stop or suspend waits, or it is done.
+fn outcome_of(change: Change<'_>) -> Outcome
+    ensures { (id : ℕ) → result ≡ outcome_by (Changed id (change_of change.entry)) }
+{
+    match change {
+        Change::Pended(_) => Outcome::Started,
+        Change::Started { .. } | Change::Sent(_) | Change::Quit(_) | Change::Resumed => {
+            Outcome::Done
         }
     }
 }

@@ -1,0 +1,140 @@
+//! The request table: what a request does to the record of its procedure, or why it fails; and how
+//! that is enacted.
+ghost use Rattle.std.specs.Prelude.{◌≡◌, ◌≤◌, ◌+◌, ◌++◌, Bool, false, Option, Some, IfOk, length};
+ghost use Rattle.ocp_table.specs.Records.{Rec};
+ghost use Rattle.ocp_table.specs.Outbox.{places_of};
+ghost use Rattle.ocp_table.specs.Effects.{record_by, filed_by_change};
+ghost use Rattle.ocp_table.specs.RequestTable.{pended, sent};
+ghost use Rattle.ocp_table.specs.Deciding.{decision_on};
+ghost use Rattle.ocp_table.specs.Shown.{shown, directive_of, change_of, decision_of, HasFewArguments, FitsIn, HasPlaceFor};
+
+use crate::budget::budget_of;
+use crate::outbox::Outbox;
+use crate::{Cause, Control, Directive, OUTBOX_PLACES, Pending, Record};
+use obcp_types::{StartFailure, Status};
+use ocp_pool::Mailbox;
+use std::alloc::Allocator;
+
+/// What a request does to the record of its procedure.
+#[derive(Clone, Copy)]
+pub enum Change<'a> {
+    /// It starts from its first instruction, with a budget of so many instructions, where it is not
+    /// 0, and with these arguments. What was pending is overtaken, and the mailbox is empty.
+    Started { budget: u32, arguments: &'a [u8] },
+    /// It gets these words into its mailbox.
+    Sent(&'a [u64]),
+    /// A stop or suspend becomes pending. What was pending is overtaken.
+    Pended(Pending),
+    /// It becomes inactive at once. What was pending is overtaken.
+    Quit(Cause),
+    /// It runs on, past a breakpoint at its place.
+    Resumed,
+}
+
+impl<A: Allocator> Record<A> {
+    /// Decides what a directive does, where all places for completions are taken or not, or why it
+    /// fails.
+    pub(crate) fn decide<'a>(
+        &self,
+        directive: Directive<'a>,
+        full: bool,
+    ) -> Result<Change<'a>, StartFailure>
+        requires few { HasFewArguments (directive_of directive false) }
+        ensures decision { decision_of result ≡
+            decision_on (directive_of directive.entry full) (Some (shown self.now)) }
+        ensures fits { IfOk result (λ change. FitsIn (change_of change) (Some (shown self.now))) }
+        ensures place { IfOk result (λ change. HasPlaceFor full (change_of change)) }
+    {
+        match (directive, self.control.status) {
+            (Directive::Activate { budget, arguments }, Status::Inactive) => {
+                Ok(Change::Started { budget, arguments })
+            }
+            (Directive::Activate { .. }, Status::Running) => Err(StartFailure::NotInactive),
+            (Directive::Activate { .. }, Status::Held) => Err(StartFailure::NotInactive),
+
+            (Directive::Stop(_, _), Status::Inactive) => Err(StartFailure::NotActive),
+            (Directive::Stop(step, origin), Status::Running) => {
+                pend(full, Pending::Stop(step, origin))
+            }
+            (Directive::Stop(_, _), Status::Held) => Ok(Change::Quit(Cause::Stopped)),
+
+            (Directive::Suspend(_, _), Status::Inactive) => Err(StartFailure::NotRunning),
+            (Directive::Suspend(step, origin), Status::Running) => match self.control.pending {
+                Pending::Stop(_, _) => Err(StartFailure::StopPending),
+                Pending::Suspend(_, _) => pend(full, Pending::Suspend(step, origin)),
+                Pending::Nothing => pend(full, Pending::Suspend(step, origin)),
+            },
+            (Directive::Suspend(_, _), Status::Held) => Err(StartFailure::NotRunning),
+
+            (Directive::Resume, Status::Inactive) => Err(StartFailure::NotHeld),
+            (Directive::Resume, Status::Running) => Err(StartFailure::NotHeld),
+            (Directive::Resume, Status::Held) => Ok(Change::Resumed),
+
+            (Directive::Abort, Status::Inactive) => Err(StartFailure::NotActive),
+            (Directive::Abort, Status::Running) => Ok(Change::Quit(Cause::Aborted)),
+            (Directive::Abort, Status::Held) => Ok(Change::Quit(Cause::Aborted)),
+
+            (Directive::Communicate(_), Status::Inactive) => Err(StartFailure::NotActive),
+            (Directive::Communicate(words), Status::Running) => send(&self.mailbox, words),
+            (Directive::Communicate(words), Status::Held) => send(&self.mailbox, words),
+        }
+    }
+
+    /// Enacts what was decided. What it overtakes goes to the outbox.
+    pub(crate) fn enact(&mut self, change: Change<'_>, outbox: &mut Outbox)
+        requires fits { FitsIn (change_of change) (Some (shown self.old)) }
+        requires place { length outbox.old + places_of self.old.control.pending ≤ OUTBOX_PLACES }
+        ensures record { shown self.new ≡ record_by (change_of change.entry) (shown self.old) }
+        ensures outbox { outbox.new ≡ outbox.old
+            ++ filed_by_change (change_of change.entry) self.old.control.pending }
+        ensures id { self.new.id ≡ self.old.id }
+    {
+        match change {
+            Change::Started { budget, arguments } => {
+                outbox.overtake(self.control.pending);
+                self.remaining = budget_of(budget);
+                self.execution.start(arguments);
+                self.mailbox.clear();
+                self.control = Control::running();
+            }
+            Change::Sent(words) => self.mailbox.append(words),
+            Change::Pended(pending) => {
+                outbox.overtake(self.control.pending);
+                self.control.pending = pending;
+            }
+            Change::Quit(cause) => {
+                outbox.overtake(self.control.pending);
+                self.control = Control::inactive(cause);
+            }
+            Change::Resumed => {
+                self.control.status = Status::Running;
+                self.control.pass = true;
+            }
+        }
+    }
+}
+
+// A stop or suspend becomes pending, or no place is free for its completion.
+fn pend<'a>(full: bool, pending: Pending) -> Result<Change<'a>, StartFailure>
+    ensures decision { decision_of result ≡ pended full pending }
+    ensures place { IfOk result (λ change. HasPlaceFor full (change_of change)) }
+    ensures fits { (o : Option Rec) → IfOk result (λ change. FitsIn (change_of change) o) }
+{
+    if full {
+        return Err(StartFailure::OutboxFull);
+    }
+    Ok(Change::Pended(pending))
+}
+
+// Words are taken, or there is no room for all of them.
+fn send<'a>(mailbox: &Mailbox, words: &'a [u64]) -> Result<Change<'a>, StartFailure>
+    ensures decision { decision_of result ≡ sent words.now (length mailbox.now) }
+    ensures fits { (r : Rec) → r.mailbox ≡ mailbox.now →
+        IfOk result (λ change. FitsIn (change_of change) (Some r)) }
+    ensures place { (full : Bool) → IfOk result (λ change. HasPlaceFor full (change_of change)) }
+{
+    if mailbox.has_room(words.len()) {
+        return Ok(Change::Sent(words));
+    }
+    Err(StartFailure::MailboxFull)
+}
