@@ -195,7 +195,7 @@ int main(int words, char **word)
         broken++;
         fprintf(stderr, "flight: cycle %lu: the input ends within a packet\n", (unsigned long)cycle);
     }
-    if (words == 3 && !write_journal(&engine, word[2], PROFILE, APID, POOL_WORDS, JOURNAL_ENTRIES))
+    if (words == 3 && !write_journal(&engine, word[2], PROFILE, APID, POOL_WORDS))
         end("the journal can't be written");
     fprintf(stderr, "flight: %lu cycles, %lu packets discarded\n", (unsigned long)cycle, (unsigned long)broken);
     return ocp_close(&engine) == OCP_DONE ? 0 : FAILED;

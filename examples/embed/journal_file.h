@@ -1,5 +1,5 @@
-/* The journal as a file, for the tool `journal`: the engine's four numbers (4 octets each), and then each entry, the oldest
- * first, behind its length (4 octets). Numbers are big-endian. It needs ocp_entry. */
+/* The journal as a file, for the tool `journal`: the engine's profile, application process identifier and pool words
+ * (4 octets each), and then each entry, the oldest first, behind its length (4 octets). Numbers are big-endian. */
 #ifndef JOURNAL_FILE_H
 #define JOURNAL_FILE_H
 
@@ -26,13 +26,13 @@ static inline bool write_entries(struct ocp_engine *engine, FILE *file)
 
 /* Gives whether the file holds it all. */
 static inline bool write_journal(struct ocp_engine *engine, const char *name, uint32_t profile, uint32_t apid,
-                                 uint32_t pool_words, uint32_t capacity)
+                                 uint32_t pool_words)
 {
     FILE *file = fopen(name, "wb");
     if (file == NULL)
         return false;
     bool whole = write_number(file, profile) && write_number(file, apid) && write_number(file, pool_words) &&
-                 write_number(file, capacity) && write_entries(engine, file);
+                 write_entries(engine, file);
     return fclose(file) == 0 && whole;
 }
 

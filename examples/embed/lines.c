@@ -214,7 +214,7 @@ int main(int words, char **word)
         line[strcspn(line, "\r\n")] = '\0';
         known = line_of_script(line);
     }
-    if (words == 6 && !write_journal(&engine, word[5], numbers[0], numbers[1], numbers[2], numbers[3]))
+    if (words == 6 && !write_journal(&engine, word[5], numbers[0], numbers[1], numbers[2]))
         return 3;
     ocp_close(&engine);
     return known ? 0 : 1;
