@@ -1,0 +1,83 @@
+-- What a call through a handle answers and leaves: nothing where the handle is closed, else what the
+-- engine's call does to the log that it holds.
+use Rattle.std.specs.Prelude.{ℕ, ◌<◌, ◌≤◌, ◌==◌, ◌&&◌, nat_le, Bool, if◌then◌else◌, Option, Some, None, Result, Err}
+use Rattle.ocp_profile.specs.declared.profile.Profile.{Profile}
+use Rattle.ocp_profile.specs.declared.profile.Profile.TheVariants as profile
+use Rattle.ocp_table.specs.declared.answers.Slice.{Slice}
+use Rattle.ocp_table.specs.declared.answers.StepOutcome.{StepOutcome}
+use Rattle.ocp_table.specs.declared.answers.StepOutcome.TheVariants as S
+use Rattle.ocp_debug.specs.declared.command.DebugFault.{DebugFault}
+use Rattle.ocp_debug.specs.declared.command.DebugFault.TheVariants as debug
+use Rattle.ocp_world.specs.After.{Answer, Requested, Stepped, Commanded}
+use Rattle.ocp_core.specs.Log.{Log}
+use Rattle.ocp_c.specs.declared.outcome.Outcome.{Outcome}
+use Rattle.ocp_c.specs.declared.status.Status.{Status}
+use Rattle.ocp_c.specs.declared.status.Status.TheVariants as status
+use Rattle.ocp_c.specs.Statuses.{number_of, status_of, status_of_command}
+
+-- the number of the answer
+abbrev pub answers : Option Log → (Log → Status) → ℕ
+answers None answer = number_of status.NotOpen
+answers (Some log) answer = number_of (answer log)
+
+-- what is held then
+abbrev pub leaves : Option Log → (Log → Log) → Option Log
+leaves None change = None
+leaves (Some log) change = Some (change log)
+
+-- what is written then
+abbrev pub writes : {X : Type 0} → Option Log → X → (Log → X) → X
+writes None before write = before
+writes (Some log) before write = write log
+
+-- ---- instructions
+
+-- the outcome of an instruction event
+abbrev pub outcome_of : Answer → StepOutcome
+outcome_of (Stepped outcome) = outcome
+outcome_of (Requested reports) = S.JournalFull
+outcome_of (Commanded result) = S.JournalFull
+
+-- an outcome as C sees it; a refusal leaves what stood there
+abbrev pub shown : StepOutcome → Outcome → Outcome
+shown S.Broke before = record { kind = 0; fault = 0 }
+shown S.Ran before = record { kind = 1; fault = 0 }
+shown S.Called before = record { kind = 2; fault = 0 }
+shown S.Ended before = record { kind = 3; fault = 0 }
+shown (S.Faulted number) before = record { kind = 4; fault = number }
+shown S.NotLoaded before = before
+shown S.NotRunning before = before
+shown S.JournalFull before = before
+
+-- ---- the debugger
+
+-- the result of a debugger's command
+abbrev pub result_of : Answer → Result (Unit {0}) DebugFault
+result_of (Commanded result) = result
+result_of (Requested reports) = Err debug.JournalFull
+result_of (Stepped outcome) = Err debug.JournalFull
+
+-- a count where the last instruction was done; a refusal leaves what stood there
+abbrev pub counted_by : StepOutcome → ℕ → ℕ → ℕ
+counted_by S.Broke count before = count
+counted_by S.Ran count before = count
+counted_by S.Called count before = count
+counted_by S.Ended count before = count
+counted_by (S.Faulted number) count before = count
+counted_by S.NotLoaded count before = before
+counted_by S.NotRunning count before = before
+counted_by S.JournalFull count before = before
+
+-- how many instructions C is told of
+abbrev pub counted : Slice → ℕ → ℕ
+counted slice before = counted_by slice.last slice.count before
+
+-- ---- the pool
+
+abbrev pub word_status : Option ℕ → Status
+word_status None = status.NoWord
+word_status (Some word) = status.Done
+
+abbrev pub word_or : Option ℕ → ℕ → ℕ
+word_or None before = before
+word_or (Some word) before = word

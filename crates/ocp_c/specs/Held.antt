@@ -1,0 +1,20 @@
+-- What a handle of C's owns: nothing at null, else the box of an engine.
+use base.Fml.{Fml, feq}
+use denote.RattleType.{RattleType}
+use denote.RawPtr.{Ptr, null_ptr}
+use Rattle.std.specs.declared.option.Option.{Option}
+use Rattle.std.specs.declared.option.Option.TheVariants.{None, Some}
+use Rattle.std.specs.declared.alloc.Global.{Global}
+use Rattle.std.specs.contracts.alloc.Global as heap
+use Rattle.std.specs.contracts.impls.GlobalAllocator.TheImpl.{ghosts}
+use Rattle.std.specs.Box.Ownership.{box_owns}
+use Rattle.ocp_core.specs.contracts.engine.Engine as engine
+use Rattle.ocp_core.specs.Log.{Log}
+
+-- an engine on the program's heap
+abbrev pub engine_row : RattleType
+engine_row = engine.the_row heap.the_row ghosts
+
+abbrev pub held_at : Global → Ptr → Option Log → Fml
+held_at a p None = feq Ptr p null_ptr
+held_at a p (Some log) = box_owns (ghosts.dealloc_token a) engine_row p log

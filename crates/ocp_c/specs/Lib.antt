@@ -1,0 +1,4 @@
+pub mod Held
+pub mod Statuses
+pub mod Calls
+pub mod Opening

@@ -1,0 +1,60 @@
+-- The statuses that calls answer to C.
+use Rattle.std.specs.Prelude.{ℕ, Result, Ok, Err}
+use Rattle.ocp_table.specs.declared.answers.StepOutcome.{StepOutcome}
+use Rattle.ocp_table.specs.declared.answers.StepOutcome.TheVariants as S
+use Rattle.ocp_debug.specs.declared.command.DebugFault.{DebugFault}
+use Rattle.ocp_debug.specs.declared.command.DebugFault.TheVariants as debug
+use Rattle.ocp_c.specs.declared.status.Status.{Status}
+use Rattle.ocp_c.specs.declared.status.Status.TheVariants as status
+
+-- the numbers of the header
+abbrev pub number_of : Status → ℕ
+number_of status.Done = 0
+number_of status.NotOpen = 1
+number_of status.AlreadyOpen = 2
+number_of status.BadProfile = 3
+number_of status.BadApid = 4
+number_of status.BadPoolWords = 5
+number_of status.BadCapacity = 6
+number_of status.Memory = 7
+number_of status.BufferTooSmall = 8
+number_of status.JournalFull = 9
+number_of status.DiscardedShort = 10
+number_of status.DiscardedVersion = 11
+number_of status.DiscardedLength = 12
+number_of status.DiscardedNotTelecommand = 13
+number_of status.DiscardedOtherApid = 14
+number_of status.NothingDue = 15
+number_of status.NotLoaded = 16
+number_of status.NotRunning = 17
+number_of status.NoneRunning = 18
+number_of status.NoBudget = 19
+number_of status.NotAnInstruction = 20
+number_of status.AlreadySet = 21
+number_of status.BreaksFull = 22
+number_of status.NotSet = 23
+number_of status.OutsideMemory = 24
+number_of status.NoWord = 25
+number_of status.NoEntry = 26
+
+-- that of an instruction
+abbrev pub status_of : StepOutcome → Status
+status_of S.Broke = status.Done
+status_of S.Ran = status.Done
+status_of S.Called = status.Done
+status_of S.Ended = status.Done
+status_of (S.Faulted number) = status.Done
+status_of S.NotLoaded = status.NotLoaded
+status_of S.NotRunning = status.NotRunning
+status_of S.JournalFull = status.JournalFull
+
+-- that of a debugger's command
+abbrev pub status_of_command : Result (Unit {0}) DebugFault → Status
+status_of_command (Ok done) = status.Done
+status_of_command (Err debug.NotLoaded) = status.NotLoaded
+status_of_command (Err debug.NotAnInstruction) = status.NotAnInstruction
+status_of_command (Err debug.AlreadySet) = status.AlreadySet
+status_of_command (Err debug.BreaksFull) = status.BreaksFull
+status_of_command (Err debug.NotSet) = status.NotSet
+status_of_command (Err debug.JournalFull) = status.JournalFull
+status_of_command (Err debug.OutsideMemory) = status.OutsideMemory

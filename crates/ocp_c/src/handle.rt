@@ -1,0 +1,99 @@
+//! What C holds of an engine.
+
+ghost use Rattle.std.specs.Prelude.{◌≡◌};
+ghost use Rattle.std.specs.Option.{MatchOption};
+ghost use Rattle.std.specs.Coded.{coded_option};
+ghost use denote.RawPtr.{null_ptr};
+ghost use Rattle.std.specs.declared.option.Option.{Option as Maybe};
+ghost use Rattle.std.specs.declared.option.Option.TheVariants.{None, Some};
+ghost use Rattle.ocp_core.specs.Log.{Log};
+ghost use Rattle.ocp_core.specs.Mirror.Codes.{log_code};
+ghost use Rattle.ocp_c.specs.Held.{held_at};
+
+use crate::loose::Loose;
+use ocp_core::Engine;
+use std::alloc::Global;
+use std::marker::Model;
+use std::mem;
+use std::ptr::null_mut;
+
+/// The pointer of an engine, or null while none is open. The log of the engine is what contracts see of it.
+#[repr(C)]
+pub struct Handle {
+    at: *mut u8,
+    alloc: Global,
+    pub ghost held: { Maybe Log } by { coded_option log_code },
+}
+
+impl Model for Handle {
+    ghost also_owns = { λ h. held_at h.alloc h.at h.held };
+}
+
+impl Drop for Handle {
+    fn drop(self) {
+        if let Some(loose) = self.into_loose() {
+            drop(loose.into_box());
+        }
+    }
+}
+
+impl Handle {
+    fn none(at: *mut u8, alloc: Global) -> Handle
+        requires { at ≡ null_ptr }
+        ensures { result.held ≡ None }
+    {
+        Handle { at, alloc }
+    }
+
+    fn full(from: Loose<Engine, Global>) -> Handle
+        ensures { result.held ≡ Some from.value }
+    {
+        let Loose { at, alloc } = from;
+        Handle {
+            at: at as *mut u8,
+            alloc,
+        }
+    }
+
+    fn into_loose(self) -> Option<Loose<Engine, Global>>
+        ensures { MatchOption result (self.held ≡ None) (λ loose. self.held ≡ Some loose.value) }
+    {
+        let Handle { at, alloc } = self;
+        if at.is_null() {
+            None
+        } else {
+            Some(Loose {
+                at: at as *mut Engine,
+                alloc,
+            })
+        }
+    }
+
+    fn closed(alloc: Global) -> Handle
+        ensures { result.held ≡ None }
+    {
+        let at: *mut u8 = null_mut();
+        Handle::none(at, alloc)
+    }
+
+    /// The engine, where one is open. The handle is then closed until `put`.
+    pub fn take(&mut self, alloc: Global) -> Option<Box<Engine>>
+        ensures left { self.new.held ≡ None }
+        ensures taken { MatchOption result (self.old.held ≡ None)
+            (λ engine. self.old.held ≡ Some engine.value) }
+    {
+        let closed = Handle::closed(alloc);
+        let taken = mem::replace(self, closed);
+        match taken.into_loose() {
+            Some(loose) => Some(loose.into_box()),
+            None => None,
+        }
+    }
+
+    /// Holds an engine.
+    pub fn put(&mut self, engine: Box<Engine>)
+        ensures { self.new.held ≡ Some engine.value }
+    {
+        *self = Handle::full(Loose::of_box(engine));
+    }
+}

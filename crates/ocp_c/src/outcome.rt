@@ -1,0 +1,35 @@
+//! What an instruction did, for C.
+
+ghost use Rattle.std.specs.Prelude.{◌≡◌};
+ghost use Rattle.ocp_c.specs.Calls.{shown};
+
+use ocp_core::StepOutcome;
+
+/// Its kind as the header numbers them, and the number of the fault where it faulted.
+#[repr(C)]
+#[derive(Clone, Copy, PartialEq, Eq, Debug)]
+pub struct Outcome {
+    pub kind: u32,
+    pub fault: u32,
+}
+
+impl Outcome {
+    /// Shows an outcome. A refusal leaves what stood there.
+    pub fn show(&mut self, outcome: StepOutcome)
+        ensures { self.new ≡ shown outcome self.old }
+    {
+        match outcome {
+            StepOutcome::Broke => *self = Outcome { kind: 0, fault: 0 },
+            StepOutcome::Ran => *self = Outcome { kind: 1, fault: 0 },
+            StepOutcome::Called => *self = Outcome { kind: 2, fault: 0 },
+            StepOutcome::Ended => *self = Outcome { kind: 3, fault: 0 },
+            StepOutcome::Faulted(number) => {
+                *self = Outcome {
+                    kind: 4,
+                    fault: u32::from(number),
+                }
+            }
+            StepOutcome::NotLoaded | StepOutcome::NotRunning | StepOutcome::JournalFull => {}
+        }
+    }
+}
