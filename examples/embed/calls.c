@@ -1,0 +1,360 @@
+/* Each call of the library with wrong arguments, and with each growth of memory refused in turn: it gives the status that
+ * the header names, and nothing else is changed. This file has the heap functions itself, so it is linked with no other. */
+#include "fixed_heap.h"
+#include "ocp_engine.h"
+
+#include <inttypes.h>
+#include <stdio.h>
+#include <stdlib.h>
+#include <string.h>
+
+/* ---- a heap that refuses one growth */
+
+static size_t growths;             /* how many there were */
+static size_t refused = SIZE_MAX;  /* the one that is refused, from 0 on */
+
+static struct fixed_heap_answer answer_of(void *piece)
+{
+    static unsigned char nothing;
+    return (struct fixed_heap_answer){piece != NULL, piece != NULL ? piece : &nothing};
+}
+
+struct fixed_heap_answer rattle_alloc(size_t octets, size_t align)
+{
+    return answer_of(growths++ == refused ? NULL : malloc(octets == 0 ? align : octets));
+}
+
+struct fixed_heap_answer rattle_realloc(void *piece, size_t kept, size_t octets, size_t align)
+{
+    (void)kept;
+    return answer_of(growths++ == refused ? NULL : realloc(piece, octets == 0 ? align : octets));
+}
+
+void rattle_dealloc(void *piece)
+{
+    free(piece);
+}
+
+/* ---- what is wanted */
+
+static int tried, faults;
+
+static void want(int line, const char *call, uint32_t wanted, uint32_t given)
+{
+    tried++;
+    if (wanted != given) {
+        faults++;
+        printf("calls.c:%d: %s answers %" PRIu32 " and not %" PRIu32 "\n", line, call, given, wanted);
+    }
+}
+
+#define WANT(status, call) want(__LINE__, #call, status, call)
+#define HOLDS(fact) want(__LINE__, #fact, true, (fact) ? true : false)
+
+/* ---- packets */
+
+enum { APID = 291, LOAD = 1, ACTIVATE = 3, STOP = 4, STATUS = 8, LONGEST = 65542 };
+
+static uint8_t packet[LONGEST + 1];
+static uint8_t reports[OCP_DRAIN_REPORTS];
+
+static uint16_t error_control(const uint8_t *octets, size_t length)
+{
+    uint16_t rest = 0xffff;
+    for (size_t at = 0; at < length * 8; at++) {
+        bool high = ((rest >> 15) ^ (octets[at / 8] >> (7 - at % 8))) & 1;
+        rest = (uint16_t)(rest << 1 ^ (high ? 0x1021 : 0));
+    }
+    return rest;
+}
+
+/* A telecommand of service 18 with these octets of data; gives its length. */
+static size_t telecommand(uint8_t subtype, const uint8_t *data, size_t length)
+{
+    size_t field = 5 + length + 2;
+    const uint8_t head[11] = {0x18 | APID >> 8, APID & 255, 0xc0, 0, (uint8_t)((field - 1) >> 8), (uint8_t)(field - 1),
+                              0x2b, 18, subtype, 0, 9};
+    memcpy(packet, head, sizeof head);
+    memcpy(packet + sizeof head, data, length);
+    uint16_t control = error_control(packet, sizeof head + length);
+    packet[sizeof head + length] = (uint8_t)(control >> 8);
+    packet[sizeof head + length + 1] = (uint8_t)control;
+    return sizeof head + length + 2;
+}
+
+/* mov64 r1, 1; call 5; ja -1 */
+static const uint8_t load_7[] = {0, 7, 0, 24, 0xb7, 1, 0, 0, 1, 0, 0, 0, 0x85, 0, 0, 0, 5, 0, 0, 0, 5, 0, 0xff, 0xff, 0, 0, 0, 0};
+static const uint8_t activate_7[] = {0, 7, 0, 0};
+static const uint8_t stop_7[] = {0, 7, 0, 0};
+
+/* ---- an engine and what is seen of it */
+
+struct seen {
+    uint64_t events, room;
+    struct ocp_view view;
+    uint64_t registers[11];
+    uint32_t view_status;
+};
+
+static struct ocp_engine engine = OCP_CLOSED;
+
+static uint32_t open_small(void)
+{
+    return ocp_open(&engine, 1, APID, 16, 4);
+}
+
+static struct seen see(void)
+{
+    struct seen seen;
+    memset(&seen, 0, sizeof seen);
+    ocp_events(&engine, &seen.events);
+    ocp_room(&engine, &seen.room);
+    seen.view_status = ocp_view(&engine, 7, &seen.view, seen.registers, 11);
+    return seen;
+}
+
+static bool is_same(const struct seen *one, const struct seen *other)
+{
+    return memcmp(one, other, sizeof *one) == 0;
+}
+
+static size_t written;
+
+static uint32_t request(uint8_t subtype, const uint8_t *data, size_t length)
+{
+    return ocp_request(&engine, 5, packet, telecommand(subtype, data, length), reports, OCP_REQUEST_REPORTS, &written);
+}
+
+/* A call that has to be refused: nothing that is seen of the engine changes, nor what is behind the pointers. */
+#define REFUSED(status, call) \
+    do { \
+        struct seen before = see(); \
+        written = 77; \
+        memset(reports, 77, sizeof reports); \
+        WANT(status, call); \
+        struct seen after = see(); \
+        HOLDS(is_same(&before, &after) && written == 77 && reports[0] == 77); \
+    } while (false)
+
+/* A call with each growth refused in turn, until it asks for no further one. */
+static void each_growth(const char *name, uint32_t (*call)(void))
+{
+    for (size_t number = 0; number < 1000; number++) {
+        struct seen before = see();
+        growths = 0;
+        refused = number;
+        uint32_t status = call();
+        refused = SIZE_MAX;
+        if (status == OCP_DONE) {
+            want(__LINE__, name, true, growths <= number && number > 0);
+            return;
+        }
+        struct seen after = see();
+        want(__LINE__, name, OCP_MEMORY, status);
+        HOLDS(is_same(&before, &after));
+    }
+    want(__LINE__, name, OCP_DONE, OCP_MEMORY);
+}
+
+/* ---- the tests */
+
+/* Every call but ocp_open on a handle that is not open. What the pointers point to stays. */
+static void closed_handle(void)
+{
+    uint64_t wide = 77, registers[11] = {77};
+    uint32_t count = 77;
+    uint16_t id = 77;
+    uint8_t octets[4] = {77};
+    struct ocp_outcome outcome = {77, 77};
+    struct ocp_view view = {.status = 77};
+    written = 77;
+    memset(reports, 77, sizeof reports);
+    WANT(OCP_NOT_OPEN, ocp_close(&engine));
+    WANT(OCP_NOT_OPEN, ocp_request(&engine, 0, packet, 0, reports, 0, &written));
+    WANT(OCP_NOT_OPEN, ocp_drain(&engine, 0, reports, 0, &written));
+    WANT(OCP_NOT_OPEN, ocp_step(&engine, 7, &outcome));
+    WANT(OCP_NOT_OPEN, ocp_slice(&engine, 7, 0, &count, &outcome));
+    WANT(OCP_NOT_OPEN, ocp_next_running(&engine, OCP_NO_PROCEDURE, &id));
+    WANT(OCP_NOT_OPEN, ocp_set_break(&engine, 7, 0));
+    WANT(OCP_NOT_OPEN, ocp_clear_break(&engine, 7, 0));
+    WANT(OCP_NOT_OPEN, ocp_trace(&engine, 7, true));
+    WANT(OCP_NOT_OPEN, ocp_memory(&engine, 7, 0x10000000, octets, 4));
+    WANT(OCP_NOT_OPEN, ocp_view(&engine, 7, &view, registers, 0));
+    WANT(OCP_NOT_OPEN, ocp_pool_word(&engine, 0, &wide));
+    WANT(OCP_NOT_OPEN, ocp_events(&engine, &wide));
+    WANT(OCP_NOT_OPEN, ocp_room(&engine, &wide));
+    WANT(OCP_NOT_OPEN, ocp_entry(&engine, 0, octets, 4, &written));
+    HOLDS(written == 77 && wide == 77 && registers[0] == 77 && count == 77 && id == 77 && octets[0] == 77);
+    HOLDS(outcome.kind == 77 && outcome.fault == 77 && view.status == 77 && reports[0] == 77);
+}
+
+/* The numbers of ocp_open, each at both ends of its range, and the order of their refusals. */
+static void numbers(void)
+{
+    WANT(OCP_BAD_PROFILE, ocp_open(&engine, 0, 2047, 0, 0));
+    WANT(OCP_BAD_PROFILE, ocp_open(&engine, 3, 2046, 1, 1));
+    WANT(OCP_BAD_APID, ocp_open(&engine, 2, 2047, 0, 0));
+    WANT(OCP_BAD_POOL_WORDS, ocp_open(&engine, 2, 2046, 0, 0));
+    WANT(OCP_BAD_POOL_WORDS, ocp_open(&engine, 1, 0, 257, 0));
+    WANT(OCP_BAD_CAPACITY, ocp_open(&engine, 1, 0, 256, 0));
+    WANT(OCP_BAD_CAPACITY, ocp_open(&engine, 1, 0, 1, 1000001));
+    WANT(OCP_BAD_CAPACITY, ocp_open(&engine, 1, 0, 1, UINT32_MAX));
+    WANT(OCP_NOT_OPEN, ocp_close(&engine));
+    WANT(OCP_DONE, ocp_open(&engine, 2, 2046, 256, 1000000));
+    WANT(OCP_ALREADY_OPEN, ocp_open(&engine, 0, 2047, 0, 0));
+    WANT(OCP_DONE, ocp_close(&engine));
+    WANT(OCP_NOT_OPEN, ocp_close(&engine));
+    each_growth("ocp_open", open_small);
+    WANT(OCP_DONE, ocp_close(&engine));
+}
+
+static uint32_t load(void)
+{
+    return request(LOAD, load_7, sizeof load_7);
+}
+
+static uint32_t activate(void)
+{
+    return request(ACTIVATE, activate_7, sizeof activate_7);
+}
+
+static uint32_t stop(void)
+{
+    return request(STOP, stop_7, sizeof stop_7);
+}
+
+static uint32_t drain(void)
+{
+    return ocp_drain(&engine, 5, reports, OCP_DRAIN_REPORTS, &written);
+}
+
+/* Octets that are no request, and buffers that are too short. */
+static void packets(void)
+{
+    WANT(OCP_DONE, ocp_open(&engine, 1, APID, 16, 20));
+    memset(packet, 0, sizeof packet);
+    REFUSED(OCP_BUFFER_TOO_SMALL, ocp_request(&engine, 0, packet, 0, reports, OCP_REQUEST_REPORTS - 1, &written));
+    REFUSED(OCP_BUFFER_TOO_SMALL, ocp_request(&engine, 0, packet, 0, reports, 0, &written));
+    REFUSED(OCP_DISCARDED_SHORT, ocp_request(&engine, 0, packet, 0, reports, OCP_REQUEST_REPORTS, &written));
+    REFUSED(OCP_DISCARDED_SHORT, ocp_request(&engine, 0, packet, 6, reports, OCP_REQUEST_REPORTS, &written));
+    REFUSED(OCP_DISCARDED_LENGTH, ocp_request(&engine, 0, packet, 65536, reports, OCP_REQUEST_REPORTS, &written));
+    packet[0] = 0x20;
+    REFUSED(OCP_DISCARDED_VERSION, ocp_request(&engine, 0, packet, 65536, reports, OCP_REQUEST_REPORTS, &written));
+    packet[0] = 0;
+    packet[4] = packet[5] = 0xff;
+    REFUSED(OCP_DISCARDED_NOT_TELECOMMAND, ocp_request(&engine, 0, packet, LONGEST, reports, OCP_REQUEST_REPORTS, &written));
+    packet[0] = 0x18;
+    REFUSED(OCP_DISCARDED_OTHER_APID, ocp_request(&engine, 0, packet, LONGEST, reports, OCP_REQUEST_REPORTS, &written));
+    REFUSED(OCP_DISCARDED_LENGTH, ocp_request(&engine, 0, packet, LONGEST + 1, reports, OCP_REQUEST_REPORTS, &written));
+    packet[0] |= APID >> 8;
+    packet[1] = APID & 255;
+    packet[2] = 0xc0;
+    /* the longest packet is taken, and rejected for its error control: [1,2] code 4 */
+    WANT(OCP_DONE, ocp_request(&engine, 0, packet, LONGEST, reports, OCP_REQUEST_REPORTS, &written));
+    HOLDS(written == 25 && reports[7] == 1 && reports[8] == 2 && reports[22] == 4);
+    REFUSED(OCP_BUFFER_TOO_SMALL, ocp_drain(&engine, 0, reports, OCP_DRAIN_REPORTS - 1, &written));
+    REFUSED(OCP_NOTHING_DUE, ocp_drain(&engine, 0, reports, OCP_DRAIN_REPORTS, &written));
+    WANT(OCP_DONE, ocp_close(&engine));
+}
+
+/* Identifiers that are not loaded, and numbers out of their ranges. */
+static void procedures(void)
+{
+    struct ocp_outcome outcome = {77, 77};
+    struct ocp_view view = {.status = 77};
+    uint64_t registers[12] = {77}, wide = 77;
+    uint32_t count = 77;
+    uint16_t id = 77;
+    uint8_t octets[512] = {77};
+    WANT(OCP_DONE, ocp_open(&engine, 1, APID, 16, 20));
+    REFUSED(OCP_NOT_LOADED, ocp_step(&engine, 8, &outcome));
+    REFUSED(OCP_NOT_LOADED, ocp_slice(&engine, 8, 1, &count, &outcome));
+    REFUSED(OCP_NO_BUDGET, ocp_slice(&engine, 8, 0, &count, &outcome));
+    REFUSED(OCP_NONE_RUNNING, ocp_next_running(&engine, OCP_NO_PROCEDURE, &id));
+    REFUSED(OCP_NOT_LOADED, ocp_set_break(&engine, 8, 0));
+    REFUSED(OCP_NOT_LOADED, ocp_clear_break(&engine, 8, 0));
+    REFUSED(OCP_NOT_LOADED, ocp_trace(&engine, 8, true));
+    REFUSED(OCP_NOT_LOADED, ocp_memory(&engine, 8, 0x10000000, octets, 4));
+    REFUSED(OCP_NOT_LOADED, ocp_view(&engine, 8, &view, registers, 11));
+    REFUSED(OCP_BUFFER_TOO_SMALL, ocp_view(&engine, 8, &view, registers, 10));
+    REFUSED(OCP_NO_WORD, ocp_pool_word(&engine, 16, &wide));
+    REFUSED(OCP_NO_WORD, ocp_pool_word(&engine, UINT64_MAX, &wide));
+    REFUSED(OCP_NO_ENTRY, ocp_entry(&engine, 0, octets, sizeof octets, &written));
+
+    WANT(OCP_DONE, load());
+    REFUSED(OCP_NOT_RUNNING, ocp_step(&engine, 7, &outcome));
+    REFUSED(OCP_NOT_RUNNING, ocp_slice(&engine, 7, 1, &count, &outcome));
+    REFUSED(OCP_NONE_RUNNING, ocp_next_running(&engine, 7, &id));
+    REFUSED(OCP_NOT_AN_INSTRUCTION, ocp_set_break(&engine, 7, 3));
+    REFUSED(OCP_NOT_SET, ocp_clear_break(&engine, 7, 0));
+    REFUSED(OCP_OUTSIDE_MEMORY, ocp_memory(&engine, 7, 0x10000fff, octets, 2));
+    REFUSED(OCP_OUTSIDE_MEMORY, ocp_memory(&engine, 7, UINT64_MAX, octets, 2));
+    REFUSED(OCP_BUFFER_TOO_SMALL, ocp_entry(&engine, 0, octets, 7 + 16, &written));
+    REFUSED(OCP_NO_ENTRY, ocp_entry(&engine, 1, octets, 0, &written));
+    REFUSED(OCP_NO_ENTRY, ocp_entry(&engine, UINT32_MAX, octets, sizeof octets, &written));
+    HOLDS(outcome.kind == 77 && view.status == 77 && registers[0] == 77 && wide == 77 && count == 77 && id == 77);
+    HOLDS(octets[0] == 77);
+
+    /* a breakpoint that stands there, a buffer that is longer than it has to be, and the entry of the load */
+    WANT(OCP_DONE, ocp_set_break(&engine, 7, 0));
+    REFUSED(OCP_ALREADY_SET, ocp_set_break(&engine, 7, 0));
+    WANT(OCP_DONE, ocp_clear_break(&engine, 7, 0));
+    WANT(OCP_DONE, ocp_trace(&engine, 7, true));
+    registers[11] = 77;
+    WANT(OCP_DONE, ocp_view(&engine, 7, &view, registers, 12));
+    HOLDS(registers[10] == 0x10001000 && registers[11] == 77 && view.status == OCP_INACTIVE);
+    WANT(OCP_DONE, ocp_entry(&engine, 0, octets, sizeof octets, &written));
+    HOLDS(written == 7 + 11 + sizeof load_7 + 2 && octets[0] == OCP_ENTRY_REQUEST && octets[6] == 5);
+    HOLDS(memcmp(octets + 7 + 11, load_7, sizeof load_7) == 0);
+    WANT(OCP_DONE, ocp_close(&engine));
+}
+
+/* A journal with room for four entries: what comes behind them is refused, and what is refused before that too. */
+static void full_journal(void)
+{
+    struct ocp_outcome outcome;
+    uint32_t count;
+    WANT(OCP_DONE, open_small());
+    WANT(OCP_DONE, load());
+    WANT(OCP_DONE, activate());
+    WANT(OCP_DONE, stop());
+    WANT(OCP_DONE, ocp_slice(&engine, 7, 1000, &count, &outcome));
+    HOLDS(count == 2 && outcome.kind == OCP_CALLED);
+    REFUSED(OCP_JOURNAL_FULL, request(STATUS, load_7, 0));
+    REFUSED(OCP_JOURNAL_FULL, drain());
+    REFUSED(OCP_JOURNAL_FULL, ocp_set_break(&engine, 7, 0));
+    REFUSED(OCP_NOT_SET, ocp_clear_break(&engine, 7, 0));
+    REFUSED(OCP_JOURNAL_FULL, ocp_trace(&engine, 7, false));
+    REFUSED(OCP_NOT_RUNNING, ocp_step(&engine, 7, &outcome));
+    REFUSED(OCP_DISCARDED_SHORT, ocp_request(&engine, 0, packet, 3, reports, OCP_REQUEST_REPORTS, &written));
+    WANT(OCP_DONE, ocp_close(&engine));
+}
+
+/* A pass with each growth of each call refused in turn. */
+static void memory(void)
+{
+    struct ocp_outcome outcome;
+    uint32_t count;
+    WANT(OCP_DONE, ocp_open(&engine, 1, APID, 16, 20));
+    each_growth("load", load);
+    each_growth("activate", activate);
+    each_growth("stop", stop);
+    WANT(OCP_DONE, ocp_slice(&engine, 7, 1000, &count, &outcome));
+    each_growth("drain", drain);
+    uint64_t events;
+    WANT(OCP_DONE, ocp_events(&engine, &events));
+    HOLDS(events == 3 + 2 + 1); /* each request once, two instructions, one drain */
+    WANT(OCP_DONE, ocp_close(&engine));
+}
+
+int main(void)
+{
+    closed_handle();
+    numbers();
+    packets();
+    procedures();
+    full_journal();
+    memory();
+    printf("calls: %d answers, %d faults\n", tried, faults);
+    return faults != 0;
+}

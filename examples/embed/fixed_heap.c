@@ -1,0 +1,102 @@
+/* The engine's memory from one static block, in place of liblibc_c.a: no call of malloc anywhere.
+ *
+ * First fit. Each piece has a head of 16 octets; pieces lie one behind the other, and free neighbours are joined when a
+ * search comes by. A call takes time by the number of pieces. All pieces are aligned to 16. For one thread.
+ * The block has FIXED_HEAP_OCTETS octets, a multiple of 16: cc -DFIXED_HEAP_OCTETS=1048576 .. */
+#include "fixed_heap.h"
+
+#include <stdalign.h>
+#include <stdint.h>
+#include <string.h>
+
+#ifndef FIXED_HEAP_OCTETS
+#define FIXED_HEAP_OCTETS (16 * 1024 * 1024)
+#endif
+
+struct head {
+    alignas(16) size_t octets; /* how many follow this head, a multiple of 16 */
+    bool used;
+};
+
+static alignas(16) unsigned char block[FIXED_HEAP_OCTETS];
+static bool begun;
+static size_t in_use, most_in_use;
+
+_Static_assert(sizeof(struct head) == 16 && FIXED_HEAP_OCTETS % 16 == 0 && FIXED_HEAP_OCTETS >= 32, "the block's form");
+
+static struct head *first(void)
+{
+    struct head *head = (struct head *)block;
+    if (!begun)
+        *head = (struct head){sizeof block - sizeof *head, false};
+    begun = true;
+    return head;
+}
+
+static struct head *next(struct head *head)
+{
+    unsigned char *behind = (unsigned char *)(head + 1) + head->octets;
+    return behind < block + sizeof block ? (struct head *)behind : NULL;
+}
+
+/* Leaves this many octets to the piece; what is behind them becomes a free piece, where it has room for one. */
+static void cut(struct head *head, size_t octets)
+{
+    if (head->octets < octets + 2 * sizeof *head)
+        return;
+    struct head *rest = (struct head *)((unsigned char *)(head + 1) + octets);
+    *rest = (struct head){head->octets - octets - sizeof *head, false};
+    head->octets = octets;
+}
+
+struct fixed_heap_answer rattle_alloc(size_t octets, size_t align)
+{
+    size_t wanted = octets == 0 ? align : octets;
+    if (wanted <= sizeof block && align <= 16) {
+        wanted = (wanted + 15) / 16 * 16;
+        for (struct head *head = first(); head != NULL; head = next(head)) {
+            if (head->used)
+                continue;
+            for (struct head *behind = next(head); behind != NULL && !behind->used; behind = next(head))
+                head->octets += sizeof *behind + behind->octets;
+            if (head->octets < wanted)
+                continue;
+            cut(head, wanted);
+            head->used = true;
+            in_use += sizeof *head + head->octets;
+            most_in_use = in_use > most_in_use ? in_use : most_in_use;
+            return (struct fixed_heap_answer){true, head + 1};
+        }
+    }
+    return (struct fixed_heap_answer){false, block}; /* refused: the pointer is not null, and means nothing */
+}
+
+void rattle_dealloc(void *piece)
+{
+    struct head *head = (struct head *)piece - 1;
+    head->used = false;
+    in_use -= sizeof *head + head->octets;
+}
+
+struct fixed_heap_answer rattle_realloc(void *piece, size_t kept, size_t octets, size_t align)
+{
+    struct head *head = (struct head *)piece - 1;
+    if (octets != 0 && octets <= head->octets)
+        return (struct fixed_heap_answer){true, piece};
+    struct fixed_heap_answer got = rattle_alloc(octets, align);
+    if (got.ok) {
+        memcpy(got.piece, piece, kept < octets ? kept : octets);
+        rattle_dealloc(piece);
+    }
+    return got;
+}
+
+size_t fixed_heap_most_in_use(void)
+{
+    return most_in_use;
+}
+
+size_t fixed_heap_in_use(void)
+{
+    return in_use;
+}

@@ -1,0 +1,221 @@
+/* The console's lines over the library, to compare the two: a script of lines on standard input gives the transcript that
+ * `ocp run` gives of it. It has no `send`, `trace` without words, and `work`.
+ *
+ *   lines PROFILE APID POOL_WORDS JOURNAL_ENTRIES [JOURNAL]
+ *
+ * At the end the journal is written to the file JOURNAL, if one is named. Status: 0 done, 1 a line that is none of these,
+ * 2 wrong words, 3 no engine. */
+#include "journal_file.h"
+#include "ocp_engine.h"
+
+#include <inttypes.h>
+#include <stdio.h>
+#include <stdlib.h>
+#include <string.h>
+
+enum { LINE = 40002, MOST_MEMORY = 256, SECONDARY = 17 };
+
+static struct ocp_engine engine = OCP_CLOSED;
+static uint32_t seconds;
+
+static const char *name_of(uint32_t status)
+{
+    static const char *const names[] = {
+        [OCP_MEMORY] = "Memory", [OCP_JOURNAL_FULL] = "JournalFull", [OCP_DISCARDED_SHORT] = "Short",
+        [OCP_DISCARDED_VERSION] = "Version", [OCP_DISCARDED_LENGTH] = "Length",
+        [OCP_DISCARDED_NOT_TELECOMMAND] = "NotTelecommand", [OCP_DISCARDED_OTHER_APID] = "OtherApid",
+        [OCP_NOTHING_DUE] = "NothingDue", [OCP_NOT_LOADED] = "NotLoaded", [OCP_NOT_RUNNING] = "NotRunning",
+        [OCP_NOT_AN_INSTRUCTION] = "NotAnInstruction", [OCP_ALREADY_SET] = "AlreadySet",
+        [OCP_BREAKS_FULL] = "BreaksFull", [OCP_NOT_SET] = "NotSet", [OCP_OUTSIDE_MEMORY] = "OutsideMemory"};
+    const char *name = status < sizeof names / sizeof *names ? names[status] : NULL;
+    return name != NULL ? name : "OtherStatus";
+}
+
+static void print_hex(const uint8_t *octets, size_t length)
+{
+    for (size_t at = 0; at < length; at++)
+        printf("%02x", octets[at]);
+    printf("\n");
+}
+
+/* ---- reports */
+
+static uint32_t two(const uint8_t *octets)
+{
+    return (uint32_t)octets[0] << 8 | octets[1];
+}
+
+static void print_reports(const uint8_t *reports, size_t length)
+{
+    for (size_t size; length > 0; reports += size, length -= size) {
+        size = two(reports + 4) + 7;
+        printf("tm %u %u seq %" PRIu32 " dest %" PRIu32 " data ", reports[7], reports[8], two(reports + 2) & 0x3fff,
+               two(reports + 11));
+        print_hex(reports + SECONDARY, size - SECONDARY - 2);
+    }
+}
+
+static void print_answer(uint32_t status, const uint8_t *reports, size_t length)
+{
+    if (status == OCP_DONE)
+        print_reports(reports, length);
+    else if (status >= OCP_DISCARDED_SHORT && status <= OCP_DISCARDED_OTHER_APID)
+        printf("discarded %s\n", name_of(status));
+    else
+        printf("refused %s\n", name_of(status));
+}
+
+static bool up(const char *digits)
+{
+    static uint8_t packet[LINE / 2];
+    static uint8_t reports[OCP_REQUEST_REPORTS];
+    size_t length = strlen(digits), written = 0;
+    if (length % 2 != 0 || strspn(digits, "0123456789abcdefABCDEF") != length)
+        return false;
+    for (size_t at = 0; at < length / 2; at++)
+        packet[at] = (uint8_t)strtoul((char[]){digits[2 * at], digits[2 * at + 1], '\0'}, NULL, 16);
+    uint32_t status = ocp_request(&engine, seconds, packet, length / 2, reports, sizeof reports, &written);
+    print_answer(status, reports, written);
+    return true;
+}
+
+static void drain(void)
+{
+    static uint8_t reports[OCP_DRAIN_REPORTS];
+    size_t written = 0;
+    uint32_t status = ocp_drain(&engine, seconds, reports, sizeof reports, &written);
+    print_answer(status, reports, written);
+}
+
+/* ---- instructions and the debugger */
+
+static void step(uint16_t id, uint32_t budget)
+{
+    static const char *const kinds[] = {"Broke", "Ran", "Called", "Ended", "Faulted"};
+    uint32_t count = 0;
+    struct ocp_outcome last = {0, 0};
+    uint32_t status = ocp_slice(&engine, id, budget, &count, &last);
+    printf("step %u %" PRIu32 " %s", id, count, status == OCP_DONE ? kinds[last.kind] : name_of(status));
+    if (status == OCP_DONE && last.kind == OCP_FAULTED)
+        printf(" %" PRIu32, last.fault);
+    printf("\n");
+}
+
+static void print_command(uint32_t status, const char *done)
+{
+    printf(" %s\n", status == OCP_DONE ? done : name_of(status));
+}
+
+static void memory(uint16_t id, uint64_t address, size_t length)
+{
+    uint8_t octets[MOST_MEMORY];
+    uint32_t status = ocp_memory(&engine, id, address, octets, length);
+    if (status != OCP_DONE) {
+        printf("mem %u %s\n", id, name_of(status));
+        return;
+    }
+    printf("mem %u 0x%016" PRIx64 " ", id, address);
+    print_hex(octets, length);
+}
+
+static void view(uint16_t id)
+{
+    static const char *const statuses[] = {"inactive", "running", "held"};
+    static const char *const causes[] = {"none", "exited", "stopped", "aborted", "fault"};
+    static const char *const pendings[] = {"none", "stop", "suspend"};
+    struct ocp_view seen;
+    uint64_t registers[11];
+    if (ocp_view(&engine, id, &seen, registers, 11) != OCP_DONE) {
+        printf("view %u NotLoaded\n", id);
+        return;
+    }
+    printf("view %u %s %s", id, statuses[seen.status], causes[seen.cause]);
+    if (seen.cause == OCP_FAULT)
+        printf("%" PRIu32, seen.fault);
+    printf(" place %" PRIu32 " depth %" PRIu32 " pending %s", seen.place, seen.depth, pendings[seen.pending]);
+    if (seen.pending != OCP_NOTHING_PENDING)
+        printf(" %" PRIu32, seen.pending_step);
+    printf("\n");
+    for (int at = 0; at < 11; at++)
+        printf("r%d %016" PRIx64 "\n", at, registers[at]);
+}
+
+static void pool(uint64_t index)
+{
+    uint64_t word;
+    if (ocp_pool_word(&engine, index, &word) == OCP_DONE)
+        printf("pool %" PRIu64 " %016" PRIx64 "\n", index, word);
+    else
+        printf("pool %" PRIu64 " BadPoolIndex\n", index);
+}
+
+/* ---- lines */
+
+static bool debug_line(const char *line)
+{
+    uint16_t id, place;
+    char on[4];
+    if (sscanf(line, "break %" SCNu16 " %" SCNu16, &id, &place) == 2) {
+        printf("break %u %u", id, place);
+        print_command(ocp_set_break(&engine, id, place), "set");
+    } else if (sscanf(line, "unbreak %" SCNu16 " %" SCNu16, &id, &place) == 2) {
+        printf("unbreak %u %u", id, place);
+        print_command(ocp_clear_break(&engine, id, place), "cleared");
+    } else if (sscanf(line, "trace %" SCNu16 " %3s", &id, on) == 2) {
+        printf("trace %u", id);
+        print_command(ocp_trace(&engine, id, strcmp(on, "on") == 0), on);
+    } else {
+        return false;
+    }
+    return true;
+}
+
+static bool line_of_script(const char *line)
+{
+    uint16_t id;
+    uint32_t number;
+    uint64_t wide, events = 0;
+    size_t length;
+    if (strncmp(line, "up ", 3) == 0)
+        return up(line + 3);
+    if (strcmp(line, "up") == 0)
+        return up("");
+    if (sscanf(line, "time %" SCNu32, &number) == 1)
+        seconds = number;
+    else if (sscanf(line, "step %" SCNu16 " %" SCNu32, &id, &number) == 2)
+        step(id, number);
+    else if (sscanf(line, "mem %" SCNu16 " 0x%" SCNx64 " %zu", &id, &wide, &length) == 3 && length <= MOST_MEMORY)
+        memory(id, wide, length);
+    else if (sscanf(line, "view %" SCNu16, &id) == 1)
+        view(id);
+    else if (sscanf(line, "pool %" SCNu64, &wide) == 1)
+        pool(wide);
+    else if (strcmp(line, "drain") == 0)
+        drain();
+    else if (strcmp(line, "journal") == 0 && ocp_events(&engine, &events) == OCP_DONE)
+        printf("journal %" PRIu64 "\n", events);
+    else
+        return debug_line(line) || line[0] == '#' || line[0] == '\0';
+    return true;
+}
+
+int main(int words, char **word)
+{
+    static char line[LINE];
+    uint32_t numbers[4];
+    if (words < 5 || words > 6)
+        return 2;
+    for (int at = 0; at < 4; at++)
+        numbers[at] = (uint32_t)strtoul(word[at + 1], NULL, 10);
+    if (ocp_open(&engine, numbers[0], numbers[1], numbers[2], numbers[3]) != OCP_DONE)
+        return 3;
+    bool known = true;
+    while (known && fgets(line, sizeof line, stdin) != NULL) {
+        line[strcspn(line, "\r\n")] = '\0';
+        known = line_of_script(line);
+    }
+    if (words == 6 && !write_journal(&engine, word[5], numbers[0], numbers[1], numbers[2]))
+        return 3;
+    ocp_close(&engine);
+    return known ? 0 : 1;
+}
