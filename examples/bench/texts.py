@@ -4,11 +4,15 @@ import shutil
 import tempfile
 from pathlib import Path
 
-from passes import OCTETS, Refused, run
+from bounds import OCTETS, Refused, run
 
 HERE = Path(__file__).resolve().parent
 BUILD = HERE.parent / "c" / "build"
 CLANG = ("clang", "llvm-objcopy", "llvm-objdump")
+SAYS = {"Syntax": "this is no instruction of the assembly: see the forms below, and docs/MANUAL.md, sections 6 and 13",
+        "Range": "a number is outside of its range, a width does not exist, or a label is too far away",
+        "DuplicateLabel": "an earlier line has given this name", "UnknownLabel": "no line gives this name",
+        "TooLong": "a text has at most 1,048,576 octets"}
 
 
 def has_clang():
@@ -53,7 +57,16 @@ def places_of_c(file, image):
     return places
 
 
-def assembled(program, language, text, profile):
+def fault_of(output, said, names):
+    """The line of a refused text, and why: the program's own sentence, else its word in other words."""
+    found = re.match(r"error (\d+) (\w+)(?: (\d+))?", output)
+    if not found:
+        return [0, said.strip() or "it was not assembled"]
+    why = names.get(f"load {found[3]}") if found[2] == "Load" else SAYS.get(found[2])
+    return [int(found[1]), f"{found[2]}{f' {found[3]}' if found[3] else ''}: {said.strip() or why or ''}".rstrip(": ")]
+
+
+def assembled(program, language, text, profile, names):
     if len(text.encode()) > OCTETS:
         raise Refused(f"the text has over {OCTETS:,} octets")
     faults = []
@@ -77,8 +90,7 @@ def assembled(program, language, text, profile):
         output, said, status = run([program, "asm", "--profile", str(profile)], text)
         image = output.strip() if status == 0 else ""
         if status:
-            line = re.match(r"error (\d+)", output)
-            faults.append([int(line[1]) if line else 0, output.strip() or said.strip()])
+            faults.append(fault_of(output, said, names))
         listing = listing_of(program, image) if image else []
         places = places_of_assembly(text, listing)
     return {"image": image, "listing": listing, "places": places, "faults": faults, "said": said}

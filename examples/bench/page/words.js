@@ -1,8 +1,33 @@
 // Reports in words: the request, its stage, the code's name, and the line that asked.
+import { it } from "./shared.js";
+
 const STAGES = { 1: "accepted", 2: "not accepted", 3: "started", 4: "not started", 7: "completed", 8: "not completed" };
 const STATUSES = ["inactive", "running", "held"];
+let asking = new Map();
 
-export function inWords(shown, names, lines, at) {
+// The lines of each request ID, in their order.
+export function readRequests(apid) {
+    asking = new Map();
+    let sent = 0;
+    it.lines.forEach((line, index) => {
+        const [word, octets] = line.trim().split(/ +/, 2);
+        if (word !== "send" && word !== "up") return;
+        const name = word === "send" ? ((0x18000000 | apid << 16 | 0xc000 | sent % 16384) >>> 0).toString(16) :
+            (octets || "").slice(0, 8).toLowerCase();
+        if (word === "send") sent += 1;
+        if (!asking.has(name)) asking.set(name, []);
+        asking.get(name).push(index);
+    });
+}
+
+function asked(request, until) {
+    const index = (asking.get(request) || []).filter(each => each <= until).at(-1);
+    if (index === undefined) return `request ${request}`;
+    const words = it.lines[index].trim().split(/ +/);
+    return `line ${index + 1}, ${words[0] === "send" ? words.slice(2, 4).join(" ") : "up"}`;
+}
+
+export function inWords(shown, line) {
     const found = /^tm (\d+) (\d+) seq \d+ dest (\d+) data ([0-9a-f]*)$/.exec(shown);
     if (!found) return "";
     const [, service, subtype, , data] = found;
@@ -12,20 +37,10 @@ export function inWords(shown, names, lines, at) {
             `${number(1 + 3 * index, 3 + 3 * index)} ${STATUSES[number(3 + 3 * index, 4 + 3 * index)]}`);
         return `status: ${each.join(", ") || "nothing is loaded"}`;
     }
-    let asked = `request ${data.slice(0, 8)}`;
-    let sent = -1;
-    lines.slice(0, at + 1).forEach((line, index) => {
-        const words = line.trim().split(/ +/);
-        if (words[0] === "send") sent += 1;
-        if ((words[0] === "send" && sent % 16384 === (number(2, 4) & 0x3fff)) ||
-            (words[0] === "up" && (words[1] || "").toLowerCase().startsWith(data.slice(0, 8)))) {
-            asked = `line ${index + 1}, ${words[0] === "send" ? words.slice(2, 4).join(" ") : "up"}`;
-        }
-    });
     let reason = "";
     if (Number(subtype) % 2 === 0) {
-        reason = `: ${number(4, 6)} ${names[`code ${number(4, 6)}`] || ""}`;
-        if (data.length > 12) reason += `, ${names[`load ${number(6, 7)}`] || number(6, 7)} at slot ${number(7, 9)}`;
+        reason = `: ${number(4, 6)} ${it.names[`code ${number(4, 6)}`] || ""}`;
+        if (data.length > 12) reason += `, ${it.names[`load ${number(6, 7)}`] || number(6, 7)} at slot ${number(7, 9)}`;
     }
-    return `${asked}: ${STAGES[subtype] || "report"}${reason}`;
+    return `${asked(data.slice(0, 8), line)}: ${STAGES[subtype] || "report"}${reason}`;
 }

@@ -1,0 +1,286 @@
+"""The page in a headless browser: what an author, an operator and a keyboard do with it."""
+import importlib.util
+import shutil
+import tempfile
+import time
+from pathlib import Path
+
+LOADS = "b7010000010000008500000005000000b70100000200000085000000050000009500000000000000"
+
+
+class Page:
+    """The page, and what the tests do with it."""
+
+    def __init__(self, driver, check):
+        from selenium.webdriver.common.by import By
+        from selenium.webdriver.common.keys import Keys
+        self.driver, self.check, self.by, self.keys = driver, check, By, Keys
+
+    def find(self, name):
+        return self.driver.find_element(self.by.ID, name)
+
+    def shown(self, name):
+        return self.find(name).get_attribute("textContent")
+
+    def script(self, text, *given):
+        return self.driver.execute_script(text, *given)
+
+    def key(self, *words):
+        self.script("document.activeElement.blur()")
+        for word in words:
+            self.driver.find_element(self.by.TAG_NAME, "body").send_keys(word)
+
+    def until(self, name, holds, seconds=8):
+        end = time.monotonic() + seconds
+        while not holds() and time.monotonic() < end:
+            time.sleep(0.05)
+        self.check(f"page: {name}", holds())
+
+    def write(self, name, text):
+        area = self.find(name)
+        area.send_keys(self.keys.CONTROL, "a")
+        area.send_keys(self.keys.BACKSPACE, text, self.keys.ESCAPE)
+
+    def set(self, name, text):
+        """As `write`, for texts that are long to type."""
+        self.script("const area = document.getElementById(arguments[0]); area.value = arguments[1];"
+                    "area.dispatchEvent(new Event('input'))", name, text)
+
+    def press(self, *wanted):
+        for name in wanted:
+            next(each for each in self.driver.find_elements(self.by.TAG_NAME, "button") if each.text == name).send_keys(self.keys.ENTER)
+            time.sleep(0.4)
+
+    def marks(self, area, kind):
+        """The lines that bear a mark inside of a text, each with its hint."""
+        return self.script("const box = document.getElementById(arguments[0]).parentElement, first = Number(box.querySelector('.gutter')"
+                           ".textContent.split('\\n')[0]); return [...box.querySelectorAll('.bar.' + arguments[1])].map(bar =>"
+                           "[Math.round((parseFloat(bar.style.top) - 4) / 18) + first, bar.textContent])", area, kind)
+
+    def press_tab(self):
+        from selenium.webdriver.common.action_chains import ActionChains
+        ActionChains(self.driver).send_keys(self.keys.TAB).perform()
+
+    def took(self):
+        return int(self.find("where").get_attribute("data-took") or 99999)
+
+
+def walks(page, pictures):
+    keys = page.keys
+    page.write("text", "mov64 r0, 5\nadd64 r0, 2\nexit\n")
+    page.until("listing", lambda: "add64 r0, 2" in page.shown("listing"))
+    page.press("Load", "Activate", "Step")
+    page.until("r0 = 7", lambda: "r00000000000000007" in page.shown("registers"))
+    page.key(keys.ARROW_LEFT), page.key(keys.ARROW_LEFT)
+    page.until("one step back, r0 = 5", lambda: "r00000000000000005" in page.shown("registers"))
+    page.until("the next line is marked in the text", lambda: page.marks("text", "next") == [[2, ""]])
+    if pictures:
+        page.driver.save_screenshot(str(pictures / "bench-walk.png"))
+    page.driver.refresh()
+    page.until("a reload loses nothing", lambda: "Ended" in page.shown("rows") and "add64 r0, 2" in page.shown("listing"))
+    page.key(keys.HOME, keys.ARROW_DOWN)
+    page.until("the packets of a line", lambda: "acknowledgement flags9: acceptance, completion" in page.shown("packets"))
+    page.until("its reports", lambda: "subtype7: completed" in page.shown("packets"))
+
+
+def faults(page):
+    page.set("text", "; a comment\n\tmov64 r0, 5\nmov r0, 5\nexit\n")
+    page.until("a text with a fault", lambda: [line for line, _ in page.marks("text", "fault")] == [3])
+    page.check("page: its hint", page.marks("text", "fault")[0][1].startswith("Syntax: "))
+    page.write("text", "mov64 r0, 5\ncall 9\nexit\n")
+    page.until("a text that may not be loaded", lambda: page.marks("text", "fault") == [[2, "Load 9: BadCall"]])
+    page.write("script", "journal\nstep 7 0\n")
+    page.until("a script with a fault", lambda: "error 2 Syntax" in page.shown("rows"))
+    page.until("its hint", lambda: [line for line, hint in page.marks("script", "fault") if "1 to 1000000" in hint] == [2])
+    page.write("pool", "0\t")
+    page.until("an option out of range", lambda: "--pool is 1 to 256" in page.shown("message"))
+    page.write("pool", "4\t")
+    page.write("script", "pool 4\npool 3\n")
+    page.until("a pool of four words", lambda: "pool 4 BadPoolIndex" in page.shown("rows"))
+    page.check("page: the words that run it", page.shown("command") == "./ocp run --pool 4 < pass.ocp")
+    page.write("pool", "16\t")
+
+
+def in_c(page):
+    if not page.script("return document.getElementById('language').value") or not all(map(shutil.which, ("clang", "llvm-objdump"))):
+        return print("skipped: no clang")
+    page.press("New")
+    page.script("const field = document.getElementById('language'); field.value = 'c'; field.dispatchEvent(new Event('change'))")
+    page.set("text", "#include \"ocp.h\"\nword entry(const octet *arguments, word count)\n{ return x; }\n")
+    page.until("a fault in C", lambda: any(line == 3 and "undeclared" in hint for line, hint in page.marks("text", "fault")), 20)
+    page.set("text", (Path(__file__).resolve().parent.parent / "c" / "checksum.c").read_text())
+    page.until("a text in C", lambda: "; line" in page.shown("listing"), 20)
+    page.set("script", "")
+    page.press("Load", "Activate", "Step")
+    page.key(page.keys.HOME)
+    page.key(*[page.keys.ARROW_RIGHT] * 4)
+    page.until("a line of C that is next", lambda: len(page.marks("text", "next")) == 1)
+    page.script("window.confirm = () => true")
+    page.press("Close")
+    page.check("page: the tab is closed", len(page.find("tabs").find_elements(page.by.TAG_NAME, "button")) == 1)
+
+
+def walk_back(page, ocp, pictures):
+    """A fault is found by walking back to the store that made it."""
+    image = ocp(["asm"], "lddw r1, 0x20000000\nstxdw [r10-8], r1\nldxdw r2, [r10-8]\nstb [r2], 1\nexit").strip()
+    page.write("script", f"send 0 load 3 {image}\nsend 0 activate 3\nstep 3 9\n")
+    page.until("the new script", lambda: "Faulted 2" in page.shown("rows"))
+    page.key(page.keys.END)
+    page.until("a fault", lambda: "fault2 (WriteToArguments)" in page.shown("view"))
+    page.key(page.keys.HOME), page.key("f")
+    page.until("the fault by its key", lambda: "place 4" in page.shown("view"))
+    page.key(page.keys.ARROW_LEFT), page.key(page.keys.ARROW_LEFT)
+    page.until("the store that made it", lambda: page.script(
+        "return [...document.querySelectorAll('#memory-stack .changed')].map(each => each.textContent).join('')") == "20")
+    page.check("page: the whole region", page.shown("memory-stack").count("\n") == 256 and "10000ff0  00" in page.shown("memory-stack"))
+    if pictures:
+        page.script("document.querySelector('#memory-stack').scrollIntoView({block: 'center'})")
+        page.driver.execute_cdp_cmd("Emulation.setEmulatedMedia", {"features": [{"name": "prefers-color-scheme", "value": "dark"}]})
+        page.driver.set_window_size(800, 1000)
+        time.sleep(0.5)
+        page.driver.save_screenshot(str(pictures / "bench-fault.png"))
+        page.driver.set_window_size(1280, 1000)
+        page.driver.execute_cdp_cmd("Emulation.setEmulatedMedia", {"features": [{"name": "prefers-color-scheme", "value": "light"}]})
+
+
+def breakpoints(page, ocp):
+    image = ocp(["asm"], "mov64 r1, 3\na: sub64 r1, 1\njne64 r1, 0, a\ncall local b\nexit\nb: mov64 r0, 1\nexit").strip()
+    page.write("script", f"send 0 load 3 {image}\nsend 0 activate 3\nbreak 3 2\nstep 3 9\nsend 0 resume 3\nunbreak 3 2\nstep 3 9\n")
+    page.until("the breakpoint's script", lambda: "cleared" in page.shown("rows"))
+    where = lambda: page.shown("where").split(",")[0]
+    page.key(page.keys.HOME)
+    page.until("the start", lambda: where() == "event 0 of 17")
+    for key, event in (("b", 5), ("b", 8), ("b", 10), ("b", 12), ("B", 10), ("B", 8), ("B", 5), ("h", 6)):
+        page.key(key)
+        page.until(f"breakpoint {key} {event}", lambda: where() == f"event {event} of 17")
+    page.key(page.keys.END, page.keys.ARROW_LEFT, page.keys.ARROW_LEFT)
+    page.until("a frame", lambda: "called at place 3" in page.shown("frames"))
+    page.script("document.getElementById('more-records').open = true")
+    page.until("the records", lambda: "call local +1" in page.shown("records"))
+    page.key(page.keys.HOME)
+    page.key(*[page.keys.ARROW_RIGHT] * 3), page.key("m")
+    page.until("a breakpoint of the page", lambda: page.script("return document.querySelectorAll('#listing .marked').length") == 1)
+
+
+def pending(page):
+    page.write("script", f"send 0 load 3 {LOADS}\nsend 0 activate 3\nsend 9 communicate 3 40 41\nsend 9 suspend 3 2\nstep 3 100\ndrain\n")
+    page.until("a pending suspend and its drain", lambda: "line 4, suspend 3: completed" in page.shown("rows"))
+    page.key(page.keys.END, page.keys.ARROW_LEFT, page.keys.ARROW_LEFT)
+    page.until("it is pending", lambda: "pending suspend 2" in page.shown("view"))
+    page.check("page: the mailbox", page.shown("mailbox") == "2 of 16, the oldest first: 40, 41")
+
+
+def by_keyboard(page):
+    """Tab comes to every field, button and table, and no other way is needed."""
+    page.script("document.activeElement.blur(); window.getSelection().removeAllRanges(); scrollTo(0, 0); document.querySelectorAll('details').forEach(each => { each.open = true; })")
+    wanted = set(page.script("return [...document.querySelectorAll('button, input, select, textarea, summary, [tabindex]')].filter(each =>"
+                             "each.tabIndex >= 0 && !each.disabled && each.checkVisibility()).map((each, index) => { each.dataset.reach = index; return index; })"))
+    reached = set()
+    for _ in range(len(wanted) + 40):
+        page.press_tab()
+        found = page.script("return document.activeElement.dataset.reach")
+        reached |= {int(found)} if found else set()
+    lost = page.script("return [...document.querySelectorAll('[data-reach]')].filter(each => arguments[0].includes(Number(each.dataset.reach))).map(each => each.outerHTML.slice(0, 90))",
+                       sorted(wanted - reached))
+    page.check(f"page: Tab does not reach {lost}", not lost)
+    page.check("page: rows are reached by keys", page.script("return document.querySelectorAll('#rows .here').length") == 1)
+
+
+def files(page, ocp, folder):
+    """Files that are dropped and saved; a saved script runs."""
+    drop = ("const data = new DataTransfer(); data.items.add(new File([arguments[1]], arguments[2]));"
+            "document.getElementById(arguments[0]).dispatchEvent(new DragEvent('drop', {dataTransfer: data, bubbles: true, cancelable: true}))")
+    page.script(drop, "text", "mov64 r3, 9\nexit\n", "nine.asm")
+    page.until("a text that is dropped", lambda: "nine.asm" in page.shown("tabs") and "mov64 r3, 9" in page.shown("listing"))
+    page.check("page: the other text stays", len(page.find("tabs").find_elements(page.by.TAG_NAME, "button")) == 2)
+    script = f"send 9 load 3 {LOADS}\nsend 9 activate 3\nstep 3 3\n"
+    page.script(drop, "script", script, "other.ocp")
+    page.until("a script that is dropped", lambda: "step 3 3 Ran" in page.shown("rows"))
+    page.driver.execute_cdp_cmd("Browser.setDownloadBehavior", {"behavior": "allow", "downloadPath": str(folder)})
+    page.press("Save text", "Save script")
+    page.until("two files", lambda: {file.name for file in folder.iterdir()} == {"nine.asm", "pass.ocp"})
+    page.check("page: the saved text", ocp(["asm"], (folder / "nine.asm").read_text()) == "b7030000090000009500000000000000\n")
+    page.check("page: the saved script runs", (folder / "pass.ocp").read_text() == script and
+               ocp(["run"], (folder / "pass.ocp").read_text()).endswith("step 3 3 Ran\n"))
+    opened = folder / "opened.asm"
+    opened.write_text("mov64 r4, 8\nexit\n")
+    page.find("open-text").send_keys(str(opened))
+    page.until("a text that is opened", lambda: "mov64 r4, 8" in page.shown("listing"))
+    page.find("tabs").find_elements(page.by.TAG_NAME, "button")[1].click()
+    page.until("the tab before", lambda: "mov64 r3, 9" in page.shown("listing"))
+
+
+def big(page, ocp):
+    """A pass of 16 procedures and 100,000 events: each click is answered within 0.3 s."""
+    image = ocp(["asm"], "a: add64 r0, 1\nstxdw [r10-8], r0\nja a\n").strip()
+    script = "".join(f"send 0 load {number} {image}\nsend 0 activate {number}\n" for number in range(16))
+    page.set("script", script + "".join(f"step {index % 16} 16\n" for index in range(6250)))
+    page.until("100,032 events", lambda: "of 100032" in page.shown("where"), 30)
+    times = []
+
+    def answered(work):
+        page.script("delete document.getElementById('where').dataset.took")
+        work()
+        page.until("an answer", lambda: page.find("where").get_attribute("data-took"), 5)
+        times.append(page.took())
+    for part in (5, 17, 40, 63, 88, 97, 31):
+        answered(lambda: page.script("const lanes = document.getElementById('lanes'), box = lanes.getBoundingClientRect(); lanes.dispatchEvent("
+                                     "new MouseEvent('click', {clientX: box.left + 64 + arguments[0] / 100 * (box.width - 74), clientY: box.top + 30, bubbles: true}))", part))
+    for word in (page.keys.ARROW_LEFT, page.keys.ARROW_RIGHT, page.keys.ARROW_UP, page.keys.ARROW_DOWN, page.keys.HOME, page.keys.END):
+        answered(lambda: page.key(word))
+    shown = page.shown("where")
+    for _ in range(3):
+        page.press("zoom in")
+    page.check("page: a part of the timeline", page.shown("part") != "events 0 to 100032" and page.shown("where") == shown)
+    print(f"a click in 100,032 events of 16 procedures: {sorted(times)[len(times) // 2] / 1000} s, the longest {max(times) / 1000} s")
+    page.check("page: an answer within 0.3 s", sorted(times)[len(times) // 2] <= 300)
+
+
+def nothing_overlaps(page):
+    """At 1280 and 800 columns nothing stands over another thing, and nothing is wider than the page."""
+    for width in (1280, 800):
+        page.driver.set_window_size(width, 1000)
+        time.sleep(0.3)
+        page.check(f"page: {width} columns", page.script("return document.documentElement.scrollWidth <= innerWidth"))
+        over = page.script("""
+            const all = [...document.querySelectorAll('main button:not(.row), main label, main h2, main h3, main table, main pre, main textarea, footer button')]
+                .filter(each => each.checkVisibility() && !each.closest('.editor, #packets, #rows, #records') && each.getBoundingClientRect().width);
+            const boxes = all.map(each => each.getBoundingClientRect()), found = [];
+            boxes.forEach((one, first) => boxes.forEach((other, second) => {
+                if (first < second && !all[first].contains(all[second]) && !all[second].contains(all[first]) && all[first].closest('footer') === all[second].closest('footer') &&
+                    one.left + 1 < other.right && other.left + 1 < one.right && one.top + 1 < other.bottom && other.top + 1 < one.bottom)
+                    found.push(`${all[first].outerHTML.slice(0, 60)} / ${all[second].outerHTML.slice(0, 60)}`);
+            }));
+            return found;""")
+        page.check(f"page: at {width} columns {over}", not over)
+    page.driver.set_window_size(1280, 1000)
+
+
+def page(address, ocp, check, pictures):
+    if not (importlib.util.find_spec("selenium") and shutil.which("chromedriver") and shutil.which("chromium")):
+        return print("skipped: no chromium, chromedriver or selenium")
+    from selenium import webdriver
+    from selenium.webdriver.chrome.service import Service
+    wants = webdriver.ChromeOptions()
+    for word in ("--headless=new", "--no-sandbox", "--disable-dev-shm-usage", "--window-size=1280,1000"):
+        wants.add_argument(word)
+    driver = webdriver.Chrome(service=Service(shutil.which("chromedriver")), options=wants)
+    try:
+        driver.get(address)
+        shown = Page(driver, check)
+        shown.until("the first text", lambda: "exit" in shown.shown("listing"))
+        walks(shown, pictures)
+        walk_back(shown, ocp, pictures)
+        faults(shown)
+        in_c(shown)
+        breakpoints(shown, ocp)
+        pending(shown)
+        nothing_overlaps(shown)
+        by_keyboard(shown)
+        with tempfile.TemporaryDirectory() as folder:
+            files(shown, ocp, Path(folder))
+        big(shown, ocp)
+        severe = [line["message"] for line in driver.get_log("browser") if "status of 4" not in line["message"] and line["level"] == "SEVERE"]
+        check(f"page: {severe}", not severe)
+    finally:
+        driver.quit()

@@ -1,0 +1,76 @@
+// What all parts of the page share: its state, the questions to the server, and what it says of faults.
+export const at = name => document.getElementById(name);
+export const it = {
+    names: {}, clang: false, ranges: {},
+    texts: [], tab: 0,                                  // the texts, and the one that is shown
+    key: null, lines: [], rows: [], starts: [0], total: 0,  // the pass as the program ran it
+    moment: [0, 0], chosen: null, state: null,          // where the walk stands
+    marks: new Map(),                                   // identifier to the places that the page marks
+};
+
+export function say(text) { at("message").textContent = text; }
+
+export async function question(name, body) {
+    const answer = await fetch(name, { method: "POST", headers: { "Content-Type": "application/json" },
+        body: JSON.stringify(body) });
+    const found = await answer.json();
+    if (!answer.ok) throw Object.assign(new Error(found.refused), { status: answer.status });
+    return found;
+}
+
+export function guarded(work) {
+    return async (...given) => {
+        try { return await work(...given); } catch (fault) {
+            say(fault instanceof TypeError ? `The bench does not answer; the texts are kept: ${fault.message}` : fault.message);
+        }
+    };
+}
+
+export function options() {
+    return Object.fromEntries(["apid", "pool", "journal", "profile"].map(name => [name, Number(at(name).value)]));
+}
+
+export function make(tag, text = "", name = "") {
+    const element = document.createElement(tag);
+    element.textContent = text;
+    if (name) element.className = name;
+    return element;
+}
+
+export function button(text, work, name = "") {
+    const element = make("button", text, name);
+    element.type = "button";
+    element.onclick = guarded(work);
+    return element;
+}
+
+const KEPT = ["script", "id", "number", "profile", "apid", "pool", "journal"];
+export function keep() {
+    try {
+        KEPT.forEach(name => localStorage.setItem(`bench ${name}`, at(name).value));
+        localStorage.setItem("bench texts", JSON.stringify(it.texts.map(({ name, language, text }) => ({ name, language, text }))));
+        localStorage.setItem("bench tab", it.tab);
+    } catch { say("This browser keeps no more: save the texts as files."); }
+}
+export function bringBack() {
+    for (const name of KEPT) {
+        const value = localStorage.getItem(`bench ${name}`);
+        if (value !== null) at(name).value = value;
+    }
+    try { it.texts = JSON.parse(localStorage.getItem("bench texts")) || []; } catch { it.texts = []; }
+    it.texts = it.texts.filter(each => typeof each.text === "string" && typeof each.name === "string");
+    it.tab = Math.min(Number(localStorage.getItem("bench tab")) || 0, Math.max(0, it.texts.length - 1));
+}
+
+export function later(work, wait = 300) {
+    let clock;
+    return () => { keep(); clearTimeout(clock); clock = setTimeout(work, wait); };
+}
+
+export function save(name, text) {
+    const link = document.createElement("a");
+    link.href = URL.createObjectURL(new Blob([text]));
+    link.download = name;
+    link.click();
+    setTimeout(() => URL.revokeObjectURL(link.href), 10000);
+}

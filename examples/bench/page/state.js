@@ -1,0 +1,122 @@
+// The state at a moment: procedures, registers, memory, frames, mailbox, records, pool, and what a drain would print.
+import { at, button, it, make } from "./shared.js";
+import { askPass } from "./script.js";
+
+const drawn = new Map();
+let lookTurn = 0, looked = "";
+
+export function showState(state, before, pick) {
+    it.state = state;
+    showProcedures(state, pick);
+    const view = state.views[it.chosen] || [], old = before.views[it.chosen] || [];
+    showView(view);
+    at("registers").replaceChildren(...view.slice(1).map((text, index) => {
+        const row = make("tr"), was = old[index + 1], [name, value] = text.split(" ");
+        const differs = was && was !== text, number = BigInt.asIntN(64, BigInt(`0x${value}`));
+        if (differs) row.className = "changed";
+        const cell = make("td", value);
+        if (differs) cell.append(make("small", `before ${was.split(" ")[1]}`));
+        row.append(make("th", name), cell, make("td", `${number}`));
+        return row;
+    }));
+    for (const name of ["stack", "arguments", "work"]) showRegion(name, state.memory[name], before.memory[name]);
+    at("words").replaceChildren(...state.pool.map((word, index) => {
+        const differs = before.pool[index] !== word;
+        return make("span", `${String(index).padStart(3)} ${word}${differs ? ` before ${before.pool[index]}` : ""}\n`, differs ? "changed" : "");
+    }));
+    at("drain").textContent = state.drain.join("\n");
+    at("mailbox").textContent = mailboxText(state.mailbox, view);
+}
+
+function showProcedures(state, pick) {
+    const had = at("procedures").contains(document.activeElement);
+    at("procedures").replaceChildren(...Object.entries(state.views).map(([id, view]) => {
+        const [, , status, cause, , place] = view[0].split(" ");
+        return button(`${id} ${status}${cause === "none" ? "" : ` ${cause}`} at ${place}`, () => pick(Number(id)), Number(id) === it.chosen ? "here" : "");
+    }));
+    if (had) (at("procedures").querySelector(".here") || document.body).focus();
+}
+
+function showView(view) {
+    if (!view.length) { at("view").textContent = "No procedure is loaded here."; return; }
+    const [, id, status, cause, , place, , depth, , ...pending] = view[0].split(" ");
+    const fault = /^fault(\d)$/.exec(cause);
+    at("view").textContent = `Procedure ${id}: ${status}, cause ${cause}${fault ? ` (${it.names[`machine ${fault[1]}`] || ""})` : ""}, place ${place}, depth ${depth}, pending ${pending.join(" ")}`;
+}
+
+function mailboxText(words, view) {
+    if (!view.length) return "";
+    if (words === null) return / inactive /.test(view[0]) ? "The procedure is inactive: its next activation empties the mailbox." : "The program does not say it here.";
+    return words.length ? `${words.length} of 16, the oldest first: ${words.join(", ")}` : "empty, room for 16";
+}
+
+// One region as a whole table; an octet that the last event changed is marked, and brought into view.
+function showRegion(name, found, past) {
+    const box = at(`memory-${name}`), digits = found ? found[1] : "", old = past ? past[1] : digits;
+    if (drawn.get(name) === digits && digits === old && !box.querySelector(".changed")) return;
+    drawn.set(name, digits);
+    const parts = [];
+    let plain = "";
+    for (let row = 0; row < digits.length; row += 32) {
+        plain += `${(found[0] + row / 2).toString(16).padStart(8, "0")} `;
+        for (let octet = row; octet < row + 32; octet += 2) {
+            const text = digits.slice(octet, octet + 2);
+            plain += octet - row === 16 ? "  " : " ";
+            if (digits[octet] === old[octet] && digits[octet + 1] === old[octet + 1]) { plain += text; continue; }
+            parts.push(plain, make("span", text, "changed"));
+            plain = "";
+        }
+        plain += "\n";
+    }
+    box.replaceChildren(...parts, plain);
+    const changed = box.querySelectorAll(".changed");
+    at(`note-${name}`).textContent = changed.length ? ` ${changed.length} octet${changed.length > 1 ? "s" : ""} changed` : "";
+    if (changed.length) box.scrollTop = changed[0].offsetTop - box.offsetTop - 40;
+    else if (name === "stack" && box.scrollTop === 0) box.scrollTop = box.scrollHeight;
+}
+
+// Frames and records: a run with the trace on. They come behind the state, and are asked for where they are looked at.
+export async function showHistory(moment, walkTo) {
+    const mine = ++lookTurn, id = it.chosen, view = it.state && it.state.views[id];
+    const depth = view ? Number(view[0].split(" ")[7]) : 0;
+    const wanted = `${it.key} ${moment} ${id}`;
+    if (wanted === looked) return;
+    looked = "";
+    at("frames").textContent = depth ? "" : "depth 0: no local call is open";
+    if (!view || !(depth || at("more-records").open)) { at("records").replaceChildren(); return; }
+    let found;
+    try { found = await askPass("history", { done: moment[0], count: moment[1], id }); } catch (fault) {
+        if (mine === lookTurn) { at("frames").textContent = at("records").textContent = fault.message; }
+        return;
+    }
+    if (mine !== lookTurn) return;
+    looked = wanted;
+    const known = found.frames.map(([level, place, saved]) =>
+        `depth ${level}: called at place ${place}, its exit goes to place ${place + 1}; keeps ${saved.map((word, index) => `r${index + 6} ${word}`).join(" ")}`);
+    if (found.frames.length < depth) known.push(`depth ${depth - found.frames.length} and below: called over 256 instructions ago`);
+    if (depth) at("frames").textContent = known.join("\n");
+    const events = eventsBack(moment, id);
+    at("records").replaceChildren(...found.records.map((record, index) => {
+        const before = index ? found.records[index - 1][2] : null, [place, outcome, registers, text] = record;
+        const changes = before ? registers.flatMap((word, at) => word === before[at] ? [] : [`r${at} ${word}`]) : [];
+        const event = events[found.records.length - 1 - index];
+        const row = button(`${String(place).padStart(4)}  ${text.padEnd(28)} ${outcome === "Ran" ? "" : outcome} ${changes.join(" ")}`, () => event !== undefined && walkTo(event), "row");
+        row.tabIndex = -1;
+        return row;
+    }));
+    at("records").scrollTop = at("records").scrollHeight;
+}
+
+// The events of a procedure's last instructions, the last one first.
+function eventsBack([done, count], id) {
+    const events = [];
+    for (let line = done; line >= 0 && events.length < 256; line -= 1) {
+        const row = it.rows[line], step = /^ *step +(\d+) /.exec(it.lines[line] || "");
+        if (!row || line === done && !count) continue;
+        if (row.free) break;
+        if (!step || Number(step[1]) !== id) continue;
+        const all = line === done ? count : row.events - (row.printed.some(shown => / Broke$/.test(shown)) ? 1 : 0);
+        for (let each = all; each > 0 && events.length < 256; each -= 1) events.push(it.starts[line] + each);
+    }
+    return events;
+}

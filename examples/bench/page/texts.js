@@ -1,0 +1,133 @@
+// The texts of procedures, each with a tab: assembly or C, its faults at their lines, its image and its listing.
+import { at, button, guarded, it, keep, later, make, options, question, save, say } from "./shared.js";
+import { editor } from "./editor.js";
+
+const field = editor(at("text"));
+const listings = new Map();
+let asked = 0, listed = "";
+
+export const EXAMPLE = `; Puts three numbers into a table on the stack, and reads
+; a word of the work region by an address that it kept.
+        lddw r6, 0x30000000     ; the work region
+        stdw [r6+16], 30
+        stxdw [r10-8], r6       ; keeps the address
+        mov64 r1, 0
+        mov64 r2, r10
+        add64 r2, -32           ; the table
+again:  stxdw [r2], r1          ; the next number
+        add64 r2, 8
+        add64 r1, 1
+        jle64 r1, 3, again
+        ldxdw r6, [r10-8]       ; the address again
+        ldxdw r0, [r6+16]       ; it faults: who wrote r6?
+        exit
+`;
+const shown = () => it.texts[it.tab];
+const suffix = text => text.language === "c" ? "c" : "asm";
+
+function newText(name, text = "", language = "asm") {
+    it.texts.push({ name, text, language });
+    show(it.texts.length - 1);
+}
+
+export function show(index) {
+    it.tab = Math.max(0, Math.min(index, it.texts.length - 1));
+    at("text").value = shown().text;
+    at("language").value = shown().language;
+    at("name").value = shown().name;
+    tabs();
+    keep();
+    return readText();
+}
+
+function tabs() {
+    at("tabs").replaceChildren(...it.texts.map((text, index) => {
+        const tab = button(`${text.name}${text.faults && text.faults.length ? " ✗" : ""}`, () => show(index));
+        tab.setAttribute("role", "tab");
+        tab.setAttribute("aria-selected", index === it.tab);
+        return tab;
+    }));
+}
+
+function mark(next = null) {
+    const faults = (shown().faults || []).filter(([line]) => line > 0).map(([line, hint]) => ({ line, kind: "fault", hint }));
+    field.mark([...next === null ? [] : [{ line: next, kind: "next", hint: "" }], ...faults], next);
+}
+
+export const readText = guarded(async () => {
+    const mine = ++asked, text = shown();
+    keep();
+    const found = await question("text", { text: text.text, language: text.language, options: options() });
+    if (mine !== asked || text !== shown()) return;
+    say("");
+    Object.assign(text, { image: found.image, places: found.places, faults: found.faults });
+    listings.set(found.image, found.listing);
+    at("faults").textContent = [...found.faults.map(([line, fault]) => line ? `line ${line}: ${fault}` : fault),
+        found.faults.length ? "" : found.said].join("\n").trim();
+    tabs();
+    mark();
+    list(found.image);
+});
+
+// The listing of an image, with the place that is next and the places that are marked.
+function list(image, place = -1) {
+    const rows = listings.get(image) || [], marked = it.marks.get(it.chosen) || new Set(), places = placesOf(image);
+    if (listed !== image || at("listing").childElementCount !== rows.length) {
+        listed = image;
+        at("listing").replaceChildren(...rows.map(([slot, text]) => {
+            const row = make("li", `${String(slot).padStart(4)}  ${places[slot] ? `${text.padEnd(30)} ; line ${places[slot]}` : text}`);
+            row.dataset.slot = slot;
+            return row;
+        }));
+    }
+    for (const row of at("listing").children) {
+        const slot = Number(row.dataset.slot);
+        row.className = `${slot === place ? "here" : ""} ${marked.has(slot) ? "marked" : ""}`;
+        if (slot === place) keepInView(at("listing"), row);
+    }
+}
+export function keepInView(box, row) {
+    const top = row.offsetTop - box.offsetTop;
+    if (top < box.scrollTop || top + 20 > box.scrollTop + box.clientHeight) box.scrollTop = top - box.clientHeight / 3;
+}
+const placesOf = image => (it.texts.find(text => text.image === image) || {}).places || {};
+
+// Shows the code of a procedure at its place: the listing, and the text that has this image.
+export async function showPlace(image, place) {
+    if (image && !listings.has(image)) listings.set(image, (await question("listing", { image })).listing);
+    if (!image) return list(shown().image || "");
+    const index = shown().image === image ? it.tab : it.texts.findIndex(text => text.image === image);
+    if (index >= 0 && index !== it.tab && document.activeElement !== at("text")) {
+        it.tab = index;
+        at("text").value = shown().text;
+        at("language").value = shown().language;
+        at("name").value = shown().name;
+        tabs();
+    }
+    if (index >= 0) mark(shown().image === image ? Number(placesOf(image)[place]) || null : null);
+    list(image, place);
+}
+
+export function start() {
+    if (!it.texts.length) newText("first", "mov64 r0, 5\nadd64 r0, 2\nexit\n"); else show(it.tab);
+    at("text").addEventListener("input", () => { shown().text = at("text").value; });
+    at("text").addEventListener("input", later(readText));
+    at("language").onchange = () => { shown().language = at("language").value; readText(); };
+    at("name").oninput = () => { shown().name = at("name").value; tabs(); keep(); };
+    at("new-text").onclick = () => { newText(`text ${it.texts.length + 1}`); at("text").focus(); };
+    at("close-text").onclick = () => {
+        if (shown().text.trim() && !confirm(`Close "${shown().name}"? Its text is lost.`)) return;
+        it.texts.splice(it.tab, 1);
+        if (it.texts.length) show(it.tab); else newText("first");
+    };
+    at("save-text").onclick = () => save(`${shown().name.replace(/[^\w.-]+/g, "-").replace(/\.(c|asm)$/, "") || "procedure"}.${suffix(shown())}`, shown().text);
+}
+
+export async function open(file) {
+    const language = /\.[ch]$/.test(file.name) ? "c" : "asm", text = await file.text();
+    if (shown().text.trim() === "") Object.assign(shown(), { name: file.name, text, language });
+    else it.texts.push({ name: file.name, text, language });
+    return show(shown().text === text ? it.tab : it.texts.length - 1);
+}
+export function example() { newText("fault", EXAMPLE); return readText(); }
+export const imageShown = () => shown().image;

@@ -1,0 +1,133 @@
+// The walk: a moment is so many whole lines, and then so many instructions of the next one. Every state is the program's.
+import { at, guarded, it, say } from "./shared.js";
+import { askPass, showPackets, showRows } from "./script.js";
+import { showPlace } from "./texts.js";
+import { showHistory, showState } from "./state.js";
+import { draw, readTimeline, zoom } from "./timeline.js";
+
+const states = new Map(), visited = new Map();
+let walking = false, again = null;
+
+const last = () => it.rows.length - (it.rows.at(-1)?.fault ? 1 : 0);
+export const here = () => it.starts[it.moment[0]] + it.moment[1];
+export function momentOf(event) {
+    if (event >= it.total) return [last(), 0];
+    let low = 0, high = it.rows.length;
+    while (low < high) { const mid = (low + high) >> 1; if (it.starts[mid + 1] > event) high = mid; else low = mid + 1; }
+    return [low, Math.max(0, event - it.starts[low])];
+}
+export const walkTo = event => walk(momentOf(Math.max(0, Math.min(it.total, event))));
+
+// A script was read; its first lines, as many as `from`, are those of the one before.
+export async function passRead(place, from) {
+    for (const key of states.keys()) {
+        const [done, count] = key.split(" ").map(Number);
+        if (done + (count ? 1 : 0) > from) states.delete(key);
+    }
+    visited.clear();
+    readTimeline();
+    at("slider").max = it.total;
+    const [done, count] = place || it.moment;
+    const stands = done <= last() && (!count || (it.rows[done] && count < it.rows[done].events));
+    await walk(stands ? [done, count] : [last(), 0]);
+}
+
+async function stateAt([done, count], id) {
+    const key = `${done} ${count} ${id}`;
+    if (!states.has(key)) {
+        states.set(key, await askPass("state", { done, count, id }));
+        if (states.size > 300) states.delete(states.keys().next().value);
+    }
+    return states.get(key);
+}
+
+// Goes to a moment. `id` is the procedure to look at, where it is not the one that the last line names.
+export async function walk(to, id = null) {
+    const began = performance.now();
+    again = { to, id };
+    if (walking) return;
+    walking = true;
+    try {
+        while (again) {
+            const wanted = again, key = it.key;
+            again = null;
+            it.moment = wanted.to;
+            const moment = wanted.to, event = here(), line = moment[1] ? moment[0] : Math.max(0, moment[0] - 1);
+            const row = it.rows[line] || { status: {}, events: 0 }, touched = Object.keys(row.status)[0];
+            if (wanted.id !== null) it.chosen = wanted.id; else if (touched !== undefined) it.chosen = Number(touched);
+            const stands = moment[1] || row.events ? momentOf(Math.max(0, event - 1)) : moment;
+            const [state, before] = await Promise.all([stateAt(moment, it.chosen), stateAt(row.free ? [line, 0] : stands, it.chosen)]);
+            if (again || key !== it.key) continue;
+            await show(moment, event, line, state, before);
+            requestAnimationFrame(() => setTimeout(() => { at("where").dataset.took = Math.round(performance.now() - began); }));
+            guarded(showHistory)(moment, walkTo);
+            guarded(showPackets)(line);
+        }
+    } finally { walking = false; }
+}
+
+async function show(moment, event, line, state, before) {
+    at("slider").value = event;
+    at("slider").setAttribute("aria-valuetext", `event ${event} of ${it.total}`);
+    at("where").textContent = `event ${event} of ${it.total}, ${moment[1] ? `instruction ${moment[1]} of line ${line + 1}` : moment[0] ? `behind line ${moment[0]}` : "at the start"}`;
+    showState(state, before, id => walk(it.moment, id));
+    draw(event);
+    showRows(line);
+    await place(moment, state);
+}
+
+function place(moment, state) {
+    const view = state.views[it.chosen];
+    let image = null;
+    if (view) for (const row of it.rows.slice(0, moment[0])) if (row.image && row.image[0] === it.chosen) [, image] = row.image;
+    return showPlace(image, view ? Number(view[0].split(" ")[5]) : -1);
+}
+
+// To the next line, or the one before, that printed something.
+function jump(pattern, back, name) {
+    const hits = it.rows.map((row, index) => row.printed.some(shown => pattern.test(shown)) ? it.starts[index + 1] : -1).filter(hit => hit >= 0);
+    const event = here(), hit = back ? hits.filter(each => each < event).at(-1) : hits.find(each => each > event);
+    if (hit === undefined) return say(`There is no ${hits.includes(event) ? "other " : ""}${name} ${back ? "before" : "behind"} this event${hits.includes(event) ? ", which is one" : ""}.`);
+    say("");
+    return walk(momentOf(hit));
+}
+
+// To a breakpoint of the procedure in view, whether it held it or not: those of the script, and those marked on the page.
+async function breakpoint(back) {
+    const id = it.chosen, places = new Set(it.marks.get(id) || []);
+    for (const row of it.rows) for (const shown of row.printed) {
+        const found = /^break (\d+) (\d+) set$/.exec(shown);
+        if (found && Number(found[1]) === id) places.add(Number(found[2]));
+    }
+    if (!places.size) return say("This procedure has no breakpoint: click a line of the listing, or press m at a place.");
+    const asked = [...places].sort((one, other) => one - other), key = `${it.key} ${id} ${asked}`;
+    if (!visited.has(key)) visited.set(key, await askPass("visits", { id, places: asked }));
+    const { events, more } = visited.get(key), event = here();
+    const hit = back ? events.filter(each => each < event).at(-1) : events.find(each => each > event);
+    if (hit === undefined) return say(`Procedure ${id} comes to none of its breakpoints ${back ? "before" : "behind"} this event${more ? " (2,000 were looked at)" : ""}.`);
+    say("");
+    return walk(momentOf(hit), id);
+}
+
+export function mark(slot) {
+    if (it.chosen === null) return say("No procedure is in view.");
+    const marks = it.marks.get(it.chosen) || new Set();
+    if (!marks.delete(slot)) {
+        if (marks.size === 8) return say("A procedure has at most 8 breakpoints.");
+        marks.add(slot);
+    }
+    it.marks.set(it.chosen, marks);
+    return walk(it.moment, it.chosen);
+}
+const placeNow = () => { const view = it.state && it.state.views[it.chosen]; return view ? Number(view[0].split(" ")[5]) : -1; };
+
+export const KEYS = {
+    ArrowRight: () => walkTo(here() + 1), ArrowLeft: () => walkTo(here() - 1),
+    ArrowDown: () => walk([Math.min(last(), it.moment[0] + 1), 0]), ArrowUp: () => walk([Math.max(0, it.moment[0] - (it.moment[1] ? 0 : 1)), 0]),
+    b: () => breakpoint(false), B: () => breakpoint(true),
+    h: () => jump(/^step .* Broke$/, false, "breakpoint that held"), H: () => jump(/^step .* Broke$/, true, "breakpoint that held"),
+    f: () => jump(/^step .* Faulted /, false, "fault"), F: () => jump(/^step .* Faulted /, true, "fault"),
+    m: () => placeNow() >= 0 && mark(placeNow()),
+    "+": () => { zoom(1 / 4, here()); draw(here()); }, "-": () => { zoom(4, here()); draw(here()); }, 0: () => { zoom(Infinity, here()); draw(here()); },
+    Home: () => walk([0, 0]), End: () => walk([last(), 0]),
+};
