@@ -48,7 +48,7 @@ class Page:
 
     def press(self, *wanted):
         for name in wanted:
-            next(each for each in self.driver.find_elements(self.by.TAG_NAME, "button") if each.text == name).send_keys(self.keys.ENTER)
+            self.script("return [...document.querySelectorAll('button')].find(each => each.textContent === arguments[0])", name).send_keys(self.keys.ENTER)
             time.sleep(0.4)
 
     def marks(self, area, kind):
@@ -236,6 +236,45 @@ def big(page, ocp):
     page.check("page: an answer within 0.3 s", sorted(times)[len(times) // 2] <= 300)
 
 
+def bad_input(page):
+    """Each bad input has its message, and what was written stays."""
+    kept = page.find("script").get_attribute("value")
+    page.set("script", "\n" * 20_001)
+    page.until("too many lines", lambda: "takes 20,000" in page.shown("message"))
+    page.set("script", "\0\u00ff\ud83d\ude00 step\n")
+    page.until("no text", lambda: "error 1 Syntax" in page.shown("rows"))
+    page.set("text", "\0\u00ff \u2028 exit\n")
+    page.until("no assembly", lambda: [line for line, _ in page.marks("text", "fault")] == [1])
+    page.driver.execute_cdp_cmd("Network.enable", {})
+    gone = {"offline": True, "latency": 0, "downloadThroughput": 0, "uploadThroughput": 0}
+    page.driver.execute_cdp_cmd("Network.emulateNetworkConditions", gone)
+    page.set("script", kept)
+    page.until("the bench is gone", lambda: "does not answer; the texts are kept" in page.shown("message"))
+    page.driver.execute_cdp_cmd("Network.emulateNetworkConditions", dict(gone, offline=False, downloadThroughput=-1, uploadThroughput=-1))
+    page.driver.refresh()
+    page.until("the script is kept", lambda: page.find("script").get_attribute("value") == kept and "drain" in page.shown("rows"))
+
+
+def example(page):
+    """The page's own example: its fault, the store that made it, and the mended text."""
+    page.set("script", "")
+    page.find("example").send_keys(page.keys.ENTER)
+    page.until("the example faults", lambda: "Faulted 1" in page.shown("rows") and "fault1" in page.shown("view"))
+    changed = "return [...document.querySelectorAll('#memory-stack .changed')].map(each => each.textContent).join(' ')"
+    for _ in range(5):
+        page.key(page.keys.ARROW_LEFT)
+        time.sleep(0.3)
+    page.until("the octets of the address", lambda: page.script(changed) == "03 00")
+    page.until("the line behind the store", lambda: [line for line, _ in page.marks("text", "next")] == [10])
+    mended = page.find("text").get_attribute("value").replace("jle64 r1, 3", "jlt64 r1, 3")
+    page.set("text", mended)
+    page.until("the mended listing", lambda: "jlt64 r1, 3" in page.shown("listing"))
+    page.press("Reload")
+    page.until("the mended procedure ends", lambda: "Ended" in page.shown("rows") and "r0000000000000001e" in page.shown("registers"))
+    page.script("window.confirm = () => true")
+    page.press("Close")
+
+
 def nothing_overlaps(page):
     """At 1280 and 800 columns nothing stands over another thing, and nothing is wider than the page."""
     for width in (1280, 800):
@@ -275,12 +314,14 @@ def page(address, ocp, check, pictures):
         in_c(shown)
         breakpoints(shown, ocp)
         pending(shown)
+        bad_input(shown)
+        example(shown)
         nothing_overlaps(shown)
         by_keyboard(shown)
         with tempfile.TemporaryDirectory() as folder:
             files(shown, ocp, Path(folder))
         big(shown, ocp)
-        severe = [line["message"] for line in driver.get_log("browser") if "status of 4" not in line["message"] and line["level"] == "SEVERE"]
+        severe = [line["message"] for line in driver.get_log("browser") if not any(word in line["message"] for word in ("status of 4", "DISCONNECTED")) and line["level"] == "SEVERE"]
         check(f"page: {severe}", not severe)
     finally:
         driver.quit()
