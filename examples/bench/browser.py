@@ -57,6 +57,18 @@ class Page:
                            ".textContent.split('\\n')[0]); return [...box.querySelectorAll('.bar.' + arguments[1])].map(bar =>"
                            "[Math.round((parseFloat(bar.style.top) - 4) / 18) + first, bar.textContent])", area, kind)
 
+    def picture(self, file, width, height, scheme, first):
+        """The page as it is seen, from a part on; the help is closed meanwhile."""
+        scheme_of = lambda name: self.driver.execute_cdp_cmd("Emulation.setEmulatedMedia", {"features": [
+            {"name": "prefers-color-scheme", "value": name}]})
+        scheme_of(scheme)
+        self.driver.set_window_size(width, height)
+        self.script("document.getElementById('help').open = false; document.querySelector(arguments[0]).scrollIntoView()", first)
+        time.sleep(0.5)
+        self.driver.save_screenshot(str(file))
+        self.driver.set_window_size(1280, 1000)
+        scheme_of("light")
+
     def press_tab(self):
         from selenium.webdriver.common.action_chains import ActionChains
         ActionChains(self.driver).send_keys(self.keys.TAB).perform()
@@ -75,7 +87,7 @@ def walks(page, pictures):
     page.until("one step back, r0 = 5", lambda: "r00000000000000005" in page.shown("registers"))
     page.until("the next line is marked in the text", lambda: page.marks("text", "next") == [[2, ""]])
     if pictures:
-        page.driver.save_screenshot(str(pictures / "bench-walk.png"))
+        page.picture(pictures / "bench-walk.png", 1280, 1150, "light", "h1")
     page.driver.refresh()
     page.until("a reload loses nothing", lambda: "Ended" in page.shown("rows") and "add64 r0, 2" in page.shown("listing"))
     page.key(keys.HOME, keys.ARROW_DOWN)
@@ -125,6 +137,7 @@ def walk_back(page, ocp, pictures):
     image = ocp(["asm"], "lddw r1, 0x20000000\nstxdw [r10-8], r1\nldxdw r2, [r10-8]\nstb [r2], 1\nexit").strip()
     page.write("script", f"send 0 load 3 {image}\nsend 0 activate 3\nstep 3 9\n")
     page.until("the new script", lambda: "Faulted 2" in page.shown("rows"))
+    page.until("no text has this image", lambda: page.marks("text", "next") == [])
     page.key(page.keys.END)
     page.until("a fault", lambda: "fault2 (WriteToArguments)" in page.shown("view"))
     page.key(page.keys.HOME), page.key("f")
@@ -134,13 +147,7 @@ def walk_back(page, ocp, pictures):
         "return [...document.querySelectorAll('#memory-stack .changed')].map(each => each.textContent).join('')") == "20")
     page.check("page: the whole region", page.shown("memory-stack").count("\n") == 256 and "10000ff0  00" in page.shown("memory-stack"))
     if pictures:
-        page.script("document.querySelector('#memory-stack').scrollIntoView({block: 'center'})")
-        page.driver.execute_cdp_cmd("Emulation.setEmulatedMedia", {"features": [{"name": "prefers-color-scheme", "value": "dark"}]})
-        page.driver.set_window_size(800, 1000)
-        time.sleep(0.5)
-        page.driver.save_screenshot(str(pictures / "bench-fault.png"))
-        page.driver.set_window_size(1280, 1000)
-        page.driver.execute_cdp_cmd("Emulation.setEmulatedMedia", {"features": [{"name": "prefers-color-scheme", "value": "light"}]})
+        page.picture(pictures / "bench-fault.png", 800, 1150, "dark", "#rows")
 
 
 def breakpoints(page, ocp):

@@ -104,7 +104,7 @@ export async function showPlace(image, place) {
         at("name").value = shown().name;
         tabs();
     }
-    if (index >= 0) mark(shown().image === image ? Number(placesOf(image)[place]) || null : null);
+    mark(shown().image === image ? Number(placesOf(image)[place]) || null : null);
     list(image, place);
 }
 
