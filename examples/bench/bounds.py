@@ -1,4 +1,5 @@
 """Runs a command with bounds on its time, memory, output and files."""
+import re
 import subprocess
 import threading
 
@@ -7,6 +8,11 @@ PRINTED = 32_000_000        # octets of one run
 SECONDS = 10                # of one run
 MEMORY = 2_000_000          # kilobytes of one run
 LIMITS = f'ulimit -c 0; ulimit -t {SECONDS}; ulimit -v {MEMORY}; ulimit -f "$0"; exec "$@"'
+
+
+def sentence(said):
+    """The first line of what a command says of a fault, without the number of the line."""
+    return re.sub(r"^(ocp: )?(line \d+: )?", "", said.strip().split("\n")[0])
 
 
 class Refused(Exception):

@@ -48,7 +48,7 @@ class Page:
 
     def press(self, *wanted):
         for name in wanted:
-            next(each for each in self.driver.find_elements(self.by.TAG_NAME, "button") if each.text == name).send_keys(self.keys.ENTER)
+            self.script("return [...document.querySelectorAll('button')].find(each => each.textContent === arguments[0])", name).send_keys(self.keys.ENTER)
             time.sleep(0.4)
 
     def marks(self, area, kind):
@@ -56,6 +56,18 @@ class Page:
         return self.script("const box = document.getElementById(arguments[0]).parentElement, first = Number(box.querySelector('.gutter')"
                            ".textContent.split('\\n')[0]); return [...box.querySelectorAll('.bar.' + arguments[1])].map(bar =>"
                            "[Math.round((parseFloat(bar.style.top) - 4) / 18) + first, bar.textContent])", area, kind)
+
+    def picture(self, file, width, height, scheme, first):
+        """The page as it is seen, from a part on; the help is closed meanwhile."""
+        scheme_of = lambda name: self.driver.execute_cdp_cmd("Emulation.setEmulatedMedia", {"features": [
+            {"name": "prefers-color-scheme", "value": name}]})
+        scheme_of(scheme)
+        self.driver.set_window_size(width, height)
+        self.script("document.getElementById('help').open = false; document.querySelector(arguments[0]).scrollIntoView()", first)
+        time.sleep(0.5)
+        self.driver.save_screenshot(str(file))
+        self.driver.set_window_size(1280, 1000)
+        scheme_of("light")
 
     def press_tab(self):
         from selenium.webdriver.common.action_chains import ActionChains
@@ -75,7 +87,7 @@ def walks(page, pictures):
     page.until("one step back, r0 = 5", lambda: "r00000000000000005" in page.shown("registers"))
     page.until("the next line is marked in the text", lambda: page.marks("text", "next") == [[2, ""]])
     if pictures:
-        page.driver.save_screenshot(str(pictures / "bench-walk.png"))
+        page.picture(pictures / "bench-walk.png", 1280, 1150, "light", "h1")
     page.driver.refresh()
     page.until("a reload loses nothing", lambda: "Ended" in page.shown("rows") and "add64 r0, 2" in page.shown("listing"))
     page.key(keys.HOME, keys.ARROW_DOWN)
@@ -125,6 +137,7 @@ def walk_back(page, ocp, pictures):
     image = ocp(["asm"], "lddw r1, 0x20000000\nstxdw [r10-8], r1\nldxdw r2, [r10-8]\nstb [r2], 1\nexit").strip()
     page.write("script", f"send 0 load 3 {image}\nsend 0 activate 3\nstep 3 9\n")
     page.until("the new script", lambda: "Faulted 2" in page.shown("rows"))
+    page.until("no text has this image", lambda: page.marks("text", "next") == [])
     page.key(page.keys.END)
     page.until("a fault", lambda: "fault2 (WriteToArguments)" in page.shown("view"))
     page.key(page.keys.HOME), page.key("f")
@@ -134,13 +147,7 @@ def walk_back(page, ocp, pictures):
         "return [...document.querySelectorAll('#memory-stack .changed')].map(each => each.textContent).join('')") == "20")
     page.check("page: the whole region", page.shown("memory-stack").count("\n") == 256 and "10000ff0  00" in page.shown("memory-stack"))
     if pictures:
-        page.script("document.querySelector('#memory-stack').scrollIntoView({block: 'center'})")
-        page.driver.execute_cdp_cmd("Emulation.setEmulatedMedia", {"features": [{"name": "prefers-color-scheme", "value": "dark"}]})
-        page.driver.set_window_size(800, 1000)
-        time.sleep(0.5)
-        page.driver.save_screenshot(str(pictures / "bench-fault.png"))
-        page.driver.set_window_size(1280, 1000)
-        page.driver.execute_cdp_cmd("Emulation.setEmulatedMedia", {"features": [{"name": "prefers-color-scheme", "value": "light"}]})
+        page.picture(pictures / "bench-fault.png", 800, 1150, "dark", "#rows")
 
 
 def breakpoints(page, ocp):
@@ -236,6 +243,45 @@ def big(page, ocp):
     page.check("page: an answer within 0.3 s", sorted(times)[len(times) // 2] <= 300)
 
 
+def bad_input(page):
+    """Each bad input has its message, and what was written stays."""
+    kept = page.find("script").get_attribute("value")
+    page.set("script", "\n" * 20_001)
+    page.until("too many lines", lambda: "takes 20,000" in page.shown("message"))
+    page.set("script", "\0\u00ff\ud83d\ude00 step\n")
+    page.until("no text", lambda: "error 1 Syntax" in page.shown("rows"))
+    page.set("text", "\0\u00ff \u2028 exit\n")
+    page.until("no assembly", lambda: [line for line, _ in page.marks("text", "fault")] == [1])
+    page.driver.execute_cdp_cmd("Network.enable", {})
+    gone = {"offline": True, "latency": 0, "downloadThroughput": 0, "uploadThroughput": 0}
+    page.driver.execute_cdp_cmd("Network.emulateNetworkConditions", gone)
+    page.set("script", kept)
+    page.until("the bench is gone", lambda: "does not answer; the texts are kept" in page.shown("message"))
+    page.driver.execute_cdp_cmd("Network.emulateNetworkConditions", dict(gone, offline=False, downloadThroughput=-1, uploadThroughput=-1))
+    page.driver.refresh()
+    page.until("the script is kept", lambda: page.find("script").get_attribute("value") == kept and "drain" in page.shown("rows"))
+
+
+def example(page):
+    """The page's own example: its fault, the store that made it, and the mended text."""
+    page.set("script", "")
+    page.find("example").send_keys(page.keys.ENTER)
+    page.until("the example faults", lambda: "Faulted 1" in page.shown("rows") and "fault1" in page.shown("view"))
+    changed = "return [...document.querySelectorAll('#memory-stack .changed')].map(each => each.textContent).join(' ')"
+    for _ in range(5):
+        page.key(page.keys.ARROW_LEFT)
+        time.sleep(0.3)
+    page.until("the octets of the address", lambda: page.script(changed) == "03 00")
+    page.until("the line behind the store", lambda: [line for line, _ in page.marks("text", "next")] == [10])
+    mended = page.find("text").get_attribute("value").replace("jle64 r1, 3", "jlt64 r1, 3")
+    page.set("text", mended)
+    page.until("the mended listing", lambda: "jlt64 r1, 3" in page.shown("listing"))
+    page.press("Reload")
+    page.until("the mended procedure ends", lambda: "Ended" in page.shown("rows") and "r0000000000000001e" in page.shown("registers"))
+    page.script("window.confirm = () => true")
+    page.press("Close")
+
+
 def nothing_overlaps(page):
     """At 1280 and 800 columns nothing stands over another thing, and nothing is wider than the page."""
     for width in (1280, 800):
@@ -275,12 +321,14 @@ def page(address, ocp, check, pictures):
         in_c(shown)
         breakpoints(shown, ocp)
         pending(shown)
+        bad_input(shown)
+        example(shown)
         nothing_overlaps(shown)
         by_keyboard(shown)
         with tempfile.TemporaryDirectory() as folder:
             files(shown, ocp, Path(folder))
         big(shown, ocp)
-        severe = [line["message"] for line in driver.get_log("browser") if "status of 4" not in line["message"] and line["level"] == "SEVERE"]
+        severe = [line["message"] for line in driver.get_log("browser") if not any(word in line["message"] for word in ("status of 4", "DISCONNECTED")) and line["level"] == "SEVERE"]
         check(f"page: {severe}", not severe)
     finally:
         driver.quit()

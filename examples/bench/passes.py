@@ -10,7 +10,7 @@ import secrets
 from collections import OrderedDict
 from pathlib import Path
 
-from bounds import OCTETS, Refused, run
+from bounds import OCTETS, Refused, run, sentence
 
 WHY = Path(__file__).resolve().parent.parent.parent / "tools" / "why"
 LINES = 20_000              # of a script
@@ -173,12 +173,12 @@ class Pass:
         """Why the last line is refused: the program's own sentence, or that of tools/why."""
         if self.status != 1 or not self.rows or not self.rows[-1].get("fault"):
             return None
-        if self.said.strip():
-            return self.said.strip()
+        if sentence(self.said):
+            return sentence(self.said)
         if not re.fullmatch(r"error \d+ Syntax", self.rows[-1]["printed"][-1]) or not WHY.exists():
             return None
         output = run([WHY, "--profile", self.profile], self.lines[len(self.rows) - 1] + "\n")[0]
-        return output.split("\n")[0].removeprefix("line 1: ") or None
+        return sentence(output) or None
 
     def answer(self, has=None):
         """The rows, from the first that a page with the pass `has` does not have."""

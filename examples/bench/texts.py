@@ -4,7 +4,7 @@ import shutil
 import tempfile
 from pathlib import Path
 
-from bounds import OCTETS, Refused, run
+from bounds import OCTETS, Refused, run, sentence
 
 HERE = Path(__file__).resolve().parent
 BUILD = HERE.parent / "c" / "build"
@@ -63,7 +63,7 @@ def fault_of(output, said, names):
     if not found:
         return [0, said.strip() or "it was not assembled"]
     why = names.get(f"load {found[3]}") if found[2] == "Load" else SAYS.get(found[2])
-    return [int(found[1]), f"{found[2]}{f' {found[3]}' if found[3] else ''}: {said.strip() or why or ''}".rstrip(": ")]
+    return [int(found[1]), f"{found[2]}{f' {found[3]}' if found[3] else ''}: {sentence(said) or why or ''}".rstrip(": ")]
 
 
 def assembled(program, language, text, profile, names):

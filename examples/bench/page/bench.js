@@ -1,5 +1,5 @@
 // The page: puts its parts together, and hears keys, clicks and files.
-import { at, bringBack, guarded, it, question } from "./shared.js";
+import { at, bringBack, guarded, it, question, say } from "./shared.js";
 import * as texts from "./texts.js";
 import * as script from "./script.js";
 import { KEYS, here, mark, passRead, walk, walkTo } from "./walk.js";
@@ -11,6 +11,7 @@ document.addEventListener("keydown", event => {
     const typing = /TEXTAREA|SELECT|INPUT/.test(event.target.tagName) && event.target.id !== "slider";
     if (typing || event.ctrlKey || event.altKey || event.metaKey || !KEYS[event.key]) return;
     event.preventDefault();
+    say("");
     guarded(KEYS[event.key])();
 });
 at("slider").oninput = guarded(() => walkTo(Number(at("slider").value)));

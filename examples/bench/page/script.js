@@ -26,8 +26,8 @@ export const readScript = guarded(async (place = null) => {
     it.hint = found.hint;
     drawn = [-1, -1];
     readRequests(options().apid);
-    const free = it.rows.some(row => row.free);
-    say(found.status === 1 ? "" : found.said.trim() || (free ? "Threads make the order of a work line free: it counts as one event, and what follows may differ from run to run." : ""));
+    const differs = !found.same && !it.rows.some(row => row.free);
+    say(found.status === 1 ? "" : found.said.trim() || (differs ? "The pass printed something else when it was run again." : ""));
     await walk(place, found.from);
 });
 
@@ -52,6 +52,7 @@ function rowOf(index) {
         const words = inWords(shown, index);
         if (words) said.push(`      = ${words}`);
     }
+    if (row.free) said.push("    threads make the order free: one event here, and what follows may differ from run to run");
     if (row.more) said.push(`    and ${row.more} lines`);
     if (row.fault && it.hint) said.push(`    ${it.hint}`);
     const element = button(said.join("\n"), () => walk(row.fault ? [index, 0] : [index + 1, 0]), `row${row.fault ? " fault" : ""}`);
@@ -106,11 +107,21 @@ export function insert(...added) {
     area.selectionStart = area.selectionEnd = whole.length;
     return readScript([Infinity, 0]);
 }
+function imageOrRefusal() {
+    if (!imageShown()) throw new Error("The text has no image: mend its faults first.");
+    return imageShown();
+}
+// Puts the image of the text into the last line that loads the procedure, and runs the pass anew.
+function reload(id) {
+    const area = at("script"), lines = area.value.split("\n");
+    const line = lines.findLastIndex(each => new RegExp(`^ *send +\\d+ +load +0*${id}( |$)`).test(each));
+    if (line < 0) throw new Error(`No line loads procedure ${id}: press Load.`);
+    lines[line] = lines[line].replace(/^( *send +\d+ +load +\d+).*/, `$1 ${imageOrRefusal()}`);
+    area.value = lines.join("\n");
+    return readScript([Infinity, 0]);
+}
 export const MAKERS = {
-    Load: id => {
-        if (!imageShown()) throw new Error("The text has no image: mend its faults first.");
-        return `send 9 load ${id} ${imageShown()}`;
-    },
+    Load: id => `send 9 load ${id} ${imageOrRefusal()}`,
     Activate: id => at("profile").value === "2" ? `send 1 activate ${id} 0` : `send 1 activate ${id}`,
     Step: (id, n) => `step ${id} ${n}`, "Suspend at step": (id, n) => `send 9 suspend ${id} ${n}`,
     "Stop at step": (id, n) => `send 9 stop ${id} ${n}`, Resume: id => `send 1 resume ${id}`, Abort: id => `send 9 abort ${id}`,
@@ -120,6 +131,7 @@ export const MAKERS = {
 
 export function start() {
     for (const [name, made] of Object.entries(MAKERS)) at("makers").append(button(name, () => insert(made(at("id").value, at("number").value))), " ");
+    at("reload").onclick = guarded(() => reload(Number(at("id").value)));
     at("script").addEventListener("input", later(() => readScript()));
     at("save-script").onclick = () => save("pass.ocp", at("script").value);
 }

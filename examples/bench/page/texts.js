@@ -75,7 +75,7 @@ function list(image, place = -1) {
     if (listed !== image || at("listing").childElementCount !== rows.length) {
         listed = image;
         at("listing").replaceChildren(...rows.map(([slot, text]) => {
-            const row = make("li", `${String(slot).padStart(4)}  ${places[slot] ? `${text.padEnd(30)} ; line ${places[slot]}` : text}`);
+            const row = make("li", `${String(slot).padStart(4)}  ${places[slot] ? `${text.padEnd(28)} ; line ${places[slot]}` : text}`);
             row.dataset.slot = slot;
             return row;
         }));
@@ -104,7 +104,7 @@ export async function showPlace(image, place) {
         at("name").value = shown().name;
         tabs();
     }
-    if (index >= 0) mark(shown().image === image ? Number(placesOf(image)[place]) || null : null);
+    mark(shown().image === image ? Number(placesOf(image)[place]) || null : null);
     list(image, place);
 }
 

@@ -1,13 +1,13 @@
 // The timeline: a lane for each procedure, its status by colour, marks for what happened, and a part that can be chosen.
 import { at, it } from "./shared.js";
 
-const LEFT = 64, LANE = 14, TOP = 16;
+const LEFT = 64, LANE = 14, TOP = 16, LANES = 200;
 let lanes = [], marks = [], part = [0, 1], shape = null;
 
 // What the rows say: stretches of one status for each procedure, and marks at their events.
 export function readTimeline() {
-    const all = [...new Set(it.rows.flatMap(row => Object.keys(row.status)))].map(Number).sort((one, other) => one - other);
-    lanes = all.slice(0, 16).map(id => ({ id, stretches: [] }));
+    const all = new Set(it.rows.flatMap(row => Object.entries(row.status).flatMap(([id, status]) => status ? [Number(id)] : [])));
+    lanes = [...all].sort((one, other) => one - other).slice(0, LANES).map(id => ({ id, stretches: [] }));
     marks = [];
     const now = new Map(), lane = new Map(lanes.map(({ id }, index) => [id, index]));
     it.rows.forEach((row, line) => {
@@ -22,7 +22,7 @@ export function readTimeline() {
         const sign = row.printed.some(shown => /^step .* Faulted /.test(shown)) ? "x" : row.printed.some(shown => /^step .* Broke$/.test(shown)) ? "b" :
             row.printed.some(shown => /^step .* Ended$/.test(shown)) ? "e" : row.printed.some(shown => /^tm 1 [248] /.test(shown)) ? "!" :
             row.printed.some(shown => /^tm /.test(shown)) ? "r" : /^ *(send|up)/.test(it.lines[line]) ? "|" : "";
-        if (sign) marks.push({ event: end, lane: own === undefined ? 0 : own, sign });
+        if (sign) marks.push({ event: end, lane: own === undefined ? lanes.length : own, sign });
     });
     for (const [id, open] of now) { open.end = it.total; lanes[lane.get(id)].stretches.push(open); }
     part = [0, Math.max(1, it.total)];
@@ -42,7 +42,7 @@ export function eventAt(offset) {
 export function draw(event) {
     if (event < part[0] || event > part[1]) zoom(1, event);
     const canvas = at("lanes"), style = getComputedStyle(document.documentElement), scale = window.devicePixelRatio || 1;
-    shape = { width: canvas.clientWidth, height: TOP + Math.max(1, lanes.length) * LANE + 4 };
+    shape = { width: canvas.clientWidth, height: TOP + (lanes.length + 1) * LANE + 4 };
     canvas.style.height = `${shape.height}px`;
     canvas.width = shape.width * scale;
     canvas.height = shape.height * scale;
@@ -60,7 +60,9 @@ export function draw(event) {
             paint.fillRect(left, TOP + lane * LANE + 2, Math.max(1, Math.min(x(end), shape.width - 10) - left), LANE - 5);
         }
     });
-    let taken = new Set();
+    paint.fillStyle = ink("ink");
+    paint.fillText("others", 2, TOP + lanes.length * LANE + 10);
+    const taken = new Set();
     paint.fillStyle = ink("mark");
     paint.font = "bold 11px system-ui, sans-serif";
     for (const { event: there, lane, sign } of marks) {

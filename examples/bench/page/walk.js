@@ -45,13 +45,13 @@ async function stateAt([done, count], id) {
 export async function walk(to, id = null) {
     const began = performance.now();
     again = { to, id };
+    it.moment = to;
     if (walking) return;
     walking = true;
     try {
         while (again) {
             const wanted = again, key = it.key;
             again = null;
-            it.moment = wanted.to;
             const moment = wanted.to, event = here(), line = moment[1] ? moment[0] : Math.max(0, moment[0] - 1);
             const row = it.rows[line] || { status: {}, events: 0 }, touched = Object.keys(row.status)[0];
             if (wanted.id !== null) it.chosen = wanted.id; else if (touched !== undefined) it.chosen = Number(touched);
@@ -87,13 +87,15 @@ function place(moment, state) {
 function jump(pattern, back, name) {
     const hits = it.rows.map((row, index) => row.printed.some(shown => pattern.test(shown)) ? it.starts[index + 1] : -1).filter(hit => hit >= 0);
     const event = here(), hit = back ? hits.filter(each => each < event).at(-1) : hits.find(each => each > event);
-    if (hit === undefined) return say(`There is no ${hits.includes(event) ? "other " : ""}${name} ${back ? "before" : "behind"} this event${hits.includes(event) ? ", which is one" : ""}.`);
+    if (hit === undefined && hits.includes(event)) return say(`This is the ${back ? "first" : "last"} ${name}.`);
+    if (hit === undefined) return say(`There is no ${name} ${back ? "before" : "behind"} this event.`);
     say("");
     return walk(momentOf(hit));
 }
 
 // To a breakpoint of the procedure in view, whether it held it or not: those of the script, and those marked on the page.
 async function breakpoint(back) {
+    await settled();
     const id = it.chosen, places = new Set(it.marks.get(id) || []);
     for (const row of it.rows) for (const shown of row.printed) {
         const found = /^break (\d+) (\d+) set$/.exec(shown);
@@ -119,6 +121,7 @@ export function mark(slot) {
     it.marks.set(it.chosen, marks);
     return walk(it.moment, it.chosen);
 }
+async function settled() { while (walking) await new Promise(done => setTimeout(done, 10)); }
 const placeNow = () => { const view = it.state && it.state.views[it.chosen]; return view ? Number(view[0].split(" ")[5]) : -1; };
 
 export const KEYS = {
@@ -127,7 +130,7 @@ export const KEYS = {
     b: () => breakpoint(false), B: () => breakpoint(true),
     h: () => jump(/^step .* Broke$/, false, "breakpoint that held"), H: () => jump(/^step .* Broke$/, true, "breakpoint that held"),
     f: () => jump(/^step .* Faulted /, false, "fault"), F: () => jump(/^step .* Faulted /, true, "fault"),
-    m: () => placeNow() >= 0 && mark(placeNow()),
+    m: async () => { await settled(); if (placeNow() >= 0) await mark(placeNow()); },
     "+": () => { zoom(1 / 4, here()); draw(here()); }, "-": () => { zoom(4, here()); draw(here()); }, 0: () => { zoom(Infinity, here()); draw(here()); },
     Home: () => walk([0, 0]), End: () => walk([last(), 0]),
 };
