@@ -2,3 +2,5 @@ pub mod Held
 pub mod Statuses
 pub mod Calls
 pub mod Opening
+pub mod Packets
+pub mod Replies

@@ -14,10 +14,12 @@ ghost use Rattle.ocp_c.specs.Statuses.{number_of, status_of, status_of_command};
 ghost use Rattle.ocp_c.specs.Calls.{answers, leaves, writes, outcome_of, shown, counted, result_of, word_status, word_or};
 ghost use Rattle.ocp_c.specs.Opening.{opening, IsOpened};
 
+mod exchange;
 mod handle;
 mod loose;
 mod opening;
 mod outcome;
+mod packets;
 mod status;
 
 pub use handle::Handle;
@@ -29,7 +31,7 @@ use opening::open;
 use std::alloc::Global;
 
 // The seat of the requests, commands and drains.
-const SEAT: u16 = 0;
+pub(crate) const SEAT: u16 = 0;
 
 /// Opens an engine.
 #[unsafe(no_mangle)]

@@ -1,0 +1,37 @@
+-- What a request and a drain answer to C.
+use Rattle.std.specs.Prelude.{ℕ, nat_le, if◌then◌else◌, List, [], length, Ok, Err}
+use Rattle.pus_fields.specs.declared.fault.Discard.{Discard}
+use Rattle.pus_fields.specs.declared.fault.Discard.TheVariants as discard
+use Rattle.ocp_world.specs.declared.answers.EngineFault.TheVariants as engine
+use Rattle.ocp_world.specs.After.{Answer, Requested, Stepped, Commanded}
+use Rattle.ocp_c.specs.declared.status.Status.{Status}
+use Rattle.ocp_c.specs.declared.status.Status.TheVariants as status
+
+abbrev pub status_of_discard : Discard → Status
+status_of_discard discard.Short = status.DiscardedShort
+status_of_discard discard.Version = status.DiscardedVersion
+status_of_discard discard.Length = status.DiscardedLength
+status_of_discard discard.NotTelecommand = status.DiscardedNotTelecommand
+status_of_discard discard.OtherApid = status.DiscardedOtherApid
+
+-- that of an answer
+abbrev pub status_of_reply : Answer → Status
+status_of_reply (Requested (Ok reports)) = status.Done
+status_of_reply (Requested (Err (engine.Discarded cause))) = status_of_discard cause
+status_of_reply (Requested (Err engine.JournalFull)) = status.JournalFull
+status_of_reply (Requested (Err engine.Memory)) = status.Memory
+status_of_reply (Requested (Err engine.NothingDue)) = status.NothingDue
+status_of_reply (Stepped outcome) = status.Done
+status_of_reply (Commanded result) = status.Done
+
+-- a buffer that is too short is refused before anything else
+abbrev pub replies : ℕ → ℕ → Answer → Status
+replies least room answer =
+    if nat_le least room then status_of_reply answer else status.BufferTooSmall
+
+-- the reports of an answer
+abbrev pub packets_in : Answer → List (List ℕ)
+packets_in (Requested (Ok reports)) = reports
+packets_in (Requested (Err fault)) = []
+packets_in (Stepped outcome) = []
+packets_in (Commanded result) = []
