@@ -15,7 +15,7 @@
 #include <stdlib.h>
 #include <time.h>
 
-enum { APID = 291, LOAD = 1, ACTIVATE = 3, STOP = 4, STATUS = 8, SLOTS = 2048, STACK = 1024 * 1024, PATTERN = 0xa5, ROUNDS = 20 };
+enum { APID = 291, LOAD = 1, ACTIVATE = 3, STOP = 4, STATUS = 8, SLOTS = 2048, STACK = 1024 * 1024, PATTERN = 0xa5, ROUNDS = 10 };
 
 static struct ocp_engine engine = OCP_CLOSED;
 static uint32_t profile, capacity;
@@ -280,8 +280,39 @@ static double slice_nanoseconds(uint32_t budget, uint32_t slices)
     return least;
 }
 
+static double request_nanoseconds(void (*make)(void), int requests)
+{
+    double least = 1e9;
+    for (int round = 0; round < ROUNDS; round++) {
+        capacity = (uint32_t)requests;
+        taken_by(do_open);
+        make();
+        double begun = seconds();
+        for (int request = 0; request < requests; request++)
+            taken_by(do_request);
+        double taken = (seconds() - begun) / requests * 1e9;
+        least = taken < least ? taken : least;
+        taken_by(do_close);
+    }
+    return least;
+}
+
+static void make_status(void)
+{
+    end_packet(STATUS, 0);
+}
+
+static void make_long_load(void)
+{
+    make_load(7, SLOTS);
+}
+
 static void time_rows(void)
 {
+    profile = 1;
+    printf("a request: microseconds\n\n");
+    printf("| status | %.2f |\n", request_nanoseconds(make_status, 100) / 1000);
+    printf("| load of 2,048 slots | %.2f |\n", request_nanoseconds(make_long_load, 1) / 1000);
     printf("\na slice: instructions, microseconds, nanoseconds of each instruction\n\n");
     for (uint32_t budget = 1; budget <= 100000; budget *= 10) {
         double taken = slice_nanoseconds(budget, budget < 1000 ? 20000 : 20000000 / budget);
