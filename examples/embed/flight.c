@@ -20,12 +20,15 @@
 #include <time.h>
 #include <unistd.h>
 
+#ifndef SLICE
+#define SLICE 1000 /* instructions of each running procedure in a cycle */
+#endif
+
 enum {
     PROFILE = 1,
     APID = 291,
     POOL_WORDS = 16,
     JOURNAL_ENTRIES = 100000,
-    SLICE = 1000,        /* instructions of each running procedure in a cycle */
     CYCLES_OF_DRAIN = 1, /* from drain to drain */
     HEADER = 6,          /* octets of a primary header */
     LONGEST = HEADER + 65536,

@@ -7,7 +7,7 @@
 
 #define WANT(holds) ((holds) ? (void)0 : (printf("heap_test.c:%d: not so: %s\n", __LINE__, #holds), exit(1)))
 
-enum { PIECES = 40, WHOLE = FIXED_HEAP_OCTETS - 16 };
+enum { PIECES = 40, ROUNDS = 5000, WHOLE = FIXED_HEAP_OCTETS - 16 };
 
 struct piece {
     unsigned char *octets;
@@ -75,12 +75,12 @@ int main(void)
     size_t refused = 0;
     for (size_t at = 0; at < PIECES; at++)
         pieces[at].mark = (unsigned char)(at + 1);
-    for (size_t round = 0; round < 100000; round++) {
+    for (size_t round = 0; round < ROUNDS; round++) {
         refused += change(&pieces[chance(PIECES)]);
         for (size_t at = 0; at < PIECES; at++)
             WANT(pieces[at].octets == NULL || has_marks(&pieces[at], pieces[at].length));
     }
-    WANT(refused > 1000);
+    WANT(refused > ROUNDS / 10);
     for (size_t at = 0; at < PIECES; at++)
         if (pieces[at].octets != NULL)
             rattle_dealloc(pieces[at].octets);
@@ -99,6 +99,6 @@ int main(void)
     WANT(((unsigned char *)whole.piece)[0] == 7 && ((unsigned char *)whole.piece)[WHOLE - 1] == 7);
     rattle_dealloc(whole.piece);
     WANT(fixed_heap_in_use() == 0);
-    printf("fixed heap: 100,000 changes, %zu of them refused\n", refused);
+    printf("fixed heap: %d changes, %zu of them refused\n", ROUNDS, refused);
     return 0;
 }
