@@ -13,12 +13,11 @@ use Rattle.ocp_ports.specs.declared.fault.ConsoleFault.{ConsoleFault}
 use Rattle.ocp_ports.specs.declared.fault.ConsoleFault.TheVariants as faults
 use Rattle.ocp_ports.specs.Printing.{PrintsPrefix}
 use Rattle.ocp_console.specs.declared.refusal.CrewFault.{CrewFault}
-use Rattle.ocp_console.specs.declared.console.Reply.{Reply}
-use Rattle.ocp_console.specs.declared.console.Reply.TheVariants.{Printed, Work}
+use Rattle.ocp_lines.specs.declared.command.Shift.{Shift}
 use Rattle.ocp_console.specs.Answering.{State, Effect, Works, respond}
 use Rattle.ocp_console.specs.Crew.{CrewAnswers, HasDone, HasRefused, crew_fault}
 use Rattle.ocp_console.specs.Script.{Step, Ends, Goes, step_of, Writing, IsFailure, Follows, FaultLine, AtStep, Writes, PrintsBy}
-use Rattle.ocp_console.specs.Mirror.Replies.{effect_by, IsKept}
+use Rattle.ocp_console.specs.Mirror.Session.{after_line}
 use Rattle.ocp_console.specs.Mirror.Lines.{is_one_line}
 use Rattle.ocp_console.proofs.Cutting.{Begins, ended_line, open_line, longer_line, one_line-snoc}
 
@@ -86,7 +85,7 @@ no_command crew state before line lines written result lt le none x =
     (short_step state before line lt le ∙ ap (λ (o : Option Effect). option_map_or Goes o (Ends (codes "Syntax") (faults.Syntax (before + 1)))) none) x
 
 -- a line that is a command
-command : (crew : CrewAnswers) (state : State) (before : ℕ) (line : Line) (lines : List Line) (effect : Effect) (written : List ℕ) (result : Result Unit ConsoleFault) → before < 100000 → length (octets_of line) ≤ 40000
+pub command : (crew : CrewAnswers) (state : State) (before : ℕ) (line : Line) (lines : List Line) (effect : Effect) (written : List ℕ) (result : Result Unit ConsoleFault) → before < 100000 → length (octets_of line) ≤ 40000
     → respond state (text_of line) ≡ Some effect → AtStep crew (λ (next : State). Writes crew next (before + 1) lines) state (before + 1) (Goes effect) written result → Writes crew state before (line ∷ lines) written result
 command crew state before line lines effect written result lt le some x =
     at_step crew state before line lines (Goes effect) written result
@@ -111,32 +110,48 @@ command_cut old new crew state next before line effect text e lt le some done h 
     let p : PrintsPrefix old new text = h.1 in
     (p.0, p.3, λ more. subst (λ (f : ConsoleFault). Writes crew state before (line ∷ more) p.0 (Err f)) (sym h.0) (command_broken crew state next before line more effect text p.0 p.1 faults.Write lt le some done tt p.2))
 
--- a command that the crew refused
-command_refused : (crew : CrewAnswers) (state : State) (before : ℕ) (line : Line) (lines : List Line) (effect : Effect) (refused : CrewFault) → before < 100000 → length (octets_of line) ≤ 40000
-    → respond state (text_of line) ≡ Some effect → HasRefused crew state effect refused → Writes crew state before (line ∷ lines) [] (Err (crew_fault refused))
-command_refused crew state before line lines effect refused lt le some h =
-    command crew state before line lines effect [] (Err (crew_fault refused)) lt le some (inr (refused, h, (refl, refl)))
+-- a command whose work is left to the crew, which writes nothing yet
+pub command_asked : (a : Option (List ℕ)) (crew : CrewAnswers) (state after : State) (before : ℕ) (line : Line) (shift : Shift) → before < 100000 → length (octets_of line) ≤ 40000 → after ≡ state
+    → respond state (text_of line) ≡ Some (Works shift.workers shift.budget shift.turns)
+    → (sent : List ℕ) × Appends a a sent × ((more : List Line) (later : List ℕ) (ending : Result Unit ConsoleFault) → after_line crew after (before + 1) (Some shift) more later ending → Writes crew state before (line ∷ more) (sent ++ later) ending)
+command_asked a crew state after before line shift lt le kept some = (
+  [],
+  Appends-nil a,
+  λ more later ending w.
+      command crew state before line more (Works shift.workers shift.budget shift.turns) later ending lt le some (subst (λ (s : State). after_line crew s (before + 1) (Some shift) more later ending) kept w),
+)
 
--- a command that was not done
-pub not_carried_out : (a : Option (List ℕ)) (crew : CrewAnswers) (state : State) (before : ℕ) (line : Line) (effect : Effect) (e : ConsoleFault) → before < 100000 → length (octets_of line) ≤ 40000
-    → respond state (text_of line) ≡ Some effect → (e ≡ faults.Memory) ⊎ ((refused : CrewFault) × HasRefused crew state effect refused × (e ≡ crew_fault refused))
-    → (sent : List ℕ) × Appends a a sent × ((more : List Line) → Writes crew state before (line ∷ more) sent (Err e))
-not_carried_out a crew state before line effect e lt le some (inl h) =
-    ([], Appends-nil a, λ more. subst (λ (f : ConsoleFault). Writes crew state before (line ∷ more) [] (Err f)) (sym h) (cut crew state before (line ∷ more) faults.Memory tt))
-not_carried_out a crew state before line effect e lt le some (inr h) =
-    ([], Appends-nil a, λ more. subst (λ (f : ConsoleFault). Writes crew state before (line ∷ more) [] (Err f)) (sym h.2) (command_refused crew state before line more effect h.0 lt le some h.1))
+-- ---- the work of a crew
 
--- ---- what a line led to
+-- the crew's work, and what follows it
+pub work_done : (old new : Option (List ℕ)) (crew : CrewAnswers) (state next : State) (before : ℕ) (shift : Shift) (text : List ℕ) → HasDone crew state (Works shift.workers shift.budget shift.turns) (next, text) → Appends old new text
+    → (sent : List ℕ) × Appends old new sent × ((more : List Line) (later : List ℕ) (ending : Result Unit ConsoleFault) → Writes crew next before more later ending → after_line crew state before (Some shift) more (sent ++ later) ending)
+work_done old new crew state next before shift text done a = (text, a, λ more later ending w. inl ((next, text), done, inl (later, refl, w)))
 
-pub kept_done : {A : Type 0} (crew : CrewAnswers) (before after : State) (reply : Reply A) (done : State × List ℕ) → IsKept before after reply → HasDone crew after (effect_by after reply) done → HasDone crew before (effect_by after reply) done
-kept_done {A} crew before after (Printed output) done kept h = h
-kept_done {A} crew before after (Work shift) done kept h = subst (λ (s : State). HasDone crew s (Works shift.workers shift.budget shift.turns) done) kept h
+-- the crew's work, and a failure before all of its text went out
+pub work_cut : (old new : Option (List ℕ)) (crew : CrewAnswers) (state next : State) (before : ℕ) (shift : Shift) (text : List ℕ) (e : ConsoleFault) → HasDone crew state (Works shift.workers shift.budget shift.turns) (next, text) → IsFailure (Err e) → PrintsPrefix old new text
+    → (sent : List ℕ) × Appends old new sent × ((more : List Line) → after_line crew state before (Some shift) more sent (Err e))
+work_cut old new crew state next before shift text e done f p = (p.0, p.3, λ more. inl ((next, text), done, inr (f, p.1, p.2)))
 
-pub kept_refused : {A : Type 0} (crew : CrewAnswers) (before after : State) (reply : Reply A) (e : ConsoleFault) → IsKept before after reply
-    → (e ≡ faults.Memory) ⊎ ((refused : CrewFault) × HasRefused crew after (effect_by after reply) refused × (e ≡ crew_fault refused)) → (e ≡ faults.Memory) ⊎ ((refused : CrewFault) × HasRefused crew before (effect_by after reply) refused × (e ≡ crew_fault refused))
-kept_refused {A} crew before after reply e kept (inl h) = inl h
-kept_refused {A} crew before after (Printed output) e kept (inr h) = inr h
-kept_refused {A} crew before after (Work shift) e kept (inr h) = inr (h.0, subst (λ (s : State). HasRefused crew s (Works shift.workers shift.budget shift.turns) h.0) kept h.1, h.2)
+-- a crew that refuses
+pub work_refused : (a : Option (List ℕ)) (crew : CrewAnswers) (state : State) (before : ℕ) (shift : Shift) (refused : CrewFault) (e : ConsoleFault) → HasRefused crew state (Works shift.workers shift.budget shift.turns) refused → e ≡ crew_fault refused
+    → (sent : List ℕ) × Appends a a sent × ((more : List Line) → after_line crew state before (Some shift) more sent (Err e))
+work_refused a crew state before shift refused e h is = ([], Appends-nil a, λ more. inr (refused, h, (refl, ap Err is)))
+
+-- an answer, and then another one
+pub answers_both : {X : Type 0} (old mid new : Option (List ℕ)) (whole middle rest : X → Writing) → (sent : List ℕ) × Appends old mid sent × ((more : X) (later : List ℕ) (ending : Result Unit ConsoleFault) → middle more later ending → whole more (sent ++ later) ending)
+    → (sent : List ℕ) × Appends mid new sent × ((more : X) (later : List ℕ) (ending : Result Unit ConsoleFault) → rest more later ending → middle more (sent ++ later) ending)
+    → (sent : List ℕ) × Appends old new sent × ((more : X) (later : List ℕ) (ending : Result Unit ConsoleFault) → rest more later ending → whole more (sent ++ later) ending)
+answers_both {X} old mid new whole middle rest h k = (
+  h.0 ++ k.0,
+  Appends-trans old mid new h.0 k.0 h.1 k.1,
+  λ more later ending w. subst (λ (t : List ℕ). whole more t ending) (sym (append_assoc h.0 k.0 later)) (h.2 more (k.0 ++ later) ending (k.2 more later ending w)),
+)
+
+-- an answer, and then one that fails
+pub answer_failed : {X : Type 0} (old mid new : Option (List ℕ)) (whole middle : X → Writing) (e : ConsoleFault) → (sent : List ℕ) × Appends old mid sent × ((more : X) (later : List ℕ) (ending : Result Unit ConsoleFault) → middle more later ending → whole more (sent ++ later) ending)
+    → (sent : List ℕ) × Appends mid new sent × ((more : X) → middle more sent (Err e)) → (sent : List ℕ) × Appends old new sent × ((more : X) → whole more sent (Err e))
+answer_failed {X} old mid new whole middle e h k = (h.0 ++ k.0, Appends-trans old mid new h.0 k.0 h.1 k.1, λ more. h.2 more k.0 (Err e) (k.2 more))
 
 -- ---- the end of a line
 
@@ -147,15 +162,16 @@ pub newline_failed : (old new : Option (List ℕ)) (crew : CrewAnswers) (state :
     → (sent : List ℕ) × Appends old new sent × ((more : List Line) → Writes crew state before (Ended p ∷ more) sent (Err e)) → (sent : List ℕ) × Appends old new sent × ((more : List ℕ) → Writes crew state before (lines_of (p ++ octet ∷ more)) sent (Err e))
 newline_failed old new crew state before p octet e one is h = (h.0, h.1, λ more. subst (λ (ls : List Line). Writes crew state before ls h.0 (Err e)) (sym (newline_lines p octet more one is)) (h.2 (lines_of more)))
 
-pub newline_done : (old new : Option (List ℕ)) (crew : CrewAnswers) (state next : State) (before : ℕ) (p after : List ℕ) (octet : ℕ) → is_one_line p ≡ true → octet ≡ 10 → after ≡ []
-    → (sent : List ℕ) × Appends old new sent × ((more : List Line) (later : List ℕ) (ending : Result Unit ConsoleFault) → Writes crew next (before + 1) more later ending → Writes crew state before (Ended p ∷ more) (sent ++ later) ending)
-    → (sent : List ℕ) × Appends old new sent × ((more later : List ℕ) (ending : Result Unit ConsoleFault) → Writes crew next (before + 1) (lines_of (after ++ more)) later ending → Writes crew state before (lines_of (p ++ octet ∷ more)) (sent ++ later) ending)
-newline_done old new crew state next before p after octet one is none h = (
+pub newline_done : (old new : Option (List ℕ)) (crew : CrewAnswers) (state next : State) (before : ℕ) (p after : List ℕ) (octet : ℕ) (asked : Option Shift) → is_one_line p ≡ true → octet ≡ 10 → after ≡ []
+    → (sent : List ℕ) × Appends old new sent × ((more : List Line) (later : List ℕ) (ending : Result Unit ConsoleFault) → after_line crew next (before + 1) asked more later ending → Writes crew state before (Ended p ∷ more) (sent ++ later) ending)
+    → (sent : List ℕ) × Appends old new sent
+    × ((more later : List ℕ) (ending : Result Unit ConsoleFault) → after_line crew next (before + 1) asked (lines_of (after ++ more)) later ending → Writes crew state before (lines_of (p ++ octet ∷ more)) (sent ++ later) ending)
+newline_done old new crew state next before p after octet asked one is none h = (
   h.0,
   h.1,
   λ more later ending w.
       subst (λ (ls : List Line). Writes crew state before ls (h.0 ++ later) ending) (sym (newline_lines p octet more one is))
-      (h.2 (lines_of more) later ending (subst (λ (t : List ℕ). Writes crew next (before + 1) (lines_of (t ++ more)) later ending) none w)),
+      (h.2 (lines_of more) later ending (subst (λ (t : List ℕ). after_line crew next (before + 1) asked (lines_of (t ++ more)) later ending) none w)),
 )
 
 pub pushed_on : (a : Option (List ℕ)) (crew : CrewAnswers) (state : State) (before : ℕ) (p after : List ℕ) (octet : ℕ) → after ≡ p ++ octet ∷ []

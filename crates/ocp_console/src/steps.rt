@@ -1,14 +1,12 @@
 //! The steps of a run.
 
-ghost use Rattle.std.specs.Prelude.{◌≡◌, ◌≢◌, ◌<◌, ◌≤◌, ◌+◌, ◌-◌, ◌^◌, ◌↔◌, ℕ, List, [], ◌∷◌, ◌++◌, ◌⊎◌, length, vec_len, Ok, Err, IfOk, IfErr, IsErrOf};
+ghost use Rattle.std.specs.Prelude.{◌≡◌, ◌≢◌, ◌<◌, ◌≤◌, ◌+◌, ◌-◌, ◌^◌, ◌↔◌, ℕ, List, [], ◌∷◌, ◌++◌, ◌⊎◌, length, vec_len, Some, Ok, Err, IfOk, IsErrOf};
 ghost use Rattle.ocp_console.specs.Answering.{state_of};
 ghost use Rattle.text_lines.specs.Lines.{Line, text_of, octets_of};
 ghost use Rattle.ocp_console.specs.Reading.{max_lines, max_line_octets};
-ghost use Rattle.ocp_console.specs.declared.refusal.CrewFault.{CrewFault};
-ghost use Rattle.ocp_console.specs.Crew.{HasDone, HasRefused, crew_fault};
+ghost use Rattle.ocp_console.specs.Crew.{crew_fault};
 ghost use Rattle.ocp_console.specs.Script.{FaultLine, Writes, PrintsBy};
-ghost use Rattle.ocp_console.specs.Mirror.Session.{Answers, rest_of, octets_so_far};
-ghost use Rattle.ocp_console.specs.Mirror.Replies.{effect_by};
+ghost use Rattle.ocp_console.specs.Mirror.Session.{Answers, after_line, rest_of, rest_with, octets_so_far};
 ghost use Rattle.ocp_console.specs.Mirror.Lines.{HasTaken, CountsWrites};
 
 use crate::answering::answer;
@@ -18,6 +16,7 @@ use crate::refusal::CrewFault;
 use crate::session::{MAX_LINES, Session};
 use crate::texts::work_text;
 use ocp_core::Engine;
+use ocp_lines::Shift;
 use ocp_ports::{ConsoleFault, Sink, error_text, write_whole};
 use std::alloc::Allocator;
 use text_lines::without_carriage_return;
@@ -56,56 +55,27 @@ fn fault_of(refused: CrewFault) -> ConsoleFault
     }
 }
 
-/// What is left to do of a line, and what it prints. Where the crew refuses, the engine is gone.
-fn carry_out<C: Crew<Engine<A>>, A: Allocator + Copy>(
-    alloc: A,
-    console: Console<A>,
-    crew: &C,
-    reply: Reply<A>,
-) -> Result<(Console<A>, Vec<u8, A>), ConsoleFault>
-    requires { C.ready crew.now }
-    ensures done { IfOk result (λ done.
-        HasDone (C.answers crew.now) (state_of console) (effect_by (state_of console) reply)
-        (state_of done.0, done.1.items)) }
-    ensures refused { IfErr result (λ fault. (fault ≡ ConsoleFault.Memory) ⊎ ((refused : CrewFault)
-        × HasRefused (C.answers crew.now) (state_of console)
-        (effect_by (state_of console) reply) refused
-        × (fault ≡ crew_fault refused))) }
-{
-    match reply {
-        Reply::Printed(printed) => Ok((console, printed)),
-        Reply::Work(shift) => match console.work(crew, shift) {
-            Ok(console) => {
-                let closed = work_text(alloc, shift.workers)?;
-                Ok((console, closed))
-            }
-            Err(refused) => Err(fault_of(refused)),
-        },
-    }
-}
-
-/// What a line does, after some lines before it.
+/// What a line does, after some lines before it, or what it asks of the crew, which the contract alone speaks of.
 fn line_answer<W: Sink, C: Crew<Engine<A>>, A: Allocator + Copy>(
     alloc: A,
-    console: Console<A>,
-    crew: &C,
+    console: &mut Console<A>,
+    _crew: &C,
     writer: &mut W,
     before: u32,
     text: &[u8],
-) -> Result<Console<A>, ConsoleFault>
-    requires ready { C.ready crew.now }
+) -> Result<Option<Shift>, ConsoleFault>
     requires device { W.failed_writes writer.old < 2 ^ 64 - 1 }
     requires few { before < max_lines }
     ensures answers { (line : Line) → text_of line ≡ text.now →
         length (octets_of line) ≤ max_line_octets →
         Answers (W.contents writer.old) (W.contents writer.new)
-        (λ lines. Writes (C.answers crew.now) (state_of console) before (line ∷ lines))
-        (λ after lines. Writes (C.answers crew.now) (state_of after) (before + 1) lines) result }
+        (λ lines. Writes (C.answers _crew.now) (state_of console.old) before (line ∷ lines))
+        (λ asked lines.
+        after_line (C.answers _crew.now) (state_of console.new) (before + 1) asked lines) result }
     ensures count { CountsWrites (W.failed_writes writer.old) (W.failed_writes writer.new) result }
     ensures no_read { IsErrOf result ConsoleFault.Read → ⊥ }
 {
-    let mut console = console;
-    match answer(alloc, &mut console, text)? {
+    match answer(alloc, console, text)? {
         None => Err(refuse(
             alloc,
             writer,
@@ -113,33 +83,58 @@ fn line_answer<W: Sink, C: Crew<Engine<A>>, A: Allocator + Copy>(
             "Syntax",
             ConsoleFault::Syntax(before + 1),
         )),
-        Some(reply) => {
-            let done = carry_out(alloc, console, crew, reply)?;
-            let (console, printed) = done;
+        Some(Reply::Printed(printed)) => {
             write_whole(writer, printed.as_slice())?;
+            Ok(None)
+        }
+        Some(Reply::Work(shift)) => Ok(Some(shift)),
+    }
+}
+
+/// Has the crew do what a `work` line asks for, and writes that it is done. Where the crew refuses, the engine is gone.
+fn work<W: Sink, C: Crew<Engine<A>>, A: Allocator + Copy>(
+    alloc: A,
+    console: Console<A>,
+    crew: &C,
+    shift: Shift,
+    writer: &mut W,
+) -> Result<Console<A>, ConsoleFault>
+    requires ready { C.ready crew.now }
+    requires device { W.failed_writes writer.old < 2 ^ 64 - 1 }
+    ensures run { (before : ℕ) → Answers (W.contents writer.old) (W.contents writer.new)
+        (λ lines. after_line (C.answers crew.now) (state_of console) before (Some shift) lines)
+        (λ after lines. Writes (C.answers crew.now) (state_of after) before lines) result }
+    ensures count { CountsWrites (W.failed_writes writer.old) (W.failed_writes writer.new) result }
+    ensures no_read { IsErrOf result ConsoleFault.Read → ⊥ }
+{
+    match console.work(crew, shift) {
+        Ok(console) => {
+            let closed = work_text(alloc, shift.workers)?;
+            write_whole(writer, closed.as_slice())?;
             Ok(console)
         }
+        Err(refused) => Err(fault_of(refused)),
     }
 }
 
 /// Takes an octet that does not go on with its line: it ends it, or there is no room for it.
 fn feed<W: Sink, C: Crew<Engine<A>>, A: Allocator + Copy>(
-    session: Session<A>,
+    session: &mut Session<A>,
     alloc: A,
     crew: &C,
     octet: u8,
     writer: &mut W,
-) -> Result<Session<A>, ConsoleFault>
-    requires ready { C.ready crew.now }
+) -> Result<Option<Shift>, ConsoleFault>
     requires device { W.failed_writes writer.old < 2 ^ 64 - 1 }
-    requires no_room { (octet ≡ 10) ⊎ (session.before ≡ max_lines)
-        ⊎ (vec_len session.line ≡ max_line_octets) }
+    requires no_room { (octet ≡ 10) ⊎ (session.old.before ≡ max_lines)
+        ⊎ (vec_len session.old.line ≡ max_line_octets) }
     ensures run { Answers (W.contents writer.old) (W.contents writer.new)
-        (λ more. rest_of (C.answers crew.now) session (octet ∷ more))
-        (λ after more. rest_of (C.answers crew.now) after more) result }
-    ensures taken { IfOk result (λ after. octets_so_far session < octets_so_far after) }
-    ensures took { (octets : List ℕ) → HasTaken session.before session.line.items octets →
-        IfOk result (λ after. HasTaken after.before after.line.items (octets ++ octet ∷ [])) }
+        (λ more. rest_of (C.answers crew.now) session.old (octet ∷ more))
+        (λ asked more. rest_with (C.answers crew.now) session.new asked more) result }
+    ensures taken { IfOk result (λ _. octets_so_far session.old < octets_so_far session.new) }
+    ensures took { (octets : List ℕ) → HasTaken session.old.before session.old.line.items octets →
+        IfOk result (λ _. HasTaken session.new.before session.new.line.items
+        (octets ++ octet ∷ [])) }
     ensures count { CountsWrites (W.failed_writes writer.old) (W.failed_writes writer.new) result }
     ensures no_read { IsErrOf result ConsoleFault.Read → ⊥ }
 {
@@ -161,18 +156,48 @@ fn feed<W: Sink, C: Crew<Engine<A>>, A: Allocator + Copy>(
             ConsoleFault::LineTooLong(session.before + 1),
         ));
     }
+    let text = without_carriage_return(&session.line);
+    let asked = line_answer(
+        alloc,
+        &mut session.console,
+        crew,
+        writer,
+        session.before,
+        text,
+    )?;
+    session.line.clear();
+    session.before += 1;
+    Ok(asked)
+}
+
+/// Has the crew do what a `work` line asks for, in the session.
+fn hand_over<W: Sink, C: Crew<Engine<A>>, A: Allocator + Copy>(
+    session: Session<A>,
+    alloc: A,
+    crew: &C,
+    shift: Shift,
+    writer: &mut W,
+) -> Result<Session<A>, ConsoleFault>
+    requires ready { C.ready crew.now }
+    requires device { W.failed_writes writer.old < 2 ^ 64 - 1 }
+    ensures run { Answers (W.contents writer.old) (W.contents writer.new)
+        (λ more. rest_with (C.answers crew.now) session (Some shift) more)
+        (λ after more. rest_of (C.answers crew.now) after more) result }
+    ensures before { IfOk result (λ after. after.before ≡ session.before) }
+    ensures line { IfOk result (λ after. after.line ≡ session.line) }
+    ensures count { CountsWrites (W.failed_writes writer.old) (W.failed_writes writer.new) result }
+    ensures no_read { IsErrOf result ConsoleFault.Read → ⊥ }
+{
     let Session {
         console,
-        mut line,
+        line,
         before,
     } = session;
-    let text = without_carriage_return(&line);
-    let console = line_answer(alloc, console, crew, writer, before, text)?;
-    line.clear();
+    let console = work(alloc, console, crew, shift, writer)?;
     Ok(Session {
         console,
         line,
-        before: before + 1,
+        before,
     })
 }
 
@@ -201,7 +226,10 @@ pub(crate) fn feed_all<W: Sink, C: Crew<Engine<A>>, A: Allocator + Copy>(
         if session.has_room(*octet) {
             session.push(*octet)?;
         } else {
-            session = feed(session, alloc, crew, *octet, writer)?;
+            match feed(&mut session, alloc, crew, *octet, writer)? {
+                None => {}
+                Some(shift) => session = hand_over(session, alloc, crew, shift, writer)?,
+            }
         }
     }
     Ok(session)
@@ -235,10 +263,15 @@ pub(crate) fn finish<W: Sink, C: Crew<Engine<A>>, A: Allocator + Copy>(
         ));
     }
     let Session {
-        console,
+        mut console,
         line,
         before,
     } = session;
-    line_answer(alloc, console, crew, writer, before, &line)?;
-    Ok(())
+    match line_answer(alloc, &mut console, crew, writer, before, &line)? {
+        None => Ok(()),
+        Some(shift) => {
+            work(alloc, console, crew, shift, writer)?;
+            Ok(())
+        }
+    }
 }

@@ -1,18 +1,31 @@
 -- A session so far, and the rest of its run.
-use Rattle.std.specs.Prelude.{ℕ, List, ◌++◌, ◌+◌, ◌*◌, Option, Result, Ok, Err}
+use Rattle.std.specs.Prelude.{ℕ, List, ◌++◌, ◌+◌, ◌*◌, Option, Some, None, Result, Ok, Err}
 use Rattle.std.specs.Io.KnownBytes.{Appends}
 use Rattle.std.specs.Vec.{vec_len}
-use Rattle.text_lines.specs.Lines.{lines_of}
+use Rattle.text_lines.specs.Lines.{Line, lines_of}
+use Rattle.ocp_lines.specs.declared.command.Shift.{Shift}
 use Rattle.ocp_ports.specs.declared.fault.ConsoleFault.{ConsoleFault}
 use Rattle.ocp_console.specs.declared.session.Session.{Session}
-use Rattle.ocp_console.specs.Answering.{state_of}
+use Rattle.ocp_console.specs.Answering.{State, Works, state_of}
 use Rattle.ocp_console.specs.Crew.{CrewAnswers}
 use Rattle.ocp_console.specs.Reading.{max_line_octets}
-use Rattle.ocp_console.specs.Script.{Writing, Writes}
+use Rattle.ocp_console.specs.Script.{Writing, Goes, AtStep, Writes}
+
+-- What the run of these lines writes behind a line that was done, or whose work is still left to
+-- the crew.
+abbrev pub after_line : CrewAnswers → State → ℕ → Option Shift → List Line → Writing
+after_line crew state before None lines = Writes crew state before lines
+after_line crew state before (Some shift) lines =
+    AtStep crew (λ next. Writes crew next before lines) state before
+    (Goes (Works shift.workers shift.budget shift.turns))
 
 -- what the run of what the session has of a line, and of what follows, writes
 abbrev pub rest_of : {A : Type 0} → CrewAnswers → Session A → List ℕ → Writing
 rest_of crew s more = Writes crew (state_of s.console) s.before (lines_of (s.line.items ++ more))
+
+-- the same, where a line's work may be left to the crew
+abbrev pub rest_with : {A : Type 0} → CrewAnswers → Session A → Option Shift → List ℕ → Writing
+rest_with crew s asked more = after_line crew (state_of s.console) s.before asked (lines_of (s.line.items ++ more))
 
 -- how many octets a session may have taken: it rises with each
 abbrev pub octets_so_far : {A : Type 0} → Session A → ℕ

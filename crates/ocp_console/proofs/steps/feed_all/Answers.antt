@@ -1,5 +1,6 @@
-use Rattle.std.proofs.Common.{◌≡◌, ◌<◌, ◌+◌, ◌++◌, ◌∷◌, [], ℕ, List, Option, Result, take, arith, ◌∙◌, sym, ap, subst, length, length-append}
+use Rattle.std.proofs.Common.{◌≡◌, ◌<◌, ◌+◌, ◌++◌, ◌∷◌, [], ℕ, List, Option, Some, get_or, Result, take, arith, ◌∙◌, sym, ap, subst, length, length-append}
 use Rattle.std.specs.Io.KnownBytes.{Appends}
+use Rattle.std.specs.Vec.{vec_len}
 use Rattle.text_lines.specs.Lines.{lines_of}
 use Rattle.ocp_ports.specs.declared.fault.ConsoleFault.{ConsoleFault}
 use Rattle.ocp_console.specs.declared.session.Session.{Session}
@@ -10,10 +11,10 @@ use Rattle.std.proofs.lemmas.Result.{err_from_is_err_and}
 use Rattle.std.proofs.KnownBytes.{Appends-nil}
 use Rattle.ocp_ports.specs.declared.fault.ConsoleFault.TheVariants as faults
 use Rattle.ocp_console.specs.Answering.{state_of}
-use Rattle.ocp_console.specs.Mirror.Session.{rest_of}
-use Rattle.ocp_console.proofs.Runs.{cut, pushed_on, more_answered, ended_at, all_answered}
+use Rattle.ocp_console.specs.Mirror.Session.{rest_of, rest_with}
+use Rattle.ocp_console.proofs.Runs.{cut, pushed_on, answers_both, answer_failed, more_answered, ended_at, all_answered}
 use Rattle.ocp_console.proofs.Taking.{octet_taken, piece_taken, whole_piece}
-use Rattle.ocp_console.proofs.steps.feed_all.Goals.{then-has_room+in_ok-push, else-has_room+in_ok-session}
+use Rattle.ocp_console.proofs.steps.feed_all.Goals.{then-has_room+in_ok-push, else-has_room+in_ok-feed+in-None, else-has_room+in_ok-feed+in-Some+in_ok-session-in-Some}
 use Rattle.ocp_console.proofs.steps.feed_all.Goals as goal
 
 -- an octet that goes on with its line writes nothing
@@ -35,11 +36,23 @@ pushed_taken : {A : Type 0} (s t : Session A) (octet : ℕ) (octets : List ℕ) 
 pushed_taken s t octet octets few before items taken =
     subst (λ b. HasTaken b t.line.items (octets ++ octet ∷ [])) (sym before) (octet_taken s.before s.line.items t.line.items octets octet few items taken)
 
-pub returns-in_err-session-clause-run : goal.returns-in_err-session-clause-run
-returns-in_err-session-clause-run g c =
-    let p = err_from_is_err_and c.from_residual-in_err-session.result c.from_residual-in_err-session.ensures.1 in
+handed_taken : {A : Type 0} (u t : Session A) (octets : List ℕ) → t.before ≡ u.before → t.line ≡ u.line → HasTaken u.before u.line.items octets → HasTaken t.before t.line.items octets
+handed_taken u t octets before line taken = subst (λ b. HasTaken b t.line.items octets) (sym before) (subst (λ l. HasTaken u.before l.items octets) (sym line) taken)
+
+pub returns-in_err-feed-clause-run : goal.returns-in_err-feed-clause-run
+returns-in_err-feed-clause-run g c =
+    let p = err_from_is_err_and c.from_residual-in_err-feed.result c.from_residual-in_err-feed.ensures.1 in
     let crew = g.C.Crew.answers c.args.crew.now in
-    rw (p.1, p.2) (ended_at _ _ _ (rest_of crew c.args.session) (rest_of crew c.loop-octet.session) c.args.octets.now c.loop-octet.octet-index _ (omega arith) c.loop-octet.invariant.so_far c.in_err-session.ensures.run)
+    rw (p.1, p.2) (ended_at _ _ _ (rest_of crew c.args.session) (rest_of crew c.loop-octet.session) c.args.octets.now c.loop-octet.octet-index _ (omega arith) c.loop-octet.invariant.so_far c.in_err-feed.ensures.run)
+
+pub returns-in_err-session-in-Some-clause-run : goal.returns-in_err-session-in-Some-clause-run
+returns-in_err-session-in-Some-clause-run g c =
+    let p = err_from_is_err_and c.from_residual-in_err-session-in-Some.result c.from_residual-in_err-session-in-Some.ensures.1 in
+    let crew = g.C.Crew.answers c.args.crew.now in
+    let s = c.loop-octet.session in
+    let h = rw c.in-Some.is at c.in_ok-feed.ensures.run in
+    let failed = answer_failed _ _ _ (λ (more : List ℕ). rest_of crew s (get_or c.args.octets.now c.loop-octet.octet-index 0 ∷ more)) (rest_with crew c.feed.new.session (Some c.in-Some.shift)) _ h c.in_err-session-in-Some.ensures.run in
+    rw (p.1, p.2) (ended_at _ _ _ (rest_of crew c.args.session) (rest_of crew s) c.args.octets.now c.loop-octet.octet-index _ (omega arith) c.loop-octet.invariant.so_far failed)
 
 pub returns-clause-run : goal.returns-clause-run
 returns-clause-run g c =
@@ -72,11 +85,26 @@ loop-octet-preserved g c =
             took = λ front h. piece_taken t.before t.line.items front c.args.octets.now c.loop-octet.octet-index (omega arith) (pushed_taken s t _ (front ++ take c.loop-octet.octet-index c.args.octets.now) (c.has_room.ensures.yes w.if-has_room.true).1 w.push.ensures.before items (c.loop-octet.invariant.took front h));
             same = c.loop-octet.invariant.same;
           })
-      | else-has_room+in_ok-session w ↦
+      | else-has_room+in_ok-feed+in-None w ↦
+          let t = w.feed.new.session in
           rw (w.session-is, w.writer-is) (record {
-            so_far = more_answered _ _ _ (rest_of crew c.args.session) (rest_of crew s) (rest_of crew w.in_ok-session.session) c.args.octets.now c.loop-octet.octet-index (omega arith) c.loop-octet.invariant.so_far w.in_ok-session.ensures.run;
-            more = omega (arith, c.loop-octet.invariant.more, w.in_ok-session.ensures.taken);
-            took = λ front h. piece_taken w.in_ok-session.session.before w.in_ok-session.session.line.items front c.args.octets.now c.loop-octet.octet-index (omega arith) (w.in_ok-session.ensures.took (front ++ take c.loop-octet.octet-index c.args.octets.now) (c.loop-octet.invariant.took front h));
-            same = w.in_ok-session.ensures.count ∙ c.loop-octet.invariant.same;
+            so_far = more_answered _ _ _ (rest_of crew c.args.session) (rest_of crew s) (rest_of crew t) c.args.octets.now c.loop-octet.octet-index (omega arith) c.loop-octet.invariant.so_far (rw w.in-None.is at w.in_ok-feed.ensures.run);
+            more = omega (arith, c.loop-octet.invariant.more, w.in_ok-feed.ensures.taken);
+            took = λ front h. piece_taken t.before t.line.items front c.args.octets.now c.loop-octet.octet-index (omega arith) (w.in_ok-feed.ensures.took (front ++ take c.loop-octet.octet-index c.args.octets.now) (c.loop-octet.invariant.took front h));
+            same = w.in_ok-feed.ensures.count ∙ c.loop-octet.invariant.same;
+          })
+      | else-has_room+in_ok-feed+in-Some+in_ok-session-in-Some w ↦
+          let u = w.feed.new.session in
+          let t = w.in_ok-session-in-Some.session in
+          let h = rw w.in-Some.is at w.in_ok-feed.ensures.run in
+          let both = answers_both _ _ _ (λ (more : List ℕ). rest_of crew s (get_or c.args.octets.now c.loop-octet.octet-index 0 ∷ more)) (rest_with crew u (Some w.in-Some.shift)) (rest_of crew t) h w.in_ok-session-in-Some.ensures.run in
+          let taken = w.in_ok-feed.ensures.taken in
+          rw (w.session-is, w.writer-is) (record {
+            so_far = more_answered _ _ _ (rest_of crew c.args.session) (rest_of crew s) (rest_of crew t) c.args.octets.now c.loop-octet.octet-index (omega arith) c.loop-octet.invariant.so_far both;
+            more = omega (arith, c.loop-octet.invariant.more, taken, w.in_ok-session-in-Some.ensures.before, ap vec_len w.in_ok-session-in-Some.ensures.line);
+            took = λ front h.
+                piece_taken t.before t.line.items front c.args.octets.now c.loop-octet.octet-index (omega arith)
+                (handed_taken u t _ w.in_ok-session-in-Some.ensures.before w.in_ok-session-in-Some.ensures.line (w.in_ok-feed.ensures.took (front ++ take c.loop-octet.octet-index c.args.octets.now) (c.loop-octet.invariant.took front h)));
+            same = w.in_ok-session-in-Some.ensures.count ∙ w.in_ok-feed.ensures.count ∙ c.loop-octet.invariant.same;
           })
     ]
