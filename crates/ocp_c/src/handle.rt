@@ -17,7 +17,8 @@ use std::marker::Model;
 use std::mem;
 use std::ptr::null_mut;
 
-/// The pointer of an engine, or null while none is open. The log of the engine is what contracts see of it.
+/// The pointer of an engine, or null while none is open. The log of the engine is what contracts
+/// see of it.
 #[repr(C)]
 pub struct Handle {
     at: *mut u8,

@@ -1,5 +1,5 @@
-//! The engine for C: one export for each call of the header `ocp_engine.h`. What a handle holds is the log of its engine, and
-//! each export says of it what the engine's call says.
+//! The engine for C: one export for each call of the header `ocp_engine.h`. What a handle holds is
+//! the log of its engine, and each export says of it what the engine's call says.
 #![tactic(auto)]
 
 ghost use Rattle.std.specs.Prelude.{◌≡◌, ◌-◌, ◌==◌, if◌then◌else◌, length, slice_get, Ok, Err};

@@ -42,8 +42,9 @@ fn open_profile(
     }
 }
 
-/// An engine. Refused, in this order, where the profile is not 1 or 2, the application process is above 2,046, there are not 1
-/// to 256 pool words, the capacity is not 1 to 1,000,000, and where there is no memory.
+/// An engine. Refused, in this order, where the profile is not 1 or 2, the application process is
+/// above 2,046, there are not 1 to 256 pool words, the capacity is not 1 to 1,000,000, and where
+/// there is no memory.
 #[tactic(auto, unfolding(crate::specs::Opening::opening))]
 pub fn open(
     alloc: Global,

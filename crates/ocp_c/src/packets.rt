@@ -5,7 +5,8 @@ ghost use Rattle.ocp_c.specs.Packets.{poured, poured_length};
 
 use ocp_core::Octets;
 
-/// Writes whole packets, one behind the other, as long as they have room, and answers how many octets they are.
+/// Writes whole packets, one behind the other, as long as they have room, and answers how many
+/// octets they are.
 pub fn pour(packets: &[Octets], buffer: &mut [u8]) -> usize
     ensures buffer { buffer.new ≡ poured packets.now buffer.old }
     ensures length { result ≡ poured_length packets.now buffer.old }

@@ -90,12 +90,14 @@ fn output_of<A: Allocator + Copy>(
     }
 }
 
-/// Reads assembly text, and writes the image that it means under the profile as one line of lower-case hexadecimal digits.
+/// Reads assembly text, and writes the image that it means under the profile as one line of
+/// lower-case hexadecimal digits.
 ///
-/// False where the output is the line of a fault of the input: `error 0 TooLong` (over 1,048,576 octets), which is found
-/// first, or `error <line> <name>` with the name of the assembler's fault, which is `Load <number>` for a fault of the
-/// image. Only `Read`, `Write` and `Memory` are refused. The output is made whole before it is written, so that nothing
-/// is written after `Read` and `Memory`, and a prefix of it after `Write`.
+/// False where the output is the line of a fault of the input: `error 0 TooLong` (over 1,048,576
+/// octets), which is found first, or `error <line> <name>` with the name of the assembler's fault,
+/// which is `Load <number>` for a fault of the image. Only `Read`, `Write` and `Memory` are
+/// refused. The output is made whole before it is written, so that nothing is written after `Read`
+/// and `Memory`, and a prefix of it after `Write`.
 pub fn asm<R: Source, W: Sink, A: Allocator + Copy>(
     alloc: A,
     profile: Profile,

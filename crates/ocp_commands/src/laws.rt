@@ -16,7 +16,8 @@ pub fn listings_are_unique()
     listings_and_faults_are_unique();
 }
 
-/// An input of `asm` has one output and one answer at most: it is a function of the profile and the input.
+/// An input of `asm` has one output and one answer at most: it is a function of the profile and the
+/// input.
 pub fn assemblies_are_unique()
     ensures { (profile : Profile) (input a b : List ℕ) (x y : Bool) →
         Assembles profile input a x → Assembles profile input b y → (a ≡ b) × (x ≡ y) }

@@ -1,4 +1,5 @@
-//! The commands of the ground tools: `asm` makes an image of assembly text, `list` a listing of an image.
+//! The commands of the ground tools: `asm` makes an image of assembly text, `list` a listing of an
+//! image.
 #![tactic(auto)]
 
 mod assembling;

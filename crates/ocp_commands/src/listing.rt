@@ -111,14 +111,14 @@ fn output_of<A: Allocator + Copy>(alloc: A, input: &[u8]) -> Result<Output<A>, A
     }
 }
 
-/// Reads an image in hexadecimal digits of both cases, and writes its listing; spaces and newlines behind the digits are
-/// nothing. The empty input has the empty listing. It does no more than decode: an image that no loader would take has
-/// its listing too.
+/// Reads an image in hexadecimal digits of both cases, and writes its listing; spaces and newlines
+/// behind the digits are nothing. The empty input has the empty listing. It does no more than
+/// decode: an image that no loader would take has its listing too.
 ///
-/// False where the output is the line of a fault of the input: `error 0 TooLong` (over 1,048,576 octets), `error 0 Hex`,
-/// `error 0 Ragged`, `error <slot> Decode <number>`, asked in this order. Only `Read`, `Write` and `Memory` are refused.
-/// The output is made whole before it is written, so that nothing is written after `Read` and `Memory`, and a prefix of
-/// it after `Write`.
+/// False where the output is the line of a fault of the input: `error 0 TooLong` (over 1,048,576
+/// octets), `error 0 Hex`, `error 0 Ragged`, `error <slot> Decode <number>`, asked in this order.
+/// Only `Read`, `Write` and `Memory` are refused. The output is made whole before it is written, so
+/// that nothing is written after `Read` and `Memory`, and a prefix of it after `Write`.
 pub fn list<R: Source, W: Sink, A: Allocator + Copy>(
     alloc: A,
     reader: &mut R,

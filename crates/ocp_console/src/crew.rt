@@ -14,8 +14,8 @@ pub trait Crew<E> {
     // gives back, or its refusal.
     ghost answers: { Self → E → ℕ → ℕ → ℕ → Result E CrewFault → Type 0 };
 
-    /// Has so many workers take turns at the engine's running procedures: each takes so many turns, of up to a budget
-    /// of instructions. It gives the engine back, or drops it where it refuses.
+    /// Has so many workers take turns at the engine's running procedures: each takes so many turns,
+    /// of up to a budget of instructions. It gives the engine back, or drops it where it refuses.
     fn work(&self, engine: E, workers: u16, budget: u32, turns: u32) -> Result<E, CrewFault>
         requires ready { ready self.now }
         requires some { 1 ≤ workers }

@@ -7,7 +7,8 @@ pub use ocp_commands::laws::{assemblies_are_unique, listings_are_unique};
 use ocp_core::Reports;
 use std::alloc::Allocator;
 
-/// Each report of the engine, of a request or of a drain, has its line: it is read as telemetry, and its line is that of this telemetry.
+/// Each report of the engine, of a request or of a drain, has its line: it is read as telemetry,
+/// and its line is that of this telemetry.
 pub fn reports_have_their_lines<A: Allocator>(reports: &Reports<A>)
     ensures { All HasLine reports.now }
 {

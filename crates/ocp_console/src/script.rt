@@ -14,15 +14,18 @@ use ocp_ports::{CHUNK, ConsoleFault, Sink, Source};
 use ocp_words::Settings;
 use std::alloc::Allocator;
 
-/// Reads a script, and writes its transcript and nothing else, on a new engine of these settings. It begins a read only
-/// while what it has read is at most 100,000 lines of at most 40,000 octets each.
+/// Reads a script, and writes its transcript and nothing else, on a new engine of these settings.
+/// It begins a read only while what it has read is at most 100,000 lines of at most 40,000 octets
+/// each.
 ///
-/// For each line in turn and in this order it answers `TooManyLines` (over 100,000), `LineTooLong` (over 40,000 octets, a
-/// carriage return included and the newline not) and `Syntax`; `Read` just where a read failed, `Write` just where a write
-/// failed, and `Memory`. After these three a prefix of the transcript was written.
+/// For each line in turn and in this order it answers `TooManyLines` (over 100,000), `LineTooLong`
+/// (over 40,000 octets, a carriage return included and the newline not) and `Syntax`; `Read` just
+/// where a read failed, `Write` just where a write failed, and `Memory`. After these three a prefix
+/// of the transcript was written.
 ///
-/// A `work` line is one call of the crew, which is given the engine. The lines behind it go on with the engine that the crew
-/// gives back. Where the crew refuses, the run ends as it says, `Memory` or `Workers`, with the transcript so far.
+/// A `work` line is one call of the crew, which is given the engine. The lines behind it go on with
+/// the engine that the crew gives back. Where the crew refuses, the run ends as it says, `Memory`
+/// or `Workers`, with the transcript so far.
 pub fn run<R: Source, W: Sink, C: Crew<Engine<A>>, A: Allocator + Copy>(
     alloc: A,
     settings: Settings,

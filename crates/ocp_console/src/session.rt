@@ -13,7 +13,8 @@ pub(crate) const MAX_LINES: u32 = 100_000;
 /// The most octets of a line, a carriage return included and the newline not.
 pub(crate) const MAX_LINE_OCTETS: usize = 40_000;
 
-/// A run so far: what its lines have done, how many there were, and the octets of the line that has not ended.
+/// A run so far: what its lines have done, how many there were, and the octets of the line that has
+/// not ended.
 #[derive(Drop)]
 pub(crate) struct Session<A: Allocator> {
     pub console: Console<A>,
@@ -37,7 +38,8 @@ impl<A: Allocator> Session<A> {
         }
     }
 
-    /// Whether the octet goes on with its line: it does not end it, and lines and line have room for it.
+    /// Whether the octet goes on with its line: it does not end it, and lines and line have room
+    /// for it.
     pub fn has_room(&self, octet: u8) -> bool
         ensures yes { result ≡ true → (octet ≢ 10) × (self.now.before < max_lines)
             × (vec_len self.now.line < max_line_octets) }

@@ -55,7 +55,8 @@ fn fault_of(refused: CrewFault) -> ConsoleFault
     }
 }
 
-/// What a line does, after some lines before it, or what it asks of the crew, which the contract alone speaks of.
+/// What a line does, after some lines before it, or what it asks of the crew, which the contract
+/// alone speaks of.
 fn line_answer<W: Sink, C: Crew<Engine<A>>, A: Allocator + Copy>(
     alloc: A,
     console: &mut Console<A>,
@@ -91,7 +92,8 @@ fn line_answer<W: Sink, C: Crew<Engine<A>>, A: Allocator + Copy>(
     }
 }
 
-/// Has the crew do what a `work` line asks for, and writes that it is done. Where the crew refuses, the engine is gone.
+/// Has the crew do what a `work` line asks for, and writes that it is done. Where the crew refuses,
+/// the engine is gone.
 fn work<W: Sink, C: Crew<Engine<A>>, A: Allocator + Copy>(
     alloc: A,
     console: Console<A>,

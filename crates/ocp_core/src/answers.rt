@@ -19,7 +19,8 @@ pub enum RunRefusal {
     Memory,
 }
 
-/// Where a run ended: the refusal, the index of the refused event, and the answers of the events before it, which stand.
+/// Where a run ended: the refusal, the index of the refused event, and the answers of the events
+/// before it, which stand.
 #[derive(Drop)]
 pub struct RunFault<A: Allocator = Global> {
     pub refusal: RunRefusal,
@@ -32,8 +33,8 @@ pub struct RunFault<A: Allocator = Global> {
 pub enum CommitOutcome {
     /// It has no instruction.
     Empty,
-    /// Its procedure is not loaded or does not run, or its program, machine, breakpoints, pass flag, trace flag or remaining
-    /// budget are not those that the work began with.
+    /// Its procedure is not loaded or does not run, or its program, machine, breakpoints, pass
+    /// flag, trace flag or remaining budget are not those that the work began with.
     Stale,
     /// There is no room for a further journal entry.
     JournalFull,

@@ -27,9 +27,9 @@ impl<A: Allocator> Engine<A> {
         }
     }
 
-    /// Puts a work's instructions into its procedure, as events that happen here. Refused, in this order, where there are
-    /// none, where the procedure is not what the work began with, and where the journal is full; then nothing is changed
-    /// and the work is dropped.
+    /// Puts a work's instructions into its procedure, as events that happen here. Refused, in this
+    /// order, where there are none, where the procedure is not what the work began with, and where
+    /// the journal is full; then nothing is changed and the work is dropped.
     pub fn commit(&mut self, by: u16, work: Work<A>) -> CommitOutcome
         ensures { Commits self.old self.new by work result }
     {

@@ -47,8 +47,8 @@ impl<A: Allocator> Model for Engine<A> {
 }
 
 impl<A: Allocator> Engine<A> {
-    /// An engine of a profile without procedures, for the application process 0 to 2,046, with 1 to 256 pool words and room
-    /// for 1 to 1,000,000 journal entries, all of it reserved here.
+    /// An engine of a profile without procedures, for the application process 0 to 2,046, with 1 to
+    /// 256 pool words and room for 1 to 1,000,000 journal entries, all of it reserved here.
     pub fn new(
         alloc: A,
         profile: Profile,
@@ -87,9 +87,9 @@ impl<A: Allocator> Engine<A> {
         Ok(read)
     }
 
-    /// Takes the octets of a telecommand packet, which a seat hands in at a time in whole seconds, and answers its
-    /// reports. Refused, in this order, where the octets are discarded, where the journal is full, and where there is no
-    /// memory; then nothing is changed.
+    /// Takes the octets of a telecommand packet, which a seat hands in at a time in whole seconds,
+    /// and answers its reports. Refused, in this order, where the octets are discarded, where the
+    /// journal is full, and where there is no memory; then nothing is changed.
     pub fn request(
         &mut self,
         alloc: A,
@@ -128,8 +128,8 @@ impl<A: Allocator> Engine<A> {
         }
     }
 
-    /// `request`, which also answers a copy of the entry that the journal gained, with its mark. All memory is taken
-    /// before anything is changed.
+    /// `request`, which also answers a copy of the entry that the journal gained, with its mark.
+    /// All memory is taken before anything is changed.
     pub fn request_with_receipt(
         &mut self,
         alloc: A,
@@ -196,9 +196,10 @@ impl<A: Allocator> Engine<A> {
         None
     }
 
-    /// Reports the completions that wait, the oldest first, at a time in whole seconds, each to the source of its request;
-    /// none waits then. A seat hands it in. Refused, in this order, where none waits, where the journal is full, and where
-    /// there is no memory; then nothing is changed.
+    /// Reports the completions that wait, the oldest first, at a time in whole seconds, each to the
+    /// source of its request; none waits then. A seat hands it in. Refused, in this order, where
+    /// none waits, where the journal is full, and where there is no memory; then nothing is
+    /// changed.
     pub fn drain(&mut self, alloc: A, by: u16, time: u32) -> Result<Reports<A>, EngineFault>
     where
         A: Copy,
@@ -221,8 +222,8 @@ impl<A: Allocator> Engine<A> {
         }
     }
 
-    /// `drain`, which also answers a copy of the entry that the journal gained, with its mark. All memory is taken before
-    /// anything is changed.
+    /// `drain`, which also answers a copy of the entry that the journal gained, with its mark. All
+    /// memory is taken before anything is changed.
     pub fn drain_with_receipt(
         &mut self,
         alloc: A,
@@ -263,8 +264,8 @@ impl<A: Allocator> Engine<A> {
         }
     }
 
-    /// Does one instruction of a running procedure. Refused, in this order, where the procedure is not loaded, where it
-    /// is not running, and where the journal is full; then nothing is changed.
+    /// Does one instruction of a running procedure. Refused, in this order, where the procedure is
+    /// not loaded, where it is not running, and where the journal is full; then nothing is changed.
     pub fn step(&mut self, by: u16, id: u16) -> StepOutcome
         ensures answer { Stepped result ≡ answer_in self.old (world.Step by id) }
         ensures journal { self.new ≡ log_after self.old (world.Step by id) }
@@ -285,8 +286,9 @@ impl<A: Allocator> Engine<A> {
         outcome
     }
 
-    /// Does instructions of one procedure, at least one, until the budget is used, the procedure no longer runs, or an
-    /// instruction is refused, ends it or faults. They are one journal entry, or none where none was done.
+    /// Does instructions of one procedure, at least one, until the budget is used, the procedure no
+    /// longer runs, or an instruction is refused, ends it or faults. They are one journal entry, or
+    /// none where none was done.
     pub fn slice(&mut self, by: u16, id: u16, budget: u32) -> Slice
         requires { 1 ≤ budget }
         ensures slice { result ≡ slice_in self.old by id budget }
@@ -314,8 +316,8 @@ impl<A: Allocator> Engine<A> {
         slice
     }
 
-    /// The procedure whose turn is next: the least running one above the one before, or where there is none the least
-    /// running one. None exactly where none runs.
+    /// The procedure whose turn is next: the least running one above the one before, or where there
+    /// is none the least running one. None exactly where none runs.
     pub fn next_running(&self, after: Option<u16>) -> Option<u16>
         ensures pick { IsNextRunning (world_of self.now).records after result }
         ensures runs { IfSome result (Runs (world_of self.now).records) }
@@ -345,8 +347,8 @@ impl<A: Allocator> Engine<A> {
         &self.journal
     }
 
-    /// How many events there were: a request is one, each instruction is one, and a drain is one. It is the number of the
-    /// next event.
+    /// How many events there were: a request is one, each instruction is one, and a drain is one.
+    /// It is the number of the next event.
     pub fn events(&self) -> u64
         ensures value { result ≡ length (expand self.now.entries) }
         ensures number { result ≡ (world_of self.now).events }

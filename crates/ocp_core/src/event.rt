@@ -42,8 +42,9 @@ pub enum Event<'a> {
     },
 }
 
-/// What the journal keeps: a request, so many instructions of one procedure, done one after the other, a debugger's command,
-/// or a drain. The mark of an entry is the answer that was given with it.
+/// What the journal keeps: a request, so many instructions of one procedure, done one after the
+/// other, a debugger's command, or a drain. The mark of an entry is the answer that was given with
+/// it.
 #[derive(Drop)]
 pub enum Entry<A: Allocator = Global> {
     /// Its mark is a copy of the reports that were answered.

@@ -9,8 +9,8 @@ use space_packet::Apid;
 use std::alloc::{AllocError, Allocator, Global};
 use std::marker::Model;
 
-/// The entries of all accepted events and slices, in order, with the engine's parameters. All room is reserved when it
-/// is made.
+/// The entries of all accepted events and slices, in order, with the engine's parameters. All room
+/// is reserved when it is made.
 #[derive(Drop)]
 pub struct Journal<A: Allocator = Global> {
     profile: Profile,
@@ -44,7 +44,8 @@ impl<A: Allocator> Journal<A> {
     ghost use Rattle.ocp_core.specs.Journal.{entry_of, mark_of, marked_of};
     ghost use Rattle.ocp_core.specs.Mirror.Counted.{AreCounted};
 
-    /// A journal without entries, with room for so many, of an engine of a profile with 1 to 256 pool words.
+    /// A journal without entries, with room for so many, of an engine of a profile with 1 to 256
+    /// pool words.
     #[tactic(auto, unfolding(crate::specs::Marks::marked, crate::specs::Log::world_of))]
     pub fn new(
         alloc: A,
@@ -124,7 +125,8 @@ impl<A: Allocator> Journal<A> {
         self.entries.as_slice()
     }
 
-    /// How many single events the entries are, below 2^52. It is the number of the next event that is accepted.
+    /// How many single events the entries are, below 2^52. It is the number of the next event that
+    /// is accepted.
     pub fn events(&self) -> u64
         ensures value { result ≡ length (expand self.now.entries) }
         ensures number { result ≡ (world_of self.now).events }

@@ -1,4 +1,5 @@
-//! Laws on worlds, events and journals. The functions do nothing when they run: their contracts are the laws.
+//! Laws on worlds, events and journals. The functions do nothing when they run: their contracts are
+//! the laws.
 ghost use Rattle.std.specs.Prelude.{◌≡◌, ◌++◌, ◌∷◌, [], ℕ, true, false};
 ghost use Rattle.ocp_world.specs.World.{Event, Step};
 ghost use Rattle.ocp_world.specs.After.{Stepped, after, is_accepted};
@@ -30,7 +31,8 @@ pub use procedures::{
     words_are_taken_in_the_order_sent,
 };
 
-/// The mark of each new entry of a journal is the answer that was given with it, and the older entries and marks stay.
+/// The mark of each new entry of a journal is the answer that was given with it, and the older
+/// entries and marks stay.
 pub fn entries_are_marked_by_their_answers()
     ensures event { (log : Log) (e : Event) →
         is_accepted (after (world_of log) e).answer ≡ true → is_full log ≡ false →

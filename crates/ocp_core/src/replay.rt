@@ -125,9 +125,9 @@ fn state_after<A: Allocator + Copy, B: Allocator>(
     Ok(state)
 }
 
-/// The machine of a procedure at the end of a journal, where it is loaded there. It is the machine of the journal's replay,
-/// and the one that its image and its own events make: its starts, its instructions, and the answers of its engine calls.
-/// The only refusal is that of memory.
+/// The machine of a procedure at the end of a journal, where it is loaded there. It is the machine
+/// of the journal's replay, and the one that its image and its own events make: its starts, its
+/// instructions, and the answers of its engine calls. The only refusal is that of memory.
 pub fn replay_one<A: Allocator + Copy, B: Allocator>(
     alloc: A,
     journal: &Journal<B>,

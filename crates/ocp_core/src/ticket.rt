@@ -5,8 +5,8 @@ use ocp_table::Snapshot;
 use std::alloc::{AllocError, Allocator, Global};
 use std::marker::Model;
 
-/// A copy of a running procedure: its machine twice, one to run and one to compare with, the shared program, the
-/// breakpoints, the pass flag, the trace flag and what remains of the budget.
+/// A copy of a running procedure: its machine twice, one to run and one to compare with, the shared
+/// program, the breakpoints, the pass flag, the trace flag and what remains of the budget.
 #[derive(Drop)]
 pub struct Ticket<A: Allocator = Global> {
     id: u16,
@@ -29,7 +29,8 @@ impl<A: Allocator> Model for Ticket<A> {
     ghost invariant = { λ t. t.machine ≡ t.base.machine };
 }
 
-/// What a ticket did: its machine is the one that it began with after that many instructions that need no engine.
+/// What a ticket did: its machine is the one that it began with after that many instructions that
+/// need no engine.
 #[derive(Drop)]
 pub struct Work<A: Allocator = Global> {
     pub(crate) id: u16,
@@ -75,9 +76,10 @@ impl<A: Allocator> Ticket<A> {
         self.id
     }
 
-    /// Does instructions that need no engine, at most so many, and no more than what remains of the procedure's budget: none
-    /// where the procedure is traced. It stops before the
-    /// first one that needs the engine, and before a breakpoint, which the pass flag lets the first instruction pass.
+    /// Does instructions that need no engine, at most so many, and no more than what remains of the
+    /// procedure's budget: none where the procedure is traced. It stops before the first one that
+    /// needs the engine, and before a breakpoint, which the pass flag lets the first instruction
+    /// pass.
     pub fn run(self, budget: u32) -> Work<A>
         ensures id { result.id ≡ self.id }
         ensures base { result.base ≡ self.base }

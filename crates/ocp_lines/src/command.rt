@@ -83,7 +83,8 @@ pub const MAX_BUDGET: u32 = 1_000_000;
 /// The most turns of a `work` line.
 pub const MAX_TURNS: u32 = 1_000_000;
 
-/// What a `work` line asks for: so many workers, each of which takes so many turns of up to a budget of instructions.
+/// What a `work` line asks for: so many workers, each of which takes so many turns of up to a
+/// budget of instructions.
 #[derive(Clone, Copy)]
 pub struct Shift {
     pub workers: u16,

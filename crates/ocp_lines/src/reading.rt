@@ -247,8 +247,8 @@ fn command<A: Allocator>(
 /// The command that a line says, without its newline, or none where it is no command. A line of
 /// spaces alone is blank, and one whose first octet is `#` a comment: both say nothing. Words are
 /// parted by spaces, numbers are decimal digits, and octets pairs of hexadecimal digits of both
-/// cases. An activation has a budget under profile Two, and under One none. Only memory is refused, and
-/// only for a line with a word in the place of octets.
+/// cases. An activation has a budget under profile Two, and under One none. Only memory is refused,
+/// and only for a line with a word in the place of octets.
 #[tactic(auto, unfolding(crate::specs::Grammar::command_of))]
 pub fn read_command<A: Allocator>(
     alloc: A,

@@ -1,4 +1,5 @@
-//! What help and a mistake say of the commands. Nothing is proved of these texts; `.ci/commands` compares them.
+//! What help and a mistake say of the commands. Nothing is proved of these texts; `.ci/commands`
+//! compares them.
 
 /// What `--version` prints behind the name.
 pub(crate) const VERSION: &str = "0.1.0";

@@ -69,7 +69,8 @@ pub enum Job {
     Run(Settings),
 }
 
-/// Why the words are no job: `Usage` is `clap`'s own fault, which is also how it answers a call for help.
+/// Why the words are no job: `Usage` is `clap`'s own fault, which is also how it answers a call for
+/// help.
 #[derive(Debug, Drop, thiserror::Error)]
 pub enum WordsFault {
     #[error("{0}")]

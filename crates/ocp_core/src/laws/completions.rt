@@ -1,16 +1,18 @@
-//! Stops and suspends that became pending, over every list of events, each by the number of its event. The functions do
-//! nothing when they run: their contracts are the laws.
+//! Stops and suspends that became pending, over every list of events, each by the number of its
+//! event. The functions do nothing when they run: their contracts are the laws.
 ghost use Rattle.ocp_core.specs.Outbox.{EachStandsOnce, IsReportedOnceAtMost, EachGivesOneReport, PlacesSuffice};
 
-/// Each stop or suspend that became pending stands in exactly one place, once: it is pending, its completion waits in the
-/// outbox, a drain has sent the report of its completion, or the end of a step matched it while its completion flag was off.
-/// There are 64 places for those that are pending or wait.
+/// Each stop or suspend that became pending stands in exactly one place, once: it is pending, its
+/// completion waits in the outbox, a drain has sent the report of its completion, or the end of a
+/// step matched it while its completion flag was off. There are 64 places for those that are
+/// pending or wait.
 pub fn each_completion_stands_in_one_place()
     ensures place { EachStandsOnce }
     ensures room { PlacesSuffice }
 {}
 
-/// So at most one completion report is sent for it. Each completion that waits gives one report, whenever a drain comes.
+/// So at most one completion report is sent for it. Each completion that waits gives one report,
+/// whenever a drain comes.
 pub fn completions_are_reported_once_at_most()
     ensures report { IsReportedOnceAtMost }
     ensures drain { EachGivesOneReport }

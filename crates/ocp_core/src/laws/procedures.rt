@@ -1,11 +1,12 @@
-//! One procedure by itself, over every list of events. The functions do nothing when they run: their contracts are the laws.
+//! One procedure by itself, over every list of events. The functions do nothing when they run:
+//! their contracts are the laws.
 ghost use Rattle.ocp_core.specs.Alone.{IsFactored};
 ghost use Rattle.ocp_core.specs.Pool.{PoolIsOfOperations, CallsAreAnswered, CallsAnswerWords, FaultsOutside};
 ghost use Rattle.ocp_core.specs.Mailbox.{WordsComeInOrder, NoneIsLeft};
 ghost use Rattle.ocp_core.specs.Exchange.{MayBeExchanged, MayBeExchangedInLists};
 
-/// A procedure's machine is what its image and its own events make of it: its starts, its instructions, and the answers
-/// that its engine calls were given.
+/// A procedure's machine is what its image and its own events make of it: its starts, its
+/// instructions, and the answers that its engine calls were given.
 #[tactic(auto, using(crate::proofs::Factorisation::factorisation))]
 pub fn machines_follow_from_their_own_events()
     ensures { IsFactored }
@@ -17,24 +18,25 @@ pub fn the_pool_follows_from_its_operations()
     ensures { PoolIsOfOperations }
 {}
 
-/// An engine call is answered by the table of engine calls, with words of the pool that the operations before it left. It
-/// is fault 4 exactly where it names a word that this pool does not have.
+/// An engine call is answered by the table of engine calls, with words of the pool that the
+/// operations before it left. It is fault 4 exactly where it names a word that this pool does not
+/// have.
 pub fn engine_calls_answer_from_the_pool()
     ensures table { CallsAreAnswered }
     ensures words { CallsAnswerWords }
     ensures fault { FaultsOutside }
 {}
 
-/// A procedure takes the words that it was sent since its last start in the order in which they were sent, and finds none
-/// exactly where it has taken all of them.
+/// A procedure takes the words that it was sent since its last start in the order in which they
+/// were sent, and finds none exactly where it has taken all of them.
 pub fn words_are_taken_in_the_order_sent()
     ensures word { WordsComeInOrder }
     ensures none { NoneIsLeft }
 {}
 
-/// Two instructions of two procedures, one after the other, may change places where at most one of them is an engine call,
-/// an end or a fault: each event keeps its answer, and the worlds left are the same, but for the order of the trace records
-/// of these two.
+/// Two instructions of two procedures, one after the other, may change places where at most one of
+/// them is an engine call, an end or a fault: each event keeps its answer, and the worlds left are
+/// the same, but for the order of the trace records of these two.
 #[tactic(auto, using(crate::proofs::Exchanges::may_be_exchanged, crate::proofs::Exchanges::may_be_exchanged_in_lists))]
 pub fn instructions_of_two_procedures_change_places()
     ensures adjacent { MayBeExchanged }
