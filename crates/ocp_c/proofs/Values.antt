@@ -1,5 +1,5 @@
 -- What a raw box and a handle are as machine values: a pointer and an allocator, side by side.
-use Rattle.std.proofs.Common.{◌≡◌, ℕ, List, [], ◌∷◌, ◌++◌, refl, ap, ◌∙◌, subst}
+use Rattle.std.proofs.Common.{◌≡◌, ℕ, List, [], ◌∷◌, ◌++◌, refl, ap, ◌∙◌}
 use mathlib.Core.Bool.{true, ◌&&◌}
 use lib.Dec.{T}
 use seplogic.Ra.Ura.{Ura}

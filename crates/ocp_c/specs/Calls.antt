@@ -1,8 +1,6 @@
 -- What a call through a handle answers and leaves: nothing where the handle is closed, else what the
 -- engine's call does to the log that it holds.
-use Rattle.std.specs.Prelude.{ℕ, ◌<◌, ◌≤◌, ◌==◌, ◌&&◌, nat_le, Bool, if◌then◌else◌, Option, Some, None, Result, Err}
-use Rattle.ocp_profile.specs.declared.profile.Profile.{Profile}
-use Rattle.ocp_profile.specs.declared.profile.Profile.TheVariants as profile
+use Rattle.std.specs.Prelude.{ℕ, Option, Some, None, Result, Err}
 use Rattle.ocp_table.specs.declared.answers.Slice.{Slice}
 use Rattle.ocp_table.specs.declared.answers.StepOutcome.{StepOutcome}
 use Rattle.ocp_table.specs.declared.answers.StepOutcome.TheVariants as S
@@ -13,7 +11,7 @@ use Rattle.ocp_core.specs.Log.{Log}
 use Rattle.ocp_c.specs.declared.outcome.Outcome.{Outcome}
 use Rattle.ocp_c.specs.declared.status.Status.{Status}
 use Rattle.ocp_c.specs.declared.status.Status.TheVariants as status
-use Rattle.ocp_c.specs.Statuses.{number_of, status_of, status_of_command}
+use Rattle.ocp_c.specs.Statuses.{number_of}
 
 -- the number of the answer
 abbrev pub answers : Option Log → (Log → Status) → ℕ

@@ -4,3 +4,4 @@ pub mod Calls
 pub mod Opening
 pub mod Packets
 pub mod Replies
+pub mod Reading

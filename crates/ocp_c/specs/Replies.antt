@@ -1,5 +1,5 @@
 -- What a request and a drain answer to C.
-use Rattle.std.specs.Prelude.{ℕ, nat_le, if◌then◌else◌, List, [], length, Ok, Err}
+use Rattle.std.specs.Prelude.{ℕ, nat_le, if◌then◌else◌, List, [], Ok, Err}
 use Rattle.pus_fields.specs.declared.fault.Discard.{Discard}
 use Rattle.pus_fields.specs.declared.fault.Discard.TheVariants as discard
 use Rattle.ocp_world.specs.declared.answers.EngineFault.TheVariants as engine

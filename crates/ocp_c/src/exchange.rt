@@ -47,7 +47,8 @@ fn request_into(
         Err(EngineFault::Discarded(Discard::Short)) => Status::DiscardedShort.number(),
         Err(EngineFault::Discarded(Discard::Version)) => Status::DiscardedVersion.number(),
         Err(EngineFault::Discarded(Discard::Length)) => Status::DiscardedLength.number(),
-        Err(EngineFault::Discarded(Discard::NotTelecommand)) => Status::DiscardedNotTelecommand.number(),
+        Err(EngineFault::Discarded(Discard::NotTelecommand)) =>
+            Status::DiscardedNotTelecommand.number(),
         Err(EngineFault::Discarded(Discard::OtherApid)) => Status::DiscardedOtherApid.number(),
         Err(EngineFault::JournalFull) => Status::JournalFull.number(),
         Err(EngineFault::Memory) => Status::Memory.number(),
@@ -115,7 +116,8 @@ fn drain_into(
         Err(EngineFault::Discarded(Discard::Short)) => Status::DiscardedShort.number(),
         Err(EngineFault::Discarded(Discard::Version)) => Status::DiscardedVersion.number(),
         Err(EngineFault::Discarded(Discard::Length)) => Status::DiscardedLength.number(),
-        Err(EngineFault::Discarded(Discard::NotTelecommand)) => Status::DiscardedNotTelecommand.number(),
+        Err(EngineFault::Discarded(Discard::NotTelecommand)) =>
+            Status::DiscardedNotTelecommand.number(),
         Err(EngineFault::Discarded(Discard::OtherApid)) => Status::DiscardedOtherApid.number(),
         Err(EngineFault::JournalFull) => Status::JournalFull.number(),
         Err(EngineFault::Memory) => Status::Memory.number(),

@@ -20,14 +20,16 @@ mod loose;
 mod opening;
 mod outcome;
 mod packets;
+mod procedure;
+mod reading;
 mod status;
 
 pub use handle::Handle;
-pub use outcome::Outcome;
-pub use status::Status;
-
 use ocp_core::{Slice, StepOutcome};
 use opening::open;
+pub use outcome::Outcome;
+pub use procedure::Procedure;
+pub use status::Status;
 use std::alloc::Global;
 
 // The seat of the requests, commands and drains.

@@ -1,6 +1,6 @@
 -- `of_box`: what the box owns goes over to its pointer and its allocator.
 use Rattle.std.proofs.Common.{◌≡◌, List, [], ◌∷◌, ◌++◌, refl, sym, ap, ◌∙◌, subst}
-use mir.Syntax.{Args, Dict, a_type, dcons, dnil}
+use mir.Syntax.{Args, a_type, dcons, dnil}
 use mir.Val.{Val, vptr}
 use mir.MapTy.{inst_fn}
 use base.Logic.{SProp, ent, emp, id⊢}

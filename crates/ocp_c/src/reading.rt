@@ -1,0 +1,127 @@
+//! What C reads of an engine.
+
+ghost use Rattle.std.specs.Prelude.{◌≡◌, ◌≢◌, ◌≤◌, ◌++◌, ℕ, length, drop};
+ghost use Rattle.std.specs.FinMap.{get};
+ghost use Rattle.std.specs.declared.option.Option.TheVariants.{None, Some};
+ghost use Rattle.ocp_table.specs.Shown.{view_at};
+ghost use Rattle.ocp_debug.specs.Memory.{memory_at};
+ghost use Rattle.ocp_world.specs.NextRunning.{IsNextRunning, Runs};
+ghost use Rattle.ocp_core.specs.Log.{Log, world_of};
+ghost use Rattle.ocp_c.specs.declared.status.Status.TheVariants as status;
+ghost use Rattle.ocp_c.specs.Statuses.{number_of};
+ghost use Rattle.ocp_c.specs.Calls.{answers, writes};
+ghost use Rattle.ocp_c.specs.Reading.{identifier_in, status_of_read, octets_or, view_status, procedure_or, registers_or};
+
+use crate::{Handle, Procedure, Status};
+use std::alloc::Global;
+
+// The identifier that a number is, where it is one.
+fn identifier_in(number: u32) -> Option<u16>
+    ensures { result ≡ identifier_in number }
+{
+    if number < 65536 {
+        Some(number as u16)
+    } else {
+        None
+    }
+}
+
+/// The procedure whose turn is next.
+#[unsafe(no_mangle)]
+pub extern "C" fn ocp_next_running(
+    alloc: Global,
+    handle: &mut Handle,
+    after: u32,
+    id: &mut u16,
+) -> u32
+    ensures closed { handle.old.held ≡ None → result ≡ number_of status.NotOpen }
+    ensures engine { handle.new.held ≡ handle.old.held }
+    ensures next { (log : Log) → handle.old.held ≡ Some log → result ≡ number_of status.Done →
+        IsNextRunning (world_of log).records (identifier_in after) (Some id.new) }
+    ensures refused { (log : Log) → handle.old.held ≡ Some log →
+        result ≢ number_of status.Done → result ≡ number_of status.NoneRunning }
+    ensures none { (log : Log) → handle.old.held ≡ Some log →
+        result ≡ number_of status.NoneRunning → (id : ℕ) → Runs (world_of log).records id → ⊥ }
+    ensures same { result ≢ number_of status.Done → id.new ≡ id.old }
+{
+    let Some(engine) = handle.take(alloc) else {
+        return Status::NotOpen.number();
+    };
+    let next = engine.next_running(identifier_in(after));
+    handle.put(engine);
+    match next {
+        Some(next) => {
+            *id = next;
+            Status::Done.number()
+        }
+        None => Status::NoneRunning.number(),
+    }
+}
+
+/// Reads octets of a procedure's memory.
+#[unsafe(no_mangle)]
+pub extern "C" fn ocp_memory(
+    alloc: Global,
+    handle: &mut Handle,
+    id: u16,
+    address: u64,
+    octets: &mut [u8],
+) -> u32
+    ensures status { result ≡ answers handle.old.held (λ log. status_of_read
+        (memory_at (get (world_of log).records id) address (length octets.old))) }
+    ensures engine { handle.new.held ≡ handle.old.held }
+    ensures octets { octets.new ≡ writes handle.old.held octets.old (λ log. octets_or
+        (memory_at (get (world_of log).records id) address (length octets.old)) octets.old) }
+{
+    let Some(engine) = handle.take(alloc) else {
+        return Status::NotOpen.number();
+    };
+    let given = engine.memory(id, address, octets);
+    handle.put(engine);
+    Status::of_command(given).number()
+}
+
+// Writes registers from the front on.
+fn show_registers(values: &[u64; 11], registers: &mut [u64])
+    requires { 11 ≤ length registers.old }
+    ensures { registers.new ≡ values.now ++ drop 11 registers.old }
+{
+    let (front, _back) = registers.split_at_mut(11);
+    front.copy_from_slice(values);
+}
+
+/// What is shown of a procedure, and its registers.
+#[unsafe(no_mangle)]
+pub extern "C" fn ocp_view(
+    alloc: Global,
+    handle: &mut Handle,
+    id: u16,
+    view: &mut Procedure,
+    registers: &mut [u64],
+) -> u32
+    ensures status { result ≡ answers handle.old.held (λ log.
+        view_status (length registers.old) (view_at (get (world_of log).records id))) }
+    ensures engine { handle.new.held ≡ handle.old.held }
+    ensures view { view.new ≡ writes handle.old.held view.old (λ log. procedure_or
+        (length registers.old) (view_at (get (world_of log).records id)) view.old) }
+    ensures registers { registers.new ≡ writes handle.old.held registers.old (λ log.
+        registers_or (length registers.old) (view_at (get (world_of log).records id))
+        registers.old) }
+{
+    let Some(engine) = handle.take(alloc) else {
+        return Status::NotOpen.number();
+    };
+    let found = engine.view(id);
+    handle.put(engine);
+    if registers.len() < 11 {
+        return Status::BufferTooSmall.number();
+    }
+    match found {
+        Some(found) => {
+            *view = Procedure::of(found);
+            show_registers(&found.registers, registers);
+            Status::Done.number()
+        }
+        None => Status::NotLoaded.number(),
+    }
+}
