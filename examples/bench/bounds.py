@@ -12,7 +12,7 @@ LIMITS = f'ulimit -c 0; ulimit -t {SECONDS}; ulimit -v {MEMORY}; ulimit -f "$0";
 
 def sentence(said):
     """The first line of what a command says of a fault, without the number of the line."""
-    return re.sub(r"^(ocp: )?(line \d+: )?", "", said.strip().split("\n")[0])
+    return re.sub(r"^(line \d+: |the input: )", "", said.strip().split("\n")[0])
 
 
 class Refused(Exception):

@@ -39,14 +39,17 @@ for (const [area, part] of [["text", texts], ["script", script]]) {
         for (const file of event.target.files) await part.open(file);
         event.target.value = "";
     });
-    at(area).ondragover = event => { event.preventDefault(); at(area).classList.add("over"); };
-    at(area).ondragleave = () => at(area).classList.remove("over");
-    at(area).ondrop = guarded(async event => {
-        event.preventDefault();
-        at(area).classList.remove("over");
-        for (const file of event.dataTransfer.files) await part.open(file);
-    });
 }
+// A file that is dropped goes to the side on which it falls, and beside them to the one that its name says.
+const sideOf = (event, name) => event.target.closest("section[aria-label=Script]") ? "script" : event.target.closest("section[aria-label=Text]") ? "text" :
+    /\.(ocp|script|txt)$/.test(name) ? "script" : "text";
+document.ondragover = event => { event.preventDefault(); document.body.classList.add("over"); };
+document.ondragleave = () => document.body.classList.remove("over");
+document.ondrop = guarded(async event => {
+    event.preventDefault();
+    document.body.classList.remove("over");
+    for (const file of [...event.dataTransfer.files]) await (sideOf(event, file.name) === "script" ? script : texts).open(file);
+});
 
 guarded(async () => {
     at("help").open = localStorage.getItem("bench texts") === null;

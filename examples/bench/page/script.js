@@ -62,13 +62,14 @@ function rowOf(index) {
 }
 
 // The lines around one, with what they printed; the others are drawn when the walk comes there.
-export function showRows(line) {
+export function showRows(line, moment) {
     const from = Math.max(0, Math.floor(line / 50) * 50 - 50), to = Math.min(it.rows.length, from + 150);
     if (from !== drawn[0] || to !== drawn[1]) {
         drawn = [from, to];
         at("rows").replaceChildren(...Array.from({ length: to - from }, (_, offset) => rowOf(from + offset)));
     }
     for (const row of at("rows").querySelectorAll(".here")) row.classList.remove("here");
+    [...at("rows").children].forEach((row, index) => row.classList.toggle("ahead", from + index > line || !moment[0] && !moment[1]));
     const here = at("rows").children[line - from];
     if (here) {
         here.classList.add("here");
@@ -76,6 +77,19 @@ export function showRows(line) {
     }
     const fault = it.rows.length && it.rows.at(-1).fault ? [{ line: it.rows.length, kind: "fault", hint: it.hint || it.rows.at(-1).printed.at(-1) }] : [];
     field.mark([...it.rows.length ? [{ line: line + 1, kind: "next", hint: "" }] : [], ...fault], line + 1);
+}
+
+// The reports of the lines that are done, the last ones, in words.
+export function showReports(done) {
+    const lines = [];
+    for (let index = done - 1; index >= 0 && lines.length < 60; index -= 1) {
+        for (const shown of [...it.rows[index].printed].reverse()) {
+            const words = inWords(shown, index);
+            if (words) lines.push(`${shown}\n    = ${words}`);
+        }
+    }
+    at("reports").textContent = lines.slice(0, 60).reverse().join("\n") || "none";
+    at("reports").scrollTop = at("reports").scrollHeight;
 }
 
 export async function showPackets(line) {

@@ -1,6 +1,6 @@
 // The walk: a moment is so many whole lines, and then so many instructions of the next one. Every state is the program's.
 import { at, guarded, it, say } from "./shared.js";
-import { askPass, showPackets, showRows } from "./script.js";
+import { askPass, showPackets, showReports, showRows } from "./script.js";
 import { showPlace } from "./texts.js";
 import { showHistory, showState } from "./state.js";
 import { draw, readTimeline, zoom } from "./timeline.js";
@@ -72,7 +72,8 @@ async function show(moment, event, line, state, before) {
     at("where").textContent = `event ${event} of ${it.total}, ${moment[1] ? `instruction ${moment[1]} of line ${line + 1}` : moment[0] ? `behind line ${moment[0]}` : "at the start"}`;
     showState(state, before, id => walk(it.moment, id));
     draw(event);
-    showRows(line);
+    showRows(line, moment);
+    showReports(moment[0]);
     await place(moment, state);
 }
 
