@@ -1,5 +1,5 @@
--- What a call through a handle answers and leaves: nothing where the handle is closed, else what the
--- engine's call does to the log that it holds.
+-- What a call through a handle answers and leaves: nothing where the handle is closed, else what
+-- the engine's call does to the log that it holds.
 use Rattle.std.specs.Prelude.{ℕ, Option, Some, None, Result, Err}
 use Rattle.ocp_table.specs.declared.answers.Slice.{Slice}
 use Rattle.ocp_table.specs.declared.answers.StepOutcome.{StepOutcome}

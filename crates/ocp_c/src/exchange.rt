@@ -27,14 +27,18 @@ fn request_into(
     written: &mut usize,
 ) -> u32
     ensures answer { result ≢ number_of status.Memory →
-        result ≡ number_of (replies 272 (length reports.old) (answer_in engine.old (Request 0 time packet.now))) }
+        result ≡ number_of (replies 272 (length reports.old)
+        (answer_in engine.old (Request 0 time packet.now))) }
     ensures memory { result ≡ number_of status.Memory →
         is_accepted (answer_in engine.old (Request 0 time packet.now)) ≡ true }
-    ensures journal { engine.new ≡ (if result == 0 then log_after engine.old (Request 0 time packet.now) else engine.old) }
+    ensures journal { engine.new ≡ (if result == 0
+        then log_after engine.old (Request 0 time packet.now) else engine.old) }
     ensures reports { reports.new ≡ (if result == 0
-        then poured (packets_in (answer_in engine.old (Request 0 time packet.now))) reports.old else reports.old) }
+        then poured (packets_in (answer_in engine.old (Request 0 time packet.now))) reports.old
+        else reports.old) }
     ensures written { written.new ≡ (if result == 0 then
-        poured_length (packets_in (answer_in engine.old (Request 0 time packet.now))) reports.old else written.old) }
+        poured_length (packets_in (answer_in engine.old (Request 0 time packet.now))) reports.old
+        else written.old) }
 {
     if reports.len() < 272 {
         return Status::BufferTooSmall.number();
@@ -69,15 +73,19 @@ pub extern "C" fn ocp_request(
     ensures closed { handle.old.held ≡ None → result ≡ number_of status.NotOpen }
     ensures answer { (log : Log) → handle.old.held ≡ Some log →
         result ≢ number_of status.Memory →
-        result ≡ number_of (replies 272 (length reports.old) (answer_in log (Request 0 time packet.now))) }
+        result ≡ number_of (replies 272 (length reports.old)
+        (answer_in log (Request 0 time packet.now))) }
     ensures memory { (log : Log) → handle.old.held ≡ Some log →
-        result ≡ number_of status.Memory → is_accepted (answer_in log (Request 0 time packet.now)) ≡ true }
+        result ≡ number_of status.Memory → is_accepted
+        (answer_in log (Request 0 time packet.now)) ≡ true }
     ensures engine { handle.new.held ≡ leaves handle.old.held (λ log.
         if result == 0 then log_after log (Request 0 time packet.now) else log) }
     ensures reports { reports.new ≡ writes handle.old.held reports.old (λ log. if result == 0
-        then poured (packets_in (answer_in log (Request 0 time packet.now))) reports.old else reports.old) }
+        then poured (packets_in (answer_in log (Request 0 time packet.now))) reports.old
+        else reports.old) }
     ensures written { written.new ≡ writes handle.old.held written.old (λ log. if result == 0
-        then poured_length (packets_in (answer_in log (Request 0 time packet.now))) reports.old else written.old) }
+        then poured_length (packets_in (answer_in log (Request 0 time packet.now))) reports.old
+        else written.old) }
 {
     let Some(mut engine) = handle.take(alloc) else {
         return Status::NotOpen.number();
@@ -96,14 +104,18 @@ fn drain_into(
     written: &mut usize,
 ) -> u32
     ensures answer { result ≢ number_of status.Memory →
-        result ≡ number_of (replies 1600 (length reports.old) (answer_in engine.old (Drain 0 time))) }
+        result ≡ number_of (replies 1600 (length reports.old)
+        (answer_in engine.old (Drain 0 time))) }
     ensures memory { result ≡ number_of status.Memory →
         is_accepted (answer_in engine.old (Drain 0 time)) ≡ true }
-    ensures journal { engine.new ≡ (if result == 0 then log_after engine.old (Drain 0 time) else engine.old) }
+    ensures journal { engine.new ≡ (if result == 0 then log_after engine.old (Drain 0 time)
+        else engine.old) }
     ensures reports { reports.new ≡ (if result == 0
-        then poured (packets_in (answer_in engine.old (Drain 0 time))) reports.old else reports.old) }
+        then poured (packets_in (answer_in engine.old (Drain 0 time))) reports.old
+        else reports.old) }
     ensures written { written.new ≡ (if result == 0 then
-        poured_length (packets_in (answer_in engine.old (Drain 0 time))) reports.old else written.old) }
+        poured_length (packets_in (answer_in engine.old (Drain 0 time))) reports.old
+        else written.old) }
 {
     if reports.len() < 1600 {
         return Status::BufferTooSmall.number();
@@ -145,7 +157,8 @@ pub extern "C" fn ocp_drain(
     ensures reports { reports.new ≡ writes handle.old.held reports.old (λ log. if result == 0
         then poured (packets_in (answer_in log (Drain 0 time))) reports.old else reports.old) }
     ensures written { written.new ≡ writes handle.old.held written.old (λ log. if result == 0
-        then poured_length (packets_in (answer_in log (Drain 0 time))) reports.old else written.old) }
+        then poured_length (packets_in (answer_in log (Drain 0 time))) reports.old
+        else written.old) }
 {
     let Some(mut engine) = handle.take(alloc) else {
         return Status::NotOpen.number();

@@ -21,4 +21,5 @@ pub record HasTaken (before : ℕ) (line octets : List ℕ) : Type 0 where
 
 -- the count of failed writes rose, just where the answer is `Write`
 abbrev pub CountsWrites : {T : Type 0} → ℕ → ℕ → Result T ConsoleFault → Type 0
-CountsWrites old new result = MatchResult result (λ _. new ≡ old) (λ fault. (fault ≡ Write) ↔ (old < new))
+CountsWrites old new result =
+    MatchResult result (λ _. new ≡ old) (λ fault. (fault ≡ Write) ↔ (old < new))

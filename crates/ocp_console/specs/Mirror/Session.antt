@@ -25,7 +25,8 @@ rest_of crew s more = Writes crew (state_of s.console) s.before (lines_of (s.lin
 
 -- the same, where a line's work may be left to the crew
 abbrev pub rest_with : {A : Type 0} → CrewAnswers → Session A → Option Shift → List ℕ → Writing
-rest_with crew s asked more = after_line crew (state_of s.console) s.before asked (lines_of (s.line.items ++ more))
+rest_with crew s asked more =
+    after_line crew (state_of s.console) s.before asked (lines_of (s.line.items ++ more))
 
 -- how many octets a session may have taken: it rises with each
 abbrev pub octets_so_far : {A : Type 0} → Session A → ℕ
@@ -33,8 +34,11 @@ octets_so_far s = s.before * (max_line_octets + 1) + vec_len s.line
 
 -- A part of a script was answered: its text went out, and the rest of the run is that of what
 -- follows.
-abbrev pub Answers : {X T : Type 0} → Option (List ℕ) → Option (List ℕ) → (X → Writing) → (T → X → Writing) → Result T ConsoleFault → Type 0
+abbrev pub Answers : {X T : Type 0} → Option (List ℕ) → Option (List ℕ) →
+    (X → Writing) → (T → X → Writing) → Result T ConsoleFault → Type 0
 Answers {X} {T} old new whole rest (Ok x) =
     (sent : List ℕ) × Appends old new sent
-    × ((more : X) (later : List ℕ) (ending : Result Unit ConsoleFault) → rest x more later ending → whole more (sent ++ later) ending)
-Answers {X} {T} old new whole rest (Err e) = (sent : List ℕ) × Appends old new sent × ((more : X) → whole more sent (Err e))
+    × ((more : X) (later : List ℕ) (ending : Result Unit ConsoleFault) →
+        rest x more later ending → whole more (sent ++ later) ending)
+Answers {X} {T} old new whole rest (Err e) =
+    (sent : List ℕ) × Appends old new sent × ((more : X) → whole more sent (Err e))
