@@ -183,7 +183,6 @@ static void closed_handle(void)
     WANT(OCP_NOT_OPEN, ocp_pool_word(&engine, 0, &wide));
     WANT(OCP_NOT_OPEN, ocp_events(&engine, &wide));
     WANT(OCP_NOT_OPEN, ocp_room(&engine, &wide));
-    WANT(OCP_NOT_OPEN, ocp_entry(&engine, 0, octets, 4, &written));
     HOLDS(written == 77 && wide == 77 && registers[0] == 77 && count == 77 && id == 77 && octets[0] == 77);
     HOLDS(outcome.kind == 77 && outcome.fault == 77 && view.status == 77 && reports[0] == 77);
 }
@@ -279,7 +278,6 @@ static void procedures(void)
     REFUSED(OCP_BUFFER_TOO_SMALL, ocp_view(&engine, 8, &view, registers, 10));
     REFUSED(OCP_NO_WORD, ocp_pool_word(&engine, 16, &wide));
     REFUSED(OCP_NO_WORD, ocp_pool_word(&engine, UINT64_MAX, &wide));
-    REFUSED(OCP_NO_ENTRY, ocp_entry(&engine, 0, octets, sizeof octets, &written));
 
     WANT(OCP_DONE, load());
     REFUSED(OCP_NOT_RUNNING, ocp_step(&engine, 7, &outcome));
@@ -289,13 +287,10 @@ static void procedures(void)
     REFUSED(OCP_NOT_SET, ocp_clear_break(&engine, 7, 0));
     REFUSED(OCP_OUTSIDE_MEMORY, ocp_memory(&engine, 7, 0x10000fff, octets, 2));
     REFUSED(OCP_OUTSIDE_MEMORY, ocp_memory(&engine, 7, UINT64_MAX, octets, 2));
-    REFUSED(OCP_BUFFER_TOO_SMALL, ocp_entry(&engine, 0, octets, 7 + 16, &written));
-    REFUSED(OCP_NO_ENTRY, ocp_entry(&engine, 1, octets, 0, &written));
-    REFUSED(OCP_NO_ENTRY, ocp_entry(&engine, UINT32_MAX, octets, sizeof octets, &written));
     HOLDS(outcome.kind == 77 && view.status == 77 && registers[0] == 77 && wide == 77 && count == 77 && id == 77);
     HOLDS(octets[0] == 77);
 
-    /* a breakpoint that stands there, a buffer that is longer than it has to be, and the entry of the load */
+    /* a breakpoint that stands there, and a buffer that is longer than it has to be */
     WANT(OCP_DONE, ocp_set_break(&engine, 7, 0));
     REFUSED(OCP_ALREADY_SET, ocp_set_break(&engine, 7, 0));
     WANT(OCP_DONE, ocp_clear_break(&engine, 7, 0));
@@ -303,9 +298,6 @@ static void procedures(void)
     registers[11] = 77;
     WANT(OCP_DONE, ocp_view(&engine, 7, &view, registers, 12));
     HOLDS(registers[10] == 0x10001000 && registers[11] == 77 && view.status == OCP_INACTIVE);
-    WANT(OCP_DONE, ocp_entry(&engine, 0, octets, sizeof octets, &written));
-    HOLDS(written == 7 + 11 + sizeof load_7 + 2 && octets[0] == OCP_ENTRY_REQUEST && octets[6] == 5);
-    HOLDS(memcmp(octets + 7 + 11, load_7, sizeof load_7) == 0);
     WANT(OCP_DONE, ocp_close(&engine));
 }
 

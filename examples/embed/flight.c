@@ -4,8 +4,8 @@
  *
  * Time goes by in cycles. In each one every running procedure does a slice of instructions in its turn, and every so many
  * cycles the completions that wait are reported. The time in reports is the number of the cycle. A cycle takes so many
- * milliseconds; with 0, the default, one follows each packet, and the same packets give the same reports. At the end of the
- * input the journal is written to the file JOURNAL, if one is named, for the tool `journal`.
+ * milliseconds; with 0, the default, one follows each packet, and the same packets give the same reports. What the engine
+ * has done is written to the file JOURNAL, if one is named, for the tool `journal`.
  *
  * Status: 0 the input has ended, 2 wrong words, 3 no engine, no room in the journal, or no output; one line says which. */
 #define _POSIX_C_SOURCE 200809L
@@ -76,6 +76,7 @@ static void take(size_t length)
     uint32_t status = ocp_request(&engine, cycle, input, length, reports, sizeof reports, &written);
     switch (status) {
     case OCP_DONE:
+        journal_request(cycle, input, length);
         send_reports(written);
         break;
     case OCP_JOURNAL_FULL:
@@ -117,6 +118,7 @@ static void give_slices(void)
         struct ocp_outcome last;
         if (ocp_slice(&engine, id, SLICE, &count, &last) != OCP_DONE)
             end("the journal is full");
+        journal_steps(id, count);
         if (last.kind == OCP_FAULTED)
             fprintf(stderr, "flight: cycle %lu: procedure %u faulted: %lu\n", (unsigned long)cycle, id, (unsigned long)last.fault);
         before = id;
@@ -128,6 +130,7 @@ static void drain(void)
     size_t written = 0;
     switch (ocp_drain(&engine, cycle, reports, sizeof reports, &written)) {
     case OCP_DONE:
+        journal_drain(cycle);
         send_reports(written);
         break;
     case OCP_JOURNAL_FULL:
@@ -190,6 +193,8 @@ int main(int words, char **word)
     }
     if (ocp_open(&engine, PROFILE, APID, POOL_WORDS, JOURNAL_ENTRIES) != OCP_DONE)
         end("no memory for the engine");
+    if (words == 3 && !begin_journal(word[2], PROFILE, APID, POOL_WORDS))
+        end("the journal can't be written");
     if (period == 0)
         cycles_by_packets();
     else
@@ -198,7 +203,7 @@ int main(int words, char **word)
         broken++;
         fprintf(stderr, "flight: cycle %lu: the input ends within a packet\n", (unsigned long)cycle);
     }
-    if (words == 3 && !write_journal(&engine, word[2], PROFILE, APID, POOL_WORDS))
+    if (!end_journal())
         end("the journal can't be written");
     fprintf(stderr, "flight: %lu cycles, %lu packets discarded\n", (unsigned long)cycle, (unsigned long)broken);
     return ocp_close(&engine) == OCP_DONE ? 0 : FAILED;

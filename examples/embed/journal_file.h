@@ -1,39 +1,92 @@
 /* The journal as a file, for the tool `journal`: the engine's profile, application process identifier and pool words
- * (4 octets each), and then each entry, the oldest first, behind its length (4 octets). Numbers are big-endian. */
+ * (4 octets each), and then each entry behind its length (4 octets). Numbers are big-endian. The program writes an entry
+ * behind each call that the engine has done: a request, a slice, a command of the debugger, a drain. */
 #ifndef JOURNAL_FILE_H
 #define JOURNAL_FILE_H
 
-#include "ocp_engine.h"
-
 #include <stdbool.h>
+#include <stddef.h>
+#include <stdint.h>
 #include <stdio.h>
 
-static inline bool write_number(FILE *file, uint32_t number)
+/* What an entry is: its first octet. */
+enum {
+    ENTRY_REQUEST = 1,     /* kind, time (4 octets), and the packet to the end of the entry */
+    ENTRY_STEPS = 2,       /* kind, procedure (2), how many instructions (4) */
+    ENTRY_SET_BREAK = 3,   /* kind, procedure (2), place (2) */
+    ENTRY_CLEAR_BREAK = 4, /* kind, procedure (2), place (2) */
+    ENTRY_TRACE = 5,       /* kind, procedure (2), 1 for on and 0 for off (2) */
+    ENTRY_DRAIN = 6        /* kind, time (4) */
+};
+
+/* Where the journal goes; nowhere while it is null. */
+static FILE *journal_file;
+
+static inline void journal_number(uint32_t number, int octets)
 {
-    uint8_t octets[4] = {(uint8_t)(number >> 24), (uint8_t)(number >> 16), (uint8_t)(number >> 8), (uint8_t)number};
-    return fwrite(octets, 1, sizeof octets, file) == sizeof octets;
+    for (int at = octets - 1; at >= 0; at--)
+        fputc((int)(number >> (8 * at) & 255), journal_file);
 }
 
-static inline bool write_entries(struct ocp_engine *engine, FILE *file)
+/* Gives whether the file is there. */
+static inline bool begin_journal(const char *name, uint32_t profile, uint32_t apid, uint32_t pool_words)
 {
-    static uint8_t entry[OCP_LONGEST_ENTRY];
-    size_t length = 0;
-    for (uint32_t index = 0; ocp_entry(engine, index, entry, sizeof entry, &length) == OCP_DONE; index++)
-        if (!write_number(file, (uint32_t)length) || fwrite(entry, 1, length, file) != length)
-            return false;
+    journal_file = fopen(name, "wb");
+    if (journal_file == NULL)
+        return false;
+    journal_number(profile, 4);
+    journal_number(apid, 4);
+    journal_number(pool_words, 4);
     return true;
 }
 
-/* Gives whether the file holds it all. */
-static inline bool write_journal(struct ocp_engine *engine, const char *name, uint32_t profile, uint32_t apid,
-                                 uint32_t pool_words)
+static inline void journal_request(uint32_t time, const uint8_t *packet, size_t length)
 {
-    FILE *file = fopen(name, "wb");
-    if (file == NULL)
-        return false;
-    bool whole = write_number(file, profile) && write_number(file, apid) && write_number(file, pool_words) &&
-                 write_entries(engine, file);
-    return fclose(file) == 0 && whole;
+    if (journal_file == NULL)
+        return;
+    journal_number((uint32_t)(5 + length), 4);
+    journal_number(ENTRY_REQUEST, 1);
+    journal_number(time, 4);
+    fwrite(packet, 1, length, journal_file);
+}
+
+static inline void journal_steps(uint16_t procedure, uint32_t count)
+{
+    if (journal_file == NULL)
+        return;
+    journal_number(7, 4);
+    journal_number(ENTRY_STEPS, 1);
+    journal_number(procedure, 2);
+    journal_number(count, 4);
+}
+
+/* A command of the debugger: the kind is one of the three. */
+static inline void journal_command(int kind, uint16_t procedure, uint16_t number)
+{
+    if (journal_file == NULL)
+        return;
+    journal_number(5, 4);
+    journal_number((uint32_t)kind, 1);
+    journal_number(procedure, 2);
+    journal_number(number, 2);
+}
+
+static inline void journal_drain(uint32_t time)
+{
+    if (journal_file == NULL)
+        return;
+    journal_number(5, 4);
+    journal_number(ENTRY_DRAIN, 1);
+    journal_number(time, 4);
+}
+
+/* Gives whether the file holds all that was written, or none was begun. */
+static inline bool end_journal(void)
+{
+    if (journal_file == NULL)
+        return true;
+    bool whole = !ferror(journal_file);
+    return fclose(journal_file) == 0 && whole;
 }
 
 #endif

@@ -11,7 +11,7 @@
  * - A handle is used by one thread, one call at a time, and not from a signal handler. It is not copied, and its field is
  *   neither read nor written.
  * - Requests, commands and drains are those of seat 0.
- * - Numbers in packets and entries are big-endian.
+ * - Numbers in packets are big-endian.
  */
 #ifndef OCP_ENGINE_H
 #define OCP_ENGINE_H
@@ -68,8 +68,7 @@ enum {
     OCP_OUTSIDE_MEMORY = 24,     /* not all octets lie in the procedure's memory */
 
     /* readers */
-    OCP_NO_WORD = 25, /* the pool has no word of this index */
-    OCP_NO_ENTRY = 26 /* the journal has no entry of this index */
+    OCP_NO_WORD = 25 /* the pool has no word of this index */
 };
 
 /* ---- the handle */
@@ -202,26 +201,6 @@ uint32_t ocp_events(struct ocp_engine *engine, uint64_t *events);
 /* How many journal entries are still free.
  * Refusal: OCP_NOT_OPEN. */
 uint32_t ocp_room(struct ocp_engine *engine, uint64_t *entries);
-
-/* ---- the journal */
-
-/* What an entry of the journal is: its first octet. */
-enum {
-    OCP_ENTRY_REQUEST = 1,     /* kind, seat (2 octets), time (4), and the packet to the end of the entry */
-    OCP_ENTRY_STEPS = 2,       /* kind, seat (2), procedure (2), how many instructions (4) */
-    OCP_ENTRY_SET_BREAK = 3,   /* kind, seat (2), procedure (2), place (2) */
-    OCP_ENTRY_CLEAR_BREAK = 4, /* kind, seat (2), procedure (2), place (2) */
-    OCP_ENTRY_TRACE = 5,       /* kind, seat (2), procedure (2), 1 for on and 0 for off (1) */
-    OCP_ENTRY_DRAIN = 6        /* kind, seat (2), time (4) */
-};
-
-/* The longest entry: that of a request of 65,542 octets. */
-#define OCP_LONGEST_ENTRY ((size_t)65549)
-
-/* The entry at an index, from 0, the oldest, on: its octets stand at the front of the buffer, and the last argument says how
- * many they are. What is behind them stays as it was. A buffer of OCP_LONGEST_ENTRY has room for each.
- * Refusals: OCP_NOT_OPEN, OCP_NO_ENTRY, OCP_BUFFER_TOO_SMALL (the entry is longer than the buffer). */
-uint32_t ocp_entry(struct ocp_engine *engine, uint32_t index, uint8_t *octets, size_t length, size_t *written);
 
 #ifdef __cplusplus
 }
