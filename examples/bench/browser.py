@@ -178,6 +178,21 @@ def pending(page):
     page.check("page: the mailbox", page.shown("mailbox") == "2 of 16, the oldest first: 40, 41")
 
 
+def second_profile(page):
+    """The other profile: a budget with each activation, and a larger work region."""
+    page.find("profile").send_keys("2")
+    page.set("text", "lddw r1, 0x30000ff8\nstdw [r1], 9\nexit\n")
+    page.until("its listing", lambda: "stdw [r1+0], 9" in page.shown("listing"))
+    page.set("script", "")
+    page.press("Load", "Activate", "Step")
+    page.until("an activation without a budget", lambda: "send 1 activate 7 0" in page.find("script").get_attribute("value"))
+    page.until("its words", lambda: page.shown("command") == "./ocp run --profile 2 < pass.ocp")
+    page.until("its work region", lambda: page.shown("memory-work").count("\n") == 256)
+    page.key(page.keys.ARROW_LEFT)
+    page.until("its last word", lambda: "30000ff0  00 00 00 00 00 00 00 00  09" in page.shown("memory-work"))
+    page.find("profile").send_keys("1")
+
+
 def by_keyboard(page):
     """Tab comes to every field, button and table, and no other way is needed."""
     page.script("document.activeElement.blur(); window.getSelection().removeAllRanges(); scrollTo(0, 0); document.querySelectorAll('details').forEach(each => { each.open = true; })")
@@ -328,6 +343,7 @@ def page(address, ocp, check, pictures):
         pending(shown)
         bad_input(shown)
         example(shown)
+        second_profile(shown)
         nothing_overlaps(shown)
         by_keyboard(shown)
         with tempfile.TemporaryDirectory() as folder:
