@@ -142,6 +142,7 @@ def walk_back(page, ocp, pictures):
     page.until("a fault", lambda: "fault2 (WriteToArguments)" in page.shown("view"))
     page.key(page.keys.HOME), page.key("f")
     page.until("the fault by its key", lambda: "place 4" in page.shown("view"))
+    page.until("the fault in words", lambda: page.shown("last") == "The last event is the fault of stb [r2+0], 1 at place 4.")
     page.key(page.keys.ARROW_LEFT), page.key(page.keys.ARROW_LEFT)
     page.until("the store that made it", lambda: page.script(
         "return [...document.querySelectorAll('#memory-stack .changed')].map(each => each.textContent).join('')") == "20")
@@ -176,6 +177,23 @@ def pending(page):
     page.until("it is pending", lambda: "pending suspend 2" in page.shown("view"))
     page.check("page: no report of what is to come", "completed" not in page.shown("reports").split("line 4")[-1] and "accepted" in page.shown("reports"))
     page.check("page: the mailbox", page.shown("mailbox") == "2 of 16, the oldest first: 40, 41")
+
+
+def second_profile(page):
+    """The other profile: a budget with each activation, and a larger work region."""
+    page.set("script", "")
+    page.find("profile").send_keys("2")
+    page.until("an empty script", lambda: page.shown("where").startswith("event 0 of 0"))
+    time.sleep(1)
+    page.set("text", "lddw r1, 0x30000ff8\nstdw [r1], 9\nexit\n")
+    page.until("its listing", lambda: "stdw [r1+0], 9" in page.shown("listing") and page.shown("listed") == "of this text")
+    page.press("Load", "Activate", "Step")
+    page.until("an activation without a budget", lambda: "send 1 activate 7 0" in page.find("script").get_attribute("value"))
+    page.until("its words", lambda: page.shown("command") == "./ocp run --profile 2 < pass.ocp")
+    page.until("its work region", lambda: page.shown("memory-work").count("\n") == 256)
+    page.key(page.keys.ARROW_LEFT)
+    page.until("its last word", lambda: "30000ff0  00 00 00 00 00 00 00 00  09" in page.shown("memory-work"))
+    page.find("profile").send_keys("1")
 
 
 def by_keyboard(page):
@@ -278,6 +296,8 @@ def example(page):
         time.sleep(0.3)
     page.until("the octets of the address", lambda: page.script(changed) == "03 00")
     page.until("the line behind the store", lambda: [line for line, _ in page.marks("text", "next")] == [10])
+    page.until("the store in words", lambda: page.shown("last") == "The last event did stxdw [r2+0], r1 at place 7, line 9. It changed "
+               "stack 10000ff8: 00 → 03, 10000ffb: 30 → 00.")
     mended = page.find("text").get_attribute("value").replace("jle64 r1, 3", "jlt64 r1, 3")
     page.set("text", mended)
     page.until("the mended listing", lambda: "jlt64 r1, 3" in page.shown("listing"))
@@ -328,6 +348,7 @@ def page(address, ocp, check, pictures):
         pending(shown)
         bad_input(shown)
         example(shown)
+        second_profile(shown)
         nothing_overlaps(shown)
         by_keyboard(shown)
         with tempfile.TemporaryDirectory() as folder:

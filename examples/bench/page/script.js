@@ -6,13 +6,14 @@ import { inWords, readRequests } from "./words.js";
 
 const field = editor(at("script"));
 const USUAL = { apid: 291, pool: 16, journal: 100000, profile: 1 };
-let turn = 0, walk = null, drawn = [-1, -1], packetTurn = 0;
+let turn = 0, walk = null, goal = null, drawn = [-1, -1], packetTurn = 0;
 
 export function whenRead(work) { walk = work; }
 const sent = () => ({ script: at("script").value, options: options() });
 
 export const readScript = guarded(async (place = null) => {
     const mine = ++turn;
+    goal = place || goal;
     keep();
     showCommand();
     const asked = sent(), found = await question("pass", { ...asked, has: it.key });
@@ -28,7 +29,9 @@ export const readScript = guarded(async (place = null) => {
     readRequests(options().apid);
     const differs = !found.same && !it.rows.some(row => row.free);
     say(found.status === 1 ? "" : found.said.trim() || (differs ? "The pass printed something else when it was run again." : ""));
-    await walk(place, found.from);
+    const there = goal;
+    goal = null;
+    await walk(there, found.from);
 });
 
 // A question about the pass; the pass is sent again where the server has dropped it.
@@ -63,7 +66,7 @@ function rowOf(index) {
 
 // The lines around one, with what they printed; the others are drawn when the walk comes there.
 export function showRows(line, moment) {
-    const from = Math.max(0, Math.floor(line / 50) * 50 - 50), to = Math.min(it.rows.length, from + 150);
+    const from = Math.max(0, Math.floor(line / 20) * 20 - 20), to = Math.min(it.rows.length, from + 60);
     if (from !== drawn[0] || to !== drawn[1]) {
         drawn = [from, to];
         at("rows").replaceChildren(...Array.from({ length: to - from }, (_, offset) => rowOf(from + offset)));

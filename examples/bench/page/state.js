@@ -50,6 +50,24 @@ function mailboxText(words, view) {
     return words.length ? `${words.length} of 16, the oldest first: ${words.join(", ")}` : "empty, room for 16";
 }
 
+// What differs from the state before the last event, in words.
+export function changesOf(state, before) {
+    const found = [], view = state.views[it.chosen] || [], old = before.views[it.chosen] || [];
+    view.slice(1).forEach((text, index) => {
+        const [name, value] = text.split(" "), [, past] = (old[index + 1] || text).split(" ");
+        if (value !== past) found.push(`${name} ${short(past)} → ${short(value)}`);
+    });
+    for (const [name, [start, digits]] of Object.entries(state.memory)) {
+        const past = before.memory[name] ? before.memory[name][1] : digits, octets = [];
+        if (past === digits) continue;
+        for (let at = 0; at < digits.length; at += 2) if (digits.slice(at, at + 2) !== past.slice(at, at + 2)) octets.push(at);
+        found.push(`${name} ${octets.slice(0, 4).map(at => `${(start + at / 2).toString(16)}: ${past.slice(at, at + 2)} → ${digits.slice(at, at + 2)}`).join(", ")}${octets.length > 4 ? ` and ${octets.length - 4} octets` : ""}`);
+    }
+    state.pool.forEach((word, index) => { if (word !== before.pool[index]) found.push(`pool ${index} ${short(before.pool[index])} → ${short(word)}`); });
+    return found;
+}
+const short = word => `0x${word.replace(/^0+(?=.)/, "")}`;
+
 // One region as a whole table; an octet that the last event changed is marked, and brought into view.
 function showRegion(name, found, past) {
     const box = at(`memory-${name}`), digits = found ? found[1] : "", old = past ? past[1] : digits;

@@ -71,6 +71,7 @@ export const readText = guarded(async () => {
 
 // The listing of an image, with the place that is next and the places that are marked.
 function list(image, place = -1) {
+    at("listed").textContent = place < 0 ? "of this text" : `of procedure ${it.chosen}`;
     const rows = listings.get(image) || [], marked = it.marks.get(it.chosen) || new Set(), places = placesOf(image);
     if (listed !== image || at("listing").childElementCount !== rows.length) {
         listed = image;
@@ -106,6 +107,12 @@ export async function showPlace(image, place) {
     }
     mark(shown().image === image ? Number(placesOf(image)[place]) || null : null);
     list(image, place);
+}
+
+// The instruction of an image at a place, with its line in the text.
+export function instructionAt(image, place) {
+    const found = (listings.get(image) || []).find(([slot]) => slot === place), line = placesOf(image)[place];
+    return found ? `${found[1]} at place ${place}${line ? `, line ${line}` : ""}` : `place ${place}`;
 }
 
 export function start() {

@@ -1,8 +1,8 @@
 // The walk: a moment is so many whole lines, and then so many instructions of the next one. Every state is the program's.
 import { at, guarded, it, say } from "./shared.js";
 import { askPass, showPackets, showReports, showRows } from "./script.js";
-import { showPlace } from "./texts.js";
-import { showHistory, showState } from "./state.js";
+import { instructionAt, showPlace } from "./texts.js";
+import { changesOf, showHistory, showState } from "./state.js";
 import { draw, readTimeline, zoom } from "./timeline.js";
 
 const states = new Map(), visited = new Map();
@@ -74,14 +74,28 @@ async function show(moment, event, line, state, before) {
     draw(event);
     showRows(line, moment);
     showReports(moment[0]);
-    await place(moment, state);
+    const image = await place(moment, state), changes = changesOf(state, before), was = before.views[it.chosen];
+    at("last").textContent = [lastEvent(moment, line, image, was), changes.length ? `It changed ${changes.join("; ")}.` : ""].join(" ").trim();
 }
 
-function place(moment, state) {
+// What the last event was: an instruction, a breakpoint that held, or a line.
+function lastEvent(moment, line, image, was) {
+    const row = it.rows[line];
+    if (event0(moment) || !row) return "";
+    if (row.free || !/^ *step /.test(it.lines[line])) return `Line ${line + 1} was done.`;
+    if (!row.events || !was) return `Line ${line + 1} did nothing.`;
+    const place = Number(was[0].split(" ")[5]), held = !moment[1] && row.printed.some(shown => / Broke$/.test(shown));
+    const faulted = !moment[1] && row.printed.some(shown => / Faulted /.test(shown));
+    return held ? `A breakpoint held it before ${instructionAt(image, place)}.` : `The last event ${faulted ? "is the fault of" : "did"} ${instructionAt(image, place)}.`;
+}
+const event0 = moment => !moment[0] && !moment[1];
+
+async function place(moment, state) {
     const view = state.views[it.chosen];
     let image = null;
     if (view) for (const row of it.rows.slice(0, moment[0])) if (row.image && row.image[0] === it.chosen) [, image] = row.image;
-    return showPlace(image, view ? Number(view[0].split(" ")[5]) : -1);
+    await showPlace(image, view ? Number(view[0].split(" ")[5]) : -1);
+    return image;
 }
 
 // To the next line, or the one before, that printed something.
