@@ -1,0 +1,162 @@
+//! A refusal with its hint, as it is shown.
+
+use crate::answer::{Answer, sentence_of_fault};
+use crate::hint::{Hint, Says, write_octet};
+use crate::image::{digits_of, hint_of_image};
+use crate::line::hint_of_line;
+use crate::statement::hint_of_statement;
+use ocp_profile::Profile;
+use std::fmt;
+use text_lines::first_line;
+
+/// How many octets of a line are shown in front of a mark, and of the whole line.
+const SHOWN_BEFORE: usize = 60;
+
+const SHOWN: usize = 120;
+
+/// How many digits a slot has.
+const SLOT_DIGITS: usize = 16;
+
+/// What is refused: a line of this number, or a slot.
+#[derive(Clone, Copy)]
+enum Place {
+    Line(u64),
+    Slot(u64),
+    Input,
+}
+
+/// A refusal: the line as it was read, a mark under what did not fit, and one sentence of what may stand there.
+#[derive(Clone, Copy)]
+pub struct Explained<'a> {
+    place: Place,
+    line: &'a [u8],
+    hint: Hint<'a>,
+}
+
+/// A fault with no word to mark.
+fn without_mark(sentence: &'static str) -> Hint<'static> {
+    Hint {
+        column: 0,
+        says: Says::Sentence(sentence),
+    }
+}
+
+/// The line of this number, from 1; the empty line where there is none.
+fn line_at(text: &[u8], number: u64) -> &[u8] {
+    let mut rest = text;
+    for _ in 1..number {
+        if rest.is_empty() {
+            return rest;
+        }
+        let (_, behind) = first_line(rest);
+        rest = behind;
+    }
+    if rest.is_empty() {
+        return rest;
+    }
+    let (line, _) = first_line(rest);
+    line
+}
+
+/// The digits of the slot of this number, from 0, and of all behind it.
+fn slots_from(digits: &[u8], number: u64) -> &[u8] {
+    let mut rest = digits;
+    for _ in 0..number {
+        if rest.len() < SLOT_DIGITS {
+            return rest;
+        }
+        rest = &rest[SLOT_DIGITS..];
+    }
+    rest
+}
+
+impl<'a> Explained<'a> {
+    /// What did not fit in the line of a script that is `Syntax`. It has this number in the script, and that one, `among`,
+    /// among the lines of the text.
+    pub fn of_script(profile: Profile, number: u64, text: &'a [u8], among: u64) -> Explained<'a> {
+        let line = line_at(text, among);
+        let unknown = without_mark("this is no line of the console");
+        Explained {
+            place: Place::Line(number),
+            line,
+            hint: hint_of_line(profile, line).unwrap_or(unknown),
+        }
+    }
+
+    /// What did not fit in an assembly text.
+    pub fn of_text(text: &'a [u8], answer: Answer<'_>) -> Explained<'a> {
+        let line = line_at(text, answer.number);
+        let hint = match answer.name {
+            b"Syntax" => hint_of_statement(line),
+            name => without_mark(sentence_of_fault(name)),
+        };
+        match answer.number {
+            0 => Explained {
+                place: Place::Input,
+                line: &[],
+                hint,
+            },
+            number => Explained {
+                place: Place::Line(number),
+                line,
+                hint,
+            },
+        }
+    }
+
+    /// What did not fit in the digits of an image.
+    pub fn of_image(text: &'a [u8], answer: Answer<'_>) -> Explained<'a> {
+        let digits = digits_of(text);
+        match answer.name {
+            b"Hex" => Explained {
+                place: Place::Input,
+                line: digits,
+                hint: hint_of_image(text),
+            },
+            b"TooLong" | b"Ragged" => Explained {
+                place: Place::Input,
+                line: &[],
+                hint: without_mark(sentence_of_fault(answer.name)),
+            },
+            name => {
+                let slots = slots_from(digits, answer.number);
+                Explained {
+                    place: Place::Slot(answer.number),
+                    line: slots.get(..SLOT_DIGITS).unwrap_or(slots),
+                    hint: without_mark(sentence_of_fault(name)),
+                }
+            }
+        }
+    }
+}
+
+impl fmt::Display for Place {
+    fn fmt<W: fmt::Write>(&self, f: &mut fmt::Formatter<W>) -> fmt::Result {
+        match self {
+            Place::Line(number) => write!(f, "line {number}"),
+            Place::Slot(number) => write!(f, "slot {number}"),
+            Place::Input => write!(f, "the input"),
+        }
+    }
+}
+
+impl fmt::Display for Explained<'_> {
+    fn fmt<W: fmt::Write>(&self, f: &mut fmt::Formatter<W>) -> fmt::Result {
+        let place = self.place;
+        let says = self.hint.says;
+        write!(f, "{place}: {says}\n")?;
+        if self.line.is_empty() {
+            return Ok(());
+        }
+        let begin = self.hint.column.saturating_sub(SHOWN_BEFORE);
+        write!(f, "    ")?;
+        for octet in self.line.iter().skip(begin).take(SHOWN) {
+            write_octet(*octet, f)?;
+        }
+        write!(f, "\n    ")?;
+        for _ in begin..self.hint.column {
+            write!(f, " ")?;
+        }
+        write!(f, "^\n")
+    }
+}

@@ -1,0 +1,136 @@
+//! Hints.
+
+use crate::part::Part;
+use std::fmt;
+
+/// What did not fit in a line: from this octet on, and why.
+#[derive(Clone, Copy)]
+pub struct Hint<'a> {
+    /// How many octets of the line stand in front of what did not fit.
+    pub column: usize,
+    pub says: Says<'a>,
+}
+
+/// One sentence on what may stand there.
+#[derive(Clone, Copy)]
+pub enum Says<'a> {
+    /// A sentence that no part of the line changes.
+    Sentence(&'static str),
+    /// The verb stands in the line in other letters than these.
+    LowerCase(&'static str),
+    /// A request has no flags in front of it.
+    Flagless(&'a [u8]),
+    /// Something in a line of this form.
+    Form(&'static str, Misfit<'a>),
+    /// The flags of a request.
+    Flags(&'a [u8]),
+    /// An instruction of this mnemonic has these operands.
+    Operands(&'a [u8], &'static str),
+}
+
+/// What in a line did not fit its form.
+#[derive(Clone, Copy)]
+pub enum Misfit<'a> {
+    Missing(Part),
+    /// The number is out of its range, or it is none.
+    Range(Part, &'a [u8]),
+    HexadecimalPrefix,
+    HexadecimalDigit,
+    OddDigits,
+    TooManyArguments,
+    Address,
+    Switch,
+    Comment,
+    More,
+}
+
+/// A word as it is shown: its first 40 octets, and a `?` for each that is no printable ASCII.
+#[derive(Clone, Copy)]
+struct Shown<'a>(&'a [u8]);
+
+impl fmt::Display for Shown<'_> {
+    fn fmt<W: fmt::Write>(&self, f: &mut fmt::Formatter<W>) -> fmt::Result {
+        for octet in self.0.iter().take(40) {
+            write_octet(*octet, f)?;
+        }
+        Ok(())
+    }
+}
+
+/// Writes an octet as a terminal can show it.
+pub(crate) fn write_octet<W: fmt::Write>(octet: u8, f: &mut fmt::Formatter<W>) -> fmt::Result {
+    let shown = if octet.is_ascii_graphic() || octet == b' ' {
+        octet
+    } else {
+        b'?'
+    };
+    f.write_char(char::from(shown))
+}
+
+impl fmt::Display for Says<'_> {
+    fn fmt<W: fmt::Write>(&self, f: &mut fmt::Formatter<W>) -> fmt::Result {
+        match self {
+            Says::Sentence(text) => write!(f, "{text}"),
+            Says::LowerCase(verb) => write!(f, "lines are in lower case: {verb}"),
+            Says::Flagless(verb) => {
+                let verb = Shown(verb);
+                write!(
+                    f,
+                    "requests begin with send and the flags: send <flags> {verb} .."
+                )
+            }
+            Says::Form(form, misfit) => {
+                write!(f, "{form}: ")?;
+                write!(f, "{misfit}")
+            }
+            Says::Flags(word) => {
+                let misfit = Misfit::Range(Part::Flags, word);
+                write!(f, "{misfit}")
+            }
+            Says::Operands(mnemonic, operands) => {
+                let mnemonic = Shown(mnemonic);
+                write!(f, "{mnemonic} {operands}")
+            }
+        }
+    }
+}
+
+impl fmt::Display for Misfit<'_> {
+    fn fmt<W: fmt::Write>(&self, f: &mut fmt::Formatter<W>) -> fmt::Result {
+        match self {
+            Misfit::Missing(part) => {
+                let name = part.name();
+                match part {
+                    Part::Address | Part::Switch => write!(f, "{name} is missing"),
+                    _ => write!(f, "<{name}> is missing"),
+                }
+            }
+            Misfit::Range(part, word) => write_range(*part, word, f),
+            Misfit::HexadecimalPrefix => {
+                write!(f, "hexadecimal digits have no 0x in front here")
+            }
+            Misfit::HexadecimalDigit => write!(f, "only hexadecimal digits may stand here"),
+            Misfit::OddDigits => write!(f, "the number of hexadecimal digits is even"),
+            Misfit::TooManyArguments => write!(f, "arguments have at most 256 octets"),
+            Misfit::Address => write!(f, "an address is 0x and 1 to 16 hexadecimal digits"),
+            Misfit::Switch => write!(f, "on or off may stand here"),
+            Misfit::Comment => write!(f, "a comment is a line of its own"),
+            Misfit::More => write!(f, "nothing more may stand here"),
+        }
+    }
+}
+
+/// Writes which numbers a part takes, and what stands there.
+fn write_range<W: fmt::Write>(part: Part, word: &[u8], f: &mut fmt::Formatter<W>) -> fmt::Result {
+    let name = part.name();
+    let (least, greatest) = part.limits().unwrap_or((0, u64::MAX));
+    let digits = match word {
+        [b'0', b'x' | b'X', ..] => ", in decimal digits",
+        _ => "",
+    };
+    let word = Shown(word);
+    write!(
+        f,
+        "{name} is {least} to {greatest}{digits}, and stands here as {word}"
+    )
+}

@@ -1,0 +1,64 @@
+//! What may stand at one place of a console line.
+
+/// What may stand at one place of a console line.
+#[derive(Clone, Copy)]
+pub enum Part {
+    Flags,
+    Identifier,
+    Place,
+    Step,
+    Count,
+    Seconds,
+    Length,
+    Index,
+    Number,
+    /// The budget of an activation.
+    Budget,
+    /// The budget of a `work` line's turns.
+    TurnBudget,
+    Workers,
+    Turns,
+    Address,
+    Switch,
+    /// Octets, in hexadecimal digits.
+    Octets,
+    /// The arguments of a procedure, in hexadecimal digits.
+    Arguments,
+}
+
+impl Part {
+    /// Its name in the form of a line.
+    pub fn name(self) -> &'static str {
+        match self {
+            Part::Flags => "flags",
+            Part::Identifier => "id",
+            Part::Place => "place",
+            Part::Step => "step",
+            Part::Count => "n",
+            Part::Seconds => "seconds",
+            Part::Length => "length",
+            Part::Index => "index",
+            Part::Number => "number",
+            Part::Budget | Part::TurnBudget => "budget",
+            Part::Workers => "workers",
+            Part::Turns => "turns",
+            Part::Address => "0x<digits>",
+            Part::Switch => "on|off",
+            Part::Octets | Part::Arguments => "hex",
+        }
+    }
+
+    /// The least and the greatest number that it takes.
+    pub fn limits(self) -> Option<(u64, u64)> {
+        match self {
+            Part::Flags => Some((0, 15)),
+            Part::Identifier | Part::Place | Part::Step => Some((0, 65_535)),
+            Part::Seconds | Part::Budget => Some((0, 4_294_967_295)),
+            Part::Index | Part::Number => Some((0, u64::MAX)),
+            Part::Length => Some((1, 256)),
+            Part::Workers => Some((1, 16)),
+            Part::Count | Part::TurnBudget | Part::Turns => Some((1, 1_000_000)),
+            Part::Address | Part::Switch | Part::Octets | Part::Arguments => None,
+        }
+    }
+}
