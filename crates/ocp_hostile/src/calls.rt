@@ -1,5 +1,5 @@
-//! Growths that an engine's other calls ask for, refused one after another: an engine, tickets, machines by themselves, trace
-//! lines and lists of events.
+//! Growths that an engine's other calls ask for, refused one after another: an engine, tickets,
+//! machines by themselves, trace lines and lists of events.
 use crate::drains::REQUESTED;
 use crate::heap::Refusing;
 use crate::requests::REQUESTS;
@@ -29,7 +29,8 @@ const MADE: [Made; 4] = [Made::Engine, Made::Ticket, Made::Machine, Made::Trace]
 const TRACE: &[u8] =
     b"trace 7 0 Ran 0000000000000005 0000000020000000 0000000000000002 0000000000000000 0000000000000000 0000000000000000 0000000000000000 0000000000000000 0000000000000000 0000000000000000 0000000010001000 mov64 r0, 5\n";
 
-/// Appends the trace to a vector without room, which a refusal leaves so: none where memory was refused.
+/// Appends the trace to a vector without room, which a refusal leaves so: none where memory was
+/// refused.
 fn traces<A: Allocator + Copy>(alloc: A, engine: &Engine<A>) -> Option<bool> {
     let mut out = Vec::new(alloc);
     match engine.trace_lines(&mut out) {
@@ -61,7 +62,8 @@ fn is_machine<A: Allocator + Copy>(alloc: A, engine: &Engine<A>) -> Option<bool>
     }
 }
 
-/// Makes a thing of an engine in which procedure 7 runs, and tells whether it is as wanted: none where memory was refused.
+/// Makes a thing of an engine in which procedure 7 runs, and tells whether it is as wanted: none
+/// where memory was refused.
 fn make<A: Allocator + Copy>(alloc: A, engine: &Engine<A>, made: Made) -> Option<bool> {
     match made {
         Made::Engine => begins(alloc),
@@ -83,8 +85,8 @@ fn begin<A: Allocator + Copy>(alloc: A, engine: &mut Engine<A>) -> Result<(), Fa
     Ok(())
 }
 
-/// Makes a thing, at first with no memory, then with one more block each time, until it is made, and gives how many growths
-/// were refused.
+/// Makes a thing, at first with no memory, then with one more block each time, until it is made,
+/// and gives how many growths were refused.
 fn refused<'a>(
     heap: &'a Refusing<Global>,
     engine: &Engine<&'a Refusing<Global>>,
@@ -124,7 +126,8 @@ fn each_growth_of_what_is_made_of_an_engine_is_refused(rt: HostRuntime) -> Resul
     Ok(())
 }
 
-/// Does the events, and tells why it ended before its end, if it did, and how many events were answered.
+/// Does the events, and tells why it ended before its end, if it did, and how many events were
+/// answered.
 fn ended<A: Allocator + Copy>(
     alloc: A,
     engine: &mut Engine<A>,
@@ -136,8 +139,8 @@ fn ended<A: Allocator + Copy>(
     }
 }
 
-/// Does the events with so many growths, and tells whether all were answered. After a refusal the events before it stand,
-/// and the others are answered with memory.
+/// Does the events with so many growths, and tells whether all were answered. After a refusal the
+/// events before it stand, and the others are answered with memory.
 fn is_run<'a>(
     heap: &'a Refusing<Global>,
     engine: &mut Engine<&'a Refusing<Global>>,
@@ -163,8 +166,8 @@ fn is_run<'a>(
     }
 }
 
-/// Does the events on new engines, at first with no memory, then with one more block each time, until all are answered, and
-/// gives how many growths were refused.
+/// Does the events on new engines, at first with no memory, then with one more block each time,
+/// until all are answered, and gives how many growths were refused.
 fn run_refused(heap: &Refusing<Global>, events: &[Event<'_>]) -> Result<u64, Fail> {
     for growths in 0..MOST {
         let mut engine = Engine::new(heap, Profile::One, 0x123, 16, 20)?;

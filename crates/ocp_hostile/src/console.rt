@@ -89,7 +89,8 @@ impl<E: Drop> Crew<E> for Refuser {
     }
 }
 
-/// Does a command from one device to the other, and tells how it ended and what the other device holds.
+/// Does a command from one device to the other, and tells how it ended and what the other device
+/// holds.
 fn perform<A: Allocator + Copy>(
     alloc: A,
     command: Command,
@@ -162,8 +163,8 @@ fn a_reader_that_fails_ends_a_command(rt: HostRuntime) -> Result<(), Fail> {
     Ok(())
 }
 
-/// Does a command, at first with no memory, then with one more block each time, until it is done, and gives how many growths
-/// were refused. After each refusal a prefix of the output was written.
+/// Does a command, at first with no memory, then with one more block each time, until it is done,
+/// and gives how many growths were refused. After each refusal a prefix of the output was written.
 fn refused(
     heap: &Refusing<Global>,
     alloc: Global,

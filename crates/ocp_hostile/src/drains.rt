@@ -1,5 +1,5 @@
-//! Growths that a drain of an engine asks for, refused one after another. The packets were written by a script that knows the
-//! tables of the profile alone.
+//! Growths that a drain of an engine asks for, refused one after another. The packets were written
+//! by a script that knows the tables of the profile alone.
 use crate::engine::shown;
 use crate::heap::Refusing;
 use ocp_core::{Engine, EngineFault, Entry, Reports, StepOutcome};
@@ -16,8 +16,9 @@ const MOST: u64 = 100;
 /// The time of each drain.
 const TIME: u32 = 0x0102_0304;
 
-/// A load of a procedure 4 that ends step 1, ends step 2 and exits, its activation, its suspend of source 0 and then its stop of
-/// source 7, both at the end of step 2. The suspend has the flag acceptance, and the stop also the flag completion.
+/// A load of a procedure 4 that ends step 1, ends step 2 and exits, its activation, its suspend of
+/// source 0 and then its stop of source 7, both at the end of step 2. The suspend has the flag
+/// acceptance, and the stop also the flag completion.
 pub(crate) const REQUESTED: [&[u8]; 4] = [
     &[
         0x19, 0x23, 0xc0, 0x00, 0x00, 0x32, 0x20, 0x12, 0x01, 0x00, 0x00, 0x00, 0x04, 0x00, 0x28,
@@ -75,7 +76,8 @@ pub(crate) fn is_drain<A: Allocator>(entry: Option<&Entry<A>>) -> bool {
     }
 }
 
-/// Hands in the requests and does the procedure's four instructions up to the end of step 2, so that two completions wait.
+/// Hands in the requests and does the procedure's four instructions up to the end of step 2, so
+/// that two completions wait.
 fn complete<A: Allocator + Copy>(alloc: A, engine: &mut Engine<A>) -> Result<(), Fail> {
     for octets in REQUESTED {
         engine.request(alloc, 1, 0, octets)?;
@@ -87,8 +89,9 @@ fn complete<A: Allocator + Copy>(alloc: A, engine: &mut Engine<A>) -> Result<(),
     Ok(())
 }
 
-/// Drains with the allocator that refuses, at first with no memory, then with one more block each time, until reports are
-/// answered, and gives how many growths were refused. Each refusal leaves the engine as it was.
+/// Drains with the allocator that refuses, at first with no memory, then with one more block each
+/// time, until reports are answered, and gives how many growths were refused. Each refusal leaves
+/// the engine as it was.
 fn refused<A: Allocator + Copy>(
     heap: &Refusing<Global>,
     refusing: A,

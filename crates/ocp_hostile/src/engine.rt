@@ -13,8 +13,8 @@ const AMPLE: u64 = 1_000_000;
 /// How many growths are refused at most before a call has to succeed.
 const MOST: u64 = 100;
 
-/// What an engine shows: four procedures, the first arguments of procedure 7, the trace, two pool words, how many events
-/// there were, and how many entries are free.
+/// What an engine shows: four procedures, the first arguments of procedure 7, the trace, two pool
+/// words, how many events there were, and how many entries are free.
 pub(crate) fn shown<A: Allocator>(
     alloc: Global,
     engine: &Engine<A>,
@@ -54,8 +54,9 @@ fn answered<A: Allocator + Copy>(
     }
 }
 
-/// Hands in a request, at first with no memory, then with one more block each time, until it is answered, and gives how
-/// many growths were refused. Each refusal leaves the engine as it was, and the answer has the wanted packets.
+/// Hands in a request, at first with no memory, then with one more block each time, until it is
+/// answered, and gives how many growths were refused. Each refusal leaves the engine as it was, and
+/// the answer has the wanted packets.
 fn refused<'a>(
     heap: &'a Refusing<Global>,
     alloc: Global,

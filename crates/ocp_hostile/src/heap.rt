@@ -5,8 +5,8 @@ ghost use Rattle.std.specs.Prelude.{◌≡◌, IfSome};
 use std::alloc::{AllocError, Allocator};
 use std::sync::atomic::{AtomicU64, Ordering};
 
-/// Passes each growth on to the inner allocator while the number that is left is above 0, and refuses it else. What was
-/// handed out is always taken back.
+/// Passes each growth on to the inner allocator while the number that is left is above 0, and
+/// refuses it else. What was handed out is always taken back.
 #[derive(Drop)]
 pub struct Refusing<B> {
     inner: B,

@@ -1,5 +1,5 @@
-//! Octets that are no procedure. Faults, slots and their numbers were worked out by a script that knows the instruction
-//! table alone.
+//! Octets that are no procedure. Faults, slots and their numbers were worked out by a script that
+//! knows the instruction table alone.
 use ocp_loader::load;
 use ocp_profile::Profile;
 use pus_fields::{TmFault, read_tm};
@@ -47,8 +47,8 @@ fn fault_of(alloc: Global, image: &[u8]) -> (u8, u16) {
     }
 }
 
-/// The fault of each image, which is at slot 0: 5 an unknown opcode, 6 a register over 10, 7 a reserved field. The images
-/// repeat after 256.
+/// The fault of each image, which is at slot 0: 5 an unknown opcode, 6 a register over 10, 7 a
+/// reserved field. The images repeat after 256.
 const FAULTS: [u8; 256] = [
     5, 7, 5, 6, 7, 5, 6, 5, 5, 7, 6, 7, 6, 5, 7, 5, 5, 7, 5, 6, 5, 5, 7, 5, 5, 5, 5, 5, 7, 5, 7, 7,
     5, 6, 5, 6, 7, 5, 7, 5, 5, 5, 5, 7, 7, 6, 6, 5, 5, 7, 5, 6, 7, 5, 6, 5, 7, 7, 6, 7, 6, 5, 5, 5,

@@ -1,5 +1,6 @@
-//! Hostile use, by tests alone: growths of memory that are refused one after another, devices that fail, packets that are
-//! cut, and octets that are no procedure. Beside the tests the crate has the allocator that refuses.
+//! Hostile use, by tests alone: growths of memory that are refused one after another, devices that
+//! fail, packets that are cut, and octets that are no procedure. Beside the tests the crate has the
+//! allocator that refuses.
 #![tactic(auto)]
 
 #[cfg(test)]

@@ -83,7 +83,8 @@ fn remembers_too<A: Allocator + Copy>(alloc: A, other: &Regions) -> Result<bool,
     Ok(memory.octets(0x2000_0000, &mut octets).is_ok() && octets == [7, 8, 0])
 }
 
-/// Whether a procedure is loaded into a table, which else stays empty: none where memory was refused.
+/// Whether a procedure is loaded into a table, which else stays empty: none where memory was
+/// refused.
 fn takes_in<'a>(
     heap: &'a Refusing<Global>,
     table: &mut Table<&'a Refusing<Global>>,
@@ -141,8 +142,8 @@ impl<'a> Begun<'a> {
     }
 }
 
-/// Makes a thing, at first with no memory, then with one more block each time, until it is made, and gives how many growths
-/// were refused.
+/// Makes a thing, at first with no memory, then with one more block each time, until it is made,
+/// and gives how many growths were refused.
 fn refused<'a>(heap: &'a Refusing<Global>, begun: &mut Begun<'a>, made: Made) -> Result<u64, Fail> {
     for growths in 0..MOST {
         heap.allow(growths);

@@ -1,9 +1,10 @@
-//! Requests for one engine in this order, each with all packets of its reports. They were written by a script that knows the
-//! tables of the profile alone. The time is 0.
+//! Requests for one engine in this order, each with all packets of its reports. They were written
+//! by a script that knows the tables of the profile alone. The time is 0.
 
-/// A status report, loads of procedures 7, 1 and 2 (which has no code), activations of 7 and 1, parameters for 7, a suspension of
-/// 1, a stop, a resumption (which is refused), an abortion and an unloading of 7, an unloading of 9 (which is not loaded), a
-/// subtype that is none, and a status report. The suspension and the stop become pending, so no completion is reported.
+/// A status report, loads of procedures 7, 1 and 2 (which has no code), activations of 7 and 1,
+/// parameters for 7, a suspension of 1, a stop, a resumption (which is refused), an abortion and an
+/// unloading of 7, an unloading of 9 (which is not loaded), a subtype that is none, and a status
+/// report. The suspension and the stop become pending, so no completion is reported.
 pub const REQUESTS: [(&[u8], &[u8]); 15] = [
     (
         &[

@@ -1,5 +1,6 @@
-//! Growths that the calls of a book ask for, refused one after another: its seats, the requests of a seat, the procedure that it
-//! takes and the drain. The packets of reports were written by a script that knows the tables of the profile alone.
+//! Growths that the calls of a book ask for, refused one after another: its seats, the requests of
+//! a seat, the procedure that it takes and the drain. The packets of reports were written by a
+//! script that knows the tables of the profile alone.
 
 ghost use Rattle.std.specs.Prelude.{◌≡◌, ◌+◌, length};
 
@@ -23,7 +24,8 @@ const MOST: u64 = 100;
 /// The time of each request.
 const TIME: u32 = 0x0102_0304;
 
-/// The packets of the reports of each request of `REQUESTED`: the suspend and the stop are accepted.
+/// The packets of the reports of each request of `REQUESTED`: the suspend and the stop are
+/// accepted.
 const ANSWERED: [&[&[u8]]; 4] = [
     &[],
     &[],
@@ -93,7 +95,8 @@ fn answers<L: Naming, A: Allocator + Copy>(
     }
 }
 
-/// What a book and its seat show: the engine, how many seats are handed out, and how many receipts the seat has.
+/// What a book and its seat show: the engine, how many seats are handed out, and how many receipts
+/// the seat has.
 fn all_shown<L: Naming, A: Allocator>(
     alloc: Global,
     book: &Book<L, A>,
@@ -105,8 +108,8 @@ fn all_shown<L: Naming, A: Allocator>(
     Ok(text)
 }
 
-/// Makes a call, at first with no memory, then with one more block each time, until it is answered, and gives how many growths
-/// were refused. Each refusal leaves the book and the seat as they were.
+/// Makes a call, at first with no memory, then with one more block each time, until it is answered,
+/// and gives how many growths were refused. Each refusal leaves the book and the seat as they were.
 fn refused<L: Naming, A: Allocator + Copy>(
     heap: &Refusing<Global>,
     refusing: A,
@@ -130,8 +133,8 @@ fn refused<L: Naming, A: Allocator + Copy>(
     Err("growths without end".into())
 }
 
-/// A second seat, then the requests of the first, which keeps a receipt for each, and between its activation and its suspension
-/// procedure 4.
+/// A second seat, then the requests of the first, which keeps a receipt for each, and between its
+/// activation and its suspension procedure 4.
 fn requests_refused<L: Naming, A: Allocator + Copy>(
     heap: &Refusing<Global>,
     refusing: A,
@@ -154,8 +157,8 @@ fn requests_refused<L: Naming, A: Allocator + Copy>(
     Ok(())
 }
 
-/// The procedure's four instructions up to the end of step 2, then a drain of the two completions, of which the journal's last
-/// entry and the seat's last receipt have a copy each.
+/// The procedure's four instructions up to the end of step 2, then a drain of the two completions,
+/// of which the journal's last entry and the seat's last receipt have a copy each.
 fn drain_refused<L: Naming, A: Allocator + Copy>(
     heap: &Refusing<Global>,
     refusing: A,
@@ -211,6 +214,7 @@ fn through<L: Naming, A: Allocator + Copy>(
     requires parts { blank.parts ≡ L.parts }
     requires seats { blank.parts ≡ 65 }
     requires room { L.room + length engine.entries ≡ engine.capacity }
+    requires log { L.log ≡ engine }
 {
     let mut book = Book::<L, A>::new(engine, blank);
     let mut seat = book.seat(refusing)?;

@@ -157,8 +157,9 @@ fn is_appended<A: Allocator>(out: &Vec<u8, A>, octets: &[u8]) -> bool {
     out.strip_prefix(BEFORE) == Some(octets)
 }
 
-/// Appends a text to a vector without room, at first with no memory, then with one more block each time, until it is done,
-/// and gives how many growths were refused. Each refusal leaves the vector and its capacity as they were.
+/// Appends a text to a vector without room, at first with no memory, then with one more block each
+/// time, until it is done, and gives how many growths were refused. Each refusal leaves the vector
+/// and its capacity as they were.
 fn refused(heap: &Refusing<Global>, alloc: Global, text: Text, octets: &[u8]) -> Result<u64, Fail> {
     for growths in 0..MOST {
         heap.allow(1);

@@ -1,4 +1,5 @@
-//! One engine for several seats: a book that counts its entries, and seats that keep a receipt for each entry of their own.
+//! One engine for several seats: a book that counts its entries, and seats that keep a receipt for
+//! each entry of their own.
 #![tactic(auto)]
 
 mod book;

@@ -11,17 +11,27 @@ use std::sync::ledger::{Book, Ledger, Share};
 /// How many seats one book hands out.
 pub const MAX_SEATS: u16 = 64;
 
-/// Which shared engine it is, and how many entries it has room for after its start.
+/// Which shared engine it is: how many entries it has room for after its start, and its journal at
+/// the start.
 pub trait Naming: Ledger {
+    ghost use Rattle.ocp_core.specs.Log.{Log};
+
     ghost room: { ℕ };
+
+    ghost log: { Log };
 }
 
 impl Naming for Brand {
+    ghost use Rattle.ocp_profile.specs.declared.profile.Profile.TheVariants.{One};
+    ghost use Rattle.ocp_core.specs.Log.{empty_log};
+
     ghost room = { 0 };
+
+    ghost log = { empty_log One 0 0 0 };
 }
 
-/// A seat at a shared engine: its number, its part in the count of the engine's entries, and a receipt for each entry that
-/// its calls appended.
+/// A seat at a shared engine: its number, its part in the count of the engine's entries, and a
+/// receipt for each entry that its calls appended.
 #[derive(Drop)]
 pub struct Seat<L: Naming, A: Allocator = Global> {
     pub(crate) number: u16,
@@ -60,7 +70,8 @@ impl<L: Naming, A: Allocator> Seat<L, A> {
         self.number
     }
 
-    /// One for each entry that the seat's calls appended, the oldest first: a copy of the entry with its mark.
+    /// One for each entry that the seat's calls appended, the oldest first: a copy of the entry
+    /// with its mark.
     pub fn receipts(&self) -> &[Entry<A>]
         ensures value { map marked_of result.now ≡ self.now.receipts }
         ensures length { length result.now ≡ length self.now.receipts }
@@ -80,7 +91,8 @@ impl<L: Naming, A: Allocator> Seat<L, A> {
         self.receipts[place].is_same(entry)
     }
 
-    /// Counts an entry that the engine's journal gained by a call of the seat, and keeps its receipt.
+    /// Counts an entry that the engine's journal gained by a call of the seat, and keeps its
+    /// receipt.
     pub(crate) fn gain(&mut self, tally: &mut Book<L>, engine: &Engine<A>, entry: Entry<A>)
         requires { length engine.now.entries + L.room ≡
             engine.now.capacity + (tally.old.total + 1) }

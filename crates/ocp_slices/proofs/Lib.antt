@@ -1,2 +1,4 @@
+pub mod Closing
 pub mod Continuing
 pub mod Outcomes
+pub mod Working

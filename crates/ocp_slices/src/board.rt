@@ -12,8 +12,8 @@ use crate::{
 };
 use std::alloc::Global;
 
-/// What a call under the lock asks of the value behind it. `Book` meets it with the whole meaning of its calls; what is said
-/// here is what a caller of the lock can know: what its own seat gains.
+/// What a call under the lock asks of the value behind it. `Book` meets it with the whole meaning
+/// of its calls; what is said here is what a caller of the lock can know: what its own seat gains.
 pub trait Board<L: Naming> {
     /// The next seat.
     fn seat(&mut self, alloc: Global) -> Result<Seat<L>, SeatFault>
@@ -57,6 +57,7 @@ pub trait Board<L: Naming> {
     /// Does instructions of a procedure.
     fn slice(&mut self, seat: &mut Seat<L>, id: u16, budget: u32) -> Slice
         requires { 1 ≤ budget }
+        ensures within { result.count ≤ budget }
         ensures seat { Gained seat.old seat.new (slice_entries seat.old.number id result) };
 
     /// Sets a breakpoint.
@@ -165,6 +166,7 @@ impl<L: Naming> Board<L> for Book<L> {
 
     fn slice(&mut self, seat: &mut Seat<L>, id: u16, budget: u32) -> Slice
         requires { 1 ≤ budget }
+        ensures within { result.count ≤ budget }
         ensures slice { result ≡ slice_in self.old.engine seat.old.number id budget }
         ensures journal { self.new.engine ≡
             slice_log self.old.engine seat.old.number id budget }

@@ -1,8 +1,7 @@
 //! Workers: one thread for each seat, and engines that they work on.
 
-ghost use Rattle.std.specs.Prelude.{◌≡◌, ◌≤◌, ◌+◌, List, length, IfOk};
-ghost use Rattle.ocp_seats.specs.Seats.{Seated};
-ghost use Rattle.ocp_slices.specs.Closed.{IsClosed};
+ghost use Rattle.std.specs.Prelude.{◌≡◌, ◌≤◌, ◌+◌, [], All, length, IfOk};
+ghost use Rattle.ocp_slices.specs.Closed.{HasWorked};
 ghost use Rattle.ocp_slices.specs.Continuing.{AllContinue};
 
 use crate::{Board, Engine, Gate, MAX_SEATS, Naming, Seat, SeatFault, SharedEngine};
@@ -13,8 +12,8 @@ use std::sync::ledger::Blank;
 use std::thread;
 use std::thread::Threads;
 
-/// Makes that number of turns in each seat, one thread for each; where no thread can be made, one seat after another. A turn
-/// that finds no memory is spent.
+/// Makes that number of turns in each seat, one thread for each; where no thread can be made, one
+/// seat after another. A turn that finds no memory is spent.
 pub fn workers<
     L: Naming + Send + Sync,
     B: Board<L> + Send,
@@ -29,7 +28,7 @@ pub fn workers<
     turns: u32,
     gate: &G,
 )
-    ensures { AllContinue seats.old seats.new }
+    ensures { AllContinue turns budget seats.old seats.new }
 {
     let threads = seats.len();
     if threads == 0 {
@@ -43,8 +42,11 @@ pub fn workers<
     );
 }
 
-/// Shares an engine, lets so many workers make that number of turns each with a budget of instructions, and closes it. The
-/// engine comes back with a journal whose entries since a start are, with their marks, just the receipts of the seats.
+/// Shares an engine, lets so many workers make that number of turns each with a budget of
+/// instructions, and closes it. The engine comes back with its journal gone on by one history of as
+/// many seats: each further entry is instructions of one procedure by one of the workers, at least
+/// one and at most the budget, or one where the budget is 0, and no worker has more of them than
+/// turns.
 pub fn work<R: Threads + Wait + Sync, G: Gate + Sync>(
     rt: &R,
     alloc: Global,
@@ -55,7 +57,7 @@ pub fn work<R: Threads + Wait + Sync, G: Gate + Sync>(
     gate: &G,
 ) -> Result<Engine, WorkFault>
     requires { crew ≤ 64 }
-    ensures { IfOk result (λ engine. (seats : List Seated) × IsClosed engine seats) }
+    ensures { IfOk result (λ after. HasWorked engine after crew budget turns) }
 {
     let _length = engine.journal().len();
     let blank = Blank::new(u64::from(MAX_SEATS) + 1);
@@ -77,16 +79,12 @@ fn work_as<L: Naming + Send + Sync, R: Threads + Wait + Sync, G: Gate + Sync>(
     requires parts { blank.parts ≡ L.parts }
     requires seats { blank.parts ≡ 65 }
     requires room { L.room + length engine.entries ≡ engine.capacity }
+    requires log { L.log ≡ engine }
     requires crew { crew ≤ 64 }
-    ensures { IfOk result (λ engine. (seats : List Seated) × IsClosed engine seats) }
+    ensures { IfOk result (λ after. HasWorked engine after crew budget turns) }
 {
     let shared = SharedEngine::<L>::new(engine, blank);
-    let mut seats = Vec::with_capacity(alloc, usize::from(crew))?;
-    for _seat in 0..crew {
-        seats
-            .push(shared.seat(rt, alloc)?)
-            .map_err(AllocError::from)?;
-    }
+    let mut seats = seats_of(rt, alloc, &shared, crew)?;
     workers(
         rt,
         alloc,
@@ -102,12 +100,33 @@ fn work_as<L: Naming + Send + Sync, R: Threads + Wait + Sync, G: Gate + Sync>(
     }
 }
 
+/// So many seats, with no receipts.
+#[tactic(auto, using(crate::proofs::Working::fresh_none, crate::proofs::Working::fresh_more))]
+fn seats_of<L: Naming, B: Board<L>, R: Wait>(
+    rt: &R,
+    alloc: Global,
+    shared: &SharedEngine<L, B>,
+    crew: u16,
+) -> Result<Vec<Seat<L>>, WorkFault>
+    ensures count { IfOk result (λ seats. length seats.items ≡ crew) }
+    ensures fresh { IfOk result (λ seats. All (λ seat. seat.receipts ≡ []) seats.items) }
+{
+    let mut seats = Vec::with_capacity(alloc, usize::from(crew))?;
+    for _seat in 0..crew {
+        seats
+            .push(shared.seat(rt, alloc)?)
+            .map_err(AllocError::from)?;
+    }
+    Ok(seats)
+}
+
 /// Why an engine does not come back.
 #[derive(Clone, Copy, PartialEq, Eq, Debug)]
 pub enum WorkFault {
     /// There is no memory for the seats.
     Memory,
-    /// A seat was not handed out, or the shared engine was not closed. No schedule is known that leads here.
+    /// A seat was not handed out, or the shared engine was not closed. No schedule is known that
+    /// leads here.
     NotClosed,
 }
 

@@ -1,4 +1,5 @@
-//! One engine behind a lock, for the threads of a caller: each change is one call under the lock, and slices run off it.
+//! One engine behind a lock, for the threads of a caller: each change is one call under the lock,
+//! and slices run off it.
 #![tactic(auto)]
 
 mod board;

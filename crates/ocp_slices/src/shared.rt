@@ -15,9 +15,10 @@ use std::marker::PhantomData;
 use std::sync::ledger::Blank;
 use std::sync::{Mutex, Wait};
 
-/// One engine for several threads: a board behind a lock, which is the book of an engine where nothing else is said. Each
-/// call of a seat holds the lock once. It answers what the board answers, and the seat gains the receipt of what was
-/// accepted: its own arguments, its own number and the answer that it was given.
+/// One engine for several threads: a board behind a lock, which is the book of an engine where
+/// nothing else is said. Each call of a seat holds the lock once. It answers what the board
+/// answers, and the seat gains the receipt of what was accepted: its own arguments, its own number
+/// and the answer that it was given.
 #[derive(Drop)]
 pub struct SharedEngine<L: Naming, B: Board<L> = Book<L>> {
     board: Mutex<B>,
@@ -25,12 +26,14 @@ pub struct SharedEngine<L: Naming, B: Board<L> = Book<L>> {
 }
 
 impl<L: Naming> SharedEngine<L> {
-    /// The book of an engine behind a lock, with the blank of a ledger of 65 parts. Its name has the engine's room.
+    /// The book of an engine behind a lock, with the blank of a ledger of 65 parts. Its name has
+    /// the engine's room and its journal.
     pub fn new(engine: Engine, blank: Blank) -> Self
         requires name { blank.name ≡ L.name }
         requires parts { blank.parts ≡ L.parts }
         requires seats { blank.parts ≡ 65 }
         requires room { L.room + length engine.entries ≡ engine.capacity }
+        requires log { L.log ≡ engine }
     {
         SharedEngine::over(Book::new(engine, blank))
     }
@@ -51,8 +54,9 @@ impl<L: Naming, B: Board<L>> SharedEngine<L, B> {
         board.into_inner()
     }
 
-    /// The next seat, with a number of 1 to 64 and no receipts. Refused, in this order, where 64 are handed out, and where
-    /// there is no memory for the receipts of all entries that the engine has room for.
+    /// The next seat, with a number of 1 to 64 and no receipts. Refused, in this order, where 64
+    /// are handed out, and where there is no memory for the receipts of all entries that the engine
+    /// has room for.
     pub fn seat<R: Wait>(&self, rt: &R, alloc: Global) -> Result<Seat<L>, SeatFault>
         ensures receipts { IfOk result (λ seat. (seat.receipts ≡ []) × (seat.share ≡ 0)) }
         ensures number { IfOk result (λ seat. (1 ≤ seat.number) × (seat.number ≤ 64)) }
@@ -60,14 +64,16 @@ impl<L: Naming, B: Board<L>> SharedEngine<L, B> {
         self.board.lock(rt).seat(alloc)
     }
 
-    /// A ticket for the running procedure with the least id above the one taken last by any seat, else with the least id.
-    /// Refused, in this order, where none runs, and where there is no memory for the two copies of its machine.
+    /// A ticket for the running procedure with the least id above the one taken last by any seat,
+    /// else with the least id. Refused, in this order, where none runs, and where there is no
+    /// memory for the two copies of its machine.
     pub fn take<R: Wait>(&self, rt: &R, alloc: Global) -> Result<Ticket, TakeFault> {
         self.board.lock(rt).take(alloc)
     }
 
-    /// Puts a work's instructions into its procedure. Refused, in this order, where there are none, where the procedure is
-    /// not what the work began with, and where the journal is full; the work is dropped then.
+    /// Puts a work's instructions into its procedure. Refused, in this order, where there are none,
+    /// where the procedure is not what the work began with, and where the journal is full; the work
+    /// is dropped then.
     pub fn commit<R: Wait>(&self, rt: &R, seat: &mut Seat<L>, work: Work) -> CommitOutcome
         ensures seat { Gained seat.old seat.new (commit_entries seat.old.number work.id result) }
         ensures empty { result ≡ Empty ↔ work.count ≡ 0 }
@@ -76,7 +82,8 @@ impl<L: Naming, B: Board<L>> SharedEngine<L, B> {
         self.board.lock(rt).commit(seat, work)
     }
 
-    /// Takes the octets of a telecommand packet and answers its reports, as the engine's call with the seat's number.
+    /// Takes the octets of a telecommand packet and answers its reports, as the engine's call with
+    /// the seat's number.
     pub fn request<R: Wait>(
         &self,
         rt: &R,
@@ -91,8 +98,9 @@ impl<L: Naming, B: Board<L>> SharedEngine<L, B> {
         self.board.lock(rt).request(alloc, seat, time, octets)
     }
 
-    /// Reports the completions that wait, the oldest first, at a time in whole seconds, as the engine's call with the
-    /// seat's number. Refused, in this order, where none waits, where the journal is full, and where there is no memory.
+    /// Reports the completions that wait, the oldest first, at a time in whole seconds, as the
+    /// engine's call with the seat's number. Refused, in this order, where none waits, where the
+    /// journal is full, and where there is no memory.
     pub fn drain<R: Wait>(
         &self,
         rt: &R,
@@ -113,9 +121,11 @@ impl<L: Naming, B: Board<L>> SharedEngine<L, B> {
         self.board.lock(rt).step(seat, id)
     }
 
-    /// Does instructions of one procedure, as the engine's call with the seat's number.
+    /// Does instructions of one procedure, at most so many, as the engine's call with the seat's
+    /// number.
     pub fn slice<R: Wait>(&self, rt: &R, seat: &mut Seat<L>, id: u16, budget: u32) -> Slice
         requires { 1 ≤ budget }
+        ensures within { result.count ≤ budget }
         ensures seat { Gained seat.old seat.new (slice_entries seat.old.number id result) }
     {
         self.board.lock(rt).slice(seat, id, budget)
@@ -149,7 +159,8 @@ impl<L: Naming, B: Board<L>> SharedEngine<L, B> {
         self.board.lock(rt).clear_break(seat, id, place)
     }
 
-    /// Sets whether each instruction of a procedure leaves a trace record, as the engine's call with the seat's number.
+    /// Sets whether each instruction of a procedure leaves a trace record, as the engine's call
+    /// with the seat's number.
     pub fn trace<R: Wait>(
         &self,
         rt: &R,

@@ -1,9 +1,12 @@
 //! Turns: take a procedure, run it off the lock, and put its work back.
 
+ghost use Rattle.std.specs.Prelude.{◌≤◌};
 ghost use Rattle.ocp_slices.specs.Continuing.{Continues};
 ghost use Rattle.ocp_slices.specs.Turns.{Turned};
 
-use crate::{Board, CommitOutcome, Naming, Seat, SharedEngine, StepOutcome, TakeFault};
+use crate::{
+    Board, CommitOutcome, Naming, Seat, SharedEngine, StepOutcome, TakeFault, Ticket, Work,
+};
 use std::alloc::Global;
 use std::sync::Wait;
 
@@ -33,7 +36,8 @@ pub enum Turn {
     Idle,
     /// So many instructions were done off the lock, and are events now.
     Committed(u32),
-    /// The procedure could do none by itself, so one instruction was done under the lock, with this outcome.
+    /// The procedure could do none by itself, so one instruction was done under the lock, with this
+    /// outcome.
     Stepped(StepOutcome),
     /// The procedure had changed meanwhile, and the work was dropped.
     Stale,
@@ -43,10 +47,18 @@ pub enum Turn {
     NoMemory,
 }
 
+/// What a ticket does off the lock: at most so many instructions.
+#[tactic(auto, using(crate::proofs::Outcomes::count_within))]
+fn run_within(ticket: Ticket, budget: u32) -> Work
+    ensures { result.count ≤ budget }
+{
+    ticket.run(budget)
+}
+
 impl<L: Naming, B: Board<L>> SharedEngine<L, B> {
-    /// Takes the next running procedure, runs it off the lock for at most so many instructions, and commits what it did.
-    /// Where it could do none by itself, one instruction of it is done under the lock. No lock is held while the procedure
-    /// runs or the gate is called.
+    /// Takes the next running procedure, runs it off the lock for at most so many instructions, and
+    /// commits what it did. Where it could do none by itself, one instruction of it is done under
+    /// the lock. No lock is held while the procedure runs or the gate is called.
     pub fn turn<R: Wait, G: Gate>(
         &self,
         rt: &R,
@@ -55,14 +67,14 @@ impl<L: Naming, B: Board<L>> SharedEngine<L, B> {
         budget: u32,
         gate: &G,
     ) -> Turn
-        ensures { Turned seat.old seat.new result }
+        ensures { Turned budget seat.old seat.new result }
     {
         let ticket = match self.take(rt, alloc) {
             Ok(ticket) => ticket,
             Err(TakeFault::NoneRunning) => return Turn::Idle,
             Err(TakeFault::Memory) => return Turn::NoMemory,
         };
-        let work = ticket.run(budget);
+        let work = run_within(ticket, budget);
         let number = seat.number();
         let id = work.id();
         gate.before(number, id, work.count());
@@ -80,7 +92,7 @@ impl<L: Naming, B: Board<L>> SharedEngine<L, B> {
     }
 
     /// That many turns, one after the other.
-    #[tactic(auto, using(crate::proofs::Continuing::continues_unchanged, crate::proofs::Continuing::continues_further))]
+    #[tactic(auto, using(crate::proofs::Continuing::continues_unchanged, crate::proofs::Continuing::continues_by_turn, crate::proofs::Continuing::continues_at_end))]
     pub fn turns<R: Wait, G: Gate>(
         &self,
         rt: &R,
@@ -90,7 +102,7 @@ impl<L: Naming, B: Board<L>> SharedEngine<L, B> {
         turns: u32,
         gate: &G,
     )
-        ensures { Continues seat.old seat.new }
+        ensures { Continues turns budget seat.old seat.new }
     {
         for _turn in 0..turns {
             self.turn(rt, alloc, seat, budget, gate);
