@@ -1,5 +1,6 @@
 /* Each call of the library with wrong arguments, and with each growth of memory refused in turn: it gives the status that
  * the header names, and nothing else is changed. This file has the heap functions itself, so it is linked with no other. */
+#include "error_control.h"
 #include "fixed_heap.h"
 #include "ocp_engine.h"
 
@@ -57,16 +58,6 @@ enum { APID = 291, LOAD = 1, ACTIVATE = 3, STOP = 4, STATUS = 8, LONGEST = 65542
 
 static uint8_t packet[LONGEST + 1];
 static uint8_t reports[OCP_DRAIN_REPORTS];
-
-static uint16_t error_control(const uint8_t *octets, size_t length)
-{
-    uint16_t rest = 0xffff;
-    for (size_t at = 0; at < length * 8; at++) {
-        bool high = ((rest >> 15) ^ (octets[at / 8] >> (7 - at % 8))) & 1;
-        rest = (uint16_t)(rest << 1 ^ (high ? 0x1021 : 0));
-    }
-    return rest;
-}
 
 /* A telecommand of service 18 with these octets of data; gives its length. */
 static size_t telecommand(uint8_t subtype, const uint8_t *data, size_t length)

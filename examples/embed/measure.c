@@ -7,6 +7,7 @@
  *   cc -O2 measure.c libocp_c.a -lpthread -o measure && ./measure && ./measure time */
 #define _POSIX_C_SOURCE 200809L
 #define FIXED_HEAP_OCTETS (512u * 1024 * 1024)
+#include "error_control.h"
 #include "fixed_heap.c"
 #include "ocp_engine.h"
 
@@ -25,16 +26,6 @@ static uint8_t reports[OCP_DRAIN_REPORTS];
 static uint32_t status;
 
 /* ---- packets */
-
-static uint16_t error_control(const uint8_t *octets, size_t count)
-{
-    uint16_t rest = 0xffff;
-    for (size_t at = 0; at < count * 8; at++) {
-        bool high = ((rest >> 15) ^ (octets[at / 8] >> (7 - at % 8))) & 1;
-        rest = (uint16_t)(rest << 1 ^ (high ? 0x1021 : 0));
-    }
-    return rest;
-}
 
 static void put(size_t at, uint32_t number)
 {
