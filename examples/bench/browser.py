@@ -69,6 +69,11 @@ class Page:
         self.driver.set_window_size(1280, 1000)
         scheme_of("light")
 
+    def in_view(self, box, part):
+        """Whether a part of a box that scrolls is seen in it."""
+        return self.script("const box = document.querySelector(arguments[0]), part = box.querySelector(arguments[1]).getBoundingClientRect(), frame = "
+                           "box.getBoundingClientRect(); return part.top >= frame.top && part.top < frame.bottom", box, part)
+
     def press_tab(self):
         from selenium.webdriver.common.action_chains import ActionChains
         ActionChains(self.driver).send_keys(self.keys.TAB).perform()
@@ -147,6 +152,7 @@ def walk_back(page, ocp, pictures):
     page.until("the store that made it", lambda: page.script(
         "return [...document.querySelectorAll('#memory-stack .changed')].map(each => each.textContent).join('')") == "20")
     page.check("page: the whole region", page.shown("memory-stack").count("\n") == 256 and "10000ff0  00" in page.shown("memory-stack"))
+    page.check("page: what changed is in view", page.in_view("#memory-stack", ".changed") and page.in_view("#rows", ".here"))
     if pictures:
         page.picture(pictures / "bench-fault.png", 800, 1150, "dark", "#rows")
 
@@ -256,6 +262,7 @@ def big(page, ocp):
                                      "new MouseEvent('click', {clientX: box.left + 64 + arguments[0] / 100 * (box.width - 74), clientY: box.top + 30, bubbles: true}))", part))
     for word in (page.keys.ARROW_LEFT, page.keys.ARROW_RIGHT, page.keys.ARROW_UP, page.keys.ARROW_DOWN, page.keys.HOME, page.keys.END):
         answered(lambda: page.key(word))
+    page.check("page: the line is in view", page.in_view("#rows", ".here"))
     shown = page.shown("where")
     for _ in range(3):
         page.press("zoom in")
