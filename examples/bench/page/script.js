@@ -1,7 +1,7 @@
 // The script of a pass: by hand or by buttons, with what each line printed behind it, and the packets of one line.
-import { at, button, guarded, it, keep, later, make, options, question, save, say } from "./shared.js";
+import { at, button, guarded, it, keep, keepInView, later, make, options, question, save, say } from "./shared.js";
 import { editor } from "./editor.js";
-import { imageShown, keepInView } from "./texts.js";
+import { imageShown } from "./texts.js";
 import { inWords, readRequests } from "./words.js";
 
 const field = editor(at("script"));

@@ -62,6 +62,12 @@ export function bringBack() {
     it.tab = Math.min(Number(localStorage.getItem("bench tab")) || 0, Math.max(0, it.texts.length - 1));
 }
 
+// Scrolls a box until a part of it is seen.
+export function keepInView(box, part) {
+    const top = part.getBoundingClientRect().top - box.getBoundingClientRect().top;
+    if (top < 0 || top + 20 > box.clientHeight) box.scrollTop += top - box.clientHeight / 3;
+}
+
 export function later(work, wait = 300) {
     let clock;
     return () => { keep(); clearTimeout(clock); clock = setTimeout(work, wait); };

@@ -1,5 +1,5 @@
 // The state at a moment: procedures, registers, memory, frames, mailbox, records, pool, and what a drain would print.
-import { at, button, it, make } from "./shared.js";
+import { at, button, it, keepInView, make } from "./shared.js";
 import { askPass } from "./script.js";
 
 const drawn = new Map();
@@ -41,12 +41,14 @@ function showView(view) {
     if (!view.length) { at("view").textContent = "No procedure is loaded here."; return; }
     const [, id, status, cause, , place, , depth, , ...pending] = view[0].split(" ");
     const fault = /^fault(\d)$/.exec(cause);
-    at("view").textContent = `Procedure ${id}: ${status}, cause ${cause}${fault ? ` (${it.names[`machine ${fault[1]}`] || ""})` : ""}, place ${place}, depth ${depth}, pending ${pending.join(" ")}`;
+    const name = fault ? ` (${it.names[`machine ${fault[1]}`] || ""})` : "";
+    at("view").textContent = `Procedure ${id}: ${status}, cause ${cause}${name}, place ${place}, depth ${depth}, pending ${pending.join(" ")}`;
 }
 
 function mailboxText(words, view) {
     if (!view.length) return "";
-    if (words === null) return / inactive /.test(view[0]) ? "The procedure is inactive: its next activation empties the mailbox." : "The program does not say it here.";
+    if (words === null && / inactive /.test(view[0])) return "The procedure is inactive: its next activation empties the mailbox.";
+    if (words === null) return "The program does not say it here.";
     return words.length ? `${words.length} of 16, the oldest first: ${words.join(", ")}` : "empty, room for 16";
 }
 
@@ -61,7 +63,8 @@ export function changesOf(state, before) {
         const past = before.memory[name] ? before.memory[name][1] : digits, octets = [];
         if (past === digits) continue;
         for (let at = 0; at < digits.length; at += 2) if (digits.slice(at, at + 2) !== past.slice(at, at + 2)) octets.push(at);
-        found.push(`${name} ${octets.slice(0, 4).map(at => `${(start + at / 2).toString(16)}: ${past.slice(at, at + 2)} → ${digits.slice(at, at + 2)}`).join(", ")}${octets.length > 4 ? ` and ${octets.length - 4} octets` : ""}`);
+        const first = octets.slice(0, 4).map(at => `${(start + at / 2).toString(16)}: ${past.slice(at, at + 2)} → ${digits.slice(at, at + 2)}`);
+        found.push(`${name} ${first.join(", ")}${octets.length > 4 ? ` and ${octets.length - 4} octets` : ""}`);
     }
     state.pool.forEach((word, index) => { if (word !== before.pool[index]) found.push(`pool ${index} ${short(before.pool[index])} → ${short(word)}`); });
     return found;
@@ -89,7 +92,7 @@ function showRegion(name, found, past) {
     box.replaceChildren(...parts, plain);
     const changed = box.querySelectorAll(".changed");
     at(`note-${name}`).textContent = changed.length ? ` ${changed.length} octet${changed.length > 1 ? "s" : ""} changed` : "";
-    if (changed.length) box.scrollTop = changed[0].offsetTop - box.offsetTop - 40;
+    if (changed.length) keepInView(box, changed[0]);
     else if (name === "stack" && box.scrollTop === 0) box.scrollTop = box.scrollHeight;
 }
 
@@ -118,7 +121,8 @@ export async function showHistory(moment, walkTo) {
         const before = index ? found.records[index - 1][2] : null, [place, outcome, registers, text] = record;
         const changes = before ? registers.flatMap((word, at) => word === before[at] ? [] : [`r${at} ${word}`]) : [];
         const event = events[found.records.length - 1 - index];
-        const row = button(`${String(place).padStart(4)}  ${text.padEnd(28)} ${outcome === "Ran" ? "" : outcome} ${changes.join(" ")}`, () => event !== undefined && walkTo(event), "row");
+        const said = `${String(place).padStart(4)}  ${text.padEnd(28)} ${outcome === "Ran" ? "" : outcome} ${changes.join(" ")}`;
+        const row = button(said, () => event !== undefined && walkTo(event), "row");
         row.tabIndex = -1;
         return row;
     }));

@@ -1,5 +1,5 @@
 // The texts of procedures, each with a tab: assembly or C, its faults at their lines, its image and its listing.
-import { at, button, guarded, it, keep, later, make, options, question, save, say } from "./shared.js";
+import { at, button, guarded, it, keep, keepInView, later, make, options, question, save, say } from "./shared.js";
 import { editor } from "./editor.js";
 
 const field = editor(at("text"));
@@ -86,10 +86,6 @@ function list(image, place = -1) {
         row.className = `${slot === place ? "here" : ""} ${marked.has(slot) ? "marked" : ""}`;
         if (slot === place) keepInView(at("listing"), row);
     }
-}
-export function keepInView(box, row) {
-    const top = row.offsetTop - box.offsetTop;
-    if (top < box.scrollTop || top + 20 > box.scrollTop + box.clientHeight) box.scrollTop = top - box.clientHeight / 3;
 }
 const placesOf = image => (it.texts.find(text => text.image === image) || {}).places || {};
 

@@ -69,7 +69,8 @@ export async function walk(to, id = null) {
 async function show(moment, event, line, state, before) {
     at("slider").value = event;
     at("slider").setAttribute("aria-valuetext", `event ${event} of ${it.total}`);
-    at("where").textContent = `event ${event} of ${it.total}, ${moment[1] ? `instruction ${moment[1]} of line ${line + 1}` : moment[0] ? `behind line ${moment[0]}` : "at the start"}`;
+    const within = moment[1] ? `instruction ${moment[1]} of line ${line + 1}` : moment[0] ? `behind line ${moment[0]}` : "at the start";
+    at("where").textContent = `event ${event} of ${it.total}, ${within}`;
     showState(state, before, id => walk(it.moment, id));
     draw(event);
     showRows(line, moment);
@@ -121,7 +122,9 @@ async function breakpoint(back) {
     if (!visited.has(key)) visited.set(key, await askPass("visits", { id, places: asked }));
     const { events, more } = visited.get(key), event = here();
     const hit = back ? events.filter(each => each < event).at(-1) : events.find(each => each > event);
-    if (hit === undefined) return say(`Procedure ${id} comes to none of its breakpoints ${back ? "before" : "behind"} this event${more ? " (2,000 were looked at)" : ""}.`);
+    if (hit === undefined) {
+        return say(`Procedure ${id} comes to none of its breakpoints ${back ? "before" : "behind"} this event${more ? " (2,000 were looked at)" : ""}.`);
+    }
     say("");
     return walk(momentOf(hit), id);
 }
