@@ -9,8 +9,8 @@ use Rattle.ocp_seats.specs.Closing.{IsWhole}
 use Rattle.ocp_seats.specs.History.{IsHistory}
 use Rattle.ocp_slices.specs.Continuing.{IsWithin}
 
--- the journal is the one at the start, gone on; the seats' numbers are 1 to their number, each once;
--- and the entries since the start are, with their marks, just the seats' receipts
+-- the journal is the one at the start, gone on; the seats' numbers are 1 to their number, each
+-- once; and the entries since the start are, with their marks, just the seats' receipts
 pub record IsClosed (start now : Log) (seats : List Seated) : Type 0 where
   pub goes_on : GoesOn start now
   pub whole : IsWhole seats (length seats)

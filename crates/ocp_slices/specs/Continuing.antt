@@ -16,8 +16,8 @@ IsShift number budget (Steps by id count) = (by ≡ number) × IsWithin budget c
 IsShift number budget (Debugged by id command) = ⊥
 IsShift number budget (Drained by time) = ⊥
 
--- the seat keeps its number, and its old receipts begin its new ones; those that came are so many at
--- most, each of instructions of the seat within the budget
+-- the seat keeps its number, and its old receipts begin its new ones; those that came are so many
+-- at most, each of instructions of the seat within the budget
 pub record Continues (turns budget : ℕ) (old new : Seated) : Type 0 where
   pub number : new.number ≡ old.number
   pub more : List Marked

@@ -8,8 +8,8 @@ use Rattle.ocp_slices.specs.declared.turn.Turn.{Turn}
 use Rattle.ocp_slices.specs.declared.turn.Turn.TheVariants.{Idle, Committed, Stepped, Stale, Full, NoMemory}
 
 -- the entry of what was committed or stepped, of some procedure, or nothing; at least one
--- instruction is committed and no more than the budget, one is stepped, and a step of a full journal
--- is no step
+-- instruction is committed and no more than the budget, one is stepped, and a step of a full
+-- journal is no step
 abbrev pub Turned : ℕ → Seated → Seated → Turn → Type 0
 Turned budget old new Idle = new ≡ old
 Turned budget old new (Committed count) =
