@@ -29,7 +29,7 @@ goes_on_further start old new entries one grows =
     let more : List Entry = map (λ (m : Marked). m.entry) entries in
     let first : List Entry = drop (length start.entries) old.entries in
     let journal : new ≡ record start { entries = start.entries ++ (first ++ more) } =
-        grows.journal
-        ∙ ap (λ (l : Log). record l { entries = l.entries ++ more }) one.journal
-        ∙ ap (λ (es : List Entry). record start { entries = es }) (append_assoc start.entries first more) in
+    grows.journal
+    ∙ ap (λ (l : Log). record l { entries = l.entries ++ more }) one.journal
+    ∙ ap (λ (es : List Entry). record start { entries = es }) (append_assoc start.entries first more) in
     subst (λ (l : Log). GoesOn start l) (sym journal) (goes_on_by start (first ++ more))
