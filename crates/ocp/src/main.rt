@@ -1,10 +1,14 @@
 //! `ocp`: an engine for on-board control procedures on its ground console.
 #![tactic(auto)]
 
+mod kept;
+
+use crate::kept::{Front, Keeps, KeptSink, KeptSource, Text};
 use ocp_console::{
     ConsoleFault, Crew, Device, Job, WordsFault, asm, list, not_utf8, read_words, run,
 };
 use ocp_crew::{Engine, Threaded};
+use ocp_hints::{Explained, answer_in};
 use std::process::ExitCode;
 use std::{env, io};
 
@@ -14,13 +18,20 @@ const INPUT_FAULT: u8 = 1;
 /// The exit status of a device that failed, of memory that was refused, or of workers that failed.
 const MACHINE_FAULT: u8 = 3;
 
-/// Says on standard error what failed in the machine, and gives the exit status of it, whether or not it could be said.
+/// What is said of words that are refused.
+const WANTED_WORDS: &str = "The commands are run, asm and list. run takes --apid 0 to 2046, \
+                            --pool 1 to 256, --journal 1 to 1000000 and --profile 1 or 2, asm \
+                            --profile 1 or 2; numbers are in decimal digits.";
+
+/// Says on standard error what failed in the machine, and gives the exit status of it, whether or
+/// not it could be said.
 fn machine_fault(rt: &HostRuntime, name: &str) -> ExitCode {
     let _ = eprintln!(rt; "fault {name}");
     ExitCode::from(MACHINE_FAULT)
 }
 
-/// The exit status of a command with this answer: whether it did what it was asked for, or what failed in the machine.
+/// The exit status of a command with this answer: whether it did what it was asked for, or what
+/// failed in the machine.
 fn status_of(rt: &HostRuntime, answer: Result<bool, ConsoleFault>) -> ExitCode {
     match answer {
         Ok(true) => ExitCode::SUCCESS,
@@ -32,17 +43,49 @@ fn status_of(rt: &HostRuntime, answer: Result<bool, ConsoleFault>) -> ExitCode {
     }
 }
 
+/// Says on standard error what did not fit in an input, if it can be said.
+fn say_hint(rt: &HostRuntime, job: Job, text: &Text, fault: Option<&ConsoleFault>, output: &[u8]) {
+    let Some(octets) = text.octets() else {
+        return;
+    };
+    let explained = match (job, fault, answer_in(output)) {
+        (Job::Run(settings), Some(ConsoleFault::Syntax(number)), _) => {
+            let number = u64::from(*number);
+            let among = number.saturating_sub(text.before());
+            Explained::of_script(settings.profile, number, octets, among)
+        }
+        (Job::Assemble(_), None, Some(answer)) => Explained::of_text(octets, answer),
+        (Job::List, None, Some(answer)) => Explained::of_image(octets, answer),
+        _ => return,
+    };
+    let _ = eprint!(rt; "{explained}");
+}
+
+/// How much of its input a job's hints need.
+fn keeps_of(job: Job) -> Keeps {
+    match job {
+        Job::Run(_) => Keeps::LastLines,
+        Job::Assemble(_) | Job::List => Keeps::Whole,
+    }
+}
+
 /// Does a job from standard input to standard output.
 fn perform<C: Crew<Engine>>(rt: &HostRuntime, crew: &C, job: Job) -> ExitCode
     requires { C.ready crew.now }
 {
-    let mut reader = Device {
-        inner: rt.stdin(),
-        failed: 0,
+    let mut reader = KeptSource {
+        inner: Device {
+            inner: rt.stdin(),
+            failed: 0,
+        },
+        text: Text::new(rt.alloc(), keeps_of(job)),
     };
-    let mut writer = Device {
-        inner: rt.stdout(),
-        failed: 0,
+    let mut writer = KeptSink {
+        inner: Device {
+            inner: rt.stdout(),
+            failed: 0,
+        },
+        front: Front::new(),
     };
     let answer = match job {
         Job::Assemble(profile) => asm(rt.alloc(), profile, &mut reader, &mut writer),
@@ -51,6 +94,11 @@ fn perform<C: Crew<Engine>>(rt: &HostRuntime, crew: &C, job: Job) -> ExitCode
             run(rt.alloc(), settings, crew, &mut reader, &mut writer).map(|()| true)
         }
     };
+    match &answer {
+        Ok(true) => {}
+        Ok(false) => say_hint(rt, job, &reader.text, None, writer.front.octets()),
+        Err(fault) => say_hint(rt, job, &reader.text, Some(fault), writer.front.octets()),
+    }
     status_of(rt, answer)
 }
 
@@ -81,7 +129,12 @@ fn main(rt: HostRuntime) -> ExitCode {
         Err(WordsFault::Memory) => machine_fault(&rt, "Memory"),
         Err(WordsFault::Usage(error)) => match error.print(&rt) {
             Err(_) if !error.use_stderr() => machine_fault(&rt, "Write"),
-            _ => ExitCode::from(error.exit_code() as u8),
+            _ => {
+                if error.use_stderr() {
+                    let _ = eprintln!(rt; "\n{WANTED_WORDS}");
+                }
+                ExitCode::from(error.exit_code() as u8)
+            }
         },
     }
 }

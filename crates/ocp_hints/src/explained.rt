@@ -25,7 +25,8 @@ enum Place {
     Input,
 }
 
-/// A refusal: the line as it was read, a mark under what did not fit, and one sentence of what may stand there.
+/// A refusal: the line as it was read, a mark under what did not fit, and one sentence of what may
+/// stand there.
 #[derive(Clone, Copy)]
 pub struct Explained<'a> {
     place: Place,
@@ -71,8 +72,8 @@ fn slots_from(digits: &[u8], number: u64) -> &[u8] {
 }
 
 impl<'a> Explained<'a> {
-    /// What did not fit in the line of a script that is `Syntax`. It has this number in the script, and that one, `among`,
-    /// among the lines of the text.
+    /// What did not fit in the line of a script that is `Syntax`. It has this number in the script,
+    /// and that one, `among`, among the lines of the text.
     pub fn of_script(profile: Profile, number: u64, text: &'a [u8], among: u64) -> Explained<'a> {
         let line = line_at(text, among);
         let unknown = without_mark("this is no line of the console");

@@ -1,4 +1,5 @@
-//! What did not fit in an input that was refused, as a person would say it. Nothing that the program answers rests on a hint.
+//! What did not fit in an input that was refused, as a person would say it. Nothing that the
+//! program answers rests on a hint.
 #![tactic(auto)]
 
 mod answer;

@@ -1,0 +1,159 @@
+//! What a job read and wrote, as far as a hint needs it.
+
+ghost use Rattle.std.specs.Prelude.{◌≡◌};
+
+use arrayvec::ArrayVec;
+use ocp_console::{Sink, Source};
+use std::alloc::{AllocError, Global};
+
+/// How much of what was read is kept.
+#[derive(Clone, Copy)]
+pub(crate) enum Keeps {
+    /// All of it.
+    Whole,
+    /// The lines that stand in the last read, from the front of the first of them on.
+    LastLines,
+}
+
+/// What was read, as far as it is kept. Where memory is refused for it, nothing is.
+#[derive(Drop)]
+pub(crate) struct Text {
+    alloc: Global,
+    keeps: Keeps,
+    octets: Vec<u8>,
+    /// How many lines stand in front of what is kept.
+    before: u64,
+    is_lost: bool,
+}
+
+/// How many lines of a text end, and what stands behind them.
+fn last_line(text: &[u8]) -> (u64, &[u8]) {
+    let mut ended = 0u64;
+    let mut last = text;
+    let mut rest = text;
+    while let [octet, behind @ ..] = rest {
+        rest = behind;
+        if *octet == b'\n' {
+            ended = ended.saturating_add(1);
+            last = behind;
+        }
+    }
+    (ended, last)
+}
+
+impl Text {
+    pub fn new(alloc: Global, keeps: Keeps) -> Text {
+        Text {
+            alloc,
+            keeps,
+            octets: Vec::new(alloc),
+            before: 0,
+            is_lost: false,
+        }
+    }
+
+    /// Goes on with these octets behind the line that has not ended.
+    fn go_on(&mut self, octets: &[u8]) -> Result<(), AllocError> {
+        let (ended, last) = last_line(&self.octets);
+        let mut next = Vec::new(self.alloc);
+        next.extend_from_slice(last)?;
+        next.extend_from_slice(octets)?;
+        self.before = self.before.saturating_add(ended);
+        self.octets = next;
+        Ok(())
+    }
+
+    /// Takes octets that were read.
+    pub fn take(&mut self, octets: &[u8]) {
+        if self.is_lost {
+            return;
+        }
+        let taken = match self.keeps {
+            Keeps::Whole => self.octets.extend_from_slice(octets),
+            Keeps::LastLines => self.go_on(octets),
+        };
+        self.is_lost = taken.is_err();
+    }
+
+    /// What is kept.
+    pub fn octets(&self) -> Option<&[u8]> {
+        if self.is_lost {
+            None
+        } else {
+            Some(self.octets.as_slice())
+        }
+    }
+
+    /// How many lines stand in front of what is kept.
+    pub fn before(&self) -> u64 {
+        self.before
+    }
+}
+
+/// A source that keeps what it read.
+#[derive(Drop)]
+pub(crate) struct KeptSource<S: Source + Drop> {
+    pub inner: S,
+    pub text: Text,
+}
+
+impl<S: Source + Drop> Source for KeptSource<S> {
+    ghost remaining = { λ s. S.remaining s.inner };
+
+    ghost failed_reads = { λ s. S.failed_reads s.inner };
+
+    fn read(&mut self, buffer: &mut [u8]) -> Option<usize> {
+        let count = self.inner.read(buffer)?;
+        self.text.take(&buffer[..count]);
+        Some(count)
+    }
+}
+
+/// How many octets of an output are kept: more than the line of a fault has.
+const FRONT: usize = 64;
+
+/// The front of what was written.
+#[derive(Drop)]
+pub(crate) struct Front {
+    octets: ArrayVec<u8, FRONT>,
+}
+
+impl Front {
+    pub fn new() -> Front {
+        Front {
+            octets: ArrayVec::new(),
+        }
+    }
+
+    /// Takes octets that were written, as far as there is room.
+    fn take(&mut self, octets: &[u8]) {
+        for octet in octets {
+            if self.octets.try_push(*octet).is_err() {
+                break;
+            }
+        }
+    }
+
+    pub fn octets(&self) -> &[u8] {
+        &self.octets
+    }
+}
+
+/// A sink that keeps the front of what it wrote.
+#[derive(Drop)]
+pub(crate) struct KeptSink<S: Sink + Drop> {
+    pub inner: S,
+    pub front: Front,
+}
+
+impl<S: Sink + Drop> Sink for KeptSink<S> {
+    ghost contents = { λ s. S.contents s.inner };
+
+    ghost failed_writes = { λ s. S.failed_writes s.inner };
+
+    fn write(&mut self, octets: &[u8]) -> Option<usize> {
+        let count = self.inner.write(octets)?;
+        self.front.take(&octets[..count]);
+        Some(count)
+    }
+}
