@@ -8,11 +8,9 @@ import hashlib
 import re
 import secrets
 from collections import OrderedDict
-from pathlib import Path
 
 from bounds import OCTETS, Refused, run, sentence
 
-WHY = Path(__file__).resolve().parent.parent.parent / "tools" / "why"
 LINES = 20_000              # of a script
 REGIONS = (("stack", 0x10000000, 4096), ("arguments", 0x20000000, 256))
 WORK = {1: 1024, 2: 4096}
@@ -170,15 +168,10 @@ class Pass:
         return {number: said for number, said in found.items() if said is not None}
 
     def hint(self):
-        """Why the last line is refused: the program's own sentence, or that of tools/why."""
+        """Why the last line is refused, in the program's own sentence."""
         if self.status != 1 or not self.rows or not self.rows[-1].get("fault"):
             return None
-        if sentence(self.said):
-            return sentence(self.said)
-        if not re.fullmatch(r"error \d+ Syntax", self.rows[-1]["printed"][-1]) or not WHY.exists():
-            return None
-        output = run([WHY, "--profile", self.profile], self.lines[len(self.rows) - 1] + "\n")[0]
-        return sentence(output) or None
+        return sentence(self.said) or None
 
     def answer(self, has=None):
         """The rows, from the first that a page with the pass `has` does not have."""
