@@ -3,5 +3,3 @@ pub mod Marking
 pub mod Growing
 pub mod Histories
 pub mod Picking
-pub mod Going
-pub mod Slicing

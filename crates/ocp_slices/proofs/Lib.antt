@@ -1,4 +1,2 @@
-pub mod Closing
 pub mod Continuing
 pub mod Outcomes
-pub mod Working

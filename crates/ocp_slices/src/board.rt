@@ -57,7 +57,6 @@ pub trait Board<L: Naming> {
     /// Does instructions of a procedure.
     fn slice(&mut self, seat: &mut Seat<L>, id: u16, budget: u32) -> Slice
         requires { 1 ≤ budget }
-        ensures within { result.count ≤ budget }
         ensures seat { Gained seat.old seat.new (slice_entries seat.old.number id result) };
 
     /// Sets a breakpoint.
@@ -166,7 +165,6 @@ impl<L: Naming> Board<L> for Book<L> {
 
     fn slice(&mut self, seat: &mut Seat<L>, id: u16, budget: u32) -> Slice
         requires { 1 ≤ budget }
-        ensures within { result.count ≤ budget }
         ensures slice { result ≡ slice_in self.old.engine seat.old.number id budget }
         ensures journal { self.new.engine ≡
             slice_log self.old.engine seat.old.number id budget }

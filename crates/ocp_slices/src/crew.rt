@@ -1,7 +1,8 @@
 //! Workers: one thread for each seat, and engines that they work on.
 
-ghost use Rattle.std.specs.Prelude.{◌≡◌, ◌≤◌, ◌+◌, [], All, length, IfOk};
-ghost use Rattle.ocp_slices.specs.Closed.{HasWorked};
+ghost use Rattle.std.specs.Prelude.{◌≡◌, ◌≤◌, ◌+◌, List, length, IfOk};
+ghost use Rattle.ocp_seats.specs.Seats.{Seated};
+ghost use Rattle.ocp_slices.specs.Closed.{IsClosed};
 ghost use Rattle.ocp_slices.specs.Continuing.{AllContinue};
 
 use crate::{Board, Engine, Gate, MAX_SEATS, Naming, Seat, SeatFault, SharedEngine};
@@ -28,7 +29,7 @@ pub fn workers<
     turns: u32,
     gate: &G,
 )
-    ensures { AllContinue turns budget seats.old seats.new }
+    ensures { AllContinue seats.old seats.new }
 {
     let threads = seats.len();
     if threads == 0 {
@@ -43,10 +44,8 @@ pub fn workers<
 }
 
 /// Shares an engine, lets so many workers make that number of turns each with a budget of
-/// instructions, and closes it. The engine comes back with its journal gone on by one history of as
-/// many seats: each further entry is instructions of one procedure by one of the workers, at least
-/// one and at most the budget, or one where the budget is 0, and no worker has more of them than
-/// turns.
+/// instructions, and closes it. The engine comes back with a journal whose entries since a start
+/// are, with their marks, just the receipts of the seats.
 pub fn work<R: Threads + Wait + Sync, G: Gate + Sync>(
     rt: &R,
     alloc: Global,
@@ -57,7 +56,7 @@ pub fn work<R: Threads + Wait + Sync, G: Gate + Sync>(
     gate: &G,
 ) -> Result<Engine, WorkFault>
     requires { crew ≤ 64 }
-    ensures { IfOk result (λ after. HasWorked engine after crew budget turns) }
+    ensures { IfOk result (λ engine. (seats : List Seated) × IsClosed engine seats) }
 {
     let _length = engine.journal().len();
     let blank = Blank::new(u64::from(MAX_SEATS) + 1);
@@ -79,12 +78,16 @@ fn work_as<L: Naming + Send + Sync, R: Threads + Wait + Sync, G: Gate + Sync>(
     requires parts { blank.parts ≡ L.parts }
     requires seats { blank.parts ≡ 65 }
     requires room { L.room + length engine.entries ≡ engine.capacity }
-    requires log { L.log ≡ engine }
     requires crew { crew ≤ 64 }
-    ensures { IfOk result (λ after. HasWorked engine after crew budget turns) }
+    ensures { IfOk result (λ engine. (seats : List Seated) × IsClosed engine seats) }
 {
     let shared = SharedEngine::<L>::new(engine, blank);
-    let mut seats = seats_of(rt, alloc, &shared, crew)?;
+    let mut seats = Vec::with_capacity(alloc, usize::from(crew))?;
+    for _seat in 0..crew {
+        seats
+            .push(shared.seat(rt, alloc)?)
+            .map_err(AllocError::from)?;
+    }
     workers(
         rt,
         alloc,
@@ -98,26 +101,6 @@ fn work_as<L: Naming + Send + Sync, R: Threads + Wait + Sync, G: Gate + Sync>(
         Ok(engine) => Ok(engine),
         Err(_fault) => Err(WorkFault::NotClosed),
     }
-}
-
-/// So many seats, with no receipts.
-#[tactic(auto, using(crate::proofs::Working::fresh_none, crate::proofs::Working::fresh_more))]
-fn seats_of<L: Naming, B: Board<L>, R: Wait>(
-    rt: &R,
-    alloc: Global,
-    shared: &SharedEngine<L, B>,
-    crew: u16,
-) -> Result<Vec<Seat<L>>, WorkFault>
-    ensures count { IfOk result (λ seats. length seats.items ≡ crew) }
-    ensures fresh { IfOk result (λ seats. All (λ seat. seat.receipts ≡ []) seats.items) }
-{
-    let mut seats = Vec::with_capacity(alloc, usize::from(crew))?;
-    for _seat in 0..crew {
-        seats
-            .push(shared.seat(rt, alloc)?)
-            .map_err(AllocError::from)?;
-    }
-    Ok(seats)
 }
 
 /// Why an engine does not come back.

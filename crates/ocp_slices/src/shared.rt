@@ -27,13 +27,12 @@ pub struct SharedEngine<L: Naming, B: Board<L> = Book<L>> {
 
 impl<L: Naming> SharedEngine<L> {
     /// The book of an engine behind a lock, with the blank of a ledger of 65 parts. Its name has
-    /// the engine's room and its journal.
+    /// the engine's room.
     pub fn new(engine: Engine, blank: Blank) -> Self
         requires name { blank.name ≡ L.name }
         requires parts { blank.parts ≡ L.parts }
         requires seats { blank.parts ≡ 65 }
         requires room { L.room + length engine.entries ≡ engine.capacity }
-        requires log { L.log ≡ engine }
     {
         SharedEngine::over(Book::new(engine, blank))
     }
@@ -121,11 +120,9 @@ impl<L: Naming, B: Board<L>> SharedEngine<L, B> {
         self.board.lock(rt).step(seat, id)
     }
 
-    /// Does instructions of one procedure, at most so many, as the engine's call with the seat's
-    /// number.
+    /// Does instructions of one procedure, as the engine's call with the seat's number.
     pub fn slice<R: Wait>(&self, rt: &R, seat: &mut Seat<L>, id: u16, budget: u32) -> Slice
         requires { 1 ≤ budget }
-        ensures within { result.count ≤ budget }
         ensures seat { Gained seat.old seat.new (slice_entries seat.old.number id result) }
     {
         self.board.lock(rt).slice(seat, id, budget)

@@ -1,12 +1,9 @@
 //! Turns: take a procedure, run it off the lock, and put its work back.
 
-ghost use Rattle.std.specs.Prelude.{◌≤◌};
 ghost use Rattle.ocp_slices.specs.Continuing.{Continues};
 ghost use Rattle.ocp_slices.specs.Turns.{Turned};
 
-use crate::{
-    Board, CommitOutcome, Naming, Seat, SharedEngine, StepOutcome, TakeFault, Ticket, Work,
-};
+use crate::{Board, CommitOutcome, Naming, Seat, SharedEngine, StepOutcome, TakeFault};
 use std::alloc::Global;
 use std::sync::Wait;
 
@@ -47,14 +44,6 @@ pub enum Turn {
     NoMemory,
 }
 
-/// What a ticket does off the lock: at most so many instructions.
-#[tactic(auto, using(crate::proofs::Outcomes::count_within))]
-fn run_within(ticket: Ticket, budget: u32) -> Work
-    ensures { result.count ≤ budget }
-{
-    ticket.run(budget)
-}
-
 impl<L: Naming, B: Board<L>> SharedEngine<L, B> {
     /// Takes the next running procedure, runs it off the lock for at most so many instructions, and
     /// commits what it did. Where it could do none by itself, one instruction of it is done under
@@ -67,14 +56,14 @@ impl<L: Naming, B: Board<L>> SharedEngine<L, B> {
         budget: u32,
         gate: &G,
     ) -> Turn
-        ensures { Turned budget seat.old seat.new result }
+        ensures { Turned seat.old seat.new result }
     {
         let ticket = match self.take(rt, alloc) {
             Ok(ticket) => ticket,
             Err(TakeFault::NoneRunning) => return Turn::Idle,
             Err(TakeFault::Memory) => return Turn::NoMemory,
         };
-        let work = run_within(ticket, budget);
+        let work = ticket.run(budget);
         let number = seat.number();
         let id = work.id();
         gate.before(number, id, work.count());
@@ -92,7 +81,7 @@ impl<L: Naming, B: Board<L>> SharedEngine<L, B> {
     }
 
     /// That many turns, one after the other.
-    #[tactic(auto, using(crate::proofs::Continuing::continues_unchanged, crate::proofs::Continuing::continues_by_turn, crate::proofs::Continuing::continues_at_end))]
+    #[tactic(auto, using(crate::proofs::Continuing::continues_unchanged, crate::proofs::Continuing::continues_further))]
     pub fn turns<R: Wait, G: Gate>(
         &self,
         rt: &R,
@@ -102,7 +91,7 @@ impl<L: Naming, B: Board<L>> SharedEngine<L, B> {
         turns: u32,
         gate: &G,
     )
-        ensures { Continues turns budget seat.old seat.new }
+        ensures { Continues seat.old seat.new }
     {
         for _turn in 0..turns {
             self.turn(rt, alloc, seat, budget, gate);

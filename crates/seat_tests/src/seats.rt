@@ -53,7 +53,6 @@ fn after_an_abort<L: Naming, R: Wait + Abort>(
     requires parts { blank.parts ≡ L.parts }
     requires seats { blank.parts ≡ 65 }
     requires room { L.room + length engine.entries ≡ engine.capacity }
-    requires log { L.log ≡ engine }
 {
     let shared = SharedEngine::<L>::new(engine, blank);
     let mut seat = shared.seat(rt, alloc)?;
@@ -102,7 +101,6 @@ fn in_full<L: Naming, R: Wait + Abort>(
     requires parts { blank.parts ≡ L.parts }
     requires seats { blank.parts ≡ 65 }
     requires room { L.room + length engine.entries ≡ engine.capacity }
-    requires log { L.log ≡ engine }
 {
     let shared = SharedEngine::<L>::new(engine, blank);
     let mut seat = shared.seat(rt, alloc)?;
@@ -146,7 +144,6 @@ fn hand_out<L: Naming, R: Wait + Abort>(
     requires parts { blank.parts ≡ L.parts }
     requires seats { blank.parts ≡ 65 }
     requires room { L.room + length engine.entries ≡ engine.capacity }
-    requires log { L.log ≡ engine }
 {
     let shared = SharedEngine::<L>::new(engine, blank);
     take_three(rt, alloc, &shared)?;
@@ -211,7 +208,6 @@ fn while_idle<L: Naming, R: Wait + Abort>(
     requires parts { blank.parts ≡ L.parts }
     requires seats { blank.parts ≡ 65 }
     requires room { L.room + length engine.entries ≡ engine.capacity }
-    requires log { L.log ≡ engine }
 {
     let shared = SharedEngine::<L>::new(engine, blank);
     let mut seat = shared.seat(rt, alloc)?;
@@ -253,7 +249,6 @@ fn within<L: Naming, R: Wait + Abort>(
     requires parts { blank.parts ≡ L.parts }
     requires seats { blank.parts ≡ 65 }
     requires room { L.room + length engine.entries ≡ engine.capacity }
-    requires log { L.log ≡ engine }
 {
     let shared = SharedEngine::<L>::new(engine, blank);
     let mut seat = shared.seat(rt, alloc)?;

@@ -109,7 +109,6 @@ fn through<L: Naming, R: Wait + Abort>(
     requires parts { blank.parts ≡ L.parts }
     requires seats { blank.parts ≡ 65 }
     requires room { L.room + length engine.entries ≡ engine.capacity }
-    requires log { L.log ≡ engine }
 {
     let shared = SharedEngine::over(Counting {
         book: Book::<L>::new(engine, blank),

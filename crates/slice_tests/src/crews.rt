@@ -124,7 +124,6 @@ fn mixed<L: Naming + Send + Sync, R: Threads + Wait + Abort + Sync>(
     requires parts { blank.parts ≡ L.parts }
     requires seats { blank.parts ≡ 65 }
     requires room { L.room + length engine.entries ≡ engine.capacity }
-    requires log { L.log ≡ engine }
 {
     let shared = SharedEngine::<L>::new(engine, blank);
     let mut seats = Vec::with_capacity(alloc, 16)?;

@@ -56,7 +56,6 @@ fn both<L: Naming + Send + Sync, R: Threads + Wait + Abort + Sync>(
     requires parts { blank.parts ≡ L.parts }
     requires seats { blank.parts ≡ 65 }
     requires room { L.room + length engine.entries ≡ engine.capacity }
-    requires log { L.log ≡ engine }
 {
     let shared = SharedEngine::<L>::new(engine, blank);
     let mut one = shared.seat(rt, alloc)?;
