@@ -108,7 +108,7 @@ pub fn asm<R: Source, W: Sink, A: Allocator + Copy>(
     requires writes { W.failed_writes writer.old < 2 ^ 64 - 1 }
     ensures assembles { IfSome (R.remaining reader.old)
         (λ input. Writes (Assembles profile input)
-            (W.contents writer.old) (W.contents writer.new) result) }
+        (W.contents writer.old) (W.contents writer.new) result) }
     ensures machine { IfErr result IsMachineFault }
     ensures reads { IfSome (R.remaining reader.old)
         (λ input. ReadsWhile IsShort input (R.remaining reader.new)) }

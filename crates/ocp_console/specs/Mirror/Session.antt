@@ -39,6 +39,6 @@ abbrev pub Answers : {X T : Type 0} → Option (List ℕ) → Option (List ℕ) 
 Answers {X} {T} old new whole rest (Ok x) =
     (sent : List ℕ) × Appends old new sent
     × ((more : X) (later : List ℕ) (ending : Result Unit ConsoleFault) →
-        rest x more later ending → whole more (sent ++ later) ending)
+    rest x more later ending → whole more (sent ++ later) ending)
 Answers {X} {T} old new whole rest (Err e) =
     (sent : List ℕ) × Appends old new sent × ((more : X) → whole more sent (Err e))
