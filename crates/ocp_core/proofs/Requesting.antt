@@ -8,6 +8,7 @@ use Rattle.ocp_world.specs.declared.state.State.{State}
 use Rattle.ocp_world.specs.World.{Event, Request}
 use Rattle.ocp_world.specs.After.{Requested, after, effect_of, is_accepted}
 use Rattle.ocp_world.specs.Answers.{Answers}
+use Rattle.ocp_world.specs.Loading.{TakesRecord, TakesRecordIn}
 use Rattle.ocp_world.specs.Replay.{replay_from}
 use Rattle.ocp_world.specs.Mirror.State.{IsWorld, DoesIn}
 use Rattle.ocp_core.specs.Log.{Log, Asked, world_of, with_entry, answer_in, log_after}
@@ -31,6 +32,15 @@ module _ (log now : Log) (same : log ≡ now) (by time : ℕ) (octets : List ℕ
 
   pub refused_so : {A : Type 0} (s : State A) (fault : EngineFault) → DoesIn (world_of log) (effect_of (world_of log) e) (Err fault) s → Answers (Err fault) (answer_in now e)
   refused_so s fault does = answer_taken log now same e (Err fault) admitted.taken admitted.free does.0
+
+  -- it takes memory for a record by what the state keeps, so in the engine's world
+  pub takes_record : {A : Type 0} (s : State A) → IsWorld (world_of log) s → TakesRecord s.table.profile s.table.records read → TakesRecordIn (world_of now) octets
+  takes_record s stands takes =
+      let w = world_of log in
+      subst (λ l. TakesRecordIn (world_of l) octets) same
+      (subst (λ r. TakesRecord w.profile w.records r) admitted.is
+      (subst (λ profile. TakesRecord profile w.records read) stands.profile
+      (subst (λ m. TakesRecord s.table.profile m read) stands.records takes)))
 
   module _ {A : Type 0} (s : State A) (sent : List (List ℕ)) (copy : List ℕ) (does : DoesIn (world_of log) (effect_of (world_of log) e) (Ok sent) s) (copied : copy ≡ octets) where
     pub answered : (kept : List (List ℕ)) → kept ≡ sent → Answers (Ok kept) (answer_in now e)

@@ -1,11 +1,12 @@
 //! The engine.
 
-ghost use Rattle.std.specs.Prelude.{◌≡◌, ◌↔◌, ◌≤◌, ◌<◌, ◌-◌, ◌^◌, ℕ, Ok, Err, None, IfOk, IfErr, IfSome, OnOk, OnErr, length, slice_get};
+ghost use Rattle.std.specs.Prelude.{◌≡◌, ◌≢◌, ◌↔◌, ◌≤◌, ◌<◌, ◌-◌, ◌^◌, ℕ, false, Ok, Err, None, IfOk, IfErr, IfSome, OnOk, OnErr, length, slice_get};
 ghost use Rattle.std.specs.FinMap.{get};
 ghost use Rattle.ocp_table.specs.Shown.{view_at};
 ghost use Rattle.ocp_world.specs.World as world;
 ghost use Rattle.ocp_world.specs.After.{Requested, Stepped};
 ghost use Rattle.ocp_world.specs.Answers.{Answers};
+ghost use Rattle.ocp_world.specs.Loading.{TakesRecordIn};
 ghost use Rattle.ocp_world.specs.NextRunning.{IsNextRunning, Runs};
 ghost use Rattle.ocp_core.specs.Log.{Asked, Drained, empty_log, expand, world_of, answer_in, log_after};
 ghost use Rattle.ocp_core.specs.Slice.{slice_in, slice_log};
@@ -17,7 +18,7 @@ use crate::copies::next_copy;
 use crate::{EngineFault, Entry, Journal, Octets, Reports, Slice, StepOutcome};
 use ocp_profile::Profile;
 use ocp_table::View;
-use ocp_world::{State, discard_of};
+use ocp_world::{Heap, State, discard_of};
 use pus_fields::{Tc, TcFault, read_tc};
 use space_packet::Apid;
 use std::alloc::{AllocError, Allocator, Global};
@@ -76,6 +77,7 @@ impl<A: Allocator> Engine<A> {
         ensures ok { (by time : ℕ) → IfOk result (IsAdmitted self.now by time octets.now) }
         ensures err { (by time : ℕ) → IfErr result (λ fault.
             Answers (Err fault) (answer_in self.now (world.Request by time octets.now))) }
+        ensures memory { IfErr result (λ fault. fault ≢ EngineFault.Memory) }
     {
         let read = read_tc(self.journal.apid(), octets);
         if let Some(cause) = discard_of(&read) {
@@ -104,14 +106,37 @@ impl<A: Allocator> Engine<A> {
             (self.new ≡ log_after self.old (world.Request by time octets.now)) }
         ensures err { OnErr result (self.new ≡ self.old) }
     {
+        self.request_in(&mut Heap::new(alloc), by, time, octets)
+    }
+
+    /// `request`, at a heap that notes whether the copy of the octets or the reports found no
+    /// memory. Where they found it, Memory is answered only for a load under an id that is free, in
+    /// a table with room, of 1 to 2,048 whole slots: never in place of a request that fails
+    /// otherwise.
+    pub fn request_in(
+        &mut self,
+        heap: &mut Heap<A>,
+        by: u16,
+        time: u32,
+        octets: &[u8],
+    ) -> Result<Reports<A>, EngineFault>
+    where
+        A: Copy,
+        ensures answer { Answers result (answer_in self.old (world.Request by time octets.now)) }
+        ensures journal { OnOk result
+            (self.new ≡ log_after self.old (world.Request by time octets.now)) }
+        ensures err { OnErr result (self.new ≡ self.old) }
+        ensures memory { result ≡ Err EngineFault.Memory → heap.new ≡ false →
+            TakesRecordIn (world_of self.old) octets.now }
+    {
         let read = match self.admit(octets) {
             Ok(read) => read,
             Err(refused) => return Err(refused),
         };
-        let Ok(kept) = Octets::copy_of(alloc, octets) else {
+        let Ok(kept) = heap.copy_of(octets) else {
             return Err(EngineFault::Memory);
         };
-        match self.state.receive(alloc, self.journal.events(), time, read) {
+        match self.state.receive(heap, self.journal.events(), time, read) {
             Ok(sent) => {
                 let mut copies = sent.into_vec();
                 let mark = next_copy(&mut copies);
@@ -157,7 +182,11 @@ impl<A: Allocator> Engine<A> {
         let Ok(own) = Octets::copy_of(alloc, octets) else {
             return Err(EngineFault::Memory);
         };
-        match self.state.receive(alloc, self.journal.events(), time, read) {
+        let mut heap = Heap::new(alloc);
+        match self
+            .state
+            .receive(&mut heap, self.journal.events(), time, read)
+        {
             Ok(sent) => {
                 let mut copies = sent.into_vec();
                 let journal_mark = next_copy(&mut copies);

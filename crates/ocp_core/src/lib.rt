@@ -20,6 +20,6 @@ pub use engine::Engine;
 pub use event::{Entry, Event};
 pub use journal::Journal;
 pub use ocp_reports::{Octets, Reports};
-pub use ocp_world::{Command, DebugFault, EngineFault, Slice, StepOutcome};
+pub use ocp_world::{Command, DebugFault, EngineFault, Heap, Slice, StepOutcome};
 pub use replay::replay_one;
 pub use ticket::{Ticket, Work};

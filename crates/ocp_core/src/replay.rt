@@ -17,7 +17,7 @@ use crate::{Command, EngineFault, Entry, Journal};
 use bpf_step::Machine;
 use ocp_profile::Profile;
 use ocp_reports::CopiedReports;
-use ocp_world::State;
+use ocp_world::{Heap, State};
 use pus_fields::read_tc;
 use space_packet::Apid;
 use std::alloc::{AllocError, Allocator};
@@ -46,7 +46,8 @@ fn request<A: Allocator + Copy>(
         OnOk result (IsWorld (after w (Asked by time octets.now)).world state.new) }
 {
     refused_events_change_nothing();
-    memory_of(state.receive(alloc, event, time, read_tc(apid, octets)))
+    let read = read_tc(apid, octets);
+    memory_of(state.receive(&mut Heap::new(alloc), event, time, read))
 }
 
 // Does a drain.

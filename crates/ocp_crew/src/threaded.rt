@@ -1,9 +1,8 @@
 //! A crew of threads.
 
-ghost use Rattle.std.specs.Prelude.{◌≤◌, List, IfOk};
+ghost use Rattle.std.specs.Prelude.{◌≤◌, IfOk};
 ghost use Rattle.std.specs.Thread.{IsSync};
-ghost use Rattle.ocp_seats.specs.Seats.{Seated};
-ghost use Rattle.ocp_slices.specs.Closed.{IsClosed};
+ghost use Rattle.ocp_slices.specs.Closed.{HasWorked};
 
 use ocp_console::{Crew, CrewFault};
 use ocp_core::Engine;
@@ -13,8 +12,9 @@ use std::sync::Wait;
 use std::thread::Threads;
 
 /// A crew of threads. It shares the engine between as many seats as there are workers, with one
-/// thread for each, and closes it: the journal that comes back is one history of what the workers
-/// were answered.
+/// thread for each, and closes it: the journal that comes back is the one that was given, gone on
+/// by one history of what the workers did, which is instructions alone, within their budget and
+/// turns.
 #[derive(Drop)]
 pub struct Threaded<'a, R: Threads + Wait + Sync> {
     pub rt: &'a R,
@@ -24,8 +24,8 @@ pub struct Threaded<'a, R: Threads + Wait + Sync> {
 impl<R: Threads + Wait + Sync> Crew<Engine> for Threaded<'_, R> {
     ghost ready = { λ _. IsSync R.row };
 
-    ghost answers = { λ _ _ _ _ _ answer. IfOk answer
-        (λ engine. (seats : List Seated) × IsClosed engine seats) };
+    ghost answers = { λ _ engine workers budget turns answer. IfOk answer
+        (λ after. HasWorked engine after workers budget turns) };
 
     fn work(
         &self,
@@ -37,7 +37,7 @@ impl<R: Threads + Wait + Sync> Crew<Engine> for Threaded<'_, R> {
         requires ready { IsSync R.row }
         requires some { 1 ≤ workers }
         requires few { workers ≤ 16 }
-        ensures { IfOk result (λ engine. (seats : List Seated) × IsClosed engine seats) }
+        ensures { IfOk result (λ after. HasWorked engine after workers budget turns) }
     {
         match work(self.rt, self.alloc, engine, workers, budget, turns, &Open) {
             Ok(engine) => Ok(engine),

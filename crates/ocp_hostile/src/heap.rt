@@ -27,11 +27,6 @@ impl<B> Refusing<B> {
         self.left.store(left, Ordering::SeqCst);
     }
 
-    /// How many blocks it still hands out.
-    pub fn left(&self) -> u64 {
-        self.left.load(Ordering::SeqCst)
-    }
-
     // The inner allocator, unless this growth is to be refused.
     fn chosen(&self) -> Option<&B>
         ensures { IfSome result (λ h. h.now ≡ self.now.inner) }

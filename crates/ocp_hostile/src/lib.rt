@@ -1,6 +1,6 @@
-//! Hostile use, by tests alone: growths of memory that are refused one after another, devices that
-//! fail, packets that are cut, and octets that are no procedure. Beside the tests the crate has the
-//! allocator that refuses.
+//! Hostile use, by tests alone: growths of memory that are refused one after another, named
+//! refusals where there is no memory, devices that fail, packets that are cut, and octets that are
+//! no procedure. Beside the tests the crate has the allocator that refuses.
 #![tactic(auto)]
 
 #[cfg(test)]
@@ -18,6 +18,8 @@ pub mod heap;
 mod images;
 #[cfg(test)]
 mod makers;
+#[cfg(test)]
+mod refusals;
 #[cfg(test)]
 mod requests;
 #[cfg(test)]

@@ -214,6 +214,7 @@ fn through<L: Naming, A: Allocator + Copy>(
     requires parts { blank.parts ≡ L.parts }
     requires seats { blank.parts ≡ 65 }
     requires room { L.room + length engine.entries ≡ engine.capacity }
+    requires log { L.log ≡ engine }
 {
     let mut book = Book::<L, A>::new(engine, blank);
     let mut seat = book.seat(refusing)?;

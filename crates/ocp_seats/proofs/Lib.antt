@@ -3,3 +3,5 @@ pub mod Marking
 pub mod Growing
 pub mod Histories
 pub mod Picking
+pub mod Going
+pub mod Slicing

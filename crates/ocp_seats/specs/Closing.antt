@@ -1,12 +1,13 @@
 -- When a book may be closed.
-use Rattle.std.specs.Prelude.{◌≡◌, ◌≤◌, ◌==◌, ℕ, List, All, Any, count_by}
+use Rattle.std.specs.Prelude.{◌≡◌, ◌≤◌, ◌==◌, ℕ, List, All, Any, count_by, length}
 use Rattle.ocp_seats.specs.declared.close.CloseFault.{CloseFault}
 use Rattle.ocp_seats.specs.declared.close.CloseFault.TheVariants.{MissingSeat, ReceiptMismatch}
 use Rattle.ocp_core.specs.Marks.{Marked, by_of, marked_by}
 use Rattle.ocp_seats.specs.Seats.{Seated}
 
--- the seats' numbers are 1 to n, each once
+-- the seats' numbers are 1 to n, each once, so they are n seats
 pub record IsWhole (seats : List Seated) (n : ℕ) : Type 0 where
+  pub count : length seats ≡ n
   pub within : All (λ (s : Seated). (1 ≤ s.number) × (s.number ≤ n)) seats
   pub each_once : (k : ℕ) → 1 ≤ k → k ≤ n → count_by (λ (s : Seated). s.number == k) seats ≡ 1
 

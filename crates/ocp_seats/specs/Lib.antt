@@ -1,5 +1,6 @@
 pub mod Receipts
 pub mod Seats
+pub mod Going
 pub mod Taking
 pub mod Closing
 pub mod History

@@ -28,6 +28,7 @@ pub struct Book<L: Naming, A: Allocator = Global> {
 impl<L: Naming, A: Allocator> Model for Book<L, A> {
     ghost use Rattle.std.specs.Prelude.{◌≡◌, ◌≤◌, ◌+◌, length};
     ghost use Rattle.ocp_seats.specs.Seats.{Booked};
+    ghost use Rattle.ocp_seats.specs.Going.{GoesOn};
 
     ghost Value = { Booked };
 
@@ -45,17 +46,20 @@ impl<L: Naming, A: Allocator> Model for Book<L, A> {
 
     ghost invariant = { λ b. (length b.engine.entries ≡ b.start + b.tally.total)
         × (b.engine.capacity ≡ b.start + L.room) × (b.rest.parts + b.seats ≡ 65)
-        × (b.rest.amount ≡ 0) × (b.seats ≤ 64) };
+        × (b.rest.amount ≡ 0) × (b.seats ≤ 64)
+        × (b.start ≡ length L.log.entries) × GoesOn L.log b.engine };
 }
 
 impl<L: Naming, A: Allocator> Book<L, A> {
     /// A book that counts from the engine's entries on, with the blank of a ledger of 65 parts. Its
-    /// name has the engine's room.
+    /// name has the engine's room and its journal.
+    #[tactic(auto, using(crate::proofs::Going::goes_on_start))]
     pub fn new(engine: Engine<A>, blank: Blank) -> Self
         requires name { blank.name ≡ L.name }
         requires parts { blank.parts ≡ L.parts }
         requires seats { blank.parts ≡ 65 }
         requires room { L.room + length engine.entries ≡ engine.capacity }
+        requires log { L.log ≡ engine }
         ensures engine { result.engine ≡ engine }
         ensures start { result.start ≡ length engine.entries }
         ensures seats { result.seats ≡ 0 }

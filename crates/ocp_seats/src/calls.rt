@@ -21,6 +21,7 @@ use std::alloc::Allocator;
 impl<L: Naming, A: Allocator> Book<L, A> {
     /// `Engine::request` with the seat's number. The memory of the reports and of the two copies
     /// that journal and seat keep is taken before anything is changed.
+    #[tactic(auto, using(crate::proofs::Going::goes_on_further))]
     pub fn request(
         &mut self,
         alloc: A,
@@ -47,6 +48,7 @@ impl<L: Naming, A: Allocator> Book<L, A> {
 
     /// `Engine::drain` with the seat's number. The memory of the reports and of the two copies that
     /// journal and seat keep is taken before anything is changed.
+    #[tactic(auto, using(crate::proofs::Going::goes_on_further))]
     pub fn drain(
         &mut self,
         alloc: A,
@@ -71,6 +73,7 @@ impl<L: Naming, A: Allocator> Book<L, A> {
     }
 
     /// `Engine::step` with the seat's number.
+    #[tactic(auto, using(crate::proofs::Going::goes_on_further))]
     pub fn step(&mut self, seat: &mut Seat<L, A>, id: u16) -> StepOutcome
         ensures answer { Stepped result ≡
             answer_in self.old.engine (world.Step seat.old.number id) }
@@ -96,9 +99,11 @@ impl<L: Naming, A: Allocator> Book<L, A> {
         }
     }
 
-    /// `Engine::slice` with the seat's number.
+    /// `Engine::slice` with the seat's number: at most so many instructions.
+    #[tactic(auto, using(crate::proofs::Going::goes_on_further))]
     pub fn slice(&mut self, seat: &mut Seat<L, A>, id: u16, budget: u32) -> Slice
         requires { 1 ≤ budget }
+        ensures within { result.count ≤ budget }
         ensures slice { result ≡ slice_in self.old.engine seat.old.number id budget }
         ensures journal { self.new.engine ≡
             slice_log self.old.engine seat.old.number id budget }
@@ -120,6 +125,7 @@ impl<L: Naming, A: Allocator> Book<L, A> {
     }
 
     /// `Engine::commit` with the seat's number.
+    #[tactic(auto, using(crate::proofs::Going::goes_on_further))]
     pub fn commit(&mut self, seat: &mut Seat<L, A>, work: Work<A>) -> CommitOutcome
         ensures engine { Commits self.old.engine self.new.engine seat.old.number work result }
         ensures book { Changed self.old self.new (commit_entries seat.old.number work.id result) }
@@ -141,6 +147,7 @@ impl<L: Naming, A: Allocator> Book<L, A> {
     }
 
     /// `Engine::set_break` with the seat's number.
+    #[tactic(auto, using(crate::proofs::Going::goes_on_further))]
     pub fn set_break(
         &mut self,
         seat: &mut Seat<L, A>,
@@ -166,6 +173,7 @@ impl<L: Naming, A: Allocator> Book<L, A> {
     }
 
     /// `Engine::clear_break` with the seat's number.
+    #[tactic(auto, using(crate::proofs::Going::goes_on_further))]
     pub fn clear_break(
         &mut self,
         seat: &mut Seat<L, A>,
@@ -191,6 +199,7 @@ impl<L: Naming, A: Allocator> Book<L, A> {
     }
 
     /// `Engine::trace` with the seat's number.
+    #[tactic(auto, using(crate::proofs::Going::goes_on_further))]
     pub fn trace(&mut self, seat: &mut Seat<L, A>, id: u16, on: bool) -> Result<(), DebugFault>
         ensures answer { Commanded result ≡ answer_in self.old.engine
             (world.Debug seat.old.number id (command.SetTrace on)) }

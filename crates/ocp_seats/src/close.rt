@@ -3,6 +3,7 @@
 ghost use Rattle.std.specs.Prelude.{◌≡◌, ◌≢◌, ◌≤◌, ◌<◌, ◌==◌, ◌↔◌, ℕ, All, IfErr, IfNone, IfOk, IfSome, IsTrue, MatchOption, count_by, drop, length, map, slice_index, slice_index_or};
 ghost use Rattle.ocp_core.specs.Marks.{marked};
 ghost use Rattle.ocp_core.specs.Journal.{marked_of};
+ghost use Rattle.ocp_seats.specs.Going.{GoesOn};
 ghost use Rattle.ocp_seats.specs.Closing.{IsWhole, IsReceipted, RefusesClose};
 ghost use Rattle.ocp_seats.specs.History.{IsHistory};
 
@@ -29,14 +30,16 @@ pub struct NotClosed<L: Naming, A: Allocator = Global> {
 
 impl<L: Naming, A: Allocator> Book<L, A> {
     /// The engine, where the seats are those handed out, each once, each entry since the start is
-    /// by one of them, and each seat's receipts are its entries with their marks, in order. Else
-    /// the book and the seats come back.
+    /// by one of them, and each seat's receipts are its entries with their marks, in order. Its
+    /// journal is the one at the start, gone on. Else the book and the seats come back.
     pub fn close(self, seats: Vec<Seat<L, A>, A>) -> Result<Engine<A>, NotClosed<L, A>>
         ensures ok { IfOk result (λ engine. engine ≡ self.engine) }
         ensures whole { IfOk result (λ _. IsWhole seats.items self.seats) }
         ensures receipted { IfOk result (λ _.
             IsReceipted (drop self.start (marked self.engine)) seats.items) }
         ensures history { IfOk result (λ _. IsHistory self.engine self.start seats.items) }
+        ensures goes_on { IfOk result (λ engine. GoesOn L.log engine) }
+        ensures start { IfOk result (λ _. self.start ≡ length L.log.entries) }
         ensures back { IfErr result (λ refused. (refused.book ≡ self) × (refused.seats ≡ seats)) }
         ensures err { IfErr result (λ refused. RefusesClose self.seats
             (drop self.start (marked self.engine)) seats.items refused.why) }
@@ -72,6 +75,9 @@ impl<L: Naming, A: Allocator> Book<L, A> {
 fn is_whole<L: Naming, A: Allocator>(seats: &[Seat<L, A>], handed_out: u16) -> bool
     ensures { IsTrue result ↔ IsWhole seats.now handed_out }
 {
+    if seats.len() != usize::from(handed_out) {
+        return false;
+    }
     for seat in seats {
         if seat.number() == 0 || seat.number() > handed_out {
             return false;

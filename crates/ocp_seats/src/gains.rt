@@ -65,6 +65,7 @@ pub(crate) fn step<A: Allocator>(engine: &mut Engine<A>, by: u16, id: u16) -> St
 
 pub(crate) fn slice<A: Allocator>(engine: &mut Engine<A>, by: u16, id: u16, budget: u32) -> Slice
     requires { 1 ≤ budget }
+    ensures within { result.count ≤ budget }
     ensures slice { result ≡ slice_in engine.old by id budget }
     ensures journal { engine.new ≡ slice_log engine.old by id budget }
     ensures gain { Grows engine.old engine.new (slice_entries by id result) }

@@ -11,13 +11,23 @@ use std::sync::ledger::{Book, Ledger, Share};
 /// How many seats one book hands out.
 pub const MAX_SEATS: u16 = 64;
 
-/// Which shared engine it is, and how many entries it has room for after its start.
+/// Which shared engine it is: how many entries it has room for after its start, and its journal at
+/// the start.
 pub trait Naming: Ledger {
+    ghost use Rattle.ocp_core.specs.Log.{Log};
+
     ghost room: { ℕ };
+
+    ghost log: { Log };
 }
 
 impl Naming for Brand {
+    ghost use Rattle.ocp_profile.specs.declared.profile.Profile.TheVariants.{One};
+    ghost use Rattle.ocp_core.specs.Log.{empty_log};
+
     ghost room = { 0 };
+
+    ghost log = { empty_log One 0 0 0 };
 }
 
 /// A seat at a shared engine: its number, its part in the count of the engine's entries, and a

@@ -1,14 +1,44 @@
 -- What is known of an engine that seats closed.
-use Rattle.std.specs.Prelude.{ℕ, List}
-use Rattle.ocp_core.specs.Log.{Log}
+use Rattle.std.specs.Prelude.{◌≡◌, ◌≤◌, ℕ, true, List, All, length, drop}
+use Rattle.ocp_world.specs.After.{is_accepted}
+use Rattle.ocp_core.specs.Log.{Log, Entry, Asked, Steps, Debugged, Drained}
+use Rattle.ocp_core.specs.Marks.{Marked, marked}
+use Rattle.ocp_seats.specs.declared.close.CloseFault.{CloseFault}
+use Rattle.ocp_seats.specs.declared.close.CloseFault.TheVariants.{MissingSeat, ReceiptMismatch}
 use Rattle.ocp_seats.specs.Seats.{Seated}
+use Rattle.ocp_seats.specs.Going.{GoesOn}
 use Rattle.ocp_seats.specs.Closing.{IsWhole}
 use Rattle.ocp_seats.specs.History.{IsHistory}
+use Rattle.ocp_slices.specs.Continuing.{IsWithin}
 
--- the seats are those handed out, each once, and the entries of the journal since a start are, with
--- their marks, just the seats' receipts
-pub record IsClosed (engine : Log) (seats : List Seated) : Type 0 where
-  pub handed_out : ℕ
-  pub start : ℕ
-  pub whole : IsWhole seats handed_out
-  pub history : IsHistory engine start seats
+-- the journal is the one at the start, gone on; the seats' numbers are 1 to their number, each
+-- once; and the entries since the start are, with their marks, just the seats' receipts
+pub record IsClosed (start now : Log) (seats : List Seated) : Type 0 where
+  pub goes_on : GoesOn start now
+  pub whole : IsWhole seats (length seats)
+  pub history : IsHistory now (length start.entries) seats
+
+-- a mismatch is told only where the seats' numbers are 1 to their number, each once
+abbrev pub RefusesShared : List Seated → CloseFault → Type 0
+RefusesShared seats MissingSeat = Unit {0}
+RefusesShared seats ReceiptMismatch = IsWhole seats (length seats)
+
+-- the entry is instructions of one procedure, by one of so many workers, within their budget
+abbrev pub IsWorked : ℕ → ℕ → Entry → Type 0
+IsWorked crew budget (Asked by time octets) = ⊥
+IsWorked crew budget (Steps by id count) =
+    (1 ≤ by) × (by ≤ crew) × IsWithin budget count
+IsWorked crew budget (Debugged by id command) = ⊥
+IsWorked crew budget (Drained by time) = ⊥
+
+-- so many workers have worked: the journal is the one at the start, followed by one history of as
+-- many seats, whose entries are instructions alone, within the budget, the last of each done, and
+-- no more of a seat than its turns
+pub record HasWorked (start now : Log) (crew budget turns : ℕ) : Type 0 where
+  pub seats : List Seated
+  pub count : length seats ≡ crew
+  pub closed : IsClosed start now seats
+  pub few : All (λ (s : Seated). length s.receipts ≤ turns) seats
+  pub worked : All (λ (e : Entry). IsWorked crew budget e) (drop (length start.entries) now.entries)
+  pub done :
+      All (λ (m : Marked). is_accepted m.mark ≡ true) (drop (length start.entries) (marked now))

@@ -1,16 +1,34 @@
--- How a seat goes on over many calls.
-use Rattle.std.specs.Prelude.{◌≡◌, ◌<◌, ℕ, List, ◌++◌, length, slice_index_or}
+-- How a seat goes on over many turns.
+use Rattle.std.specs.Prelude.{◌≡◌, ◌≤◌, ◌<◌, ◌⊎◌, ℕ, true, List, ◌++◌, All, length, slice_index_or}
+use Rattle.ocp_world.specs.After.{is_accepted}
+use Rattle.ocp_core.specs.Log.{Entry, Asked, Steps, Debugged, Drained}
 use Rattle.ocp_core.specs.Marks.{Marked}
 use Rattle.ocp_seats.specs.Seats.{Seated}
 
--- the seat keeps its number, and its old receipts begin its new ones
-pub record Continues (old new : Seated) : Type 0 where
+-- instructions of one procedure, at least one and no more than a budget, or one where the budget
+-- is 0
+abbrev pub IsWithin : ℕ → ℕ → Type 0
+IsWithin budget count = (1 ≤ count) × ((count ≤ budget) ⊎ (count ≡ 1))
+
+-- the entry is instructions of one procedure by this seat, within a budget
+abbrev pub IsShift : ℕ → ℕ → Entry → Type 0
+IsShift number budget (Asked by time octets) = ⊥
+IsShift number budget (Steps by id count) = (by ≡ number) × IsWithin budget count
+IsShift number budget (Debugged by id command) = ⊥
+IsShift number budget (Drained by time) = ⊥
+
+-- the seat keeps its number, and its old receipts begin its new ones; those that came are so many
+-- at most, each of instructions of the seat within the budget, of which the last was done
+pub record Continues (turns budget : ℕ) (old new : Seated) : Type 0 where
   pub number : new.number ≡ old.number
   pub more : List Marked
   pub receipts : new.receipts ≡ old.receipts ++ more
+  pub few : length more ≤ turns
+  pub shifts : All (λ (m : Marked). IsShift old.number budget m.entry) more
+  pub done : All (λ (m : Marked). is_accepted m.mark ≡ true) more
 
 -- each seat goes on, and none comes or goes
-pub record AllContinue (olds news : List Seated) : Type 0 where
+pub record AllContinue (turns budget : ℕ) (olds news : List Seated) : Type 0 where
   pub count : length news ≡ length olds
   pub each : (k : ℕ) (d : Seated) → k < length olds →
-      Continues (slice_index_or olds k d) (slice_index_or news k d)
+      Continues turns budget (slice_index_or olds k d) (slice_index_or news k d)

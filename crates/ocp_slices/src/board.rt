@@ -5,6 +5,7 @@ ghost use Rattle.ocp_debug.specs.declared.command.Command.TheVariants as command
 ghost use Rattle.ocp_core.specs.declared.answers.CommitOutcome.TheVariants.{Empty, Committed};
 ghost use Rattle.ocp_seats.specs.Receipts.{step_entries, slice_entries, commit_entries, request_entries, drain_entries, command_entries};
 ghost use Rattle.ocp_seats.specs.Seats.{Gained};
+ghost use Rattle.ocp_slices.specs.Replies.{Reply, SeatReply, TakeReply, CommitReply, RequestReply, DrainReply, StepReply, SliceReply, CommandReply};
 
 use crate::{
     Book, CommitOutcome, DebugFault, EngineFault, Naming, Reports, Seat, SeatFault, Slice,
@@ -13,18 +14,25 @@ use crate::{
 use std::alloc::Global;
 
 /// What a call under the lock asks of the value behind it. `Book` meets it with the whole meaning
-/// of its calls; what is said here is what a caller of the lock can know: what its own seat gains.
+/// of its calls; what is said here is what a caller of the lock can know: what its own seat gains,
+/// and that it is answered what the board answers.
 pub trait Board<L: Naming> {
+    // What it may answer. Where this may be any relation, an answer is known to be one only if the board gave it.
+    ghost answers: { Reply → Type 0 } = { λ _. Unit {0} };
+
     /// The next seat.
     fn seat(&mut self, alloc: Global) -> Result<Seat<L>, SeatFault>
+        ensures given { answers (SeatReply result) }
         ensures receipts { IfOk result (λ seat. (seat.receipts ≡ []) × (seat.share ≡ 0)) }
         ensures number { IfOk result (λ seat. (1 ≤ seat.number) × (seat.number ≤ 64)) };
 
     /// A ticket for the next running procedure, in turn.
-    fn take(&mut self, alloc: Global) -> Result<Ticket, TakeFault>;
+    fn take(&mut self, alloc: Global) -> Result<Ticket, TakeFault>
+        ensures given { answers (TakeReply result) };
 
     /// Hands in a work.
     fn commit(&mut self, seat: &mut Seat<L>, work: Work) -> CommitOutcome
+        ensures given { answers (CommitReply seat.old.number work result) }
         ensures seat { Gained seat.old seat.new (commit_entries seat.old.number work.id result) }
         ensures empty { result ≡ Empty ↔ work.count ≡ 0 }
         ensures count { (n : ℕ) → result ≡ Committed n → n ≡ work.count };
@@ -37,6 +45,7 @@ pub trait Board<L: Naming> {
         time: u32,
         octets: &[u8],
     ) -> Result<Reports, EngineFault>
+        ensures given { answers (RequestReply seat.old.number time octets.now result) }
         ensures seat { Gained seat.old seat.new
             (request_entries seat.old.number time octets.now result) };
 
@@ -47,30 +56,40 @@ pub trait Board<L: Naming> {
         seat: &mut Seat<L>,
         time: u32,
     ) -> Result<Reports, EngineFault>
+        ensures given { answers (DrainReply seat.old.number time result) }
         ensures seat { Gained seat.old seat.new
             (drain_entries seat.old.number time result) };
 
     /// Does one instruction of a procedure.
     fn step(&mut self, seat: &mut Seat<L>, id: u16) -> StepOutcome
+        ensures given { answers (StepReply seat.old.number id result) }
         ensures seat { Gained seat.old seat.new (step_entries seat.old.number id result) };
 
     /// Does instructions of a procedure.
     fn slice(&mut self, seat: &mut Seat<L>, id: u16, budget: u32) -> Slice
         requires { 1 ≤ budget }
+        ensures given { answers (SliceReply seat.old.number id budget result) }
+        ensures within { result.count ≤ budget }
         ensures seat { Gained seat.old seat.new (slice_entries seat.old.number id result) };
 
     /// Sets a breakpoint.
     fn set_break(&mut self, seat: &mut Seat<L>, id: u16, place: u16) -> Result<(), DebugFault>
+        ensures given { answers
+            (CommandReply seat.old.number id (command.SetBreak place) result) }
         ensures seat { Gained seat.old seat.new
             (command_entries seat.old.number id (command.SetBreak place) result) };
 
     /// Clears a breakpoint.
     fn clear_break(&mut self, seat: &mut Seat<L>, id: u16, place: u16) -> Result<(), DebugFault>
+        ensures given { answers
+            (CommandReply seat.old.number id (command.ClearBreak place) result) }
         ensures seat { Gained seat.old seat.new
             (command_entries seat.old.number id (command.ClearBreak place) result) };
 
     /// Sets whether instructions of a procedure are traced.
     fn trace(&mut self, seat: &mut Seat<L>, id: u16, on: bool) -> Result<(), DebugFault>
+        ensures given { answers
+            (CommandReply seat.old.number id (command.SetTrace on) result) }
         ensures seat { Gained seat.old seat.new
             (command_entries seat.old.number id (command.SetTrace on) result) };
 }
@@ -165,6 +184,7 @@ impl<L: Naming> Board<L> for Book<L> {
 
     fn slice(&mut self, seat: &mut Seat<L>, id: u16, budget: u32) -> Slice
         requires { 1 ≤ budget }
+        ensures within { result.count ≤ budget }
         ensures slice { result ≡ slice_in self.old.engine seat.old.number id budget }
         ensures journal { self.new.engine ≡
             slice_log self.old.engine seat.old.number id budget }

@@ -1,9 +1,11 @@
 //! How a shared engine is closed.
 
-ghost use Rattle.std.specs.Prelude.{◌≡◌, IfOk, IfErr};
-ghost use Rattle.ocp_slices.specs.Closed.{IsClosed};
+ghost use Rattle.std.specs.Prelude.{◌≡◌, IfOk, IfErr, drop};
+ghost use Rattle.ocp_core.specs.Marks.{marked};
+ghost use Rattle.ocp_seats.specs.Closing.{RefusesClose};
+ghost use Rattle.ocp_slices.specs.Closed.{IsClosed, RefusesShared};
 
-use crate::{CloseFault, Engine, Naming, Seat, SharedEngine};
+use crate::{Book, CloseFault, Engine, Naming, Seat, SharedEngine};
 use ocp_seats::NotClosed;
 
 /// A shared engine that was not closed, with the seats, and why.
@@ -20,16 +22,30 @@ impl<L: Naming> SharedEngine<L> {
     /// entries since the start are not just the seats' receipts; then the shared engine and the
     /// seats come back.
     pub fn close(self, seats: Vec<Seat<L>>) -> Result<Engine, StillShared<L>>
-        ensures ok { IfOk result (λ engine. IsClosed engine seats.items) }
+        ensures ok { IfOk result (λ engine. IsClosed L.log engine seats.items) }
         ensures back { IfErr result (λ fault. fault.seats ≡ seats) }
+        ensures why { IfErr result (λ fault. RefusesShared seats.items fault.why) }
     {
-        match self.into_inner().close(seats) {
-            Ok(engine) => Ok(engine),
-            Err(NotClosed { why, book, seats }) => Err(StillShared {
-                why,
-                shared: SharedEngine::over(book),
-                seats,
-            }),
-        }
+        close_book(self.into_inner(), seats)
+    }
+}
+
+/// Closes a book, or shares it further.
+#[tactic(auto, using(crate::proofs::Closing::closed_by, crate::proofs::Closing::refused_by))]
+fn close_book<L: Naming>(book: Book<L>, seats: Vec<Seat<L>>) -> Result<Engine, StillShared<L>>
+    ensures engine { IfOk result (λ engine. engine ≡ book.engine) }
+    ensures ok { IfOk result (λ engine. IsClosed L.log engine seats.items) }
+    ensures back { IfErr result (λ fault. fault.seats ≡ seats) }
+    ensures err { IfErr result (λ fault. RefusesClose book.seats
+        (drop book.start (marked book.engine)) seats.items fault.why) }
+    ensures why { IfErr result (λ fault. RefusesShared seats.items fault.why) }
+{
+    match book.close(seats) {
+        Ok(engine) => Ok(engine),
+        Err(NotClosed { why, book, seats }) => Err(StillShared {
+            why,
+            shared: SharedEngine::over(book),
+            seats,
+        }),
     }
 }

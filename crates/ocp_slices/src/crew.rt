@@ -1,10 +1,11 @@
 //! Workers: one thread for each seat, and engines that they work on.
 
-ghost use Rattle.std.specs.Prelude.{◌≡◌, ◌≤◌, ◌+◌, List, length, IfOk};
-ghost use Rattle.ocp_seats.specs.Seats.{Seated};
-ghost use Rattle.ocp_slices.specs.Closed.{IsClosed};
+ghost use Rattle.std.specs.Prelude.{◌≡◌, ◌≤◌, ◌+◌, [], All, length, IfOk};
+ghost use Rattle.ocp_slices.specs.Closed.{HasWorked};
 ghost use Rattle.ocp_slices.specs.Continuing.{AllContinue};
+ghost use Rattle.ocp_slices.specs.Instructing.{IsInstructed};
 
+use crate::laws::workers_do_instructions_of_running_procedures;
 use crate::{Board, Engine, Gate, MAX_SEATS, Naming, Seat, SeatFault, SharedEngine};
 use std::alloc::{AllocError, Global};
 use std::marker::Brand;
@@ -29,7 +30,7 @@ pub fn workers<
     turns: u32,
     gate: &G,
 )
-    ensures { AllContinue seats.old seats.new }
+    ensures { AllContinue turns budget seats.old seats.new }
 {
     let threads = seats.len();
     if threads == 0 {
@@ -44,8 +45,11 @@ pub fn workers<
 }
 
 /// Shares an engine, lets so many workers make that number of turns each with a budget of
-/// instructions, and closes it. The engine comes back with a journal whose entries since a start
-/// are, with their marks, just the receipts of the seats.
+/// instructions, and closes it. The engine comes back with its journal gone on by one history of as
+/// many seats: each further entry is instructions of one procedure by one of the workers, at least
+/// one and at most the budget, or one where the budget is 0, and no worker has more of them than
+/// turns. So its world is the world before it after a list of instruction events of running
+/// procedures.
 pub fn work<R: Threads + Wait + Sync, G: Gate + Sync>(
     rt: &R,
     alloc: Global,
@@ -56,8 +60,10 @@ pub fn work<R: Threads + Wait + Sync, G: Gate + Sync>(
     gate: &G,
 ) -> Result<Engine, WorkFault>
     requires { crew ≤ 64 }
-    ensures { IfOk result (λ engine. (seats : List Seated) × IsClosed engine seats) }
+    ensures worked { IfOk result (λ after. HasWorked engine after crew budget turns) }
+    ensures world { IfOk result (λ after. IsInstructed engine after crew) }
 {
+    workers_do_instructions_of_running_procedures();
     let _length = engine.journal().len();
     let blank = Blank::new(u64::from(MAX_SEATS) + 1);
     work_as::<Brand, R, G>(rt, alloc, engine, blank, crew, budget, turns, gate)
@@ -78,16 +84,12 @@ fn work_as<L: Naming + Send + Sync, R: Threads + Wait + Sync, G: Gate + Sync>(
     requires parts { blank.parts ≡ L.parts }
     requires seats { blank.parts ≡ 65 }
     requires room { L.room + length engine.entries ≡ engine.capacity }
+    requires log { L.log ≡ engine }
     requires crew { crew ≤ 64 }
-    ensures { IfOk result (λ engine. (seats : List Seated) × IsClosed engine seats) }
+    ensures { IfOk result (λ after. HasWorked engine after crew budget turns) }
 {
     let shared = SharedEngine::<L>::new(engine, blank);
-    let mut seats = Vec::with_capacity(alloc, usize::from(crew))?;
-    for _seat in 0..crew {
-        seats
-            .push(shared.seat(rt, alloc)?)
-            .map_err(AllocError::from)?;
-    }
+    let mut seats = seats_of(rt, alloc, &shared, crew)?;
     workers(
         rt,
         alloc,
@@ -101,6 +103,26 @@ fn work_as<L: Naming + Send + Sync, R: Threads + Wait + Sync, G: Gate + Sync>(
         Ok(engine) => Ok(engine),
         Err(_fault) => Err(WorkFault::NotClosed),
     }
+}
+
+/// So many seats, with no receipts.
+#[tactic(auto, using(crate::proofs::Working::fresh_none, crate::proofs::Working::fresh_more))]
+fn seats_of<L: Naming, B: Board<L>, R: Wait>(
+    rt: &R,
+    alloc: Global,
+    shared: &SharedEngine<L, B>,
+    crew: u16,
+) -> Result<Vec<Seat<L>>, WorkFault>
+    ensures count { IfOk result (λ seats. length seats.items ≡ crew) }
+    ensures fresh { IfOk result (λ seats. All (λ seat. seat.receipts ≡ []) seats.items) }
+{
+    let mut seats = Vec::with_capacity(alloc, usize::from(crew))?;
+    for _seat in 0..crew {
+        seats
+            .push(shared.seat(rt, alloc)?)
+            .map_err(AllocError::from)?;
+    }
+    Ok(seats)
 }
 
 /// Why an engine does not come back.

@@ -5,6 +5,7 @@
 mod board;
 mod close;
 mod crew;
+pub mod laws;
 mod shared;
 mod turn;
 

@@ -5,6 +5,7 @@ ghost use Rattle.ocp_debug.specs.declared.command.Command.TheVariants as command
 ghost use Rattle.ocp_core.specs.declared.answers.CommitOutcome.TheVariants.{Empty, Committed};
 ghost use Rattle.ocp_seats.specs.Receipts.{step_entries, slice_entries, commit_entries, request_entries, drain_entries, command_entries};
 ghost use Rattle.ocp_seats.specs.Seats.{Gained};
+ghost use Rattle.ocp_slices.specs.Replies.{SeatReply, TakeReply, CommitReply, RequestReply, DrainReply, StepReply, SliceReply, CommandReply};
 
 use crate::{
     Board, Book, CommitOutcome, DebugFault, Engine, EngineFault, Naming, Reports, Seat, SeatFault,
@@ -27,12 +28,13 @@ pub struct SharedEngine<L: Naming, B: Board<L> = Book<L>> {
 
 impl<L: Naming> SharedEngine<L> {
     /// The book of an engine behind a lock, with the blank of a ledger of 65 parts. Its name has
-    /// the engine's room.
+    /// the engine's room and its journal.
     pub fn new(engine: Engine, blank: Blank) -> Self
         requires name { blank.name ≡ L.name }
         requires parts { blank.parts ≡ L.parts }
         requires seats { blank.parts ≡ 65 }
         requires room { L.room + length engine.entries ≡ engine.capacity }
+        requires log { L.log ≡ engine }
     {
         SharedEngine::over(Book::new(engine, blank))
     }
@@ -57,6 +59,7 @@ impl<L: Naming, B: Board<L>> SharedEngine<L, B> {
     /// are handed out, and where there is no memory for the receipts of all entries that the engine
     /// has room for.
     pub fn seat<R: Wait>(&self, rt: &R, alloc: Global) -> Result<Seat<L>, SeatFault>
+        ensures given { B.answers (SeatReply result) }
         ensures receipts { IfOk result (λ seat. (seat.receipts ≡ []) × (seat.share ≡ 0)) }
         ensures number { IfOk result (λ seat. (1 ≤ seat.number) × (seat.number ≤ 64)) }
     {
@@ -66,7 +69,9 @@ impl<L: Naming, B: Board<L>> SharedEngine<L, B> {
     /// A ticket for the running procedure with the least id above the one taken last by any seat,
     /// else with the least id. Refused, in this order, where none runs, and where there is no
     /// memory for the two copies of its machine.
-    pub fn take<R: Wait>(&self, rt: &R, alloc: Global) -> Result<Ticket, TakeFault> {
+    pub fn take<R: Wait>(&self, rt: &R, alloc: Global) -> Result<Ticket, TakeFault>
+        ensures given { B.answers (TakeReply result) }
+    {
         self.board.lock(rt).take(alloc)
     }
 
@@ -74,6 +79,7 @@ impl<L: Naming, B: Board<L>> SharedEngine<L, B> {
     /// where the procedure is not what the work began with, and where the journal is full; the work
     /// is dropped then.
     pub fn commit<R: Wait>(&self, rt: &R, seat: &mut Seat<L>, work: Work) -> CommitOutcome
+        ensures given { B.answers (CommitReply seat.old.number work result) }
         ensures seat { Gained seat.old seat.new (commit_entries seat.old.number work.id result) }
         ensures empty { result ≡ Empty ↔ work.count ≡ 0 }
         ensures count { (n : ℕ) → result ≡ Committed n → n ≡ work.count }
@@ -91,6 +97,7 @@ impl<L: Naming, B: Board<L>> SharedEngine<L, B> {
         time: u32,
         octets: &[u8],
     ) -> Result<Reports, EngineFault>
+        ensures given { B.answers (RequestReply seat.old.number time octets.now result) }
         ensures seat { Gained seat.old seat.new
             (request_entries seat.old.number time octets.now result) }
     {
@@ -107,6 +114,7 @@ impl<L: Naming, B: Board<L>> SharedEngine<L, B> {
         seat: &mut Seat<L>,
         time: u32,
     ) -> Result<Reports, EngineFault>
+        ensures given { B.answers (DrainReply seat.old.number time result) }
         ensures seat { Gained seat.old seat.new
             (drain_entries seat.old.number time result) }
     {
@@ -115,14 +123,18 @@ impl<L: Naming, B: Board<L>> SharedEngine<L, B> {
 
     /// Does one instruction of a procedure, as the engine's call with the seat's number.
     pub fn step<R: Wait>(&self, rt: &R, seat: &mut Seat<L>, id: u16) -> StepOutcome
+        ensures given { B.answers (StepReply seat.old.number id result) }
         ensures seat { Gained seat.old seat.new (step_entries seat.old.number id result) }
     {
         self.board.lock(rt).step(seat, id)
     }
 
-    /// Does instructions of one procedure, as the engine's call with the seat's number.
+    /// Does instructions of one procedure, at most so many, as the engine's call with the seat's
+    /// number.
     pub fn slice<R: Wait>(&self, rt: &R, seat: &mut Seat<L>, id: u16, budget: u32) -> Slice
         requires { 1 ≤ budget }
+        ensures given { B.answers (SliceReply seat.old.number id budget result) }
+        ensures within { result.count ≤ budget }
         ensures seat { Gained seat.old seat.new (slice_entries seat.old.number id result) }
     {
         self.board.lock(rt).slice(seat, id, budget)
@@ -136,6 +148,8 @@ impl<L: Naming, B: Board<L>> SharedEngine<L, B> {
         id: u16,
         place: u16,
     ) -> Result<(), DebugFault>
+        ensures given { B.answers
+            (CommandReply seat.old.number id (command.SetBreak place) result) }
         ensures seat { Gained seat.old seat.new
             (command_entries seat.old.number id (command.SetBreak place) result) }
     {
@@ -150,6 +164,8 @@ impl<L: Naming, B: Board<L>> SharedEngine<L, B> {
         id: u16,
         place: u16,
     ) -> Result<(), DebugFault>
+        ensures given { B.answers
+            (CommandReply seat.old.number id (command.ClearBreak place) result) }
         ensures seat { Gained seat.old seat.new
             (command_entries seat.old.number id (command.ClearBreak place) result) }
     {
@@ -165,6 +181,8 @@ impl<L: Naming, B: Board<L>> SharedEngine<L, B> {
         id: u16,
         on: bool,
     ) -> Result<(), DebugFault>
+        ensures given { B.answers
+            (CommandReply seat.old.number id (command.SetTrace on) result) }
         ensures seat { Gained seat.old seat.new
             (command_entries seat.old.number id (command.SetTrace on) result) }
     {

@@ -1,9 +1,14 @@
 //! Turns: take a procedure, run it off the lock, and put its work back.
 
+ghost use Rattle.std.specs.Prelude.{◌≡◌, ◌≤◌};
+ghost use Rattle.ocp_table.specs.Snapshots.{count_of};
+ghost use Rattle.ocp_core.specs.Tickets.{IsRun};
 ghost use Rattle.ocp_slices.specs.Continuing.{Continues};
 ghost use Rattle.ocp_slices.specs.Turns.{Turned};
 
-use crate::{Board, CommitOutcome, Naming, Seat, SharedEngine, StepOutcome, TakeFault};
+use crate::{
+    Board, CommitOutcome, Naming, Seat, SharedEngine, StepOutcome, TakeFault, Ticket, Work,
+};
 use std::alloc::Global;
 use std::sync::Wait;
 
@@ -44,10 +49,23 @@ pub enum Turn {
     NoMemory,
 }
 
+/// What a ticket does off the lock: at most so many instructions.
+#[tactic(auto, using(crate::proofs::Outcomes::count_within))]
+fn run_within(ticket: Ticket, budget: u32) -> Work
+    ensures id { result.id ≡ ticket.id }
+    ensures base { result.base ≡ ticket.base }
+    ensures count { result.count ≡ count_of ticket.base budget }
+    ensures ran { IsRun result }
+    ensures within { result.count ≤ budget }
+{
+    ticket.run(budget)
+}
+
 impl<L: Naming, B: Board<L>> SharedEngine<L, B> {
     /// Takes the next running procedure, runs it off the lock for at most so many instructions, and
     /// commits what it did. Where it could do none by itself, one instruction of it is done under
-    /// the lock. No lock is held while the procedure runs or the gate is called.
+    /// the lock. It answers what the board answered. No lock is held while the procedure runs or
+    /// the gate is called.
     pub fn turn<R: Wait, G: Gate>(
         &self,
         rt: &R,
@@ -56,14 +74,14 @@ impl<L: Naming, B: Board<L>> SharedEngine<L, B> {
         budget: u32,
         gate: &G,
     ) -> Turn
-        ensures { Turned seat.old seat.new result }
+        ensures turned { Turned B.answers budget seat.old seat.new result }
     {
         let ticket = match self.take(rt, alloc) {
             Ok(ticket) => ticket,
             Err(TakeFault::NoneRunning) => return Turn::Idle,
             Err(TakeFault::Memory) => return Turn::NoMemory,
         };
-        let work = ticket.run(budget);
+        let work = run_within(ticket, budget);
         let number = seat.number();
         let id = work.id();
         gate.before(number, id, work.count());
@@ -81,7 +99,7 @@ impl<L: Naming, B: Board<L>> SharedEngine<L, B> {
     }
 
     /// That many turns, one after the other.
-    #[tactic(auto, using(crate::proofs::Continuing::continues_unchanged, crate::proofs::Continuing::continues_further))]
+    #[tactic(auto, using(crate::proofs::Continuing::continues_unchanged, crate::proofs::Continuing::continues_by_turn, crate::proofs::Continuing::continues_at_end))]
     pub fn turns<R: Wait, G: Gate>(
         &self,
         rt: &R,
@@ -91,7 +109,7 @@ impl<L: Naming, B: Board<L>> SharedEngine<L, B> {
         turns: u32,
         gate: &G,
     )
-        ensures { Continues seat.old seat.new }
+        ensures { Continues turns budget seat.old seat.new }
     {
         for _turn in 0..turns {
             self.turn(rt, alloc, seat, budget, gate);

@@ -177,8 +177,7 @@ remaining_by change remaining = remaining
 -- ---- records after an effect
 
 abbrev pub record_by : Change → Rec → Rec
-record_by change r = record {
-  image = r.image;
+record_by change r = record r {
   machine = machine_by change r.image r.machine;
   mailbox = mailbox_by change r.mailbox;
   control = control_by change r.control;
@@ -283,26 +282,10 @@ outbox_by effect m outbox = outbox ++ filed_by effect m
 -- ---- what is set apart from requests
 
 abbrev pub with_breakpoints : List ℕ → Rec → Rec
-with_breakpoints breakpoints r = record {
-  image = r.image;
-  machine = r.machine;
-  mailbox = r.mailbox;
-  control = r.control;
-  breakpoints = breakpoints;
-  traced = r.traced;
-  remaining = r.remaining;
-}
+with_breakpoints breakpoints r = record r { breakpoints = breakpoints }
 
 abbrev pub with_traced : Bool → Rec → Rec
-with_traced traced r = record {
-  image = r.image;
-  machine = r.machine;
-  mailbox = r.mailbox;
-  control = r.control;
-  breakpoints = r.breakpoints;
-  traced = traced;
-  remaining = r.remaining;
-}
+with_traced traced r = record r { traced = traced }
 
 -- the records with what is set in the record of a procedure that is loaded
 abbrev pub records_with : Option Rec → ℕ → (Rec → Rec) → Records → Records

@@ -117,13 +117,9 @@ control_after (suc n) c = passed c
 
 -- a record after so many of them, which left the machine so: they are taken from the budget
 abbrev pub with_machine : ℕ → State → Rec → Rec
-with_machine n machine r = record {
-  image = r.image;
+with_machine n machine r = record r {
   machine = machine;
-  mailbox = r.mailbox;
   control = control_after n r.control;
-  breakpoints = r.breakpoints;
-  traced = r.traced;
   remaining = less n r.remaining;
 }
 

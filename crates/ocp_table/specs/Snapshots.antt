@@ -55,13 +55,9 @@ count_of s n = count_by s.traced s (within s.remaining n)
 -- another machine that did so many instructions is put back: the pass flag goes off, and they are
 -- taken from the budget
 abbrev pub settled : ℕ → State → Rec → Rec
-settled count machine r = record {
-  image = r.image;
+settled count machine r = record r {
   machine = machine;
-  mailbox = r.mailbox;
   control = passed r.control;
-  breakpoints = r.breakpoints;
-  traced = r.traced;
   remaining = less count r.remaining;
 }
 

@@ -1,5 +1,5 @@
-//! Tests of public calls of the pool, of the engine and of the command line's words that no script
-//! of the program reaches. The crate has no code of its own.
+//! Tests of public calls of the pool, of the table, of the engine and of the command line's words
+//! that no script of the program reaches. The crate has no code of its own.
 #![tactic(auto)]
 
 #[cfg(test)]
@@ -12,6 +12,8 @@ mod harness;
 mod pool;
 #[cfg(test)]
 mod replays;
+#[cfg(test)]
+mod table;
 #[cfg(test)]
 mod ticket;
 #[cfg(test)]

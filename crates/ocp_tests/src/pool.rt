@@ -1,7 +1,7 @@
 //! Pool, mailbox and engine calls by themselves. Wanted values are those of the table of engine
 //! calls.
 use bpf_step::Machine;
-use ocp_pool::{Mailbox, Pool, engine_call};
+use ocp_pool::{Called, Mailbox, Pool, PoolOperation, engine_call};
 use ocp_profile::Profile;
 use std::test::Fail;
 
@@ -56,6 +56,73 @@ fn calls_answer_as_their_table_says(rt: HostRuntime) -> Result<(), Fail> {
     for (number, r1, wanted) in CALLS {
         let answer = answer_of(number, r1, &mut machine, &mut pool, &mut mailbox);
         assert!(rt; answer == wanted);
+    }
+    assert!(rt; word_at(&pool, 0) == Some(0) && word_at(&pool, 1) == Some(6));
+    assert!(rt; word_at(&pool, 2).is_none());
+    Ok(())
+}
+
+/// The word at an index, where there is one.
+fn word_at(pool: &Pool, index: usize) -> Option<u64> {
+    if index >= pool.words() {
+        return None;
+    }
+    Some(pool.word(index))
+}
+
+/// Engine calls, and what they did to the pool: the number of the call, the index and the values.
+const OPERATIONS: [(Called, Option<(u8, u64, u64, u64)>); 6] = [
+    (Called::PoolGet { index: 1, word: 5 }, None),
+    (
+        Called::PoolSet {
+            index: 2,
+            value: 7,
+            old: 9,
+        },
+        Some((2, 2, 7, 0)),
+    ),
+    (
+        Called::PoolAdd {
+            index: 3,
+            value: 4,
+            new: 11,
+        },
+        Some((3, 3, 4, 0)),
+    ),
+    (Called::NextParam(Some(5)), None),
+    (Called::StepEnd(3), None),
+    (
+        Called::PoolCompareSet {
+            index: 1,
+            expected: 8,
+            value: 9,
+            old: 6,
+        },
+        Some((6, 1, 8, 9)),
+    ),
+];
+
+/// The number of the call that does such an operation, its index and its values.
+fn told(operation: PoolOperation) -> (u8, u64, u64, u64) {
+    match operation {
+        PoolOperation::Set { index, value } => (2, index, value, 0),
+        PoolOperation::Add { index, value } => (3, index, value, 0),
+        PoolOperation::CompareSet {
+            index,
+            expected,
+            value,
+        } => (6, index, expected, value),
+    }
+}
+
+#[test]
+fn operations_are_those_of_calls_2_3_and_6(rt: HostRuntime) -> Result<(), Fail> {
+    for (called, wanted) in OPERATIONS {
+        let operation = match called.operation() {
+            Some(operation) => Some(told(operation)),
+            None => None,
+        };
+        assert!(rt; operation == wanted);
     }
     Ok(())
 }

@@ -60,9 +60,7 @@ events_by (Commands (Err fault)) n = n
 events_by Undue n = n
 
 abbrev pub world_after : Effect → World → World
-world_after effect w = record {
-  profile = w.profile;
-  apid = w.apid;
+world_after effect w = record w {
   records = records_by effect.on_records w.records;
   outbox = outbox_by effect.on_records w.records w.outbox;
   pool = pool_by effect.on_records w.pool;

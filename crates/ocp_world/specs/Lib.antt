@@ -5,6 +5,7 @@ pub mod Instructions
 pub mod Drains
 pub mod After
 pub mod Answers
+pub mod Loading
 pub mod Replay
 pub mod Slice
 pub mod NextRunning

@@ -13,15 +13,9 @@ use Rattle.ocp_world.specs.World.{World}
 -- the world in which this machine is put back into a procedure after so many instructions, each an
 -- accepted event that takes one from its budget, and its pass flag is off
 abbrev pub world_settled : ℕ → State → ℕ → World → World
-world_settled id machine count w = record {
-  profile = w.profile;
-  apid = w.apid;
+world_settled id machine count w = record w {
   records = records_with (get w.records id) id (settled count machine) w.records;
-  outbox = w.outbox;
-  pool = w.pool;
   events = w.events + count;
-  reports = w.reports;
-  traces = w.traces;
 }
 
 -- the procedure under this id runs and is not traced, and its machine does so many instructions by

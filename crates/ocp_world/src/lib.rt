@@ -5,6 +5,7 @@
 mod answers;
 mod convert;
 mod drain;
+mod heap;
 pub mod laws;
 mod machine;
 mod settle;
@@ -14,6 +15,7 @@ mod turns;
 
 pub use answers::EngineFault;
 pub use convert::discard_of;
+pub use heap::Heap;
 pub use ocp_debug::{Command, DebugFault};
 pub use ocp_table::{Slice, StepOutcome};
 pub use settle::instructions_done_alone_are_events;

@@ -1,6 +1,6 @@
 //! What the engine keeps of its world.
 
-ghost use Rattle.std.specs.Prelude.{◌≡◌, ◌≤◌, ◌<◌, ℕ, List, [], ◌∷◌, ◌++◌, false, length, vec_capacity, None, Ok, Err, IfOk, OnOk, OnErr, slice_get};
+ghost use Rattle.std.specs.Prelude.{◌≡◌, ◌≤◌, ◌<◌, ℕ, List, [], ◌∷◌, ◌++◌, true, false, length, vec_capacity, None, Ok, Err, IfOk, OnOk, OnErr, slice_get};
 ghost use Rattle.std.specs.List.{flat_map};
 ghost use Rattle.std.specs.Option.{option_to_list};
 ghost use Rattle.std.specs.FinMap.{get};
@@ -14,12 +14,14 @@ ghost use Rattle.ocp_debug.specs.Traces.{kept};
 ghost use Rattle.ocp_debug.specs.Texts.{trace_line};
 ghost use Rattle.ocp_reports.specs.Reports.{reports_of};
 ghost use Rattle.ocp_world.specs.World.{World, opening, Step, Debug, Request as Asked};
+ghost use Rattle.ocp_world.specs.declared.answers.EngineFault.TheVariants as engine;
 ghost use Rattle.ocp_world.specs.Effect.{Sends};
 ghost use Rattle.ocp_world.specs.Requests.{refusal_effect, start_effect, directive_effect, command_effect, request_effect, status_report, outcome_by, has_no_place};
 ghost use Rattle.ocp_world.specs.After.{Stepped, Commanded, after, effect_of};
+ghost use Rattle.ocp_world.specs.Loading.{FindsPlace, IsLoadInto, TakesRecord};
 
-use crate::EngineFault;
 use crate::convert::{command_of, pending_origin, status_report};
+use crate::{EngineFault, Heap};
 use obcp_messages::{Report, Request};
 use obcp_types::{AcceptanceFailure, StartFailure};
 use ocp_debug::{Command, DebugFault, TraceRing};
@@ -150,7 +152,7 @@ impl<A: Allocator> State<A> {
     // Sends the reports of a request that changes no procedure.
     fn reply(
         &mut self,
-        alloc: A,
+        heap: &mut Heap<A>,
         origin: Origin,
         outcome: Outcome,
         answer: &Option<Report>,
@@ -164,12 +166,13 @@ impl<A: Allocator> State<A> {
         ensures table { self.new.table ≡ self.old.table }
         ensures pool { self.new.pool ≡ self.old.pool }
         ensures ring { self.new.ring ≡ self.old.ring }
+        ensures memory { result ≡ Err engine.Memory → heap.new ≡ true }
     {
         let sender = Sender {
             apid: self.apid,
             count: self.count,
         };
-        let reports = sender.copied_reports(alloc, origin, outcome, answer)?;
+        let reports = heap.copied_reports(sender, origin, outcome, answer)?;
         self.count = count_after(self.count, reports.len());
         Ok(reports)
     }
@@ -177,78 +180,88 @@ impl<A: Allocator> State<A> {
     // Sends the report of a failed acceptance.
     fn refuse(
         &mut self,
-        alloc: A,
+        heap: &mut Heap<A>,
         origin: Origin,
         failure: AcceptanceFailure,
     ) -> Result<CopiedReports<A>, EngineFault>
     where
         A: Copy,
-        ensures { Does self.old self.new result (λ w. refusal_effect origin failure) }
+        ensures does { Does self.old self.new result (λ w. refusal_effect origin failure) }
+        ensures memory { result ≡ Err engine.Memory → heap.new ≡ true }
     {
-        self.reply(alloc, origin, Outcome::Refused(failure), &None)
+        self.reply(heap, origin, Outcome::Refused(failure), &None)
     }
 
     // Sends the reports of a failed start.
     fn fail(
         &mut self,
-        alloc: A,
+        heap: &mut Heap<A>,
         origin: Origin,
         failure: StartFailure,
     ) -> Result<CopiedReports<A>, EngineFault>
     where
         A: Copy,
-        ensures { Does self.old self.new result
+        ensures does { Does self.old self.new result
             (λ w. start_effect origin [] (Kept (Failed failure))) }
+        ensures memory { result ≡ Err engine.Memory → heap.new ≡ true }
     {
-        self.reply(alloc, origin, Outcome::NotStarted(failure), &None)
+        self.reply(heap, origin, Outcome::NotStarted(failure), &None)
     }
 
     // Loads a procedure.
     fn load(
         &mut self,
-        alloc: A,
+        heap: &mut Heap<A>,
         origin: Origin,
         id: u16,
         code: &[u8],
     ) -> Result<CopiedReports<A>, EngineFault>
     where
         A: Copy,
-        ensures { Does self.old self.new result
+        ensures does { Does self.old self.new result
             (λ w. directive_effect origin (directive.Load w.profile code.now) id w.records) }
+        ensures memory { result ≡ Err engine.Memory → heap.new ≡ false →
+            FindsPlace self.old.table.records id code.now }
     {
-        match self.table.check_load(alloc, id, code) {
+        match self.table.check_load(heap.alloc(), id, code) {
             Ok(loading) => {
-                let reports = self.reply(alloc, origin, Outcome::Done, &None)?;
+                let reports = self.reply(heap, origin, Outcome::Done, &None)?;
                 self.table.insert(loading);
                 Ok(reports)
             }
-            Err(LoadFailure::Failed(failure)) => self.fail(alloc, origin, failure),
+            Err(LoadFailure::Failed(failure)) => self.fail(heap, origin, failure),
             Err(LoadFailure::Memory) => Err(EngineFault::Memory),
         }
     }
 
     // Unloads a procedure.
     #[tactic(auto, using(crate::proofs::Calm::unload_leaves_pool))]
-    fn unload(&mut self, alloc: A, origin: Origin, id: u16) -> Result<CopiedReports<A>, EngineFault>
+    fn unload(
+        &mut self,
+        heap: &mut Heap<A>,
+        origin: Origin,
+        id: u16,
+    ) -> Result<CopiedReports<A>, EngineFault>
     where
         A: Copy,
-        ensures { Does self.old self.new result
+        ensures does { Does self.old self.new result
             (λ w. directive_effect origin directive.Unload id w.records) }
+        ensures memory { result ≡ Err engine.Memory → heap.new ≡ true }
     {
         match self.table.check_unload(id) {
             Ok(()) => {
-                let reports = self.reply(alloc, origin, Outcome::Done, &None)?;
+                let reports = self.reply(heap, origin, Outcome::Done, &None)?;
                 self.table.remove(id);
                 Ok(reports)
             }
-            Err(failure) => self.fail(alloc, origin, failure),
+            Err(failure) => self.fail(heap, origin, failure),
         }
     }
 
     // Does what a request asks of a loaded procedure.
     fn direct(
         &mut self,
-        alloc: A,
+        heap: &mut Heap<A>,
         origin: Origin,
         id: u16,
         directive: Directive<'_>,
@@ -256,97 +269,109 @@ impl<A: Allocator> State<A> {
     where
         A: Copy,
         requires { HasFewArguments (directive_of directive false) }
-        ensures { Does self.old self.new result
+        ensures does { Does self.old self.new result
             (λ w. directive_effect origin (directive_of directive.entry (has_no_place w)) id
             w.records) }
+        ensures memory { result ≡ Err engine.Memory → heap.new ≡ true }
     {
         match self.table.decide(id, directive) {
             Ok(change) => {
-                let reports = self.reply(alloc, origin, outcome_of(change), &None)?;
+                let reports = self.reply(heap, origin, outcome_of(change), &None)?;
                 self.table.enact(id, change);
                 Ok(reports)
             }
-            Err(failure) => self.fail(alloc, origin, failure),
+            Err(failure) => self.fail(heap, origin, failure),
         }
     }
 
     // Reports the status of all procedures.
-    fn report_status(&mut self, alloc: A, origin: Origin) -> Result<CopiedReports<A>, EngineFault>
+    fn report_status(
+        &mut self,
+        heap: &mut Heap<A>,
+        origin: Origin,
+    ) -> Result<CopiedReports<A>, EngineFault>
     where
         A: Copy,
-        ensures { Does self.old self.new result
+        ensures does { Does self.old self.new result
             (λ w. start_effect origin (status_report w.records ∷ []) (Kept Unasked)) }
+        ensures memory { result ≡ Err engine.Memory → heap.new ≡ true }
     {
         let report = status_report(&self.table);
-        self.reply(alloc, origin, Outcome::Done, &Some(report))
+        self.reply(heap, origin, Outcome::Done, &Some(report))
     }
 
     // Serves a request, with the number of its event.
     fn serve(
         &mut self,
-        alloc: A,
+        heap: &mut Heap<A>,
         event: u64,
         origin: Origin,
         request: Request<'_>,
     ) -> Result<CopiedReports<A>, EngineFault>
     where
         A: Copy,
-        ensures { (w : World) → IsWorld w self.old → event ≡ w.events →
+        ensures does { (w : World) → IsWorld w self.old → event ≡ w.events →
             DoesIn w (command_effect request.entry origin w) result self.new }
+        ensures memory { result ≡ Err engine.Memory → heap.new ≡ false →
+            IsLoadInto self.old.table.records request.entry }
     {
         match request {
-            Request::Load { id, code } => self.load(alloc, origin, id, code.octets()),
-            Request::Unload { id } => self.unload(alloc, origin, id),
+            Request::Load { id, code } => self.load(heap, origin, id, code.octets()),
+            Request::Unload { id } => self.unload(heap, origin, id),
             Request::Activate {
                 id,
                 budget,
                 arguments,
             } => {
                 let arguments = arguments.octets();
-                self.direct(alloc, origin, id, Directive::Activate { budget, arguments })
+                self.direct(heap, origin, id, Directive::Activate { budget, arguments })
             }
             Request::Stop { id, step } => {
                 let from = pending_origin(origin, event);
-                self.direct(alloc, origin, id, Directive::Stop(step, from))
+                self.direct(heap, origin, id, Directive::Stop(step, from))
             }
             Request::Suspend { id, step } => {
                 let from = pending_origin(origin, event);
-                self.direct(alloc, origin, id, Directive::Suspend(step, from))
+                self.direct(heap, origin, id, Directive::Suspend(step, from))
             }
-            Request::Resume { id } => self.direct(alloc, origin, id, Directive::Resume),
+            Request::Resume { id } => self.direct(heap, origin, id, Directive::Resume),
             Request::Communicate { id, words } => {
-                self.direct(alloc, origin, id, Directive::Communicate(words.as_slice()))
+                self.direct(heap, origin, id, Directive::Communicate(words.as_slice()))
             }
-            Request::Status => self.report_status(alloc, origin),
-            Request::Abort { id } => self.direct(alloc, origin, id, Directive::Abort),
+            Request::Status => self.report_status(heap, origin),
+            Request::Abort { id } => self.direct(heap, origin, id, Directive::Abort),
         }
     }
 
     /// Does what a telecommand asks for, as it was read at this time, and sends its reports. The
-    /// event has this number: so many were accepted before it.
+    /// event has this number: so many were accepted before it. Where its reports found memory,
+    /// Memory is answered only for a load under an id that is free, in a table with room, of 1 to
+    /// 2,048 whole slots.
     pub fn receive(
         &mut self,
-        alloc: A,
+        heap: &mut Heap<A>,
         event: u64,
         time: u32,
         read: Result<Tc<'_>, TcFault>,
     ) -> Result<CopiedReports<A>, EngineFault>
     where
         A: Copy,
-        ensures { (w : World) (by : ℕ) (octets : List ℕ) →
+        ensures does { (w : World) (by : ℕ) (octets : List ℕ) →
             IsWorld w self.old → event ≡ w.events → read.entry ≡ telecommand_of w.apid octets →
             DoesIn w (effect_of w (Asked by time octets)) result self.new }
+        ensures memory { result ≡ Err engine.Memory → heap.new ≡ false →
+            TakesRecord self.old.table.profile self.old.table.records read.entry }
     {
         match read {
             Ok(telecommand) => {
                 let origin = Origin::of_telecommand(&telecommand, time);
                 match command_of(self.table.profile(), &telecommand) {
-                    Ok(request) => self.serve(alloc, event, origin, request),
-                    Err(fault) => self.refuse(alloc, origin, AcceptanceFailure::Request(fault)),
+                    Ok(request) => self.serve(heap, event, origin, request),
+                    Err(fault) => self.refuse(heap, origin, AcceptanceFailure::Request(fault)),
                 }
             }
             Err(TcFault::Rejected(rejection, request)) => self.refuse(
-                alloc,
+                heap,
                 Origin::of_packet(request, time),
                 AcceptanceFailure::Packet(rejection),
             ),

@@ -65,6 +65,7 @@ fn by_two<L: Naming, R: Wait + Abort>(
     requires parts { blank.parts ≡ L.parts }
     requires seats { blank.parts ≡ 65 }
     requires room { L.room + length engine.entries ≡ engine.capacity }
+    requires log { L.log ≡ engine }
 {
     let shared = SharedEngine::<L>::new(engine, blank);
     let mut one = shared.seat(rt, alloc)?;
@@ -137,6 +138,7 @@ fn in_full<L: Naming, R: Wait + Abort>(
     requires parts { blank.parts ≡ L.parts }
     requires seats { blank.parts ≡ 65 }
     requires room { L.room + length engine.entries ≡ engine.capacity }
+    requires log { L.log ≡ engine }
 {
     let shared = SharedEngine::<L>::new(engine, blank);
     let mut seat = shared.seat(rt, alloc)?;

@@ -116,7 +116,23 @@ pub(crate) fn is_taken<L: Naming, R: Wait>(
     shared.request(rt, alloc, seat, 0, octets).is_ok()
 }
 
-// The engine that one or two seats shared: it is closed with them, and not before.
+// What is still shared where seats are missing: closed with these alone it comes back, even where the others have receipts,
+// so that a missing seat comes before a mismatch.
+fn misses<L: Naming, R: Abort>(
+    rt: &R,
+    shared: SharedEngine<L>,
+    seats: Vec<Seat<L>>,
+) -> Result<(SharedEngine<L>, Vec<Seat<L>>), Fail> {
+    match shared.close(seats) {
+        Ok(_engine) => Err(Fail::new("closed without a seat")),
+        Err(StillShared { why, shared, seats }) => {
+            assert_eq!(rt; why, CloseFault::MissingSeat);
+            Ok((shared, seats))
+        }
+    }
+}
+
+// The engine that one or two seats shared: it is closed with them, and neither without any nor with the second alone.
 pub(crate) fn closes<L: Naming, R: Abort>(
     rt: &R,
     alloc: Global,
@@ -124,17 +140,10 @@ pub(crate) fn closes<L: Naming, R: Abort>(
     one: Seat<L>,
     two: Option<Seat<L>>,
 ) -> Result<Engine, Fail> {
-    let Err(refused) = shared.close(Vec::new(alloc)) else {
-        return Err(Fail::new("closed with no seat"));
-    };
-    let StillShared {
-        why,
-        shared,
-        mut seats,
-    } = refused;
-    assert_eq!(rt; why, CloseFault::MissingSeat);
+    let (mut shared, mut seats) = misses(rt, shared, Vec::new(alloc))?;
     if let Some(two) = two {
         seats.push(two).map_err(AllocError::from)?;
+        (shared, seats) = misses(rt, shared, seats)?;
     }
     seats.push(one).map_err(AllocError::from)?;
     match shared.close(seats) {

@@ -53,6 +53,7 @@ fn after_an_abort<L: Naming, R: Wait + Abort>(
     requires parts { blank.parts ≡ L.parts }
     requires seats { blank.parts ≡ 65 }
     requires room { L.room + length engine.entries ≡ engine.capacity }
+    requires log { L.log ≡ engine }
 {
     let shared = SharedEngine::<L>::new(engine, blank);
     let mut seat = shared.seat(rt, alloc)?;
@@ -101,6 +102,7 @@ fn in_full<L: Naming, R: Wait + Abort>(
     requires parts { blank.parts ≡ L.parts }
     requires seats { blank.parts ≡ 65 }
     requires room { L.room + length engine.entries ≡ engine.capacity }
+    requires log { L.log ≡ engine }
 {
     let shared = SharedEngine::<L>::new(engine, blank);
     let mut seat = shared.seat(rt, alloc)?;
@@ -144,6 +146,7 @@ fn hand_out<L: Naming, R: Wait + Abort>(
     requires parts { blank.parts ≡ L.parts }
     requires seats { blank.parts ≡ 65 }
     requires room { L.room + length engine.entries ≡ engine.capacity }
+    requires log { L.log ≡ engine }
 {
     let shared = SharedEngine::<L>::new(engine, blank);
     take_three(rt, alloc, &shared)?;
@@ -208,6 +211,7 @@ fn while_idle<L: Naming, R: Wait + Abort>(
     requires parts { blank.parts ≡ L.parts }
     requires seats { blank.parts ≡ 65 }
     requires room { L.room + length engine.entries ≡ engine.capacity }
+    requires log { L.log ≡ engine }
 {
     let shared = SharedEngine::<L>::new(engine, blank);
     let mut seat = shared.seat(rt, alloc)?;
@@ -249,6 +253,7 @@ fn within<L: Naming, R: Wait + Abort>(
     requires parts { blank.parts ≡ L.parts }
     requires seats { blank.parts ≡ 65 }
     requires room { L.room + length engine.entries ≡ engine.capacity }
+    requires log { L.log ≡ engine }
 {
     let shared = SharedEngine::<L>::new(engine, blank);
     let mut seat = shared.seat(rt, alloc)?;

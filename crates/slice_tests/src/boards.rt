@@ -1,29 +1,59 @@
-//! Another board behind the lock: what a call under the lock answers is the board's own.
+//! Another board behind the lock: what a call under the lock answers is the board's own, and what a
+//! turn answers and tells its gate stands on it.
 
 ghost use Rattle.std.specs.Prelude.{◌≡◌, ◌+◌, length};
 
 use crate::packets::{STATUS, takes_loops};
 use ocp_profile::Profile;
 use ocp_slices::{
-    Board, Book, CommitOutcome, DebugFault, Engine, EngineFault, Naming, Reports, Seat, SeatFault,
-    SharedEngine, Slice, StepOutcome, TakeFault, Ticket, Work,
+    Board, Book, CommitOutcome, DebugFault, Engine, EngineFault, Entry, Gate, Naming, Reports,
+    Seat, SeatFault, SharedEngine, Slice, StepOutcome, TakeFault, Ticket, Turn, Work,
 };
 use std::alloc::Global;
+use std::cell::Cell;
 use std::marker::Brand;
 use std::process::Abort;
 use std::sync::Wait;
+use std::sync::atomic::{AtomicU64, Ordering};
 use std::sync::ledger::Blank;
 use std::test::Fail;
 
-// A book that counts its calls, and refuses each third one of its steps by itself.
+// How a board meets a turn.
+#[derive(Clone, Copy, PartialEq, Eq, Debug)]
+pub(crate) enum Meets {
+    AsItsBook,
+    NothingRuns,
+    NoMemory,
+    AsChanged,
+    AsFull,
+}
+
+// A book that counts its calls, refuses each third one of its steps by itself, and meets the turns as it was told to, where it
+// was. Others may see how many tickets were asked for.
 #[derive(Drop)]
-struct Counting<L: Naming> {
+pub(crate) struct Counting<'a, L: Naming> {
     book: Book<L>,
     calls: u64,
     steps: u64,
+    turns: &'static [Meets],
+    turn: Meets,
+    taken: &'a AtomicU64,
 }
 
-impl<L: Naming> Board<L> for Counting<L> {
+impl<'a, L: Naming> Counting<'a, L> {
+    pub(crate) fn new(book: Book<L>, turns: &'static [Meets], taken: &'a AtomicU64) -> Self {
+        Counting {
+            book,
+            calls: 0,
+            steps: 0,
+            turns,
+            turn: Meets::AsItsBook,
+            taken,
+        }
+    }
+}
+
+impl<L: Naming> Board<L> for Counting<'_, L> {
     fn seat(&mut self, alloc: Global) -> Result<Seat<L>, SeatFault> {
         self.calls = self.calls.saturating_add(1);
         self.book.seat(alloc)
@@ -31,12 +61,29 @@ impl<L: Naming> Board<L> for Counting<L> {
 
     fn take(&mut self, alloc: Global) -> Result<Ticket, TakeFault> {
         self.calls = self.calls.saturating_add(1);
-        self.book.take(alloc)
+        self.taken.fetch_add(1, Ordering::SeqCst);
+        self.turn = Meets::AsItsBook;
+        if let Some((first, others)) = self.turns.split_first() {
+            self.turn = *first;
+            self.turns = others;
+        }
+        match self.turn {
+            Meets::NothingRuns => Err(TakeFault::NoneRunning),
+            Meets::NoMemory => Err(TakeFault::Memory),
+            _ => self.book.take(alloc),
+        }
     }
 
     fn commit(&mut self, seat: &mut Seat<L>, work: Work) -> CommitOutcome {
         self.calls = self.calls.saturating_add(1);
-        Board::commit(&mut self.book, seat, work)
+        if work.count() == 0 {
+            return Board::commit(&mut self.book, seat, work);
+        }
+        match self.turn {
+            Meets::AsChanged => CommitOutcome::Stale,
+            Meets::AsFull => CommitOutcome::JournalFull,
+            _ => Board::commit(&mut self.book, seat, work),
+        }
     }
 
     fn request(
@@ -109,12 +156,11 @@ fn through<L: Naming, R: Wait + Abort>(
     requires parts { blank.parts ≡ L.parts }
     requires seats { blank.parts ≡ 65 }
     requires room { L.room + length engine.entries ≡ engine.capacity }
+    requires log { L.log ≡ engine }
 {
-    let shared = SharedEngine::over(Counting {
-        book: Book::<L>::new(engine, blank),
-        calls: 0,
-        steps: 0,
-    });
+    let taken = AtomicU64::new(0);
+    let board = Counting::new(Book::<L>::new(engine, blank), &[], &taken);
+    let shared = SharedEngine::over(board);
     let mut seat = shared.seat(rt, alloc)?;
     let work = shared.take(rt, alloc)?.run(10);
     assert_eq!(rt;
@@ -142,8 +188,139 @@ fn through<L: Naming, R: Wait + Abort>(
         Err(DebugFault::AlreadySet)
     );
     assert_eq!(rt; shared.clear_break(rt, &mut seat, 1, 2), Ok(()));
-    let Counting { book, calls, steps } = shared.into_inner();
-    assert_eq!(rt; (calls, steps), (16, 6));
-    assert_eq!(rt; book.engine().journal().len(), 12);
+    let board = shared.into_inner();
+    assert_eq!(rt; (board.calls, board.steps), (16, 6));
+    assert_eq!(rt; board.book.engine().journal().len(), 12);
+    Ok(())
+}
+
+// What a gate heard of a turn: a call before and one after it, of the same seat and procedure.
+#[derive(Clone, Copy, PartialEq, Eq, Debug)]
+enum Heard {
+    Nothing,
+    // The seat, the procedure and the count.
+    Before(u16, u16, u32),
+    // The same, and the outcome.
+    Both(u16, u16, u32, CommitOutcome),
+    Otherwise,
+}
+
+#[derive(Drop)]
+struct Listening {
+    heard: Cell<Heard>,
+}
+
+impl Gate for Listening {
+    fn before(&self, seat: u16, id: u16, count: u32) {
+        self.heard.set(match self.heard.get() {
+            Heard::Nothing => Heard::Before(seat, id, count),
+            _ => Heard::Otherwise,
+        });
+    }
+
+    fn after(&self, seat: u16, id: u16, outcome: CommitOutcome) {
+        self.heard.set(match self.heard.get() {
+            Heard::Before(by, of, count) if by == seat && of == id => {
+                Heard::Both(seat, id, count, outcome)
+            }
+            _ => Heard::Otherwise,
+        });
+    }
+}
+
+// How the board meets each turn of seat 2: procedures 1 and 2 run, and come one after the other.
+const MEETS: [Meets; 9] = [
+    Meets::AsItsBook,
+    Meets::AsChanged,
+    Meets::AsFull,
+    Meets::NothingRuns,
+    Meets::NoMemory,
+    Meets::AsItsBook,
+    Meets::AsItsBook,
+    Meets::AsItsBook,
+    Meets::AsItsBook,
+];
+
+// The budget of each of these turns, what it answers, and what its gate hears. Without a budget nothing is done off the lock, so
+// that one step is made under it, of which the board refuses the third.
+const TURNS: [(u32, Turn, Heard); 9] = [
+    (
+        10,
+        Turn::Committed(10),
+        Heard::Both(2, 1, 10, CommitOutcome::Committed(10)),
+    ),
+    (7, Turn::Stale, Heard::Both(2, 2, 7, CommitOutcome::Stale)),
+    (
+        5,
+        Turn::Full,
+        Heard::Both(2, 1, 5, CommitOutcome::JournalFull),
+    ),
+    (5, Turn::Idle, Heard::Nothing),
+    (5, Turn::NoMemory, Heard::Nothing),
+    (
+        0,
+        Turn::Stepped(StepOutcome::Ran),
+        Heard::Both(2, 2, 0, CommitOutcome::Empty),
+    ),
+    (
+        0,
+        Turn::Stepped(StepOutcome::Ran),
+        Heard::Both(2, 1, 0, CommitOutcome::Empty),
+    ),
+    (0, Turn::Full, Heard::Both(2, 2, 0, CommitOutcome::Empty)),
+    (
+        3,
+        Turn::Committed(3),
+        Heard::Both(2, 1, 3, CommitOutcome::Committed(3)),
+    ),
+];
+
+// The procedure and the count of each entry that seat 2 gains.
+const GAINS: [(u16, u32); 4] = [(1, 10), (2, 1), (1, 1), (1, 3)];
+
+// Whether seat 2 has the receipts of these.
+fn is_receipted<L: Naming>(seat: &Seat<L>) -> bool {
+    let receipts = seat.receipts();
+    receipts.len() == GAINS.len()
+        && receipts.iter().zip(GAINS.iter()).all(|(entry, gain)| match entry {
+            Entry::Steps { by, id, count, .. } => *by == 2 && (*id, *count) == *gain,
+            _ => false,
+        })
+}
+
+#[test]
+fn turns_answer_and_tell_their_gate(rt: HostRuntime) -> Result<(), Fail> {
+    let mut engine = Engine::new(rt.alloc(), Profile::One, 0x123, 16, 100)?;
+    assert!(rt; takes_loops(rt.alloc(), &mut engine, 2));
+    let _length = engine.journal().len();
+    by_script::<Brand, _>(&rt, rt.alloc(), engine, Blank::new(65))
+}
+
+// The turns of seat 2 over a board that meets them so.
+fn by_script<L: Naming, R: Wait + Abort>(
+    rt: &R,
+    alloc: Global,
+    engine: Engine,
+    blank: Blank,
+) -> Result<(), Fail>
+    requires name { blank.name ≡ L.name }
+    requires parts { blank.parts ≡ L.parts }
+    requires seats { blank.parts ≡ 65 }
+    requires room { L.room + length engine.entries ≡ engine.capacity }
+    requires log { L.log ≡ engine }
+{
+    let taken = AtomicU64::new(0);
+    let board = Counting::new(Book::<L>::new(engine, blank), &MEETS, &taken);
+    let shared = SharedEngine::over(board);
+    let _one = shared.seat(rt, alloc)?;
+    let mut two = shared.seat(rt, alloc)?;
+    for (budget, wanted, heard) in TURNS {
+        let gate = Listening {
+            heard: Cell::new(Heard::Nothing),
+        };
+        let turn = shared.turn(rt, alloc, &mut two, budget, &gate);
+        assert_eq!(rt; (turn, gate.heard.get()), (wanted, heard));
+    }
+    assert!(rt; is_receipted(&two));
     Ok(())
 }

@@ -100,6 +100,49 @@ fn two_workers_run_at_once(rt: HostRuntime) -> Result<(), Fail> {
     Ok(())
 }
 
+// Holds each call until as many have begun as there are seats. Each of these is another seat's, since no seat goes on before.
+#[derive(Drop)]
+struct Gathering {
+    seats: u64,
+    begun: AtomicU64,
+    // How often a seat gave up.
+    missed: AtomicU64,
+}
+
+impl Gate for Gathering {
+    fn before(&self, _seat: u16, _id: u16, _count: u32) {
+        self.begun.fetch_add(1, Ordering::SeqCst);
+        for _turn in 0..LIMIT {
+            if self.begun.load(Ordering::SeqCst) >= self.seats {
+                return;
+            }
+        }
+        self.missed.fetch_add(1, Ordering::SeqCst);
+    }
+
+    fn after(&self, _seat: u16, _id: u16, _outcome: CommitOutcome) {}
+}
+
+#[test]
+fn each_seat_has_a_thread_of_its_own(rt: HostRuntime) -> Result<(), Fail> {
+    for workers in [3, 16] {
+        let mut engine = Engine::new(rt.alloc(), Profile::One, 0x123, 16, 10_000)?;
+        assert!(rt; takes_loops(rt.alloc(), &mut engine, 16));
+        let gate = Gathering {
+            seats: u64::from(workers),
+            begun: AtomicU64::new(0),
+            missed: AtomicU64::new(0),
+        };
+        let _engine = work(&rt, rt.alloc(), engine, workers, 100, 2, &gate)?;
+        let (begun, missed) = (
+            gate.begun.load(Ordering::SeqCst),
+            gate.missed.load(Ordering::SeqCst),
+        );
+        assert_eq!(rt; (begun, missed), (2 * u64::from(workers), 0));
+    }
+    Ok(())
+}
+
 #[test]
 fn sixteen_workers_with_all_calls_between(rt: HostRuntime) -> Result<(), Fail> {
     let mut engine = Engine::new(rt.alloc(), Profile::One, 0x123, 16, 4_000)?;
@@ -124,6 +167,7 @@ fn mixed<L: Naming + Send + Sync, R: Threads + Wait + Abort + Sync>(
     requires parts { blank.parts ≡ L.parts }
     requires seats { blank.parts ≡ 65 }
     requires room { L.room + length engine.entries ≡ engine.capacity }
+    requires log { L.log ≡ engine }
 {
     let shared = SharedEngine::<L>::new(engine, blank);
     let mut seats = Vec::with_capacity(alloc, 16)?;

@@ -45,6 +45,16 @@ pub(crate) fn load_loop(id: u8) -> [u8; 49] {
     packet
 }
 
+// The load of the loop as procedure 1 with a count of 0x7f00_01f3, which takes over four milliards of instructions.
+pub(crate) fn load_long() -> [u8; 49] {
+    let mut packet = LOAD_LOOP;
+    packet[22] = 0x7f;
+    let [high, low] = crc16(&packet[..47]).to_be_bytes();
+    packet[47] = high;
+    packet[48] = low;
+    packet
+}
+
 // Its activation.
 pub(crate) fn activate_loop(id: u8) -> [u8; 17] {
     of_loop(ACTIVATE_LOOP, id)

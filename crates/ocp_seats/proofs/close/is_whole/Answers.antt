@@ -1,4 +1,4 @@
-use Rattle.std.proofs.Common.{◌≡◌, ◌≤◌, ◌==◌, ℕ, arith, sym, ◌∙◌, refl, count_by, below_more}
+use Rattle.std.proofs.Common.{◌≡◌, ◌≤◌, ◌==◌, ℕ, arith, sym, ◌∙◌, refl, count_by, below_more, length, rules}
 use Rattle.ocp_seats.specs.Seats.{Seated}
 use Rattle.ocp_seats.proofs.close.is_whole.Goals as goal
 
@@ -12,8 +12,10 @@ loop-number-preserved g c =
 
 pub returns-else-count_number-ne1 : goal.returns-else-count_number-ne1
 returns-else-count_number-ne1 g c =
-    let P : ℕ → Type 0 = λ k. 1 ≤ k → count_by (λ (s : Seated). s.number == k) c.args.seats.now ≡ 1 in (
+    let P : ℕ → Type 0 = λ k. 1 ≤ k → count_by (λ (s : Seated). s.number == k) c.args.seats.now ≡ 1 in
+    let number : c.from.result ≡ c.args.handed_out = search rules in (
       λ t. record {
+        count = c.if-seats-from.false ∙ number;
         within = c.loop-number.invariant.0;
         each_once = λ k low high. below_more P c.loop-number.number (λ j lt lo. c.loop-number.invariant.1 j lo lt) (λ lo. sym c.count_number.ensures ∙ c.if-count_number-ne1.false) k (omega arith) low;
       },

@@ -5,4 +5,4 @@ abbrev pub ghosts-within-L-Ledger : goal.ghosts-within-L-Ledger
 ghosts-within-L-Ledger g a = record { name = a.blank.name; parts = a.blank.parts }
 
 abbrev pub ghosts-within-L-Naming : goal.ghosts-within-L-Naming
-ghosts-within-L-Naming g a = record { room = a.engine.capacity - length a.engine.entries }
+ghosts-within-L-Naming g a = record { room = a.engine.capacity - length a.engine.entries; log = a.engine }

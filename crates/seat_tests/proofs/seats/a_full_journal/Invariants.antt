@@ -5,4 +5,4 @@ abbrev pub ghosts-in_full-L-Ledger : goal.ghosts-in_full-L-Ledger
 ghosts-in_full-L-Ledger g a = record { name = a.blank.name; parts = a.blank.parts }
 
 abbrev pub ghosts-in_full-L-Naming : goal.ghosts-in_full-L-Naming
-ghosts-in_full-L-Naming g a = record { room = a.engine.capacity - length a.engine.entries }
+ghosts-in_full-L-Naming g a = record { room = a.engine.capacity - length a.engine.entries; log = a.engine }

@@ -5,4 +5,4 @@ abbrev pub ghosts-after_an_abort-L-Ledger : goal.ghosts-after_an_abort-L-Ledger
 ghosts-after_an_abort-L-Ledger g a = record { name = a.blank.name; parts = a.blank.parts }
 
 abbrev pub ghosts-after_an_abort-L-Naming : goal.ghosts-after_an_abort-L-Naming
-ghosts-after_an_abort-L-Naming g a = record { room = a.engine.capacity - length a.engine.entries }
+ghosts-after_an_abort-L-Naming g a = record { room = a.engine.capacity - length a.engine.entries; log = a.engine }

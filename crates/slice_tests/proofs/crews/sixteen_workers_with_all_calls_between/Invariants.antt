@@ -5,4 +5,4 @@ abbrev pub ghosts-mixed-L-Ledger : goal.ghosts-mixed-L-Ledger
 ghosts-mixed-L-Ledger g a = record { name = a.blank.name; parts = a.blank.parts }
 
 abbrev pub ghosts-mixed-L-Naming : goal.ghosts-mixed-L-Naming
-ghosts-mixed-L-Naming g a = record { room = a.engine.capacity - length a.engine.entries }
+ghosts-mixed-L-Naming g a = record { room = a.engine.capacity - length a.engine.entries; log = a.engine }

@@ -5,4 +5,4 @@ abbrev pub ghosts-both-L-Ledger : goal.ghosts-both-L-Ledger
 ghosts-both-L-Ledger g a = record { name = a.blank.name; parts = a.blank.parts }
 
 abbrev pub ghosts-both-L-Naming : goal.ghosts-both-L-Naming
-ghosts-both-L-Naming g a = record { room = a.engine.capacity - length a.engine.entries }
+ghosts-both-L-Naming g a = record { room = a.engine.capacity - length a.engine.entries; log = a.engine }

@@ -17,7 +17,7 @@ push-requires-clause-accepted g c =
     let log = c.self.inside.journal in
     let told = c.in-Ok.ensures.ok c.args.by c.args.time in
     let read = admitted log c.args.self.now c.self.view_is c.args.by c.args.time c.args.octets.now c.in-Ok.read told in
-    let does = c.in-Ok-receive.ensures (world_of log) c.args.by c.args.octets.now c.self.invariant c.events.ensures.number read.is in
+    let does = c.in-Ok-receive.ensures.does (world_of log) c.args.by c.args.octets.now c.self.invariant c.events.ensures.number read.is in
     counted_so log c.args.self.now c.self.view_is c.args.by c.args.time c.args.octets.now c.in-Ok.read told c.receive.new.self c.in-Ok-receive.sent c.in-Ok-copy_of.journaled does c.in-Ok-copy_of.ensures
 
 pub push-requires-clause-mark : goal.push-requires-clause-mark
@@ -25,7 +25,7 @@ push-requires-clause-mark g c =
     let log = c.self.inside.journal in
     let told = c.in-Ok.ensures.ok c.args.by c.args.time in
     let read = admitted log c.args.self.now c.self.view_is c.args.by c.args.time c.args.octets.now c.in-Ok.read told in
-    let does = c.in-Ok-receive.ensures (world_of log) c.args.by c.args.octets.now c.self.invariant c.events.ensures.number read.is in
+    let does = c.in-Ok-receive.ensures.does (world_of log) c.args.by c.args.octets.now c.self.invariant c.events.ensures.number read.is in
     marked_so log c.args.self.now c.self.view_is c.args.by c.args.time c.args.octets.now c.in-Ok.read told c.receive.new.self c.in-Ok-receive.sent c.in-Ok-copy_of.journaled does c.in-Ok-copy_of.ensures c.next_copy-journal_mark.result (c.next_copy-journal_mark.ensures.copy c.in-Ok-receive.sent c.into_vec-copies.ensures.same)
 
 pub invariant_of-self : goal.invariant_of-self
@@ -33,21 +33,21 @@ invariant_of-self g c =
     let log = c.self.inside.journal in
     let told = c.in-Ok.ensures.ok c.args.by c.args.time in
     let read = admitted log c.args.self.now c.self.view_is c.args.by c.args.time c.args.octets.now c.in-Ok.read told in
-    let does = c.in-Ok-receive.ensures (world_of log) c.args.by c.args.octets.now c.self.invariant c.events.ensures.number read.is in
+    let does = c.in-Ok-receive.ensures.does (world_of log) c.args.by c.args.octets.now c.self.invariant c.events.ensures.number read.is in
     stands_after log c.args.self.now c.self.view_is c.args.by c.args.time c.args.octets.now c.in-Ok.read told c.receive.new.self c.in-Ok-receive.sent c.in-Ok-copy_of.journaled does c.in-Ok-copy_of.ensures c.push.new.self c.push.ensures
 
 pub invariant_of-self-in-Err-receive : goal.invariant_of-self-in-Err-receive
 invariant_of-self-in-Err-receive g c =
     let log = c.self.inside.journal in
     let read = admitted log c.args.self.now c.self.view_is c.args.by c.args.time c.args.octets.now c.in-Ok.read (c.in-Ok.ensures.ok c.args.by c.args.time) in
-    (c.in-Err-receive.ensures (world_of log) c.args.by c.args.octets.now c.self.invariant c.events.ensures.number read.is).1
+    (c.in-Err-receive.ensures.does (world_of log) c.args.by c.args.octets.now c.self.invariant c.events.ensures.number read.is).1
 
 pub returns-in-Ok-receive-clause-answer : goal.returns-in-Ok-receive-clause-answer
 returns-in-Ok-receive-clause-answer g c =
     let log = c.self.inside.journal in
     let told = c.in-Ok.ensures.ok c.args.by c.args.time in
     let read = admitted log c.args.self.now c.self.view_is c.args.by c.args.time c.args.octets.now c.in-Ok.read told in
-    let does = c.in-Ok-receive.ensures (world_of log) c.args.by c.args.octets.now c.self.invariant c.events.ensures.number read.is in
+    let does = c.in-Ok-receive.ensures.does (world_of log) c.args.by c.args.octets.now c.self.invariant c.events.ensures.number read.is in
     let rest = c.next_copy-receipt_mark.ensures.rest c.in-Ok-receive.sent (c.next_copy-journal_mark.ensures.rest c.in-Ok-receive.sent c.into_vec-copies.ensures.same) in
     answered log c.args.self.now c.self.view_is c.args.by c.args.time c.args.octets.now c.in-Ok.read told c.receive.new.self c.in-Ok-receive.sent c.in-Ok-copy_of.journaled does c.in-Ok-copy_of.ensures c.next_copy-reports.result (c.next_copy-reports.ensures.copy c.in-Ok-receive.sent rest)
 
@@ -56,7 +56,7 @@ returns-in-Ok-receive-clause-journal g c =
     let log = c.self.inside.journal in
     let told = c.in-Ok.ensures.ok c.args.by c.args.time in
     let read = admitted log c.args.self.now c.self.view_is c.args.by c.args.time c.args.octets.now c.in-Ok.read told in
-    let does = c.in-Ok-receive.ensures (world_of log) c.args.by c.args.octets.now c.self.invariant c.events.ensures.number read.is in
+    let does = c.in-Ok-receive.ensures.does (world_of log) c.args.by c.args.octets.now c.self.invariant c.events.ensures.number read.is in
     journal_after log c.args.self.now c.self.view_is c.args.by c.args.time c.args.octets.now c.in-Ok.read told c.receive.new.self c.in-Ok-receive.sent c.in-Ok-copy_of.journaled does c.in-Ok-copy_of.ensures c.push.new.self c.push.ensures
 
 pub returns-in-Err-receive-clause-answer : goal.returns-in-Err-receive-clause-answer
@@ -64,7 +64,7 @@ returns-in-Err-receive-clause-answer g c =
     let log = c.self.inside.journal in
     let told = c.in-Ok.ensures.ok c.args.by c.args.time in
     let read = admitted log c.args.self.now c.self.view_is c.args.by c.args.time c.args.octets.now c.in-Ok.read told in
-    refused_so log c.args.self.now c.self.view_is c.args.by c.args.time c.args.octets.now c.in-Ok.read told c.receive.new.self c.in-Err-receive.fault (c.in-Err-receive.ensures (world_of log) c.args.by c.args.octets.now c.self.invariant c.events.ensures.number read.is)
+    refused_so log c.args.self.now c.self.view_is c.args.by c.args.time c.args.octets.now c.in-Ok.read told c.receive.new.self c.in-Err-receive.fault (c.in-Err-receive.ensures.does (world_of log) c.args.by c.args.octets.now c.self.invariant c.events.ensures.number read.is)
 
 pub returns-in_default-copy_of-clause-answer : goal.returns-in_default-copy_of-clause-answer
 returns-in_default-copy_of-clause-answer g c = would_be_accepted c.self.inside.journal c.args.self.now c.self.view_is c.args.by c.args.time c.args.octets.now c.in-Ok.read (c.in-Ok.ensures.ok c.args.by c.args.time)
