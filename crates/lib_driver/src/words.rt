@@ -1,0 +1,143 @@
+//! The words of a line, and what a word says.
+
+use hex::FromHexError;
+use ocp_profile::Profile;
+use std::alloc::{AllocError, AllocFailed, Global};
+use std::num::ParseIntError;
+
+/// Why a line has no answer.
+#[derive(Clone, Copy, Debug)]
+pub(crate) enum Fault {
+    /// It is no call, or an argument is none of this call's.
+    Syntax,
+    /// Memory ran out.
+    Memory,
+}
+
+impl From<AllocError> for Fault {
+    fn from(_error: AllocError) -> Fault {
+        Fault::Memory
+    }
+}
+
+impl<T: Drop> From<AllocFailed<T>> for Fault {
+    fn from(_error: AllocFailed<T>) -> Fault {
+        Fault::Memory
+    }
+}
+
+impl From<ParseIntError> for Fault {
+    fn from(_error: ParseIntError) -> Fault {
+        Fault::Syntax
+    }
+}
+
+impl From<FromHexError> for Fault {
+    fn from(error: FromHexError) -> Fault {
+        match error {
+            FromHexError::OutOfMemory => Fault::Memory,
+            _ => Fault::Syntax,
+        }
+    }
+}
+
+/// The words of a line: what stands between spaces, where those between double quotes are of the
+/// word.
+pub(crate) fn words<'a>(alloc: Global, line: &'a str) -> Result<Vec<&'a str>, Fault> {
+    let mut words = Vec::new(alloc);
+    let mut start = 0usize;
+    let mut is_quoted = false;
+    for (place, octet) in line.bytes().enumerate() {
+        if octet == b'"' {
+            is_quoted = !is_quoted;
+        }
+        if octet == b' ' && !is_quoted {
+            add_word(line.get(start..place), &mut words)?;
+            start = place.saturating_add(1);
+        }
+    }
+    add_word(line.get(start..), &mut words)?;
+    Ok(words)
+}
+
+/// Adds a word, where there is one.
+fn add_word<'a>(word: Option<&'a str>, words: &mut Vec<&'a str>) -> Result<(), Fault> {
+    match word {
+        Some(word) if !word.is_empty() => Ok(words.push(word)?),
+        _ => Ok(()),
+    }
+}
+
+/// The octets that a word says: `-` none, else those of its pieces.
+pub(crate) fn octets(alloc: Global, word: &str) -> Result<Vec<u8>, Fault> {
+    let mut octets = Vec::new(alloc);
+    if word == "-" {
+        return Ok(octets);
+    }
+    for piece in word.split('|') {
+        add_piece(alloc, piece, &mut octets)?;
+    }
+    Ok(octets)
+}
+
+/// Adds the octets of a piece: hexadecimal digits, or a text between double quotes, and behind
+/// them `*` with a number where they come so many times.
+fn add_piece(alloc: Global, piece: &str, octets: &mut Vec<u8>) -> Result<(), Fault> {
+    let (once, count) = match piece.rsplit_once('*') {
+        Some((front, count)) => (front, count.parse::<u32>()?),
+        None => (piece, 1),
+    };
+    let added = match once.strip_prefix('"') {
+        Some(text) => text_octets(alloc, text)?,
+        None => hex::decode(alloc, once)?,
+    };
+    for _ in 0..count {
+        octets.extend_from_slice(&added)?;
+    }
+    Ok(())
+}
+
+/// The octets of a text up to its closing quote. Behind a backslash `n`, `r` and `t` are a line
+/// feed, a carriage return and a tab, and any other octet is itself.
+fn text_octets(alloc: Global, text: &str) -> Result<Vec<u8>, Fault> {
+    let inner = text.strip_suffix('"').ok_or(Fault::Syntax)?;
+    let mut octets = Vec::new(alloc);
+    let mut is_escaped = false;
+    for octet in inner.bytes() {
+        if octet == b'\\' && !is_escaped {
+            is_escaped = true;
+        } else {
+            octets.push(if is_escaped { escaped(octet) } else { octet })?;
+            is_escaped = false;
+        }
+    }
+    Ok(octets)
+}
+
+/// What an octet means behind a backslash.
+fn escaped(octet: u8) -> u8 {
+    match octet {
+        b'n' => b'\n',
+        b'r' => b'\r',
+        b't' => b'\t',
+        other => other,
+    }
+}
+
+/// A word that is `true` or `false`.
+pub(crate) fn flag(word: &str) -> Result<bool, Fault> {
+    match word {
+        "true" => Ok(true),
+        "false" => Ok(false),
+        _ => Err(Fault::Syntax),
+    }
+}
+
+/// The profile of a word that is `1` or `2`.
+pub(crate) fn profile_of(word: &str) -> Result<Profile, Fault> {
+    match word {
+        "1" => Ok(Profile::One),
+        "2" => Ok(Profile::Two),
+        _ => Err(Fault::Syntax),
+    }
+}
