@@ -174,6 +174,7 @@ static void closed_handle(void)
     WANT(OCP_NOT_OPEN, ocp_pool_word(&engine, 0, &wide));
     WANT(OCP_NOT_OPEN, ocp_events(&engine, &wide));
     WANT(OCP_NOT_OPEN, ocp_room(&engine, &wide));
+    WANT(OCP_NOT_OPEN, ocp_entry(&engine, 0, octets, 4, &written));
     HOLDS(written == 77 && wide == 77 && registers[0] == 77 && count == 77 && id == 77 && octets[0] == 77);
     HOLDS(outcome.kind == 77 && outcome.fault == 77 && view.status == 77 && reports[0] == 77);
 }
@@ -313,6 +314,75 @@ static void full_journal(void)
     WANT(OCP_DONE, ocp_close(&engine));
 }
 
+/* The octets of an entry, in a buffer that is just long enough, one octet too short, and longer. */
+static void entry(int line, uint64_t index, const uint8_t *octets, size_t length)
+{
+    static uint8_t buffer[OCP_LONGEST_ENTRY + 1];
+    char name[32];
+    snprintf(name, sizeof name, "entry %" PRIu64, index);
+    for (size_t room = length - 1; room <= length + 1; room++) {
+        memset(buffer, 77, sizeof buffer);
+        written = 0;
+        want(line, name, room < length ? OCP_BUFFER_TOO_SMALL : OCP_DONE, ocp_entry(&engine, index, buffer, room, &written));
+        want(line, name, (uint32_t)length, (uint32_t)written);
+        want(line, name, true, room < length ? buffer[0] == 77 : memcmp(buffer, octets, length) == 0);
+        want(line, name, 77, buffer[length]);
+    }
+}
+
+/* That of the last request, at this time. */
+static void request_entry(int line, uint64_t index, uint32_t time, size_t length)
+{
+    static uint8_t octets[OCP_LONGEST_ENTRY] = {OCP_ENTRY_REQUEST};
+    for (int at = 0; at < 4; at++)
+        octets[3 + at] = (uint8_t)(time >> (24 - 8 * at));
+    memcpy(octets + 7, packet, length);
+    entry(line, index, octets, 7 + length);
+}
+
+#define ENTRY(index, ...) entry(__LINE__, index, (const uint8_t[]){__VA_ARGS__}, sizeof((const uint8_t[]){__VA_ARGS__}))
+
+/* Each kind of entry, octet for octet, and indices that have none. */
+static void entries(void)
+{
+    struct ocp_outcome last;
+    uint32_t count;
+    uint8_t octets[16] = {77};
+    WANT(OCP_DONE, ocp_open(&engine, 1, APID, 16, 20));
+    REFUSED(OCP_NO_ENTRY, ocp_entry(&engine, 0, octets, sizeof octets, &written));
+    WANT(OCP_DONE, load());
+    request_entry(__LINE__, 0, 5, 11 + sizeof load_7 + 2);
+    REFUSED(OCP_NO_ENTRY, ocp_entry(&engine, 1, octets, sizeof octets, &written));
+    REFUSED(OCP_NO_ENTRY, ocp_entry(&engine, UINT64_MAX, octets, 0, &written));
+    WANT(OCP_DONE, activate());
+    request_entry(__LINE__, 1, 5, 11 + sizeof activate_7 + 2);
+    WANT(OCP_DONE, ocp_trace(&engine, 7, true));
+    WANT(OCP_DONE, ocp_set_break(&engine, 7, 2));
+    WANT(OCP_DONE, ocp_clear_break(&engine, 7, 2));
+    WANT(OCP_DONE, stop());
+    WANT(OCP_DONE, ocp_slice(&engine, 7, 1000, &count, &last));
+    WANT(OCP_DONE, ocp_drain(&engine, 0x01020304, reports, OCP_DRAIN_REPORTS, &written));
+    WANT(OCP_DONE, ocp_trace(&engine, 7, false));
+    ENTRY(2, OCP_ENTRY_TRACE, 0, 0, 0, 7, 0, 1);
+    ENTRY(3, OCP_ENTRY_SET_BREAK, 0, 0, 0, 7, 0, 2);
+    ENTRY(4, OCP_ENTRY_CLEAR_BREAK, 0, 0, 0, 7, 0, 2);
+    ENTRY(6, OCP_ENTRY_STEPS, 0, 0, 0, 7, 0, 0, 0, 2);
+    ENTRY(7, OCP_ENTRY_DRAIN, 0, 0, 1, 2, 3, 4);
+    ENTRY(8, OCP_ENTRY_TRACE, 0, 0, 0, 7, 0, 0);
+    REFUSED(OCP_NO_ENTRY, ocp_entry(&engine, 9, octets, sizeof octets, &written));
+    HOLDS(octets[0] == 77);
+
+    /* the longest packet that is not discarded, and the longest entry */
+    memset(packet, 0, sizeof packet);
+    packet[0] = 0x18 | APID >> 8;
+    packet[1] = APID & 255;
+    packet[4] = packet[5] = 0xff;
+    WANT(OCP_DONE, ocp_request(&engine, UINT32_MAX, packet, LONGEST, reports, OCP_REQUEST_REPORTS, &written));
+    HOLDS(7 + LONGEST == OCP_LONGEST_ENTRY);
+    request_entry(__LINE__, 9, UINT32_MAX, LONGEST);
+    WANT(OCP_DONE, ocp_close(&engine));
+}
+
 /* A pass with each growth of each call refused in turn. */
 static void memory(void)
 {
@@ -337,6 +407,7 @@ int main(void)
     packets();
     procedures();
     full_journal();
+    entries();
     memory();
     printf("calls: %d answers, %d faults\n", tried, faults);
     return faults != 0;

@@ -5,6 +5,10 @@
 #include <stdbool.h>
 #include <stddef.h>
 
+#ifdef __cplusplus
+extern "C" {
+#endif
+
 struct fixed_heap_answer {
     bool ok;
     void *piece; /* not null, also where it is refused */
@@ -22,5 +26,9 @@ void rattle_dealloc(void *piece);
 /* How many octets of the block are taken, heads with them, and the most that were. */
 size_t fixed_heap_in_use(void);
 size_t fixed_heap_most_in_use(void);
+
+#ifdef __cplusplus
+}
+#endif
 
 #endif

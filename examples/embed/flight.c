@@ -4,8 +4,8 @@
  *
  * Time goes by in cycles. In each one every running procedure does a slice of instructions in its turn, and every so many
  * cycles the completions that wait are reported. The time in reports is the number of the cycle. A cycle takes so many
- * milliseconds; with 0, the default, one follows each packet, and the same packets give the same reports. What the engine
- * has done is written to the file JOURNAL, if one is named, for the tool `journal`.
+ * milliseconds; with 0, the default, one follows each packet, and the same packets give the same reports. The engine's
+ * journal is written to the file JOURNAL, if one is named, for the tool `journal`.
  *
  * Status: 0 the input has ended, 2 wrong words, 3 no engine, no room in the journal, or no output; one line says which. */
 #define _POSIX_C_SOURCE 200809L
@@ -46,6 +46,7 @@ static uint8_t reports[OCP_DRAIN_REPORTS > OCP_REQUEST_REPORTS ? OCP_DRAIN_REPOR
 
 static _Noreturn void end(const char *why)
 {
+    keep_journal(&engine);
     fprintf(stderr, "flight: cycle %lu: %s\n", (unsigned long)cycle, why);
     exit(FAILED);
 }
@@ -76,7 +77,6 @@ static void take(size_t length)
     uint32_t status = ocp_request(&engine, cycle, input, length, reports, sizeof reports, &written);
     switch (status) {
     case OCP_DONE:
-        journal_request(cycle, input, length);
         send_reports(written);
         break;
     case OCP_JOURNAL_FULL:
@@ -118,7 +118,6 @@ static void give_slices(void)
         struct ocp_outcome last;
         if (ocp_slice(&engine, id, SLICE, &count, &last) != OCP_DONE)
             end("the journal is full");
-        journal_steps(id, count);
         if (last.kind == OCP_FAULTED)
             fprintf(stderr, "flight: cycle %lu: procedure %u faulted: %lu\n", (unsigned long)cycle, id, (unsigned long)last.fault);
         before = id;
@@ -130,7 +129,6 @@ static void drain(void)
     size_t written = 0;
     switch (ocp_drain(&engine, cycle, reports, sizeof reports, &written)) {
     case OCP_DONE:
-        journal_drain(cycle);
         send_reports(written);
         break;
     case OCP_JOURNAL_FULL:
@@ -146,6 +144,7 @@ static void run_cycle(void)
     give_slices();
     if (cycle % CYCLES_OF_DRAIN == 0)
         drain();
+    keep_journal(&engine);
 }
 
 /* ---- the two ways of time */
@@ -203,7 +202,7 @@ int main(int words, char **word)
         broken++;
         fprintf(stderr, "flight: cycle %lu: the input ends within a packet\n", (unsigned long)cycle);
     }
-    if (!end_journal())
+    if (!end_journal(&engine))
         end("the journal can't be written");
     fprintf(stderr, "flight: %lu cycles, %lu packets discarded\n", (unsigned long)cycle, (unsigned long)broken);
     return ocp_close(&engine) == OCP_DONE ? 0 : FAILED;

@@ -3,7 +3,7 @@
  *
  *   lines PROFILE APID POOL_WORDS JOURNAL_ENTRIES [JOURNAL]
  *
- * What the engine has done is written to the file JOURNAL, if one is named. Status: 0 done, 1 a line that is none of these,
+ * The engine's journal is written to the file JOURNAL, if one is named. Status: 0 done, 1 a line that is none of these,
  * 2 wrong words, 3 no engine. */
 #include "journal_file.h"
 #include "ocp_engine.h"
@@ -75,8 +75,6 @@ static bool up(const char *digits)
     for (size_t at = 0; at < length / 2; at++)
         packet[at] = (uint8_t)strtoul((char[]){digits[2 * at], digits[2 * at + 1], '\0'}, NULL, 16);
     uint32_t status = ocp_request(&engine, seconds, packet, length / 2, reports, sizeof reports, &written);
-    if (status == OCP_DONE)
-        journal_request(seconds, packet, length / 2);
     print_answer(status, reports, written);
     return true;
 }
@@ -86,8 +84,6 @@ static void drain(void)
     static uint8_t reports[OCP_DRAIN_REPORTS];
     size_t written = 0;
     uint32_t status = ocp_drain(&engine, seconds, reports, sizeof reports, &written);
-    if (status == OCP_DONE)
-        journal_drain(seconds);
     print_answer(status, reports, written);
 }
 
@@ -99,19 +95,15 @@ static void step(uint16_t id, uint32_t budget)
     uint32_t count = 0;
     struct ocp_outcome last = {0, 0};
     uint32_t status = ocp_slice(&engine, id, budget, &count, &last);
-    if (status == OCP_DONE)
-        journal_steps(id, count);
     printf("step %u %" PRIu32 " %s", id, count, status == OCP_DONE ? kinds[last.kind] : name_of(status));
     if (status == OCP_DONE && last.kind == OCP_FAULTED)
         printf(" %" PRIu32, last.fault);
     printf("\n");
 }
 
-/* Prints what a command of the debugger answered, and keeps it. */
-static void command(uint32_t status, const char *done, int kind, uint16_t id, uint16_t number)
+/* Prints what a command of the debugger answered. */
+static void command(uint32_t status, const char *done)
 {
-    if (status == OCP_DONE)
-        journal_command(kind, id, number);
     printf(" %s\n", status == OCP_DONE ? done : name_of(status));
 }
 
@@ -166,14 +158,13 @@ static bool debug_line(const char *line)
     char on[4];
     if (sscanf(line, "break %" SCNu16 " %" SCNu16, &id, &place) == 2) {
         printf("break %u %u", id, place);
-        command(ocp_set_break(&engine, id, place), "set", ENTRY_SET_BREAK, id, place);
+        command(ocp_set_break(&engine, id, place), "set");
     } else if (sscanf(line, "unbreak %" SCNu16 " %" SCNu16, &id, &place) == 2) {
         printf("unbreak %u %u", id, place);
-        command(ocp_clear_break(&engine, id, place), "cleared", ENTRY_CLEAR_BREAK, id, place);
+        command(ocp_clear_break(&engine, id, place), "cleared");
     } else if (sscanf(line, "trace %" SCNu16 " %3s", &id, on) == 2) {
         printf("trace %u", id);
-        bool is_on = strcmp(on, "on") == 0;
-        command(ocp_trace(&engine, id, is_on), on, ENTRY_TRACE, id, is_on);
+        command(ocp_trace(&engine, id, strcmp(on, "on") == 0), on);
     } else {
         return false;
     }
@@ -226,7 +217,7 @@ int main(int words, char **word)
         line[strcspn(line, "\r\n")] = '\0';
         known = line_of_script(line);
     }
-    if (!end_journal())
+    if (!end_journal(&engine))
         return 3;
     ocp_close(&engine);
     return known ? 0 : 1;

@@ -126,6 +126,13 @@ static void do_view(void)
     status = ocp_view(&engine, 7, &view, registers, 11);
 }
 
+static void do_entry(void)
+{
+    static uint8_t entry[OCP_LONGEST_ENTRY];
+    size_t length;
+    status = ocp_entry(&engine, 0, entry, sizeof entry, &length);
+}
+
 /* ---- measures */
 
 static void *in_thread(void *call)
@@ -232,6 +239,7 @@ static void stack_rows(void)
     stack_row("ocp_slice", do_slice);
     stack_row("ocp_drain", do_drain);
     stack_row("ocp_view", do_view);
+    stack_row("ocp_entry, of a load", do_entry);
     end_packet(STATUS, 0);
     stack_row("ocp_request, a status", do_request);
     stack_row("ocp_close", do_close);

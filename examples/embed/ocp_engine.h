@@ -5,7 +5,8 @@
  *
  * Rules for all calls:
  * - A call answers a status, OCP_DONE or a refusal. A refusal changes nothing: neither the engine nor what the call's
- *   pointers point to. Where several refusals apply, the answer is the first one in the order that the call lists.
+ *   pointers point to (but for a length that ocp_entry tells). Where several refusals apply, the answer is the first one in
+ *   the order that the call lists.
  * - Each pointer points to memory of the program that the call may write, which overlaps no other argument of the call, and
  *   is not null. A buffer of length 0 is still given by a pointer that is not null; nothing is read or written there.
  * - A handle is used by one thread, one call at a time, and not from a signal handler. It is not copied, and its field is
@@ -68,7 +69,8 @@ enum {
     OCP_OUTSIDE_MEMORY = 24,     /* not all octets lie in the procedure's memory */
 
     /* readers */
-    OCP_NO_WORD = 25 /* the pool has no word of this index */
+    OCP_NO_WORD = 25, /* the pool has no word of this index */
+    OCP_NO_ENTRY = 26 /* the journal has no entry of this index */
 };
 
 /* ---- the handle */
@@ -114,7 +116,8 @@ uint32_t ocp_drain(struct ocp_engine *engine, uint32_t time, uint8_t *reports, s
 
 /* What an instruction did. */
 enum {
-    OCP_BROKE = 0,  /* a breakpoint stands at the place: the procedure is held, and nothing was run */
+    OCP_BROKE = 0,  /* a breakpoint stands at the place: the procedure is held, and nothing was run;
+                       it is an event as the others are, and counted, but takes nothing of a budget */
     OCP_RAN = 1,
     OCP_CALLED = 2, /* an engine call was answered */
     OCP_ENDED = 3,  /* the last exit: the procedure is inactive */
@@ -201,6 +204,26 @@ uint32_t ocp_events(struct ocp_engine *engine, uint64_t *events);
 /* How many journal entries are still free.
  * Refusal: OCP_NOT_OPEN. */
 uint32_t ocp_room(struct ocp_engine *engine, uint64_t *entries);
+
+/* ---- the journal */
+
+/* What a journal entry is: its first octet. The two octets behind it are the seat, which is 0. Then: */
+enum {
+    OCP_ENTRY_REQUEST = 1,     /* the time (4 octets), and the packet to the end of the entry */
+    OCP_ENTRY_STEPS = 2,       /* the procedure (2), and how many instructions it did, one after the other (4) */
+    OCP_ENTRY_SET_BREAK = 3,   /* the procedure (2), the place (2) */
+    OCP_ENTRY_CLEAR_BREAK = 4, /* the procedure (2), the place (2) */
+    OCP_ENTRY_TRACE = 5,       /* the procedure (2), 1 for on and 0 for off (2) */
+    OCP_ENTRY_DRAIN = 6        /* the time (4) */
+};
+
+/* No entry is longer: a packet of more than 65,542 octets is discarded. */
+#define OCP_LONGEST_ENTRY ((size_t)65549)
+
+/* The journal entry at an index, the oldest at 0, as octets; what is behind them in the buffer stays as it was. The last
+ * argument says how many they are, also where the buffer is too small for them.
+ * Refusals: OCP_NOT_OPEN, OCP_NO_ENTRY, OCP_BUFFER_TOO_SMALL (under the entry's length). */
+uint32_t ocp_entry(struct ocp_engine *engine, uint64_t index, uint8_t *entry, size_t room, size_t *length);
 
 #ifdef __cplusplus
 }

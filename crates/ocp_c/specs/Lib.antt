@@ -5,3 +5,5 @@ pub mod Opening
 pub mod Packets
 pub mod Replies
 pub mod Reading
+pub mod Entries
+pub mod Bounds

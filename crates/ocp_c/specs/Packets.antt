@@ -1,16 +1,11 @@
 -- Packets in a buffer of C's, one behind the other.
-use Rattle.std.specs.Prelude.{ℕ, ◌+◌, nat_le, if◌then◌else◌, List, [], ◌∷◌, ◌++◌, length, drop}
+use Rattle.std.specs.Prelude.{ℕ, List, ◌++◌, length, drop}
+use Rattle.std.specs.List.{flat_map}
 
--- whole packets from the front on, as long as they have room; what is behind them stays
-abbrev pub poured : List (List ℕ) → List ℕ → List ℕ
-poured [] buffer = buffer
-poured (packet ∷ packets) buffer =
-    if nat_le (length packet) (length buffer)
-    then packet ++ poured packets (drop (length packet) buffer) else buffer
+-- the octets of all packets, in their order
+abbrev pub together : List (List ℕ) → List ℕ
+together packets = flat_map (λ (packet : List ℕ). packet) packets
 
--- how many octets they are
-abbrev pub poured_length : List (List ℕ) → List ℕ → ℕ
-poured_length [] buffer = 0
-poured_length (packet ∷ packets) buffer =
-    if nat_le (length packet) (length buffer)
-    then length packet + poured_length packets (drop (length packet) buffer) else 0
+-- octets from the front of a buffer on; what is behind them stays
+abbrev pub poured : List ℕ → List ℕ → List ℕ
+poured octets buffer = octets ++ drop (length octets) buffer

@@ -6,6 +6,7 @@ use Rattle.ocp_world.specs.declared.answers.EngineFault.TheVariants as engine
 use Rattle.ocp_world.specs.After.{Answer, Requested, Stepped, Commanded}
 use Rattle.ocp_c.specs.declared.status.Status.{Status}
 use Rattle.ocp_c.specs.declared.status.Status.TheVariants as status
+use Rattle.ocp_c.specs.Packets.{together}
 
 abbrev pub status_of_discard : Discard → Status
 status_of_discard discard.Short = status.DiscardedShort
@@ -35,3 +36,7 @@ packets_in (Requested (Ok reports)) = reports
 packets_in (Requested (Err fault)) = []
 packets_in (Stepped outcome) = []
 packets_in (Commanded result) = []
+
+-- their octets, one report behind the other
+abbrev pub reports_in : Answer → List ℕ
+reports_in answer = together (packets_in answer)

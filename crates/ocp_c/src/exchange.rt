@@ -1,6 +1,6 @@
 //! Requests and drains, whose reports go into a buffer of C's.
 
-ghost use Rattle.std.specs.Prelude.{◌≡◌, ◌≢◌, ◌==◌, if◌then◌else◌, length, true};
+ghost use Rattle.std.specs.Prelude.{◌≡◌, ◌≢◌, ◌≤◌, ◌==◌, if◌then◌else◌, length, true};
 ghost use Rattle.std.specs.declared.option.Option.TheVariants.{None, Some};
 ghost use Rattle.ocp_world.specs.World.{Request, Drain};
 ghost use Rattle.ocp_world.specs.After.{is_accepted};
@@ -8,8 +8,8 @@ ghost use Rattle.ocp_core.specs.Log.{Log, answer_in, log_after};
 ghost use Rattle.ocp_c.specs.declared.status.Status.TheVariants as status;
 ghost use Rattle.ocp_c.specs.Statuses.{number_of};
 ghost use Rattle.ocp_c.specs.Calls.{leaves, writes};
-ghost use Rattle.ocp_c.specs.Packets.{poured, poured_length};
-ghost use Rattle.ocp_c.specs.Replies.{replies, packets_in};
+ghost use Rattle.ocp_c.specs.Packets.{poured};
+ghost use Rattle.ocp_c.specs.Replies.{replies, reports_in};
 
 use crate::packets::pour;
 use crate::{Handle, SEAT, Status};
@@ -34,10 +34,10 @@ fn request_into(
     ensures journal { engine.new ≡ (if result == 0
         then log_after engine.old (Request 0 time packet.now) else engine.old) }
     ensures reports { reports.new ≡ (if result == 0
-        then poured (packets_in (answer_in engine.old (Request 0 time packet.now))) reports.old
+        then poured (reports_in (answer_in engine.old (Request 0 time packet.now))) reports.old
         else reports.old) }
     ensures written { written.new ≡ (if result == 0 then
-        poured_length (packets_in (answer_in engine.old (Request 0 time packet.now))) reports.old
+        length (reports_in (answer_in engine.old (Request 0 time packet.now)))
         else written.old) }
 {
     if reports.len() < 272 {
@@ -80,11 +80,13 @@ pub extern "C" fn ocp_request(
         (answer_in log (Request 0 time packet.now)) ≡ true }
     ensures engine { handle.new.held ≡ leaves handle.old.held (λ log.
         if result == 0 then log_after log (Request 0 time packet.now) else log) }
+    ensures least { (log : Log) → length (reports_in
+        (answer_in log (Request 0 time packet.now))) ≤ 272 }
     ensures reports { reports.new ≡ writes handle.old.held reports.old (λ log. if result == 0
-        then poured (packets_in (answer_in log (Request 0 time packet.now))) reports.old
+        then poured (reports_in (answer_in log (Request 0 time packet.now))) reports.old
         else reports.old) }
     ensures written { written.new ≡ writes handle.old.held written.old (λ log. if result == 0
-        then poured_length (packets_in (answer_in log (Request 0 time packet.now))) reports.old
+        then length (reports_in (answer_in log (Request 0 time packet.now)))
         else written.old) }
 {
     let Some(mut engine) = handle.take(alloc) else {
@@ -111,10 +113,10 @@ fn drain_into(
     ensures journal { engine.new ≡ (if result == 0 then log_after engine.old (Drain 0 time)
         else engine.old) }
     ensures reports { reports.new ≡ (if result == 0
-        then poured (packets_in (answer_in engine.old (Drain 0 time))) reports.old
+        then poured (reports_in (answer_in engine.old (Drain 0 time))) reports.old
         else reports.old) }
     ensures written { written.new ≡ (if result == 0 then
-        poured_length (packets_in (answer_in engine.old (Drain 0 time))) reports.old
+        length (reports_in (answer_in engine.old (Drain 0 time)))
         else written.old) }
 {
     if reports.len() < 1600 {
@@ -154,10 +156,11 @@ pub extern "C" fn ocp_drain(
         result ≡ number_of status.Memory → is_accepted (answer_in log (Drain 0 time)) ≡ true }
     ensures engine { handle.new.held ≡ leaves handle.old.held (λ log.
         if result == 0 then log_after log (Drain 0 time) else log) }
+    ensures least { (log : Log) → length (reports_in (answer_in log (Drain 0 time))) ≤ 1600 }
     ensures reports { reports.new ≡ writes handle.old.held reports.old (λ log. if result == 0
-        then poured (packets_in (answer_in log (Drain 0 time))) reports.old else reports.old) }
+        then poured (reports_in (answer_in log (Drain 0 time))) reports.old else reports.old) }
     ensures written { written.new ≡ writes handle.old.held written.old (λ log. if result == 0
-        then poured_length (packets_in (answer_in log (Drain 0 time))) reports.old
+        then length (reports_in (answer_in log (Drain 0 time)))
         else written.old) }
 {
     let Some(mut engine) = handle.take(alloc) else {

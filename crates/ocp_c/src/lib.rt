@@ -14,8 +14,10 @@ ghost use Rattle.ocp_c.specs.Statuses.{number_of, status_of, status_of_command};
 ghost use Rattle.ocp_c.specs.Calls.{answers, leaves, writes, outcome_of, shown, counted, result_of, word_status, word_or};
 ghost use Rattle.ocp_c.specs.Opening.{opening, IsOpened};
 
+mod entry;
 mod exchange;
 mod handle;
+mod laws;
 mod loose;
 mod opening;
 mod outcome;
@@ -25,6 +27,7 @@ mod reading;
 mod status;
 
 pub use handle::Handle;
+pub use laws::{entries_are_read_back, reports_are_few};
 use ocp_core::{Slice, StepOutcome};
 use opening::open;
 pub use outcome::Outcome;
