@@ -24,12 +24,9 @@ pub fn answer_in(output: &[u8]) -> Option<Answer<'_>> {
     }
 }
 
-/// What a fault of an assembly text or of an image means, `Syntax` and `Hex` aside.
+/// What a fault of an assembly text or of an image means, `Syntax`, `Range` and `Hex` aside.
 pub(crate) fn sentence_of_fault(name: &[u8]) -> &'static str {
     match name {
-        b"Range" =>
-            "a number is out of its range: a distance has 16 bits, that of ja32 and of call \
-                     local 32, and a number behind a comma 32",
         b"DuplicateLabel" => "this label stands in front of another line already",
         b"UnknownLabel" => "no line of the text has this label",
         b"TooLong" => "an input has at most 1048576 octets",
@@ -43,7 +40,7 @@ pub(crate) fn sentence_of_fault(name: &[u8]) -> &'static str {
         b"Decode 1" => "CutWide: the second slot of lddw is missing",
         b"Decode 2" => "UnknownOpcode: no instruction has the opcode in the first octet",
         b"Decode 3" => "BadRegister: registers are 0 to 10, in the halves of the second octet",
-        b"Decode 4" => "ReservedField: a field that the instruction does not use is zero",
+        b"Decode 4" => "ReservedField: a field has a value that its instruction does not allow",
         _ => "this does not fit",
     }
 }

@@ -4,7 +4,8 @@ use crate::answer::{Answer, sentence_of_fault};
 use crate::hint::{Hint, Says, write_octet};
 use crate::image::{digits_of, hint_of_image};
 use crate::line::hint_of_line;
-use crate::statement::hint_of_statement;
+use crate::slot::column_of_fault;
+use crate::statement::{hint_of_fault, hint_of_statement};
 use ocp_profile::Profile;
 use std::fmt;
 use text_lines::first_line;
@@ -17,7 +18,10 @@ const SHOWN: usize = 120;
 /// How many digits a slot has.
 const SLOT_DIGITS: usize = 16;
 
-/// What is refused: a line of this number, or a slot.
+/// How many octets a line of a script has at most.
+const LINE_OCTETS: usize = 40_000;
+
+/// What is refused: a line of this number, a slot of this number, or all of it.
 #[derive(Clone, Copy)]
 enum Place {
     Line(u64),
@@ -71,6 +75,15 @@ fn slots_from(digits: &[u8], number: u64) -> &[u8] {
     rest
 }
 
+/// The digits of the instruction at the front: those of one slot, of `lddw` of two.
+fn digits_of_instruction(slots: &[u8]) -> &[u8] {
+    let count = match slots {
+        [b'1', b'8', ..] => 2 * SLOT_DIGITS,
+        _ => SLOT_DIGITS,
+    };
+    slots.get(..count).unwrap_or(slots)
+}
+
 impl<'a> Explained<'a> {
     /// What did not fit in the line of a script that is `Syntax`. It has this number in the script,
     /// and that one, `among`, among the lines of the text.
@@ -84,12 +97,34 @@ impl<'a> Explained<'a> {
         }
     }
 
+    /// A line of a script that is too long; the numbers are those of `of_script`.
+    pub fn of_long_line(number: u64, text: &'a [u8], among: u64) -> Explained<'a> {
+        let line = line_at(text, among);
+        Explained {
+            place: Place::Line(number),
+            line,
+            hint: Hint {
+                column: line.len().min(LINE_OCTETS),
+                says: Says::Sentence("a line has at most 40000 octets"),
+            },
+        }
+    }
+
+    /// The first line that is too many in a script; the numbers are those of `of_script`.
+    pub fn of_many_lines(number: u64, text: &'a [u8], among: u64) -> Explained<'a> {
+        Explained {
+            place: Place::Line(number),
+            line: line_at(text, among),
+            hint: without_mark("a script has at most 100000 lines"),
+        }
+    }
+
     /// What did not fit in an assembly text.
     pub fn of_text(text: &'a [u8], answer: Answer<'_>) -> Explained<'a> {
         let line = line_at(text, answer.number);
         let hint = match answer.name {
             b"Syntax" => hint_of_statement(line),
-            name => without_mark(sentence_of_fault(name)),
+            name => hint_of_fault(line, name),
         };
         match answer.number {
             0 => Explained {
@@ -114,17 +149,24 @@ impl<'a> Explained<'a> {
                 line: digits,
                 hint: hint_of_image(text),
             },
-            b"TooLong" | b"Ragged" => Explained {
+            b"TooLong" => Explained {
                 place: Place::Input,
                 line: &[],
                 hint: without_mark(sentence_of_fault(answer.name)),
             },
             name => {
-                let slots = slots_from(digits, answer.number);
+                let number = match name {
+                    b"Ragged" => (digits.len() / SLOT_DIGITS) as u64,
+                    _ => answer.number,
+                };
+                let shown = digits_of_instruction(slots_from(digits, number));
                 Explained {
-                    place: Place::Slot(answer.number),
-                    line: slots.get(..SLOT_DIGITS).unwrap_or(slots),
-                    hint: without_mark(sentence_of_fault(name)),
+                    place: Place::Slot(number),
+                    line: shown,
+                    hint: Hint {
+                        column: column_of_fault(name, shown),
+                        says: Says::Sentence(sentence_of_fault(name)),
+                    },
                 }
             }
         }

@@ -55,7 +55,7 @@ fn form_of_activate(profile: Profile) -> Form {
     match profile {
         Profile::One => Form {
             text: "send <flags> activate <id> [<hex>]",
-            parts: &[Part::Identifier, Part::Arguments],
+            parts: &[Part::Identifier, Part::OnlyArguments],
             needed: 1,
         },
         Profile::Two => Form {

@@ -37,6 +37,10 @@ pub enum Misfit<'a> {
     HexadecimalPrefix,
     HexadecimalDigit,
     OddDigits,
+    /// The fault line of another command stands in place of an image.
+    FaultLine,
+    /// A budget stands where the profile has none.
+    Budget,
     TooManyArguments,
     Address,
     Switch,
@@ -111,6 +115,15 @@ impl fmt::Display for Misfit<'_> {
             }
             Misfit::HexadecimalDigit => write!(f, "only hexadecimal digits may stand here"),
             Misfit::OddDigits => write!(f, "the number of hexadecimal digits is even"),
+            Misfit::FaultLine => {
+                write!(f, "this is the fault line of asm or list, and no image")
+            }
+            Misfit::Budget => {
+                write!(
+                    f,
+                    "profile 1 has no budget, and arguments have two digits for each octet"
+                )
+            }
             Misfit::TooManyArguments => write!(f, "arguments have at most 256 octets"),
             Misfit::Address => write!(f, "an address is 0x and 1 to 16 hexadecimal digits"),
             Misfit::Switch => write!(f, "on or off may stand here"),

@@ -8,8 +8,11 @@ mod form;
 mod hint;
 mod image;
 mod line;
+mod operand;
 mod part;
+mod slot;
 mod statement;
+mod tokens;
 mod words;
 
 pub use answer::{Answer, answer_in};

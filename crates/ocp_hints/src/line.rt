@@ -24,9 +24,12 @@ fn sentence_of_octets(octets: &[u8]) -> Option<&'static str> {
         [0xef, 0xbb, 0xbf, ..] => {
             Some("a byte order mark stands here: save the file without it")
         }
-        [0, ..] | [0xff, 0xfe, ..] | [0xfe, 0xff, ..] => Some(
+        [0, ..] => Some(
             "this is a zero octet: the file is UTF-16 or binary, and a script is plain ASCII",
         ),
+        [0xff, 0xfe, ..] | [0xfe, 0xff, ..] => {
+            Some("this is the byte order mark of UTF-16, and a script is plain ASCII")
+        }
         [0x7f, b'E', b'L', b'F', ..] => {
             Some("this is an ELF file: examples/c/build makes the image of one, and load takes it")
         }
@@ -75,6 +78,7 @@ pub(crate) fn number(word: &[u8]) -> Option<u64> {
 fn misfit_of_octets(word: &[u8]) -> Option<Misfit<'_>> {
     match word {
         [b'0', b'x' | b'X', ..] => Some(Misfit::HexadecimalPrefix),
+        b"error" => Some(Misfit::FaultLine),
         _ if !word.iter().all(|octet| octet.is_ascii_hexdigit()) => Some(Misfit::HexadecimalDigit),
         _ if word.len() % 2 == 1 => Some(Misfit::OddDigits),
         _ => None,
@@ -97,8 +101,9 @@ fn is_address(word: &[u8]) -> bool {
 fn misfit_of<'a>(part: Part, word: &'a [u8]) -> Option<Misfit<'a>> {
     match part {
         Part::Octets => misfit_of_octets(word),
-        Part::Arguments => match misfit_of_octets(word) {
+        Part::Arguments | Part::OnlyArguments => match misfit_of_octets(word) {
             None if word.len() > 512 => Some(Misfit::TooManyArguments),
+            Some(Misfit::OddDigits) if matches!(part, Part::OnlyArguments) => Some(Misfit::Budget),
             misfit => misfit,
         },
         Part::Address => {
@@ -123,9 +128,10 @@ fn misfit_of<'a>(part: Part, word: &'a [u8]) -> Option<Misfit<'a>> {
 }
 
 /// A word behind the last part of a form.
-fn misfit_of_more(word: &[u8]) -> Misfit<'_> {
-    match word {
-        [b'#' | b';' | b'/', ..] => Misfit::Comment,
+fn misfit_of_more<'a>(form: Form, word: &'a [u8]) -> Misfit<'a> {
+    match (word, form.parts) {
+        ([b'#' | b';' | b'/', ..], _) => Misfit::Comment,
+        (_, [.., Part::OnlyArguments]) => Misfit::Budget,
         _ => Misfit::More,
     }
 }
@@ -156,7 +162,7 @@ fn hint_of_words<'a>(form: Form, words: Words<'a>) -> Option<Hint<'a>> {
     let (word, _) = rest.next_word()?;
     Some(Hint {
         column: word.column,
-        says: Says::Form(form.text, misfit_of_more(word.text)),
+        says: Says::Form(form.text, misfit_of_more(form, word.text)),
     })
 }
 
@@ -199,6 +205,11 @@ fn verb_in_other_letters(word: &[u8]) -> Option<&'static str> {
     None
 }
 
+/// Whether a word has the digits of one slot of an image, or more.
+fn is_image(word: &[u8]) -> bool {
+    word.len() >= 16 && word.iter().all(|octet| octet.is_ascii_hexdigit())
+}
+
 /// What does not fit in a line that begins with no verb.
 fn says_of_no_verb<'a>(profile: Profile, word: &'a [u8]) -> Says<'a> {
     if form_of_request(profile, word).is_some() {
@@ -208,6 +219,16 @@ fn says_of_no_verb<'a>(profile: Profile, word: &'a [u8]) -> Says<'a> {
         b"help" => Says::Sentence("a script has no such line; ./ocp run --help shows them all"),
         b"quit" | b"exit" => {
             Says::Sentence("a script ends where its input ends; in a terminal Control-D")
+        }
+        b"error" => Says::Sentence("this is the fault line of another command: mend its input"),
+        b"tm" => Says::Sentence("this is a line of a transcript, and a script has requests"),
+        b"int" | b"unsigned" | b"static" | b"struct" | b"void" | b"typedef" | b"extern" | b"word" =>
+            Says::Sentence("this is C: examples/c/build makes the image of a C text"),
+        b"mov64" | b"mov32" | b"lddw" | b"jeq64" | b"call" | b"ja" => {
+            Says::Sentence("this is assembly: asm makes its image, and send <flags> load takes it")
+        }
+        _ if is_image(word) => {
+            Says::Sentence("digits of an image stand behind send <flags> load <id>")
         }
         _ => match verb_in_other_letters(word) {
             Some(verb) => Says::LowerCase(verb),

@@ -22,8 +22,10 @@ pub enum Part {
     Switch,
     /// Octets, in hexadecimal digits.
     Octets,
-    /// The arguments of a procedure, in hexadecimal digits.
+    /// The arguments of a procedure, in hexadecimal digits, behind a budget.
     Arguments,
+    /// The arguments of a procedure under profile 1, where no budget stands.
+    OnlyArguments,
 }
 
 impl Part {
@@ -44,7 +46,7 @@ impl Part {
             Part::Turns => "turns",
             Part::Address => "0x<digits>",
             Part::Switch => "on|off",
-            Part::Octets | Part::Arguments => "hex",
+            Part::Octets | Part::Arguments | Part::OnlyArguments => "hex",
         }
     }
 
@@ -58,7 +60,8 @@ impl Part {
             Part::Length => Some((1, 256)),
             Part::Workers => Some((1, 16)),
             Part::Count | Part::TurnBudget | Part::Turns => Some((1, 1_000_000)),
-            Part::Address | Part::Switch | Part::Octets | Part::Arguments => None,
+            Part::Address | Part::Switch | Part::Octets | Part::Arguments | Part::OnlyArguments =>
+                None,
         }
     }
 }

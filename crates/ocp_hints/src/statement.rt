@@ -1,8 +1,22 @@
 //! Hints on lines of assembly text.
 
-ghost use Rattle.std.specs.Prelude.{◌≤◌, length};
-
+use crate::answer::sentence_of_fault;
 use crate::hint::{Hint, Says};
+use crate::operand::Operand::{
+    Closes, Comma, Extension, Immediate, LongTarget, Offset, Opens, Register, Second,
+    ShortExtension, SwapWidth, Target, Wide,
+};
+use crate::operand::{Fit, Operand, is_name};
+use crate::tokens::Tokens;
+
+const TARGET: &str = "<distance with its sign, or label>";
+
+const CALL: &str = "<number of an engine call>, or call local <distance or label>";
+
+const NO_LABEL: &str = "a label is a letter or _, then letters, digits and _, 32 at most";
+
+const LABEL: &str = "this label is out of its range, -32768 to +32767 slots from the next \
+                     instruction";
 
 const ARITHMETIC: [&str; 14] = [
     "add", "sub", "mul", "div", "sdiv", "or", "and", "lsh", "rsh", "mod", "smod", "xor", "mov",
@@ -18,37 +32,69 @@ fn is_one_of(names: &[&'static str], word: &[u8]) -> bool {
     names.iter().any(|name| word == name.as_bytes())
 }
 
-/// What stands behind a mnemonic that has no width in it.
-fn operands_of_name(mnemonic: &[u8]) -> Option<&'static str> {
-    match mnemonic {
-        b"neg64" | b"neg32" => Some("<register>"),
-        b"movsx64" => Some("<register>, <register>, 8 or 16 or 32"),
-        b"movsx32" => Some("<register>, <register>, 8 or 16"),
-        b"le" | b"be" | b"swap" => Some("<register>, 16 or 32 or 64"),
-        b"lddw" => Some("<register>, <number without a sign>"),
-        b"ldxb" | b"ldxh" | b"ldxw" | b"ldxdw" | b"ldxsb" | b"ldxsh" | b"ldxsw" => Some(
-            "<register>, [<register>+<distance>], with no blank between sign and distance",
-        ),
-        b"stxb" | b"stxh" | b"stxw" | b"stxdw" => Some("[<register>+<distance>], <register>"),
-        b"stb" | b"sth" | b"stw" | b"stdw" => Some("[<register>+<distance>], <number>"),
-        b"ja" | b"ja32" => Some("<distance with its sign, or label>"),
-        b"call" => Some("<number of an engine call>, or call local <distance or label>"),
-        b"exit" => Some("has nothing behind it"),
-        _ => None,
-    }
+/// What stands behind a mnemonic: as it is said, and piece by piece.
+#[derive(Clone, Copy)]
+struct Shape {
+    text: &'static str,
+    operands: &'static [Operand],
 }
 
-/// What stands behind a mnemonic.
-fn operands_of(mnemonic: &[u8]) -> Option<&'static str> {
+/// What stands behind a mnemonic that has no width in it; of `call` the word behind it decides.
+fn shape_of_name(mnemonic: &[u8], is_local: bool) -> Option<Shape> {
+    let (text, operands): (&str, &[Operand]) = match mnemonic {
+        b"neg64" | b"neg32" => ("<register>", &[Register]),
+        b"movsx64" => (
+            "<register>, <register>, 8 or 16 or 32",
+            &[Register, Comma, Register, Comma, Extension],
+        ),
+        b"movsx32" => (
+            "<register>, <register>, 8 or 16",
+            &[Register, Comma, Register, Comma, ShortExtension],
+        ),
+        b"le" | b"be" | b"swap" => { ("<register>, 16 or 32 or 64", &[Register, Comma, SwapWidth]) }
+        b"lddw" => (
+            "<register>, <number without a sign>",
+            &[Register, Comma, Wide],
+        ),
+        b"ldxb" | b"ldxh" | b"ldxw" | b"ldxdw" | b"ldxsb" | b"ldxsh" | b"ldxsw" => (
+            "<register>, [<register>+<distance>], with no blank between sign and distance",
+            &[Register, Comma, Opens, Register, Offset, Closes],
+        ),
+        b"stxb" | b"stxh" | b"stxw" | b"stxdw" => (
+            "[<register>+<distance>], <register>",
+            &[Opens, Register, Offset, Closes, Comma, Register],
+        ),
+        b"stb" | b"sth" | b"stw" | b"stdw" => (
+            "[<register>+<distance>], <number>",
+            &[Opens, Register, Offset, Closes, Comma, Immediate],
+        ),
+        b"ja" => (TARGET, &[Target]),
+        b"ja32" => (TARGET, &[LongTarget]),
+        b"call" if is_local => (CALL, &[LongTarget]),
+        b"call" => (CALL, &[Immediate]),
+        b"exit" => ("has nothing behind it", &[]),
+        _ => return None,
+    };
+    Some(Shape { text, operands })
+}
+
+/// What stands behind a mnemonic; of `call` the word behind it decides.
+fn shape_of(mnemonic: &[u8], is_local: bool) -> Option<Shape> {
     if let [base @ .., b'6', b'4'] | [base @ .., b'3', b'2'] = mnemonic {
         if is_one_of(&ARITHMETIC, base) {
-            return Some("<register>, <register or number>");
+            return Some(Shape {
+                text: "<register>, <register or number>",
+                operands: &[Register, Comma, Second],
+            });
         }
         if is_one_of(&CONDITIONS, base) {
-            return Some("<register>, <register or number>, <distance with its sign, or label>");
+            return Some(Shape {
+                text: "<register>, <register or number>, <distance with its sign, or label>",
+                operands: &[Register, Comma, Second, Comma, Target],
+            });
         }
     }
-    operands_of_name(mnemonic)
+    shape_of_name(mnemonic, is_local)
 }
 
 /// Whether a word is a mnemonic without its width.
@@ -71,9 +117,12 @@ fn says_of_no_mnemonic(word: &[u8]) -> Says<'_> {
         b"r0" | b"r1" | b"r2" | b"r3" | b"r4" | b"r5" | b"r6" | b"r7" | b"r8" | b"r9" | b"r10" => {
             "an instruction begins with its mnemonic: mov64 r1, 5; ldxw r0, [r1+4]"
         }
-        b"int" | b"unsigned" | b"static" | b"struct" | b"void" | b"typedef" | b"extern" => {
-            "this is C: examples/c/build makes the image of a C text"
+        b"send" | b"step" | b"view" | b"mem" | b"pool" | b"drain" | b"break" | b"trace" => {
+            "this is a line of a script: a script goes to run"
         }
+        b"error" => "this is the fault line of another command: mend its input",
+        b"int" | b"unsigned" | b"static" | b"struct" | b"void" | b"typedef" | b"extern" | b"word" =>
+            { "this is C: examples/c/build makes the image of a C text" }
         [b'A'..=b'Z', ..] => "mnemonics and registers are in lower case",
         [b'0'..=b'9', ..] => "a text has instructions; digits of an image go to list and to load",
         _ => "this is no mnemonic; docs/CARD.md has them all",
@@ -86,8 +135,11 @@ fn sentence_of_octets(octets: &[u8]) -> Option<&'static str> {
         [0xef, 0xbb, 0xbf, ..] => {
             Some("a byte order mark stands here: save the file without it")
         }
-        [0, ..] | [0xff, 0xfe, ..] | [0xfe, 0xff, ..] => {
+        [0, ..] => {
             Some("this is a zero octet: the file is UTF-16 or binary, and a text is plain ASCII")
+        }
+        [0xff, 0xfe, ..] | [0xfe, 0xff, ..] => {
+            Some("this is the byte order mark of UTF-16, and a text is plain ASCII")
         }
         [0x7f, b'E', b'L', b'F', ..] => {
             Some("this is an ELF file: examples/c/build makes the image of one")
@@ -129,64 +181,155 @@ fn hint_of_octets(line: &[u8]) -> Option<Hint<'_>> {
     None
 }
 
-/// Whether an octet parts the words of a text.
-fn is_blank(octet: u8) -> bool {
-    octet == b' ' || octet == b'\t'
+/// What in the operands of a statement does not fit.
+#[derive(Clone, Copy)]
+struct Misfits {
+    /// Where the first token stands that cannot stand there.
+    form: Option<usize>,
+    /// Where the first number out of its range stands, and its range.
+    range: Option<(usize, &'static str)>,
 }
 
-/// The text behind its blanks.
-fn without_blanks(text: &[u8]) -> &[u8] {
-    let mut rest = text;
-    while let [octet, behind @ ..] = rest {
-        if !is_blank(*octet) {
-            break;
+/// What in these tokens does not fit the operands.
+fn misfits_of(operands: &[Operand], tokens: Tokens<'_>) -> Misfits {
+    let mut rest = tokens;
+    let mut range = None;
+    for operand in operands {
+        let (token, behind) = rest.next_token();
+        match operand.fit(token.text) {
+            Fit::Fits => rest = behind,
+            Fit::Absent => {}
+            Fit::Beyond(says) => {
+                if range.is_none() {
+                    range = Some((token.column, says));
+                }
+                rest = behind;
+            }
+            Fit::Misfit => {
+                return Misfits {
+                    form: Some(token.column),
+                    range,
+                };
+            }
         }
-        rest = behind;
     }
-    rest
+    let (more, _) = rest.next_token();
+    let form = if more.text.is_empty() {
+        None
+    } else {
+        Some(more.column)
+    };
+    Misfits { form, range }
 }
 
-/// How many octets stand before the first that is part of no word.
-fn word_length(text: &[u8]) -> usize
-    ensures { result ≤ length text.now }
-{
-    for (index, octet) in text.iter().enumerate() {
-        if !octet.is_ascii_alphanumeric() && *octet != b'_' {
-            return index;
-        }
-    }
-    text.len()
-}
-
-/// The statement of a line: what stands behind its label.
-fn statement_of(line: &[u8]) -> &[u8] {
-    let text = without_blanks(line);
-    match &text[word_length(text)..] {
-        [b':', behind @ ..] => without_blanks(behind),
-        _ => text,
+/// The tokens of a line behind its label.
+fn behind_label(line: &[u8]) -> Tokens<'_> {
+    let tokens = Tokens::new(line);
+    let (_, behind) = tokens.next_token();
+    match behind.next_token() {
+        (colon, rest) if colon.text == b":".as_slice() => rest,
+        _ => tokens,
     }
 }
 
-/// What does not fit in a line of assembly text that is `Syntax`.
-pub fn hint_of_statement(line: &[u8]) -> Hint<'_> {
-    let statement = statement_of(line);
-    let mnemonic = &statement[..word_length(statement)];
-    let begin = line.len().saturating_sub(statement.len());
-    if let Some(operands) = operands_of(mnemonic) {
-        return hint_of_octets(line).unwrap_or(Hint {
-            column: begin.saturating_add(mnemonic.len()),
-            says: Says::Operands(mnemonic, operands),
+/// A statement of a known mnemonic.
+#[derive(Clone, Copy)]
+struct Statement {
+    text: &'static str,
+    misfits: Misfits,
+}
+
+/// What stands behind a mnemonic, and what in it does not fit.
+fn statement_of<'a>(mnemonic: &'a [u8], behind: Tokens<'a>) -> Option<Statement> {
+    let (word, behind_word) = behind.next_token();
+    let is_local = word.text == b"local".as_slice();
+    let shape = shape_of(mnemonic, is_local)?;
+    let operands = if is_local && mnemonic == b"call".as_slice() {
+        behind_word
+    } else {
+        behind
+    };
+    Some(Statement {
+        text: shape.text,
+        misfits: misfits_of(shape.operands, operands),
+    })
+}
+
+/// What in the labels of a line does not fit.
+fn hint_of_labels(line: &[u8]) -> Option<Hint<'_>> {
+    let (label, behind) = Tokens::new(line).next_token();
+    let (colon, rest) = behind.next_token();
+    if colon.text != b":".as_slice() {
+        return None;
+    }
+    if !is_name(label.text) {
+        return Some(Hint {
+            column: label.column,
+            says: Says::Sentence(NO_LABEL),
         });
     }
-    let is_binary = statement.iter().any(|octet| *octet == 0);
-    match hint_of_octets(statement) {
-        Some(hint) if is_binary || mnemonic.is_empty() => Hint {
-            column: begin.saturating_add(hint.column),
-            says: hint.says,
+    let (second, behind) = rest.next_token();
+    match behind.next_token() {
+        (colon, _) if colon.text == b":".as_slice() => Some(Hint {
+            column: second.column,
+            says: Says::Sentence("a line has one label at most"),
+        }),
+        _ => None,
+    }
+}
+
+/// What does not fit in a statement: the word in place of its mnemonic, or one of its operands.
+fn hint_of_words(line: &[u8]) -> Hint<'_> {
+    let (mnemonic, behind) = behind_label(line).next_token();
+    match statement_of(mnemonic.text, behind) {
+        Some(statement) => Hint {
+            column: statement.misfits.form.unwrap_or(mnemonic.column),
+            says: Says::Operands(mnemonic.text, statement.text),
         },
-        _ => Hint {
-            column: begin,
-            says: says_of_no_mnemonic(mnemonic),
+        None => Hint {
+            column: mnemonic.column,
+            says: says_of_no_mnemonic(mnemonic.text),
         },
+    }
+}
+
+/// What does not fit in a line of assembly text that is `Syntax`. An octet that no statement may
+/// have comes before a word behind it, and a zero octet before all.
+pub fn hint_of_statement(line: &[u8]) -> Hint<'_> {
+    let hint = hint_of_labels(line).unwrap_or(hint_of_words(line));
+    let is_binary = line.iter().any(|octet| *octet == 0);
+    match hint_of_octets(line) {
+        Some(octet) if is_binary || octet.column <= hint.column => octet,
+        _ => hint,
+    }
+}
+
+/// What is out of its range in a line of assembly text that is `Range`.
+fn hint_of_range(line: &[u8]) -> Hint<'_> {
+    let (mnemonic, behind) = behind_label(line).next_token();
+    let range = match statement_of(mnemonic.text, behind) {
+        Some(statement) => statement.misfits.range,
+        None => None,
+    };
+    let (column, says) = range.unwrap_or((behind.last_token().column, LABEL));
+    Hint {
+        column,
+        says: Says::Sentence(says),
+    }
+}
+
+/// A fault of a line of assembly text, `Syntax` aside, with the word that it is about.
+pub(crate) fn hint_of_fault<'a>(line: &'a [u8], name: &[u8]) -> Hint<'a> {
+    let (mnemonic, behind) = behind_label(line).next_token();
+    let word = match name {
+        b"Range" => return hint_of_range(line),
+        b"DuplicateLabel" => Tokens::new(line).next_token().0,
+        b"Load 8" => behind.next_token().0,
+        b"UnknownLabel" | b"Load 9" | b"Load 10" => behind.last_token(),
+        _ => mnemonic,
+    };
+    Hint {
+        column: word.column,
+        says: Says::Sentence(sentence_of_fault(name)),
     }
 }

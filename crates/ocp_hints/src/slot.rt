@@ -1,0 +1,72 @@
+//! Where a slot of an image does not fit.
+
+/// The digits of a field: those of these columns.
+type Field = (usize, usize);
+
+const SOURCE: Field = (2, 3);
+
+const DESTINATION: Field = (3, 4);
+
+const OFFSET: Field = (4, 8);
+
+const IMM: Field = (8, 16);
+
+/// Opcode, registers and offset of the second slot of `lddw`.
+const SECOND: Field = (16, 24);
+
+/// The fields that the instructions of an opcode, in digits, do not use. A field that has some
+/// values alone stands behind them.
+fn unused_fields(opcode: [u8; 2]) -> &'static [Field] {
+    match opcode {
+        [b'9', b'5'] => &[SOURCE, DESTINATION, OFFSET, IMM],
+        [b'8', b'5'] => &[DESTINATION, OFFSET, SOURCE],
+        [b'0', b'5'] => &[SOURCE, DESTINATION, IMM],
+        [b'0', b'6'] => &[SOURCE, DESTINATION, OFFSET],
+        [b'8', b'4' | b'7'] | [b'd' | b'D', b'4' | b'7' | b'c' | b'C'] => &[SOURCE, OFFSET, IMM],
+        [b'1', b'8'] => &[SOURCE, OFFSET, SECOND],
+        [_, b'4' | b'7'] => &[SOURCE, OFFSET],
+        [_, b'c' | b'C' | b'f' | b'F'] => &[IMM, OFFSET],
+        [_, b'2' | b'a' | b'A' | b'5' | b'6'] => &[SOURCE],
+        _ => &[IMM],
+    }
+}
+
+/// Whether a field is zero.
+fn is_zero(digits: &[u8], field: Field) -> bool {
+    let (begin, end) = field;
+    match digits.get(begin..end) {
+        Some(field) => field.iter().all(|digit| *digit == b'0'),
+        None => true,
+    }
+}
+
+/// The column of the field that has to be zero, or another value.
+fn reserved_column(digits: &[u8]) -> usize {
+    let [high, low, ..] = digits else {
+        return 0;
+    };
+    let mut column = 0usize;
+    for field in unused_fields([*high, *low]) {
+        column = field.0;
+        if !is_zero(digits, *field) {
+            break;
+        }
+    }
+    column
+}
+
+/// How many digits of an instruction stand before what is at fault.
+pub(crate) fn column_of_fault(name: &[u8], digits: &[u8]) -> usize {
+    match name {
+        b"Decode 1" | b"Ragged" => digits.len(),
+        b"Decode 3" => {
+            match digits {
+                [_, _, _, b'b'..=b'f' | b'B'..=b'F', ..] => DESTINATION.0,
+                _ => SOURCE.0,
+            }
+        }
+        b"Decode 4" => reserved_column(digits),
+        b"Decode 5" => DESTINATION.0,
+        _ => 0,
+    }
+}
