@@ -3,6 +3,7 @@
 ghost use Rattle.std.specs.Prelude.{◌≡◌};
 
 use arrayvec::ArrayVec;
+use memchr::{memchr_iter, memrchr};
 use ocp_console::{Sink, Source};
 use std::alloc::{AllocError, Global};
 
@@ -23,22 +24,11 @@ pub(crate) struct Text {
     octets: Vec<u8>,
     /// How many lines stand in front of what is kept.
     before: u64,
+    /// How many lines end in what is kept, and where the line behind them begins; 0 where all is
+    /// kept.
+    ended: u64,
+    open: usize,
     is_lost: bool,
-}
-
-/// How many lines of a text end, and what stands behind them.
-fn last_line(text: &[u8]) -> (u64, &[u8]) {
-    let mut ended = 0u64;
-    let mut last = text;
-    let mut rest = text;
-    while let [octet, behind @ ..] = rest {
-        rest = behind;
-        if *octet == b'\n' {
-            ended = ended.saturating_add(1);
-            last = behind;
-        }
-    }
-    (ended, last)
 }
 
 impl Text {
@@ -48,19 +38,38 @@ impl Text {
             keeps,
             octets: Vec::new(alloc),
             before: 0,
+            ended: 0,
+            open: 0,
             is_lost: false,
         }
     }
 
+    /// Keeps the line that has not ended, and no line in front of it.
+    fn cut(&mut self) -> Result<(), AllocError> {
+        let open = self.octets.get(self.open..).unwrap_or(&[]);
+        if open.is_empty() {
+            self.octets.clear();
+        } else {
+            let mut next = Vec::new(self.alloc);
+            next.extend_from_slice(open)?;
+            self.octets = next;
+        }
+        self.before = self.before.saturating_add(self.ended);
+        self.ended = 0;
+        self.open = 0;
+        Ok(())
+    }
+
     /// Goes on with these octets behind the line that has not ended.
     fn go_on(&mut self, octets: &[u8]) -> Result<(), AllocError> {
-        let (ended, last) = last_line(&self.octets);
-        let mut next = Vec::new(self.alloc);
-        next.extend_from_slice(last)?;
-        next.extend_from_slice(octets)?;
-        self.before = self.before.saturating_add(ended);
-        self.octets = next;
-        Ok(())
+        if self.ended != 0 {
+            self.cut()?;
+        }
+        if let Some(last) = memrchr(b'\n', octets) {
+            self.ended = memchr_iter(b'\n', octets).count() as u64;
+            self.open = self.octets.len().saturating_add(last).saturating_add(1);
+        }
+        self.octets.extend_from_slice(octets)
     }
 
     /// Takes octets that were read.

@@ -18,6 +18,9 @@ const INPUT_FAULT: u8 = 1;
 /// The exit status of a device that failed, of memory that was refused, or of workers that failed.
 const MACHINE_FAULT: u8 = 3;
 
+/// The first line that is too many in a script.
+const FIRST_LINE_TOO_MANY: u64 = 100_001;
+
 /// What is said of words that are refused.
 const WANTED_WORDS: &str = "The commands are run, asm and list. run takes --apid 0 to 2046, \
                             --pool 1 to 256, --journal 1 to 1000000 and --profile 1 or 2, asm \
@@ -48,12 +51,31 @@ fn say_hint(rt: &HostRuntime, job: Job, text: &Text, fault: Option<&ConsoleFault
     let Some(octets) = text.octets() else {
         return;
     };
+    let before = text.before();
     let explained = match (job, fault, answer_in(output)) {
-        (Job::Run(settings), Some(ConsoleFault::Syntax(number)), _) => {
-            let number = u64::from(*number);
-            let among = number.saturating_sub(text.before());
-            Explained::of_script(settings.profile, number, octets, among)
-        }
+        (Job::Run(settings), Some(fault), _) => match fault {
+            ConsoleFault::Syntax(number) => {
+                let number = u64::from(*number);
+                Explained::of_script(
+                    settings.profile,
+                    number,
+                    octets,
+                    number.saturating_sub(before),
+                )
+            }
+            ConsoleFault::LineTooLong(number) => {
+                let number = u64::from(*number);
+                Explained::of_long_line(number, octets, number.saturating_sub(before))
+            }
+            ConsoleFault::TooManyLines => {
+                Explained::of_many_lines(
+                    FIRST_LINE_TOO_MANY,
+                    octets,
+                    FIRST_LINE_TOO_MANY.saturating_sub(before),
+                )
+            }
+            _ => return,
+        },
         (Job::Assemble(_), None, Some(answer)) => Explained::of_text(octets, answer),
         (Job::List, None, Some(answer)) => Explained::of_image(octets, answer),
         _ => return,
