@@ -1,4 +1,5 @@
 mod EmptyWords
+pub mod Digits
 pub mod Hexadecimals
 pub mod NumberLists
 pub mod Numbers

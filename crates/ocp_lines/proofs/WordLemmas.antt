@@ -1,6 +1,8 @@
 -- The first word of a text.
-use Rattle.std.proofs.Common.{◌≡◌, ◌++◌, ◌<◌, ◌≤◌, ◌-◌, List, [], ◌∷◌, ℕ, zero, suc, Bool, true, false, eqb, not, ◌&&◌, length, refl, sym, ap, ◌∙◌, arith, take, drop, get_or, append-nil, take-append-drop, length-drop}
+use Rattle.std.proofs.Common.{◌≡◌, ◌++◌, ◌<◌, ◌≤◌, ◌-◌, List, [], ◌∷◌, ℕ, zero, suc, Bool, true, false, eqb, not, ◌&&◌, length, refl, sym, ap, ◌∙◌, arith, take, drop, get_or, append-nil, take-append-drop, length-drop, Some, None}
+use Rattle.std.proofs.lemmas.Bool.{eqb-true}
 use Rattle.std.proofs.lemmas.Grind.{common_steps}
+use Rattle.memchr.specs.Find.{IsFirstByte, Passes, is_byte}
 use Rattle.std.specs.List.{list_all}
 use Rattle.ocp_lines.specs.Words.{Word, is_solid, onto, pieces, words_of}
 
@@ -61,3 +63,25 @@ pub found_word : (all text : List ℕ) (n : ℕ) → words_of all ≡ words_of t
 found_word all text n same some le e h =
     let rest : take (length text - n) (drop n text) ≡ drop n text = grind (arith, common_steps, length-drop n text) in
     same ∙ word_split text n (omega (arith, some)) le e h ∙ ap (λ (t : List ℕ). take n text ∷ words_of t) (sym rest)
+
+not_true : (b : Bool) → (b ≡ true → ⊥) → b ≡ false
+not_true true h = absurd (h refl)
+not_true false h = refl
+
+-- octets of which none is a space
+pub none_is_space : (text : List ℕ) (n : ℕ) → n ≤ length text → ((k : ℕ) → 0 ≤ k → k < n → Passes (is_byte 32) text k → ⊥) → list_all is_solid (take n text) ≡ true
+none_is_space [] zero le h = refl
+none_is_space [] (suc n) le h = absurd (omega (arith, le))
+none_is_space (a ∷ text) zero le h = refl
+none_is_space (a ∷ text) (suc n) le h =
+    let first : eqb a 32 ≡ false = not_true (eqb a 32) (h 0 (omega arith) (omega arith)) in
+    rw first (none_is_space text n (omega (arith, le)) (λ k low lt passes. h (suc k) (omega arith) (omega (arith, lt)) passes))
+
+-- the place of the first space
+pub first_space : (text : List ℕ) (n : ℕ) → IsFirstByte (is_byte 32) text (Some n) → (n < length text) × (list_all is_solid (take n text) ≡ true) × (get_or text n 0 ≡ 32)
+first_space text n h =
+    (h.0.high, none_is_space text n (omega (arith, h.0.high)) h.0.before, eqb-true (get_or text n 0) 32 h.1)
+
+-- a text without a space
+pub no_space : (text : List ℕ) → IsFirstByte (is_byte 32) text None → list_all is_solid (take (length text) text) ≡ true
+no_space text h = none_is_space text (length text) (omega arith) h

@@ -4,6 +4,7 @@
 mod arguments;
 mod command;
 mod octets;
+mod pairs;
 mod parameters;
 mod reading;
 mod verbs;

@@ -10,14 +10,19 @@ ghost use Rattle.obcp_messages.specs.declared.payload.TheConstants.{MAX_ARGUMENT
 
 use crate::arguments::Arguments;
 use crate::octets::Octets;
-use hex::FromHexError;
+use crate::pairs::decoded;
+use memchr::memchr;
 use std::alloc::{AllocError, Allocator};
 
 /// The most hexadecimal digits of an address.
 const MAX_ADDRESS_DIGITS: usize = 16;
 
-/// How many octets stand before the first space.
-fn word_length(text: &[u8]) -> usize
+/// The most octets of a text of which each is looked at by itself for a space.
+const SHORT_TEXT: usize = 64;
+
+/// How many octets of a short text stand before the first space.
+#[inline(always)]
+fn short_word_length(text: &[u8]) -> usize
     ensures bound { result ≤ length text.now }
     ensures word { list_all is_solid (take result text.now) ≡ true }
     ensures space { result < length text.now → slice_index text.now result ≡ 32 }
@@ -28,6 +33,32 @@ fn word_length(text: &[u8]) -> usize
         }
     }
     text.len()
+}
+
+/// How many octets of a long text stand before the first space.
+fn long_word_length(text: &[u8]) -> usize
+    ensures bound { result ≤ length text.now }
+    ensures word { list_all is_solid (take result text.now) ≡ true }
+    ensures space { result < length text.now → slice_index text.now result ≡ 32 }
+{
+    match memchr(b' ', text) {
+        Some(length) => length,
+        None => text.len(),
+    }
+}
+
+/// How many octets stand before the first space.
+#[inline(always)]
+fn word_length(text: &[u8]) -> usize
+    ensures bound { result ≤ length text.now }
+    ensures word { list_all is_solid (take result text.now) ≡ true }
+    ensures space { result < length text.now → slice_index text.now result ≡ 32 }
+{
+    if text.len() <= SHORT_TEXT {
+        short_word_length(text)
+    } else {
+        long_word_length(text)
+    }
 }
 
 /// The first word, and what stands behind it.
@@ -186,10 +217,9 @@ pub(crate) fn octets<A: Allocator>(alloc: A, word: &[u8]) -> Result<Option<Octet
     if word.is_empty() {
         return Ok(Octets::new(Vec::new(alloc)));
     }
-    match hex::decode(alloc, word) {
-        Ok(items) => Ok(Octets::new(items)),
-        Err(FromHexError::OutOfMemory) => Err(AllocError),
-        Err(_) => Ok(None),
+    match decoded(alloc, word)? {
+        Some(items) => Ok(Octets::new(items)),
+        None => Ok(None),
     }
 }
 
@@ -204,9 +234,8 @@ pub(crate) fn argument_octets<A: Allocator>(
     if word.is_empty() {
         return Ok(Arguments::new(Vec::new(alloc)));
     }
-    match hex::decode(alloc, word) {
-        Ok(items) => Ok(Arguments::new(items)),
-        Err(FromHexError::OutOfMemory) => Err(AllocError),
-        Err(_) => Ok(None),
+    match decoded(alloc, word)? {
+        Some(items) => Ok(Arguments::new(items)),
+        None => Ok(None),
     }
 }

@@ -210,6 +210,19 @@ bits-xor_all v (w ∷ ws) =
     ∙ ap (λ (t : List Bool). sum_of t (sum_all ws)) (bits-xor 16 v w)
     ∙ sum-assoc (bits 16 v) (bits 16 w) (sum_all ws)
 
+-- the sum of three, the last first
+swapped : (p q s : List Bool) → sum_of p (sum_of q s) ≡ sum_of q (sum_of p s)
+swapped p q s = sym (sum-assoc p q s) ∙ ap (λ (t : List Bool). sum_of t s) (sum-comm p q) ∙ sum-assoc q p s
+
+sum_all-snoc : (ws : List ℕ) (w : ℕ) → sum_all (ws ++ w ∷ []) ≡ sum_of (bits 16 w) (sum_all ws)
+unfolding sum_all
+sum_all-snoc [] w = refl
+sum_all-snoc (v ∷ ws) w = ap (sum_of (bits 16 v)) (sum_all-snoc ws w) ∙ swapped (bits 16 v) (bits 16 w) (sum_all ws)
+
+-- the sum of a list, the last first
+sum_last_first : (ws : List ℕ) (w : ℕ) (q : List Bool) → sum_all ws ≡ q → sum_all (ws ++ w ∷ []) ≡ sum_of (bits 16 w) q
+sum_last_first ws w q e = sum_all-snoc ws w ∙ ap (sum_of (bits 16 w)) e
+
 eight : (os : List ℕ) → length os ≡ 8 → os ≡ get_or os 0 0 ∷ get_or os 1 0 ∷ get_or os 2 0 ∷ get_or os 3 0 ∷ get_or os 4 0 ∷ get_or os 5 0 ∷ get_or os 6 0 ∷ get_or os 7 0 ∷ []
 eight (a ∷ b ∷ c ∷ d ∷ e ∷ f ∷ g ∷ h ∷ []) is = refl
 eight (a ∷ b ∷ c ∷ d ∷ e ∷ f ∷ g ∷ h ∷ i ∷ os) is = absurd (omega (arith, is))
@@ -235,16 +248,25 @@ pub after_eight : (n : ℕ) (os : List ℕ) (r7 r6 r5 r4 r3 r2 r1 r0 : ℕ) → 
     → IsRemainderOf (get_or os 5 0) 2 r2
     → IsRemainderOf (get_or os 6 0) 1 r1
     → IsRemainderOf (get_or os 7 0) 0 r0
-    → fed os (bits 16 n) ≡ bits 16 (bit_xor (bit_xor (bit_xor (bit_xor (bit_xor (bit_xor (bit_xor r7 r6) r5) r4) r3) r2) r1) r0)
+    → fed os (bits 16 n) ≡ bits 16 (bit_xor (bit_xor (bit_xor (bit_xor (bit_xor (bit_xor (bit_xor r0 r1) r2) r3) r4) r5) r6) r7)
 unfolding contribution xor_all sum_all
 after_eight n os r7 r6 r5 r4 r3 r2 r1 r0 lt len e7 e6 e5 e4 e3 e2 e1 e0 =
     let rest = get_or os 2 0 ∷ get_or os 3 0 ∷ get_or os 4 0 ∷ get_or os 5 0 ∷ get_or os 6 0 ∷ get_or os 7 0 ∷ [] in
     let sums : contribution (bit_xor (get_or os 0 0) (n / 256) ∷ bit_xor (get_or os 1 0) (n % 256) ∷ rest) ≡ sum_of (bits 16 r7) (sum_all (r6 ∷ r5 ∷ r4 ∷ r3 ∷ r2 ∷ r1 ∷ r0 ∷ [])) =
     λ i. sum_of (sym e7.is i) (sum_of (sym e6.is i) (sum_of (sym e5.is i) (sum_of (sym e4.is i) (sum_of (sym e3.is i) (sum_of (sym e2.is i) (sum_of (sym e1.is i) (sum_of (sym e0.is i) (zeros 16)))))))) in
+    let last_first : sum_all (r0 ∷ r1 ∷ r2 ∷ r3 ∷ r4 ∷ r5 ∷ r6 ∷ r7 ∷ []) ≡ sum_of (bits 16 r7) (sum_all (r6 ∷ r5 ∷ r4 ∷ r3 ∷ r2 ∷ r1 ∷ r0 ∷ [])) =
+    sum_last_first (r0 ∷ r1 ∷ r2 ∷ r3 ∷ r4 ∷ r5 ∷ r6 ∷ []) r7 _
+    (sum_last_first (r0 ∷ r1 ∷ r2 ∷ r3 ∷ r4 ∷ r5 ∷ []) r6 _
+    (sum_last_first (r0 ∷ r1 ∷ r2 ∷ r3 ∷ r4 ∷ []) r5 _
+    (sum_last_first (r0 ∷ r1 ∷ r2 ∷ r3 ∷ []) r4 _
+    (sum_last_first (r0 ∷ r1 ∷ r2 ∷ []) r3 _
+    (sum_last_first (r0 ∷ r1 ∷ []) r2 _
+    (sum_last_first (r0 ∷ []) r1 (sum_all (r0 ∷ [])) refl)))))) in
     ap (λ (t : List ℕ). fed t (bits 16 n)) (eight os len)
     ∙ fed_two n (get_or os 0 0) (get_or os 1 0) rest lt
     ∙ sums
-    ∙ sym (bits-xor_all r7 (r6 ∷ r5 ∷ r4 ∷ r3 ∷ r2 ∷ r1 ∷ r0 ∷ []))
+    ∙ sym last_first
+    ∙ sym (bits-xor_all r0 (r1 ∷ r2 ∷ r3 ∷ r4 ∷ r5 ∷ r6 ∷ r7 ∷ []))
 
 -- ---- octets cut in two
 

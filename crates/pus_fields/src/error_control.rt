@@ -46,7 +46,8 @@ fn remainder(octet: u8, zeros: usize) -> u16
 }
 
 /// The register after eight octets: the sum of their remainders, with the register's octets added
-/// to the first two.
+/// to the first two. Their remainders are added last, since the others need not wait for the
+/// register.
 #[inline(always)]
 fn register_after_eight(register: u16, octets: &[u8; 8]) -> u16
     ensures { (rest remainder : List Bool) →
@@ -55,14 +56,14 @@ fn register_after_eight(register: u16, octets: &[u8; 8]) -> u16
 {
     let first = octets[0] ^ (register / 256) as u8;
     let second = octets[1] ^ (register % 256) as u8;
-    remainder(first, 7)
-        ^ remainder(second, 6)
-        ^ remainder(octets[2], 5)
-        ^ remainder(octets[3], 4)
-        ^ remainder(octets[4], 3)
-        ^ remainder(octets[5], 2)
+    remainder(octets[7], 0)
         ^ remainder(octets[6], 1)
-        ^ remainder(octets[7], 0)
+        ^ remainder(octets[5], 2)
+        ^ remainder(octets[4], 3)
+        ^ remainder(octets[3], 4)
+        ^ remainder(octets[2], 5)
+        ^ remainder(second, 6)
+        ^ remainder(first, 7)
 }
 
 /// The register after so many octets as there are.

@@ -1,0 +1,132 @@
+//! Times single calls of the library. Each line has what was called, for how many units at a time,
+//! the nanoseconds of the least of many blocks of calls, and how many calls a block has. With no
+//! argument each block is done once, and no nanoseconds are printed.
+#![tactic(auto)]
+
+ghost use Rattle.std.specs.Prelude.{◌≤◌};
+
+use ocp_core::Engine;
+use ocp_profile::Profile;
+use pus_fields::crc16;
+use std::alloc::AllocError;
+use std::{env, io};
+use std::time::Instant;
+
+/// A load of procedure 3: `add64 r0, 1` and a jump back to it.
+const LOAD: [u8; 33] = [
+    0x19, 0x23, 0xc0, 0x00, 0x00, 0x1a, 0x29, 0x12, 0x01, 0x00, 0x00, 0x00, 0x03, 0x00, 0x10, 0x07,
+    0x00, 0x00, 0x00, 0x01, 0x00, 0x00, 0x00, 0x05, 0x00, 0xfe, 0xff, 0x00, 0x00, 0x00, 0x00, 0x5a,
+    0x04,
+];
+
+/// Its activation, with no arguments.
+const ACTIVATE: [u8; 17] = [
+    0x19, 0x23, 0xc0, 0x01, 0x00, 0x0a, 0x29, 0x12, 0x03, 0x00, 0x00, 0x00, 0x03, 0x00, 0x00, 0xb7,
+    0xb8,
+];
+
+/// The application process that these are for.
+const APID: u16 = 0x123;
+
+const POOL_WORDS: u16 = 16;
+
+const JOURNAL: u32 = 1_000_000;
+
+/// The octets of which the error control is taken: a full image.
+const OCTETS: usize = 16_384;
+
+/// How often a block of calls is done where it is timed.
+const BLOCKS: u32 = 200;
+
+/// The sum of the error controls of the octets, so many times.
+#[inline(never)]
+fn error_controls(octets: &[u8], calls: u32) -> u32 {
+    let mut sum = 0u32;
+    for _ in 0..calls {
+        sum = sum.wrapping_add(u32::from(crc16(octets)));
+    }
+    sum
+}
+
+/// How long the block took that took least of those that are done, and the last one's sum.
+#[derive(Clone, Copy)]
+struct Timed {
+    least: u128,
+    sum: u32,
+}
+
+/// Prints a line: with the nanoseconds where blocks are timed, with the sum where they are not.
+fn say(rt: &HostRuntime, blocks: u32, what: &str, units: u32, calls: u32, timed: Timed) -> io::Result<()> {
+    if blocks > 1 {
+        println!(rt; "{what} {units} {} {calls}", timed.least)
+    } else {
+        println!(rt; "{what} {units} {calls} sum {}", timed.sum)
+    }
+}
+
+fn time_error_control(rt: &HostRuntime, blocks: u32) -> io::Result<()> {
+    let calls = 4;
+    let octets = vec![in rt.alloc(); 0x5au8; OCTETS]?;
+    let mut timed = Timed { least: u128::MAX, sum: 0 };
+    for _ in 0..blocks {
+        let start = Instant::now(rt)?;
+        timed.sum = timed.sum.wrapping_add(error_controls(&octets, calls));
+        timed.least = timed.least.min(start.elapsed(rt)?.as_nanos());
+    }
+    say(rt, blocks, "error_control", OCTETS as u32, calls, timed)
+}
+
+/// How many instructions some slices of procedure 3 do.
+#[inline(never)]
+fn slices(engine: &mut Engine, budget: u32, calls: u32) -> u32
+    requires { 1 ≤ budget }
+{
+    let mut done = 0u32;
+    for _ in 0..calls {
+        done = done.wrapping_add(engine.slice(0, 3, budget).count);
+    }
+    done
+}
+
+fn time_slices(
+    rt: &HostRuntime,
+    blocks: u32,
+    engine: &mut Engine,
+    budget: u32,
+    calls: u32,
+) -> io::Result<()>
+    requires { 1 ≤ budget }
+{
+    let mut timed = Timed { least: u128::MAX, sum: 0 };
+    for _ in 0..blocks {
+        let start = Instant::now(rt)?;
+        timed.sum = timed.sum.wrapping_add(slices(engine, budget, calls));
+        timed.least = timed.least.min(start.elapsed(rt)?.as_nanos());
+    }
+    say(rt, blocks, "slice", budget, calls, timed)
+}
+
+fn time_engine(rt: &HostRuntime, blocks: u32) -> io::Result<()> {
+    let alloc = rt.alloc();
+    let mut engine: Engine = Engine::new(alloc, Profile::One, APID, POOL_WORDS, JOURNAL)?;
+    for packet in [LOAD.as_slice(), ACTIVATE.as_slice()] {
+        let reports = engine.request(alloc, 0, 0, packet);
+        if reports.is_err() {
+            return Err(AllocError.into());
+        }
+    }
+    time_slices(rt, blocks, &mut engine, 1, 1_000)?;
+    time_slices(rt, blocks, &mut engine, 10, 1_000)?;
+    time_slices(rt, blocks, &mut engine, 100, 1_000)?;
+    time_slices(rt, blocks, &mut engine, 1_000, 200)?;
+    time_slices(rt, blocks, &mut engine, 1_000_000, 1)
+}
+
+fn main(rt: HostRuntime) -> io::Result<()> {
+    let blocks = match env::args(&rt) {
+        Ok(words) if words.len() > 1 => BLOCKS,
+        _ => 1,
+    };
+    time_error_control(&rt, blocks)?;
+    time_engine(&rt, blocks)
+}
