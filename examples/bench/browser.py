@@ -148,7 +148,8 @@ def walk_back(page, ocp, pictures):
     page.until("a fault", lambda: "fault2 (WriteToArguments)" in page.shown("view"))
     page.key(page.keys.HOME), page.key("f")
     page.until("the fault by its key", lambda: "place 4" in page.shown("view"))
-    page.until("the fault in words", lambda: page.shown("last") == "The last event is the fault of stb [r2+0], 1 at place 4.")
+    page.until("the fault in words", lambda: page.shown("last") == "The last event is the fault of stb [r2+0], 1 at place 4: "
+               "r2+0 is 0x20000000, and the arguments are read only.")
     page.key(page.keys.ARROW_LEFT), page.key(page.keys.ARROW_LEFT)
     page.until("the store that made it", lambda: page.script(
         "return [...document.querySelectorAll('#memory-stack .changed')].map(each => each.textContent).join('')") == "20")
@@ -299,6 +300,8 @@ def example(page):
     page.set("script", "")
     page.find("example").send_keys(page.keys.ENTER)
     page.until("the example faults", lambda: "Faulted 1" in page.shown("rows") and "fault1" in page.shown("view"))
+    page.until("why it faults", lambda: page.shown("last") == "The last event is the fault of ldxdw r0, [r6+16] at place 12, line 14: r6+16 is 0x13, "
+               "and all octets of an access have to lie in one region of memory.")
     changed = "return [...document.querySelectorAll('#memory-stack .changed')].map(each => each.textContent).join(' ')"
     for _ in range(5):
         page.key(page.keys.ARROW_LEFT)

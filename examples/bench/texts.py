@@ -1,6 +1,6 @@
 """What a text gives: its image and listing by the program, its faults at their lines, and which line made which slot."""
+import os
 import re
-import shutil
 import tempfile
 from pathlib import Path
 
@@ -8,15 +8,28 @@ from bounds import OCTETS, Refused, run, sentence
 
 HERE = Path(__file__).resolve().parent
 BUILD = HERE.parent / "c" / "build"
-CLANG = ("clang", "llvm-objcopy", "llvm-objdump")
-SAYS = {"Syntax": "this is no instruction of the assembly: see the forms below, and docs/MANUAL.md, sections 6 and 13",
+LINES = HERE.parent / "c" / "lines"
+CLANG = {"CLANG": "clang", "LLVM_OBJCOPY": "llvm-objcopy", "LLVM_READELF": "llvm-readelf", "LLVM_OBJDUMP": "llvm-objdump"}
+SAYS = {"Syntax": "this is no instruction of the assembly: docs/CARD.md has them all",
         "Range": "a number is outside of its range, a width does not exist, or a label is too far away",
         "DuplicateLabel": "an earlier line has given this name", "UnknownLabel": "no line gives this name",
         "TooLong": "a text has at most 1,048,576 octets"}
 
 
+def newest(name):
+    """The program under this name, the newest of those with a version behind it; None where there is none."""
+    files = {file.name for folder in os.get_exec_path() for file in Path(folder).glob(f"{name}*")}
+    versions = {int(found[1] or 0): file for file in files if (found := re.fullmatch(rf"{name}(?:-(\d+))?", file))}
+    return versions[max(versions)] if versions else None
+
+
 def has_clang():
-    return BUILD.exists() and all(map(shutil.which, CLANG))
+    return BUILD.exists() and all(os.environ.get(name) or newest(program) for name, program in CLANG.items())
+
+
+def with_clang():
+    """The words in front of a command that is to take these programs of the compiler, and no others."""
+    return ["env", *(f"{name}={os.environ.get(name) or newest(program)}" for name, program in CLANG.items())]
 
 
 def listing_of(program, image):
@@ -37,23 +50,19 @@ def places_of_assembly(text, listing):
     return {slot: line for (slot, _), line in zip(listing, lines)} if len(lines) == len(listing) else {}
 
 
-def places_of_c(file, image):
-    """Slot to line by the compiler's debug information, where the same octets come out."""
-    made = file.with_suffix(".o")
-    raw = file.with_suffix(".bin")
-    words = ["clang", "-target", "bpf", "-mcpu=v3", "-O2", "-g", "-ffreestanding", "-I", BUILD.parent, "-c", file]
-    if run([*words, "-o", made], "", 16_000)[2] or run(["llvm-objcopy", "-O", "binary", "--only-section=.text", made,
-                                                        raw], "", 16_000)[2]:
+def places_of_c(file):
+    """Slot to line by examples/c/lines; what stands in a header belongs to the line that brought it in."""
+    try:
+        table, _, status = run([*with_clang(), LINES, file], "", 16_000)
+    except Refused:
         return {}
-    if raw.read_bytes().hex() != image:
-        return {}
-    places = {}
-    line = None
-    for shown in run(["llvm-objdump", "-d", "-l", "--no-show-raw-insn", made], "")[0].splitlines():
-        if found := re.match(r"; .*text\.c:(\d+)$", shown):
-            line = int(found[1])
-        elif (found := re.match(r" +(\d+):\t", shown)) and line:
-            places[int(found[1])] = line
+    places, line = {}, None
+    for row in table.splitlines() if status == 0 else []:
+        slot, place = row.split(" ", 2)[:2]
+        if place.startswith("text.c:"):
+            line = int(place.removeprefix("text.c:"))
+        if line:
+            places[int(slot)] = line
     return places
 
 
@@ -76,13 +85,13 @@ def assembled(program, language, text, profile, names):
         with tempfile.TemporaryDirectory(prefix="ocp-bench-") as room:
             file = Path(room) / "text.c"
             file.write_text(text)
-            output, said, status = run([BUILD, file], "", 16_000)
+            output, said, status = run([*with_clang(), BUILD, file], "", 16_000)
             said = said.replace(str(file), "text").replace(room, "")
             for line in said.splitlines():
                 if found := re.match(r"[^:]*:(\d+):(?:\d+:)? *(?:fatal )?((?:error|warning): .*)", line):
                     faults.append([int(found[1]), found[2]])
             image = output.strip() if status == 0 else ""
-            places = places_of_c(file, image) if image else {}
+            places = places_of_c(file) if image else {}
         if status and not faults:
             faults.append([0, said.strip() or "it was not built"])
         listing = listing_of(program, image) if image else []

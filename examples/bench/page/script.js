@@ -147,7 +147,11 @@ export const MAKERS = {
 };
 
 export function start() {
-    for (const [name, made] of Object.entries(MAKERS)) at("makers").append(button(name, () => insert(made(at("id").value, at("number").value))), " ");
+    for (const [name, made] of Object.entries(MAKERS)) {
+        const maker = button(name, () => insert(made(at("id").value, at("number").value)));
+        maker.title = name === "Load" ? "send 9 load <procedure> <image of the text>" : made("<procedure>", "<number>");
+        at("makers").append(maker, " ");
+    }
     at("reload").onclick = guarded(() => reload(Number(at("id").value)));
     at("script").addEventListener("input", later(() => readScript()));
     at("save-script").onclick = () => save("pass.ocp", at("script").value);

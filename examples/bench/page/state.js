@@ -52,6 +52,16 @@ function mailboxText(words, view) {
     return words.length ? `${words.length} of 16, the oldest first: ${words.join(", ")}` : "empty, room for 16";
 }
 
+// Why an instruction could not be done, by the registers, which a fault leaves as they were.
+export function reasonOf(view, instruction) {
+    const fault = / fault(\d) /.exec(view[0]), found = /\[(r\d+)([+-]\d+)\]/.exec(instruction);
+    const register = name => BigInt(`0x${view[1 + Number(name.slice(1))].split(" ")[1]}`);
+    const address = found ? `${found[1]}${found[2]} is 0x${BigInt.asUintN(64, register(found[1]) + BigInt(found[2])).toString(16)}, ` : "";
+    return { 1: `: ${address}and all octets of an access have to lie in one region of memory`, 2: `: ${address}and the arguments are read only`,
+        3: ": at depth 7 no further local call is done", 4: `: r1 is ${fault ? register("r1") : ""}, and the pool has ${it.state.pool.length} words`,
+        5: ": nothing is left of the budget of its activation" }[fault ? fault[1] : ""] || "";
+}
+
 // What differs from the state before the last event, in words.
 export function changesOf(state, before) {
     const found = [], view = state.views[it.chosen] || [], old = before.views[it.chosen] || [];

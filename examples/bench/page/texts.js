@@ -6,20 +6,20 @@ const field = editor(at("text"));
 const listings = new Map();
 let asked = 0, listed = "";
 
-export const EXAMPLE = `; Puts three numbers into a table on the stack, and reads
-; a word of the work region by an address that it kept.
-        lddw r6, 0x30000000     ; the work region
-        stdw [r6+16], 30
-        stxdw [r10-8], r6       ; keeps the address
+export const EXAMPLE = `; Puts three numbers into a table on the stack
+; and reads a word at an address that it kept.
+        lddw r6, 0x30000000
+        stdw [r6+16], 30   ; the word
+        stxdw [r10-8], r6  ; the address
         mov64 r1, 0
         mov64 r2, r10
-        add64 r2, -32           ; the table
-again:  stxdw [r2], r1          ; the next number
+        add64 r2, -32      ; the table
+again:  stxdw [r2], r1     ; a number
         add64 r2, 8
         add64 r1, 1
         jle64 r1, 3, again
-        ldxdw r6, [r10-8]       ; the address again
-        ldxdw r0, [r6+16]       ; it faults: who wrote r6?
+        ldxdw r6, [r10-8]  ; the address
+        ldxdw r0, [r6+16]  ; it faults: why?
         exit
 `;
 const shown = () => it.texts[it.tab];

@@ -2,7 +2,7 @@
 import { at, guarded, it, say } from "./shared.js";
 import { askPass, showPackets, showReports, showRows } from "./script.js";
 import { instructionAt, showPlace } from "./texts.js";
-import { changesOf, showHistory, showState } from "./state.js";
+import { changesOf, reasonOf, showHistory, showState } from "./state.js";
 import { draw, readTimeline, zoom } from "./timeline.js";
 
 const states = new Map(), visited = new Map();
@@ -69,7 +69,7 @@ export async function walk(to, id = null) {
 async function show(moment, event, line, state, before) {
     at("slider").value = event;
     at("slider").setAttribute("aria-valuetext", `event ${event} of ${it.total}`);
-    const within = moment[1] ? `instruction ${moment[1]} of line ${line + 1}` : moment[0] ? `behind line ${moment[0]}` : "at the start";
+    const within = moment[1] ? `instruction ${moment[1]} of line ${line + 1}` : moment[0] ? `after line ${moment[0]}` : "at the start";
     at("where").textContent = `event ${event} of ${it.total}, ${within}`;
     showState(state, before, id => walk(it.moment, id));
     draw(event);
@@ -87,7 +87,9 @@ function lastEvent(moment, line, image, was) {
     if (!row.events || !was) return `Line ${line + 1} did nothing.`;
     const place = Number(was[0].split(" ")[5]), held = !moment[1] && row.printed.some(shown => / Broke$/.test(shown));
     const faulted = !moment[1] && row.printed.some(shown => / Faulted /.test(shown));
-    return held ? `A breakpoint held it before ${instructionAt(image, place)}.` : `The last event ${faulted ? "is the fault of" : "did"} ${instructionAt(image, place)}.`;
+    const instruction = instructionAt(image, place);
+    if (faulted) return `The last event is the fault of ${instruction}${reasonOf(it.state.views[it.chosen] || was, instruction)}.`;
+    return held ? `A breakpoint held it before ${instruction}.` : `The last event did ${instruction}.`;
 }
 const event0 = moment => !moment[0] && !moment[1];
 
@@ -104,7 +106,7 @@ function jump(pattern, back, name) {
     const hits = it.rows.map((row, index) => row.printed.some(shown => pattern.test(shown)) ? it.starts[index + 1] : -1).filter(hit => hit >= 0);
     const event = here(), hit = back ? hits.filter(each => each < event).at(-1) : hits.find(each => each > event);
     if (hit === undefined && hits.includes(event)) return say(`This is the ${back ? "first" : "last"} ${name}.`);
-    if (hit === undefined) return say(`There is no ${name} ${back ? "before" : "behind"} this event.`);
+    if (hit === undefined) return say(`There is no ${name} ${back ? "before" : "after"} this event.`);
     say("");
     return walk(momentOf(hit));
 }
@@ -123,7 +125,7 @@ async function breakpoint(back) {
     const { events, more } = visited.get(key), event = here();
     const hit = back ? events.filter(each => each < event).at(-1) : events.find(each => each > event);
     if (hit === undefined) {
-        return say(`Procedure ${id} comes to none of its breakpoints ${back ? "before" : "behind"} this event${more ? " (2,000 were looked at)" : ""}.`);
+        return say(`Procedure ${id} comes to none of its breakpoints ${back ? "before" : "after"} this event${more ? " (2,000 were looked at)" : ""}.`);
     }
     say("");
     return walk(momentOf(hit), id);
