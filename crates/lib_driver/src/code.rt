@@ -2,12 +2,11 @@
 
 ghost use Rattle.std.specs.Prelude.{◌+◌, ◌*◌, ◌≤◌, length, IsTrue};
 
-use crate::shown::{Octets, Text};
-use crate::words::{Fault, octets};
 use bpf_decode::{Slots, decode_at, encode};
 use bpf_listing::{Jump, Mnemonic, disassemble, line_text, mnemonic_of};
 use bpf_text::{LineFault, Parsed};
 use bpf_types::Line;
+use call_lines::{Fault, Octets, Text, octets};
 use std::alloc::Global;
 
 /// The octets of a slot.

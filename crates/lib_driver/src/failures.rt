@@ -1,7 +1,7 @@
 //! Calls of obcp_types and of verification.
 
-use crate::words::Fault;
 use bitflags::Flags;
+use call_lines::Fault;
 use obcp_types::{AcceptanceFailure, CompletionFailure, RequestFault, StartFailure};
 use pus_fields::{Ack, Rejection};
 use std::alloc::Global;

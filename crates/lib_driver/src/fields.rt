@@ -1,8 +1,7 @@
 //! Calls of pus_fields.
 
-use crate::shown::Octets;
-use crate::words::{Fault, octets};
 use bitflags::Flags;
+use call_lines::{Fault, Octets, octets};
 use pus_fields::{Ack, Tc, TcFault, Tm, crc16, read_tc, read_tm, write_tc, write_tm};
 use space_packet::{Apid, IDLE_APID, SequenceCount};
 use std::alloc::Global;

@@ -1,9 +1,8 @@
 //! Calls of bpf_assembler and ocp_loader.
 
-use crate::shown::{Octets, Text};
-use crate::words::{Fault, octets, profile_of};
 use bpf_assembler::canonical::write_canonical;
 use bpf_assembler::{AsmFault, Why, assemble};
+use call_lines::{Fault, Octets, Text, octets, profile_of};
 use ocp_loader::{LoadFault, Program, load};
 use ocp_profile::Profile;
 use std::alloc::Global;

@@ -1,9 +1,8 @@
 //! Calls of ocp_regions and bpf_step, on memories and machines that lines before made.
 
-use crate::shown::Octets;
-use crate::words::{Fault, octets, profile_of};
 use bpf_step::{MAX_SLOTS, Machine};
 use bpf_types::Size;
+use call_lines::{Fault, Numbers, Octets, octets, profile_of};
 use ocp_regions::{ARGUMENT_OCTETS, AccessFault, Regions};
 use std::alloc::Global;
 
@@ -56,12 +55,18 @@ pub(crate) fn answer(made: &mut Made, alloc: Global, words: &[&str]) -> Result<S
             memory_answer(alloc, memory, words)
         }
         [_, number, ..] => {
-            let number = number.parse::<usize>()?;
-            let machine = made.machines.get_mut(number).ok_or(Fault::Syntax)?;
+            let machine = machine_of(made, number)?;
             machine_answer(alloc, machine, words)
         }
         _ => Err(Fault::Syntax),
     }
+}
+
+/// The machine of a number.
+pub(crate) fn machine_of<'a>(made: &'a mut Made, number: &str) -> Result<&'a mut Machine, Fault> {
+    made.machines
+        .get_mut(number.parse::<usize>()?)
+        .ok_or(Fault::Syntax)
 }
 
 fn memory_at<'a>(memories: &'a [Regions], number: &str) -> Result<&'a Regions, Fault> {
@@ -126,7 +131,10 @@ fn memory_answer(alloc: Global, memory: &mut Regions, words: &[&str]) -> Result<
 /// The answer of a call on a machine.
 fn machine_answer(alloc: Global, machine: &mut Machine, words: &[&str]) -> Result<String, Fault> {
     match *words {
-        ["bpf_step.registers", _] => show_registers(alloc, &machine.registers()),
+        ["bpf_step.registers", _] => {
+            let registers = machine.registers();
+            Ok(format!(in alloc; "{}", Numbers(&registers))?)
+        }
         ["bpf_step.place", _] => Ok(format!(in alloc; "{}", machine.place())?),
         ["bpf_step.depth", _] => Ok(format!(in alloc; "{}", machine.depth())?),
         ["bpf_step.octets", _, address, before] => {
@@ -200,15 +208,4 @@ fn show_octets(
         Ok(()) => Ok(format!(in alloc; "Ok {}", Octets(octets))?),
         Err(fault) => Ok(format!(in alloc; "{fault:?} {}", Octets(octets))?),
     }
-}
-
-fn show_registers(alloc: Global, registers: &[u64; 11]) -> Result<String, Fault> {
-    let mut text = String::new(alloc);
-    for register in registers {
-        if !text.is_empty() {
-            text.push_str(" ")?;
-        }
-        text.push_str(&format!(in alloc; "{register}")?)?;
-    }
-    Ok(text)
 }

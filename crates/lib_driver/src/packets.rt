@@ -1,7 +1,6 @@
 //! Calls of space_packet.
 
-use crate::shown::Octets;
-use crate::words::{Fault, flag, octets};
+use call_lines::{Fault, Octets, flag, octets};
 use space_packet::{Apid, Primary, SequenceCount, SequenceFlags, read, write};
 use std::alloc::Global;
 

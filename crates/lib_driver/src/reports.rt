@@ -1,8 +1,7 @@
 //! Calls of obcp_messages for reports.
 
-use crate::shown::Octets;
-use crate::words::{Fault, octets};
 use arrayvec::ArrayVec;
+use call_lines::{Fault, Octets, octets};
 use obcp_messages::{
     BAD_CODE, MAX_ROWS, PlainCode, Report, StartFault, Status, StatusRow, StatusRows, read_report,
     write_report,

@@ -1,9 +1,8 @@
 //! Calls of obcp_messages for requests.
 
-use crate::shown::Octets;
-use crate::words::{Fault, octets, profile_of};
 use arrayvec::ArrayVec;
 use bitflags::Flags;
+use call_lines::{Fault, Octets, octets, profile_of};
 use obcp_messages::{Arguments, Code, MAX_WORDS, Request, Words, read_request, write_request};
 use ocp_profile::Profile;
 use pus_fields::{Ack, Tc};

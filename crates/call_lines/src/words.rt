@@ -7,7 +7,7 @@ use std::num::ParseIntError;
 
 /// Why a line has no answer.
 #[derive(Clone, Copy, Debug)]
-pub(crate) enum Fault {
+pub enum Fault {
     /// It is no call, or an argument is none of this call's.
     Syntax,
     /// Memory ran out.
@@ -43,7 +43,7 @@ impl From<FromHexError> for Fault {
 
 /// The words of a line: what stands between spaces, where those between double quotes are of the
 /// word.
-pub(crate) fn words<'a>(alloc: Global, line: &'a str) -> Result<Vec<&'a str>, Fault> {
+pub fn words<'a>(alloc: Global, line: &'a str) -> Result<Vec<&'a str>, Fault> {
     let mut words = Vec::new(alloc);
     let mut start = 0usize;
     let mut is_quoted = false;
@@ -69,7 +69,7 @@ fn add_word<'a>(word: Option<&'a str>, words: &mut Vec<&'a str>) -> Result<(), F
 }
 
 /// The octets that a word says: `-` none, else those of its pieces.
-pub(crate) fn octets(alloc: Global, word: &str) -> Result<Vec<u8>, Fault> {
+pub fn octets(alloc: Global, word: &str) -> Result<Vec<u8>, Fault> {
     let mut octets = Vec::new(alloc);
     if word == "-" {
         return Ok(octets);
@@ -125,7 +125,7 @@ fn escaped(octet: u8) -> u8 {
 }
 
 /// A word that is `true` or `false`.
-pub(crate) fn flag(word: &str) -> Result<bool, Fault> {
+pub fn flag(word: &str) -> Result<bool, Fault> {
     match word {
         "true" => Ok(true),
         "false" => Ok(false),
@@ -134,7 +134,7 @@ pub(crate) fn flag(word: &str) -> Result<bool, Fault> {
 }
 
 /// The profile of a word that is `1` or `2`.
-pub(crate) fn profile_of(word: &str) -> Result<Profile, Fault> {
+pub fn profile_of(word: &str) -> Result<Profile, Fault> {
     match word {
         "1" => Ok(Profile::One),
         "2" => Ok(Profile::Two),

@@ -8,7 +8,7 @@ const LONG_RUN: usize = 16;
 /// Octets in the form of an argument: `-` for none, else hexadecimal digits, where 16 and more that
 /// are the same and stand side by side are a piece of their own, as `00*20`.
 #[derive(Clone, Copy)]
-pub(crate) struct Octets<'a>(pub &'a [u8]);
+pub struct Octets<'a>(pub &'a [u8]);
 
 /// What was shown last.
 #[derive(Clone, Copy, PartialEq, Eq)]
@@ -61,7 +61,7 @@ fn show_run<W: fmt::Write>(
 /// A text in the form of an argument: `-` for none, else between double quotes, with `\n`, `\r`,
 /// `\t` and `\\` for a line feed, a carriage return, a tab and a backslash.
 #[derive(Clone, Copy)]
-pub(crate) struct Text<'a>(pub &'a [u8]);
+pub struct Text<'a>(pub &'a [u8]);
 
 impl fmt::Display for Text<'_> {
     fn fmt<W: fmt::Write>(&self, f: &mut fmt::Formatter<W>) -> fmt::Result {
@@ -83,5 +83,23 @@ fn show_letter<W: fmt::Write>(octet: u8, f: &mut fmt::Formatter<W>) -> fmt::Resu
         b'\t' => write!(f, "\\t"),
         b'\\' => write!(f, "\\\\"),
         other => write!(f, "{}", char::from(other)),
+    }
+}
+
+/// Numbers, with spaces between them.
+#[derive(Clone, Copy)]
+pub struct Numbers<'a>(pub &'a [u64]);
+
+impl fmt::Display for Numbers<'_> {
+    fn fmt<W: fmt::Write>(&self, f: &mut fmt::Formatter<W>) -> fmt::Result {
+        let mut is_first = true;
+        for number in self.0 {
+            if !is_first {
+                write!(f, " ")?;
+            }
+            is_first = false;
+            write!(f, "{number}")?;
+        }
+        Ok(())
     }
 }

@@ -1,0 +1,21 @@
+//! Lines that are calls of libraries: their words, how octets are shown, and a script of them.
+//!
+//! A line is the call, `<library>.<call>`, with its arguments behind it, spaces between them. Blank
+//! lines and those that begin with `#` say nothing. At the first line that is no call of the
+//! program, or whose arguments are not its own, the answer is `error <line> Syntax`, and nothing is
+//! done behind it; the exit status is 1, or 3 where memory, reading or writing failed.
+//!
+//! Numbers are decimal digits, names those of the library's variants. Octets are `-` for none, else
+//! pieces with `|` between them: hexadecimal digits, or a text between double quotes, in which
+//! `\n`, `\r` and `\t` are a line feed, a carriage return and a tab; behind a piece `*20` says that
+//! it stands twenty times. Answers have the same forms; `None` is answered where the library makes
+//! no value of the arguments.
+#![tactic(auto)]
+
+mod script;
+mod shown;
+mod words;
+
+pub use script::{Calls, End, Reply, Script, answer_lines, exit_code};
+pub use shown::{Numbers, Octets, Text};
+pub use words::{Fault, flag, octets, profile_of, words};

@@ -1,0 +1,125 @@
+//! A list of events in words, and the run of it.
+
+use crate::answers::{add_text, show_done, show_outcome, show_reports};
+use call_lines::{Fault, flag, octets};
+use ocp_core::{Answer, Engine, Event, RunFault, RunRefusal};
+use std::alloc::Global;
+
+/// Does the events of these words, with a comma between two, and shows the answers; where the run
+/// ended before one of them, the refusal and its index before the answers.
+pub(crate) fn run(engine: &mut Engine, alloc: Global, words: &[&str]) -> Result<String, Fault> {
+    let groups = groups(alloc, words)?;
+    let carried = carried(alloc, &groups)?;
+    let events = events(alloc, &groups, &carried)?;
+    show_run(alloc, engine.run(alloc, &events))
+}
+
+/// The words of each event.
+fn groups<'a, 'b>(alloc: Global, words: &'b [&'a str]) -> Result<Vec<&'b [&'a str]>, Fault> {
+    let mut groups = Vec::new(alloc);
+    let mut start = 0usize;
+    for (place, word) in words.iter().enumerate() {
+        if *word == "," {
+            groups.push(words.get(start..place).ok_or(Fault::Syntax)?)?;
+            start = place.saturating_add(1);
+        }
+    }
+    groups.push(words.get(start..).ok_or(Fault::Syntax)?)?;
+    Ok(groups)
+}
+
+/// The octets that each event carries: those of a request.
+fn carried(alloc: Global, groups: &[&[&str]]) -> Result<Vec<Vec<u8>>, Fault> {
+    let mut carried = Vec::new(alloc);
+    for group in groups {
+        carried.push(match **group {
+            ["Request", _, _, packet] => octets(alloc, packet)?,
+            _ => Vec::new(alloc),
+        })?;
+    }
+    Ok(carried)
+}
+
+fn events<'a>(
+    alloc: Global,
+    groups: &[&[&str]],
+    carried: &'a [Vec<u8>],
+) -> Result<Vec<Event<'a>>, Fault> {
+    let mut events = Vec::new(alloc);
+    for (group, octets) in groups.iter().zip(carried.iter()) {
+        events.push(event(*group, octets.as_slice())?)?;
+    }
+    Ok(events)
+}
+
+fn event<'a>(words: &[&str], octets: &'a [u8]) -> Result<Event<'a>, Fault> {
+    match *words {
+        ["Request", by, time, _] => Ok(Event::Request {
+            by: by.parse()?,
+            time: time.parse()?,
+            octets,
+        }),
+        ["Step", by, id] => Ok(Event::Step {
+            by: by.parse()?,
+            id: id.parse()?,
+        }),
+        ["SetBreak", by, id, place] => Ok(Event::SetBreak {
+            by: by.parse()?,
+            id: id.parse()?,
+            place: place.parse()?,
+        }),
+        ["ClearBreak", by, id, place] => Ok(Event::ClearBreak {
+            by: by.parse()?,
+            id: id.parse()?,
+            place: place.parse()?,
+        }),
+        ["Trace", by, id, on] => Ok(Event::Trace {
+            by: by.parse()?,
+            id: id.parse()?,
+            on: flag(on)?,
+        }),
+        ["Drain", by, time] => Ok(Event::Drain {
+            by: by.parse()?,
+            time: time.parse()?,
+        }),
+        _ => Err(Fault::Syntax),
+    }
+}
+
+fn show_run(alloc: Global, ended: Result<Vec<Answer>, RunFault>) -> Result<String, Fault> {
+    match ended {
+        Ok(answers) => {
+            let texts = show_answers(alloc, &answers)?;
+            Ok(format!(in alloc; "Ok: {texts}")?)
+        }
+        Err(fault) => show_run_fault(alloc, &fault),
+    }
+}
+
+fn show_run_fault(alloc: Global, fault: &RunFault) -> Result<String, Fault> {
+    if fault.refusal == RunRefusal::Memory {
+        return Err(Fault::Memory);
+    }
+    let texts = show_answers(alloc, &fault.answers)?;
+    Ok(format!(in alloc; "{:?} {}: {texts}", fault.refusal, fault.index)?)
+}
+
+/// The answers, with a comma between two; `-` for none.
+fn show_answers(alloc: Global, answers: &[Answer]) -> Result<String, Fault> {
+    let mut texts = String::new(alloc);
+    for answer in answers {
+        add_text(&mut texts, &show_answer(alloc, answer)?)?;
+    }
+    if texts.is_empty() {
+        texts.push_str("-")?;
+    }
+    Ok(texts)
+}
+
+fn show_answer(alloc: Global, answer: &Answer) -> Result<String, Fault> {
+    match answer {
+        Answer::Requested(answer) => show_reports(alloc, answer),
+        Answer::Stepped(outcome) => show_outcome(alloc, *outcome),
+        Answer::Commanded(done) => show_done(alloc, *done),
+    }
+}

@@ -1,0 +1,213 @@
+//! Calls of ocp_seats, on a book and its seats.
+
+ghost use Rattle.std.specs.Prelude.{◌≡◌, ◌+◌, length};
+
+use crate::answers::{show_commit, show_done, show_ok, show_outcome, show_reports, show_slice};
+use crate::entries::show_entries;
+use crate::runs::Runs;
+use crate::views;
+use call_lines::{Calls, Fault, Reply, flag, octets};
+use ocp_seats::{Book, Engine, Naming, NotClosed, Seat, SeatFault, TakeFault};
+use std::alloc::Global;
+use std::sync::ledger::Blank;
+
+/// A book, its seats in the order of their numbers, the tickets and works of its lines, and the
+/// engine that it gave back.
+#[derive(Drop)]
+pub(crate) struct Shared<L: Naming> {
+    book: Option<Book<L>>,
+    seats: Vec<Option<Seat<L>>>,
+    runs: Runs,
+    closed: Option<Engine>,
+}
+
+impl<L: Naming> Shared<L> {
+    pub fn new(alloc: Global, engine: Engine, blank: Blank) -> Self
+        requires name { blank.name ≡ L.name }
+        requires parts { blank.parts ≡ L.parts }
+        requires seats { blank.parts ≡ 65 }
+        requires room { L.room + length engine.entries ≡ engine.capacity }
+        requires log { L.log ≡ engine }
+    {
+        Shared {
+            book: Some(Book::new(engine, blank)),
+            seats: Vec::new(alloc),
+            runs: Runs::new(alloc),
+            closed: None,
+        }
+    }
+
+    /// The engine, where the book was closed.
+    pub fn closed(self) -> Option<Engine> {
+        self.closed
+    }
+
+    /// Closes the book with the seats of these numbers.
+    fn close(&mut self, alloc: Global, numbers: &[&str]) -> Result<Reply, Fault> {
+        let mut seats = Vec::new(alloc);
+        for number in numbers {
+            seats.push(
+                place_of(&mut self.seats, number)?
+                    .take()
+                    .ok_or(Fault::Syntax)?,
+            )?;
+        }
+        let book = self.book.take().ok_or(Fault::Syntax)?;
+        match book.close(seats) {
+            Ok(engine) => {
+                self.closed = Some(engine);
+                Ok(Reply::Last(show_ok(alloc)?))
+            }
+            Err(refused) => self.stay_open(alloc, refused),
+        }
+    }
+
+    /// Takes the book and the seats back.
+    fn stay_open(&mut self, alloc: Global, refused: NotClosed<L>) -> Result<Reply, Fault> {
+        let NotClosed { why, book, seats } = refused;
+        self.book = Some(book);
+        for seat in seats {
+            let index = usize::from(seat.number()).saturating_sub(1);
+            if let Some(place) = self.seats.get_mut(index) {
+                *place = Some(seat);
+            }
+        }
+        Ok(Reply::Text(format!(in alloc; "{why:?}")?))
+    }
+}
+
+impl<L: Naming> Calls for Shared<L> {
+    fn answer(&mut self, alloc: Global, words: &[&str]) -> Result<Reply, Fault> {
+        if let ["ocp_seats.close", numbers @ ..] = words {
+            return self.close(alloc, numbers);
+        }
+        let book = self.book.as_mut().ok_or(Fault::Syntax)?;
+        Ok(Reply::Text(book_answer(book, &mut self.seats, &mut self.runs, alloc, words)?))
+    }
+}
+
+/// The place of the seat with a number.
+fn place_of<'a, L: Naming>(
+    seats: &'a mut [Option<Seat<L>>],
+    number: &str,
+) -> Result<&'a mut Option<Seat<L>>, Fault> {
+    let index = number
+        .parse::<usize>()?
+        .checked_sub(1)
+        .ok_or(Fault::Syntax)?;
+    seats.get_mut(index).ok_or(Fault::Syntax)
+}
+
+/// The answer of a call.
+fn book_answer<L: Naming>(
+    book: &mut Book<L>,
+    seats: &mut Vec<Option<Seat<L>>>,
+    runs: &mut Runs,
+    alloc: Global,
+    words: &[&str],
+) -> Result<String, Fault> {
+    match *words {
+        ["ocp_seats.seat"] => hand_out(book, seats, alloc),
+        ["ocp_seats.take"] => take(book, runs, alloc),
+        ["ocp_seats.handed_out"] => Ok(format!(in alloc; "{}", book.handed_out())?),
+        [name, number, ..] if name.starts_with("ocp_seats.") => {
+            let seat = place_of(seats, number)?.as_mut().ok_or(Fault::Syntax)?;
+            seat_answer(book, seat, runs, alloc, words)
+        }
+        _ => views::answer(book.engine(), runs, alloc, words),
+    }
+}
+
+/// The next seat's number.
+fn hand_out<L: Naming>(
+    book: &mut Book<L>,
+    seats: &mut Vec<Option<Seat<L>>>,
+    alloc: Global,
+) -> Result<String, Fault> {
+    match book.seat(alloc) {
+        Ok(seat) => {
+            let number = seat.number();
+            seats.push(Some(seat))?;
+            Ok(format!(in alloc; "{number}")?)
+        }
+        Err(SeatFault::Memory) => Err(Fault::Memory),
+        Err(fault) => Ok(format!(in alloc; "{fault:?}")?),
+    }
+}
+
+/// The number of the next ticket, and its procedure.
+fn take<L: Naming>(book: &mut Book<L>, runs: &mut Runs, alloc: Global) -> Result<String, Fault> {
+    match book.take(alloc) {
+        Ok(ticket) => runs.add_ticket(alloc, ticket),
+        Err(TakeFault::Memory) => Err(Fault::Memory),
+        Err(fault) => Ok(format!(in alloc; "{fault:?}")?),
+    }
+}
+
+/// The answer of a seat's call.
+fn seat_answer<L: Naming>(
+    book: &mut Book<L>,
+    seat: &mut Seat<L>,
+    runs: &mut Runs,
+    alloc: Global,
+    words: &[&str],
+) -> Result<String, Fault> {
+    match *words {
+        ["ocp_seats.receipts", _] => show_entries(alloc, seat.receipts()),
+        ["ocp_seats.request", _, time, packet] => {
+            let packet = octets(alloc, packet)?;
+            request(book, seat, alloc, time.parse()?, &packet)
+        }
+        ["ocp_seats.drain", _, time] => drain(book, seat, alloc, time.parse()?),
+        ["ocp_seats.step", _, id] => show_outcome(alloc, book.step(seat, id.parse()?)),
+        ["ocp_seats.slice", _, id, budget] => {
+            slice(book, seat, alloc, id.parse()?, budget.parse()?)
+        }
+        ["ocp_seats.commit", _, work] => {
+            let work = runs.work(work)?;
+            show_commit(alloc, book.commit(seat, work))
+        }
+        ["ocp_seats.set_break", _, id, place] => {
+            show_done(alloc, book.set_break(seat, id.parse()?, place.parse()?))
+        }
+        ["ocp_seats.clear_break", _, id, place] => {
+            show_done(alloc, book.clear_break(seat, id.parse()?, place.parse()?))
+        }
+        ["ocp_seats.trace", _, id, on] => {
+            show_done(alloc, book.trace(seat, id.parse()?, flag(on)?))
+        }
+        _ => Err(Fault::Syntax),
+    }
+}
+
+fn request<L: Naming>(
+    book: &mut Book<L>,
+    seat: &mut Seat<L>,
+    alloc: Global,
+    time: u32,
+    packet: &[u8],
+) -> Result<String, Fault> {
+    show_reports(alloc, &book.request(alloc, seat, time, packet))
+}
+
+fn drain<L: Naming>(
+    book: &mut Book<L>,
+    seat: &mut Seat<L>,
+    alloc: Global,
+    time: u32,
+) -> Result<String, Fault> {
+    show_reports(alloc, &book.drain(alloc, seat, time))
+}
+
+fn slice<L: Naming>(
+    book: &mut Book<L>,
+    seat: &mut Seat<L>,
+    alloc: Global,
+    id: u16,
+    budget: u32,
+) -> Result<String, Fault> {
+    if budget == 0 {
+        return Err(Fault::Syntax);
+    }
+    show_slice(alloc, book.slice(seat, id, budget))
+}
