@@ -13,7 +13,7 @@ use Rattle.ocp_debug.specs.declared.command.Command.{Command}
 use Rattle.ocp_debug.specs.declared.command.Command.TheVariants.{SetBreak, ClearBreak, SetTrace}
 use Rattle.ocp_debug.specs.declared.command.DebugFault.{DebugFault}
 use Rattle.ocp_debug.specs.Memory.{memory_at}
-use Rattle.ocp_debug.specs.Traces.{kept}
+use Rattle.ocp_debug.specs.Traces.{last_traces}
 use Rattle.ocp_debug.specs.Texts.{view_lines, trace_line}
 use Rattle.ocp_world.specs.declared.answers.EngineFault.TheVariants as fault
 use Rattle.ocp_world.specs.After.{Answer, Requested, Stepped, Commanded}
@@ -130,7 +130,7 @@ on_debug state id command line =
 
 -- the lines of the trace records that are kept, the oldest first
 abbrev pub trace_lines : State → List ℕ
-trace_lines state = flat_map trace_line (kept (world_of state.engine).traces)
+trace_lines state = flat_map trace_line (last_traces (world_of state.engine).traces)
 
 -- the lines of a procedure
 abbrev pub view_text : State → ℕ → List ℕ

@@ -2,7 +2,7 @@
 use Rattle.std.specs.Prelude.{◌≡◌, ◌≢◌, ℕ, true, false, Some}
 use Rattle.std.specs.FinMap.{get}
 use Rattle.ocp_table.specs.Snapshots.{snapshot_at}
-use Rattle.ocp_world.specs.Settled.{world_settled}
+use Rattle.ocp_world.specs.Settled.{world_after_work}
 use Rattle.ocp_core.specs.declared.answers.CommitOutcome.{CommitOutcome}
 use Rattle.ocp_core.specs.declared.answers.CommitOutcome.TheVariants.{Empty, Stale, JournalFull, Committed}
 use Rattle.ocp_core.specs.Log.{Log, Steps, world_of, is_full, with_entry}
@@ -17,7 +17,7 @@ IsFresh log w = snapshot_at (get (world_of log).records w.id) ≡ Some w.base
 -- pass flag off and so much less of the budget
 pub record IsCommitted (old new : Log) (by : ℕ) (w : Worked) : Type 0 where
   pub journal : new ≡ with_entry old (Steps by w.id w.count)
-  pub world : world_of new ≡ world_settled w.id w.end w.count (world_of old)
+  pub world : world_of new ≡ world_after_work w.id w.end w.count (world_of old)
 
 -- a work without instructions is refused as empty, one whose procedure has changed as stale, and
 -- then one that finds the journal full; nothing is changed

@@ -40,8 +40,8 @@ module _ {A : Type 0} where
   mark_of (entry.Trace by id on) = Commanded (Ok tt)
   mark_of (entry.Drain by time reports) = Requested (Ok reports)
 
-  abbrev pub marked_of : N.Entry A → Marked
-  marked_of e = record { entry = entry_of e; mark = mark_of e }
+  abbrev pub entry_with_mark : N.Entry A → Marked
+  entry_with_mark e = record { entry = entry_of e; mark = mark_of e }
 
   abbrev pub answer_of : G.Answer A → Answer
   answer_of (answer.Requested reports) = Requested reports

@@ -10,7 +10,7 @@ ghost use Rattle.ocp_world.specs.Loading.{TakesRecordIn};
 ghost use Rattle.ocp_world.specs.NextRunning.{IsNextRunning, Runs};
 ghost use Rattle.ocp_core.specs.Log.{Asked, Drained, empty_log, expand, world_of, answer_in, log_after};
 ghost use Rattle.ocp_core.specs.Slice.{slice_in, slice_log};
-ghost use Rattle.ocp_core.specs.Journal.{marked_of};
+ghost use Rattle.ocp_core.specs.Journal.{entry_with_mark};
 ghost use Rattle.ocp_core.specs.Receipts.{reports_in};
 ghost use Rattle.ocp_core.specs.Mirror.Admitted.{IsAdmitted, IsTaken};
 
@@ -168,7 +168,7 @@ impl<A: Allocator> Engine<A> {
             (answer_in self.old (world.Request by time octets.now)) }
         ensures journal { OnOk result
             (self.new ≡ log_after self.old (world.Request by time octets.now)) }
-        ensures receipt { IfOk result (λ r. marked_of r.1 ≡
+        ensures receipt { IfOk result (λ r. entry_with_mark r.1 ≡
             record { entry = Asked by time octets.now; mark = Requested (Ok r.0) }) }
         ensures err { OnErr result (self.new ≡ self.old) }
     {
@@ -264,7 +264,7 @@ impl<A: Allocator> Engine<A> {
         ensures answer { Answers (reports_in result)
             (answer_in self.old (world.Drain by time)) }
         ensures journal { OnOk result (self.new ≡ log_after self.old (world.Drain by time)) }
-        ensures receipt { IfOk result (λ r. marked_of r.1 ≡
+        ensures receipt { IfOk result (λ r. entry_with_mark r.1 ≡
             record { entry = Drained by time; mark = Requested (Ok r.0) }) }
         ensures err { OnErr result (self.new ≡ self.old) }
     {

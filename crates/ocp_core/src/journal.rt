@@ -40,13 +40,13 @@ impl<A: Allocator> Model for Journal<A> {
 
 impl<A: Allocator> Journal<A> {
     ghost use Rattle.ocp_core.specs.Log.{events_of, world_of};
-    ghost use Rattle.ocp_core.specs.Marks.{mark_in, marked};
-    ghost use Rattle.ocp_core.specs.Journal.{entry_of, mark_of, marked_of};
+    ghost use Rattle.ocp_core.specs.Marks.{mark_in, entries_with_marks};
+    ghost use Rattle.ocp_core.specs.Journal.{entry_of, mark_of, entry_with_mark};
     ghost use Rattle.ocp_core.specs.Mirror.Counted.{AreCounted};
 
     /// A journal without entries, with room for so many, of an engine of a profile with 1 to 256
     /// pool words.
-    #[tactic(auto, unfolding(crate::specs::Marks::marked, crate::specs::Log::world_of))]
+    #[tactic(auto, unfolding(crate::specs::Marks::entries_with_marks, crate::specs::Log::world_of))]
     pub fn new(
         alloc: A,
         profile: Profile,
@@ -118,7 +118,7 @@ impl<A: Allocator> Journal<A> {
     /// The entries with their marks, oldest first. All their events were accepted.
     pub fn entries(&self) -> &[Entry<A>]
         ensures value { map entry_of result.now ≡ self.now.entries }
-        ensures marks { map marked_of result.now ≡ marked self.now }
+        ensures marks { map entry_with_mark result.now ≡ entries_with_marks self.now }
         ensures few { length result.now ≤ 1000000 }
         ensures accepted { (world_of self.now).events ≡ length (expand self.now.entries) }
     {

@@ -20,9 +20,9 @@ impl<A: Allocator> Model for Ticket<A> {
 
     ghost Value = { Taken };
 
-    ghost use Rattle.ocp_core.specs.Mirror.Tickets.{taken_code};
+    ghost use Rattle.ocp_core.specs.Mirror.Tickets.{ticket_code};
 
-    ghost coded = { taken_code };
+    ghost coded = { ticket_code };
 
     ghost view = { λ t. record { id = t.id; base = t.base } };
 
@@ -44,9 +44,9 @@ impl<A: Allocator> Model for Work<A> {
 
     ghost Value = { Worked };
 
-    ghost use Rattle.ocp_core.specs.Mirror.Tickets.{worked_code};
+    ghost use Rattle.ocp_core.specs.Mirror.Tickets.{work_code};
 
-    ghost coded = { worked_code };
+    ghost coded = { work_code };
 
     ghost view = { λ w. record { id = w.id; base = w.base; end = w.end; count = w.count } };
 

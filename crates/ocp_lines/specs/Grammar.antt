@@ -52,22 +52,22 @@ request_of (verb.Abort id) = Abort id
 request_of (verb.Communicate id parameters) = Communicate id parameters
 request_of verb.Status = Status
 
-abbrev pub said_by : {A : Type 0} → Command A → Said
-said_by command.Nothing = Nothing
-said_by (command.Up octets) = Up octets
-said_by (command.Send flags verb) = Send flags.number (request_of verb)
-said_by (command.Time time) = Time time
-said_by (command.Step id steps) = Step id steps.number
-said_by (command.Break id place) = Break id place
-said_by (command.Unbreak id place) = Unbreak id place
-said_by (command.Trace id on) = Trace id on
-said_by command.Traces = Traces
-said_by (command.View id) = View id
-said_by (command.Memory id address count) = Memory id address count.number
-said_by (command.Pool index) = Pool index
-said_by command.Journal = Journal
-said_by command.Drain = Drain
-said_by (command.Work shift) = Work shift.workers shift.budget shift.turns
+abbrev pub meaning_of : {A : Type 0} → Command A → Said
+meaning_of command.Nothing = Nothing
+meaning_of (command.Up octets) = Up octets
+meaning_of (command.Send flags verb) = Send flags.number (request_of verb)
+meaning_of (command.Time time) = Time time
+meaning_of (command.Step id steps) = Step id steps.number
+meaning_of (command.Break id place) = Break id place
+meaning_of (command.Unbreak id place) = Unbreak id place
+meaning_of (command.Trace id on) = Trace id on
+meaning_of command.Traces = Traces
+meaning_of (command.View id) = View id
+meaning_of (command.Memory id address count) = Memory id address count.number
+meaning_of (command.Pool index) = Pool index
+meaning_of command.Journal = Journal
+meaning_of command.Drain = Drain
+meaning_of (command.Work shift) = Work shift.workers shift.budget shift.turns
 
 -- ---- how many words there are
 

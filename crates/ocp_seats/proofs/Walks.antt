@@ -5,14 +5,14 @@ use Rattle.std.proofs.lemmas.List.{take_more, drop_more, take-append-drop, appen
 use Rattle.std.proofs.lemmas.List.Elements.{filter-append, filter_more, All-push, All-same}
 use Rattle.std.proofs.lemmas.Option.{get_or_from_slice_get, slice_get_within, slice_get_read}
 use Rattle.std.proofs.Math.Seq.{get_or-append_seam}
-use Rattle.ocp_core.specs.Marks.{Marked, by_of, marked_by}
+use Rattle.ocp_core.specs.Marks.{Marked, by_of, entries_by}
 use Rattle.ocp_seats.specs.Seats.{Seated}
 use Rattle.ocp_seats.specs.Closing.{IsWhole, IsReceipted}
 
 -- after i entries: each was by a seat, and each seat's receipts before its place are its entries among them
 pub record Walked (entries : List Marked) (i : ℕ) (places : List ℕ) (seats : List Seated) : Type 0 where
   pub covered : All (λ (e : Marked). Any (λ (s : Seated). s.number ≡ by_of e.entry) seats) (take i entries)
-  pub matched : All (λ (s : Seated). take (get_or places s.number 0) s.receipts ≡ marked_by (take i entries) s.number) seats
+  pub matched : All (λ (s : Seated). take (get_or places s.number 0) s.receipts ≡ entries_by (take i entries) s.number) seats
   pub within : All (λ (s : Seated). get_or places s.number 0 ≤ length s.receipts) seats
   pub long : length places ≡ 65
 
@@ -101,16 +101,16 @@ walk_on entries i places seats n whole most walked e lt is m s lt' is' by room n
         let index : k ≡ m = distinct seats n whole k m d lt'' lt' (number ∙ sym (ap (λ (x : Seated). x.number) read ∙ by)) in
         ap (λ (j : ℕ). get_or seats j d) index ∙ read
 
-    matched_by_hand : take (get_or after (by_of e.entry) 0) s.receipts ≡ marked_by (take (i + 1) entries) (by_of e.entry)
+    matched_by_hand : take (get_or after (by_of e.entry) 0) s.receipts ≡ entries_by (take (i + 1) entries) (by_of e.entry)
     matched_by_hand =
-        let so_far : take place s.receipts ≡ marked_by (take i entries) (by_of e.entry) = subst (λ (v : ℕ). take (get_or places v 0) s.receipts ≡ marked_by (take i entries) v) by (subst (λ (t : Seated). take (get_or places t.number 0) t.receipts ≡ marked_by (take i entries) t.number) (sym is') (walked.matched m s lt')) in
+        let so_far : take place s.receipts ≡ entries_by (take i entries) (by_of e.entry) = subst (λ (v : ℕ). take (get_or places v 0) s.receipts ≡ entries_by (take i entries) v) by (subst (λ (t : Seated). take (get_or places t.number 0) t.receipts ≡ entries_by (take i entries) t.number) (sym is') (walked.matched m s lt')) in
         rw (get_or-set_same places (by_of e.entry) (place + 1) 0 small) (step_same (λ (x : Marked). by_of x.entry == by_of e.entry) entries s.receipts i place e lt is room next (grind arith) so_far)
 
-    matched : (k : ℕ) (d : Seated) → k < length seats → (b : Bool) → eqb (get_or seats k d).number (by_of e.entry) ≡ b → take (get_or after (get_or seats k d).number 0) (get_or seats k d).receipts ≡ marked_by (take (i + 1) entries) (get_or seats k d).number
+    matched : (k : ℕ) (d : Seated) → k < length seats → (b : Bool) → eqb (get_or seats k d).number (by_of e.entry) ≡ b → take (get_or after (get_or seats k d).number 0) (get_or seats k d).receipts ≡ entries_by (take (i + 1) entries) (get_or seats k d).number
     matched k d lt'' true same =
         let number : (get_or seats k d).number ≡ by_of e.entry = grind arith in
-        let Q : ℕ → Type 0 = λ v. take (get_or after v 0) s.receipts ≡ marked_by (take (i + 1) entries) v in
-        let P : Seated → Type 0 = λ t. take (get_or after t.number 0) t.receipts ≡ marked_by (take (i + 1) entries) t.number in
+        let Q : ℕ → Type 0 = λ v. take (get_or after v 0) s.receipts ≡ entries_by (take (i + 1) entries) v in
+        let P : Seated → Type 0 = λ t. take (get_or after t.number 0) t.receipts ≡ entries_by (take (i + 1) entries) t.number in
         subst P (sym (same_seat k d lt'' number)) (subst Q (sym by) matched_by_hand)
     matched k d lt'' false other =
         let v = (get_or seats k d).number in
@@ -141,11 +141,11 @@ pub next_is : (entries : List Marked) (i : ℕ) (places : List ℕ) (seats : Lis
     → IsReceipted entries seats → (get_or places (by_of e.entry) 0 < length s.receipts) × (get_or s.receipts (get_or places (by_of e.entry) 0) e ≡ e)
 next_is entries i places seats walked e lt is m s lt' is' by good =
     let place = get_or places (by_of e.entry) 0 in
-    let done = marked_by (take i entries) (by_of e.entry) in
-    let so_far : take place s.receipts ≡ done = subst (λ (v : ℕ). take (get_or places v 0) s.receipts ≡ marked_by (take i entries) v) by (subst (λ (t : Seated). take (get_or places t.number 0) t.receipts ≡ marked_by (take i entries) t.number) (sym is') (walked.matched m s lt')) in
+    let done = entries_by (take i entries) (by_of e.entry) in
+    let so_far : take place s.receipts ≡ done = subst (λ (v : ℕ). take (get_or places v 0) s.receipts ≡ entries_by (take i entries) v) by (subst (λ (t : Seated). take (get_or places t.number 0) t.receipts ≡ entries_by (take i entries) t.number) (sym is') (walked.matched m s lt')) in
     let inside : place ≤ length s.receipts = subst (λ (v : ℕ). get_or places v 0 ≤ length s.receipts) by (subst (λ (t : Seated). get_or places t.number 0 ≤ length t.receipts) (sym is') (walked.within m s lt')) in
-    let all : s.receipts ≡ marked_by entries (by_of e.entry) = subst (λ (v : ℕ). s.receipts ≡ marked_by entries v) by (subst (λ (t : Seated). t.receipts ≡ marked_by entries t.number) (sym is') (good.receipts m s lt')) in
-    let rest = marked_by (drop (i + 1) entries) (by_of e.entry) in
+    let all : s.receipts ≡ entries_by entries (by_of e.entry) = subst (λ (v : ℕ). s.receipts ≡ entries_by entries v) by (subst (λ (t : Seated). t.receipts ≡ entries_by entries t.number) (sym is') (good.receipts m s lt')) in
+    let rest = entries_by (drop (i + 1) entries) (by_of e.entry) in
     let split : s.receipts ≡ done ++ e ∷ rest = all ∙ rest_is (λ (x : Marked). by_of x.entry == by_of e.entry) entries i e lt is (grind arith) in
     let count : length done ≡ place = ap length (sym so_far) ∙ length_take place s.receipts inside in (
       omega (arith, ap length split, length-append done (e ∷ rest)),
@@ -161,16 +161,16 @@ walked_all entries places seats walked ends =
       receipts = λ k d lt.
           let r = (get_or seats k d).receipts in
           let v = (get_or seats k d).number in
-          sym (take_whole r) ∙ (ap (λ (j : ℕ). take j r) (sym (ends k d lt)) ∙ (walked.matched k d lt ∙ ap (λ (l : List Marked). marked_by l v) whole));
+          sym (take_whole r) ∙ (ap (λ (j : ℕ). take j r) (sym (ends k d lt)) ∙ (walked.matched k d lt ∙ ap (λ (l : List Marked). entries_by l v) whole));
     }
 
 pub place_is_end : (entries : List Marked) (places : List ℕ) (seats : List Seated) → Walked entries (length entries) places seats → (m : ℕ) (s : Seated) → m < length seats → s ≡ get_or seats m s → IsReceipted entries seats → get_or places s.number 0 ≡ length s.receipts
 place_is_end entries places seats walked m s lt' is' good =
     let place = get_or places s.number 0 in
-    let so_far : take place s.receipts ≡ marked_by (take (length entries) entries) s.number = subst (λ (t : Seated). take (get_or places t.number 0) t.receipts ≡ marked_by (take (length entries) entries) t.number) (sym is') (walked.matched m s lt') in
+    let so_far : take place s.receipts ≡ entries_by (take (length entries) entries) s.number = subst (λ (t : Seated). take (get_or places t.number 0) t.receipts ≡ entries_by (take (length entries) entries) t.number) (sym is') (walked.matched m s lt') in
     let inside : place ≤ length s.receipts = subst (λ (t : Seated). get_or places t.number 0 ≤ length t.receipts) (sym is') (walked.within m s lt') in
-    let all : s.receipts ≡ marked_by entries s.number = subst (λ (t : Seated). t.receipts ≡ marked_by entries t.number) (sym is') (good.receipts m s lt') in
-    let same : take place s.receipts ≡ s.receipts = so_far ∙ (ap (λ (l : List Marked). marked_by l s.number) (take_whole entries) ∙ sym all) in
+    let all : s.receipts ≡ entries_by entries s.number = subst (λ (t : Seated). t.receipts ≡ entries_by entries t.number) (sym is') (good.receipts m s lt') in
+    let same : take place s.receipts ≡ s.receipts = so_far ∙ (ap (λ (l : List Marked). entries_by l s.number) (take_whole entries) ∙ sym all) in
     sym (length_take place s.receipts inside) ∙ ap length same
 
 -- no entry was walked

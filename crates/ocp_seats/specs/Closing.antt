@@ -2,7 +2,7 @@
 use Rattle.std.specs.Prelude.{◌≡◌, ◌≤◌, ◌==◌, ℕ, List, All, Any, count_by, length}
 use Rattle.ocp_seats.specs.declared.close.CloseFault.{CloseFault}
 use Rattle.ocp_seats.specs.declared.close.CloseFault.TheVariants.{MissingSeat, ReceiptMismatch}
-use Rattle.ocp_core.specs.Marks.{Marked, by_of, marked_by}
+use Rattle.ocp_core.specs.Marks.{Marked, by_of, entries_by}
 use Rattle.ocp_seats.specs.Seats.{Seated}
 
 -- the seats' numbers are 1 to n, each once, so they are n seats
@@ -14,7 +14,7 @@ pub record IsWhole (seats : List Seated) (n : ℕ) : Type 0 where
 -- each entry is by one of the seats, and each seat's receipts are its entries, marks included
 pub record IsReceipted (entries : List Marked) (seats : List Seated) : Type 0 where
   pub covered : All (λ (m : Marked). Any (λ (s : Seated). s.number ≡ by_of m.entry) seats) entries
-  pub receipts : All (λ (s : Seated). s.receipts ≡ marked_by entries s.number) seats
+  pub receipts : All (λ (s : Seated). s.receipts ≡ entries_by entries s.number) seats
 
 -- why a book of so many seats is not closed, in this order
 abbrev pub RefusesClose : ℕ → List Marked → List Seated → CloseFault → Type 0

@@ -3,7 +3,7 @@ use Rattle.std.specs.Prelude.{◌≡◌, ◌<◌, ◌+◌, ℕ, List, [], ◌++�
 use Rattle.ocp_core.specs.Log.{Log}
 use Rattle.ocp_seats.specs.declared.seat.SeatFault.{SeatFault}
 use Rattle.ocp_seats.specs.declared.seat.SeatFault.TheVariants as seat
-use Rattle.ocp_core.specs.Marks.{Marked, marked}
+use Rattle.ocp_core.specs.Marks.{Marked, entries_with_marks}
 
 -- the engine, the number of its entries at the start, the number of seats handed out, the procedure
 -- taken last by any seat, and how many entries came since the start
@@ -29,7 +29,7 @@ pub record Gained (old new : Seated) (entries : List Marked) : Type 0 where
 -- the journal is the old one followed by these entries, and their marks are those of its replay
 pub record Grows (old new : Log) (entries : List Marked) : Type 0 where
   pub journal : new ≡ record old { entries = old.entries ++ map (λ (m : Marked). m.entry) entries }
-  pub marks : marked new ≡ marked old ++ entries
+  pub marks : entries_with_marks new ≡ entries_with_marks old ++ entries
 
 -- the engine's journal gained these entries, and what else the book keeps stays
 pub record Changed (old new : Booked) (entries : List Marked) : Type 0 where

@@ -8,12 +8,12 @@ use Rattle.ocp_world.specs.After.{is_accepted, is_done}
 use Rattle.ocp_core.specs.declared.answers.CommitOutcome.TheVariants as C
 use Rattle.ocp_core.specs.Marks.{Marked}
 use Rattle.ocp_seats.specs.Seats.{Seated, Gained}
-use Rattle.ocp_seats.specs.Receipts.{counted, step_entries}
+use Rattle.ocp_seats.specs.Receipts.{count_entries, step_entries}
 use Rattle.ocp_slices.specs.declared.turn.Turn.{Turn}
 use Rattle.ocp_slices.specs.declared.turn.Turn.TheVariants.{Idle, Committed, Stepped, Stale, Full, NoMemory}
 use Rattle.ocp_slices.specs.Continuing.{IsShift, Continues}
 use Rattle.ocp_slices.specs.Replies.{Reply}
-use Rattle.ocp_slices.specs.Turns.{Turned}
+use Rattle.ocp_slices.specs.Turns.{IsTurn}
 
 pub continues_unchanged : (budget : ℕ) (s : Seated) → Continues 0 budget s s
 continues_unchanged budget s = record {
@@ -56,7 +56,7 @@ continues_one budget old new m gained shift done = record {
 }
 
 -- one instruction
-continues_step : (budget id : ℕ) (old new : Seated) (o : StepOutcome) → is_done o ≡ true → Gained old new (counted old.number id 1 o) → Continues 1 budget old new
+continues_step : (budget id : ℕ) (old new : Seated) (o : StepOutcome) → is_done o ≡ true → Gained old new (count_entries old.number id 1 o) → Continues 1 budget old new
 continues_step budget id old new o done gained = continues_one budget old new _ gained (refl, (omega arith, inr refl)) done
 
 continues_answer : (budget id : ℕ) (old new : Seated) (o : StepOutcome) → Gained old new (step_entries old.number id o) → Continues 1 budget old new
@@ -69,7 +69,7 @@ continues_answer budget id old new S.NotLoaded gained = continues_none budget ol
 continues_answer budget id old new S.NotRunning gained = continues_none budget old new gained
 continues_answer budget id old new S.JournalFull gained = continues_none budget old new gained
 
-continues_turn : (answers : Reply → Type 0) (budget : ℕ) (old new : Seated) (t : Turn) → Turned answers budget old new t → Continues 1 budget old new
+continues_turn : (answers : Reply → Type 0) (budget : ℕ) (old new : Seated) (t : Turn) → IsTurn answers budget old new t → Continues 1 budget old new
 continues_turn answers budget old new Idle is = continues_same budget old new is.1
 continues_turn answers budget old new (Committed count) is =
     let some : count ≢ 0 = is.0 in
@@ -92,7 +92,7 @@ continues_further m n budget a b c one two = record {
   done = All-append (λ (x : Marked). is_accepted x.mark ≡ true) one.more two.more one.done two.done;
 }
 
-pub continues_by_turn : (answers : Reply → Type 0) (turns budget : ℕ) (a b c : Seated) (t : Turn) → Continues turns budget a b → Turned answers budget b c t → Continues (turns + 1) budget a c
+pub continues_by_turn : (answers : Reply → Type 0) (turns budget : ℕ) (a b c : Seated) (t : Turn) → Continues turns budget a b → IsTurn answers budget b c t → Continues (turns + 1) budget a c
 continues_by_turn answers turns budget a b c t one turned = continues_further turns 1 budget a b c one (continues_turn answers budget b c t turned)
 
 pub continues_at_end : (made turns budget : ℕ) (a b : Seated) → made ≤ turns → Continues made budget a b → Continues turns budget a b

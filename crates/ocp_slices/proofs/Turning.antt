@@ -13,7 +13,7 @@ use Rattle.ocp_seats.specs.Seats.{Seated, Gained}
 use Rattle.ocp_seats.specs.Receipts.{step_entries, commit_entries}
 use Rattle.ocp_slices.specs.declared.turn.Turn.TheVariants.{Committed, Stepped, Stale, Full}
 use Rattle.ocp_slices.specs.Replies.{Reply, TakeReply, CommitReply, StepReply}
-use Rattle.ocp_slices.specs.Turns.{HandsIn, Asks, Turned}
+use Rattle.ocp_slices.specs.Turns.{HandsIn, Asks, IsTurn}
 
 -- a seat that gained nothing is as it was
 gained_none : (old new : Seated) → Gained old new [] → new ≡ old
@@ -31,17 +31,17 @@ module _ (answers : Reply → Type 0) (budget : ℕ) (old : Seated) (ticket : Ta
   abbrev hands_in : (o : CommitOutcome) → answers (CommitReply old.number work o) → HandsIn answers budget old.number o
   hands_in o answered = record { ticket = ticket; given = given; work = work; id = id; base = base; count = count; ran = ran; answered = answered }
 
-  pub committed : (n : ℕ) (new : Seated) → answers (CommitReply old.number work (C.Committed n)) → Gained old new (commit_entries old.number work.id (C.Committed n)) → ((C.Committed n ≡ C.Empty) ↔ (work.count ≡ 0)) → ((k : ℕ) → C.Committed n ≡ C.Committed k → k ≡ work.count) → work.count ≤ budget → Turned answers budget old new (Committed n)
+  pub committed : (n : ℕ) (new : Seated) → answers (CommitReply old.number work (C.Committed n)) → Gained old new (commit_entries old.number work.id (C.Committed n)) → ((C.Committed n ≡ C.Empty) ↔ (work.count ≡ 0)) → ((k : ℕ) → C.Committed n ≡ C.Committed k → k ≡ work.count) → work.count ≤ budget → IsTurn answers budget old new (Committed n)
   committed n new answered gained empty all within =
       let same : n ≡ work.count = all n refl in
       let some : n ≢ 0 = (λ none. apart n (empty.1 (sym same ∙ none))) in
       let few : n ≤ budget = omega (arith, same, within) in
       (some, few, (hands_in (C.Committed n) answered, sym same, subst (λ (k : ℕ). Gained old new (commit_entries old.number k (C.Committed n))) id gained))
 
-  pub stale : (new : Seated) → answers (CommitReply old.number work C.Stale) → Gained old new [] → Turned answers budget old new Stale
+  pub stale : (new : Seated) → answers (CommitReply old.number work C.Stale) → Gained old new [] → IsTurn answers budget old new Stale
   stale new answered gained = (hands_in C.Stale answered, gained_none old new gained)
 
-  pub full : (new : Seated) → answers (CommitReply old.number work C.JournalFull) → Gained old new [] → Turned answers budget old new Full
+  pub full : (new : Seated) → answers (CommitReply old.number work C.JournalFull) → Gained old new [] → IsTurn answers budget old new Full
   full new answered gained = (inl (hands_in C.JournalFull answered), gained_none old new gained)
 
   -- an empty work leaves the seat as it was, and then comes an instruction
@@ -52,10 +52,10 @@ module _ (answers : Reply → Type 0) (budget : ℕ) (old : Seated) (ticket : Ta
       answered = subst (λ (k : ℕ). answers (StepReply old.number k o)) (is ∙ id) (subst (λ (n : ℕ). answers (StepReply n asked o)) first.number answered);
     }
 
-    pub full_step : (new : Seated) → answers (StepReply mid.number asked S.JournalFull) → Gained mid new [] → Turned answers budget old new Full
+    pub full_step : (new : Seated) → answers (StepReply mid.number asked S.JournalFull) → Gained mid new [] → IsTurn answers budget old new Full
     full_step new answered second = (inr (asks S.JournalFull answered), gained_none mid new second ∙ gained_none old mid first)
 
-    pub stepped : (new : Seated) (o : StepOutcome) → o ≢ S.JournalFull → answers (StepReply mid.number asked o) → Gained mid new (step_entries mid.number asked o) → Turned answers budget old new (Stepped o)
+    pub stepped : (new : Seated) (o : StepOutcome) → o ≢ S.JournalFull → answers (StepReply mid.number asked o) → Gained mid new (step_entries mid.number asked o) → IsTurn answers budget old new (Stepped o)
     stepped new o differs answered second =
         let gains : Gained old new (step_entries old.number asked o) = subst (λ (s : Seated). Gained s new (step_entries s.number asked o)) (gained_none old mid first) second in
         (differs, (asks o answered, subst (λ (k : ℕ). Gained old new (step_entries old.number k o)) (is ∙ id) gains))

@@ -4,7 +4,7 @@ use Rattle.std.proofs.lemmas.Grind.{common_steps}
 use Rattle.std.proofs.lemmas.List.Elements.{All-nil, All-head, All-tail, All-push, All-same, All-map}
 use Rattle.ocp_world.specs.After.{is_accepted}
 use Rattle.ocp_core.specs.Log.{Log, Entry, Asked, Steps, Debugged, Drained}
-use Rattle.ocp_core.specs.Marks.{Marked, by_of, marked, marked_by}
+use Rattle.ocp_core.specs.Marks.{Marked, by_of, entries_with_marks, entries_by}
 use Rattle.ocp_seats.specs.Seats.{Seated}
 use Rattle.ocp_seats.specs.Closing.{IsReceipted}
 use Rattle.ocp_slices.specs.Continuing.{IsShift, Continues, AllContinue}
@@ -49,9 +49,9 @@ abbrev IsKept : ℕ → ℕ → Marked → Type 0
 IsKept crew budget m = IsWorked crew budget m.entry × (is_accepted m.mark ≡ true)
 
 all_kept : (start now : Log) (olds news : List Seated) (crew budget turns : ℕ) → length olds ≡ crew → All (λ (s : Seated). s.receipts ≡ []) olds → AllContinue turns budget olds news → IsClosed start now news
-    → All (IsKept crew budget) (drop (length start.entries) (marked now))
+    → All (IsKept crew budget) (drop (length start.entries) (entries_with_marks now))
 all_kept start now olds news crew budget turns many fresh goes closed = λ i d lt.
-    let ms : List Marked = drop (length start.entries) (marked now) in
+    let ms : List Marked = drop (length start.entries) (entries_with_marks now) in
     let m : Marked = get_or ms i d in
     let (k, s, inside, read, by) = closed.history.receipts.covered i d lt in
     let seat : Seated = get_or news k s in
@@ -60,7 +60,7 @@ all_kept start now olds news crew budget turns many fresh goes closed = λ i d l
     let one : Continues turns budget old seat = goes.each k s before in
     let more : All (IsShifted budget old.number) one.more = (λ j e inside. (one.shifts j e inside, one.done j e inside)) in
     let shifts : All (IsShifted budget old.number) seat.receipts = subst (λ (l : List Marked). All (IsShifted budget old.number) l) (sym (gained turns budget old seat one (fresh k s before))) more in
-    let own : All (IsShifted budget old.number) (marked_by ms seat.number) = subst (λ (l : List Marked). All (IsShifted budget old.number) l) (closed.history.receipts.receipts k s inside) shifts in
+    let own : All (IsShifted budget old.number) (entries_by ms seat.number) = subst (λ (l : List Marked). All (IsShifted budget old.number) l) (closed.history.receipts.receipts k s inside) shifts in
     let number : by_of m.entry ≡ seat.number = sym by ∙ sym (ap (λ (x : Seated). x.number) read) in
     let passes : (by_of m.entry == seat.number) ≡ true = grind arith in
     let shift : IsShifted budget old.number m = kept (λ (x : Marked). by_of x.entry == seat.number) (IsShifted budget old.number) ms own i d lt passes in
@@ -69,7 +69,7 @@ all_kept start now olds news crew budget turns many fresh goes closed = λ i d l
 
 pub worked_by : (start now : Log) (olds news : List Seated) (crew budget turns : ℕ) → length olds ≡ crew → All (λ (s : Seated). s.receipts ≡ []) olds → AllContinue turns budget olds news → IsClosed start now news → HasWorked start now crew budget turns
 worked_by start now olds news crew budget turns many fresh goes closed =
-    let both : All (IsKept crew budget) (drop (length start.entries) (marked now)) = all_kept start now olds news crew budget turns many fresh goes closed in record {
+    let both : All (IsKept crew budget) (drop (length start.entries) (entries_with_marks now)) = all_kept start now olds news crew budget turns many fresh goes closed in record {
       seats = news;
       count = goes.count ∙ many;
       closed = closed;
@@ -78,7 +78,7 @@ worked_by start now olds news crew budget turns many fresh goes closed =
           let one : Continues turns budget (get_or olds k d) (get_or news k d) = goes.each k d before in
           omega (arith, one.few, ap (λ (l : List Marked). length l) (gained turns budget (get_or olds k d) (get_or news k d) one (fresh k d before)));
       worked = All-same (λ (e : Entry). IsWorked crew budget e) _ _ (sym closed.history.entries)
-          (All-map (λ (e : Entry). IsWorked crew budget e) (λ (m : Marked). m.entry) (drop (length start.entries) (marked now))
+          (All-map (λ (e : Entry). IsWorked crew budget e) (λ (m : Marked). m.entry) (drop (length start.entries) (entries_with_marks now))
           (λ i d lt. (both i d lt).0));
       done = λ i d lt. (both i d lt).1;
     }

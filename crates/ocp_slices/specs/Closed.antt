@@ -2,7 +2,7 @@
 use Rattle.std.specs.Prelude.{◌≡◌, ◌≤◌, ℕ, true, List, All, length, drop}
 use Rattle.ocp_world.specs.After.{is_accepted}
 use Rattle.ocp_core.specs.Log.{Log, Entry, Asked, Steps, Debugged, Drained}
-use Rattle.ocp_core.specs.Marks.{Marked, marked}
+use Rattle.ocp_core.specs.Marks.{Marked, entries_with_marks}
 use Rattle.ocp_seats.specs.declared.close.CloseFault.{CloseFault}
 use Rattle.ocp_seats.specs.declared.close.CloseFault.TheVariants.{MissingSeat, ReceiptMismatch}
 use Rattle.ocp_seats.specs.Seats.{Seated}
@@ -41,4 +41,5 @@ pub record HasWorked (start now : Log) (crew budget turns : ℕ) : Type 0 where
   pub few : All (λ (s : Seated). length s.receipts ≤ turns) seats
   pub worked : All (λ (e : Entry). IsWorked crew budget e) (drop (length start.entries) now.entries)
   pub done :
-      All (λ (m : Marked). is_accepted m.mark ≡ true) (drop (length start.entries) (marked now))
+      All (λ (m : Marked). is_accepted m.mark ≡ true)
+      (drop (length start.entries) (entries_with_marks now))

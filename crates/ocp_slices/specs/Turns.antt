@@ -34,18 +34,18 @@ pub record Asks (answers : Reply → Type 0) (budget by : ℕ) (o : StepOutcome)
 -- what a turn answers is what the board answered, and the seat gains the entry of what was
 -- committed or stepped, or nothing; at least one instruction is committed and no more than the
 -- budget, one is stepped, and a step of a full journal is no step
-abbrev pub Turned : (Reply → Type 0) → ℕ → Seated → Seated → Turn → Type 0
-Turned answers budget old new Idle = answers (TakeReply (Err T.NoneRunning)) × (new ≡ old)
-Turned answers budget old new (Committed count) =
+abbrev pub IsTurn : (Reply → Type 0) → ℕ → Seated → Seated → Turn → Type 0
+IsTurn answers budget old new Idle = answers (TakeReply (Err T.NoneRunning)) × (new ≡ old)
+IsTurn answers budget old new (Committed count) =
     (count ≢ 0) × (count ≤ budget)
     × ((h : HandsIn answers budget old.number (C.Committed count)) × (h.work.count ≡ count)
     × Gained old new (commit_entries old.number h.ticket.id (C.Committed count)))
-Turned answers budget old new (Stepped outcome) =
+IsTurn answers budget old new (Stepped outcome) =
     (outcome ≢ S.JournalFull)
     × ((a : Asks answers budget old.number outcome)
     × Gained old new (step_entries old.number a.hands_in.ticket.id outcome))
-Turned answers budget old new Stale = HandsIn answers budget old.number C.Stale × (new ≡ old)
-Turned answers budget old new Full =
+IsTurn answers budget old new Stale = HandsIn answers budget old.number C.Stale × (new ≡ old)
+IsTurn answers budget old new Full =
     (HandsIn answers budget old.number C.JournalFull
     ⊎ Asks answers budget old.number S.JournalFull) × (new ≡ old)
-Turned answers budget old new NoMemory = answers (TakeReply (Err T.Memory)) × (new ≡ old)
+IsTurn answers budget old new NoMemory = answers (TakeReply (Err T.Memory)) × (new ≡ old)

@@ -1,8 +1,8 @@
 -- What a journal keeps of its entries.
 use Rattle.std.specs.Prelude.{◌≡◌, ◌≤◌, ◌<◌, ◌*◌, ◌^◌, map, length, vec_len, vec_capacity}
 use Rattle.ocp_core.specs.Log.{Log, expand, world_of}
-use Rattle.ocp_core.specs.Marks.{marked}
-use Rattle.ocp_core.specs.Journal.{entry_of, marked_of}
+use Rattle.ocp_core.specs.Marks.{entries_with_marks}
+use Rattle.ocp_core.specs.Journal.{entry_of, entry_with_mark}
 use Rattle.ocp_core.specs.declared.journal.Journal.TheInside.{Inside}
 
 module _ {A : Type 0} where
@@ -25,4 +25,4 @@ module _ {A : Type 0} where
     pub counted : j.events ≡ length (expand (map entry_of j.entries.items))
     pub numbered : j.events ≡ (world_of (log_of j)).events
     pub bounded : j.events ≤ 2 ^ 32 * vec_len j.entries
-    pub marks : map marked_of j.entries.items ≡ marked (log_of j)
+    pub marks : map entry_with_mark j.entries.items ≡ entries_with_marks (log_of j)
