@@ -2,6 +2,7 @@
 
 ghost use Rattle.std.specs.Prelude.{◌≡◌, ◌≢◌, ◌↔◌, ◌≤◌, ◌<◌, ◌-◌, ◌^◌, ℕ, false, Ok, Err, None, IfOk, IfErr, IfSome, OnOk, OnErr, length, slice_get};
 ghost use Rattle.std.specs.FinMap.{get};
+ghost use Rattle.ocp_profile.specs.declared.limits.TheConstants.{MAX_APID, MAX_POOL_WORDS, MAX_CAPACITY};
 ghost use Rattle.ocp_table.specs.Shown.{view_at};
 ghost use Rattle.ocp_world.specs.World as world;
 ghost use Rattle.ocp_world.specs.After.{Requested, Stepped};
@@ -59,11 +60,11 @@ impl<A: Allocator> Engine<A> {
     ) -> Result<Self, AllocError>
     where
         A: Copy,
-        requires apid { apid < 2047 }
+        requires apid { apid ≤ MAX_APID }
         requires words_from { 1 ≤ words }
-        requires words_to { words ≤ 256 }
+        requires words_to { words ≤ MAX_POOL_WORDS }
         requires capacity_from { 1 ≤ capacity }
-        requires capacity_to { capacity ≤ 1000000 }
+        requires capacity_to { capacity ≤ MAX_CAPACITY }
         ensures { IfOk result (λ engine. engine ≡ empty_log profile apid words capacity) }
     {
         let apid = Apid::new(apid).unwrap();
