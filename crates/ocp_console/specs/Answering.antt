@@ -20,7 +20,7 @@ use Rattle.ocp_world.specs.After.{Answer, Requested, Stepped, Commanded}
 use Rattle.ocp_world.specs.World as event
 use Rattle.ocp_core.specs.Log.{Log, empty_log, expand, world_of, answer_in, log_after}
 use Rattle.ocp_core.specs.Slice.{slice_in, slice_log}
-use Rattle.ocp_lines.specs.Grammar.{Said, Nothing, Up, Send, Time, Step, Break, Unbreak, Trace, Traces, View, Memory, Pool, Journal, Drain, Work, command_of}
+use Rattle.ocp_lines.specs.Grammar.{Meaning, Nothing, Up, Send, Time, Step, Break, Unbreak, Trace, Traces, View, Memory, Pool, Journal, Drain, Work, command_of}
 use Rattle.ocp_words.specs.declared.job.Settings.{Settings}
 use Rattle.ocp_console.specs.declared.console.Console.{Console}
 use Rattle.ocp_console.specs.Texts.{report_line, discard_line, refusal_line, step_line, break_line, unbreak_line, switch_line, memory_line, pool_line, journal_line}
@@ -158,7 +158,7 @@ pub data Effect : Type 0 where
   Does : State × List ℕ → Effect
   Works : ℕ → ℕ → ℕ → Effect
 
-abbrev pub effect_of : State → Said → Effect
+abbrev pub effect_of : State → Meaning → Effect
 effect_of state Nothing = Does (state, [])
 effect_of state (Up octets) = Does (on_octets state octets)
 effect_of state (Send ack request) = Does (on_request state ack request)
@@ -177,7 +177,7 @@ effect_of state Journal = Does (state, journal_line (length (expand state.engine
 effect_of state Drain = Does (on_drain state)
 effect_of state (Work workers budget turns) = Works workers budget turns
 
-abbrev pub response : State → Option Said → Option Effect
+abbrev pub response : State → Option Meaning → Option Effect
 response state None = None
 response state (Some said) = Some (effect_of state said)
 

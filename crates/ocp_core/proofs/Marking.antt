@@ -7,7 +7,7 @@ use Rattle.bpf_step.specs.Machine.{State as Machined}
 use Rattle.ocp_table.specs.Records.{Rec}
 use Rattle.ocp_debug.specs.declared.command.DebugFault.{DebugFault}
 use Rattle.ocp_world.specs.Settled.{RunsAlone}
-use Rattle.ocp_core.specs.Tickets.{Worked, IsRun}
+use Rattle.ocp_core.specs.Tickets.{WorkContents, IsRun}
 use Rattle.ocp_core.specs.Commits.{IsFresh, Commits}
 use Rattle.ocp_core.specs.declared.answers.CommitOutcome.TheVariants.{Committed}
 use Rattle.ocp_core.proofs.Committing.{last_of_run, runs_answered}
@@ -20,13 +20,13 @@ use Rattle.ocp_world.specs.Replay.{replay_from, answers}
 use Rattle.ocp_world.specs.Slice.{outcome_in, goes_on, slice_count, slice_last}
 use Rattle.ocp_core.specs.Log.{Log, Entry, Steps, events_of, expand, with_entry, entry_for, world_of, is_full, answer_in, log_after}
 use Rattle.ocp_core.specs.Slice.{slice_in, slice_log}
-use Rattle.ocp_core.specs.Marks.{last_outcome, mark_in, marks_from, marks, Marked, entries_with_marks_from, entries_with_marks}
+use Rattle.ocp_core.specs.Marks.{last_outcome, mark_in, marks_from, marks, MarkedEntry, entries_with_marks_from, entries_with_marks}
 use Rattle.ocp_core.specs.Journal.{entry_of, mark_of, entry_with_mark}
 use Rattle.ocp_core.specs.declared.event.Entry as N
 use Rattle.ocp_core.proofs.Replays.{replay_from-append}
 use Rattle.ocp_core.proofs.Journaling.{done_log, done_answer, done_slice, done_slice_log}
 
-abbrev with_mark : World → Entry → Marked
+abbrev with_mark : World → Entry → MarkedEntry
 with_mark w e = record { entry = e; mark = mark_in w e }
 
 marks_from-append : (w : World) (xs ys : List Entry) → marks_from w (xs ++ ys) ≡ marks_from w xs ++ marks_from (replay_from w (expand xs)) ys
@@ -105,10 +105,10 @@ marked-slice log by id budget taken free =
 abbrev pub AreAnswered : Type 0
 AreAnswered = (v : World) (by id n : ℕ) (r : Rec) (machine : Machined) → RunsAlone v id r n machine → answers v (replicate n (Step by id)) ≡ replicate n (Stepped S.Ran)
 
-pub commit_mark : AreAnswered → (log : Log) (by : ℕ) (w : Worked) → (w.count ≡ 0 → ⊥) → IsFresh log w → IsRun w → last_outcome (world_of log) by w.id S.Ran w.count ≡ S.Ran
+pub commit_mark : AreAnswered → (log : Log) (by : ℕ) (w : WorkContents) → (w.count ≡ 0 → ⊥) → IsFresh log w → IsRun w → last_outcome (world_of log) by w.id S.Ran w.count ≡ S.Ran
 commit_mark law log by w some fresh run = last_of_run (world_of log) by w.id w.count (runs_answered law log by w some fresh run)
 
-module _ (law : AreAnswered) (old new : Log) (by : ℕ) (w : Worked) (run : IsRun w) (count : ℕ) (is : Commits old new by w (Committed count)) where
+module _ (law : AreAnswered) (old new : Log) (by : ℕ) (w : WorkContents) (run : IsRun w) (count : ℕ) (is : Commits old new by w (Committed count)) where
   pub marks-commit : marks new ≡ marks old ++ Stepped S.Ran ∷ []
   marks-commit =
       ap marks is.4.journal ∙ marks-with_entry old (Steps by w.id w.count)

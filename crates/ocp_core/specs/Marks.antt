@@ -32,18 +32,18 @@ unfoldable pub marks : Log → List Answer
 marks log = marks_from (opening log.profile log.apid log.words) log.entries
 
 -- an entry with its mark: the answer that was given with it
-pub record Marked : Type 0 where
+pub record MarkedEntry : Type 0 where
   pub entry : Entry
   pub mark : Answer
 
-abbrev pub entries_with_marks_from : World → List Entry → List Marked
+abbrev pub entries_with_marks_from : World → List Entry → List MarkedEntry
 entries_with_marks_from w [] = []
 entries_with_marks_from w (entry ∷ entries) =
     record { entry = entry; mark = mark_in w entry }
     ∷ entries_with_marks_from (replay_from w (events_of entry)) entries
 
 -- the entries of a journal with their marks
-unfoldable pub entries_with_marks : Log → List Marked
+unfoldable pub entries_with_marks : Log → List MarkedEntry
 entries_with_marks log =
     entries_with_marks_from (opening log.profile log.apid log.words) log.entries
 
@@ -55,5 +55,5 @@ by_of (Debugged by id command) = by
 by_of (Drained by time) = by
 
 -- those of one seat, in order
-abbrev pub entries_by : List Marked → ℕ → List Marked
+abbrev pub entries_by : List MarkedEntry → ℕ → List MarkedEntry
 entries_by entries by = filter (λ m. by_of m.entry == by) entries

@@ -16,9 +16,9 @@ pub struct Ticket<A: Allocator = Global> {
 
 impl<A: Allocator> Model for Ticket<A> {
     ghost use Rattle.std.specs.Prelude.{◌≡◌};
-    ghost use Rattle.ocp_core.specs.Tickets.{Taken};
+    ghost use Rattle.ocp_core.specs.Tickets.{TicketContents};
 
-    ghost Value = { Taken };
+    ghost Value = { TicketContents };
 
     ghost use Rattle.ocp_core.specs.Mirror.Tickets.{ticket_code};
 
@@ -40,9 +40,9 @@ pub struct Work<A: Allocator = Global> {
 }
 
 impl<A: Allocator> Model for Work<A> {
-    ghost use Rattle.ocp_core.specs.Tickets.{Worked, IsRun};
+    ghost use Rattle.ocp_core.specs.Tickets.{WorkContents, IsRun};
 
-    ghost Value = { Worked };
+    ghost Value = { WorkContents };
 
     ghost use Rattle.ocp_core.specs.Mirror.Tickets.{work_code};
 

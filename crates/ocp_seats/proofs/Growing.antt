@@ -14,10 +14,10 @@ use Rattle.ocp_world.specs.Slice.{outcome_in, slice_count, slice_last}
 use Rattle.ocp_world.specs.After.{Answer, Requested, Stepped, Commanded, after, is_accepted}
 use Rattle.ocp_core.specs.Log.{Log, Entry, Steps, world_of, is_full, with_entry, entry_for, full_answer, answer_in, log_after}
 use Rattle.ocp_core.specs.Slice.{slice_in, slice_log}
-use Rattle.ocp_core.specs.Marks.{Marked, mark_in, entries_with_marks}
+use Rattle.ocp_core.specs.Marks.{MarkedEntry, mark_in, entries_with_marks}
 use Rattle.ocp_core.specs.declared.answers.CommitOutcome.{CommitOutcome}
 use Rattle.ocp_core.specs.declared.answers.CommitOutcome.TheVariants as C
-use Rattle.ocp_core.specs.Tickets.{Worked, IsRun}
+use Rattle.ocp_core.specs.Tickets.{WorkContents, IsRun}
 use Rattle.ocp_core.specs.Commits.{Commits}
 use Rattle.ocp_core.specs.Receipts.{reports_in}
 use Rattle.ocp_seats.specs.Receipts.{count_entries, step_entries, slice_entries, commit_entries, report_entries, command_entries}
@@ -28,7 +28,7 @@ use Rattle.ocp_seats.proofs.Marking.{marked-with_entry, event_mark, slice_mark, 
 same_log : (log : Log) → log ≡ record log { entries = log.entries ++ [] }
 same_log log = ap (λ es. record log { entries = es }) (sym (append-nil log.entries))
 
-pub grows_none : (log new : Log) (entries : List Marked) → new ≡ log → entries ≡ [] → Grows log new entries
+pub grows_none : (log new : Log) (entries : List MarkedEntry) → new ≡ log → entries ≡ [] → Grows log new entries
 grows_none log new entries is none = subst (λ es. Grows log new es) (sym none) (subst (λ l. Grows log l []) (sym is) (record { journal = same_log log; marks = sym (append-nil (entries_with_marks log)) }))
 
 pub grows_one : (log new : Log) (entry : Entry) (mark : Answer) → new ≡ with_entry log entry → mark ≡ mark_in (world_of log) entry → Grows log new (record { entry = entry; mark = mark } ∷ [])
@@ -40,7 +40,7 @@ grows_one log new entry mark is marks = record {
 -- ---- an event
 
 -- its entry with its answer, where it is accepted
-abbrev event_entries : Event → Answer → List Marked
+abbrev event_entries : Event → Answer → List MarkedEntry
 event_entries e a = cond (is_accepted a) (record { entry = entry_for e; mark = a } ∷ []) []
 
 none_full : (e : Event) → event_entries e (full_answer e) ≡ []
@@ -134,7 +134,7 @@ grows_slice log new by id (suc budget) s low is left =
 
 -- ---- a commit
 
-pub grows_commit : ((old new : Log) (by : ℕ) (w : Worked) (count : ℕ) → IsRun w → Commits old new by w (C.Committed count) → entries_with_marks new ≡ entries_with_marks old ++ record { entry = Steps by w.id count; mark = Stepped S.Ran } ∷ []) → (old new : Log) (by : ℕ) (w : Worked) (o : CommitOutcome) → IsRun w → Commits old new by w o → Grows old new (commit_entries by w.id o)
+pub grows_commit : ((old new : Log) (by : ℕ) (w : WorkContents) (count : ℕ) → IsRun w → Commits old new by w (C.Committed count) → entries_with_marks new ≡ entries_with_marks old ++ record { entry = Steps by w.id count; mark = Stepped S.Ran } ∷ []) → (old new : Log) (by : ℕ) (w : WorkContents) (o : CommitOutcome) → IsRun w → Commits old new by w o → Grows old new (commit_entries by w.id o)
 grows_commit law old new by w C.Empty run is = grows_none old new [] is.1 refl
 grows_commit law old new by w C.Stale run is = grows_none old new [] is.2 refl
 grows_commit law old new by w C.JournalFull run is = grows_none old new [] is.3 refl

@@ -3,7 +3,7 @@
 ghost use Rattle.std.specs.Prelude.{◌≡◌, ◌≤◌, ◌+◌, None, IfOk, IfErr, drop, length, map};
 ghost use Rattle.ocp_core.specs.Marks.{entries_with_marks};
 ghost use Rattle.ocp_core.specs.Journal.{entry_with_mark};
-ghost use Rattle.ocp_seats.specs.Seats.{HandedOut, RefusesSeat};
+ghost use Rattle.ocp_seats.specs.Seats.{HandsOut, RefusesSeat};
 ghost use Rattle.ocp_seats.specs.Taking.{Takes, RefusesTake};
 
 use crate::{Engine, Entry, MAX_SEATS, Naming, Seat, SeatFault, Ticket};
@@ -27,10 +27,10 @@ pub struct Book<L: Naming, A: Allocator = Global> {
 
 impl<L: Naming, A: Allocator> Model for Book<L, A> {
     ghost use Rattle.std.specs.Prelude.{◌≡◌, ◌≤◌, ◌+◌, length};
-    ghost use Rattle.ocp_seats.specs.Seats.{Booked};
+    ghost use Rattle.ocp_seats.specs.Seats.{BookContents};
     ghost use Rattle.ocp_seats.specs.Going.{GoesOn};
 
-    ghost Value = { Booked };
+    ghost Value = { BookContents };
 
     ghost use Rattle.ocp_seats.specs.Mirror.Codes.{book_code};
 
@@ -80,7 +80,7 @@ impl<L: Naming, A: Allocator> Book<L, A> {
 
     /// The next seat, whose receipts have room for all entries that the engine still has room for.
     pub fn seat(&mut self, alloc: A) -> Result<Seat<L, A>, SeatFault>
-        ensures ok { IfOk result (λ seat. HandedOut self.old self.new seat) }
+        ensures ok { IfOk result (λ seat. HandsOut self.old self.new seat) }
         ensures err { IfErr result (λ why. (self.new ≡ self.old) × RefusesSeat self.old why) }
     {
         if self.seats == MAX_SEATS {

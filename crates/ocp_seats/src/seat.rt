@@ -1,7 +1,7 @@
 //! Seats.
 
 ghost use Rattle.std.specs.Prelude.{◌≡◌, ◌↔◌, ◌<◌, ◌+◌, ◌^◌, [], ◌∷◌, ℕ, IsTrue, Some, length, map, slice_get};
-ghost use Rattle.ocp_seats.specs.Seats.{Gained};
+ghost use Rattle.ocp_seats.specs.Seats.{Gains};
 
 use ocp_core::{Engine, Entry};
 use std::alloc::{AllocError, Allocator, Global};
@@ -42,9 +42,9 @@ pub struct Seat<L: Naming, A: Allocator = Global> {
 impl<L: Naming, A: Allocator> Model for Seat<L, A> {
     ghost use Rattle.std.specs.Prelude.{◌≡◌, ◌≤◌, length, map, vec_len, vec_capacity};
     ghost use Rattle.ocp_core.specs.Journal.{entry_with_mark};
-    ghost use Rattle.ocp_seats.specs.Seats.{Seated};
+    ghost use Rattle.ocp_seats.specs.Seats.{SeatContents};
 
-    ghost Value = { Seated };
+    ghost Value = { SeatContents };
 
     ghost use Rattle.ocp_seats.specs.Mirror.Codes.{seat_code};
 
@@ -97,7 +97,7 @@ impl<L: Naming, A: Allocator> Seat<L, A> {
         requires { length engine.now.entries + L.room ≡
             engine.now.capacity + (tally.old.total + 1) }
         ensures tally { tally.new.total ≡ tally.old.total + 1 }
-        ensures seat { Gained self.old self.new (entry_with_mark entry ∷ []) }
+        ensures seat { Gains self.old self.new (entry_with_mark entry ∷ []) }
     {
         tally.add(&mut self.share, 1);
         tally.audit(&mut self.share);

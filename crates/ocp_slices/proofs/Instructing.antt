@@ -11,7 +11,7 @@ use Rattle.ocp_world.specs.Replay.{replay_from, replay}
 use Rattle.ocp_world.specs.Slice.{is_running, outcome_in}
 use Rattle.ocp_world.specs.NextRunning.{Runs}
 use Rattle.ocp_core.specs.Log.{Log, Entry, Asked, Steps, Debugged, Drained, events_of, expand, world_of}
-use Rattle.ocp_core.specs.Marks.{Marked, last_outcome, mark_in, entries_with_marks_from, entries_with_marks}
+use Rattle.ocp_core.specs.Marks.{MarkedEntry, last_outcome, mark_in, entries_with_marks_from, entries_with_marks}
 use Rattle.ocp_core.proofs.Replays.{replay_from-append}
 use Rattle.ocp_slices.specs.Closed.{IsWorked, HasWorked}
 use Rattle.ocp_slices.specs.Instructing.{AreInstructions, IsInstructed}
@@ -70,14 +70,14 @@ module _ (refused : (w : World) (e : Event) → is_accepted (after w e).answer �
     entry crew budget w (Debugged by id command) worked done = absurd worked
     entry crew budget w (Drained by time) worked done = absurd worked
 
-    entries : (crew budget : ℕ) (w : World) (es : List Entry) → All (λ (e : Entry). IsWorked crew budget e) es → All (λ (m : Marked). is_accepted m.mark ≡ true) (entries_with_marks_from w es) → AreInstructions crew w (expand es)
+    entries : (crew budget : ℕ) (w : World) (es : List Entry) → All (λ (e : Entry). IsWorked crew budget e) es → All (λ (m : MarkedEntry). is_accepted m.mark ≡ true) (entries_with_marks_from w es) → AreInstructions crew w (expand es)
     entries crew budget w [] worked done = tt
     entries crew budget w (e ∷ es) worked done =
         let next : World = replay_from w (events_of e) in
-        let m : Marked = record { entry = e; mark = mark_in w e } in
+        let m : MarkedEntry = record { entry = e; mark = mark_in w e } in
         append crew w (events_of e) (expand es)
-        (entry crew budget w e (All-head (λ (x : Entry). IsWorked crew budget x) e es worked) (All-head (λ (x : Marked). is_accepted x.mark ≡ true) m (entries_with_marks_from next es) done))
-        (entries crew budget next es (All-tail (λ (x : Entry). IsWorked crew budget x) e es worked) (All-tail (λ (x : Marked). is_accepted x.mark ≡ true) m (entries_with_marks_from next es) done))
+        (entry crew budget w e (All-head (λ (x : Entry). IsWorked crew budget x) e es worked) (All-head (λ (x : MarkedEntry). is_accepted x.mark ≡ true) m (entries_with_marks_from next es) done))
+        (entries crew budget next es (All-tail (λ (x : Entry). IsWorked crew budget x) e es worked) (All-tail (λ (x : MarkedEntry). is_accepted x.mark ≡ true) m (entries_with_marks_from next es) done))
 
     pub instructed : (start now : Log) (crew budget turns : ℕ) → HasWorked start now crew budget turns → IsInstructed start now crew
     unfolding world_of entries_with_marks
@@ -92,7 +92,7 @@ module _ (refused : (w : World) (e : Event) → is_accepted (after w e).answer �
         record {
           events = expand more;
           instructions = entries crew budget (world_of start) more worked.worked
-              (subst (λ (l : List Marked). All (λ (m : Marked). is_accepted m.mark ≡ true) l) since worked.done);
+              (subst (λ (l : List MarkedEntry). All (λ (m : MarkedEntry). is_accepted m.mark ≡ true) l) since worked.done);
           world = ap world_of is ∙ ap (replay_from begin) split ∙ replay_from-append begin (expand start.entries) (expand more);
           journal = ap (λ (l : Log). expand l.entries) is ∙ split;
         }

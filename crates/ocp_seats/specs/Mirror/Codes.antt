@@ -11,8 +11,8 @@ use Rattle.ocp_world.specs.contracts.answers.EngineFault as E
 use Rattle.ocp_world.specs.After.{Answer, Requested, Stepped, Commanded}
 use Rattle.ocp_core.specs.Log.{Log, Entry}
 use Rattle.ocp_core.specs.Mirror.Codes.{entry_code, log_code}
-use Rattle.ocp_core.specs.Marks.{Marked}
-use Rattle.ocp_seats.specs.Seats.{Booked, Seated}
+use Rattle.ocp_core.specs.Marks.{MarkedEntry}
+use Rattle.ocp_seats.specs.Seats.{BookContents, SeatContents}
 
 abbrev pub AnswerForm : Type 0
 AnswerForm = Result (List (List ℕ)) EngineFault ⊎ (StepOutcome ⊎ Option DebugFault)
@@ -42,21 +42,22 @@ answer_code =
     (coded⊎ (O.the_row).coded (coded_option (D.the_row).coded)))
     form_of_answer answer_of_form answer_round_trip
 
-abbrev pub marked_entry_code : Coded Marked
+abbrev pub marked_entry_code : Coded MarkedEntry
 marked_entry_code =
     code_by (Entry × Answer) (coded× entry_code answer_code)
     (λ m. (m.entry, m.mark))
     (λ p. record { entry = p.0; mark = p.1 })
     (λ _. refl)
 
-abbrev pub seat_code : Coded Seated
+abbrev pub seat_code : Coded SeatContents
 seat_code =
-    code_by (ℕ × (List Marked × ℕ)) (coded× coded_ℕ (coded× (coded_list marked_entry_code) coded_ℕ))
+    code_by (ℕ × (List MarkedEntry × ℕ))
+    (coded× coded_ℕ (coded× (coded_list marked_entry_code) coded_ℕ))
     (λ s. (s.number, (s.receipts, s.share)))
     (λ p. record { number = p.0; receipts = p.1.0; share = p.1.1 })
     (λ _. refl)
 
-abbrev pub book_code : Coded Booked
+abbrev pub book_code : Coded BookContents
 book_code =
     code_by (Log × (ℕ × (ℕ × (Option ℕ × ℕ))))
     (coded× log_code (coded× coded_ℕ (coded× coded_ℕ (coded× (coded_option coded_ℕ) coded_ℕ))))

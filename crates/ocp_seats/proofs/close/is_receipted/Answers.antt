@@ -3,14 +3,14 @@ use Rattle.std.specs.Prelude.{IsTrue, slice_index_or}
 use Rattle.std.proofs.lemmas.List.{length-map}
 use Rattle.ocp_core.specs.Marks.{by_of}
 use Rattle.ocp_core.specs.Journal.{entry_with_mark}
-use Rattle.ocp_seats.specs.Seats.{Seated}
+use Rattle.ocp_seats.specs.Seats.{SeatContents}
 use Rattle.ocp_seats.proofs.Walks.{Walked, get_or_default, by_none, receipt_is, walk_past, walked_all, place_is_end}
 use Rattle.ocp_seats.proofs.close.is_receipted.Goals as goal
 
 pub returns-in_default : goal.returns-in_default
 returns-in_default g c =
     let e = c.entry-item.result in
-    let none : All (λ (s : Seated). s.number ≢ by_of (entry_with_mark e).entry) c.args.seats.now = subst (λ (v : ℕ). All (λ (s : Seated). s.number ≢ v) c.args.seats.now) c.by.ensures (c.in_default.ensures {u = tt}) in
+    let none : All (λ (s : SeatContents). s.number ≢ by_of (entry_with_mark e).entry) c.args.seats.now = subst (λ (v : ℕ). All (λ (s : SeatContents). s.number ≢ v) c.args.seats.now) c.by.ensures (c.in_default.ensures {u = tt}) in
     (λ t. cc, λ good. absurd (by_none entry_with_mark c.args.entries.now c.loop-entry.entry-index c.args.seats.now e c.loop-entry-test.true c.entry-item.is none good))
 
 pub returns-then-not-has_at : goal.returns-then-not-has_at
@@ -55,9 +55,9 @@ loop-seat-preserved g c =
     let s = c.seat-item.result in
     let index = c.loop-seat.seat-index in
     let number : c.from.result ≡ s.number = search rules in
-    let IsAtEnd : Seated → Type 0 = λ x. get_or c.loop-entry.places x.number 0 ≡ length x.receipts in
+    let IsAtEnd : SeatContents → Type 0 = λ x. get_or c.loop-entry.places x.number 0 ≡ length x.receipts in
     let here : IsAtEnd s = ap (λ (v : ℕ). get_or c.loop-entry.places v 0) (sym number) ∙ (c.if-places-from.false ∙ c.receipts.ensures.length) in
-    let P : ℕ → Type 0 = λ k. (d : Seated) → IsAtEnd (get_or c.args.seats.now k d) in
+    let P : ℕ → Type 0 = λ k. (d : SeatContents) → IsAtEnd (get_or c.args.seats.now k d) in
     let there : P index = λ d. subst IsAtEnd (c.seat-item.is ∙ get_or_default c.args.seats.now index s d c.loop-seat-test.true) here in
     (c.loop-seat.invariant.0, λ k d lt. below_more P index (λ j less d'. c.loop-seat.invariant.1 j d' less) there k lt d)
 
