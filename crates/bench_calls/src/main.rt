@@ -6,11 +6,11 @@
 ghost use Rattle.std.specs.Prelude.{◌≤◌};
 
 use ocp_core::Engine;
-use ocp_profile::Profile;
+use ocp_profile::{MAX_CAPACITY, Profile};
 use pus_fields::crc16;
 use std::alloc::AllocError;
-use std::{env, io};
 use std::time::Instant;
+use std::{env, io};
 
 /// A load of procedure 3: `add64 r0, 1` and a jump back to it.
 const LOAD: [u8; 33] = [
@@ -29,8 +29,6 @@ const ACTIVATE: [u8; 17] = [
 const APID: u16 = 0x123;
 
 const POOL_WORDS: u16 = 16;
-
-const JOURNAL: u32 = 1_000_000;
 
 /// The octets of which the error control is taken: a full image.
 const OCTETS: usize = 16_384;
@@ -56,7 +54,14 @@ struct Timed {
 }
 
 /// Prints a line: with the nanoseconds where blocks are timed, with the sum where they are not.
-fn say(rt: &HostRuntime, blocks: u32, what: &str, units: u32, calls: u32, timed: Timed) -> io::Result<()> {
+fn say(
+    rt: &HostRuntime,
+    blocks: u32,
+    what: &str,
+    units: u32,
+    calls: u32,
+    timed: Timed,
+) -> io::Result<()> {
     if blocks > 1 {
         println!(rt; "{what} {units} {} {calls}", timed.least)
     } else {
@@ -67,7 +72,10 @@ fn say(rt: &HostRuntime, blocks: u32, what: &str, units: u32, calls: u32, timed:
 fn time_error_control(rt: &HostRuntime, blocks: u32) -> io::Result<()> {
     let calls = 4;
     let octets = vec![in rt.alloc(); 0x5au8; OCTETS]?;
-    let mut timed = Timed { least: u128::MAX, sum: 0 };
+    let mut timed = Timed {
+        least: u128::MAX,
+        sum: 0,
+    };
     for _ in 0..blocks {
         let start = Instant::now(rt)?;
         timed.sum = timed.sum.wrapping_add(error_controls(&octets, calls));
@@ -97,7 +105,10 @@ fn time_slices(
 ) -> io::Result<()>
     requires { 1 ≤ budget }
 {
-    let mut timed = Timed { least: u128::MAX, sum: 0 };
+    let mut timed = Timed {
+        least: u128::MAX,
+        sum: 0,
+    };
     for _ in 0..blocks {
         let start = Instant::now(rt)?;
         timed.sum = timed.sum.wrapping_add(slices(engine, budget, calls));
@@ -108,7 +119,7 @@ fn time_slices(
 
 fn time_engine(rt: &HostRuntime, blocks: u32) -> io::Result<()> {
     let alloc = rt.alloc();
-    let mut engine: Engine = Engine::new(alloc, Profile::One, APID, POOL_WORDS, JOURNAL)?;
+    let mut engine: Engine = Engine::new(alloc, Profile::One, APID, POOL_WORDS, MAX_CAPACITY)?;
     for packet in [LOAD.as_slice(), ACTIVATE.as_slice()] {
         let reports = engine.request(alloc, 0, 0, packet);
         if reports.is_err() {

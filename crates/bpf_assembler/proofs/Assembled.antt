@@ -12,7 +12,7 @@ use Rattle.ocp_loader.specs.FaultNumbers.{number_of, slot_of}
 use Rattle.ocp_loader.specs.Faults.{IsFirstFault}
 use Rattle.ocp_loader.specs.LoadResult.{load_result}
 use Rattle.ocp_loader.specs.Admitted.{IsAdmitted, IsAdmittedAs, HasSlots}
-use Rattle.bpf_text.specs.Lines.{Written, Statement}
+use Rattle.bpf_text.specs.Lines.{TextLine, Statement}
 use Rattle.bpf_assembler.specs.Text.{Entry, entries_of, entry_of, AreInstructions, slots}
 use Rattle.bpf_assembler.specs.Faults.{IsFirstMiss, IsLineOfSlot, IsLineOf, IsFault}
 use Rattle.bpf_assembler.specs.Mirror.Passes.{IsCollected, AreResolved, ResolvesAll, IsLineUpTo, IsReported, entry}
@@ -23,7 +23,7 @@ use Rattle.bpf_assembler.specs.declared.fault.AsmFault.TheVariants.{Memory, At}
 use Rattle.bpf_assembler.specs.declared.table.Row.{Row}
 
 -- the first instruction has place 0
-first_place : (number : ℕ) (ws : List Written) (e : Entry) (es : List Entry) → entries_of number 0 ws ≡ e ∷ es → e.place ≡ 0
+first_place : (number : ℕ) (ws : List TextLine) (e : Entry) (es : List Entry) → entries_of number 0 ws ≡ e ∷ es → e.place ≡ 0
 first_place number [] e es is = absurd cc
 first_place number (w ∷ ws) e es is = by w.body (first_place (number + 1) ws e es) is
   where
@@ -35,7 +35,7 @@ first_place number (w ∷ ws) e es is = by w.body (first_place (number + 1) ws e
         ap (λ (x : Entry). x.place) (sym same)
 
 -- an image that has slots has an instruction
-some_entry : (ws : List Written) (es : List Entry) (octets : List ℕ) → AreResolved ws es octets → 1 ≤ length octets / 8 → es ≢ []
+some_entry : (ws : List TextLine) (es : List Entry) (octets : List ℕ) → AreResolved ws es octets → 1 ≤ length octets / 8 → es ≢ []
 some_entry ws [] octets r some e = by r.lines r.instructions r.image.octets
   where
     by : (ls : List Line) → AreInstructions ws [] ls → octets ≡ image_of ls → ⊥
@@ -44,7 +44,7 @@ some_entry ws [] octets r some e = by r.lines r.instructions r.image.octets
 some_entry ws (x ∷ es) octets r some e = absurd cc
 
 -- the line that was found is that of the instruction at the slot
-pub line_found : (number : ℕ) (ws : List Written) (es : List Entry) (slot n : ℕ) → es ≡ entries_of number 0 ws → es ≢ [] → IsLineUpTo es slot n → IsLineOfSlot es slot n
+pub line_found : (number : ℕ) (ws : List TextLine) (es : List Entry) (slot n : ℕ) → es ≡ entries_of number 0 ws → es ≢ [] → IsLineUpTo es slot n → IsLineOfSlot es slot n
 line_found number ws es slot n is some (inr h) = h
 line_found number ws [] slot n is some (inl h) = absurd (some refl)
 line_found number ws (e ∷ es) slot n is some (inl h) = let zero : e.place ≡ 0 = first_place number ws e es (sym is) in let behind : slot < e.place = h.1 0 e (omega arith) in absurd (omega arith)

@@ -10,7 +10,7 @@ use Rattle.bpf_types.specs.Line.{IsLine, slots_in}
 use Rattle.bpf_listing.specs.Canonical.{canonical}
 use Rattle.bpf_listing.specs.Listing.{listing, IsImageOf}
 use Rattle.bpf_listing.specs.Octets.{is_text_octet}
-use Rattle.bpf_text.specs.Lines.{Written, Writes}
+use Rattle.bpf_text.specs.Lines.{TextLine, Writes}
 use Rattle.bpf_text.specs.Listings.{alone}
 use Rattle.text_lines.specs.Lines.{Ended, onto, lines_of, text_of, line_texts}
 use Rattle.bpf_assembler.specs.Text.{EachWritten, AreDistinct, entries_of, AreInstructions, Means}
@@ -72,11 +72,11 @@ each_alone : AreWritten → (ls : List Line) → All IsLine ls → EachWritten (
 each_alone writes [] h = tt
 each_alone writes (l ∷ ls) h = (writes l (first_of l ls h), (first_of l ls h, refl), each_alone writes ls (rest_of l ls h))
 
-none_twice : (before : List Written) (ls : List Line) → AreDistinct before (map alone ls)
+none_twice : (before : List TextLine) (ls : List Line) → AreDistinct before (map alone ls)
 none_twice before [] = tt
 none_twice before (l ∷ ls) = (tt, none_twice (before ++ alone l ∷ []) ls)
 
-each_itself : (all : List Written) (number place : ℕ) (ls : List Line) → AreInstructions all (entries_of number place (map alone ls)) ls
+each_itself : (all : List TextLine) (number place : ℕ) (ls : List Line) → AreInstructions all (entries_of number place (map alone ls)) ls
 each_itself all number place [] = tt
 each_itself all number place (l ∷ ls) = (refl, each_itself all (number + 1) (place + slots_in l) ls)
 

@@ -2,7 +2,7 @@
 use Rattle.std.proofs.Common.{◌≡◌, ◌++◌, ℕ, suc, List, [], ◌∷◌, length, Ok, Err, refl, sym, ap, ◌∙◌, subst, arith, append_assoc, append-nil}
 use Rattle.std.specs.BTreeMap.{BTreeMap}
 use Rattle.std.proofs.Common.{Bor}
-use Rattle.bpf_text.specs.Lines.{Written}
+use Rattle.bpf_text.specs.Lines.{TextLine}
 use Rattle.text_lines.specs.Lines.{line_texts}
 use Rattle.bpf_assembler.specs.Text.{EachWritten}
 use Rattle.bpf_assembler.specs.Mirror.Passes.{Knows, Adds, Collects}
@@ -14,12 +14,12 @@ use Rattle.bpf_assembler.proofs.Places.{written_after}
 -- the lines so far are written so, and known
 pub record Taken (text rest : List ℕ) (m : BTreeMap (Bor (List ℕ)) ℕ) (rs : List Row) (n p : ℕ) : Type 0 where
   pub done : List (List ℕ)
-  pub written : List Written
+  pub written : List TextLine
   pub whole : line_texts text ≡ done ++ line_texts rest
   pub each : EachWritten done written
   pub known : Knows m rs n p written
 
-pub length_each : (ls : List (List ℕ)) (ws : List Written) → EachWritten ls ws → length ls ≡ length ws
+pub length_each : (ls : List (List ℕ)) (ws : List TextLine) → EachWritten ls ws → length ls ≡ length ws
 length_each [] [] h = refl
 length_each [] (w ∷ ws) h = absurd h
 length_each (l ∷ ls) [] h = absurd h
@@ -29,7 +29,7 @@ pub none_taken : (text : List ℕ) (m : BTreeMap (Bor (List ℕ)) ℕ) (rs : Lis
 none_taken text m rs n p known = record { done = []; written = []; whole = refl; each = tt; known = known }
 
 pub one_taken : (text rest line after : List ℕ) (m m' : BTreeMap (Bor (List ℕ)) ℕ) (rs rs' : List Row) (n n' p p' : ℕ) (u : Unit {0}) → Taken text rest m rs n p → line_texts rest ≡ line ∷ line_texts after
-    → ((ws : List Written) → Knows m rs n p ws → Adds line m' rs' n' p' ws (Ok u)) → Taken text after m' rs' n' p'
+    → ((ws : List TextLine) → Knows m rs n p ws → Adds line m' rs' n' p' ws (Ok u)) → Taken text after m' rs' n' p'
 one_taken text rest line after m m' rs rs' n n' p p' u t e add =
     let a = add t.written t.known in
     record {
@@ -41,7 +41,7 @@ one_taken text rest line after m m' rs rs' n n' p p' u t e add =
     }
 
 pub fault_taken : (text rest line after : List ℕ) (m m' : BTreeMap (Bor (List ℕ)) ℕ) (rs rs' : List Row) (n n' p p' : ℕ) (f : AsmFault) → Taken text rest m rs n p → line_texts rest ≡ line ∷ line_texts after
-    → ((ws : List Written) → Knows m rs n p ws → Adds line m' rs' n' p' ws (Err f)) → Collects text m' rs' (Err f)
+    → ((ws : List TextLine) → Knows m rs n p ws → Adds line m' rs' n' p' ws (Err f)) → Collects text m' rs' (Err f)
 fault_taken text rest line after m m' rs rs' n n' p p' Memory t e add = tt
 fault_taken text rest line after m m' rs rs' n n' p p' (At k y) t e add =
     let a = add t.written t.known in

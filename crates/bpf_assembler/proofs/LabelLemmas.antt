@@ -7,7 +7,7 @@ use Rattle.bpf_types.specs.declared.line.Line.TheVariants as line
 use Rattle.bpf_types.specs.Line.{is_wide, slots_if}
 use Rattle.ocp_loader.specs.Image.{second_of, slots_of, by_slot, target_of}
 use Rattle.ocp_loader.specs.Places.{place_of}
-use Rattle.bpf_text.specs.Lines.{Written, Writes, HasLabel, Statement, IsOperands, IsForm}
+use Rattle.bpf_text.specs.Lines.{TextLine, Writes, HasLabel, Statement, IsOperands, IsForm}
 use Rattle.text_lines.specs.Lines.{line_texts}
 use Rattle.bpf_assembler.specs.Text.{EachWritten, label_place, has_label, slots, end_of, IsNew, AreDistinct, entry_of, entries_of, with_distance, with_target, IsInstruction, AreInstructions, IsWritten}
 use Rattle.bpf_assembler.specs.Labels.{and_then, statements, IsLabelAt, IsMeantBy}
@@ -23,7 +23,7 @@ wide_aimed (line.Jump y) z = refl
 wide_aimed (line.LoadWide dst n) z = refl
 wide_aimed _ z = refl
 
-wide_same : (all : List Written) (place : ℕ) (given l : Line) (name : Option (List ℕ)) → IsInstruction all place given name l → is_wide l ≡ is_wide given
+wide_same : (all : List TextLine) (place : ℕ) (given l : Line) (name : Option (List ℕ)) → IsInstruction all place given name l → is_wide l ≡ is_wide given
 wide_same all place given l None h = ap is_wide h
 wide_same all place given l (Some name) h = ap is_wide h.3 ∙ wide_aimed given _
 
@@ -32,7 +32,7 @@ slots_more true l ls e = length-append (slots_of l) (by_slot ls) ∙ ap (λ (c :
 slots_more false l ls e = length-append (slots_of l) (by_slot ls) ∙ ap (λ (c : Bool). suc (length (second_of c)) + length (by_slot ls)) e
 
 -- the place of a line is the number of slots of the instructions before it
-end_slots : (all : List Written) (n p : ℕ) (before rest : List Written) (ls : List Line) → AreInstructions all (entries_of n p (before ++ rest)) ls → end_of p before ≡ p + length (by_slot (take (length (statements before)) ls))
+end_slots : (all : List TextLine) (n p : ℕ) (before rest : List TextLine) (ls : List Line) → AreInstructions all (entries_of n p (before ++ rest)) ls → end_of p before ≡ p + length (by_slot (take (length (statements before)) ls))
 end_slots all n p [] rest ls h = omega arith
 end_slots all n p (w ∷ before) rest ls h = by w.body ls (λ q k. end_slots all (n + 1) q before rest k) h
   where
@@ -49,7 +49,7 @@ end_slots all n p (w ∷ before) rest ls h = by w.body ls (λ q k. end_slots all
 -- ---- labels
 
 -- the first line with the label
-found_at : (name : List ℕ) (p to : ℕ) (ws : List Written) → label_place name p ws ≡ Some to → (before : List Written) × (w : Written) × (after : List Written) × (ws ≡ before ++ w ∷ after) × (w.label ≡ Some name) × (to ≡ end_of p before)
+found_at : (name : List ℕ) (p to : ℕ) (ws : List TextLine) → label_place name p ws ≡ Some to → (before : List TextLine) × (w : TextLine) × (after : List TextLine) × (ws ≡ before ++ w ∷ after) × (w.label ≡ Some name) × (to ≡ end_of p before)
 found_at name p to [] h = absurd cc
 found_at name p to (w ∷ ws) h = by_test (has_label name w.label) refl (found_at name (p + slots w.body) to ws) h
   where
@@ -57,13 +57,13 @@ found_at name p to (w ∷ ws) h = by_test (has_label name w.label) refl (found_a
     named None e = absurd cc
     named (Some label) e = ap Some ((bytes_eq-Decides label name).0 e)
 
-    by_test : (b : Bool) → has_label name w.label ≡ b → (label_place name (p + slots w.body) ws ≡ Some to → (before : List Written) × (v : Written) × (after : List Written) × (ws ≡ before ++ v ∷ after) × (v.label ≡ Some name) × (to ≡ end_of (p + slots w.body) before))
-        → cond b (Some p) (label_place name (p + slots w.body) ws) ≡ Some to → (before : List Written) × (v : Written) × (after : List Written) × (w ∷ ws ≡ before ++ v ∷ after) × (v.label ≡ Some name) × (to ≡ end_of p before)
+    by_test : (b : Bool) → has_label name w.label ≡ b → (label_place name (p + slots w.body) ws ≡ Some to → (before : List TextLine) × (v : TextLine) × (after : List TextLine) × (ws ≡ before ++ v ∷ after) × (v.label ≡ Some name) × (to ≡ end_of (p + slots w.body) before))
+        → cond b (Some p) (label_place name (p + slots w.body) ws) ≡ Some to → (before : List TextLine) × (v : TextLine) × (after : List TextLine) × (w ∷ ws ≡ before ++ v ∷ after) × (v.label ≡ Some name) × (to ≡ end_of p before)
     by_test true e ih h = ([], w, ws, refl, named w.label e, (let q : to ≡ p = cc in q))
-    by_test false e ih h = let q = ih h in (w ∷ q.0, q.1, q.2, ap (λ (vs : List Written). w ∷ vs) q.3, q.4, q.5)
+    by_test false e ih h = let q = ih h in (w ∷ q.0, q.1, q.2, ap (λ (vs : List TextLine). w ∷ vs) q.3, q.4, q.5)
 
 -- a later label is new behind the lines before it
-new_at : (done before after : List Written) (w : Written) → AreDistinct done (before ++ w ∷ after) → IsNew w.label (done ++ before)
+new_at : (done before after : List TextLine) (w : TextLine) → AreDistinct done (before ++ w ∷ after) → IsNew w.label (done ++ before)
 new_at done [] after w d = subst (IsNew w.label) (sym (append-nil done)) d.0
 new_at done (v ∷ before) after w d = subst (IsNew w.label) (append_assoc done (v ∷ []) before) (new_at (done ++ v ∷ []) before after w d.1)
 
@@ -72,7 +72,7 @@ self_named name None e = absurd cc
 self_named name (Some label) e = (bytes_eq-Decides label name).1 (cc)
 
 -- so the line is the first with its label
-first_at : (name : List ℕ) (p : ℕ) (before after : List Written) (w : Written) → label_place name p before ≡ None → w.label ≡ Some name → label_place name p (before ++ w ∷ after) ≡ Some (end_of p before)
+first_at : (name : List ℕ) (p : ℕ) (before after : List TextLine) (w : TextLine) → label_place name p before ≡ None → w.label ≡ Some name → label_place name p (before ++ w ∷ after) ≡ Some (end_of p before)
 first_at name p [] after w none is = ap (λ (b : Bool). cond b (Some p) (label_place name (p + slots w.body) after)) (self_named name w.label is)
 first_at name p (v ∷ before) after w none is = by (has_label name v.label) (λ e. first_at name (p + slots v.body) before after w e is) none
   where
@@ -81,13 +81,13 @@ first_at name p (v ∷ before) after w none is = by (has_label name v.label) (λ
     by true ih e = absurd cc
     by false ih e = ih e
 
-end_place : AreCounted → (ws before after : List Written) (w : Written) (ls : List Line) → ws ≡ before ++ w ∷ after → AreInstructions ws (entries_of 1 0 ws) ls → end_of 0 before ≡ place_of (take (length (statements before)) ls)
+end_place : AreCounted → (ws before after : List TextLine) (w : TextLine) (ls : List Line) → ws ≡ before ++ w ∷ after → AreInstructions ws (entries_of 1 0 ws) ls → end_of 0 before ≡ place_of (take (length (statements before)) ls)
 end_place counted ws before after w ls e is =
-    end_slots ws 1 0 before (w ∷ after) ls (subst (λ (vs : List Written). AreInstructions ws (entries_of 1 0 vs) ls) e is)
+    end_slots ws 1 0 before (w ∷ after) ls (subst (λ (vs : List TextLine). AreInstructions ws (entries_of 1 0 vs) ls) e is)
     ∙ (let none : 0 + length (by_slot (take (length (statements before)) ls)) ≡ length (by_slot (take (length (statements before)) ls)) = omega arith in none)
     ∙ sym (counted (take (length (statements before)) ls))
 
-pub label_at : AreCounted → (text : List ℕ) (ws : List Written) (ls : List Line) (name : List ℕ) (place : ℕ) → IsWritten text ws → AreInstructions ws (entries_of 1 0 ws) ls → (label_place name 0 ws ≡ Some place) ↔ IsLabelAt name ws ls place
+pub label_at : AreCounted → (text : List ℕ) (ws : List TextLine) (ls : List Line) (name : List ℕ) (place : ℕ) → IsWritten text ws → AreInstructions ws (entries_of 1 0 ws) ls → (label_place name 0 ws ≡ Some place) ↔ IsLabelAt name ws ls place
 label_at counted text ws ls name place h is = (
   λ e. let q = found_at name 0 place ws e in record { before = q.0; line = q.1; after = q.2; order = q.3; label = q.4; slots = q.5 ∙ end_place counted ws q.0 q.2 q.1 ls q.3 is },
   λ k.
@@ -99,7 +99,7 @@ label_at counted text ws ls name place h is = (
 -- ---- jumps
 
 -- the k-th instruction is the k-th line, at its place
-meant_at : (all : List Written) (n p : ℕ) (ws : List Written) (a b : List Statement) (s : Statement) (c d : List Line) (l : Line) → statements ws ≡ a ++ s ∷ b → AreInstructions all (entries_of n p ws) (c ++ l ∷ d) → length a ≡ length c
+meant_at : (all : List TextLine) (n p : ℕ) (ws : List TextLine) (a b : List Statement) (s : Statement) (c d : List Line) (l : Line) → statements ws ≡ a ++ s ∷ b → AreInstructions all (entries_of n p ws) (c ++ l ∷ d) → length a ≡ length c
     → IsInstruction all (p + length (by_slot c)) s.line s.name l
 meant_at all n p [] [] b s c d l e h same = absurd cc
 meant_at all n p [] (x ∷ a) b s c d l e h same = absurd cc
@@ -141,14 +141,14 @@ named_target (line.Store s base z src) name odd tokens slot to h = let e = h.0 i
 abbrev IsFormed : Statement → Type 0
 IsFormed s = (tokens : List (List ℕ)) × IsForm s.line s.name s.odd tokens
 
-formed_body : (text : List ℕ) (w : Written) (s : Statement) → w.body ≡ Some s → Writes text w → IsFormed s
+formed_body : (text : List ℕ) (w : TextLine) (s : Statement) → w.body ≡ Some s → Writes text w → IsFormed s
 formed_body text w s e h = by w.label (subst (λ (b : Option Statement). HasLabel w.label b h.0) e h.2)
   where
     by : (a : Option (List ℕ)) → HasLabel a (Some s) h.0 → IsFormed s
     by None k = (h.0, k)
     by (Some name) k = (k.0, k.3)
 
-formed_at : (ls : List (List ℕ)) (ws : List Written) (a b : List Statement) (s : Statement) → EachWritten ls ws → statements ws ≡ a ++ s ∷ b → IsFormed s
+formed_at : (ls : List (List ℕ)) (ws : List TextLine) (a b : List Statement) (s : Statement) → EachWritten ls ws → statements ws ≡ a ++ s ∷ b → IsFormed s
 formed_at [] [] [] b s h e = absurd cc
 formed_at [] [] (x ∷ a) b s h e = absurd cc
 formed_at [] (w ∷ ws) a b s h e = absurd h
@@ -160,7 +160,7 @@ formed_at (t ∷ ls) (w ∷ ws) a b s h e = by w.body refl a (λ a. formed_at ls
     by (Some x) is [] ih e = let same : x ≡ s = cc in formed_body t w s (is ∙ ap Some same) h.0
     by (Some x) is (y ∷ a) ih e = ih a (cc)
 
-pub meant_by : AreCounted → (text : List ℕ) (ws : List Written) (ls : List Line) (a b : List Statement) (s : Statement) (c d : List Line) (l : Line) → IsWritten text ws → AreInstructions ws (entries_of 1 0 ws) ls → statements ws ≡ a ++ s ∷ b → ls ≡ c ++ l ∷ d → length a ≡ length c
+pub meant_by : AreCounted → (text : List ℕ) (ws : List TextLine) (ls : List Line) (a b : List Statement) (s : Statement) (c d : List Line) (l : Line) → IsWritten text ws → AreInstructions ws (entries_of 1 0 ws) ls → statements ws ≡ a ++ s ∷ b → ls ≡ c ++ l ∷ d → length a ≡ length c
     → IsMeantBy ws ls (place_of c) s.line s.name l
 meant_by counted text ws ls a b s c d l h is e f same =
     let at = meant_at ws 1 0 ws a b s c d l e (subst (AreInstructions ws (entries_of 1 0 ws)) f is) same in

@@ -4,14 +4,14 @@ use Rattle.std.specs.BTreeMap.{BTreeMap}
 use Rattle.std.specs.Str.{bytes_eq}
 use Rattle.std.proofs.lemmas.Slice.Eq.{bytes_eq-Decides}
 use Rattle.std.proofs.Common.{Bor}
-use Rattle.bpf_text.specs.Lines.{Written, Statement, Writes, InRange}
+use Rattle.bpf_text.specs.Lines.{TextLine, Statement, Writes, InRange}
 use Rattle.bpf_assembler.specs.Mirror.Tables.{label_at}
 use Rattle.bpf_assembler.specs.Text.{label_place, end_of, entries_of, entry_of, Entry, has_label, slots, IsNew, AreDistinct, EachWritten}
 use Rattle.bpf_assembler.specs.Mirror.Passes.{AreLabels, Knows, entry}
 use Rattle.bpf_assembler.specs.declared.table.Row.{Row}
 
 -- the place of a name in one more line
-place_after : (name : List ℕ) (place : ℕ) (ws : List Written) (w : Written) → label_place name place ws ≡ None
+place_after : (name : List ℕ) (place : ℕ) (ws : List TextLine) (w : TextLine) → label_place name place ws ≡ None
     → label_place name place (ws ++ w ∷ []) ≡ cond (has_label name w.label) (Some (end_of place ws)) None
 place_after name place [] w e = refl
 place_after name place (v ∷ ws) w e = by (has_label name v.label) (place_after name (place + slots v.body) ws w) e
@@ -22,7 +22,7 @@ place_after name place (v ∷ ws) w e = by (has_label name v.label) (place_after
     by true ih e = absurd cc
     by false ih e = ih e
 
-place_before : (name : List ℕ) (place : ℕ) (ws : List Written) (w : Written) (to : ℕ) → label_place name place ws ≡ Some to → label_place name place (ws ++ w ∷ []) ≡ Some to
+place_before : (name : List ℕ) (place : ℕ) (ws : List TextLine) (w : TextLine) (to : ℕ) → label_place name place ws ≡ Some to → label_place name place (ws ++ w ∷ []) ≡ Some to
 place_before name place [] w to e = absurd cc
 place_before name place (v ∷ ws) w to e = by (has_label name v.label) (place_before name (place + slots v.body) ws w to) e
   where
@@ -31,16 +31,16 @@ place_before name place (v ∷ ws) w to e = by (has_label name v.label) (place_b
     by true ih e = e
     by false ih e = ih e
 
-other_label : (name : List ℕ) (ws : List Written) (w : Written) → has_label name w.label ≡ false → (o : Option ℕ) → label_place name 0 ws ≡ o → o ≡ label_place name 0 (ws ++ w ∷ [])
+other_label : (name : List ℕ) (ws : List TextLine) (w : TextLine) → has_label name w.label ≡ false → (o : Option ℕ) → label_place name 0 ws ≡ o → o ≡ label_place name 0 (ws ++ w ∷ [])
 other_label name ws w other None e = sym (place_after name 0 ws w e ∙ ap (λ (b : Bool). cond b (Some (end_of 0 ws)) None) other)
 other_label name ws w other (Some to) e = sym (place_before name 0 ws w to e)
 
 -- no label on the line
-pub no_label : (m : BTreeMap (Bor (List ℕ)) ℕ) (ws : List Written) (body : Option Statement) → AreLabels m ws → AreLabels m (ws ++ record { label = None; body = body } ∷ [])
+pub no_label : (m : BTreeMap (Bor (List ℕ)) ℕ) (ws : List TextLine) (body : Option Statement) → AreLabels m ws → AreLabels m (ws ++ record { label = None; body = body } ∷ [])
 no_label m ws body known name = known name ∙ other_label name ws (record { label = None; body = body }) refl (label_place name 0 ws) refl
 
 -- a new label
-pub new_label : (m n : BTreeMap (Bor (List ℕ)) ℕ) (ws : List Written) (label : List ℕ) (place : ℕ) (body : Option Statement) → AreLabels m ws → place ≡ end_of 0 ws → label_place label 0 ws ≡ None
+pub new_label : (m n : BTreeMap (Bor (List ℕ)) ℕ) (ws : List TextLine) (label : List ℕ) (place : ℕ) (body : Option Statement) → AreLabels m ws → place ≡ end_of 0 ws → label_place label 0 ws ≡ None
     → ((q : List ℕ) → label_at n q ≡ cond (bytes_eq label q) (Some place) (label_at m q)) → AreLabels n (ws ++ record { label = Some label; body = body } ∷ [])
 new_label m n ws label place body known at none put name = put name ∙ by (bytes_eq label name) refl
   where
@@ -55,28 +55,28 @@ none_from None b e f = refl
 none_from (Some x) b e f = absurd cc
 
 -- the instructions of one more line
-pub entries_after : (number place : ℕ) (ws : List Written) (w : Written) → entries_of number place (ws ++ w ∷ []) ≡ entries_of number place ws ++ entry_of (number + length ws) (end_of place ws) w.body
+pub entries_after : (number place : ℕ) (ws : List TextLine) (w : TextLine) → entries_of number place (ws ++ w ∷ []) ≡ entries_of number place ws ++ entry_of (number + length ws) (end_of place ws) w.body
 entries_after number place [] w = append-nil (entry_of number place w.body) ∙ ap (λ (n : ℕ). entry_of n place w.body) (let e : number ≡ number + 0 = omega arith in e)
 entries_after number place (v ∷ ws) w =
     ap (λ (es : List Entry). entry_of number place v.body ++ es) (entries_after (number + 1) (place + slots v.body) ws w
     ∙ ap (λ (n : ℕ). entries_of (number + 1) (place + slots v.body) ws ++ entry_of n (end_of (place + slots v.body) ws) w.body) (let e : number + 1 + length ws ≡ number + suc (length ws) = omega arith in e))
     ∙ sym (append_assoc (entry_of number place v.body) (entries_of (number + 1) (place + slots v.body) ws) (entry_of (number + suc (length ws)) (end_of (place + slots v.body) ws) w.body))
 
-pub end_after : (place : ℕ) (ws : List Written) (w : Written) → end_of place (ws ++ w ∷ []) ≡ end_of place ws + slots w.body
+pub end_after : (place : ℕ) (ws : List TextLine) (w : TextLine) → end_of place (ws ++ w ∷ []) ≡ end_of place ws + slots w.body
 end_after place [] w = refl
 end_after place (v ∷ ws) w = end_after (place + slots v.body) ws w
 
-pub distinct_after : (before ws : List Written) (w : Written) → AreDistinct before ws → IsNew w.label (before ++ ws) → AreDistinct before (ws ++ w ∷ [])
+pub distinct_after : (before ws : List TextLine) (w : TextLine) → AreDistinct before ws → IsNew w.label (before ++ ws) → AreDistinct before (ws ++ w ∷ [])
 distinct_after before [] w d new = (subst (IsNew w.label) (append-nil before) new, tt)
 distinct_after before (v ∷ ws) w d new = (d.0, distinct_after (before ++ v ∷ []) ws w d.1 (subst (IsNew w.label) (sym (append_assoc before (v ∷ []) ws)) new))
 
-pub written_after : (ls : List (List ℕ)) (ws : List Written) (l : List ℕ) (w : Written) → EachWritten ls ws → Writes l w → InRange w.body → EachWritten (ls ++ l ∷ []) (ws ++ w ∷ [])
+pub written_after : (ls : List (List ℕ)) (ws : List TextLine) (l : List ℕ) (w : TextLine) → EachWritten ls ws → Writes l w → InRange w.body → EachWritten (ls ++ l ∷ []) (ws ++ w ∷ [])
 written_after [] [] l w each h r = (h, r, tt)
 written_after [] (v ∷ ws) l w each h r = absurd each
 written_after (k ∷ ls) [] l w each h r = absurd each
 written_after (k ∷ ls) (v ∷ ws) l w each h r = (each.0, each.1, written_after ls ws l w each.2 h r)
 
-pub known_after : (m n : BTreeMap (Bor (List ℕ)) ℕ) (rs ss : List Row) (k k' p p' : ℕ) (ws : List Written) (w : Written) → Knows m rs k p ws → IsNew w.label ws → AreLabels n (ws ++ w ∷ [])
+pub known_after : (m n : BTreeMap (Bor (List ℕ)) ℕ) (rs ss : List Row) (k k' p p' : ℕ) (ws : List TextLine) (w : TextLine) → Knows m rs k p ws → IsNew w.label ws → AreLabels n (ws ++ w ∷ [])
     → map entry ss ≡ map entry rs ++ entry_of (k + 1) p w.body → k' ≡ k + 1 → p' ≡ p + slots w.body → Knows n ss k' p' (ws ++ w ∷ [])
 known_after m n rs ss k k' p p' ws w known new labels rows count place = record {
   labels = labels;

@@ -8,7 +8,7 @@ use Rattle.std.specs.List.{All}
 use Rattle.bpf_types.specs.declared.line.Line.{Line}
 use Rattle.bpf_types.specs.Line.{spelling, IsLine}
 use Rattle.bpf_listing.specs.Listing.{image_of}
-use Rattle.bpf_text.specs.Lines.{Written}
+use Rattle.bpf_text.specs.Lines.{TextLine}
 use Rattle.bpf_assembler.specs.Text.{Entry, IsInstruction, AreInstructions}
 use Rattle.bpf_assembler.specs.Mirror.Passes.{Resolves, ResolvesAll, AreResolved, entry}
 use Rattle.bpf_assembler.specs.declared.table.Row.{Row}
@@ -19,7 +19,7 @@ pub one_all : {X : Type 0} (P : X → Type 0) (x : X) → P x → All P (x ∷ [
 one_all P x h zero d lt = h
 one_all P x h (suc k) d lt = absurd (omega arith)
 
-one_more_line : (ws : List Written) (es : List Entry) (ls : List Line) (e : Entry) (l : Line) → AreInstructions ws es ls → IsInstruction ws e.place e.statement.line e.statement.name l → AreInstructions ws (es ++ e ∷ []) (ls ++ l ∷ [])
+one_more_line : (ws : List TextLine) (es : List Entry) (ls : List Line) (e : Entry) (l : Line) → AreInstructions ws es ls → IsInstruction ws e.place e.statement.line e.statement.name l → AreInstructions ws (es ++ e ∷ []) (ls ++ l ∷ [])
 one_more_line ws [] [] e l h k = (k, tt)
 one_more_line ws [] (x ∷ ls) e l h k = absurd h
 one_more_line ws (f ∷ es) [] e l h k = absurd h
@@ -28,10 +28,10 @@ one_more_line ws (f ∷ es) (x ∷ ls) e l h k = (h.0, one_more_line ws es ls e 
 image_after : (ls : List Line) (l : Line) → image_of (ls ++ l ∷ []) ≡ image_of ls ++ spelling l
 image_after ls l = flat_map-append spelling ls (l ∷ []) ∙ ap (λ (t : List ℕ). image_of ls ++ t) (append-nil (spelling l))
 
-pub none_resolved : (ws : List Written) → AreResolved ws [] []
+pub none_resolved : (ws : List TextLine) → AreResolved ws [] []
 none_resolved ws = record { lines = []; instructions = tt; image = record { ranges = All-nil IsLine; octets = refl } }
 
-one_resolved : (ws : List Written) (es : List Entry) (e : Entry) (old new : List ℕ) (l : Line) → AreResolved ws es old → IsInstruction ws e.place e.statement.line e.statement.name l → IsLine l → new ≡ old ++ spelling l → AreResolved ws (es ++ e ∷ []) new
+one_resolved : (ws : List TextLine) (es : List Entry) (e : Entry) (old new : List ℕ) (l : Line) → AreResolved ws es old → IsInstruction ws e.place e.statement.line e.statement.name l → IsLine l → new ≡ old ++ spelling l → AreResolved ws (es ++ e ∷ []) new
 one_resolved ws es e old new l r h range is = record {
   lines = r.lines ++ l ∷ [];
   instructions = one_more_line ws es r.lines e l r.instructions h;
@@ -54,11 +54,11 @@ rows_split rows i r lt is = ap (map entry) (sym (take-append-drop i rows)) ∙ m
 pub all_rows : (rows : List Row) (i : ℕ) → length rows ≤ i → take i rows ≡ rows
 all_rows rows i le = sym (append-nil (take i rows)) ∙ ap (λ (r : List Row). take i rows ++ r) (sym (drop_of_length-le rows le)) ∙ take-append-drop i rows
 
-pub row_resolved : (ws : List Written) (rows : List Row) (i : ℕ) (r : Row) (old new : List ℕ) (l : Line) → i < length rows → r ≡ get_or rows i r → AreResolved ws (map entry (take i rows)) old → Resolves ws (entry r) (Ok l)
+pub row_resolved : (ws : List TextLine) (rows : List Row) (i : ℕ) (r : Row) (old new : List ℕ) (l : Line) → i < length rows → r ≡ get_or rows i r → AreResolved ws (map entry (take i rows)) old → Resolves ws (entry r) (Ok l)
     → IsLine l → new ≡ old ++ spelling l → AreResolved ws (map entry (take (i + 1) rows)) new
 row_resolved ws rows i r old new l lt is h k range e = rw (rows_after rows i r lt is) (one_resolved ws (map entry (take i rows)) (entry r) old new l h k range e)
 
-pub row_fault : (ws : List Written) (rows : List Row) (i : ℕ) (r : Row) (octets : List ℕ) (f : AsmFault) {Z : Type 0} (view : Z → List ℕ) → i < length rows → r ≡ get_or rows i r → AreResolved ws (map entry (take i rows)) octets → Resolves ws (entry r) (Err f)
+pub row_fault : (ws : List TextLine) (rows : List Row) (i : ℕ) (r : Row) (octets : List ℕ) (f : AsmFault) {Z : Type 0} (view : Z → List ℕ) → i < length rows → r ≡ get_or rows i r → AreResolved ws (map entry (take i rows)) octets → Resolves ws (entry r) (Err f)
     → ResolvesAll ws (map entry rows) view (Err f)
 row_fault ws rows i r octets Memory view lt is h k = tt
 row_fault ws rows i r octets (At n y) view lt is h k = record {
@@ -72,5 +72,5 @@ row_fault ws rows i r octets (At n y) view lt is h k = record {
   miss = k.1;
 }
 
-pub all_resolved : (ws : List Written) (rows : List Row) (i : ℕ) (octets : List ℕ) → length rows ≤ i → AreResolved ws (map entry (take i rows)) octets → AreResolved ws (map entry rows) octets
+pub all_resolved : (ws : List TextLine) (rows : List Row) (i : ℕ) (octets : List ℕ) → length rows ≤ i → AreResolved ws (map entry (take i rows)) octets → AreResolved ws (map entry rows) octets
 all_resolved ws rows i octets le h = subst (λ (r : List Row). AreResolved ws (map entry r) octets) (all_rows rows i le) h

@@ -13,7 +13,7 @@ use Rattle.ocp_loader.specs.declared.fault.LoadFault.{LoadFault}
 use Rattle.ocp_loader.specs.declared.fault.LoadFault.TheVariants.{EmptyCode}
 use Rattle.ocp_loader.specs.FaultNumbers.{number_of, slot_of}
 use Rattle.ocp_loader.specs.LoadResult.{load_result}
-use Rattle.bpf_text.specs.Lines.{Written, InRange, Statement}
+use Rattle.bpf_text.specs.Lines.{TextLine, InRange, Statement}
 use Rattle.bpf_text.specs.Judged.{JudgesLine, written_line}
 use Rattle.bpf_text.specs.declared.line.Parsed.{Parsed}
 use Rattle.bpf_text.specs.declared.line.LineFault.{LineFault}
@@ -33,7 +33,7 @@ use Rattle.bpf_assembler.proofs.Assembled.{line_found}
 -- the lines up to the rest of the text are written so
 pub record Progress (text rest : List ℕ) : Type 0 where
   pub done : List (List ℕ)
-  pub written : List Written
+  pub written : List TextLine
   pub whole : line_texts text ≡ done ++ line_texts rest
   pub each : EachWritten done written
   pub distinct : AreDistinct [] written
@@ -44,7 +44,7 @@ SomeLineFault text = (number : ℕ) × (y : Why) × HasLineFault text number y
 pub begun : (text : List ℕ) → Progress text text ⊎ SomeLineFault text
 begun text = inl (record { done = []; written = []; whole = refl; each = tt; distinct = tt })
 
-new_or_not : (label : Option (List ℕ)) (ws : List Written) → IsNew label ws ⊎ ¬ IsNew label ws
+new_or_not : (label : Option (List ℕ)) (ws : List TextLine) → IsNew label ws ⊎ ¬ IsNew label ws
 new_or_not None ws = inl tt
 new_or_not (Some name) ws = by (label_place name 0 ws) refl
   where
@@ -150,7 +150,7 @@ in_range (line.Store size base offset src) z r = inl r
 -- ---- the second pass
 
 -- an instruction is a line, or misses its label
-resolved : (all : List Written) (place : ℕ) (given : Line) (name : Option (List ℕ)) → IsLine given → ((l : Line) × IsInstruction all place given name l) ⊎ ((y : Why) × MissesLabel all place given name y)
+resolved : (all : List TextLine) (place : ℕ) (given : Line) (name : Option (List ℕ)) → IsLine given → ((l : Line) × IsInstruction all place given name l) ⊎ ((y : Why) × MissesLabel all place given name y)
 resolved all place given None r = inl (given, refl)
 resolved all place given (Some name) r = by (label_place name 0 all) refl
   where
@@ -161,13 +161,13 @@ resolved all place given (Some name) r = by (label_place name 0 all) refl
       | inr q ↦ inr (why.Range, (to, e, q))
     ]
 
-abbrev SomeMiss : List Written → List Entry → Type 0
+abbrev SomeMiss : List TextLine → List Entry → Type 0
 SomeMiss all entries = (number : ℕ) × (y : Why) × IsFirstMiss all entries number y
 
-abbrev AreMeant : List Written → List Entry → Type 0
+abbrev AreMeant : List TextLine → List Entry → Type 0
 AreMeant all entries = (ls : List Line) × AreInstructions all entries ls
 
-later_miss : (all : List Written) (e : Entry) (es : List Entry) (l : Line) → IsInstruction all e.place e.statement.line e.statement.name l → SomeMiss all es → SomeMiss all (e ∷ es)
+later_miss : (all : List TextLine) (e : Entry) (es : List Entry) (l : Line) → IsInstruction all e.place e.statement.line e.statement.name l → SomeMiss all es → SomeMiss all (e ∷ es)
 later_miss all e es l h (n, y, f) = (
   n,
   y,
@@ -183,7 +183,7 @@ later_miss all e es l h (n, y, f) = (
   },
 )
 
-one_entry : (all : List Written) (e : Entry) (es : List Entry) → IsLine e.statement.line → AreMeant all es ⊎ SomeMiss all es → AreMeant all (e ∷ es) ⊎ SomeMiss all (e ∷ es)
+one_entry : (all : List TextLine) (e : Entry) (es : List Entry) → IsLine e.statement.line → AreMeant all es ⊎ SomeMiss all es → AreMeant all (e ∷ es) ⊎ SomeMiss all (e ∷ es)
 one_entry all e es r rest = by (resolved all e.place e.statement.line e.statement.name r) rest
   where
     by : ((l : Line) × IsInstruction all e.place e.statement.line e.statement.name l) ⊎ ((y : Why) × MissesLabel all e.place e.statement.line e.statement.name y) → AreMeant all es ⊎ SomeMiss all es → AreMeant all (e ∷ es) ⊎ SomeMiss all (e ∷ es)
@@ -204,7 +204,7 @@ one_entry all e es r rest = by (resolved all e.place e.statement.line e.statemen
       },
     )
 
-all_entries : (all : List Written) (number place : ℕ) (ls : List (List ℕ)) (ws : List Written) → EachWritten ls ws → AreMeant all (entries_of number place ws) ⊎ SomeMiss all (entries_of number place ws)
+all_entries : (all : List TextLine) (number place : ℕ) (ls : List (List ℕ)) (ws : List TextLine) → EachWritten ls ws → AreMeant all (entries_of number place ws) ⊎ SomeMiss all (entries_of number place ws)
 all_entries all number place [] [] h = inl ([], tt)
 all_entries all number place [] (w ∷ ws) h = absurd h
 all_entries all number place (l ∷ ls) [] h = absurd h
@@ -253,7 +253,7 @@ line_up_to (e ∷ es) slot = by (line_up_to es slot) (fits_below e.place slot)
       }),
     )
 
-none_of_none : (all : List Written) (es : List Entry) (ls : List Line) → es ≡ [] → AreInstructions all es ls → ls ≡ []
+none_of_none : (all : List TextLine) (es : List Entry) (ls : List Line) → es ≡ [] → AreInstructions all es ls → ls ≡ []
 none_of_none all [] [] e h = refl
 none_of_none all [] (l ∷ ls) e h = absurd h
 none_of_none all (x ∷ es) ls e h = absurd cc
@@ -267,7 +267,7 @@ unfolding load_result
 empty_code profile [] f none e = ap (λ (g : LoadFault). nat_le (number_of g) 3) (same_fault (load_result profile []) EmptyCode f refl e)
 empty_code profile (l ∷ ls) f none e = absurd cc
 
-line_of_fault : (profile : Profile) (ws : List Written) (ls : List Line) (f : LoadFault) → AreInstructions ws (entries_of 1 0 ws) ls → load_result profile (image_of ls) ≡ Err f
+line_of_fault : (profile : Profile) (ws : List TextLine) (ls : List Line) (f : LoadFault) → AreInstructions ws (entries_of 1 0 ws) ls → load_result profile (image_of ls) ≡ Err f
     → (number : ℕ) × IsLineOf (nat_le (number_of f) 3) (entries_of 1 0 ws) (slot_of f) number
 line_of_fault profile ws ls f is e = by (nat_le (number_of f) 3) refl
   where
@@ -278,7 +278,7 @@ line_of_fault profile ws ls f is e = by (nat_le (number_of f) 3) refl
         let some = λ (none : entries_of 1 0 ws ≡ []). (let bad = sym high ∙ empty_code profile ls f (none_of_none ws (entries_of 1 0 ws) ls none is) e in absurd cc) in
         (up.0, line_found 1 ws (entries_of 1 0 ws) (slot_of f) up.0 refl some up.1)
 
-of_image : (profile : Profile) (text : List ℕ) (ws : List Written) (ls : List Line) → IsWritten text ws → AreInstructions ws (entries_of 1 0 ws) ls → HasMeaning profile text ⊎ HasSomeFault profile text
+of_image : (profile : Profile) (text : List ℕ) (ws : List TextLine) (ls : List Line) → IsWritten text ws → AreInstructions ws (entries_of 1 0 ws) ls → HasMeaning profile text ⊎ HasSomeFault profile text
 of_image profile text ws ls w is = by (load_result profile (image_of ls)) refl
   where
     by : (r : Result (List (Option Line)) LoadFault) → load_result profile (image_of ls) ≡ r → HasMeaning profile text ⊎ HasSomeFault profile text
@@ -291,7 +291,7 @@ of_image profile text ws ls w is = by (load_result profile (image_of ls)) refl
           fault = inr (inr (record { lines = ws; instructions = ls; written = w; meant = is; refused = e; counted = at.1 }));
         })
 
-of_written : (profile : Profile) (text : List ℕ) (ws : List Written) → IsWritten text ws → AreMeant ws (entries_of 1 0 ws) ⊎ SomeMiss ws (entries_of 1 0 ws) → HasMeaning profile text ⊎ HasSomeFault profile text
+of_written : (profile : Profile) (text : List ℕ) (ws : List TextLine) → IsWritten text ws → AreMeant ws (entries_of 1 0 ws) ⊎ SomeMiss ws (entries_of 1 0 ws) → HasMeaning profile text ⊎ HasSomeFault profile text
 of_written profile text ws w (inl (ls, is)) = of_image profile text ws ls w is
 of_written profile text ws w (inr (n, y, f)) = inr (record { line = n; why = y; fault = inr (inl (record { lines = ws; written = w; first = f })) })
 

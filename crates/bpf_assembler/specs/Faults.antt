@@ -9,7 +9,7 @@ use Rattle.ocp_loader.specs.declared.fault.LoadFault.{LoadFault}
 use Rattle.ocp_loader.specs.FaultNumbers.{number_of, slot_of}
 use Rattle.ocp_loader.specs.LoadResult.{load_result}
 use Rattle.text_lines.specs.Lines.{line_texts}
-use Rattle.bpf_text.specs.Lines.{Written, Writes, InRange}
+use Rattle.bpf_text.specs.Lines.{TextLine, Writes, InRange}
 use Rattle.bpf_assembler.specs.Text.{EachWritten, label_place, IsNew, AreDistinct, Entry, entries_of, with_target, AreInstructions, IsWritten}
 use Rattle.bpf_assembler.specs.declared.fault.Why.{Why}
 use Rattle.bpf_assembler.specs.declared.fault.Why.TheVariants as why
@@ -17,11 +17,11 @@ use Rattle.bpf_assembler.specs.declared.fault.Why.TheVariants as why
 -- ---- faults of a line by itself, and by the labels before it
 
 -- the fault of a line behind others
-abbrev pub HasFault : List Written → List ℕ → Why → Type 0
-HasFault before line why.Syntax = (w : Written) → ¬ Writes line w
-HasFault before line why.Range = (w : Written) × Writes line w × ¬ InRange w.body
+abbrev pub HasFault : List TextLine → List ℕ → Why → Type 0
+HasFault before line why.Syntax = (w : TextLine) → ¬ Writes line w
+HasFault before line why.Range = (w : TextLine) × Writes line w × ¬ InRange w.body
 HasFault before line why.DuplicateLabel =
-    (w : Written) × Writes line w × InRange w.body × ¬ IsNew w.label before
+    (w : TextLine) × Writes line w × InRange w.body × ¬ IsNew w.label before
 HasFault before line why.UnknownLabel = ⊥
 HasFault before line (why.Load fault) = ⊥
 
@@ -30,7 +30,7 @@ pub record HasLineFault (text : List ℕ) (number : ℕ) (y : Why) : Type 0 wher
   pub before : List (List ℕ)
   pub line : List ℕ
   pub after : List (List ℕ)
-  pub lines : List Written
+  pub lines : List TextLine
   pub order : line_texts text ≡ before ++ line ∷ after
   pub counted : number ≡ length before + 1
   pub each : EachWritten before lines
@@ -40,14 +40,14 @@ pub record HasLineFault (text : List ℕ) (number : ℕ) (y : Why) : Type 0 wher
 -- ---- faults of the names in instructions, where no line has one of those
 
 -- the instruction names a label that is none, or one that is too far
-abbrev pub MissesLabel : List Written → ℕ → Line → Option (List ℕ) → Why → Type 0
+abbrev pub MissesLabel : List TextLine → ℕ → Line → Option (List ℕ) → Why → Type 0
 MissesLabel all place given (Some name) why.UnknownLabel = label_place name 0 all ≡ None
 MissesLabel all place given (Some name) why.Range =
     (to : ℕ) × (label_place name 0 all ≡ Some to) × ¬ IsLine (with_target given place to)
 MissesLabel all place given name y = ⊥
 
 -- the first of these instructions that misses its label is of the line of this number
-pub record IsFirstMiss (all : List Written) (entries : List Entry) (number : ℕ)
+pub record IsFirstMiss (all : List TextLine) (entries : List Entry) (number : ℕ)
     (y : Why) : Type 0 where
   pub before : List Entry
   pub entry : Entry
@@ -59,7 +59,7 @@ pub record IsFirstMiss (all : List Written) (entries : List Entry) (number : ℕ
   pub miss : MissesLabel all entry.place entry.statement.line entry.statement.name y
 
 pub record HasNameFault (text : List ℕ) (number : ℕ) (y : Why) : Type 0 where
-  pub lines : List Written
+  pub lines : List TextLine
   pub written : IsWritten text lines
   pub first : IsFirstMiss lines (entries_of 1 0 lines) number y
 
@@ -84,7 +84,7 @@ IsLineOf false entries slot number = IsLineOfSlot entries slot number
 -- the image of the instructions may not be run; faults 1 to 3, those of its length, have line 0
 pub record HasLoadFault (profile : Profile) (text : List ℕ) (number : ℕ) (fault : LoadFault)
     : Type 0 where
-  pub lines : List Written
+  pub lines : List TextLine
   pub instructions : List Line
   pub written : IsWritten text lines
   pub meant : AreInstructions lines (entries_of 1 0 lines) instructions

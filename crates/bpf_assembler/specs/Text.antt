@@ -5,12 +5,12 @@ use Rattle.text_lines.specs.Lines.{line_texts}
 use Rattle.bpf_types.specs.declared.line.Line.{Line}
 use Rattle.bpf_types.specs.declared.line.Line.TheVariants as line
 use Rattle.bpf_types.specs.Line.{IsLine, slots_in}
-use Rattle.bpf_text.specs.Lines.{Written, Writes, InRange, Statement}
+use Rattle.bpf_text.specs.Lines.{TextLine, Writes, InRange, Statement}
 
 -- ---- lines that are written one after another
 
 -- each line is written so, its numbers in their ranges
-abbrev pub EachWritten : List (List ℕ) → List Written → Type 0
+abbrev pub EachWritten : List (List ℕ) → List TextLine → Type 0
 EachWritten [] [] = Unit {0}
 EachWritten [] (w ∷ ws) = ⊥
 EachWritten (l ∷ ls) [] = ⊥
@@ -30,23 +30,23 @@ has_label name (Some label) = bytes_eq label name
 
 -- the place of the name's label in these lines, of which the first begins at this place: that of
 -- the next instruction
-abbrev pub label_place : List ℕ → ℕ → List Written → Option ℕ
+abbrev pub label_place : List ℕ → ℕ → List TextLine → Option ℕ
 label_place name place [] = None
 label_place name place (w ∷ ws) =
     if has_label name w.label then Some place else label_place name (place + slots w.body) ws
 
 -- the slot after these lines, of which the first begins at this place
-abbrev pub end_of : ℕ → List Written → ℕ
+abbrev pub end_of : ℕ → List TextLine → ℕ
 end_of place [] = place
 end_of place (w ∷ ws) = end_of (place + slots w.body) ws
 
 -- the label is none of those of the lines
-abbrev pub IsNew : Option (List ℕ) → List Written → Type 0
+abbrev pub IsNew : Option (List ℕ) → List TextLine → Type 0
 IsNew None ws = Unit {0}
 IsNew (Some name) ws = label_place name 0 ws ≡ None
 
 -- each label is new behind the lines before it
-abbrev pub AreDistinct : List Written → List Written → Type 0
+abbrev pub AreDistinct : List TextLine → List TextLine → Type 0
 AreDistinct before [] = Unit {0}
 AreDistinct before (w ∷ ws) = IsNew w.label before × AreDistinct (before ++ w ∷ []) ws
 
@@ -63,7 +63,7 @@ entry_of number place None = []
 entry_of number place (Some s) = record { number = number; place = place; statement = s } ∷ []
 
 -- the instructions of these lines, of which the first has this number and begins at this place
-abbrev pub entries_of : ℕ → ℕ → List Written → List Entry
+abbrev pub entries_of : ℕ → ℕ → List TextLine → List Entry
 entries_of number place [] = []
 entries_of number place (w ∷ ws) =
     entry_of number place w.body ++ entries_of (number + 1) (place + slots w.body) ws
@@ -84,12 +84,12 @@ with_target l place to = with_distance l (pos to -ℤ pos (place + 1))
 
 -- the instruction at a place is the line: as it is written, or going to the place of the label that
 -- it names, where its distance is in range
-abbrev pub IsInstruction : List Written → ℕ → Line → Option (List ℕ) → Line → Type 0
+abbrev pub IsInstruction : List TextLine → ℕ → Line → Option (List ℕ) → Line → Type 0
 IsInstruction all place given None l = l ≡ given
 IsInstruction all place given (Some name) l =
     (to : ℕ) × (label_place name 0 all ≡ Some to) × IsLine l × (l ≡ with_target given place to)
 
-abbrev pub AreInstructions : List Written → List Entry → List Line → Type 0
+abbrev pub AreInstructions : List TextLine → List Entry → List Line → Type 0
 AreInstructions all [] [] = Unit {0}
 AreInstructions all [] (l ∷ ls) = ⊥
 AreInstructions all (e ∷ es) [] = ⊥
@@ -97,12 +97,12 @@ AreInstructions all (e ∷ es) (l ∷ ls) =
     IsInstruction all e.place e.statement.line e.statement.name l × AreInstructions all es ls
 
 -- the lines of the text are written so, and no label stands twice
-pub record IsWritten (text : List ℕ) (ws : List Written) : Type 0 where
+pub record IsWritten (text : List ℕ) (ws : List TextLine) : Type 0 where
   pub each : EachWritten (line_texts text) ws
   pub distinct : AreDistinct [] ws
 
 -- the text means these instructions
 pub record Means (text : List ℕ) (ls : List Line) : Type 0 where
-  pub lines : List Written
+  pub lines : List TextLine
   pub written : IsWritten text lines
   pub instructions : AreInstructions lines (entries_of 1 0 lines) ls

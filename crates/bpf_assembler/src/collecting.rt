@@ -2,7 +2,7 @@
 
 ghost use Rattle.std.specs.Prelude.{◌≡◌, ◌<◌, ◌≤◌, ◌+◌, ◌*◌, ◌++◌, ◌^◌, List, [], map, OnOk, IfOk, IfErr};
 ghost use Rattle.bpf_types.specs.Line.{slots_in};
-ghost use Rattle.bpf_text.specs.Lines.{Written};
+ghost use Rattle.bpf_text.specs.Lines.{TextLine};
 ghost use Rattle.bpf_text.specs.Judged.{text_of, statement_of};
 ghost use Rattle.bpf_assembler.specs.Text.{end_of, slots, entry_of};
 ghost use Rattle.bpf_assembler.specs.Mirror.Passes.{AreLabels, PutsLabel, Knows, Adds, Collects, entry};
@@ -20,7 +20,7 @@ fn put_label<'a, A: Allocator + Clone>(
     label: Option<&'a [u8]>,
     place: u64,
 ) -> Result<bool, AsmFault>
-    ensures { (ws : List Written) → AreLabels labels.old ws → place ≡ end_of 0 ws →
+    ensures { (ws : List TextLine) → AreLabels labels.old ws → place ≡ end_of 0 ws →
         PutsLabel (text_of label.entry) labels.new ws result }
 {
     let Some(name) = label else {
@@ -66,7 +66,7 @@ fn put_row<'a, A: Allocator>(
 fn add<'a, A: Allocator + Clone>(table: &mut Table<'a, A>, text: &'a [u8]) -> Result<(), AsmFault>
     requires few { table.old.lines + 1 < 2 ^ 63 }
     requires room { table.old.place ≤ 2 * table.old.lines }
-    ensures lines { (ws : List Written) →
+    ensures lines { (ws : List TextLine) →
         Knows table.old.labels table.old.rows.items table.old.lines table.old.place ws
         → Adds text.now table.new.labels table.new.rows.items table.new.lines table.new.place
         ws result }

@@ -14,7 +14,7 @@ ghost use Rattle.bpf_assembler.specs.Assembling.{HasMeaning, HasSomeFault};
 ghost use Rattle.bpf_assembler.specs.Labels.{statements, IsLabelAt, IsMeantBy};
 ghost use Rattle.bpf_assembler.specs.declared.fault.Why.{Why};
 ghost use Rattle.bpf_assembler.specs.declared.fault.Why.TheVariants.{Load};
-ghost use Rattle.bpf_text.specs.Lines.{Written, Statement};
+ghost use Rattle.bpf_text.specs.Lines.{TextLine, Statement};
 
 use bpf_text::laws::readings_are_unique;
 use bpf_text::read_line;
@@ -56,10 +56,10 @@ pub fn meanings_exclude_faults()
 /// or at the end of the text the slot after the last one; and an instruction that names a label
 /// leads there, as the loader reads its distance.
 pub fn named_jumps_lead_to_their_labels()
-    ensures labels { (text : List ℕ) (ws : List Written) (ls : List Line) (name : List ℕ)
+    ensures labels { (text : List ℕ) (ws : List TextLine) (ls : List Line) (name : List ℕ)
         (place : ℕ) → IsWritten text ws → AreInstructions ws (entries_of 1 0 ws) ls →
         (label_place name 0 ws ≡ Some place) ↔ IsLabelAt name ws ls place }
-    ensures jumps { (text : List ℕ) (ws : List Written) (ls : List Line) (a b : List Statement)
+    ensures jumps { (text : List ℕ) (ws : List TextLine) (ls : List Line) (a b : List Statement)
         (s : Statement) (c d : List Line) (l : Line) → IsWritten text ws →
         AreInstructions ws (entries_of 1 0 ws) ls → statements ws ≡ a ++ s ∷ b →
         ls ≡ c ++ l ∷ d → length a ≡ length c → IsMeantBy ws ls (place_of c) s.line s.name l }

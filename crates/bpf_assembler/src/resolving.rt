@@ -4,7 +4,7 @@
 ghost use Rattle.std.specs.Prelude.{◌≡◌, List, map, MatchOption, FitsSigned};
 ghost use Rattle.std.specs.Int.{w16, w32};
 ghost use Rattle.bpf_types.specs.Line.{IsLine};
-ghost use Rattle.bpf_text.specs.Lines.{Written};
+ghost use Rattle.bpf_text.specs.Lines.{TextLine};
 ghost use Rattle.bpf_assembler.specs.Text.{with_distance};
 ghost use Rattle.bpf_assembler.specs.Mirror.Passes.{AreLabels, Resolves, ResolvesAll, IsLineUpTo, entry};
 
@@ -81,7 +81,7 @@ fn with_distance(line: Line, distance: i128) -> Option<Line>
 
 /// The instruction of a row.
 fn resolve<A: Allocator>(labels: &BTreeMap<&[u8], u64, A>, row: &Row<'_>) -> Result<Line, AsmFault>
-    ensures { (ws : List Written) → AreLabels labels.now ws → Resolves ws (entry row.now) result }
+    ensures { (ws : List TextLine) → AreLabels labels.now ws → Resolves ws (entry row.now) result }
 {
     match row.name {
         None => Ok(row.line),
@@ -110,7 +110,7 @@ pub fn resolve_all<A: Allocator, B: Allocator>(
     labels: &BTreeMap<&[u8], u64, A>,
     rows: &[Row<'_>],
 ) -> Result<Vec<u8, B>, AsmFault>
-    ensures { (ws : List Written) → AreLabels labels.now ws → ResolvesAll ws (map entry rows.now)
+    ensures { (ws : List TextLine) → AreLabels labels.now ws → ResolvesAll ws (map entry rows.now)
         (λ v. v.items) result }
 {
     let mut octets = Vec::new(alloc);

@@ -9,7 +9,7 @@ use Rattle.bpf_types.specs.Line.{first_slot, spelling, WritesFramePointer, write
 use Rattle.bpf_decode.specs.declared.fault.DecodeFault.{DecodeFault}
 use Rattle.bpf_decode.specs.declared.fault.DecodeFault.TheVariants as fault
 use Rattle.bpf_decode.specs.Mirror.Codes.{is_opcode}
-use Rattle.bpf_decode.specs.Mirror.Decoding.{raw_fields, fields_in, permitted_of, spelled_in, decode_result}
+use Rattle.bpf_decode.specs.Mirror.Decoding.{raw_fields, fields_in, permitted_line_of, spelling_in, decode_result}
 use Rattle.bpf_decode.specs.Decoding.{BeginsWith}
 use Rattle.bpf_decode.proofs.Decode.{fields_of, in_range}
 use Rattle.bpf_decode.proofs.KnownLine.{known_line}
@@ -32,8 +32,8 @@ not_cut : (c d : Bool) → (c ≡ true → d ≡ false) → (c && d) ≡ false
 not_cut true d h = h refl
 not_cut false d h = refl
 
-by_tests : (a b : Bool) (o : Option Fields) (octets : List ℕ) (r : Result Line DecodeFault) → a ≡ false → b ≡ true → spelled_in o octets ≡ r →
-    (if a then Err fault.CutWide else if b then spelled_in o octets else Err fault.UnknownOpcode) ≡ r
+by_tests : (a b : Bool) (o : Option Fields) (octets : List ℕ) (r : Result Line DecodeFault) → a ≡ false → b ≡ true → spelling_in o octets ≡ r →
+    (if a then Err fault.CutWide else if b then spelling_in o octets else Err fault.UnknownOpcode) ≡ r
 by_tests true b o octets r p q h = absurd cc
 by_tests false true o octets r p q h = h
 by_tests false false o octets r p q h = absurd cc
@@ -62,8 +62,8 @@ result_of octets l b c w =
     by_tests _ _ (fields_in octets) octets _
     (not_cut _ _ (λ e. not_short (length octets) (let w : 16 ≤ length (spelling l) = wide_length l (sym op ∙ is_eighteen _ e) in omega (arith, w, whole))))
     (ap is_opcode op ∙ known_line l)
-    (ap (λ o. spelled_in o octets) (both_there (slice_index octets 1 % 16) (slice_index octets 1 / 16) (raw_fields octets) dst src)
-    ∙ ap permitted_of (found_at octets l b) ∙ ap (λ c. if c then Err fault.WritesFramePointer else Ok l) w)
+    (ap (λ o. spelling_in o octets) (both_there (slice_index octets 1 % 16) (slice_index octets 1 / 16) (raw_fields octets) dst src)
+    ∙ ap permitted_line_of (found_at octets l b) ∙ ap (λ c. if c then Err fault.WritesFramePointer else Ok l) w)
 
 pub decoded_of : (octets : List ℕ) (l : Line) → BeginsWith octets l → ¬ WritesFramePointer l → decode_result octets ≡ Ok l
 decoded_of octets l b n = result_of octets l b false (not_written l n)

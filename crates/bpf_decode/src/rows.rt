@@ -2,7 +2,7 @@
 // The rows of the instruction table, found by the fields of a slot.
 ghost use Rattle.std.specs.Prelude.{◌≡◌, ◌+◌, ◌/◌, ◌%◌, ◌⊎◌, [], IfSome, pos};
 ghost use Rattle.bpf_types.specs.Line.{first_slot, second_slot, arithmetic_class, jump_class, order_opcode, extension_opcode, code_of, offset_of, swap_width_bits, extension_offset, extension_width};
-ghost use Rattle.bpf_decode.specs.Mirror.Rows.{Spelled, IsOperandOf, operand_at, with_offset, extension_at, swap_width_at, negate_at, order_at, move_at, two_operands_at, arithmetic_at, jump_if_at, call_at, near_jump_at, exit_at, jump_at, short_jump_at, load_at, store_immediate_at, store_at, short_at};
+ghost use Rattle.bpf_decode.specs.Mirror.Rows.{IsSpelling, IsOperandOf, operand_at, with_offset, extension_at, swap_width_at, negate_at, order_at, move_at, two_operands_at, arithmetic_at, jump_if_at, call_at, near_jump_at, exit_at, jump_at, short_jump_at, load_at, store_immediate_at, store_at, short_at};
 
 use crate::codes::{comparison_of, operation_of, signed_size_of, size_of};
 use bpf_types::{Extension, Fields, Line, Operand, Operation, Order, SwapWidth, Width};
@@ -66,7 +66,7 @@ pub fn swap_width_of(imm: i32) -> Option<SwapWidth>
 fn negate_of(width: Width, fields: Fields) -> Option<Line>
     requires { fields.opcode ≡ 0x80 + arithmetic_class width }
     ensures exact { result ≡ negate_at width fields }
-    ensures found { IfSome result (Spelled fields) }
+    ensures found { IfSome result (IsSpelling fields) }
 {
     if fields.src.number() == 0 && fields.offset == 0 && fields.imm == 0 {
         Some(Line::Negate {
@@ -82,7 +82,7 @@ fn negate_of(width: Width, fields: Fields) -> Option<Line>
 fn order_of(order: Order, fields: Fields) -> Option<Line>
     requires { fields.opcode ≡ order_opcode order }
     ensures exact { result ≡ order_at order fields }
-    ensures found { IfSome result (Spelled fields) }
+    ensures found { IfSome result (IsSpelling fields) }
 {
     if fields.src.number() == 0 && fields.offset == 0 {
         let width = swap_width_of(fields.imm)?;
@@ -100,7 +100,7 @@ fn order_of(order: Order, fields: Fields) -> Option<Line>
 fn move_of(width: Width, fields: Fields) -> Option<Line>
     requires { fields.opcode ≡ 0xb8 + arithmetic_class width }
     ensures exact { result ≡ move_at width fields }
-    ensures found { IfSome result (Spelled fields) }
+    ensures found { IfSome result (IsSpelling fields) }
 {
     if fields.imm == 0 {
         let extension = extension_of(width, fields.offset)?;
@@ -118,7 +118,7 @@ fn move_of(width: Width, fields: Fields) -> Option<Line>
 fn two_operands_of(width: Width, fields: Fields) -> Option<Line>
     requires { fields.opcode % 8 ≡ arithmetic_class width }
     ensures exact { result ≡ two_operands_at width fields }
-    ensures found { IfSome result (Spelled fields) }
+    ensures found { IfSome result (IsSpelling fields) }
 {
     let operation = operation_at_offset(operation_of(fields.opcode / 16)?, fields.offset)?;
     Some(Line::Arithmetic {
@@ -133,7 +133,7 @@ fn two_operands_of(width: Width, fields: Fields) -> Option<Line>
 fn arithmetic_of(width: Width, fields: Fields) -> Option<Line>
     requires { fields.opcode % 8 ≡ arithmetic_class width }
     ensures exact { result ≡ arithmetic_at width fields }
-    ensures found { IfSome result (Spelled fields) }
+    ensures found { IfSome result (IsSpelling fields) }
 {
     match fields.opcode {
         0x84 | 0x87 => negate_of(width, fields),
@@ -149,7 +149,7 @@ fn arithmetic_of(width: Width, fields: Fields) -> Option<Line>
 fn jump_if_of(width: Width, fields: Fields) -> Option<Line>
     requires { fields.opcode % 8 ≡ jump_class width }
     ensures exact { result ≡ jump_if_at width fields }
-    ensures found { IfSome result (Spelled fields) }
+    ensures found { IfSome result (IsSpelling fields) }
 {
     let comparison = comparison_of(fields.opcode / 16)?;
     Some(Line::JumpIf {
@@ -165,7 +165,7 @@ fn jump_if_of(width: Width, fields: Fields) -> Option<Line>
 fn call_of(fields: Fields) -> Option<Line>
     requires { fields.opcode ≡ 0x85 }
     ensures exact { result ≡ call_at fields }
-    ensures found { IfSome result (Spelled fields) }
+    ensures found { IfSome result (IsSpelling fields) }
 {
     if fields.dst.number() != 0 || fields.offset != 0 {
         return None;
@@ -183,7 +183,7 @@ fn call_of(fields: Fields) -> Option<Line>
 fn near_jump_of(fields: Fields) -> Option<Line>
     requires { fields.opcode ≡ 0x05 }
     ensures exact { result ≡ near_jump_at fields }
-    ensures found { IfSome result (Spelled fields) }
+    ensures found { IfSome result (IsSpelling fields) }
 {
     if fields.dst.number() == 0 && fields.src.number() == 0 && fields.imm == 0 {
         Some(Line::Jump {
@@ -198,7 +198,7 @@ fn near_jump_of(fields: Fields) -> Option<Line>
 fn exit_of(fields: Fields) -> Option<Line>
     requires { fields.opcode ≡ 0x95 }
     ensures exact { result ≡ exit_at fields }
-    ensures found { IfSome result (Spelled fields) }
+    ensures found { IfSome result (IsSpelling fields) }
 {
     if fields.dst.number() == 0
         && fields.src.number() == 0
@@ -215,7 +215,7 @@ fn exit_of(fields: Fields) -> Option<Line>
 fn jump_of(fields: Fields) -> Option<Line>
     requires { fields.opcode % 8 ≡ 5 }
     ensures exact { result ≡ jump_at fields }
-    ensures found { IfSome result (Spelled fields) }
+    ensures found { IfSome result (IsSpelling fields) }
 {
     match fields.opcode {
         0x05 => near_jump_of(fields),
@@ -229,7 +229,7 @@ fn jump_of(fields: Fields) -> Option<Line>
 fn short_jump_of(fields: Fields) -> Option<Line>
     requires { fields.opcode % 8 ≡ 6 }
     ensures exact { result ≡ short_jump_at fields }
-    ensures found { IfSome result (Spelled fields) }
+    ensures found { IfSome result (IsSpelling fields) }
 {
     if fields.opcode != 0x06 {
         return jump_if_of(Width::W32, fields);
@@ -247,7 +247,7 @@ fn short_jump_of(fields: Fields) -> Option<Line>
 fn load_of(fields: Fields) -> Option<Line>
     requires { fields.opcode % 8 ≡ 1 }
     ensures exact { result ≡ load_at fields }
-    ensures found { IfSome result (Spelled fields) }
+    ensures found { IfSome result (IsSpelling fields) }
 {
     if fields.imm != 0 {
         return None;
@@ -274,7 +274,7 @@ fn load_of(fields: Fields) -> Option<Line>
 fn store_immediate_of(fields: Fields) -> Option<Line>
     requires { fields.opcode % 8 ≡ 2 }
     ensures exact { result ≡ store_immediate_at fields }
-    ensures found { IfSome result (Spelled fields) }
+    ensures found { IfSome result (IsSpelling fields) }
 {
     if fields.opcode / 32 == 3 && fields.src.number() == 0 {
         Some(Line::StoreImmediate {
@@ -292,7 +292,7 @@ fn store_immediate_of(fields: Fields) -> Option<Line>
 fn store_of(fields: Fields) -> Option<Line>
     requires { fields.opcode % 8 ≡ 3 }
     ensures exact { result ≡ store_at fields }
-    ensures found { IfSome result (Spelled fields) }
+    ensures found { IfSome result (IsSpelling fields) }
 {
     if fields.opcode / 32 == 3 && fields.imm == 0 {
         Some(Line::Store {
@@ -309,7 +309,7 @@ fn store_of(fields: Fields) -> Option<Line>
 /// The instruction of one slot that these fields spell.
 pub fn short_of(fields: Fields) -> Option<Line>
     ensures exact { result ≡ short_at fields }
-    ensures found { IfSome result (Spelled fields) }
+    ensures found { IfSome result (IsSpelling fields) }
 {
     match fields.opcode % 8 {
         1 => load_of(fields),

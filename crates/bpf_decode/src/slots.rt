@@ -5,9 +5,9 @@ ghost use Rattle.bpf_decode.specs.declared.fault.DecodeFault.{DecodeFault};
 ghost use Rattle.bpf_decode.specs.Mirror.Codes.{is_opcode};
 ghost use Rattle.bpf_types.specs.declared.line.Line.{Line};
 ghost use Rattle.bpf_types.specs.Line.{first_slot, second_slot, spelling, WritesFramePointer};
-ghost use Rattle.bpf_decode.specs.Mirror.Decoding.{raw_fields, high_in, wide_at, line_at, fields_in, permitted_line, spelled_in, decode_result};
+ghost use Rattle.bpf_decode.specs.Mirror.Decoding.{raw_fields, high_in, wide_at, line_at, fields_in, permitted_line, spelling_in, decode_result};
 ghost use Rattle.bpf_decode.specs.Decoding.{BeginsWith, HasBadRegister};
-ghost use Rattle.bpf_decode.specs.Mirror.Rows.{Spelled};
+ghost use Rattle.bpf_decode.specs.Mirror.Rows.{IsSpelling};
 ghost use Rattle.bpf_decode.specs.Faults.{IsFirst};
 
 use crate::codes::is_known;
@@ -70,7 +70,7 @@ fn wide_of(fields: Fields, octets: &[u8]) -> Option<Line>
 fn line_of(fields: Fields, octets: &[u8]) -> Option<Line>
     requires { fields.opcode ≡ 0x18 → 16 ≤ length octets.now }
     ensures exact { result ≡ line_at fields octets.now }
-    ensures short { IfSome result (λ l. fields.opcode ≢ 0x18 → Spelled fields l) }
+    ensures short { IfSome result (λ l. fields.opcode ≢ 0x18 → IsSpelling fields l) }
 {
     if fields.opcode == WIDE {
         wide_of(fields, octets)
@@ -99,7 +99,7 @@ fn decode_known(octets: &[u8]) -> Result<Line, DecodeFault>
     requires room { 8 ≤ length octets.now }
     requires wide { slice_index octets.now 0 ≡ 0x18 → 16 ≤ length octets.now }
     requires known { IsTrue (is_opcode (slice_index octets.now 0)) }
-    ensures exact { result ≡ spelled_in (fields_in octets.now) octets.now }
+    ensures exact { result ≡ spelling_in (fields_in octets.now) octets.now }
     ensures ok { IfOk result (λ line. BeginsWith octets.now line × ¬ WritesFramePointer line) }
     ensures err { IfErr result (λ fault. IsFirst fault octets.now) }
 {

@@ -102,7 +102,7 @@ fn stem_of(word: &[u8]) -> Option<Stem>
 }
 
 /// The stem and the class that are this text.
-fn classed_of(word: &[u8]) -> Option<(Stem, Width)>
+fn stem_and_width(word: &[u8]) -> Option<(Stem, Width)>
     ensures some { IfSome result (λ p. word.now ≡ stem_name p.0 ++ width_name p.1) }
     ensures only { (s : Stem) (w : Width) → word.now ≡ stem_name s ++ width_name w →
         result ≡ Some (s, w) }
@@ -167,7 +167,7 @@ pub fn mnemonic_of(word: &[u8]) -> Option<Mnemonic>
     ensures some { IfSome result (λ m. word.now ≡ mnemonic_name m) }
     ensures only { (m : Mnemonic) → word.now ≡ mnemonic_name m → result ≡ Some m }
 {
-    match classed_of(word) {
+    match stem_and_width(word) {
         Some((stem, width)) => Some(mnemonic_of_stem(stem, width)),
         None => plain_of(word),
     }

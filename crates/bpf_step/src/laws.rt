@@ -4,7 +4,7 @@ ghost use Rattle.ocp_profile.specs.declared.profile.Profile.{Profile};
 ghost use Rattle.bpf_types.specs.declared.line.Line.{Line};
 ghost use Rattle.ocp_loader.specs.Admitted.{IsAdmitted, IsAdmittedAs};
 ghost use Rattle.ocp_loader.specs.Places.{IsAt};
-ghost use Rattle.bpf_step.specs.Machine.{State, Next, started, restarted, HasMemoryOf};
+ghost use Rattle.bpf_step.specs.Machine.{State, Next, machine_at_start, machine_at_restart, HasMemoryOf};
 ghost use Rattle.bpf_step.specs.Calls.{state_after_engine_call};
 ghost use Rattle.bpf_step.specs.Step.{one_step, step};
 ghost use Rattle.bpf_step.specs.Reach.{Reaches, IsFound, IsFramed};
@@ -47,11 +47,12 @@ pub fn r10_is_the_frame_pointer_of_the_depth()
 /// what it did.
 pub fn machines_started_anew_are_as_new()
     ensures new { (profile : Profile) (before : List ℕ) → length before ≤ 256 →
-        HasMemoryOf profile (started profile before) }
+        HasMemoryOf profile (machine_at_start profile before) }
     ensures again { (profile : Profile) (arguments : List ℕ) (s : State) → HasMemoryOf profile s →
-        restarted arguments s ≡ started profile arguments }
+        machine_at_restart arguments s ≡ machine_at_start profile arguments }
     ensures first { (profile : Profile) (arguments : List ℕ) →
-        restarted arguments (started profile []) ≡ started profile arguments }
+        machine_at_restart arguments (machine_at_start profile [])
+        ≡ machine_at_start profile arguments }
 {
     cleared_memory_is_the_first_one();
 }

@@ -4,7 +4,7 @@ use Rattle.std.specs.Prelude.{MatchResult}
 use Rattle.bpf_types.specs.declared.line.Line.{Line}
 use Rattle.bpf_types.specs.Line.{IsLine}
 use Rattle.bpf_listing.specs.Canonical.{canonical}
-use Rattle.bpf_text.specs.Lines.{Written, InRange}
+use Rattle.bpf_text.specs.Lines.{TextLine, InRange}
 use Rattle.bpf_text.specs.Listings.{alone}
 use Rattle.bpf_text.specs.Judged.{JudgesLine, written_line}
 use Rattle.bpf_text.specs.declared.line.Parsed.{Parsed}
@@ -19,4 +19,4 @@ reads_canonical once l h (Ok p) k = once (canonical l) (written_line p) (alone l
 reads_canonical once l h (Err Syntax) k = k (alone l) (canonical_written l h)
 reads_canonical once l h (Err Range) (w, writes, out) =
     let same : alone l ≡ w = once (canonical l) (alone l) w (canonical_written l h) (h, refl) writes in
-    out (subst (λ (v : Written). InRange v.body) same (h, refl))
+    out (subst (λ (v : TextLine). InRange v.body) same (h, refl))

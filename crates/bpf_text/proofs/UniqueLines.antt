@@ -20,7 +20,7 @@ use Rattle.bpf_listing.specs.Mnemonics.{mnemonic_name}
 use Rattle.bpf_listing.specs.declared.mnemonic.Mnemonic.{Mnemonic}
 use Rattle.bpf_text.specs.Number.{IsNumeral}
 use Rattle.bpf_text.specs.Fields.{IsRegister, IsImmediate, IsSecond, IsTarget}
-use Rattle.bpf_text.specs.Lines.{IsOperands, IsForm, IsExtended, IsSwapWidth, IsBody, HasLabel, Statement, Written, Writes, InRange, mnemonic_of, AreOne}
+use Rattle.bpf_text.specs.Lines.{IsOperands, IsForm, IsExtended, IsSwapWidth, IsBody, HasLabel, Statement, TextLine, Writes, InRange, mnemonic_of, AreOne}
 use Rattle.bpf_text.proofs.Scanning.{one_tokens}
 use Rattle.bpf_text.proofs.JudgeLemmas.{no_local}
 use Rattle.bpf_text.proofs.ReadingLemmas.{no_colon}
@@ -33,7 +33,7 @@ AreNamed = (m n : Mnemonic) → mnemonic_name m ≡ mnemonic_name n → m ≡ n
 
 -- what the law says of lines of text
 abbrev pub AreReadOnce : Type 0
-AreReadOnce = (text : List ℕ) (w v : Written) → Writes text w → InRange w.body → Writes text v → w ≡ v
+AreReadOnce = (text : List ℕ) (w v : TextLine) → Writes text w → InRange w.body → Writes text v → w ≡ v
 
 abbrev extension_from : Width → ℕ → Extension
 extension_from W32 n = if n == 8 then extension.From8To32 else extension.From16To32

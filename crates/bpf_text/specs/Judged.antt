@@ -4,7 +4,7 @@ use denote.Ref.{Bor}
 use Rattle.bpf_types.specs.declared.line.Line.{Line}
 use Rattle.bpf_types.specs.Line.{IsLine}
 use Rattle.bpf_listing.specs.declared.mnemonic.Mnemonic.{Mnemonic}
-use Rattle.bpf_text.specs.Lines.{IsOperands, IsForm, mnemonic_of, Statement, Written, Writes, InRange, IsBody, HasLabel}
+use Rattle.bpf_text.specs.Lines.{IsOperands, IsForm, mnemonic_of, Statement, TextLine, Writes, InRange, IsBody, HasLabel}
 use Rattle.bpf_text.specs.declared.line.Source.{Source}
 use Rattle.bpf_text.specs.declared.line.Parsed.{Parsed}
 use Rattle.bpf_text.specs.declared.line.LineFault.{LineFault}
@@ -45,14 +45,14 @@ abbrev pub statement_of : Option Source → Option Statement
 statement_of None = None
 statement_of (Some s) = Some (record { line = s.line; name = text_of s.name; odd = None })
 
-abbrev pub written_line : Parsed → Written
+abbrev pub written_line : Parsed → TextLine
 written_line p = record { label = text_of p.label; body = statement_of p.body }
 
 -- of a whole line
 abbrev pub JudgesLine : List ℕ → Result Parsed LineFault → Type 0
 JudgesLine text (Ok p) = Writes text (written_line p) × InRange (written_line p).body
-JudgesLine text (Err Syntax) = (w : Written) → ¬ Writes text w
-JudgesLine text (Err Range) = (w : Written) × Writes text w × ¬ InRange w.body
+JudgesLine text (Err Syntax) = (w : TextLine) → ¬ Writes text w
+JudgesLine text (Err Range) = (w : TextLine) × Writes text w × ¬ InRange w.body
 
 -- of a line's tokens
 abbrev pub JudgesBody : List (List ℕ) → Result (Option Source) LineFault → Type 0

@@ -136,7 +136,7 @@ IsBody None tokens = tokens ≡ []
 IsBody (Some s) tokens = IsForm s.line s.name s.odd tokens
 
 -- a line's label and its instruction
-pub record Written : Type 0 where
+pub record TextLine : Type 0 where
   pub label : Option (List ℕ)
   pub body : Option Statement
 
@@ -147,7 +147,7 @@ HasLabel (Some name) body tokens =
     × IsBody body others
 
 -- the line's text is written so
-abbrev pub Writes : List ℕ → Written → Type 0
+abbrev pub Writes : List ℕ → TextLine → Type 0
 Writes text w = (tokens : List (List ℕ)) × HasTokens text tokens × HasLabel w.label w.body tokens
 
 -- each number is in its range

@@ -79,7 +79,7 @@ fn last<'a>(tokens: &[&'a [u8]]) -> Option<&'a [u8]>
 }
 
 /// The register in brackets, and the tokens behind it.
-fn opened<'b, 'a>(tokens: &'b [&'a [u8]]) -> Option<(&'a [u8], &'b [&'a [u8]])>
+fn base_behind_bracket<'b, 'a>(tokens: &'b [&'a [u8]]) -> Option<(&'a [u8], &'b [&'a [u8]])>
     ensures some { IfSome result (λ p. texts tokens.now ≡ codes "[" ∷ p.0.now ∷ texts p.1.now) }
     ensures none { IfNone result ((a : List ℕ) (rest : List (List ℕ)) →
         texts tokens.now ≢ codes "[" ∷ a ∷ rest) }
@@ -91,7 +91,7 @@ fn opened<'b, 'a>(tokens: &'b [&'a [u8]]) -> Option<(&'a [u8], &'b [&'a [u8]])>
 }
 
 /// The tokens behind a bracket that closes.
-fn closed<'b, 'a>(tokens: &'b [&'a [u8]]) -> Option<&'b [&'a [u8]]>
+fn behind_bracket<'b, 'a>(tokens: &'b [&'a [u8]]) -> Option<&'b [&'a [u8]]>
     ensures some { IfSome result (λ p. texts tokens.now ≡ codes "]" ∷ texts p.now) }
     ensures none { IfNone result ((rest : List (List ℕ)) → texts tokens.now ≢ codes "]" ∷ rest) }
 {
@@ -102,7 +102,7 @@ fn closed<'b, 'a>(tokens: &'b [&'a [u8]]) -> Option<&'b [&'a [u8]]>
 }
 
 /// The offset before a bracket that closes, and the tokens behind that.
-fn closed_after<'b, 'a>(tokens: &'b [&'a [u8]]) -> Option<(&'a [u8], &'b [&'a [u8]])>
+fn offset_before_bracket<'b, 'a>(tokens: &'b [&'a [u8]]) -> Option<(&'a [u8], &'b [&'a [u8]])>
     ensures some { IfSome result (λ p. texts tokens.now ≡ p.0.now ∷ codes "]" ∷ texts p.1.now) }
     ensures none { IfNone result ((a : List ℕ) (rest : List (List ℕ)) →
         texts tokens.now ≢ a ∷ codes "]" ∷ rest) }
@@ -122,13 +122,13 @@ fn place<'b, 'a>(tokens: &'b [&'a [u8]]) -> Option<((&'a [u8], Option<&'a [u8]>)
         ((base : List ℕ) (offset : Option (List ℕ)) (rest : List (List ℕ)) →
         texts tokens.now ≢ in_brackets base offset rest) }
 {
-    let Some((base, after)) = opened(tokens) else {
+    let Some((base, after)) = base_behind_bracket(tokens) else {
         return None;
     };
-    if let Some(rest) = closed(after) {
+    if let Some(rest) = behind_bracket(after) {
         return Some(((base, None), rest));
     }
-    match closed_after(after) {
+    match offset_before_bracket(after) {
         Some((offset, rest)) => Some(((base, Some(offset)), rest)),
         None => None,
     }
@@ -202,7 +202,7 @@ pub fn load_operands(operands: &[&[u8]]) -> Result<(Reg, (Reg, i16)), LineFault>
 }
 
 /// A place in memory, and the token behind the comma after it.
-fn stored<'a>(operands: &[&'a [u8]]) -> Option<((&'a [u8], Option<&'a [u8]>), &'a [u8])>
+fn place_and_last<'a>(operands: &[&'a [u8]]) -> Option<((&'a [u8], Option<&'a [u8]>), &'a [u8])>
     ensures some { IfSome result
         (λ p. (texts operands.now
         ≡ in_brackets p.0.0.now (text_of p.0.1) (codes "," ∷ p.1.now ∷ []))
@@ -225,7 +225,7 @@ pub fn store_operands(operands: &[&[u8]]) -> Result<((Reg, i16), Reg), LineFault
     ensures { Gives (λ p. p) (AreStore IsRegister (texts operands.now))
         (λ w. (IsReg w.0.0 × FitsSigned w16 w.0.1) × IsReg w.1) result }
 {
-    match stored(operands) {
+    match place_and_last(operands) {
         Some(((base, distance), c)) => { both(both(register(base), offset(distance)), register(c)) }
         None => Err(LineFault::Syntax),
     }
@@ -236,7 +236,7 @@ pub fn store_immediate_operands(operands: &[&[u8]]) -> Result<((Reg, i16), i32),
     ensures { Gives (λ p. p) (AreStore IsImmediate (texts operands.now))
         (λ w. (IsReg w.0.0 × FitsSigned w16 w.0.1) × FitsSigned w32 w.1) result }
 {
-    match stored(operands) {
+    match place_and_last(operands) {
         Some(((base, distance), c)) => {
             both(both(register(base), offset(distance)), immediate(c))
         }

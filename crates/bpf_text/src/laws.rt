@@ -5,7 +5,7 @@ ghost use Rattle.std.specs.Prelude.{◌≡◌, ℕ, List, Result, MatchResult};
 ghost use Rattle.bpf_types.specs.declared.line.Line.{Line};
 ghost use Rattle.bpf_types.specs.Line.{IsLine};
 ghost use Rattle.bpf_listing.specs.Canonical.{canonical};
-ghost use Rattle.bpf_text.specs.Lines.{Written, Writes, InRange};
+ghost use Rattle.bpf_text.specs.Lines.{TextLine, Writes, InRange};
 ghost use Rattle.bpf_text.specs.Listings.{alone};
 ghost use Rattle.bpf_text.specs.Judged.{JudgesLine, written_line};
 ghost use Rattle.bpf_text.specs.declared.line.Parsed.{Parsed};
@@ -16,7 +16,7 @@ use bpf_listing::mnemonics_are_unique;
 /// A line of text whose numbers are in their ranges is read in one way: it says one label and one
 /// instruction.
 pub fn readings_are_unique()
-    ensures { (text : List ℕ) (w v : Written) → Writes text w → InRange w.body → Writes text v →
+    ensures { (text : List ℕ) (w v : TextLine) → Writes text w → InRange w.body → Writes text v →
         w ≡ v }
 {
     mnemonics_are_unique();

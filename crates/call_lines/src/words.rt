@@ -107,7 +107,7 @@ fn text_octets(alloc: Global, text: &str) -> Result<Vec<u8>, Fault> {
         if octet == b'\\' && !is_escaped {
             is_escaped = true;
         } else {
-            octets.push(if is_escaped { escaped(octet) } else { octet })?;
+            octets.push(if is_escaped { unescape(octet) } else { octet })?;
             is_escaped = false;
         }
     }
@@ -115,7 +115,7 @@ fn text_octets(alloc: Global, text: &str) -> Result<Vec<u8>, Fault> {
 }
 
 /// What an octet means behind a backslash.
-fn escaped(octet: u8) -> u8 {
+fn unescape(octet: u8) -> u8 {
     match octet {
         b'n' => b'\n',
         b'r' => b'\r',

@@ -25,14 +25,14 @@ pub(crate) fn answer(alloc: Global, words: &[&str]) -> Result<String, Fault> {
         }
         ["obcp_messages.write_request", profile, before, request @ ..] => {
             let out = octets(alloc, before)?;
-            let carried = carried(alloc, request)?;
+            let carried = payload_of(alloc, request)?;
             match request_of(request, &carried)? {
                 Some(request) => write(alloc, profile_of(profile)?, &request, out),
                 None => Ok(String::from_str(alloc, "None")?),
             }
         }
         ["obcp_messages.has_fitting_budget", profile, request @ ..] => {
-            let carried = carried(alloc, request)?;
+            let carried = payload_of(alloc, request)?;
             match request_of(request, &carried)? {
                 Some(request) => fits(alloc, profile_of(profile)?, &request),
                 None => Ok(String::from_str(alloc, "None")?),
@@ -86,7 +86,7 @@ fn show_message(alloc: Global, id: u16, words: &Words) -> Result<String, Fault> 
 }
 
 /// The octets that a request in words carries.
-fn carried(alloc: Global, words: &[&str]) -> Result<Vec<u8>, Fault> {
+fn payload_of(alloc: Global, words: &[&str]) -> Result<Vec<u8>, Fault> {
     match *words {
         ["Load", _, data] => octets(alloc, data),
         ["Activate", _, _, data] => octets(alloc, data),

@@ -8,7 +8,7 @@ use Rattle.std.proofs.Math.Nat.{mul-le-mul_right}
 use Rattle.std.proofs.lemmas.List.Concat.{length-flat_map}
 use Rattle.std.proofs.lemmas.List.Sums.{sum_by-le}
 use Rattle.obcp_types.specs.declared.pending.Due.{Due}
-use Rattle.ocp_reports.specs.Due.{drained}
+use Rattle.ocp_reports.specs.Due.{drain_dispatches}
 use Rattle.ocp_reports.proofs.Packets.{length-packets}
 use Rattle.ocp_table.specs.Outbox.{pendings}
 use Rattle.ocp_world.specs.World.{World, Event, Request, Drain}
@@ -71,8 +71,8 @@ drain_sent w time [] places light = none 64 25
 drain_sent w time (d ∷ ds) places light =
     let are = short_drained time (d ∷ ds) light in
     let few = are.few in
-    let many = length-packets w.apid w.reports (drained time (d ∷ ds)) in
-    record { few = omega (arith, few, many, places); short = short_packets 6 w.apid w.reports (drained time (d ∷ ds)) are.short }
+    let many = length-packets w.apid w.reports (drain_dispatches time (d ∷ ds)) in
+    record { few = omega (arith, few, many, places); short = short_packets 6 w.apid w.reports (drain_dispatches time (d ∷ ds)) are.short }
 
 places_of_log : (log : Log) → length (world_of log).outbox ≤ 64
 unfolding world_of

@@ -46,7 +46,7 @@ use Rattle.ocp_table.specs.Deciding.{effect_in}
 use Rattle.ocp_reports.specs.declared.origin.Origin.{Origin}
 use Rattle.ocp_reports.specs.Origin.{Dispatch, origin_of, origin_of_packet}
 use Rattle.ocp_reports.specs.Reports.{dispatch_of_notice, reports_of}
-use Rattle.ocp_reports.specs.Due.{origin_of_due, due_dispatches, drained}
+use Rattle.ocp_reports.specs.Due.{origin_of_due, due_dispatches, drain_dispatches}
 use Rattle.ocp_reports.specs.Packets.{packets, telemetry_of}
 use Rattle.ocp_world.specs.World.{World}
 use Rattle.ocp_world.specs.Effect.{Reply, Sends}
@@ -265,7 +265,7 @@ module _ (time : ℕ) (d : Due) (four : length d.origin.request ≤ 4) where
   short_due : Are 1 6 (due_dispatches time d)
   short_due = by_failure d.failure
 
-pub short_drained : (time : ℕ) (ds : List Due) → sum_by (λ (d : Due). excess d.origin) ds ≡ 0 → Are (length ds) 6 (drained time ds)
+pub short_drained : (time : ℕ) (ds : List Due) → sum_by (λ (d : Due). excess d.origin) ds ≡ 0 → Are (length ds) 6 (drain_dispatches time ds)
 short_drained time [] light = record { few = omega arith; short = tt }
 short_drained time (d ∷ ds) light =
     let parts = sum_by-cons (λ (d : Due). excess d.origin) d ds in
@@ -273,5 +273,5 @@ short_drained time (d ∷ ds) light =
     let rest = short_drained time ds (omega (arith, parts, light)) in
     let some = here.few in
     let others = rest.few in
-    let whole = length-append (due_dispatches time d) (drained time ds) in
-    record { few = omega (arith, whole, some, others); short = short-append 6 (due_dispatches time d) (drained time ds) here.short rest.short }
+    let whole = length-append (due_dispatches time d) (drain_dispatches time ds) in
+    record { few = omega (arith, whole, some, others); short = short-append 6 (due_dispatches time d) (drain_dispatches time ds) here.short rest.short }

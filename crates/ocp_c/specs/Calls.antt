@@ -37,15 +37,15 @@ outcome_of (Requested reports) = S.JournalFull
 outcome_of (Commanded result) = S.JournalFull
 
 -- an outcome as C sees it; a refusal leaves what stood there
-abbrev pub shown : StepOutcome → Outcome → Outcome
-shown S.Broke before = record { kind = 0; fault = 0 }
-shown S.Ran before = record { kind = 1; fault = 0 }
-shown S.Called before = record { kind = 2; fault = 0 }
-shown S.Ended before = record { kind = 3; fault = 0 }
-shown (S.Faulted number) before = record { kind = 4; fault = number }
-shown S.NotLoaded before = before
-shown S.NotRunning before = before
-shown S.JournalFull before = before
+abbrev pub outcome_or : StepOutcome → Outcome → Outcome
+outcome_or S.Broke before = record { kind = 0; fault = 0 }
+outcome_or S.Ran before = record { kind = 1; fault = 0 }
+outcome_or S.Called before = record { kind = 2; fault = 0 }
+outcome_or S.Ended before = record { kind = 3; fault = 0 }
+outcome_or (S.Faulted number) before = record { kind = 4; fault = number }
+outcome_or S.NotLoaded before = before
+outcome_or S.NotRunning before = before
+outcome_or S.JournalFull before = before
 
 -- ---- the debugger
 
@@ -56,19 +56,19 @@ result_of (Requested reports) = Err debug.JournalFull
 result_of (Stepped outcome) = Err debug.JournalFull
 
 -- a count where the last instruction was done; a refusal leaves what stood there
-abbrev pub counted_by : StepOutcome → ℕ → ℕ → ℕ
-counted_by S.Broke count before = count
-counted_by S.Ran count before = count
-counted_by S.Called count before = count
-counted_by S.Ended count before = count
-counted_by (S.Faulted number) count before = count
-counted_by S.NotLoaded count before = before
-counted_by S.NotRunning count before = before
-counted_by S.JournalFull count before = before
+abbrev pub count_by_outcome : StepOutcome → ℕ → ℕ → ℕ
+count_by_outcome S.Broke count before = count
+count_by_outcome S.Ran count before = count
+count_by_outcome S.Called count before = count
+count_by_outcome S.Ended count before = count
+count_by_outcome (S.Faulted number) count before = count
+count_by_outcome S.NotLoaded count before = before
+count_by_outcome S.NotRunning count before = before
+count_by_outcome S.JournalFull count before = before
 
 -- how many instructions C is told of
-abbrev pub counted : Slice → ℕ → ℕ
-counted slice before = counted_by slice.last slice.count before
+abbrev pub count_of_slice : Slice → ℕ → ℕ
+count_of_slice slice before = count_by_outcome slice.last slice.count before
 
 -- ---- the pool
 

@@ -15,6 +15,6 @@ use Rattle.ocp_core.specs.Log.{Log}
 abbrev pub engine_row : RattleType
 engine_row = engine.the_row heap.the_row ghosts
 
-abbrev pub held_at : Global → Ptr → Option Log → Fml
-held_at a p None = feq Ptr p null_ptr
-held_at a p (Some log) = box_owns (ghosts.dealloc_token a) engine_row p log
+abbrev pub ownership_at : Global → Ptr → Option Log → Fml
+ownership_at a p None = feq Ptr p null_ptr
+ownership_at a p (Some log) = box_owns (ghosts.dealloc_token a) engine_row p log

@@ -2,6 +2,7 @@
 use Rattle.std.specs.Prelude.{◌≡◌, ℕ, ◌==◌, ◌&&◌, nat_le, if◌then◌else◌, Option, Some, None, Result, Ok, Err}
 use Rattle.ocp_profile.specs.declared.profile.Profile.{Profile}
 use Rattle.ocp_profile.specs.declared.profile.Profile.TheVariants.{One, Two}
+use Rattle.ocp_profile.specs.declared.limits.TheConstants.{MAX_APID, MAX_POOL_WORDS, MAX_CAPACITY}
 use Rattle.ocp_core.specs.Log.{Log, empty_log}
 use Rattle.ocp_c.specs.declared.status.Status.{Status}
 use Rattle.ocp_c.specs.declared.status.Status.TheVariants as status
@@ -10,9 +11,9 @@ use Rattle.ocp_c.specs.Statuses.{number_of}
 -- a log of this profile, where the other numbers are in their ranges, or the first refusal
 abbrev pub opening_of : Profile → ℕ → ℕ → ℕ → Result Log Status
 opening_of profile apid words capacity =
-    if nat_le apid 2046 then
-    (if nat_le 1 words && nat_le words 256 then
-    (if nat_le 1 capacity && nat_le capacity 1000000
+    if nat_le apid MAX_APID then
+    (if nat_le 1 words && nat_le words MAX_POOL_WORDS then
+    (if nat_le 1 capacity && nat_le capacity MAX_CAPACITY
     then Ok (empty_log profile apid words capacity)
     else Err status.BadCapacity)
     else Err status.BadPoolWords)

@@ -7,5 +7,5 @@ abbrev pub together : List (List ℕ) → List ℕ
 together packets = flat_map (λ (packet : List ℕ). packet) packets
 
 -- octets from the front of a buffer on; what is behind them stays
-abbrev pub poured : List ℕ → List ℕ → List ℕ
-poured octets buffer = octets ++ drop (length octets) buffer
+abbrev pub buffer_after : List ℕ → List ℕ → List ℕ
+buffer_after octets buffer = octets ++ drop (length octets) buffer

@@ -12,7 +12,7 @@ use ocp_core::{Engine, Entry};
 use std::alloc::Global;
 
 // The fields of a request before its packet, or of a drain.
-fn timed(kind: u8, by: u16, time: u32) -> [u8; 7]
+fn time_fields(kind: u8, by: u16, time: u32) -> [u8; 7]
     ensures { result ≡ kind ∷ big_bytes 2 by ++ big_bytes 4 time }
 {
     let [by_high, by_low] = by.to_be_bytes();
@@ -87,12 +87,12 @@ fn write_entry(entry: &Entry, buffer: &mut [u8])
             time,
             octets,
             ..
-        } => put_both(&timed(1, *by, *time), octets.as_slice(), buffer),
+        } => put_both(&time_fields(1, *by, *time), octets.as_slice(), buffer),
         Entry::Steps { by, id, count, .. } => put(&steps(*by, *id, *count), buffer),
         Entry::SetBreak { by, id, place } => put(&command(3, *by, *id, *place), buffer),
         Entry::ClearBreak { by, id, place } => put(&command(4, *by, *id, *place), buffer),
         Entry::Trace { by, id, on } => put(&command(5, *by, *id, u16::from(*on)), buffer),
-        Entry::Drain { by, time, .. } => put(&timed(6, *by, *time), buffer),
+        Entry::Drain { by, time, .. } => put(&time_fields(6, *by, *time), buffer),
     }
 }
 

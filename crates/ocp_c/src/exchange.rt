@@ -8,7 +8,7 @@ ghost use Rattle.ocp_core.specs.Log.{Log, answer_in, log_after};
 ghost use Rattle.ocp_c.specs.declared.status.Status.TheVariants as status;
 ghost use Rattle.ocp_c.specs.Statuses.{number_of};
 ghost use Rattle.ocp_c.specs.Calls.{leaves, writes};
-ghost use Rattle.ocp_c.specs.Packets.{poured};
+ghost use Rattle.ocp_c.specs.Packets.{buffer_after};
 ghost use Rattle.ocp_c.specs.Replies.{replies, reports_in};
 
 use crate::packets::pour;
@@ -34,8 +34,8 @@ fn request_into(
     ensures journal { engine.new ≡ (if result == 0
         then log_after engine.old (Request 0 time packet.now) else engine.old) }
     ensures reports { reports.new ≡ (if result == 0
-        then poured (reports_in (answer_in engine.old (Request 0 time packet.now))) reports.old
-        else reports.old) }
+        then buffer_after (reports_in (answer_in engine.old (Request 0 time packet.now)))
+        reports.old else reports.old) }
     ensures written { written.new ≡ (if result == 0 then
         length (reports_in (answer_in engine.old (Request 0 time packet.now)))
         else written.old) }
@@ -83,7 +83,7 @@ pub extern "C" fn ocp_request(
     ensures least { (log : Log) → length (reports_in
         (answer_in log (Request 0 time packet.now))) ≤ 272 }
     ensures reports { reports.new ≡ writes handle.old.held reports.old (λ log. if result == 0
-        then poured (reports_in (answer_in log (Request 0 time packet.now))) reports.old
+        then buffer_after (reports_in (answer_in log (Request 0 time packet.now))) reports.old
         else reports.old) }
     ensures written { written.new ≡ writes handle.old.held written.old (λ log. if result == 0
         then length (reports_in (answer_in log (Request 0 time packet.now)))
@@ -113,7 +113,7 @@ fn drain_into(
     ensures journal { engine.new ≡ (if result == 0 then log_after engine.old (Drain 0 time)
         else engine.old) }
     ensures reports { reports.new ≡ (if result == 0
-        then poured (reports_in (answer_in engine.old (Drain 0 time))) reports.old
+        then buffer_after (reports_in (answer_in engine.old (Drain 0 time))) reports.old
         else reports.old) }
     ensures written { written.new ≡ (if result == 0 then
         length (reports_in (answer_in engine.old (Drain 0 time)))
@@ -158,7 +158,8 @@ pub extern "C" fn ocp_drain(
         if result == 0 then log_after log (Drain 0 time) else log) }
     ensures least { (log : Log) → length (reports_in (answer_in log (Drain 0 time))) ≤ 1600 }
     ensures reports { reports.new ≡ writes handle.old.held reports.old (λ log. if result == 0
-        then poured (reports_in (answer_in log (Drain 0 time))) reports.old else reports.old) }
+        then buffer_after (reports_in (answer_in log (Drain 0 time))) reports.old
+        else reports.old) }
     ensures written { written.new ≡ writes handle.old.held written.old (λ log. if result == 0
         then length (reports_in (answer_in log (Drain 0 time)))
         else written.old) }

@@ -8,7 +8,7 @@ ghost use Rattle.std.specs.declared.option.Option.{Option as Maybe};
 ghost use Rattle.std.specs.declared.option.Option.TheVariants.{None, Some};
 ghost use Rattle.ocp_core.specs.Log.{Log};
 ghost use Rattle.ocp_core.specs.Mirror.Codes.{log_code};
-ghost use Rattle.ocp_c.specs.Held.{held_at};
+ghost use Rattle.ocp_c.specs.Held.{ownership_at};
 
 use crate::loose::Loose;
 use ocp_core::Engine;
@@ -27,7 +27,7 @@ pub struct Handle {
 }
 
 impl Model for Handle {
-    ghost also_owns = { λ h. held_at h.alloc h.at h.held };
+    ghost also_owns = { λ h. ownership_at h.alloc h.at h.held };
 }
 
 impl Drop for Handle {
@@ -70,7 +70,7 @@ impl Handle {
         }
     }
 
-    fn closed(alloc: Global) -> Handle
+    fn without_engine(alloc: Global) -> Handle
         ensures { result.held ≡ None }
     {
         let at: *mut u8 = null_mut();
@@ -83,7 +83,7 @@ impl Handle {
         ensures taken { MatchOption result (self.old.held ≡ None)
             (λ engine. self.old.held ≡ Some engine.value) }
     {
-        let closed = Handle::closed(alloc);
+        let closed = Handle::without_engine(alloc);
         let taken = mem::replace(self, closed);
         match taken.into_loose() {
             Some(loose) => Some(loose.into_box()),

@@ -11,7 +11,7 @@ ghost use Rattle.ocp_core.specs.Slice.{slice_in, slice_log};
 ghost use Rattle.ocp_c.specs.declared.status.Status.{Status as Refusal};
 ghost use Rattle.ocp_c.specs.declared.status.Status.TheVariants as status;
 ghost use Rattle.ocp_c.specs.Statuses.{number_of, status_of, status_of_command};
-ghost use Rattle.ocp_c.specs.Calls.{answers, leaves, writes, outcome_of, shown, counted, result_of, word_status, word_or};
+ghost use Rattle.ocp_c.specs.Calls.{answers, leaves, writes, outcome_of, outcome_or, count_of_slice, result_of, word_status, word_or};
 ghost use Rattle.ocp_c.specs.Opening.{opening, IsOpened};
 
 mod entry;
@@ -94,7 +94,7 @@ pub extern "C" fn ocp_step(
         (λ log. status_of (outcome_of (answer_in log (Step 0 id)))) }
     ensures engine { handle.new.held ≡ leaves handle.old.held (λ log. log_after log (Step 0 id)) }
     ensures outcome { outcome.new ≡ writes handle.old.held outcome.old
-        (λ log. shown (outcome_of (answer_in log (Step 0 id))) outcome.old) }
+        (λ log. outcome_or (outcome_of (answer_in log (Step 0 id))) outcome.old) }
 {
     let Some(mut engine) = handle.take(alloc) else {
         return Status::NotOpen.number();
@@ -120,9 +120,9 @@ pub extern "C" fn ocp_slice(
     ensures engine { handle.new.held ≡ leaves handle.old.held (λ log. if budget == 0
         then log else slice_log log 0 id budget) }
     ensures count { count.new ≡ writes handle.old.held count.old (λ log. if budget == 0
-        then count.old else counted (slice_in log 0 id budget) count.old) }
+        then count.old else count_of_slice (slice_in log 0 id budget) count.old) }
     ensures last { last.new ≡ writes handle.old.held last.old (λ log. if budget == 0
-        then last.old else shown (slice_in log 0 id budget).last last.old) }
+        then last.old else outcome_or (slice_in log 0 id budget).last last.old) }
 {
     let Some(mut engine) = handle.take(alloc) else {
         return Status::NotOpen.number();
@@ -140,7 +140,7 @@ pub extern "C" fn ocp_slice(
 
 // Tells the count of a slice whose last instruction was done.
 fn tell(slice: Slice, count: &mut u32)
-    ensures { count.new ≡ counted slice count.old }
+    ensures { count.new ≡ count_of_slice slice count.old }
 {
     match slice.last {
         StepOutcome::NotLoaded | StepOutcome::NotRunning | StepOutcome::JournalFull => {}

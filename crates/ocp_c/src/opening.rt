@@ -8,7 +8,7 @@ ghost use Rattle.ocp_c.specs.Opening.{opening, opening_of};
 
 use crate::Status;
 use ocp_core::Engine;
-use ocp_profile::Profile;
+use ocp_profile::{MAX_APID, MAX_CAPACITY, MAX_POOL_WORDS, Profile};
 use std::alloc::Global;
 
 // An engine of a profile. Refused as `open` is.
@@ -24,13 +24,13 @@ fn open_profile(
     ensures made { (log : Log) → opening_of profile apid words capacity ≡ Ok log →
         MatchResult result (λ engine. engine.value ≡ log) (λ why. why ≡ status.Memory) }
 {
-    if apid > 2046 {
+    if apid > u32::from(MAX_APID) {
         return Err(Status::BadApid);
     }
-    if words < 1 || words > 256 {
+    if words < 1 || words > u32::from(MAX_POOL_WORDS) {
         return Err(Status::BadPoolWords);
     }
-    if capacity < 1 || capacity > 1_000_000 {
+    if capacity < 1 || capacity > MAX_CAPACITY {
         return Err(Status::BadCapacity);
     }
     let Ok(engine) = Engine::new(alloc, profile, apid as u16, words as u16, capacity) else {

@@ -1,7 +1,7 @@
 //! What an instruction did, for C.
 
 ghost use Rattle.std.specs.Prelude.{◌≡◌};
-ghost use Rattle.ocp_c.specs.Calls.{shown};
+ghost use Rattle.ocp_c.specs.Calls.{outcome_or};
 
 use ocp_core::StepOutcome;
 
@@ -16,7 +16,7 @@ pub struct Outcome {
 impl Outcome {
     /// Shows an outcome. A refusal leaves what stood there.
     pub fn show(&mut self, outcome: StepOutcome)
-        ensures { self.new ≡ shown outcome self.old }
+        ensures { self.new ≡ outcome_or outcome self.old }
     {
         match outcome {
             StepOutcome::Broke => *self = Outcome { kind: 0, fault: 0 },

@@ -7,7 +7,7 @@ use Rattle.text_lines.specs.Lines.{Line, lines_of, text_of, octets_of}
 use Rattle.ocp_ports.specs.declared.fault.ConsoleFault.{ConsoleFault}
 use Rattle.ocp_ports.specs.declared.fault.ConsoleFault.TheVariants as faults
 use Rattle.ocp_ports.specs.Printing.{error_line}
-use Rattle.ocp_lines.specs.Grammar.{Said, Nothing, Up, Send, Time, Step, Break, Unbreak, Trace, Traces, View, Memory, Pool, Journal, Drain, Work, command_of}
+use Rattle.ocp_lines.specs.Grammar.{Meaning, Nothing, Up, Send, Time, Step, Break, Unbreak, Trace, Traces, View, Memory, Pool, Journal, Drain, Work, command_of}
 use Rattle.ocp_words.specs.declared.job.Settings.{Settings}
 use Rattle.ocp_console.specs.Answering.{State, Effect, Does, Works, effect_of, response, respond}
 use Rattle.ocp_console.specs.Crew.{CrewAnswers}
@@ -37,7 +37,7 @@ stops : (ending : Result Unit ConsoleFault) (more : List ℕ) (result : Result U
 stops ending more result h = inl (h.0, h.1)
 
 -- the line that asks for the crew's work is a `work` line
-works : (state : State) (said : Said) (workers budget turns : ℕ) → effect_of state said ≡ Works workers budget turns → said ≡ Work workers budget turns
+works : (state : State) (said : Meaning) (workers budget turns : ℕ) → effect_of state said ≡ Works workers budget turns → said ≡ Work workers budget turns
 works state Nothing w b t e = absurd cc
 works state (Up o) w b t e = absurd cc
 works state (Send a r) w b t e = absurd cc
@@ -54,9 +54,9 @@ works state Journal w b t e = absurd cc
 works state Drain w b t e = absurd cc
 works state (Work x y z) w b t e = cc
 
-no_work : (state : State) (said : Option Said) (workers budget turns : ℕ) → response state said ≡ Some (Works workers budget turns) → said ≡ Some (Work workers budget turns)
+no_work : (state : State) (said : Option Meaning) (workers budget turns : ℕ) → response state said ≡ Some (Works workers budget turns) → said ≡ Some (Work workers budget turns)
 no_work state None w b t e = absurd cc
-no_work state (Some said) w b t e = ap (λ (s : Said). Some s) (works state said w b t cc)
+no_work state (Some said) w b t e = ap (λ (s : Meaning). Some s) (works state said w b t cc)
 
 not_asked : (state : State) (line : List ℕ) → ((profile : Profile) (workers budget turns : ℕ) → command_of profile line ≢ Some (Work workers budget turns)) → (workers budget turns : ℕ) → respond state line ≢ Some (Works workers budget turns)
 unfolding respond

@@ -13,14 +13,14 @@ use Rattle.ocp_debug.specs.declared.command.Command.{Command}
 use Rattle.ocp_debug.specs.declared.command.Command.TheVariants.{SetBreak, ClearBreak, SetTrace}
 use Rattle.ocp_debug.specs.declared.command.DebugFault.{DebugFault}
 use Rattle.ocp_debug.specs.Memory.{memory_at}
-use Rattle.ocp_debug.specs.Traces.{kept}
+use Rattle.ocp_debug.specs.Traces.{last_traces}
 use Rattle.ocp_debug.specs.Texts.{view_lines, trace_line}
 use Rattle.ocp_world.specs.declared.answers.EngineFault.TheVariants as fault
 use Rattle.ocp_world.specs.After.{Answer, Requested, Stepped, Commanded}
 use Rattle.ocp_world.specs.World as event
 use Rattle.ocp_core.specs.Log.{Log, empty_log, expand, world_of, answer_in, log_after}
 use Rattle.ocp_core.specs.Slice.{slice_in, slice_log}
-use Rattle.ocp_lines.specs.Grammar.{Said, Nothing, Up, Send, Time, Step, Break, Unbreak, Trace, Traces, View, Memory, Pool, Journal, Drain, Work, command_of}
+use Rattle.ocp_lines.specs.Grammar.{Meaning, Nothing, Up, Send, Time, Step, Break, Unbreak, Trace, Traces, View, Memory, Pool, Journal, Drain, Work, command_of}
 use Rattle.ocp_words.specs.declared.job.Settings.{Settings}
 use Rattle.ocp_console.specs.declared.console.Console.{Console}
 use Rattle.ocp_console.specs.Texts.{report_line, discard_line, refusal_line, step_line, break_line, unbreak_line, switch_line, memory_line, pool_line, journal_line}
@@ -130,7 +130,7 @@ on_debug state id command line =
 
 -- the lines of the trace records that are kept, the oldest first
 abbrev pub trace_lines : State → List ℕ
-trace_lines state = flat_map trace_line (kept (world_of state.engine).traces)
+trace_lines state = flat_map trace_line (last_traces (world_of state.engine).traces)
 
 -- the lines of a procedure
 abbrev pub view_text : State → ℕ → List ℕ
@@ -158,7 +158,7 @@ pub data Effect : Type 0 where
   Does : State × List ℕ → Effect
   Works : ℕ → ℕ → ℕ → Effect
 
-abbrev pub effect_of : State → Said → Effect
+abbrev pub effect_of : State → Meaning → Effect
 effect_of state Nothing = Does (state, [])
 effect_of state (Up octets) = Does (on_octets state octets)
 effect_of state (Send ack request) = Does (on_request state ack request)
@@ -177,7 +177,7 @@ effect_of state Journal = Does (state, journal_line (length (expand state.engine
 effect_of state Drain = Does (on_drain state)
 effect_of state (Work workers budget turns) = Works workers budget turns
 
-abbrev pub response : State → Option Said → Option Effect
+abbrev pub response : State → Option Meaning → Option Effect
 response state None = None
 response state (Some said) = Some (effect_of state said)
 

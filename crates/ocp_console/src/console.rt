@@ -44,7 +44,7 @@ pub(crate) enum Reply<A: Allocator = Global> {
 }
 
 impl<A: Allocator + Copy> Console<A> {
-    ghost use Rattle.ocp_lines.specs.Grammar.{IsSayable, said_by, request_of};
+    ghost use Rattle.ocp_lines.specs.Grammar.{IsSayable, meaning_of, request_of};
     ghost use Rattle.ocp_console.specs.Answering.{state_of, opening, on_octets, on_drain, on_request, trace_lines, view_text, memory_text, effect_of, Works};
     ghost use Rattle.ocp_console.specs.Crew.{HasDone, HasRefused};
     ghost use Rattle.ocp_console.specs.Texts.{work_line};
@@ -182,9 +182,9 @@ impl<A: Allocator + Copy> Console<A> {
 
     /// Does what a line says that needs no crew.
     pub fn obey(&mut self, alloc: A, command: Command<A>) -> Result<Reply<A>, AllocError>
-        requires { IsSayable self.old.profile (said_by command) }
+        requires { IsSayable self.old.profile (meaning_of command) }
         ensures effect { IfOk result (λ reply. effect_by (state_of self.new) reply ≡
-            effect_of (state_of self.old) (said_by command)) }
+            effect_of (state_of self.old) (meaning_of command)) }
         ensures kept { IfOk result
             (λ reply. IsKept (state_of self.old) (state_of self.new) reply) }
     {

@@ -29,7 +29,7 @@ use Rattle.ocp_table.specs.Deciding.{outcome_of, outcome_of_call, outcome_unheld
 use Rattle.ocp_world.specs.World.{World, Event, Request, Step, Debug, Drain, opening}
 use Rattle.ocp_world.specs.After.{Stepped, effect_of, after}
 use Rattle.ocp_world.specs.Replay.{replay}
-use Rattle.ocp_core.specs.Budget.{add_given, given, begins_anew, is_use, add_used, used, IsWithinBudget, RemainsAreCounted, FindsNothing, FaultsSpent}
+use Rattle.ocp_core.specs.Budget.{given_budget_by, given_budget, begins_anew, is_use, use_count_by, use_count, IsWithinBudget, RemainsAreCounted, FindsNothing, FaultsSpent}
 use Rattle.ocp_core.proofs.Owned.{changed_if_there, own_by, get-records_by}
 use Rattle.ocp_core.proofs.Carried.{carried_along}
 use Rattle.ocp_core.proofs.Honest.{IsNext}
@@ -87,7 +87,7 @@ module _ (q : ℕ) (o : Option Rec) (given used : ℕ) (is : IsKeptOf o given us
   kept_changed : (id : ℕ) (change : Change) → ((r : Rec) → remaining_by change r.remaining ≡ r.remaining) → IsKeptOf (own_by q (Changed id change) o) given used
   kept_changed id change leaves = elim (q == id) as (λ b. IsKeptOf (cond b (changed_if_there change o) o) given used) [ true ↦ kept_change change o given used leaves is | false ↦ is ]
 
-  kept_apart : (effect : Effect) → IsIdle effect → IsKeptOf (own_by q effect o) (add_given q effect given) (cond (begins_anew q effect) 0 used)
+  kept_apart : (effect : Effect) → IsIdle effect → IsKeptOf (own_by q effect o) (given_budget_by q effect given) (cond (begins_anew q effect) 0 used)
   kept_apart (Loaded profile id image) idle = elim (q == id) as (λ b. IsKeptOf (cond b (Some (new_record profile image)) o) (cond b 0 given) (cond b 0 used)) [ true ↦ kept_started 0 | false ↦ is ]
   kept_apart (Unloaded id) idle = elim (q == id) as (λ b. IsKeptOf (cond b None o) (cond b 0 given) (cond b 0 used)) [ true ↦ refl | false ↦ is ]
   kept_apart (Changed id (Started budget arguments)) idle = elim (q == id) as (λ b. IsKeptOf (cond b (changed_if_there (Started budget arguments) o) o) (cond b budget given) (cond b 0 used)) [ true ↦ kept_start budget arguments o | false ↦ is ]
@@ -152,7 +152,7 @@ kept_made Ended (Some r) given used able is = kept_use r.remaining given used ab
 kept_made (Faulted number) (Some r) given used able is = is
 
 abbrev IsKeptBy : ℕ → ℕ → Option Rec → ℕ → ℕ → Effect → Type 0
-IsKeptBy q id o given used effect = IsKeptOf (own_by q effect o) (add_given q effect given) (cond (begins_anew q effect) 0 (cond ((q == id) && is_use (Stepped (step_outcome effect))) (used + 1) used))
+IsKeptBy q id o given used effect = IsKeptOf (own_by q effect o) (given_budget_by q effect given) (cond (begins_anew q effect) 0 (cond ((q == id) && is_use (Stepped (step_outcome effect))) (used + 1) used))
 
 kept_turn : (q id : ℕ) (o : Option Rec) (given used : ℕ) (t : Turn) → ((q == id) ≡ true → IsAbleTurn o t) → IsKeptOf o given used → IsKeptBy q id o given used (by_turn id t)
 kept_turn q id o given used (Refuses failure) able is = elim (q == id) as (λ b. IsKeptOf o given (cond (b && is_use (Stepped (step_outcome (Kept (Failed failure))))) (used + 1) used)) [
@@ -171,18 +171,18 @@ module _ (q : ℕ) (w : World) (given used : ℕ) (is : IsKeptOf (get w.records 
   kept_step id = kept_turn q id (get w.records q) given used (turn_in w id) (λ same. subst (λ k. IsAbleTurn (get w.records k) (turn_in w id)) (sym (eqb-true q id same)) (able (get w.records id) w.pool)) is
 
   -- the record of q after an event is that after its effect
-  there : (e : Event) → IsKeptOf (own_by q (effect_of w e).on_records (get w.records q)) (add_given q (effect_of w e).on_records given) (add_used q w e used) → IsKeptOf (get (after w e).world.records q) (add_given q (effect_of w e).on_records given) (add_used q w e used)
-  there e kept = subst (λ o. IsKeptOf o (add_given q (effect_of w e).on_records given) (add_used q w e used)) (sym (get-records_by (effect_of w e).on_records w.records q)) kept
+  there : (e : Event) → IsKeptOf (own_by q (effect_of w e).on_records (get w.records q)) (given_budget_by q (effect_of w e).on_records given) (use_count_by q w e used) → IsKeptOf (get (after w e).world.records q) (given_budget_by q (effect_of w e).on_records given) (use_count_by q w e used)
+  there e kept = subst (λ o. IsKeptOf o (given_budget_by q (effect_of w e).on_records given) (use_count_by q w e used)) (sym (get-records_by (effect_of w e).on_records w.records q)) kept
 
-  kept_event : (e : Event) → IsKeptOf (get (after w e).world.records q) (add_given q (effect_of w e).on_records given) (add_used q w e used)
+  kept_event : (e : Event) → IsKeptOf (get (after w e).world.records q) (given_budget_by q (effect_of w e).on_records given) (use_count_by q w e used)
   kept_event (Step by id) = there (Step by id) (subst (IsKeptBy q id (get w.records q) given used) (sym (effect-turn w id)) (kept_step id))
   kept_event (Request by time octets) = there (Request by time octets) (kept_apart q (get w.records q) given used is (effect_of w (Request by time octets)).on_records (idle_request w (telecommand_of w.apid octets) time))
   kept_event (Debug by id command) = there (Debug by id command) (kept_apart q (get w.records q) given used is (effect_of w (Debug by id command)).on_records (idle_debug w command id))
   kept_event (Drain by time) = there (Drain by time) (kept_apart q (get w.records q) given used is (effect_of w (Drain by time)).on_records (idle_drain time w.outbox))
 
-kept : (profile : Profile) (apid words : ℕ) (es : List Event) (q : ℕ) → IsKeptOf (get (replay profile apid words es).records q) (given profile apid words es q) (used profile apid words es q)
+kept : (profile : Profile) (apid words : ℕ) (es : List Event) (q : ℕ) → IsKeptOf (get (replay profile apid words es).records q) (given_budget profile apid words es q) (use_count profile apid words es q)
 kept profile apid words es q =
-    carried_along {U = ℕ} (λ w e n. add_given q (effect_of w e).on_records n) (add_used q) (λ w e u. u) (λ w n m u. IsKeptOf (get w.records q) n m)
+    carried_along {U = ℕ} (λ w e n. given_budget_by q (effect_of w e).on_records n) (use_count_by q) (λ w e u. u) (λ w n m u. IsKeptOf (get w.records q) n m)
     (λ w n m u e is. kept_event q w n m is e) (opening profile apid words) 0 0 0 es (subst (λ o. IsKeptOf o 0 0) (sym (get-empty nat_cmp q)) refl)
 
 at_most : (o : Option Rec) (given used : ℕ) → IsKeptOf o given used → 1 ≤ given → used ≤ given
@@ -190,11 +190,11 @@ at_most None given used is some = omega arith
 at_most (Some r) given used is some = is.within some
 
 pub is_within_budget : IsWithinBudget
-is_within_budget profile apid words es q some = at_most (get (replay profile apid words es).records q) (given profile apid words es q) (used profile apid words es q) (kept profile apid words es q) some
+is_within_budget profile apid words es q some = at_most (get (replay profile apid words es).records q) (given_budget profile apid words es q) (use_count profile apid words es q) (kept profile apid words es q) some
 
 pub remains_are_counted : RemainsAreCounted
 remains_are_counted profile apid words es q r here =
-    (subst (λ o. IsKeptOf o (given profile apid words es q) (used profile apid words es q)) here (kept profile apid words es q)).counted
+    (subst (λ o. IsKeptOf o (given_budget profile apid words es q) (use_count profile apid words es q)) here (kept profile apid words es q)).counted
 
 -- ---- fault 5
 

@@ -13,12 +13,12 @@ use Rattle.ocp_world.specs.After.{Answer, Stepped, after}
 use Rattle.ocp_world.specs.Replay.{replay_from, answers}
 use Rattle.ocp_world.specs.Slice.{outcome_in}
 use Rattle.ocp_table.specs.declared.answers.StepOutcome.TheVariants as S
-use Rattle.ocp_world.specs.Settled.{RunsAlone, world_settled}
+use Rattle.ocp_world.specs.Settled.{RunsAlone, world_after_work}
 use Rattle.ocp_world.specs.Mirror.State.{IsWorld}
 use Rattle.ocp_world.specs.declared.state.State.{State}
 use Rattle.ocp_core.specs.Log.{Log, Steps, with_entry, world_of}
 use Rattle.ocp_core.specs.Marks.{last_outcome}
-use Rattle.ocp_core.specs.Tickets.{Worked, IsRun}
+use Rattle.ocp_core.specs.Tickets.{WorkContents, IsRun}
 use Rattle.ocp_core.specs.Commits.{IsFresh}
 use Rattle.ocp_core.proofs.Replays.{world_of-with_entry}
 use Rattle.ocp_core.specs.Mirror.Counted.{AreCounted}
@@ -55,7 +55,7 @@ at_least_one (suc n) some = omega arith
 
 -- ---- its instructions are events
 
-alone : (log : Log) (w : Worked) → (some : w.count ≡ 0 → ⊥) (fresh : IsFresh log w) (run : IsRun w) (found : IsOf (get (world_of log).records w.id) w.base) → RunsAlone (world_of log) w.id found.r w.count w.end
+alone : (log : Log) (w : WorkContents) → (some : w.count ≡ 0 → ⊥) (fresh : IsFresh log w) (run : IsRun w) (found : IsOf (get (world_of log).records w.id) w.base) → RunsAlone (world_of log) w.id found.r w.count w.end
 alone log w some fresh run found = record {
   held = found.held;
   running = found.running;
@@ -72,36 +72,36 @@ stands_at o base machine found stands =
 
 -- what the law says of the instructions of a run
 abbrev pub AreEvents : Type 0
-AreEvents = (v : World) (by id n : ℕ) (r : Rec) (machine : Machined) → RunsAlone v id r n machine → replay_from v (replicate n (Step by id)) ≡ world_settled id machine n v
+AreEvents = (v : World) (by id n : ℕ) (r : Rec) (machine : Machined) → RunsAlone v id r n machine → replay_from v (replicate n (Step by id)) ≡ world_after_work id machine n v
 
-pub events_settle : AreEvents → (log : Log) (by : ℕ) (w : Worked) → (w.count ≡ 0 → ⊥) → IsFresh log w → IsRun w → replay_from (world_of log) (replicate w.count (Step by w.id)) ≡ world_settled w.id w.end w.count (world_of log)
+pub events_settle : AreEvents → (log : Log) (by : ℕ) (w : WorkContents) → (w.count ≡ 0 → ⊥) → IsFresh log w → IsRun w → replay_from (world_of log) (replicate w.count (Step by w.id)) ≡ world_after_work w.id w.end w.count (world_of log)
 events_settle law log by w some fresh run =
     let found = is_of (get (world_of log).records w.id) w.base fresh in
     law (world_of log) by w.id w.count found.r w.end (alone log w some fresh run found)
 
 -- each of them is counted
-pub counted_commit : AreEvents → (log : Log) (by : ℕ) (w : Worked) → (w.count ≡ 0 → ⊥) → IsFresh log w → IsRun w → AreCounted (world_of log) (replicate w.count (Step by w.id))
+pub counted_commit : AreEvents → (log : Log) (by : ℕ) (w : WorkContents) → (w.count ≡ 0 → ⊥) → IsFresh log w → IsRun w → AreCounted (world_of log) (replicate w.count (Step by w.id))
 counted_commit law log by w some fresh run = counted_steps (world_of log) by w.id w.count (ap (λ v. v.events) (events_settle law log by w some fresh run))
 
-pub world_committed : AreEvents → (log new : Log) (by : ℕ) (w : Worked) → (w.count ≡ 0 → ⊥) → IsFresh log w → IsRun w → new ≡ with_entry log (Steps by w.id w.count) → world_of new ≡ world_settled w.id w.end w.count (world_of log)
+pub world_committed : AreEvents → (log new : Log) (by : ℕ) (w : WorkContents) → (w.count ≡ 0 → ⊥) → IsFresh log w → IsRun w → new ≡ with_entry log (Steps by w.id w.count) → world_of new ≡ world_after_work w.id w.end w.count (world_of log)
 world_committed law log new by w some fresh run is =
     ap world_of is ∙ world_of-with_entry log (Steps by w.id w.count) ∙ events_settle law log by w some fresh run
 
 module _ {A : Type 0} where
-  pub may_settle : (log : Log) (w : Worked) (s : State A) → IsWorld (world_of log) s → IsFresh log w → IsRun w → StandsAt (get s.table.records w.id) w.end
+  pub may_settle : (log : Log) (w : WorkContents) (s : State A) → IsWorld (world_of log) s → IsFresh log w → IsRun w → StandsAt (get s.table.records w.id) w.end
   may_settle log w s stands fresh run =
       subst (λ m. StandsAt (get m w.id) w.end) (sym stands.records)
       (stands_at (get (world_of log).records w.id) w.base w.end (is_of (get (world_of log).records w.id) w.base fresh) run.stands)
 
   -- the state after a commit stands for the new journal's world
-  pub IsWorld-committed : AreEvents → (log new : Log) (by : ℕ) (w : Worked) (s : State A) → (w.count ≡ 0 → ⊥) → IsFresh log w → IsRun w → new ≡ with_entry log (Steps by w.id w.count) → IsWorld (world_settled w.id w.end w.count (world_of log)) s → IsWorld (world_of new) s
+  pub IsWorld-committed : AreEvents → (log new : Log) (by : ℕ) (w : WorkContents) (s : State A) → (w.count ≡ 0 → ⊥) → IsFresh log w → IsRun w → new ≡ with_entry log (Steps by w.id w.count) → IsWorld (world_after_work w.id w.end w.count (world_of log)) s → IsWorld (world_of new) s
   IsWorld-committed law log new by w s some fresh run is stands =
       IsWorld-with_entry log new (Steps by w.id w.count) s is
       (subst (λ v. IsWorld v s) (sym (events_settle law log by w some fresh run)) stands)
 
 -- ---- the mark of its entry
 
-pub runs_answered : ((v : World) (by id n : ℕ) (r : Rec) (machine : Machined) → RunsAlone v id r n machine → answers v (replicate n (Step by id)) ≡ replicate n (Stepped S.Ran)) → (log : Log) (by : ℕ) (w : Worked) → (w.count ≡ 0 → ⊥) → IsFresh log w → IsRun w → answers (world_of log) (replicate w.count (Step by w.id)) ≡ replicate w.count (Stepped S.Ran)
+pub runs_answered : ((v : World) (by id n : ℕ) (r : Rec) (machine : Machined) → RunsAlone v id r n machine → answers v (replicate n (Step by id)) ≡ replicate n (Stepped S.Ran)) → (log : Log) (by : ℕ) (w : WorkContents) → (w.count ≡ 0 → ⊥) → IsFresh log w → IsRun w → answers (world_of log) (replicate w.count (Step by w.id)) ≡ replicate w.count (Stepped S.Ran)
 runs_answered law log by w some fresh run =
     let found = is_of (get (world_of log).records w.id) w.base fresh in
     law (world_of log) by w.id w.count found.r w.end (alone log w some fresh run found)

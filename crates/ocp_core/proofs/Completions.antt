@@ -22,7 +22,7 @@ use Rattle.ocp_table.specs.declared.control.Pending.{Pending}
 use Rattle.ocp_table.specs.declared.control.Pending.TheVariants as pending
 use Rattle.ocp_table.specs.Records.{Rec, Records}
 use Rattle.ocp_table.specs.Effects as table
-use Rattle.ocp_table.specs.Effects.{Change, Started, Pended, Quit, Stepped, Loaded, Unloaded, Changed, Drained, Kept, matches, overtaken, completed, filed_at_step_end, filed_by_change, filed_of, overtaken_of, outbox_by}
+use Rattle.ocp_table.specs.Effects.{Change, Started, Pended, Quit, Stepped, Loaded, Unloaded, Changed, Drained, Kept, matches, failed_completion, due_completion, dues_at_step_end, dues_by_change, dues_of, failed_completion_of, outbox_by}
 use Rattle.ocp_table.specs.Outbox.{HasPlaces}
 use Rattle.ocp_table.proofs.Weighing as weight
 use Rattle.ocp_table.proofs.Weighing.{entry, entry_in, waiting, waiting-empty, due, balance, files, drained_by}
@@ -37,7 +37,7 @@ use Rattle.ocp_world.specs.Requests.{has_no_place}
 use Rattle.ocp_world.specs.Drains.{drain_effect}
 use Rattle.ocp_world.specs.After.{effect_of, after, world_after, events_by}
 use Rattle.ocp_world.specs.Replay.{replay_from, replay}
-use Rattle.ocp_core.specs.Outbox.{count, is_in, number_in, pended_by, becomes_pending, all_pended, pending_numbers, due_numbers, report_numbers, reported_in, all_reported, unless_asked, silent_at_step_end, silent_by_change, silent_by, silent_in, all_silent, places, gives_one_report, EachStandsOnce, IsReportedOnceAtMost, EachGivesOneReport, PlacesSuffice}
+use Rattle.ocp_core.specs.Outbox.{count, is_in, number_in, pending_by, becomes_pending, all_pending, pending_numbers, due_numbers, report_numbers, drain_numbers, all_drain_numbers, unless_asked, silent_at_step_end, silent_by_change, silent_by, silent_in, all_silent, places, gives_one_report, EachStandsOnce, IsReportedOnceAtMost, EachGivesOneReport, PlacesSuffice}
 use Rattle.ocp_core.proofs.Carried.{carried_along}
 use Rattle.ocp_core.proofs.Numbered.{IsNumberedChange, IsNumbered, numbered_request, numbered_step, numbered_debug, counts}
 
@@ -47,12 +47,12 @@ module _ (time : ℕ) where
   abbrev gives : List Due → Bool
   gives dues = list_all (gives_one_report time) dues
 
-  gives_overtaken : (p : Pending) → gives (overtaken p) ≡ true
+  gives_overtaken : (p : Pending) → gives (failed_completion p) ≡ true
   gives_overtaken pending.Nothing = refl
   gives_overtaken (pending.Stop s from) = refl
   gives_overtaken (pending.Suspend s from) = refl
 
-  gives_completed : (from : PendingOrigin) → gives (completed from) ≡ true
+  gives_completed : (from : PendingOrigin) → gives (due_completion from) ≡ true
   gives_completed from = elim (wants_completion from.ack) as (λ b. wants_completion from.ack ≡ b → gives (cond b (record { origin = from; failure = None } ∷ []) []) ≡ true) [
     | true ↦ λ set. ap (λ b. gives_if (cond b (Some Completed) None)) set
     | false ↦ λ off. refl
@@ -64,12 +64,12 @@ module _ (time : ℕ) where
       gives_if : Option Notice → Bool
       gives_if o = (length (option_map_or (dispatch_of_notice (origin_of_due time one) []) o []) == 1) && true
 
-  gives_at_step_end : (p : Pending) (k : ℕ) → gives (filed_at_step_end p k) ≡ true
+  gives_at_step_end : (p : Pending) (k : ℕ) → gives (dues_at_step_end p k) ≡ true
   gives_at_step_end pending.Nothing k = refl
-  gives_at_step_end (pending.Stop s from) k = elim (matches s k) as (λ b. gives (cond b (completed from) []) ≡ true) [ true ↦ gives_completed from | false ↦ refl ]
-  gives_at_step_end (pending.Suspend s from) k = elim (matches s k) as (λ b. gives (cond b (completed from) []) ≡ true) [ true ↦ gives_completed from | false ↦ refl ]
+  gives_at_step_end (pending.Stop s from) k = elim (matches s k) as (λ b. gives (cond b (due_completion from) []) ≡ true) [ true ↦ gives_completed from | false ↦ refl ]
+  gives_at_step_end (pending.Suspend s from) k = elim (matches s k) as (λ b. gives (cond b (due_completion from) []) ≡ true) [ true ↦ gives_completed from | false ↦ refl ]
 
-  gives_change : (change : Change) (p : Pending) → gives (filed_by_change change p) ≡ true
+  gives_change : (change : Change) (p : Pending) → gives (dues_by_change change p) ≡ true
   gives_change (Started budget arguments) p = gives_overtaken p
   gives_change (Pended next) p = gives_overtaken p
   gives_change (Quit cause) p = gives_overtaken p
@@ -80,11 +80,11 @@ module _ (time : ℕ) where
   gives_change (Stepped outcome) p = refl
   gives_change change p = refl
 
-  gives_of : (change : Change) (o : Option Rec) → gives (filed_of change o) ≡ true
+  gives_of : (change : Change) (o : Option Rec) → gives (dues_of change o) ≡ true
   gives_of change None = refl
   gives_of change (Some r) = gives_change change r.control.pending
 
-  gives_gone : (o : Option Rec) → gives (overtaken_of o) ≡ true
+  gives_gone : (o : Option Rec) → gives (failed_completion_of o) ≡ true
   gives_gone None = refl
   gives_gone (Some r) = gives_overtaken r.control.pending
 
@@ -177,7 +177,7 @@ module _ (f : ℕ → ℕ) where
 
   -- ---- what an event makes pending
 
-  weigh-pended_of : (w : World) (id : ℕ) (o : Option Rec) (change : Change) → IsNumberedChange w o change → weigh (pended_by (Changed id change) w.events) ≡ weight.pended_there at change o
+  weigh-pended_of : (w : World) (id : ℕ) (o : Option Rec) (change : Change) → IsNumberedChange w o change → weigh (pending_by (Changed id change) w.events) ≡ weight.pended_there at change o
   weigh-pended_of w id (Some r) (Pended p) is = ap weigh (sym is.0) ∙ weigh-entry p
   weigh-pended_of w id None (Pended p) is = absurd (impossible is.1.0.1)
     where
@@ -186,7 +186,7 @@ module _ (f : ℕ → ℕ) where
   weigh-pended_of w id (Some r) change is = refl
   weigh-pended_of w id None change is = refl
 
-  weigh-pended : (w : World) (effect : table.Effect) → IsNumbered w effect → weigh (pended_by effect w.events) ≡ weight.pended_by at effect w.records
+  weigh-pended : (w : World) (effect : table.Effect) → IsNumbered w effect → weigh (pending_by effect w.events) ≡ weight.pended_by at effect w.records
   weigh-pended w (Changed id change) is = weigh-pended_of w id (get w.records id) change is
   weigh-pended w Drained is = absurd is
   weigh-pended w effect is = refl
@@ -218,11 +218,11 @@ module _ (f : ℕ → ℕ) where
   undrained w Drained is = absurd is
   undrained w (Kept why) is = refl
 
-  balanced_apart : (w : World) (effect : Effect) (ps rs ss : List ℕ) → IsNumbered w effect.on_records → Balanced w ps rs ss → Balanced (world_after effect w) (ps ++ pended_by effect.on_records w.events) (rs ++ []) (ss ++ silent_by effect.on_records w.records)
-  balanced_apart w effect ps rs ss numbered is = balanced_by w effect ps rs ss (pended_by effect.on_records w.events) [] is (weigh-pended w effect.on_records numbered) (undrained w effect.on_records numbered)
+  balanced_apart : (w : World) (effect : Effect) (ps rs ss : List ℕ) → IsNumbered w effect.on_records → Balanced w ps rs ss → Balanced (world_after effect w) (ps ++ pending_by effect.on_records w.events) (rs ++ []) (ss ++ silent_by effect.on_records w.records)
+  balanced_apart w effect ps rs ss numbered is = balanced_by w effect ps rs ss (pending_by effect.on_records w.events) [] is (weigh-pended w effect.on_records numbered) (undrained w effect.on_records numbered)
 
   -- a drain makes nothing pending, and takes the outbox
-  weigh-pended_drain : (w : World) (time : ℕ) (dues : List Due) → weigh (pended_by (drain_effect time dues).on_records w.events) ≡ weight.pended_by at (drain_effect time dues).on_records w.records
+  weigh-pended_drain : (w : World) (time : ℕ) (dues : List Due) → weigh (pending_by (drain_effect time dues).on_records w.events) ≡ weight.pended_by at (drain_effect time dues).on_records w.records
   weigh-pended_drain w time [] = refl
   weigh-pended_drain w time (d ∷ ds) = refl
 
@@ -230,12 +230,12 @@ module _ (f : ℕ → ℕ) where
   weigh-drained time [] is = refl
   weigh-drained time (d ∷ ds) is = ap weigh (reported_once time (d ∷ ds) is) ∙ weigh-due (d ∷ ds)
 
-  balanced_step : (w : World) (ps rs ss : List ℕ) (e : Event) → ((time : ℕ) → gives time w.outbox ≡ true) → Balanced w ps rs ss → Balanced (after w e).world (ps ++ becomes_pending w e) (rs ++ reported_in w e) (ss ++ silent_in w e)
+  balanced_step : (w : World) (ps rs ss : List ℕ) (e : Event) → ((time : ℕ) → gives time w.outbox ≡ true) → Balanced w ps rs ss → Balanced (after w e).world (ps ++ becomes_pending w e) (rs ++ drain_numbers w e) (ss ++ silent_in w e)
   balanced_step w ps rs ss (world.Request by time octets) one is = balanced_apart w (effect_of w (world.Request by time octets)) ps rs ss (numbered_request w (telecommand_of w.apid octets) time) is
   balanced_step w ps rs ss (world.Step by id) one is = balanced_apart w (effect_of w (world.Step by id)) ps rs ss (numbered_step w id) is
   balanced_step w ps rs ss (world.Debug by id c) one is = balanced_apart w (effect_of w (world.Debug by id c)) ps rs ss (numbered_debug w c id) is
   balanced_step w ps rs ss (world.Drain by time) one is =
-      balanced_by w (drain_effect time w.outbox) ps rs ss (becomes_pending w (world.Drain by time)) (reported_in w (world.Drain by time)) is
+      balanced_by w (drain_effect time w.outbox) ps rs ss (becomes_pending w (world.Drain by time)) (drain_numbers w (world.Drain by time)) is
       (weigh-pended_drain w time w.outbox) (weigh-drained time w.outbox (one time))
 
 -- ---- over every list of events
@@ -249,7 +249,7 @@ abbrev add_pended : World → Event → List ℕ → List ℕ
 add_pended w e ns = ns ++ becomes_pending w e
 
 abbrev add_reported : World → Event → List ℕ → List ℕ
-add_reported w e ns = ns ++ reported_in w e
+add_reported w e ns = ns ++ drain_numbers w e
 
 abbrev add_silent : World → Event → List ℕ → List ℕ
 add_silent w e ns = ns ++ silent_in w e
@@ -264,17 +264,17 @@ pub each_gives_one_report : EachGivesOneReport
 each_gives_one_report profile apid words es time = along Gives gives_step (opening profile apid words) es (λ t. refl) time
 
 module _ (f : ℕ → ℕ) where
-  balanced : (profile : Profile) (apid words : ℕ) (es : List Event) → Balanced f (replay profile apid words es) (all_pended profile apid words es) (all_reported profile apid words es) (all_silent profile apid words es)
+  balanced : (profile : Profile) (apid words : ℕ) (es : List Event) → Balanced f (replay profile apid words es) (all_pending profile apid words es) (all_drain_numbers profile apid words es) (all_silent profile apid words es)
   balanced profile apid words es = (carried_along add_pended add_reported add_silent (λ w ps rs ss. Gives w × Balanced f w ps rs ss)
       (λ w ps rs ss e is. (gives_step w e is.0, balanced_step f w ps rs ss e is.0 is.1)) (opening profile apid words) [] [] [] es
       ((λ t. refl), ap (λ n. n + 0) (waiting-empty (at f)))).1
 
-  weigh-places : (profile : Profile) (apid words : ℕ) (es : List Event) → weigh f (places profile apid words es) ≡ weigh f (all_pended profile apid words es)
+  weigh-places : (profile : Profile) (apid words : ℕ) (es : List Event) → weigh f (places profile apid words es) ≡ weigh f (all_pending profile apid words es)
   weigh-places profile apid words es =
       let w = replay profile apid words es in
       let ps = pending_numbers w.records in
       let ds = due_numbers w.outbox in
-      let rs = all_reported profile apid words es in
+      let rs = all_drain_numbers profile apid words es in
       let ss = all_silent profile apid words es in
       let last = weigh-append f (ps ++ ds ++ rs) ss in
       let third = weigh-append f (ps ++ ds) rs in
@@ -314,7 +314,7 @@ module _ (n : ℕ) where
       (λ own. subst (λ x. Fresh next (ns ++ x)) (sym own.0) (subst (λ k. Fresh k (ns ++ w.events ∷ [])) (sym own.1) (fresh_push w.events ns (count n (ns ++ w.events ∷ [])) (sum_by_push is_n ns w.events) fresh)))
       (counts w e)
 
-  few : (profile : Profile) (apid words : ℕ) (es : List Event) → count n (all_pended profile apid words es) ≤ 1
+  few : (profile : Profile) (apid words : ℕ) (es : List Event) → count n (all_pending profile apid words es) ≤ 1
   few profile apid words es = (carried_along {T = ℕ} {U = ℕ} add_pended (λ w e t. t) (λ w e u. u) (λ w ns t u. Fresh w.events ns) (λ w ns t u e is. fresh_step w ns e is) (opening profile apid words) [] 0 0 es (omega arith, λ later. refl)).0
 
   once : (ns : List ℕ) → count n ns ≤ 1 → count n ns ≡ cond (is_in n ns) 1 0
@@ -331,7 +331,7 @@ module _ (n : ℕ) where
       other k x one rest = let same = rest (omega arith) in omega arith
 
 pub each_stands_once : EachStandsOnce
-each_stands_once profile apid words es n = weigh-places (is_n n) profile apid words es ∙ once n (all_pended profile apid words es) (few n profile apid words es)
+each_stands_once profile apid words es n = weigh-places (is_n n) profile apid words es ∙ once n (all_pending profile apid words es) (few n profile apid words es)
 
 pub is_reported_once_at_most : IsReportedOnceAtMost
 is_reported_once_at_most profile apid words es n = let is = balanced (is_n n) profile apid words es in let one = few n profile apid words es in omega (arith, is, one)

@@ -26,7 +26,7 @@ use Rattle.ocp_table.specs.declared.answers.InstructionOutcome.TheVariants.{Brok
 use Rattle.ocp_table.specs.declared.answers.TheConstants.{BUDGET_SPENT}
 use Rattle.ocp_table.specs.Budgets.{is_spent}
 use Rattle.ocp_table.specs.Records.{Rec, Records}
-use Rattle.ocp_table.specs.Effects.{Stepped, records_by, pool_by, filed_by, filed_of, outbox_by, step_outcome}
+use Rattle.ocp_table.specs.Effects.{Stepped, records_by, pool_by, dues_by, dues_of, outbox_by, step_outcome}
 use Rattle.obcp_types.specs.declared.pending.Due.{Due}
 use Rattle.ocp_table.specs.Deciding.{outcome_unheld, outcome_of, outcome_of_call}
 use Rattle.ocp_debug.specs.declared.trace.Trace.{Trace}
@@ -134,11 +134,11 @@ quiet_pool id (Makes (Called call)) quiet pool = cc
 quiet_pool id (Makes outcome) quiet pool = refl
 
 -- it files no completion
-quiet_files : (id : ℕ) (t : Turn) → IsQuiet id t → (m : Records) → filed_by (by_turn id t) m ≡ []
+quiet_files : (id : ℕ) (t : Turn) → IsQuiet id t → (m : Records) → dues_by (by_turn id t) m ≡ []
 quiet_files id (Refuses failure) quiet m = refl
 quiet_files id (Makes outcome) quiet m = quiet_filed outcome quiet (get m id)
   where
-    quiet_filed : (outcome : InstructionOutcome) → IsQuiet id (Makes outcome) → (o : Option Rec) → filed_of (Stepped outcome) o ≡ []
+    quiet_filed : (outcome : InstructionOutcome) → IsQuiet id (Makes outcome) → (o : Option Rec) → dues_of (Stepped outcome) o ≡ []
     quiet_filed outcome quiet None = refl
     quiet_filed Broke quiet (Some r) = refl
     quiet_filed Ran quiet (Some r) = refl
@@ -191,11 +191,11 @@ traces-at id (Refuses failure) m n same = refl
 traces-at id (Makes outcome) m n same = ap (traces_by_change id (Stepped outcome)) same
 
 -- so does what it files
-files-at : (id : ℕ) (t : Turn) (m n : Records) → get m id ≡ get n id → filed_by (by_turn id t) m ≡ filed_by (by_turn id t) n
+files-at : (id : ℕ) (t : Turn) (m n : Records) → get m id ≡ get n id → dues_by (by_turn id t) m ≡ dues_by (by_turn id t) n
 files-at id (Refuses failure) m n same = refl
-files-at id (Makes outcome) m n same = ap (filed_of (Stepped outcome)) same
+files-at id (Makes outcome) m n same = ap (dues_of (Stepped outcome)) same
 
-outbox_by-turn : (id : ℕ) (t : Turn) (m : Records) (due : List Due) → outbox_by (by_turn id t) m due ≡ due ++ filed_by (by_turn id t) m
+outbox_by-turn : (id : ℕ) (t : Turn) (m : Records) (due : List Due) → outbox_by (by_turn id t) m due ≡ due ++ dues_by (by_turn id t) m
 outbox_by-turn id (Refuses failure) m due = refl
 outbox_by-turn id (Makes outcome) m due = refl
 
@@ -229,19 +229,19 @@ module _ (i j : ℕ) (apart : i ≢ j) (t u : Turn) where
   pool-commute (inr quiet) pool = quiet_pool j u quiet (pool_by (by_turn i t) pool) ∙ ap (pool_by (by_turn i t)) (sym (quiet_pool j u quiet pool))
 
   -- each files what it files in the records before both
-  outbox-twice : (k l : ℕ) (a b : Turn) → l ≢ k → (m : Records) (due : List Due) → outbox_by (by_turn l b) (records_by (by_turn k a) m) (outbox_by (by_turn k a) m due) ≡ due ++ filed_by (by_turn k a) m ++ filed_by (by_turn l b) m
+  outbox-twice : (k l : ℕ) (a b : Turn) → l ≢ k → (m : Records) (due : List Due) → outbox_by (by_turn l b) (records_by (by_turn k a) m) (outbox_by (by_turn k a) m due) ≡ due ++ dues_by (by_turn k a) m ++ dues_by (by_turn l b) m
   outbox-twice k l a b other m due =
       outbox_by-turn l b (records_by (by_turn k a) m) (outbox_by (by_turn k a) m due)
-      ∙ ap (λ d. d ++ filed_by (by_turn l b) (records_by (by_turn k a) m)) (outbox_by-turn k a m due)
-      ∙ ap (λ x. due ++ filed_by (by_turn k a) m ++ x) (files-at l b (records_by (by_turn k a) m) m (get-other m l k a other))
+      ∙ ap (λ d. d ++ dues_by (by_turn l b) (records_by (by_turn k a) m)) (outbox_by-turn k a m due)
+      ∙ ap (λ x. due ++ dues_by (by_turn k a) m ++ x) (files-at l b (records_by (by_turn k a) m) m (get-other m l k a other))
 
   outbox-commute : IsQuiet i t ⊎ IsQuiet j u → (m : Records) (due : List Due) → outbox_by (by_turn j u) (records_by (by_turn i t) m) (outbox_by (by_turn i t) m due) ≡ outbox_by (by_turn i t) (records_by (by_turn j u) m) (outbox_by (by_turn j u) m due)
   outbox-commute quiet m due =
       outbox-twice i j t u (λ e. apart (sym e)) m due
-      ∙ files-commute due (filed_by (by_turn i t) m) (filed_by (by_turn j u) m) (nothing quiet)
+      ∙ files-commute due (dues_by (by_turn i t) m) (dues_by (by_turn j u) m) (nothing quiet)
       ∙ sym (outbox-twice j i u t apart m due)
     where
-      nothing : IsQuiet i t ⊎ IsQuiet j u → (filed_by (by_turn i t) m ≡ []) ⊎ (filed_by (by_turn j u) m ≡ [])
+      nothing : IsQuiet i t ⊎ IsQuiet j u → (dues_by (by_turn i t) m ≡ []) ⊎ (dues_by (by_turn j u) m ≡ [])
       nothing (inl quiet) = inl (quiet_files i t quiet m)
       nothing (inr quiet) = inr (quiet_files j u quiet m)
 

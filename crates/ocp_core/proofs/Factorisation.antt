@@ -4,7 +4,7 @@ use Rattle.std.specs.Prelude.{◌==◌}
 use Rattle.std.specs.Ordering.{nat_cmp}
 use Rattle.std.specs.FinMap.{get, get-empty}
 use Rattle.ocp_profile.specs.declared.profile.Profile.{Profile}
-use Rattle.bpf_step.specs.Machine.{State, started}
+use Rattle.bpf_step.specs.Machine.{State, machine_at_start}
 use Rattle.ocp_table.specs.declared.answers.InstructionOutcome.{InstructionOutcome}
 use Rattle.ocp_table.specs.declared.answers.InstructionOutcome.TheVariants.{Ran, Called}
 use Rattle.ocp_table.specs.Records.{Rec, Records}
@@ -40,10 +40,10 @@ IsAlone-changed : (profile : Profile) (change : Change) (o : Option Rec) (image 
 IsAlone-changed profile change None None own missing = missing
 IsAlone-changed profile change None (Some image) own is = elim is [ ]
 IsAlone-changed profile change (Some r) None own is = elim is [ ]
-IsAlone-changed profile change (Some r) (Some image) own (there e) = there (machine_by-own change r.image r.machine ∙ ap (λ s. alone_from r.image s (own_by_change change)) e ∙ sym (alone_from-append r.image (started profile []) own (own_by_change change)))
+IsAlone-changed profile change (Some r) (Some image) own (there e) = there (machine_by-own change r.image r.machine ∙ ap (λ s. alone_from r.image s (own_by_change change)) e ∙ sym (alone_from-append r.image (machine_at_start profile []) own (own_by_change change)))
 
 IsAlone-own_by : (profile : Profile) (m : Records) (pool : List ℕ) (q : ℕ) (effect : Effect) (o : Option Rec) (image : Option (List ℕ)) (own : List Own) → IsHonest profile m pool effect → IsAlone profile o image own → IsAlone profile (own_by q effect o) (add_image q effect image) (add_own q effect own)
-IsAlone-own_by profile m pool q (Loaded by id code) o image own by-is is = elim (q == id) as (λ b. IsAlone profile (cond b (Some (new_record by code)) o) (cond b (Some code) image) (cond b [] own)) [ true ↦ there (ap (λ p. started p []) by-is) | false ↦ is ]
+IsAlone-own_by profile m pool q (Loaded by id code) o image own by-is is = elim (q == id) as (λ b. IsAlone profile (cond b (Some (new_record by code)) o) (cond b (Some code) image) (cond b [] own)) [ true ↦ there (ap (λ p. machine_at_start p []) by-is) | false ↦ is ]
 IsAlone-own_by profile m pool q (Unloaded id) o image own honest is = elim (q == id) as (λ b. IsAlone profile (cond b None o) (cond b None image) own) [ true ↦ missing | false ↦ is ]
 IsAlone-own_by profile m pool q (Changed id change) o image own honest is = elim (q == id) as (λ b. IsAlone profile (cond b (changed_if_there change o) o) image (cond b (own ++ own_by_change change) own)) [ true ↦ IsAlone-changed profile change o image own is | false ↦ is ]
 IsAlone-own_by profile m pool q (Kept why) o image own honest is = is

@@ -24,7 +24,7 @@ use Rattle.ocp_table.specs.declared.control.Pending.TheVariants as pending
 use Rattle.ocp_table.specs.declared.answers.InstructionOutcome.{InstructionOutcome}
 use Rattle.ocp_table.specs.Records.{Rec, Records}
 use Rattle.ocp_table.specs.Effects.{Effect, Loaded, Changed, Change, Stepped, Sent}
-use Rattle.ocp_table.specs.RequestTable.{Directive, Load, Unload, Activate, Stop, Suspend, Resume, Abort, Communicate, Step, Decision, Loads, Unloads, Changes, Steps, Fails, transition, sent, pended}
+use Rattle.ocp_table.specs.RequestTable.{Directive, Load, Unload, Activate, Stop, Suspend, Resume, Abort, Communicate, Step, Decision, Loads, Unloads, Changes, Steps, Fails, transition, communication, postponement}
 use Rattle.ocp_table.specs.Deciding.{effect_in, effect_by, effect_of_load, effect_of_step, outcome_in, outcome_at, is_full, status_of, words_of, pending_of}
 use Rattle.ocp_debug.specs.declared.command.Command.TheVariants.{SetBreak, ClearBreak, SetTrace}
 use Rattle.ocp_debug.specs.declared.command.Command as debug
@@ -74,10 +74,10 @@ IsOn profile pool (Step words) = words ≡ pool
 IsOn profile pool directive = Unit {0}
 
 module _ (profile : Profile) (pool : List ℕ) where
-  fair_words : (o : Option Rec) (words : List ℕ) (there : ℕ) → IsFair profile o pool (sent words there)
+  fair_words : (o : Option Rec) (words : List ℕ) (there : ℕ) → IsFair profile o pool (communication words there)
   fair_words o words there = elim (nat_le (there + length words) MAX_MAILBOX_WORDS) as (λ b. IsFair profile o pool (cond b (Changes (Sent words)) (Fails MailboxFull))) [ true ↦ tt | false ↦ tt ]
 
-  fair_pended : (o : Option Rec) (full : Bool) (p : Pending) → IsFair profile o pool (pended full p)
+  fair_pended : (o : Option Rec) (full : Bool) (p : Pending) → IsFair profile o pool (postponement full p)
   fair_pended o true p = tt
   fair_pended o false p = tt
 

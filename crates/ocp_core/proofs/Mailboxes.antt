@@ -17,7 +17,7 @@ use Rattle.ocp_table.specs.Effects.{Effect, Loaded, Unloaded, Changed, Kept, Dra
 use Rattle.ocp_world.specs.World.{World, Event, opening}
 use Rattle.ocp_world.specs.Replay.{replay}
 use Rattle.ocp_core.specs.Pool.{IsAnswered}
-use Rattle.ocp_core.specs.Mailbox.{sent_by, taken_by, taken_by_call, taken_by_outcome, since_start, sent, taken, WordsComeInOrder, NoneIsLeft}
+use Rattle.ocp_core.specs.Mailbox.{sent_words_by, taken_words_by, taken_words_by_call, taken_words_by_outcome, since_start, sent_words, taken_words, WordsComeInOrder, NoneIsLeft}
 use Rattle.ocp_core.proofs.Owned.{changed_if_there, own_by, get-records_by}
 use Rattle.ocp_core.proofs.Honest.{IsNext, IsHonest, IsHonestChange}
 use Rattle.ocp_core.proofs.Carried.{carried}
@@ -75,18 +75,18 @@ abbrev IsPosted : Option Rec → List ℕ → List ℕ → Type 0
 IsPosted None ts ss = Unit {0}
 IsPosted (Some r) ts ss = ts ++ r.mailbox ≡ ss
 
-posted_call : (call : Call) (mailbox ts ss : List ℕ) → IsOldest call mailbox → ts ++ mailbox ≡ ss → taken_by_call call ts ++ mailbox_after call mailbox ≡ ss
+posted_call : (call : Call) (mailbox ts ss : List ℕ) → IsOldest call mailbox → ts ++ mailbox ≡ ss → taken_words_by_call call ts ++ mailbox_after call mailbox ≡ ss
 posted_call (NextParam None) [] ts ss old is = is
 posted_call (NextParam None) (x ∷ mailbox) ts ss old is = cc
 posted_call (NextParam (Some word)) [] ts ss old is = cc
 posted_call (NextParam (Some word)) (x ∷ mailbox) ts ss old is = append_assoc ts (word ∷ []) mailbox ∙ ap (λ y. ts ++ y ∷ mailbox) (cc) ∙ is
 posted_call call mailbox ts ss old is = is
 
-posted_outcome : (outcome : InstructionOutcome) (r : Rec) (pool ts ss : List ℕ) → IsNext (Some r) pool outcome → ts ++ r.mailbox ≡ ss → taken_by_outcome outcome ts ++ mailbox_by_outcome outcome r.mailbox ≡ ss
+posted_outcome : (outcome : InstructionOutcome) (r : Rec) (pool ts ss : List ℕ) → IsNext (Some r) pool outcome → ts ++ r.mailbox ≡ ss → taken_words_by_outcome outcome ts ++ mailbox_by_outcome outcome r.mailbox ≡ ss
 posted_outcome (Called call) r pool ts ss h is = posted_call call r.mailbox ts ss (IsOldest-answered r pool call (answered (Some r) pool call h)) is
 posted_outcome outcome r pool ts ss h is = is
 
-posted_change : (change : Change) (o : Option Rec) (pool ts ss : List ℕ) → IsHonestChange o pool change → IsPosted o ts ss → IsPosted (changed_if_there change o) (taken_by change ts) (sent_by change ss)
+posted_change : (change : Change) (o : Option Rec) (pool ts ss : List ℕ) → IsHonestChange o pool change → IsPosted o ts ss → IsPosted (changed_if_there change o) (taken_words_by change ts) (sent_words_by change ss)
 posted_change change None pool ts ss h is = tt
 posted_change (Started budget arguments) (Some r) pool ts ss h is = refl
 posted_change (Sent words) (Some r) pool ts ss h is = sym (append_assoc ts r.mailbox words) ∙ ap (λ xs. xs ++ words) is
@@ -94,20 +94,20 @@ posted_change (Stepped outcome) (Some r) pool ts ss h is = posted_outcome outcom
 posted_change change (Some r) pool ts ss h is = is
 
 module _ (q : ℕ) where
-  posted_by : (w : World) (effect : Effect) (ts ss : List ℕ) → IsHonest w.profile w.records w.pool effect → IsPosted (get w.records q) ts ss → IsPosted (own_by q effect (get w.records q)) (since_start taken_by q effect ts) (since_start sent_by q effect ss)
+  posted_by : (w : World) (effect : Effect) (ts ss : List ℕ) → IsHonest w.profile w.records w.pool effect → IsPosted (get w.records q) ts ss → IsPosted (own_by q effect (get w.records q)) (since_start taken_words_by q effect ts) (since_start sent_words_by q effect ss)
   posted_by w (Loaded profile id image) ts ss h is = elim (q == id) as (λ b. IsPosted (cond b (Some (new_record profile image)) (get w.records q)) (cond b [] ts) (cond b [] ss)) [ true ↦ refl | false ↦ is ]
   posted_by w (Unloaded id) ts ss h is = elim (q == id) as (λ b. IsPosted (cond b None (get w.records q)) (cond b [] ts) (cond b [] ss)) [ true ↦ tt | false ↦ is ]
-  posted_by w (Changed id change) ts ss h is = elim (q == id) as (λ b. (q == id) ≡ b → IsPosted (cond b (changed_if_there change (get w.records q)) (get w.records q)) (cond b (taken_by change ts) ts) (cond b (sent_by change ss) ss)) [
+  posted_by w (Changed id change) ts ss h is = elim (q == id) as (λ b. (q == id) ≡ b → IsPosted (cond b (changed_if_there change (get w.records q)) (get w.records q)) (cond b (taken_words_by change ts) ts) (cond b (sent_words_by change ss) ss)) [
     | true ↦ λ e. posted_change change (get w.records q) w.pool ts ss (subst (λ k. IsHonestChange (get w.records k) w.pool change) (sym (eqb-true q id e)) h) is
     | false ↦ λ e. is
   ] refl
   posted_by w (Kept why) ts ss h is = is
   posted_by w Drained ts ss h is = is
 
-  posted : (profile : Profile) (apid words : ℕ) (es : List Event) → IsPosted (get (replay profile apid words es).records q) (taken profile apid words es q) (sent profile apid words es q)
+  posted : (profile : Profile) (apid words : ℕ) (es : List Event) → IsPosted (get (replay profile apid words es).records q) (taken_words profile apid words es q) (sent_words profile apid words es q)
   posted profile apid words es =
-      carried (since_start taken_by q) (since_start sent_by q) (λ w ts ss. IsPosted (get w.records q) ts ss)
-      (λ w ts ss effect h is. subst (λ o. IsPosted o (since_start taken_by q effect.on_records ts) (since_start sent_by q effect.on_records ss)) (sym (get-records_by effect.on_records w.records q)) (posted_by w effect.on_records ts ss h is))
+      carried (since_start taken_words_by q) (since_start sent_words_by q) (λ w ts ss. IsPosted (get w.records q) ts ss)
+      (λ w ts ss effect h is. subst (λ o. IsPosted o (since_start taken_words_by q effect.on_records ts) (since_start sent_words_by q effect.on_records ss)) (sym (get-records_by effect.on_records w.records q)) (posted_by w effect.on_records ts ss h is))
       (opening profile apid words) [] [] es (subst (λ o. IsPosted o [] []) (sym (get-empty nat_cmp q)) tt)
 
 -- ---- the next word
@@ -151,9 +151,9 @@ module _ (o : Option Rec) (pool ts ss : List ℕ) (word : Option ℕ) (next : Is
 pub words_come_in_order : WordsComeInOrder
 words_come_in_order profile apid words es by q word does =
     let w = replay profile apid words es in
-    in_order (get w.records q) w.pool (taken profile apid words es q) (sent profile apid words es q) word (next_of w by q (Called (NextParam word)) does) (posted q profile apid words es)
+    in_order (get w.records q) w.pool (taken_words profile apid words es q) (sent_words profile apid words es q) word (next_of w by q (Called (NextParam word)) does) (posted q profile apid words es)
 
 pub none_is_left : NoneIsLeft
 none_is_left profile apid words es by q word does =
     let w = replay profile apid words es in
-    none_exactly (get w.records q) w.pool (taken profile apid words es q) (sent profile apid words es q) word (next_of w by q (Called (NextParam word)) does) (posted q profile apid words es)
+    none_exactly (get w.records q) w.pool (taken_words profile apid words es q) (sent_words profile apid words es q) word (next_of w by q (Called (NextParam word)) does) (posted q profile apid words es)

@@ -32,7 +32,7 @@ use Rattle.ocp_world.specs.Requests.{start_effect, command_effect, command_of, s
 use Rattle.ocp_world.specs.Instructions.{instruction_effect, debug_effect}
 use Rattle.ocp_world.specs.Drains.{drain_effect}
 use Rattle.ocp_world.specs.After.{effect_of, events_by, is_done}
-use Rattle.ocp_core.specs.Outbox.{number_in, pended_by}
+use Rattle.ocp_core.specs.Outbox.{number_in, pending_by}
 
 abbrev pub IsNumberedChange : World → Option Rec → Change → Type 0
 IsNumberedChange w o (Pended p) = (number_in p ≡ w.events ∷ []) × (IsThere o × (has_no_place w ≡ false))
@@ -104,7 +104,7 @@ module _ (w : World) where
 
 -- an event makes nothing pending, or its own number, and then is counted
 abbrev pub Counts : ℕ → Effect → Type 0
-Counts n effect = ((pended_by effect.on_records n ≡ []) × (n ≤ events_by effect.reply n)) ⊎ ((pended_by effect.on_records n ≡ n ∷ []) × (events_by effect.reply n ≡ n + 1))
+Counts n effect = ((pending_by effect.on_records n ≡ []) × (n ≤ events_by effect.reply n)) ⊎ ((pending_by effect.on_records n ≡ n ∷ []) × (events_by effect.reply n ≡ n + 1))
 
 module _ (n : ℕ) where
   counts_start : (origin : Origin) (answer : List Report) (effect : table.Effect) → Counts n (start_effect origin answer effect)

@@ -17,7 +17,7 @@ use Rattle.ocp_core.specs.Log.{Log, world_of, is_full, with_entry, entry_for, fu
 use Rattle.ocp_core.specs.declared.answers.RunRefusal.{RunRefusal}
 use Rattle.ocp_core.specs.declared.answers.RunRefusal.TheVariants as run
 use Rattle.ocp_world.specs.Answers.{Answers}
-use Rattle.ocp_core.specs.Running.{log_after_all, finds_full, HasRoom, TakesMemory, IsRefusedBy, IsDone, Applies, replied, StopsAt}
+use Rattle.ocp_core.specs.Running.{log_after_all, finds_full, HasRoom, TakesMemory, IsRefusedBy, IsDone, Applies, reply_of, StopsAt}
 use Rattle.ocp_core.proofs.Replays.{world_of-with_entry, replay_from-append, answers-append}
 use Rattle.ocp_core.proofs.Journaling.{refused_log}
 
@@ -150,7 +150,7 @@ module _ (keeps : (w : World) (e : Event) → is_accepted (after w e).answer ≡
       let stays : new ≡ log_after log e = same ∙ refused_log log log refl e (sym (ap is_accepted done.0)) in
       record { answer = done.0; world = world_done keeps log e new stays done.1; journal = stays; room = done.1 }
 
-  pub replied_so : (A : Type 0) → full_answer e ≢ (after (world_of log) e).answer → full_answer e ≡ Requested (Err engine.JournalFull) → (is_accepted (answer_in log e) ≡ true → TakesMemory log e) → (r : Result (List (List ℕ)) EngineFault) → Answers r (answer_in log e) → OnOk r (new ≡ log_after log e) → OnErr r (new ≡ log) → Applies {A = A} log new e (replied r)
+  pub replied_so : (A : Type 0) → full_answer e ≢ (after (world_of log) e).answer → full_answer e ≡ Requested (Err engine.JournalFull) → (is_accepted (answer_in log e) ≡ true → TakesMemory log e) → (r : Result (List (List ℕ)) EngineFault) → Answers r (answer_in log e) → OnOk r (new ≡ log_after log e) → OnErr r (new ≡ log) → Applies {A = A} log new e (reply_of r)
   replied_so A never full takes (Ok reports) told ok err =
       let done = done_event log e (Requested (Ok reports)) (sym told) refl in
       record { answer = done.0; world = world_done keeps log e new ok done.1; journal = ok; room = done.1 }

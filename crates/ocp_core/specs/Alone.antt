@@ -3,7 +3,7 @@
 use Rattle.std.specs.Prelude.{◌≡◌, ℕ, List, [], ◌∷◌, Option, Some, None}
 use Rattle.std.specs.FinMap.{get}
 use Rattle.ocp_profile.specs.declared.profile.Profile.{Profile}
-use Rattle.bpf_step.specs.Machine.{State, started, restarted}
+use Rattle.bpf_step.specs.Machine.{State, machine_at_start, machine_at_restart}
 use Rattle.bpf_step.specs.Step.{one_step}
 use Rattle.bpf_step.specs.Calls.{state_after_engine_call}
 use Rattle.ocp_table.specs.Effects.{machine_after}
@@ -15,7 +15,7 @@ use Rattle.ocp_core.specs.Own.{Own, Start, Local, Call, own_events, image_after}
 -- a start begins anew, with a work region as large as before; an instruction is the image's at the
 -- machine's place; an engine call puts its answers in, and the place goes one slot on
 abbrev pub state_by : List ℕ → Own → State → State
-state_by image (Start arguments) s = restarted arguments s
+state_by image (Start arguments) s = machine_at_restart arguments s
 state_by image Local s = machine_after (one_step image s) s
 state_by image (Call number r0 r1) s = state_after_engine_call s r0 r1
 
@@ -25,7 +25,7 @@ alone_from image s (event ∷ events) = alone_from image (state_by image event s
 
 -- the machine of an image after its own events, from a new machine of a profile
 abbrev pub alone : Profile → List ℕ → List Own → State
-alone profile image own = alone_from image (started profile []) own
+alone profile image own = alone_from image (machine_at_start profile []) own
 
 -- where there is an image
 abbrev pub alone_if : Profile → Option (List ℕ) → List Own → Option State

@@ -18,16 +18,17 @@ use Rattle.ocp_core.specs.History.{gather_along, Does}
 -- ---- the budget that was given
 
 -- that of the last activation that was done, 0 where it had none; a load and an unload leave none
-abbrev pub add_given : ℕ → Effect → ℕ → ℕ
-add_given id (Loaded profile other image) given = if id == other then 0 else given
-add_given id (Unloaded other) given = if id == other then 0 else given
-add_given id (Changed other (Started budget arguments)) given =
+abbrev pub given_budget_by : ℕ → Effect → ℕ → ℕ
+given_budget_by id (Loaded profile other image) given = if id == other then 0 else given
+given_budget_by id (Unloaded other) given = if id == other then 0 else given
+given_budget_by id (Changed other (Started budget arguments)) given =
     if id == other then budget else given
-add_given id effect given = given
+given_budget_by id effect given = given
 
-abbrev pub given : Profile → ℕ → ℕ → List Event → ℕ → ℕ
-given profile apid words es id =
-    gather_along (λ w e. add_given id (effect_of w e).on_records) 0 (opening profile apid words) es
+abbrev pub given_budget : Profile → ℕ → ℕ → List Event → ℕ → ℕ
+given_budget profile apid words es id =
+    gather_along (λ w e. given_budget_by id (effect_of w e).on_records) 0
+    (opening profile apid words) es
 
 -- ---- the instructions that were done since then
 
@@ -51,14 +52,15 @@ abbrev pub uses : ℕ → World → Event → Bool
 uses id w (Step by other) = (id == other) && is_use (after w (Step by other)).answer
 uses id w event = false
 
-abbrev pub add_used : ℕ → World → Event → ℕ → ℕ
-add_used id w e used =
+abbrev pub use_count_by : ℕ → World → Event → ℕ → ℕ
+use_count_by id w e used =
     if begins_anew id (effect_of w e).on_records then 0
     else if uses id w e then used + 1 else used
 
 -- how many events of the procedure were so answered since its last activation
-abbrev pub used : Profile → ℕ → ℕ → List Event → ℕ → ℕ
-used profile apid words es id = gather_along (add_used id) 0 (opening profile apid words) es
+abbrev pub use_count : Profile → ℕ → ℕ → List Event → ℕ → ℕ
+use_count profile apid words es id =
+    gather_along (use_count_by id) 0 (opening profile apid words) es
 
 -- ---- the laws
 
@@ -67,8 +69,8 @@ used profile apid words es id = gather_along (add_used id) 0 (opening profile ap
 abbrev pub IsWithinBudget : Type 0
 IsWithinBudget =
     (profile : Profile) (apid words : ℕ) (es : List Event) (id : ℕ) →
-    1 ≤ given profile apid words es id →
-    used profile apid words es id ≤ given profile apid words es id
+    1 ≤ given_budget profile apid words es id →
+    use_count profile apid words es id ≤ given_budget profile apid words es id
 
 -- what remains to a procedure is what it was given less what it used, and without a budget none
 abbrev pub RemainsAreCounted : Type 0
@@ -76,7 +78,7 @@ RemainsAreCounted =
     (profile : Profile) (apid words : ℕ) (es : List Event) (id : ℕ) (r : Rec) →
     get (replay profile apid words es).records id ≡ Some r →
     r.remaining ≡
-    less (used profile apid words es id) (budget_of (given profile apid words es id))
+    less (use_count profile apid words es id) (budget_of (given_budget profile apid words es id))
 
 -- the next instruction of a procedure finds its budget spent: it runs, and no breakpoint holds it
 pub record FindsNothing (o : Option Rec) : Type 0 where

@@ -2,26 +2,26 @@
 use Rattle.std.specs.Prelude.{◌≡◌, ◌≢◌, ℕ, true, false, Some}
 use Rattle.std.specs.FinMap.{get}
 use Rattle.ocp_table.specs.Snapshots.{snapshot_at}
-use Rattle.ocp_world.specs.Settled.{world_settled}
+use Rattle.ocp_world.specs.Settled.{world_after_work}
 use Rattle.ocp_core.specs.declared.answers.CommitOutcome.{CommitOutcome}
 use Rattle.ocp_core.specs.declared.answers.CommitOutcome.TheVariants.{Empty, Stale, JournalFull, Committed}
 use Rattle.ocp_core.specs.Log.{Log, Steps, world_of, is_full, with_entry}
-use Rattle.ocp_core.specs.Tickets.{Worked}
+use Rattle.ocp_core.specs.Tickets.{WorkContents}
 
 -- the procedure is loaded and runs, and its image, machine, breakpoints, pass flag, trace flag and
 -- remaining budget are what the work began with
-abbrev pub IsFresh : Log → Worked → Type 0
+abbrev pub IsFresh : Log → WorkContents → Type 0
 IsFresh log w = snapshot_at (get (world_of log).records w.id) ≡ Some w.base
 
 -- the instructions are one entry, are so many events, and leave the machine of the work, with the
 -- pass flag off and so much less of the budget
-pub record IsCommitted (old new : Log) (by : ℕ) (w : Worked) : Type 0 where
+pub record IsCommitted (old new : Log) (by : ℕ) (w : WorkContents) : Type 0 where
   pub journal : new ≡ with_entry old (Steps by w.id w.count)
-  pub world : world_of new ≡ world_settled w.id w.end w.count (world_of old)
+  pub world : world_of new ≡ world_after_work w.id w.end w.count (world_of old)
 
 -- a work without instructions is refused as empty, one whose procedure has changed as stale, and
 -- then one that finds the journal full; nothing is changed
-abbrev pub Commits : Log → Log → ℕ → Worked → CommitOutcome → Type 0
+abbrev pub Commits : Log → Log → ℕ → WorkContents → CommitOutcome → Type 0
 Commits old new by w Empty = (w.count ≡ 0) × (new ≡ old)
 Commits old new by w Stale = (w.count ≢ 0) × (IsFresh old w → ⊥) × (new ≡ old)
 Commits old new by w JournalFull =

@@ -10,7 +10,7 @@ use Rattle.ocp_debug.specs.declared.command.Command.TheVariants as command
 use Rattle.ocp_world.specs.World.{Event, Request, Step, Debug, Drain}
 use Rattle.ocp_world.specs.After.{Answer, Requested, Stepped, Commanded}
 use Rattle.ocp_core.specs.Log.{Entry, Asked, Steps, Debugged, Drained}
-use Rattle.ocp_core.specs.Marks.{Marked}
+use Rattle.ocp_core.specs.Marks.{MarkedEntry}
 
 -- the event that a value of the code stands for
 abbrev pub event_of : E.Event → Event
@@ -40,8 +40,8 @@ module _ {A : Type 0} where
   mark_of (entry.Trace by id on) = Commanded (Ok tt)
   mark_of (entry.Drain by time reports) = Requested (Ok reports)
 
-  abbrev pub marked_of : N.Entry A → Marked
-  marked_of e = record { entry = entry_of e; mark = mark_of e }
+  abbrev pub entry_with_mark : N.Entry A → MarkedEntry
+  entry_with_mark e = record { entry = entry_of e; mark = mark_of e }
 
   abbrev pub answer_of : G.Answer A → Answer
   answer_of (answer.Requested reports) = Requested reports

@@ -11,23 +11,23 @@ use Rattle.ocp_world.specs.Replay.{replay}
 use Rattle.ocp_core.specs.History.{history, gather, Does}
 
 -- a start begins both anew
-abbrev pub sent_by : Change → List ℕ → List ℕ
-sent_by (Started budget arguments) words = []
-sent_by (Sent more) words = words ++ more
-sent_by change words = words
+abbrev pub sent_words_by : Change → List ℕ → List ℕ
+sent_words_by (Started budget arguments) words = []
+sent_words_by (Sent more) words = words ++ more
+sent_words_by change words = words
 
-abbrev pub taken_by_call : Call → List ℕ → List ℕ
-taken_by_call (NextParam (Some word)) words = words ++ word ∷ []
-taken_by_call call words = words
+abbrev pub taken_words_by_call : Call → List ℕ → List ℕ
+taken_words_by_call (NextParam (Some word)) words = words ++ word ∷ []
+taken_words_by_call call words = words
 
-abbrev pub taken_by_outcome : InstructionOutcome → List ℕ → List ℕ
-taken_by_outcome (Called call) words = taken_by_call call words
-taken_by_outcome outcome words = words
+abbrev pub taken_words_by_outcome : InstructionOutcome → List ℕ → List ℕ
+taken_words_by_outcome (Called call) words = taken_words_by_call call words
+taken_words_by_outcome outcome words = words
 
-abbrev pub taken_by : Change → List ℕ → List ℕ
-taken_by (Started budget arguments) words = []
-taken_by (Stepped outcome) words = taken_by_outcome outcome words
-taken_by change words = words
+abbrev pub taken_words_by : Change → List ℕ → List ℕ
+taken_words_by (Started budget arguments) words = []
+taken_words_by (Stepped outcome) words = taken_words_by_outcome outcome words
+taken_words_by change words = words
 
 -- so do a load and an unload: until the next start nothing is sent or taken
 abbrev pub since_start : (Change → List ℕ → List ℕ) → ℕ → Effect → List ℕ → List ℕ
@@ -36,22 +36,26 @@ since_start by id (Unloaded other) words = if id == other then [] else words
 since_start by id (Changed other change) words = if id == other then by change words else words
 since_start by id effect words = words
 
-abbrev pub sent : Profile → ℕ → ℕ → List Event → ℕ → List ℕ
-sent profile apid words es id = gather (since_start sent_by id) [] (history profile apid words es)
+abbrev pub sent_words : Profile → ℕ → ℕ → List Event → ℕ → List ℕ
+sent_words profile apid words es id =
+    gather (since_start sent_words_by id) [] (history profile apid words es)
 
-abbrev pub taken : Profile → ℕ → ℕ → List Event → ℕ → List ℕ
-taken profile apid words es id = gather (since_start taken_by id) [] (history profile apid words es)
+abbrev pub taken_words : Profile → ℕ → ℕ → List Event → ℕ → List ℕ
+taken_words profile apid words es id =
+    gather (since_start taken_words_by id) [] (history profile apid words es)
 
 -- the law: a call of next_param gives the first word sent that was not taken yet
 abbrev pub WordsComeInOrder : Type 0
 WordsComeInOrder =
     (profile : Profile) (apid words : ℕ) (es : List Event) (by id : ℕ) (word : Option ℕ) →
     Does (replay profile apid words es) by id (Called (NextParam word)) →
-    word ≡ slice_get (sent profile apid words es id) (length (taken profile apid words es id))
+    word ≡
+    slice_get (sent_words profile apid words es id)
+    (length (taken_words profile apid words es id))
 
 -- and none exactly where all were taken
 abbrev pub NoneIsLeft : Type 0
 NoneIsLeft =
     (profile : Profile) (apid words : ℕ) (es : List Event) (by id : ℕ) (word : Option ℕ) →
     Does (replay profile apid words es) by id (Called (NextParam word)) →
-    (word ≡ None) ↔ (taken profile apid words es id ≡ sent profile apid words es id)
+    (word ≡ None) ↔ (taken_words profile apid words es id ≡ sent_words profile apid words es id)

@@ -32,19 +32,20 @@ unfoldable pub marks : Log → List Answer
 marks log = marks_from (opening log.profile log.apid log.words) log.entries
 
 -- an entry with its mark: the answer that was given with it
-pub record Marked : Type 0 where
+pub record MarkedEntry : Type 0 where
   pub entry : Entry
   pub mark : Answer
 
-abbrev pub marked_from : World → List Entry → List Marked
-marked_from w [] = []
-marked_from w (entry ∷ entries) =
+abbrev pub entries_with_marks_from : World → List Entry → List MarkedEntry
+entries_with_marks_from w [] = []
+entries_with_marks_from w (entry ∷ entries) =
     record { entry = entry; mark = mark_in w entry }
-    ∷ marked_from (replay_from w (events_of entry)) entries
+    ∷ entries_with_marks_from (replay_from w (events_of entry)) entries
 
 -- the entries of a journal with their marks
-unfoldable pub marked : Log → List Marked
-marked log = marked_from (opening log.profile log.apid log.words) log.entries
+unfoldable pub entries_with_marks : Log → List MarkedEntry
+entries_with_marks log =
+    entries_with_marks_from (opening log.profile log.apid log.words) log.entries
 
 -- the seat that handed an entry in
 abbrev pub by_of : Entry → ℕ
@@ -54,5 +55,5 @@ by_of (Debugged by id command) = by
 by_of (Drained by time) = by
 
 -- those of one seat, in order
-abbrev pub marked_by : List Marked → ℕ → List Marked
-marked_by entries by = filter (λ m. by_of m.entry == by) entries
+abbrev pub entries_by : List MarkedEntry → ℕ → List MarkedEntry
+entries_by entries by = filter (λ m. by_of m.entry == by) entries

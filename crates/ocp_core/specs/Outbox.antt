@@ -36,16 +36,16 @@ is_in n ns = list_any (λ m. m == n) ns
 
 -- ---- what became pending
 
-abbrev pub pended_by : Effect → ℕ → List ℕ
-pended_by (Changed id (Pended pending)) n = n ∷ []
-pended_by effect n = []
+abbrev pub pending_by : Effect → ℕ → List ℕ
+pending_by (Changed id (Pended pending)) n = n ∷ []
+pending_by effect n = []
 
 -- the number of an event by which a stop or suspend becomes pending
 abbrev pub becomes_pending : World → Event → List ℕ
-becomes_pending w e = pended_by (effect_of w e).on_records w.events
+becomes_pending w e = pending_by (effect_of w e).on_records w.events
 
-abbrev pub all_pended : Profile → ℕ → ℕ → List Event → List ℕ
-all_pended profile apid words es = numbers becomes_pending profile apid words es
+abbrev pub all_pending : Profile → ℕ → ℕ → List Event → List ℕ
+all_pending profile apid words es = numbers becomes_pending profile apid words es
 
 -- ---- the first place: it is pending
 
@@ -68,12 +68,12 @@ due_numbers dues = map (λ (due : Due). due.origin.event) dues
 abbrev pub report_numbers : ℕ → Due → List ℕ
 report_numbers time due = map (λ (dispatch : Dispatch). due.origin.event) (due_dispatches time due)
 
-abbrev pub reported_in : World → Event → List ℕ
-reported_in w (Drain by time) = flat_map (report_numbers time) w.outbox
-reported_in w event = []
+abbrev pub drain_numbers : World → Event → List ℕ
+drain_numbers w (Drain by time) = flat_map (report_numbers time) w.outbox
+drain_numbers w event = []
 
-abbrev pub all_reported : Profile → ℕ → ℕ → List Event → List ℕ
-all_reported profile apid words es = numbers reported_in profile apid words es
+abbrev pub all_drain_numbers : Profile → ℕ → ℕ → List Event → List ℕ
+all_drain_numbers profile apid words es = numbers drain_numbers profile apid words es
 
 -- ---- the fourth place: the end of a step matches it while its completion flag is off
 
@@ -106,7 +106,7 @@ all_silent profile apid words es = numbers silent_in profile apid words es
 abbrev pub places : Profile → ℕ → ℕ → List Event → List ℕ
 places profile apid words es =
     let w = replay profile apid words es in
-    pending_numbers w.records ++ due_numbers w.outbox ++ all_reported profile apid words es
+    pending_numbers w.records ++ due_numbers w.outbox ++ all_drain_numbers profile apid words es
     ++ all_silent profile apid words es
 
 -- the law: each number of a stop or suspend that became pending stands in one of the places, once,
@@ -115,13 +115,13 @@ abbrev pub EachStandsOnce : Type 0
 EachStandsOnce =
     (profile : Profile) (apid words : ℕ) (es : List Event) (n : ℕ) →
     count n (places profile apid words es) ≡
-    (if is_in n (all_pended profile apid words es) then 1 else 0)
+    (if is_in n (all_pending profile apid words es) then 1 else 0)
 
 -- the law: so its completion is reported once at most
 abbrev pub IsReportedOnceAtMost : Type 0
 IsReportedOnceAtMost =
     (profile : Profile) (apid words : ℕ) (es : List Event) (n : ℕ) →
-    count n (all_reported profile apid words es) ≤ 1
+    count n (all_drain_numbers profile apid words es) ≤ 1
 
 -- one report is sent of it by a drain at this time
 abbrev pub gives_one_report : ℕ → Due → Bool

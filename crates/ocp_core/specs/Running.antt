@@ -49,12 +49,12 @@ pub record IsDone (old new : Log) (e : Event) (given : Answer) : Type 0 where
 
 -- the answer to a request or to a drain: a run ends before one that finds the journal full or no
 -- memory
-abbrev pub replied : {A : Type 0} → Result (List (List ℕ)) EngineFault
+abbrev pub reply_of : {A : Type 0} → Result (List (List ℕ)) EngineFault
     → Result (G.Answer A) RunRefusal
-replied (Ok reports) = Ok (answer.Requested (Ok reports))
-replied (Err engine.JournalFull) = Err JournalFull
-replied (Err engine.Memory) = Err Memory
-replied (Err fault) = Ok (answer.Requested (Err fault))
+reply_of (Ok reports) = Ok (answer.Requested (Ok reports))
+reply_of (Err engine.JournalFull) = Err JournalFull
+reply_of (Err engine.Memory) = Err Memory
+reply_of (Err fault) = Ok (answer.Requested (Err fault))
 
 -- the event is done; or it is refused and nothing is changed
 abbrev pub Applies : {A : Type 0} → Log → Log → Event → Result (G.Answer A) RunRefusal → Type 0

@@ -7,28 +7,28 @@ use Rattle.ocp_table.specs.Records.{Rec}
 use Rattle.ocp_table.specs.Snapshots.{Snapshot, snapshot_at, run_of}
 
 -- the procedure's id and what it was
-pub record Taken : Type 0 where
+pub record TicketContents : Type 0 where
   pub id : ℕ
   pub base : Snapshot
 
 -- so many instructions were done, which left the machine so
-pub record Worked : Type 0 where
+pub record WorkContents : Type 0 where
   pub id : ℕ
   pub base : Snapshot
   pub end : State
   pub count : ℕ
 
-abbrev pub ticket_by : ℕ → Option Snapshot → Option Taken
+abbrev pub ticket_by : ℕ → Option Snapshot → Option TicketContents
 ticket_by id None = None
 ticket_by id (Some base) = Some (record { id = id; base = base })
 
 -- of a procedure that is loaded and runs
-abbrev pub ticket_at : ℕ → Option Rec → Option Taken
+abbrev pub ticket_at : ℕ → Option Rec → Option TicketContents
 ticket_at id o = ticket_by id (snapshot_at o)
 
 -- the machine does that many instructions by itself, and they leave it so; they are no more than
 -- what remains of the budget, and none where the procedure is traced
-pub record IsRun (w : Worked) : Type 0 where
+pub record IsRun (w : WorkContents) : Type 0 where
   pub ran : run_of w.base w.count ≡ Some w.end
   pub within : IsWithin w.base.remaining w.count
   pub stands : StandsIn w.base.image w.end

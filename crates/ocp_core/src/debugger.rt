@@ -5,7 +5,7 @@ ghost use Rattle.std.specs.List.{flat_map};
 ghost use Rattle.std.specs.FinMap.{get};
 ghost use Rattle.ocp_debug.specs.declared.command.DebugFault.{DebugFault as Fault};
 ghost use Rattle.ocp_debug.specs.Memory.{memory_at};
-ghost use Rattle.ocp_debug.specs.Traces.{kept};
+ghost use Rattle.ocp_debug.specs.Traces.{last_traces};
 ghost use Rattle.ocp_debug.specs.Texts.{trace_line};
 ghost use Rattle.ocp_world.specs.World.{Debug};
 ghost use Rattle.ocp_world.specs.After.{Commanded};
@@ -81,10 +81,10 @@ impl<A: Allocator> Engine<A> {
     /// the output then stays as it was.
     pub fn trace_lines<B: Allocator>(&self, output: &mut Vec<u8, B>) -> Result<(), AllocError>
         ensures ok { OnOk result (output.new.items ≡
-            output.old.items ++ flat_map trace_line (kept (world_of self.now).traces)) }
+            output.old.items ++ flat_map trace_line (last_traces (world_of self.now).traces)) }
         ensures err { OnErr result (output.new.items ≡ output.old.items) }
         ensures memory { OnErr result (vec_capacity output.old < length
-            (output.old.items ++ flat_map trace_line (kept (world_of self.now).traces))) }
+            (output.old.items ++ flat_map trace_line (last_traces (world_of self.now).traces))) }
         ensures same_capacity { OnErr result (vec_capacity output.new ≡ vec_capacity output.old) }
         ensures capacity { vec_capacity output.old ≤ vec_capacity output.new }
     {

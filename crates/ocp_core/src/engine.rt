@@ -2,6 +2,7 @@
 
 ghost use Rattle.std.specs.Prelude.{◌≡◌, ◌≢◌, ◌↔◌, ◌≤◌, ◌<◌, ◌-◌, ◌^◌, ℕ, false, Ok, Err, None, IfOk, IfErr, IfSome, OnOk, OnErr, length, slice_get};
 ghost use Rattle.std.specs.FinMap.{get};
+ghost use Rattle.ocp_profile.specs.declared.limits.TheConstants.{MAX_APID, MAX_POOL_WORDS, MAX_CAPACITY};
 ghost use Rattle.ocp_table.specs.Shown.{view_at};
 ghost use Rattle.ocp_world.specs.World as world;
 ghost use Rattle.ocp_world.specs.After.{Requested, Stepped};
@@ -10,7 +11,7 @@ ghost use Rattle.ocp_world.specs.Loading.{TakesRecordIn};
 ghost use Rattle.ocp_world.specs.NextRunning.{IsNextRunning, Runs};
 ghost use Rattle.ocp_core.specs.Log.{Asked, Drained, empty_log, expand, world_of, answer_in, log_after};
 ghost use Rattle.ocp_core.specs.Slice.{slice_in, slice_log};
-ghost use Rattle.ocp_core.specs.Journal.{marked_of};
+ghost use Rattle.ocp_core.specs.Journal.{entry_with_mark};
 ghost use Rattle.ocp_core.specs.Receipts.{reports_in};
 ghost use Rattle.ocp_core.specs.Mirror.Admitted.{IsAdmitted, IsTaken};
 
@@ -59,11 +60,11 @@ impl<A: Allocator> Engine<A> {
     ) -> Result<Self, AllocError>
     where
         A: Copy,
-        requires apid { apid < 2047 }
+        requires apid { apid ≤ MAX_APID }
         requires words_from { 1 ≤ words }
-        requires words_to { words ≤ 256 }
+        requires words_to { words ≤ MAX_POOL_WORDS }
         requires capacity_from { 1 ≤ capacity }
-        requires capacity_to { capacity ≤ 1000000 }
+        requires capacity_to { capacity ≤ MAX_CAPACITY }
         ensures { IfOk result (λ engine. engine ≡ empty_log profile apid words capacity) }
     {
         let apid = Apid::new(apid).unwrap();
@@ -168,7 +169,7 @@ impl<A: Allocator> Engine<A> {
             (answer_in self.old (world.Request by time octets.now)) }
         ensures journal { OnOk result
             (self.new ≡ log_after self.old (world.Request by time octets.now)) }
-        ensures receipt { IfOk result (λ r. marked_of r.1 ≡
+        ensures receipt { IfOk result (λ r. entry_with_mark r.1 ≡
             record { entry = Asked by time octets.now; mark = Requested (Ok r.0) }) }
         ensures err { OnErr result (self.new ≡ self.old) }
     {
@@ -264,7 +265,7 @@ impl<A: Allocator> Engine<A> {
         ensures answer { Answers (reports_in result)
             (answer_in self.old (world.Drain by time)) }
         ensures journal { OnOk result (self.new ≡ log_after self.old (world.Drain by time)) }
-        ensures receipt { IfOk result (λ r. marked_of r.1 ≡
+        ensures receipt { IfOk result (λ r. entry_with_mark r.1 ≡
             record { entry = Drained by time; mark = Requested (Ok r.0) }) }
         ensures err { OnErr result (self.new ≡ self.old) }
     {

@@ -89,7 +89,7 @@ impl<A: Allocator> Entry<A> {
     ghost use Rattle.ocp_world.specs.After.{Commanded};
     ghost use Rattle.ocp_core.specs.Log.{events_of, Debugged};
     ghost use Rattle.ocp_core.specs.Marks.{by_of};
-    ghost use Rattle.ocp_core.specs.Journal.{entry_of, mark_of, marked_of};
+    ghost use Rattle.ocp_core.specs.Journal.{entry_of, mark_of, entry_with_mark};
 
     /// That of a debugger's command, which a seat hands in.
     pub(crate) fn of_command(by: u16, id: u16, command: Command) -> Self
@@ -134,7 +134,7 @@ impl<A: Allocator> Entry<A> {
 
     /// Whether they are the same entry with the same mark, by value.
     pub fn is_same(&self, other: &Self) -> bool
-        ensures { IsTrue result ↔ (marked_of self.now ≡ marked_of other.now) }
+        ensures { IsTrue result ↔ (entry_with_mark self.now ≡ entry_with_mark other.now) }
     {
         match (self, other) {
             (

@@ -1,6 +1,7 @@
 //! The journal.
 
 ghost use Rattle.std.specs.Prelude.{◌≡◌, ◌≤◌, ◌<◌, ◌^◌, map, length, IfOk, false};
+ghost use Rattle.ocp_profile.specs.declared.limits.TheConstants.{MAX_APID, MAX_POOL_WORDS, MAX_CAPACITY};
 ghost use Rattle.ocp_core.specs.Log.{empty_log, is_full, with_entry, expand};
 
 use crate::Entry;
@@ -40,13 +41,13 @@ impl<A: Allocator> Model for Journal<A> {
 
 impl<A: Allocator> Journal<A> {
     ghost use Rattle.ocp_core.specs.Log.{events_of, world_of};
-    ghost use Rattle.ocp_core.specs.Marks.{mark_in, marked};
-    ghost use Rattle.ocp_core.specs.Journal.{entry_of, mark_of, marked_of};
+    ghost use Rattle.ocp_core.specs.Marks.{mark_in, entries_with_marks};
+    ghost use Rattle.ocp_core.specs.Journal.{entry_of, mark_of, entry_with_mark};
     ghost use Rattle.ocp_core.specs.Mirror.Counted.{AreCounted};
 
     /// A journal without entries, with room for so many, of an engine of a profile with 1 to 256
     /// pool words.
-    #[tactic(auto, unfolding(crate::specs::Marks::marked, crate::specs::Log::world_of))]
+    #[tactic(auto, unfolding(crate::specs::Marks::entries_with_marks, crate::specs::Log::world_of))]
     pub fn new(
         alloc: A,
         profile: Profile,
@@ -54,10 +55,10 @@ impl<A: Allocator> Journal<A> {
         words: u16,
         capacity: u32,
     ) -> Result<Self, AllocError>
-        requires apid { apid < 2047 }
+        requires apid { apid ≤ MAX_APID }
         requires words_from { 1 ≤ words }
-        requires words_to { words ≤ 256 }
-        requires capacity { capacity ≤ 1000000 }
+        requires words_to { words ≤ MAX_POOL_WORDS }
+        requires capacity { capacity ≤ MAX_CAPACITY }
         ensures { IfOk result (λ journal. journal ≡ empty_log profile apid words capacity) }
     {
         Ok(Journal {
@@ -80,7 +81,7 @@ impl<A: Allocator> Journal<A> {
     /// The engine's application process identifier.
     pub fn apid(&self) -> Apid
         ensures value { result ≡ self.now.apid }
-        ensures in_range { result < 2047 }
+        ensures in_range { result ≤ MAX_APID }
     {
         self.apid
     }
@@ -89,7 +90,7 @@ impl<A: Allocator> Journal<A> {
     pub fn words(&self) -> u16
         ensures value { result ≡ self.now.words }
         ensures some { 1 ≤ result }
-        ensures few { result ≤ 256 }
+        ensures few { result ≤ MAX_POOL_WORDS }
     {
         self.words
     }
@@ -118,8 +119,8 @@ impl<A: Allocator> Journal<A> {
     /// The entries with their marks, oldest first. All their events were accepted.
     pub fn entries(&self) -> &[Entry<A>]
         ensures value { map entry_of result.now ≡ self.now.entries }
-        ensures marks { map marked_of result.now ≡ marked self.now }
-        ensures few { length result.now ≤ 1000000 }
+        ensures marks { map entry_with_mark result.now ≡ entries_with_marks self.now }
+        ensures few { length result.now ≤ MAX_CAPACITY }
         ensures accepted { (world_of self.now).events ≡ length (expand self.now.entries) }
     {
         self.entries.as_slice()

@@ -6,8 +6,8 @@ ghost use Rattle.ocp_world.specs.After.{Stepped, after, is_accepted};
 ghost use Rattle.ocp_table.specs.declared.answers.StepOutcome.TheVariants.{Ran};
 ghost use Rattle.ocp_core.specs.Log.{Log, Steps, world_of, is_full, entry_for, answer_in, log_after};
 ghost use Rattle.ocp_core.specs.Slice.{slice_in, slice_log};
-ghost use Rattle.ocp_core.specs.Marks.{marks, marked};
-ghost use Rattle.ocp_core.specs.Tickets.{Worked, IsRun};
+ghost use Rattle.ocp_core.specs.Marks.{marks, entries_with_marks};
+ghost use Rattle.ocp_core.specs.Tickets.{WorkContents, IsRun};
 ghost use Rattle.ocp_core.specs.Commits.{Commits};
 ghost use Rattle.ocp_core.specs.declared.answers.CommitOutcome.TheVariants.{Committed};
 
@@ -41,20 +41,20 @@ pub fn entries_are_marked_by_their_answers()
         is_accepted (after (world_of log) (Step by id)).answer ≡ true → is_full log ≡ false →
         marks (slice_log log by id budget) ≡
         marks log ++ Stepped (slice_in log by id budget).last ∷ [] }
-    ensures commit { (old new : Log) (by : ℕ) (w : Worked) (count : ℕ) → IsRun w →
+    ensures commit { (old new : Log) (by : ℕ) (w : WorkContents) (count : ℕ) → IsRun w →
         Commits old new by w (Committed count) → marks new ≡ marks old ++ Stepped Ran ∷ [] }
     ensures marked_event { (log : Log) (e : Event) →
         is_accepted (after (world_of log) e).answer ≡ true → is_full log ≡ false →
-        marked (log_after log e) ≡
-        marked log ++ record { entry = entry_for e; mark = answer_in log e } ∷ [] }
+        entries_with_marks (log_after log e) ≡
+        entries_with_marks log ++ record { entry = entry_for e; mark = answer_in log e } ∷ [] }
     ensures marked_slice { (log : Log) (by id budget : ℕ) →
         is_accepted (after (world_of log) (Step by id)).answer ≡ true → is_full log ≡ false →
         let slice = slice_in log by id budget in
-        marked (slice_log log by id budget) ≡ marked log ++
+        entries_with_marks (slice_log log by id budget) ≡ entries_with_marks log ++
         record { entry = Steps by id slice.count; mark = Stepped slice.last } ∷ [] }
-    ensures marked_commit { (old new : Log) (by : ℕ) (w : Worked) (count : ℕ) → IsRun w →
-        Commits old new by w (Committed count) → marked new ≡
-        marked old ++ record { entry = Steps by w.id count; mark = Stepped Ran } ∷ [] }
+    ensures marked_commit { (old new : Log) (by : ℕ) (w : WorkContents) (count : ℕ) → IsRun w →
+        Commits old new by w (Committed count) → entries_with_marks new ≡
+        entries_with_marks old ++ record { entry = Steps by w.id count; mark = Stepped Ran } ∷ [] }
 {
     instructions_done_alone_are_events();
 }

@@ -2,6 +2,7 @@
 
 ghost use Rattle.std.specs.Prelude.{◌≡◌, ◌≤◌, ◌<◌, ℕ, IfOk, OnOk, map, length, replicate};
 ghost use Rattle.std.specs.FinMap.{get};
+ghost use Rattle.ocp_profile.specs.declared.limits.TheConstants.{MAX_APID, MAX_POOL_WORDS, MAX_CAPACITY};
 ghost use Rattle.ocp_table.specs.Laws.{machine_of};
 ghost use Rattle.ocp_world.specs.World.{World, Request as Asked, Step, Drain};
 ghost use Rattle.ocp_world.specs.After.{after};
@@ -41,7 +42,7 @@ fn request<A: Allocator + Copy>(
     time: u32,
     octets: &[u8],
 ) -> Result<(), AllocError>
-    requires { apid < 2047 }
+    requires { apid ≤ MAX_APID }
     ensures { (w : World) (by : ℕ) → IsWorld w state.old → w.apid ≡ apid → event ≡ w.events →
         OnOk result (IsWorld (after w (Asked by time octets.now)).world state.new) }
 {
@@ -77,7 +78,7 @@ fn enter<A: Allocator + Copy, B: Allocator>(
     event: u64,
     entry: &Entry<B>,
 ) -> Result<(), AllocError>
-    requires { apid < 2047 }
+    requires { apid ≤ MAX_APID }
     ensures { (w : World) → IsWorld w state.old → w.apid ≡ apid → event ≡ w.events →
         OnOk result (IsWorld (replay_from w (events_of (entry_of entry.now))) state.new) }
 {
@@ -108,10 +109,10 @@ fn state_after<A: Allocator + Copy, B: Allocator>(
     words: u16,
     entries: &[Entry<B>],
 ) -> Result<State<A>, AllocError>
-    requires apid { apid < 2047 }
+    requires apid { apid ≤ MAX_APID }
     requires words_from { 1 ≤ words }
-    requires words_to { words ≤ 256 }
-    requires few { length entries.now ≤ 1000000 }
+    requires words_to { words ≤ MAX_POOL_WORDS }
+    requires few { length entries.now ≤ MAX_CAPACITY }
     requires accepted { let events = expand (map entry_of entries.now) in
         (replay profile apid words events).events ≡ length events }
     ensures { IfOk result (λ state.

@@ -5,7 +5,7 @@ ghost use Rattle.ocp_world.specs.World.{Debug};
 ghost use Rattle.ocp_world.specs.Replay.{answers, replay_from};
 ghost use Rattle.ocp_core.specs.Log.{world_of};
 ghost use Rattle.ocp_core.specs.Journal.{event_of, answer_of};
-ghost use Rattle.ocp_core.specs.Running.{Applies, HasRoom, StopsAt, log_after_all, replied};
+ghost use Rattle.ocp_core.specs.Running.{Applies, HasRoom, StopsAt, log_after_all, reply_of};
 
 use crate::laws::{refused_events_change_nothing, worlds_have_no_full_journal};
 use crate::{
@@ -15,8 +15,8 @@ use crate::{
 use std::alloc::Allocator;
 
 // What a run answers to a request or to a drain, or why it ends before it.
-fn replied<A: Allocator>(given: Result<Reports<A>, EngineFault>) -> Result<Answer<A>, RunRefusal>
-    ensures { result ≡ replied given }
+fn reply<A: Allocator>(given: Result<Reports<A>, EngineFault>) -> Result<Answer<A>, RunRefusal>
+    ensures { result ≡ reply_of given }
 {
     match given {
         Ok(reports) => Ok(Answer::Requested(Ok(reports))),
@@ -36,8 +36,8 @@ impl<A: Allocator> Engine<A> {
         refused_events_change_nothing();
         worlds_have_no_full_journal();
         match event {
-            Event::Request { by, time, octets } => replied(self.request(alloc, by, time, octets)),
-            Event::Drain { by, time } => replied(self.drain(alloc, by, time)),
+            Event::Request { by, time, octets } => reply(self.request(alloc, by, time, octets)),
+            Event::Drain { by, time } => reply(self.drain(alloc, by, time)),
             Event::Step { by, id } => match self.step(by, id) {
                 StepOutcome::JournalFull => Err(RunRefusal::JournalFull),
                 outcome => Ok(Answer::Stepped(outcome)),

@@ -16,13 +16,13 @@ pub struct Ticket<A: Allocator = Global> {
 
 impl<A: Allocator> Model for Ticket<A> {
     ghost use Rattle.std.specs.Prelude.{◌≡◌};
-    ghost use Rattle.ocp_core.specs.Tickets.{Taken};
+    ghost use Rattle.ocp_core.specs.Tickets.{TicketContents};
 
-    ghost Value = { Taken };
+    ghost Value = { TicketContents };
 
-    ghost use Rattle.ocp_core.specs.Mirror.Tickets.{taken_code};
+    ghost use Rattle.ocp_core.specs.Mirror.Tickets.{ticket_code};
 
-    ghost coded = { taken_code };
+    ghost coded = { ticket_code };
 
     ghost view = { λ t. record { id = t.id; base = t.base } };
 
@@ -40,13 +40,13 @@ pub struct Work<A: Allocator = Global> {
 }
 
 impl<A: Allocator> Model for Work<A> {
-    ghost use Rattle.ocp_core.specs.Tickets.{Worked, IsRun};
+    ghost use Rattle.ocp_core.specs.Tickets.{WorkContents, IsRun};
 
-    ghost Value = { Worked };
+    ghost Value = { WorkContents };
 
-    ghost use Rattle.ocp_core.specs.Mirror.Tickets.{worked_code};
+    ghost use Rattle.ocp_core.specs.Mirror.Tickets.{work_code};
 
-    ghost coded = { worked_code };
+    ghost coded = { work_code };
 
     ghost view = { λ w. record { id = w.id; base = w.base; end = w.end; count = w.count } };
 

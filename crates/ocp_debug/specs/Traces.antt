@@ -46,5 +46,5 @@ traces_by (Changed id change) m = traces_by_change id change (get m id)
 traces_by effect m = []
 
 -- the records that are kept of all that were made
-abbrev pub kept : List Trace → List Trace
-kept traces = keep_last TRACE_RECORDS traces
+abbrev pub last_traces : List Trace → List Trace
+last_traces traces = keep_last TRACE_RECORDS traces

@@ -2,7 +2,7 @@
 ghost use Rattle.std.specs.Prelude.{◌≡◌, None, Some, Ok, Err};
 ghost use Rattle.std.specs.FinMap.{get};
 ghost use Rattle.ocp_table.specs.Effects.{Changed, records_by};
-ghost use Rattle.ocp_table.specs.Shown.{shown};
+ghost use Rattle.ocp_table.specs.Shown.{record_of};
 ghost use Rattle.ocp_debug.specs.Commands.{set_fault, fault_in, fault_on, change_of, command_effect, command_result};
 
 use crate::breakpoints::{is_set, with_breakpoint, without_breakpoint};
@@ -12,7 +12,7 @@ use std::alloc::Allocator;
 
 /// Why a breakpoint cannot be set.
 fn set_fault<A: Allocator>(procedure: &Record<A>, place: u16) -> Option<DebugFault>
-    ensures { result ≡ set_fault (shown procedure.now) place }
+    ensures { result ≡ set_fault (record_of procedure.now) place }
 {
     let breakpoints = procedure.breakpoints.as_slice();
     if procedure.execution.line_at(place).is_none() {
@@ -28,7 +28,7 @@ fn set_fault<A: Allocator>(procedure: &Record<A>, place: u16) -> Option<DebugFau
 
 /// Why a command is refused of a procedure.
 fn fault_in<A: Allocator>(procedure: &Record<A>, command: Command) -> Option<DebugFault>
-    ensures { result ≡ fault_in command (shown procedure.now) }
+    ensures { result ≡ fault_in command (record_of procedure.now) }
 {
     match command {
         Command::SetBreak(place) => set_fault(procedure, place),

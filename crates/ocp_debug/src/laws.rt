@@ -6,7 +6,7 @@ ghost use Rattle.ocp_table.specs.Records.{Records};
 ghost use Rattle.ocp_table.specs.Effects.{records_by};
 ghost use Rattle.ocp_table.specs.Laws.{run_of};
 ghost use Rattle.ocp_debug.specs.Commands.{command_effect};
-ghost use Rattle.ocp_debug.specs.Traces.{kept};
+ghost use Rattle.ocp_debug.specs.Traces.{last_traces};
 ghost use Rattle.ocp_debug.specs.declared.command.Command.{Command as Asked};
 ghost use Rattle.ocp_debug.specs.declared.trace.Trace.{Trace as Made};
 
@@ -14,7 +14,8 @@ use ocp_table::laws::debugging_keeps_runs;
 
 /// Whether records are given up one after another or all at once, the same ones are kept.
 pub fn keeping_is_kept_up()
-    ensures { (old new : List Made) → kept (kept old ++ new) ≡ kept (old ++ new) }
+    ensures { (old new : List Made) →
+        last_traces (last_traces old ++ new) ≡ last_traces (old ++ new) }
 {}
 
 /// A debugger's command leaves each procedure's image, machine, mailbox and control, and what

@@ -1,7 +1,7 @@
 //! The trace records that are kept.
 ghost use Rattle.std.specs.Prelude.{◌≡◌, ◌≤◌, ◌<◌, ◌++◌, ◌∷◌, [], IfOk, OnOk, OnErr, length, option_to_list, vec_capacity};
 ghost use Rattle.std.specs.List.{flat_map};
-ghost use Rattle.ocp_debug.specs.Traces.{kept};
+ghost use Rattle.ocp_debug.specs.Traces.{last_traces};
 ghost use Rattle.ocp_debug.specs.Texts.{trace_line};
 
 use crate::texts::line_of;
@@ -48,7 +48,7 @@ impl<A: Allocator> TraceRing<A> {
 
     /// Adds a record. A full ring gives up its oldest one.
     pub fn push(&mut self, trace: Trace)
-        ensures { self.new ≡ kept (self.old ++ trace ∷ []) }
+        ensures { self.new ≡ last_traces (self.old ++ trace ∷ []) }
     {
         self.records.push_back(trace);
     }
@@ -62,7 +62,7 @@ impl<A: Allocator> TraceRing<A> {
 
     /// Adds the record that an event made, if it made one.
     pub(crate) fn note(&mut self, trace: Option<Trace>)
-        ensures { self.new ≡ kept (self.old ++ option_to_list trace) }
+        ensures { self.new ≡ last_traces (self.old ++ option_to_list trace) }
     {
         self.has_few();
         if let Some(trace) = trace {

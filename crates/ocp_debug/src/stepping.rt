@@ -4,7 +4,7 @@ ghost use Rattle.std.specs.FinMap.{get};
 ghost use Rattle.ocp_table.specs.Effects.{records_by, outbox_by, pool_by, step_outcome};
 ghost use Rattle.ocp_table.specs.RequestTable.{Step};
 ghost use Rattle.ocp_table.specs.Deciding.{effect_in};
-ghost use Rattle.ocp_debug.specs.Traces.{kept, traces_by};
+ghost use Rattle.ocp_debug.specs.Traces.{last_traces, traces_by};
 ghost use Rattle.ocp_debug.specs.Mirror.Tracing.{next_at, leaves_trace, trace_after};
 
 use crate::{StepOutcome, Trace, TraceRing};
@@ -89,7 +89,7 @@ pub fn instruction<A: Allocator>(
     ensures profile { table.new.profile ≡ table.old.profile }
     ensures pool { pool.new ≡ pool_by (effect_in (Step pool.old) id table.old.records) pool.old }
     ensures ring { ring.new ≡
-        kept (ring.old
+        last_traces (ring.old
         ++ traces_by (effect_in (Step pool.old) id table.old.records) table.old.records) }
 {
     let next = next_at(table, id);

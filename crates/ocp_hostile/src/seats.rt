@@ -103,7 +103,7 @@ fn all_shown<L: Naming, A: Allocator>(
     seat: &Seat<L, A>,
 ) -> Result<Vec<u8>, Fail> {
     let mut text = shown(alloc, book.engine())?;
-    text.extend_from_slice(&book.handed_out().to_be_bytes())?;
+    text.extend_from_slice(&book.seat_count().to_be_bytes())?;
     text.extend_from_slice(&seat.receipts().len().to_be_bytes())?;
     Ok(text)
 }
@@ -178,7 +178,7 @@ fn drain_refused<L: Naming, A: Allocator + Copy>(
     if receipts.len() != 6 || !is_drain(receipts.last()) || !is_drain(entries.last()) {
         return Err("other entries".into());
     }
-    if book.handed_out() != 2 || book.engine().events() != 9 {
+    if book.seat_count() != 2 || book.engine().events() != 9 {
         return Err("other seats or events".into());
     }
     Ok(())

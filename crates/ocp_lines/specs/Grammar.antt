@@ -24,22 +24,22 @@ use Rattle.ocp_lines.specs.declared.command.Verb.TheVariants as verb
 -- traced, the trace records that are kept, a view of a procedure, so many octets of its memory from
 -- an address on; a word of the pool, the number of events; the reports of the completions that
 -- wait; so many workers with a budget and turns
-pub data Said : Type 0 where
-  Nothing : Said
-  Up : List ℕ → Said
-  Send : ℕ → Request → Said
-  Time : ℕ → Said
-  Step : ℕ → ℕ → Said
-  Break : ℕ → ℕ → Said
-  Unbreak : ℕ → ℕ → Said
-  Trace : ℕ → Bool → Said
-  Traces : Said
-  View : ℕ → Said
-  Memory : ℕ → ℕ → ℕ → Said
-  Pool : ℕ → Said
-  Journal : Said
-  Drain : Said
-  Work : ℕ → ℕ → ℕ → Said
+pub data Meaning : Type 0 where
+  Nothing : Meaning
+  Up : List ℕ → Meaning
+  Send : ℕ → Request → Meaning
+  Time : ℕ → Meaning
+  Step : ℕ → ℕ → Meaning
+  Break : ℕ → ℕ → Meaning
+  Unbreak : ℕ → ℕ → Meaning
+  Trace : ℕ → Bool → Meaning
+  Traces : Meaning
+  View : ℕ → Meaning
+  Memory : ℕ → ℕ → ℕ → Meaning
+  Pool : ℕ → Meaning
+  Journal : Meaning
+  Drain : Meaning
+  Work : ℕ → ℕ → ℕ → Meaning
 
 abbrev pub request_of : {A : Type 0} → Verb A → Request
 request_of (verb.Load id code) = Load id code
@@ -52,22 +52,22 @@ request_of (verb.Abort id) = Abort id
 request_of (verb.Communicate id parameters) = Communicate id parameters
 request_of verb.Status = Status
 
-abbrev pub said_by : {A : Type 0} → Command A → Said
-said_by command.Nothing = Nothing
-said_by (command.Up octets) = Up octets
-said_by (command.Send flags verb) = Send flags.number (request_of verb)
-said_by (command.Time time) = Time time
-said_by (command.Step id steps) = Step id steps.number
-said_by (command.Break id place) = Break id place
-said_by (command.Unbreak id place) = Unbreak id place
-said_by (command.Trace id on) = Trace id on
-said_by command.Traces = Traces
-said_by (command.View id) = View id
-said_by (command.Memory id address count) = Memory id address count.number
-said_by (command.Pool index) = Pool index
-said_by command.Journal = Journal
-said_by command.Drain = Drain
-said_by (command.Work shift) = Work shift.workers shift.budget shift.turns
+abbrev pub meaning_of : {A : Type 0} → Command A → Meaning
+meaning_of command.Nothing = Nothing
+meaning_of (command.Up octets) = Up octets
+meaning_of (command.Send flags verb) = Send flags.number (request_of verb)
+meaning_of (command.Time time) = Time time
+meaning_of (command.Step id steps) = Step id steps.number
+meaning_of (command.Break id place) = Break id place
+meaning_of (command.Unbreak id place) = Unbreak id place
+meaning_of (command.Trace id on) = Trace id on
+meaning_of command.Traces = Traces
+meaning_of (command.View id) = View id
+meaning_of (command.Memory id address count) = Memory id address count.number
+meaning_of (command.Pool index) = Pool index
+meaning_of command.Journal = Journal
+meaning_of command.Drain = Drain
+meaning_of (command.Work shift) = Work shift.workers shift.budget shift.turns
 
 -- ---- how many words there are
 
@@ -222,11 +222,11 @@ verb_in profile name words =
 -- ---- the lines
 
 -- `up [<hex>]`
-abbrev pub up_in : List Word → Option Said
+abbrev pub up_in : List Word → Option Meaning
 up_in words = word_or_none (λ word. option_map Up (octets_up_to MAX_OCTETS_LENGTH word)) words
 
 -- `send <ack 0 to 15> <verb> ..`
-abbrev pub send_in : Profile → List Word → Option Said
+abbrev pub send_in : Profile → List Word → Option Meaning
 send_in profile words = first_word (λ ack rest.
     first_word (λ name arguments.
     both (number_up_to 15 ack) (verb_in profile name arguments) Send) rest) words
@@ -248,7 +248,7 @@ abbrev pub switch_in : List Word → Option (ℕ × Bool)
 switch_in words = two_words (λ id word. both (short id) (switch word) (λ i on. (i, on))) words
 
 -- `trace` alone, or with an identifier and a switch
-abbrev pub trace_in : List Word → Option Said
+abbrev pub trace_in : List Word → Option Meaning
 trace_in [] = Some Traces
 trace_in (id ∷ words) = option_map (λ p. Trace p.0 p.1) (switch_in (id ∷ words))
 
@@ -267,7 +267,7 @@ work_in words = three_words (λ workers most turns.
     three (worker_count workers) (budget most) (turn_count turns) (λ w b t. (w, b, t))) words
 
 -- the debugger's lines
-abbrev pub debugger_command_in : Word → List Word → Option Said
+abbrev pub debugger_command_in : Word → List Word → Option Meaning
 debugger_command_in name words =
     if bytes_eq name (codes "break") then option_map (λ p. Break p.0 p.1) (two_shorts words)
     else if bytes_eq name (codes "unbreak") then
@@ -279,7 +279,7 @@ debugger_command_in name words =
     else None
 
 -- the lines without octets
-abbrev pub plain_command_in : Word → List Word → Option Said
+abbrev pub plain_command_in : Word → List Word → Option Meaning
 plain_command_in name words =
     if bytes_eq name (codes "time") then option_map (λ time. Time time) (time_in words)
     else if bytes_eq name (codes "step") then option_map (λ p. Step p.0 p.1) (count_in words)
@@ -289,26 +289,26 @@ plain_command_in name words =
     else if bytes_eq name (codes "work") then option_map (λ p. Work p.0 p.1 p.2) (work_in words)
     else debugger_command_in name words
 
-abbrev pub command_in : Profile → Word → List Word → Option Said
+abbrev pub command_in : Profile → Word → List Word → Option Meaning
 command_in profile name words =
     if bytes_eq name (codes "up") then up_in words
     else if bytes_eq name (codes "send") then send_in profile words
     else plain_command_in name words
 
 -- the command of the words of a line: a line with no words is blank
-abbrev pub words_say : Profile → List Word → Option Said
+abbrev pub words_say : Profile → List Word → Option Meaning
 words_say profile [] = Some Nothing
 words_say profile (name ∷ words) = command_in profile name words
 
 -- The command that a line says, or none where its form is no other's. A line whose first octet is
 -- `#` is a comment.
-unfoldable pub command_of : Profile → List ℕ → Option Said
+unfoldable pub command_of : Profile → List ℕ → Option Meaning
 command_of profile line =
     if starts_with nat_eq line (codes "#") then Some Nothing
     else words_say profile (words_of line)
 
 -- what a line of a profile can say: a request that the profile can carry
-abbrev pub IsSayable : Profile → Said → Type 0
+abbrev pub IsSayable : Profile → Meaning → Type 0
 IsSayable profile (Send ack request) = HasFittingBudget profile request
 IsSayable profile _ = Unit {0}
 

@@ -51,7 +51,7 @@ fn write_octets(digits: &[u8], octets: &mut [u8])
 }
 
 /// The octets of a word of pairs of digits.
-pub(crate) fn decoded<A: Allocator>(alloc: A, word: &[u8]) -> Result<Option<Vec<u8, A>>, AllocError>
+pub(crate) fn decode<A: Allocator>(alloc: A, word: &[u8]) -> Result<Option<Vec<u8, A>>, AllocError>
     ensures { IfOk result
         (λ octets. option_map (λ vec. vec.items) octets ≡ result_ok (decode_of word.now)) }
 {

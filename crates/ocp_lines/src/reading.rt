@@ -4,7 +4,7 @@ ghost use Rattle.std.specs.Prelude.{◌≡◌, length, IfOk, IfSome, OnErr, IsTr
 ghost use Rattle.std.specs.Option.{option_map};
 ghost use Rattle.ocp_profile.specs.declared.profile.Profile.{Profile};
 ghost use Rattle.ocp_lines.specs.Words.{words_of};
-ghost use Rattle.ocp_lines.specs.Grammar.{IsSayable, said_by, up_in, send_in, time_in, count_in, view_in, pool_in, work_in, switch, trace_in, memory_in, debugger_command_in, plain_command_in, command_in, command_of, takes_octets, send_takes_octets, command_takes_octets};
+ghost use Rattle.ocp_lines.specs.Grammar.{IsSayable, meaning_of, up_in, send_in, time_in, count_in, view_in, pool_in, work_in, switch, trace_in, memory_in, debugger_command_in, plain_command_in, command_in, command_of, takes_octets, send_takes_octets, command_takes_octets};
 
 use crate::command::{
     Command, Flags, MAX_BUDGET, MAX_MEMORY_LENGTH, MAX_STEPS, MAX_TURNS, MAX_WORKERS, MemoryLength,
@@ -20,10 +20,10 @@ use std::alloc::{AllocError, Allocator};
 
 fn up<A: Allocator>(alloc: A, arguments: &[u8]) -> Result<Option<Command<A>>, AllocError>
     ensures command { IfOk result
-        (λ command. option_map said_by command ≡ up_in (words_of arguments.now)) }
+        (λ command. option_map meaning_of command ≡ up_in (words_of arguments.now)) }
     ensures memory { OnErr result (length (words_of arguments.now) ≡ 1) }
     ensures fits { (profile : Profile) → IfOk result
-        (λ command. IfSome command (λ command. IsSayable profile (said_by command))) }
+        (λ command. IfSome command (λ command. IsSayable profile (meaning_of command))) }
 {
     let Some(word) = word_or_none(arguments) else {
         return Ok(None);
@@ -40,10 +40,10 @@ fn send<A: Allocator>(
     arguments: &[u8],
 ) -> Result<Option<Command<A>>, AllocError>
     ensures command { IfOk result
-        (λ command. option_map said_by command ≡ send_in profile (words_of arguments.now)) }
+        (λ command. option_map meaning_of command ≡ send_in profile (words_of arguments.now)) }
     ensures memory { OnErr result (IsTrue (send_takes_octets profile (words_of arguments.now))) }
     ensures fits { IfOk result
-        (λ command. IfSome command (λ command. IsSayable profile (said_by command))) }
+        (λ command. IfSome command (λ command. IsSayable profile (meaning_of command))) }
 {
     let Some((flags, rest)) = next_word(arguments) else {
         return Ok(None);
@@ -107,9 +107,9 @@ fn switch(word: &[u8]) -> Option<bool>
 }
 
 fn trace<A: Allocator>(arguments: &[u8]) -> Option<Command<A>>
-    ensures command { option_map said_by result ≡ trace_in (words_of arguments.now) }
+    ensures command { option_map meaning_of result ≡ trace_in (words_of arguments.now) }
     ensures fits { (profile : Profile) →
-        IfSome result (λ command. IsSayable profile (said_by command)) }
+        IfSome result (λ command. IsSayable profile (meaning_of command)) }
 {
     if no_word(arguments) {
         return Some(Command::Traces);
@@ -169,10 +169,10 @@ fn shift(arguments: &[u8]) -> Option<Shift>
 
 /// The debugger's command of this name with these arguments.
 fn debugger_command<A: Allocator>(name: &[u8], arguments: &[u8]) -> Option<Command<A>>
-    ensures command { option_map said_by result ≡
+    ensures command { option_map meaning_of result ≡
         debugger_command_in name.now (words_of arguments.now) }
     ensures fits { (profile : Profile) →
-        IfSome result (λ command. IsSayable profile (said_by command)) }
+        IfSome result (λ command. IsSayable profile (meaning_of command)) }
 {
     if name == b"break".as_slice() {
         let (id, place) = two_shorts(arguments)?;
@@ -198,10 +198,10 @@ fn debugger_command<A: Allocator>(name: &[u8], arguments: &[u8]) -> Option<Comma
 
 /// The command of this name with these arguments, which are no octets.
 fn plain_command<A: Allocator>(name: &[u8], arguments: &[u8]) -> Option<Command<A>>
-    ensures command { option_map said_by result ≡
+    ensures command { option_map meaning_of result ≡
         plain_command_in name.now (words_of arguments.now) }
     ensures fits { (profile : Profile) →
-        IfSome result (λ command. IsSayable profile (said_by command)) }
+        IfSome result (λ command. IsSayable profile (meaning_of command)) }
 {
     if name == b"time".as_slice() {
         Some(Command::Time(time(arguments)?))
@@ -228,12 +228,12 @@ fn command<A: Allocator>(
     name: &[u8],
     arguments: &[u8],
 ) -> Result<Option<Command<A>>, AllocError>
-    ensures command { IfOk result (λ command. option_map said_by command ≡
+    ensures command { IfOk result (λ command. option_map meaning_of command ≡
         command_in profile name.now (words_of arguments.now)) }
     ensures memory { OnErr result
         (IsTrue (command_takes_octets profile name.now (words_of arguments.now))) }
     ensures fits { IfOk result
-        (λ command. IfSome command (λ command. IsSayable profile (said_by command))) }
+        (λ command. IfSome command (λ command. IsSayable profile (meaning_of command))) }
 {
     if name == b"up".as_slice() {
         up(alloc, arguments)
@@ -256,11 +256,11 @@ pub fn read_command<A: Allocator>(
     line: &[u8],
 ) -> Result<Option<Command<A>>, AllocError>
     ensures command { IfOk result
-        (λ command. option_map said_by command ≡ command_of profile line.now) }
+        (λ command. option_map meaning_of command ≡ command_of profile line.now) }
     ensures memory { OnErr result (IsTrue (takes_octets profile (words_of line.now))) }
     // A request that it says is one that the profile can carry.
     ensures fits { IfOk result
-        (λ command. IfSome command (λ command. IsSayable profile (said_by command))) }
+        (λ command. IfSome command (λ command. IsSayable profile (meaning_of command))) }
 {
     if line.starts_with(b"#") {
         return Ok(Some(Command::Nothing));

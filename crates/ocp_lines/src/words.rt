@@ -10,7 +10,7 @@ ghost use Rattle.obcp_messages.specs.declared.payload.TheConstants.{MAX_ARGUMENT
 
 use crate::arguments::Arguments;
 use crate::octets::Octets;
-use crate::pairs::decoded;
+use crate::pairs::decode;
 use memchr::memchr;
 use std::alloc::{AllocError, Allocator};
 
@@ -217,7 +217,7 @@ pub(crate) fn octets<A: Allocator>(alloc: A, word: &[u8]) -> Result<Option<Octet
     if word.is_empty() {
         return Ok(Octets::new(Vec::new(alloc)));
     }
-    match decoded(alloc, word)? {
+    match decode(alloc, word)? {
         Some(items) => Ok(Octets::new(items)),
         None => Ok(None),
     }
@@ -234,7 +234,7 @@ pub(crate) fn argument_octets<A: Allocator>(
     if word.is_empty() {
         return Ok(Arguments::new(Vec::new(alloc)));
     }
-    match decoded(alloc, word)? {
+    match decode(alloc, word)? {
         Some(items) => Ok(Arguments::new(items)),
         None => Ok(None),
     }

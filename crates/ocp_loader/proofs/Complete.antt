@@ -13,7 +13,7 @@ use Rattle.ocp_loader.specs.declared.fault.LoadFault.{LoadFault}
 use Rattle.ocp_loader.specs.declared.fault.LoadFault.TheVariants.{EmptyCode, RaggedCode, TooLong, BadCall, FallsOffEnd, Memory}
 use Rattle.bpf_listing.specs.Listing.{image_of}
 use Rattle.ocp_loader.specs.Image.{line_in, second_of, slots_of, by_slot, target_of, calls_well}
-use Rattle.ocp_loader.specs.Mirror.Reading.{line_read, line_added, slot_read, slots_read}
+use Rattle.ocp_loader.specs.Mirror.Reading.{line_read, reading_with_line, slot_read, slots_read}
 use Rattle.ocp_loader.specs.LoadResult.{load_result}
 use Rattle.ocp_loader.specs.Mirror.Checks.{lines_result, unless, lines_fault, end_fault, first_bad_target, has_valid_target, is_target}
 use Rattle.ocp_loader.specs.Mirror.Reading.{IsPlain}
@@ -35,8 +35,8 @@ AreJudged profile = (image : List ℕ) (lines : List Line) → IsAdmittedAs prof
 line_step : (profile : Profile) (image : List ℕ) (n : ℕ) (lines : List (Option Line)) (l : Line) (b : Bool) → is_wide l ≡ b → slots_read profile image n ≡ Ok (record { lines = lines; second = false }) →
     decode_result (drop (8 * n) image) ≡ Ok l → calls_well profile l ≡ true → slots_read profile image (suc n) ≡ Ok (record { lines = lines ++ Some l ∷ []; second = b })
 line_step profile image n lines l b w so_far d c =
-    ap (slot_read profile image n) so_far ∙ ap (λ x. line_added lines (line_read profile n x)) d
-    ∙ ap (λ x. line_added lines (if x then Ok l else Err (BadCall n))) c ∙ ap (λ x. Ok (record { lines = lines ++ Some l ∷ []; second = x })) w
+    ap (slot_read profile image n) so_far ∙ ap (λ x. reading_with_line lines (line_read profile n x)) d
+    ∙ ap (λ x. reading_with_line lines (if x then Ok l else Err (BadCall n))) c ∙ ap (λ x. Ok (record { lines = lines ++ Some l ∷ []; second = x })) w
 
 slots_step : (profile : Profile) (image : List ℕ) (n : ℕ) (lines : List (Option Line)) (l : Line) (b : Bool) → is_wide l ≡ b → slots_read profile image n ≡ Ok (record { lines = lines; second = false }) →
     decode_result (drop (8 * n) image) ≡ Ok l → calls_well profile l ≡ true → slots_read profile image (n + length (Some l ∷ second_of b)) ≡ Ok (record { lines = lines ++ Some l ∷ second_of b; second = false })

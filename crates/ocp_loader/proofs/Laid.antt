@@ -10,7 +10,7 @@ use Rattle.bpf_decode.specs.declared.fault.DecodeFault.{DecodeFault}
 use Rattle.ocp_loader.specs.declared.fault.LoadFault.TheVariants.{BadCall}
 use Rattle.ocp_loader.specs.declared.fault.LoadFault.{LoadFault}
 use Rattle.ocp_loader.specs.Image.{line_in, second_of, slots_of, by_slot, calls_well}
-use Rattle.ocp_loader.specs.Mirror.Reading.{Reading, line_read, line_added, slot_read, slots_read}
+use Rattle.ocp_loader.specs.Mirror.Reading.{Reading, line_read, reading_with_line, slot_read, slots_read}
 use Rattle.ocp_loader.specs.Mirror.Checks.{first_bad_target, or_at, has_valid_target}
 
 -- what lies behind a line
@@ -77,7 +77,7 @@ laid_second lines (ls, l, e, h) =
 count : (lines : List (Option Line)) (x : Option Line) (n : ℕ) → length lines ≡ n → length (lines ++ x ∷ []) ≡ suc n
 count lines x n h = length-append lines (x ∷ []) ∙ omega (arith, h)
 
-laid_added : (n : ℕ) (lines : List (Option Line)) (x : Result Line LoadFault) → length lines ≡ n → IsLaid lines false → IfOk (line_added lines x) (IsLaidOut (suc n))
+laid_added : (n : ℕ) (lines : List (Option Line)) (x : Result Line LoadFault) → length lines ≡ n → IsLaid lines false → IfOk (reading_with_line lines x) (IsLaidOut (suc n))
 laid_added n lines (Ok l) h laid = (count lines (Some l) n h, laid_line lines l (is_wide l) refl laid)
 laid_added n lines (Err fault) h laid = tt
 
@@ -138,11 +138,11 @@ called_pushed profile lines m w a p l h = elim (in_pushed lines (Some m) p l h) 
 called_none : (profile : Profile) (lines : List (Option Line)) → AllCalled profile lines → AllCalled profile (lines ++ None ∷ [])
 called_none profile lines a p l h = elim (in_pushed lines None p l h) [ inl i ↦ a p l i | inr e ↦ absurd cc ]
 
-called_line : (profile : Profile) (lines : List (Option Line)) (slot : ℕ) (m : Line) (b : Bool) → calls_well profile m ≡ b → AllCalled profile lines → IfOk (line_added lines (if b then Ok m else Err (BadCall slot))) (λ r. AllCalled profile r.lines)
+called_line : (profile : Profile) (lines : List (Option Line)) (slot : ℕ) (m : Line) (b : Bool) → calls_well profile m ≡ b → AllCalled profile lines → IfOk (reading_with_line lines (if b then Ok m else Err (BadCall slot))) (λ r. AllCalled profile r.lines)
 called_line profile lines slot m true w a = called_pushed profile lines m w a
 called_line profile lines slot m false w a = tt
 
-called_added : (profile : Profile) (lines : List (Option Line)) (slot : ℕ) (x : Result Line DecodeFault) → AllCalled profile lines → IfOk (line_added lines (line_read profile slot x)) (λ r. AllCalled profile r.lines)
+called_added : (profile : Profile) (lines : List (Option Line)) (slot : ℕ) (x : Result Line DecodeFault) → AllCalled profile lines → IfOk (reading_with_line lines (line_read profile slot x)) (λ r. AllCalled profile r.lines)
 called_added profile lines slot (Ok m) a = called_line profile lines slot m (calls_well profile m) refl a
 called_added profile lines slot (Err f) a = tt
 

@@ -15,7 +15,7 @@ use Rattle.bpf_listing.specs.Listing.{image_of, IsImageOf}
 use Rattle.ocp_loader.specs.declared.fault.LoadFault.{LoadFault}
 use Rattle.ocp_loader.specs.declared.fault.LoadFault.TheVariants.{Decode, BadCall}
 use Rattle.ocp_loader.specs.Image.{slots_of, by_slot, calls_well}
-use Rattle.ocp_loader.specs.Mirror.Reading.{Reading, line_read, line_added, slot_read, slots_read, IsPlain}
+use Rattle.ocp_loader.specs.Mirror.Reading.{Reading, line_read, reading_with_line, slot_read, slots_read, IsPlain}
 use Rattle.ocp_loader.specs.LoadResult.{load_result}
 use Rattle.ocp_loader.specs.Admitted.{IsAdmitted}
 use Rattle.ocp_loader.proofs.Octets.{append_nil, image_of-append, drop_front, drop_all, length_image}
@@ -34,11 +34,11 @@ no_error profile image k n f r e l h = let s : slots_read profile image n ≡ Er
 
 decode_stop : (profile : Profile) (image : List ℕ) (n : ℕ) (lines : List (Option Line)) (f : DecodeFault) → slots_read profile image n ≡ Ok (record { lines = lines; second = false }) → decode_result (drop (8 * n) image) ≡ Err f →
     slots_read profile image (suc n) ≡ Err (Decode f n)
-decode_stop profile image n lines f so_far d = ap (slot_read profile image n) so_far ∙ ap (λ x. line_added lines (line_read profile n x)) d
+decode_stop profile image n lines f so_far d = ap (slot_read profile image n) so_far ∙ ap (λ x. reading_with_line lines (line_read profile n x)) d
 
 call_stop : (profile : Profile) (image : List ℕ) (n : ℕ) (lines : List (Option Line)) (l : Line) → slots_read profile image n ≡ Ok (record { lines = lines; second = false }) → decode_result (drop (8 * n) image) ≡ Ok l → calls_well profile l ≡ false →
     slots_read profile image (suc n) ≡ Err (BadCall n)
-call_stop profile image n lines l so_far d c = ap (slot_read profile image n) so_far ∙ ap (λ x. line_added lines (line_read profile n x)) d ∙ ap (λ x. line_added lines (if x then Ok l else Err (BadCall n))) c
+call_stop profile image n lines l so_far d c = ap (slot_read profile image n) so_far ∙ ap (λ x. reading_with_line lines (line_read profile n x)) d ∙ ap (λ x. reading_with_line lines (if x then Ok l else Err (BadCall n))) c
 
 -- an instruction that was read may stand in an image
 line_plain : (profile : Profile) → AreDecoded → AreRefused → (image : List ℕ) (n k : ℕ) (lines : List (Option Line)) (l : Line) (r : Reading) → BeginsWith (drop (8 * n) image) l →

@@ -10,4 +10,5 @@ pub mod pool;
 pub use call::{Called, PoolFault, PoolOperation};
 pub use engine::engine_call;
 pub use mailbox::{MAX_MAILBOX_WORDS, Mailbox};
-pub use pool::{MAX_POOL_WORDS, Pool};
+pub use ocp_profile::MAX_POOL_WORDS;
+pub use pool::Pool;

@@ -1,11 +1,9 @@
 //! The pool of words that all procedures share.
 ghost use Rattle.std.specs.Prelude.{◌≡◌, ◌≤◌, ◌<◌, IfOk, length, replicate, slice_get, slice_index, slice_set};
 
+use ocp_profile::MAX_POOL_WORDS;
 use std::alloc::{AllocError, Allocator, Global};
 use std::marker::Model;
-
-/// How many words a pool can have.
-pub const MAX_POOL_WORDS: u16 = 256;
 
 /// 1 to 256 words. Contracts see their list.
 #[derive(Drop)]
@@ -15,12 +13,13 @@ pub struct Pool<A: Allocator = Global> {
 
 impl<A: Allocator> Model for Pool<A> {
     ghost use Rattle.std.specs.Prelude.{ℕ, List, ◌≤◌, length};
+    ghost use Rattle.ocp_profile.specs.declared.limits.TheConstants.{MAX_POOL_WORDS};
 
     ghost Value = { List ℕ };
 
     ghost view = { λ p. p.words.items };
 
-    ghost invariant = { λ p. (1 ≤ length p.words.items) × (length p.words.items ≤ 256) };
+    ghost invariant = { λ p. (1 ≤ length p.words.items) × (length p.words.items ≤ MAX_POOL_WORDS) };
 }
 
 impl<A: Allocator> Pool<A> {

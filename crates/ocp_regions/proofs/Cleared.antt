@@ -9,7 +9,7 @@ use Rattle.std.specs.FinMap.{from_entries, entries, find, get, insert, get-entri
 use Rattle.std.specs.BTreeMap.{is_at}
 use Rattle.ocp_regions.specs.declared.fault.AccessFault.{AccessFault}
 use Rattle.ocp_profile.specs.declared.profile.Profile.{Profile}
-use Rattle.ocp_regions.specs.Memory.{Octets, entries_from, memory_of, work_octets, zeros, cleared, octets_at, in_front, with_octets, with_arguments, stored, low_octets, meets_arguments}
+use Rattle.ocp_regions.specs.Memory.{Octets, entries_from, memory_of, work_octets, zeros, zeros_over, octets_at, in_front, with_octets, with_arguments, memory_after_store, low_octets, meets_arguments}
 use Rattle.ocp_regions.proofs.Entries.{octet_in, placed_octet, or_else, get_memory}
 use Rattle.ocp_regions.proofs.Written.{zeros_again, read_arguments, length_low}
 use Rattle.ocp_regions.specs.declared.fault.AccessFault.TheVariants.{AccessOutside, WriteToArguments}
@@ -28,16 +28,16 @@ find_zero [] q = refl
 find_zero (e ∷ es) q = ap (cond (is_at (nat_cmp q) e.0) (Some 0)) (find_zero es q) ∙ zero_or (is_at (nat_cmp q) e.0) e.1 (find nat_cmp q es)
 
 -- a cleared memory at an address
-pub get-cleared : (m : Octets) (q : ℕ) → get (cleared m) q ≡ zeroed (get m q)
-unfolding cleared
+pub get-cleared : (m : Octets) (q : ℕ) → get (zeros_over m) q ≡ zeroed (get m q)
+unfolding zeros_over
 get-cleared m q = get-from_entries nat_cmp_total (map (λ address. (address, 0)) (map (λ e. e.0) (entries m))) q ∙ find_zero (entries m) q ∙ ap zeroed (sym (get-entries m q))
 
 same : (m n : Octets) → ((q : ℕ) → get m q ≡ get n q) → m ≡ n
 same m n h = same_map nat_cmp_total nat_cmp-IsAntisymmetric m n h
 
 -- memories with the same addresses are cleared to the same
-same_cleared : (m n : Octets) → ((q : ℕ) → zeroed (get m q) ≡ zeroed (get n q)) → cleared m ≡ cleared n
-same_cleared m n h = same (cleared m) (cleared n) (λ q. get-cleared m q ∙ h q ∙ sym (get-cleared n q))
+same_cleared : (m n : Octets) → ((q : ℕ) → zeroed (get m q) ≡ zeroed (get n q)) → zeros_over m ≡ zeros_over n
+same_cleared m n h = same (zeros_over m) (zeros_over n) (λ q. get-cleared m q ∙ h q ∙ sym (get-cleared n q))
 
 zeroed_else : (x y : Option ℕ) → zeroed (or_else x y) ≡ or_else (zeroed x) (zeroed y)
 zeroed_else (Some x) y = refl
@@ -59,7 +59,7 @@ zeros_in os first q =
     ∙ sym (placed_octet (replicate (length os) 0) first q)
 
 -- regions are cleared one by one
-pub cleared_regions : (s a w : List ℕ) → memory_of (replicate (length s) 0) (replicate (length a) 0) (replicate (length w) 0) ≡ cleared (memory_of s a w)
+pub cleared_regions : (s a w : List ℕ) → memory_of (replicate (length s) 0) (replicate (length a) 0) (replicate (length w) 0) ≡ zeros_over (memory_of s a w)
 cleared_regions s a w = same _ _ (λ q.
     let x = octet_in (entries_from 0x1000_0000 s) q in
     let y = octet_in (entries_from 0x2000_0000 a) q in
@@ -84,7 +84,7 @@ there_too false v o h = refl
 at_same : (q a : ℕ) → is_at (nat_cmp q) a ≡ true → q ≡ a
 at_same q a h = grind (arith, nat_tests)
 
-kept_at : (m : Octets) (a v : ℕ) → is_some (get m a) ≡ true → cleared (insert m a v) ≡ cleared m
+kept_at : (m : Octets) (a v : ℕ) → is_some (get m a) ≡ true → zeros_over (insert m a v) ≡ zeros_over m
 kept_at m a v h = same_cleared (insert m a v) m (λ q.
     ap zeroed (get-insert nat_cmp_total m a v q)
     ∙ there_too (is_at (nat_cmp q) a) v (get m q) (λ e. ap (λ x. is_some (get m x)) (at_same q a e) ∙ h))
@@ -99,12 +99,12 @@ some_in_front (Some x) None = refl
 some_in_front None os = refl
 
 -- which octets are there is known from the addresses
-there_at : (m n : Octets) (q : ℕ) → cleared m ≡ cleared n → is_some (get m q) ≡ is_some (get n q)
+there_at : (m n : Octets) (q : ℕ) → zeros_over m ≡ zeros_over n → is_some (get m q) ≡ is_some (get n q)
 there_at m n q e =
     sym (some_zeroed (get m q)) ∙ ap is_some (sym (get-cleared m q)) ∙ ap (λ x. is_some (get x q)) e
     ∙ ap is_some (get-cleared n q) ∙ some_zeroed (get n q)
 
-there_from : (m n : Octets) (q k : ℕ) → cleared m ≡ cleared n → is_some (octets_at m q k) ≡ is_some (octets_at n q k)
+there_from : (m n : Octets) (q k : ℕ) → zeros_over m ≡ zeros_over n → is_some (octets_at m q k) ≡ is_some (octets_at n q k)
 there_from m n q zero e = refl
 there_from m n q (suc k) e =
     let next = (q + 1) % 2 ^ 64 in
@@ -122,7 +122,7 @@ second_true true b h = h
 second_true false b h = absurd cc
 
 -- so do octets put where there are some
-kept_from : (m : Octets) (q : ℕ) (os : List ℕ) → is_some (octets_at m q (length os)) ≡ true → cleared (with_octets m q os) ≡ cleared m
+kept_from : (m : Octets) (q : ℕ) (os : List ℕ) → is_some (octets_at m q (length os)) ≡ true → zeros_over (with_octets m q os) ≡ zeros_over m
 kept_from m q [] h = refl
 kept_from m q (o ∷ os) h =
     let next = (q + 1) % 2 ^ 64 in
@@ -138,13 +138,13 @@ stored_if true false m new written e = (refl, same_Ok written new e)
     same_Ok a b e = cc
 stored_if false met m new written e = absurd cc
 
-pub cleared_store : (old new : Octets) (address n number : ℕ) → stored old address n number ≡ Ok new → cleared new ≡ cleared old
+pub cleared_store : (old new : Octets) (address n number : ℕ) → memory_after_store old address n number ≡ Ok new → zeros_over new ≡ zeros_over old
 cleared_store old new address n number e =
     let is = stored_if (is_some (octets_at old address n)) (meets_arguments address n) old new (with_octets old address (low_octets n number)) e in
-    ap cleared (sym is.1) ∙ kept_from old address (low_octets n number) (ap (λ k. is_some (octets_at old address k)) (length_low n number) ∙ is.0)
+    ap zeros_over (sym is.1) ∙ kept_from old address (low_octets n number) (ap (λ k. is_some (octets_at old address k)) (length_low n number) ∙ is.0)
 
 -- a profile's memory
-pub cleared_zeros : (profile : Profile) → cleared (zeros profile) ≡ zeros profile
+pub cleared_zeros : (profile : Profile) → zeros_over (zeros profile) ≡ zeros profile
 unfolding zeros
 cleared_zeros profile =
     sym (cleared_regions (replicate 4096 0) (replicate 256 0) (replicate (work_octets profile) 0))
@@ -154,7 +154,7 @@ arguments_there : (profile : Profile) → is_some (octets_at (zeros profile) 0x2
 unfolding zeros
 arguments_there profile = ap is_some (read_arguments (replicate 4096 0) (replicate 256 0) (replicate (work_octets profile) 0) 0 256 0x2000_0000 (length-replicate {A = ℕ} 4096 0) (length-replicate {A = ℕ} 256 0) (omega (arith, length-replicate {A = ℕ} 256 0)) refl)
 
-pub cleared_arguments : (profile : Profile) (octets : List ℕ) → length octets ≤ 256 → cleared (with_arguments (zeros profile) octets) ≡ zeros profile
+pub cleared_arguments : (profile : Profile) (octets : List ℕ) → length octets ≤ 256 → zeros_over (with_arguments (zeros profile) octets) ≡ zeros profile
 unfolding with_arguments
 cleared_arguments profile octets h =
     let zs = octets ++ replicate (256 - length octets) 0 in

@@ -1,20 +1,20 @@
 //! Laws on memories. The functions do nothing when they run: their contracts are the laws.
 ghost use Rattle.std.specs.Prelude.{◌≡◌, ◌≤◌, ℕ, List, length, Ok};
 ghost use Rattle.ocp_profile.specs.declared.profile.Profile.{Profile};
-ghost use Rattle.ocp_regions.specs.Memory.{Octets, zeros, cleared, with_arguments, stored};
+ghost use Rattle.ocp_regions.specs.Memory.{Octets, zeros, zeros_over, with_arguments, memory_after_store};
 
 /// A profile's memory of zeros is cleared as it is, and so it is again with arguments in it:
 /// clearing leaves nothing of them, and the addresses are the profile's.
 #[tactic(auto, using(crate::proofs::Cleared::cleared_zeros, crate::proofs::Cleared::cleared_arguments))]
 pub fn cleared_memory_is_the_first_one()
-    ensures zeros { (profile : Profile) → cleared (zeros profile) ≡ zeros profile }
+    ensures zeros { (profile : Profile) → zeros_over (zeros profile) ≡ zeros profile }
     ensures arguments { (profile : Profile) (octets : List ℕ) → length octets ≤ 256 →
-        cleared (with_arguments (zeros profile) octets) ≡ zeros profile }
+        zeros_over (with_arguments (zeros profile) octets) ≡ zeros profile }
 {}
 
 /// A store keeps which addresses there are.
 #[tactic(auto, using(crate::proofs::Cleared::cleared_store))]
 pub fn stores_keep_the_addresses()
     ensures { (old new : Octets) (address n number : ℕ) →
-        stored old address n number ≡ Ok new → cleared new ≡ cleared old }
+        memory_after_store old address n number ≡ Ok new → zeros_over new ≡ zeros_over old }
 {}

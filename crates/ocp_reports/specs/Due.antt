@@ -26,5 +26,5 @@ due_dispatches time due =
     (completion due.origin.ack due.failure) []
 
 -- the reports of all of them, in their order
-abbrev pub drained : ℕ → List Due → List Dispatch
-drained time due = flat_map (due_dispatches time) due
+abbrev pub drain_dispatches : ℕ → List Due → List Dispatch
+drain_dispatches time due = flat_map (due_dispatches time) due

@@ -6,7 +6,7 @@ ghost use Rattle.obcp_messages.specs.declared.report.Report.{Report as Sent};
 ghost use Rattle.pus_fields.specs.Telemetry.{telemetry_octets};
 ghost use Rattle.ocp_reports.specs.Origin.{dispatch_of};
 ghost use Rattle.ocp_reports.specs.Reports.{report_of, dispatch_of_notice, reports_of};
-ghost use Rattle.ocp_reports.specs.Due.{due_dispatches, drained};
+ghost use Rattle.ocp_reports.specs.Due.{due_dispatches, drain_dispatches};
 ghost use Rattle.ocp_reports.specs.Packets.{packets, telemetry_of, IsTelemetryPacket};
 
 use crate::{CopiedReports, Octets, Origin, Reports};
@@ -195,7 +195,7 @@ impl Sender {
         due: &[Due],
     ) -> Result<CopiedReports<A>, AllocError>
         ensures { IfOk result
-            (λ r. r ≡ packets self.now.apid self.now.count (drained time due.now)) }
+            (λ r. r ≡ packets self.now.apid self.now.count (drain_dispatches time due.now)) }
     {
         let mut reports = Reports::new(alloc);
         for one in due {

@@ -2,7 +2,7 @@
 use Rattle.std.proofs.Common.{◌≡◌, List, [], ◌∷◌, ◌++◌, length, drop, map, refl, ap, sym, subst, ◌∙◌, append_assoc}
 use Rattle.std.proofs.lemmas.List.{append-nil}
 use Rattle.ocp_core.specs.Log.{Log, Entry}
-use Rattle.ocp_core.specs.Marks.{Marked}
+use Rattle.ocp_core.specs.Marks.{MarkedEntry}
 use Rattle.ocp_seats.specs.Seats.{Grows}
 use Rattle.ocp_seats.specs.Going.{GoesOn}
 
@@ -24,9 +24,9 @@ goes_on_start start now same = subst (λ (l : Log). GoesOn start l) same (record
   journal = ap (λ (es : List Entry). record start { entries = es }) (sym (append-nil start.entries) ∙ ap (λ (es : List Entry). start.entries ++ es) (sym (drop_all start.entries)));
 })
 
-pub goes_on_further : (start old new : Log) (entries : List Marked) → GoesOn start old → Grows old new entries → GoesOn start new
+pub goes_on_further : (start old new : Log) (entries : List MarkedEntry) → GoesOn start old → Grows old new entries → GoesOn start new
 goes_on_further start old new entries one grows =
-    let more : List Entry = map (λ (m : Marked). m.entry) entries in
+    let more : List Entry = map (λ (m : MarkedEntry). m.entry) entries in
     let first : List Entry = drop (length start.entries) old.entries in
     let journal : new ≡ record start { entries = start.entries ++ (first ++ more) } =
     grows.journal

@@ -14,13 +14,13 @@ use Rattle.ocp_world.specs.Slice.{outcome_in, slice_count, slice_last}
 use Rattle.ocp_world.specs.After.{Answer, Requested, Stepped, Commanded, after, is_accepted}
 use Rattle.ocp_core.specs.Log.{Log, Entry, Steps, world_of, is_full, with_entry, entry_for, full_answer, answer_in, log_after}
 use Rattle.ocp_core.specs.Slice.{slice_in, slice_log}
-use Rattle.ocp_core.specs.Marks.{Marked, mark_in, marked}
+use Rattle.ocp_core.specs.Marks.{MarkedEntry, mark_in, entries_with_marks}
 use Rattle.ocp_core.specs.declared.answers.CommitOutcome.{CommitOutcome}
 use Rattle.ocp_core.specs.declared.answers.CommitOutcome.TheVariants as C
-use Rattle.ocp_core.specs.Tickets.{Worked, IsRun}
+use Rattle.ocp_core.specs.Tickets.{WorkContents, IsRun}
 use Rattle.ocp_core.specs.Commits.{Commits}
 use Rattle.ocp_core.specs.Receipts.{reports_in}
-use Rattle.ocp_seats.specs.Receipts.{counted, step_entries, slice_entries, commit_entries, reported, command_entries}
+use Rattle.ocp_seats.specs.Receipts.{count_entries, step_entries, slice_entries, commit_entries, report_entries, command_entries}
 use Rattle.ocp_seats.specs.Seats.{Grows}
 use Rattle.ocp_seats.proofs.Marking.{marked-with_entry, event_mark, slice_mark, slice_some}
 
@@ -28,19 +28,19 @@ use Rattle.ocp_seats.proofs.Marking.{marked-with_entry, event_mark, slice_mark, 
 same_log : (log : Log) → log ≡ record log { entries = log.entries ++ [] }
 same_log log = ap (λ es. record log { entries = es }) (sym (append-nil log.entries))
 
-pub grows_none : (log new : Log) (entries : List Marked) → new ≡ log → entries ≡ [] → Grows log new entries
-grows_none log new entries is none = subst (λ es. Grows log new es) (sym none) (subst (λ l. Grows log l []) (sym is) (record { journal = same_log log; marks = sym (append-nil (marked log)) }))
+pub grows_none : (log new : Log) (entries : List MarkedEntry) → new ≡ log → entries ≡ [] → Grows log new entries
+grows_none log new entries is none = subst (λ es. Grows log new es) (sym none) (subst (λ l. Grows log l []) (sym is) (record { journal = same_log log; marks = sym (append-nil (entries_with_marks log)) }))
 
 pub grows_one : (log new : Log) (entry : Entry) (mark : Answer) → new ≡ with_entry log entry → mark ≡ mark_in (world_of log) entry → Grows log new (record { entry = entry; mark = mark } ∷ [])
 grows_one log new entry mark is marks = record {
   journal = is;
-  marks = ap marked is ∙ marked-with_entry log entry ∙ ap (λ a. marked log ++ record { entry = entry; mark = a } ∷ []) (sym marks);
+  marks = ap entries_with_marks is ∙ marked-with_entry log entry ∙ ap (λ a. entries_with_marks log ++ record { entry = entry; mark = a } ∷ []) (sym marks);
 }
 
 -- ---- an event
 
 -- its entry with its answer, where it is accepted
-abbrev event_entries : Event → Answer → List Marked
+abbrev event_entries : Event → Answer → List MarkedEntry
 event_entries e a = cond (is_accepted a) (record { entry = entry_for e; mark = a } ∷ []) []
 
 none_full : (e : Event) → event_entries e (full_answer e) ≡ []
@@ -95,7 +95,7 @@ pub grows_command : (log new : Log) (by id : ℕ) (command : Command) (r : Resul
 grows_command log new by id command r is left = subst (λ es. Grows log new es) (command_entries_are by id command r) (grows_event log new (Debug by id command) (Commanded r) is left)
 
 -- an event that is answered with reports, a request or a drain
-pub grows_reported : {E : Type 0} (log new : Log) (e : Event) (r : Result (List (List ℕ) × E) EngineFault) → Answers (reports_in r) (answer_in log e) → OnOk r (new ≡ log_after log e) → OnErr r (new ≡ log) → Grows log new (reported (entry_for e) (reports_in r))
+pub grows_reported : {E : Type 0} (log new : Log) (e : Event) (r : Result (List (List ℕ) × E) EngineFault) → Answers (reports_in r) (answer_in log e) → OnOk r (new ≡ log_after log e) → OnErr r (new ≡ log) → Grows log new (report_entries (entry_for e) (reports_in r))
 grows_reported log new e (Ok done) is left same = grows_event log new e (Requested (Ok done.0)) (sym is) left
 grows_reported log new e (Err fault) is left same = grows_none log new [] same refl
 
@@ -110,10 +110,10 @@ slice_by log by id budget taken full =
     (cond full (record { count = 0; last = S.JournalFull }) (record { count = slice_count (world_of log) by id budget; last = slice_last (world_of log) by id S.Ran budget }))
     (record { count = 0; last = outcome_in (after (world_of log) (Step by id)).answer })
 
-slice_entries_some : (by id : ℕ) (s : Slice) → (s.count ≡ 0 → ⊥) → slice_entries by id s ≡ counted by id s.count s.last
+slice_entries_some : (by id : ℕ) (s : Slice) → (s.count ≡ 0 → ⊥) → slice_entries by id s ≡ count_entries by id s.count s.last
 slice_entries_some by id s some =
     let none : (s.count == 0) ≡ false = grind arith in
-    ap (λ b. cond b [] (counted by id s.count s.last)) none
+    ap (λ b. cond b [] (count_entries by id s.count s.last)) none
 
 grows_slice_by : (log : Log) (by id budget : ℕ) (taken full : Bool) → Grows log (slice_log_by log by id (suc budget) taken full) (slice_entries by id (slice_by log by id (suc budget) taken full))
 grows_slice_by log by id budget false full = grows_none log log [] refl refl
@@ -134,7 +134,7 @@ grows_slice log new by id (suc budget) s low is left =
 
 -- ---- a commit
 
-pub grows_commit : ((old new : Log) (by : ℕ) (w : Worked) (count : ℕ) → IsRun w → Commits old new by w (C.Committed count) → marked new ≡ marked old ++ record { entry = Steps by w.id count; mark = Stepped S.Ran } ∷ []) → (old new : Log) (by : ℕ) (w : Worked) (o : CommitOutcome) → IsRun w → Commits old new by w o → Grows old new (commit_entries by w.id o)
+pub grows_commit : ((old new : Log) (by : ℕ) (w : WorkContents) (count : ℕ) → IsRun w → Commits old new by w (C.Committed count) → entries_with_marks new ≡ entries_with_marks old ++ record { entry = Steps by w.id count; mark = Stepped S.Ran } ∷ []) → (old new : Log) (by : ℕ) (w : WorkContents) (o : CommitOutcome) → IsRun w → Commits old new by w o → Grows old new (commit_entries by w.id o)
 grows_commit law old new by w C.Empty run is = grows_none old new [] is.1 refl
 grows_commit law old new by w C.Stale run is = grows_none old new [] is.2 refl
 grows_commit law old new by w C.JournalFull run is = grows_none old new [] is.3 refl

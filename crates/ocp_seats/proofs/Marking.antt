@@ -6,17 +6,17 @@ use Rattle.ocp_world.specs.After.{After, after}
 use Rattle.ocp_world.specs.Replay.{replay_from}
 use Rattle.ocp_world.specs.Slice.{outcome_in, goes_on, slice_count, slice_last}
 use Rattle.ocp_core.specs.Log.{Log, Entry, events_of, expand, with_entry, entry_for, world_of}
-use Rattle.ocp_core.specs.Marks.{last_outcome, mark_in, marked_from, marked}
+use Rattle.ocp_core.specs.Marks.{last_outcome, mark_in, entries_with_marks_from, entries_with_marks}
 use Rattle.ocp_core.proofs.Replays.{replay_from-append}
 
-marked_from-append : (w : World) (xs ys : List Entry) → marked_from w (xs ++ ys) ≡ marked_from w xs ++ marked_from (replay_from w (expand xs)) ys
+marked_from-append : (w : World) (xs ys : List Entry) → entries_with_marks_from w (xs ++ ys) ≡ entries_with_marks_from w xs ++ entries_with_marks_from (replay_from w (expand xs)) ys
 marked_from-append w [] ys = refl
 marked_from-append w (x ∷ xs) ys =
     ap (λ rest. record { entry = x; mark = mark_in w x } ∷ rest) (marked_from-append (replay_from w (events_of x)) xs ys
-    ∙ ap (λ v. marked_from (replay_from w (events_of x)) xs ++ marked_from v ys) (sym (replay_from-append w (events_of x) (expand xs))))
+    ∙ ap (λ v. entries_with_marks_from (replay_from w (events_of x)) xs ++ entries_with_marks_from v ys) (sym (replay_from-append w (events_of x) (expand xs))))
 
-pub marked-with_entry : (log : Log) (e : Entry) → marked (with_entry log e) ≡ marked log ++ record { entry = e; mark = mark_in (world_of log) e } ∷ []
-unfolding world_of marked
+pub marked-with_entry : (log : Log) (e : Entry) → entries_with_marks (with_entry log e) ≡ entries_with_marks log ++ record { entry = e; mark = mark_in (world_of log) e } ∷ []
+unfolding world_of entries_with_marks
 marked-with_entry log e = marked_from-append (opening log.profile log.apid log.words) log.entries (e ∷ [])
 
 -- the mark of an event's entry is its answer

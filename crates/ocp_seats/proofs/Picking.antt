@@ -7,7 +7,7 @@ use Rattle.ocp_table.specs.Records.{Rec, Records}
 use Rattle.ocp_table.specs.Snapshots.{Snapshot, snapshot_by}
 use Rattle.ocp_world.specs.Slice.{is_running, is_running_status}
 use Rattle.ocp_world.specs.NextRunning.{Runs, IsNextRunning}
-use Rattle.ocp_core.specs.Tickets.{Taken, ticket_by, ticket_at}
+use Rattle.ocp_core.specs.Tickets.{TicketContents, ticket_by, ticket_at}
 
 -- where a procedure runs there is one whose turn is next
 pub one_is_next : (m : Records) (after : Option ℕ) (id : ℕ) → Runs m id → IsNextRunning m after None → ⊥
@@ -27,8 +27,8 @@ by_record id (Some r) runs none = by_status id r.control.status r runs none
 pub running_has_ticket : (m : Records) (id : ℕ) → Runs m id → ticket_at id (get m id) ≡ None → ⊥
 running_has_ticket m id runs none = by_record id (get m id) runs none
 
-by_snapshot : (id : ℕ) (o : Option Snapshot) (t : Taken) → Some t ≡ ticket_by id o → t.id ≡ id
+by_snapshot : (id : ℕ) (o : Option Snapshot) (t : TicketContents) → Some t ≡ ticket_by id o → t.id ≡ id
 by_snapshot id None t is = cc
 by_snapshot id (Some base) t is =
     let same : t ≡ record { id = id; base = base } = cc in
-    ap (λ (x : Taken). x.id) same
+    ap (λ (x : TicketContents). x.id) same

@@ -3,11 +3,11 @@ use Rattle.std.specs.Prelude.{◌≡◌, ◌<◌, ◌+◌, ℕ, List, [], ◌++�
 use Rattle.ocp_core.specs.Log.{Log}
 use Rattle.ocp_seats.specs.declared.seat.SeatFault.{SeatFault}
 use Rattle.ocp_seats.specs.declared.seat.SeatFault.TheVariants as seat
-use Rattle.ocp_core.specs.Marks.{Marked, marked}
+use Rattle.ocp_core.specs.Marks.{MarkedEntry, entries_with_marks}
 
 -- the engine, the number of its entries at the start, the number of seats handed out, the procedure
 -- taken last by any seat, and how many entries came since the start
-pub record Booked : Type 0 where
+pub record BookContents : Type 0 where
   pub engine : Log
   pub start : ℕ
   pub seats : ℕ
@@ -15,24 +15,25 @@ pub record Booked : Type 0 where
   pub count : ℕ
 
 -- a seat's number, its receipts, and the amount of its share
-pub record Seated : Type 0 where
+pub record SeatContents : Type 0 where
   pub number : ℕ
-  pub receipts : List Marked
+  pub receipts : List MarkedEntry
   pub share : ℕ
 
 -- the seat gained these receipts
-pub record Gained (old new : Seated) (entries : List Marked) : Type 0 where
+pub record Gains (old new : SeatContents) (entries : List MarkedEntry) : Type 0 where
   pub number : new.number ≡ old.number
   pub receipts : new.receipts ≡ old.receipts ++ entries
   pub share : new.share ≡ old.share + length entries
 
 -- the journal is the old one followed by these entries, and their marks are those of its replay
-pub record Grows (old new : Log) (entries : List Marked) : Type 0 where
-  pub journal : new ≡ record old { entries = old.entries ++ map (λ (m : Marked). m.entry) entries }
-  pub marks : marked new ≡ marked old ++ entries
+pub record Grows (old new : Log) (entries : List MarkedEntry) : Type 0 where
+  pub journal :
+      new ≡ record old { entries = old.entries ++ map (λ (m : MarkedEntry). m.entry) entries }
+  pub marks : entries_with_marks new ≡ entries_with_marks old ++ entries
 
 -- the engine's journal gained these entries, and what else the book keeps stays
-pub record Changed (old new : Booked) (entries : List Marked) : Type 0 where
+pub record GrowsBy (old new : BookContents) (entries : List MarkedEntry) : Type 0 where
   pub engine : Grows old.engine new.engine entries
   pub start : new.start ≡ old.start
   pub seats : new.seats ≡ old.seats
@@ -40,7 +41,7 @@ pub record Changed (old new : Booked) (entries : List Marked) : Type 0 where
   pub count : new.count ≡ old.count + length entries
 
 -- the book handed out its next seat
-pub record HandedOut (old new : Booked) (seat : Seated) : Type 0 where
+pub record HandsOut (old new : BookContents) (seat : SeatContents) : Type 0 where
   pub below : old.seats < 64
   pub engine : new.engine ≡ old.engine
   pub start : new.start ≡ old.start
@@ -52,6 +53,6 @@ pub record HandedOut (old new : Booked) (seat : Seated) : Type 0 where
   pub share : seat.share ≡ 0
 
 -- why no seat is handed out; memory only where there is one
-abbrev pub RefusesSeat : Booked → SeatFault → Type 0
+abbrev pub RefusesSeat : BookContents → SeatFault → Type 0
 RefusesSeat old seat.SeatsFull = old.seats ≡ 64
 RefusesSeat old seat.Memory = old.seats < 64

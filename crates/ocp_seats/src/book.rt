@@ -1,9 +1,9 @@
 //! The book of a shared engine.
 
 ghost use Rattle.std.specs.Prelude.{◌≡◌, ◌≤◌, ◌+◌, None, IfOk, IfErr, drop, length, map};
-ghost use Rattle.ocp_core.specs.Marks.{marked};
-ghost use Rattle.ocp_core.specs.Journal.{marked_of};
-ghost use Rattle.ocp_seats.specs.Seats.{HandedOut, RefusesSeat};
+ghost use Rattle.ocp_core.specs.Marks.{entries_with_marks};
+ghost use Rattle.ocp_core.specs.Journal.{entry_with_mark};
+ghost use Rattle.ocp_seats.specs.Seats.{HandsOut, RefusesSeat};
 ghost use Rattle.ocp_seats.specs.Taking.{Takes, RefusesTake};
 
 use crate::{Engine, Entry, MAX_SEATS, Naming, Seat, SeatFault, Ticket};
@@ -27,14 +27,14 @@ pub struct Book<L: Naming, A: Allocator = Global> {
 
 impl<L: Naming, A: Allocator> Model for Book<L, A> {
     ghost use Rattle.std.specs.Prelude.{◌≡◌, ◌≤◌, ◌+◌, length};
-    ghost use Rattle.ocp_seats.specs.Seats.{Booked};
+    ghost use Rattle.ocp_seats.specs.Seats.{BookContents};
     ghost use Rattle.ocp_seats.specs.Going.{GoesOn};
 
-    ghost Value = { Booked };
+    ghost Value = { BookContents };
 
-    ghost use Rattle.ocp_seats.specs.Mirror.Codes.{booked_code};
+    ghost use Rattle.ocp_seats.specs.Mirror.Codes.{book_code};
 
-    ghost coded = { booked_code };
+    ghost coded = { book_code };
 
     ghost view = { λ b. record {
       engine = b.engine;
@@ -80,7 +80,7 @@ impl<L: Naming, A: Allocator> Book<L, A> {
 
     /// The next seat, whose receipts have room for all entries that the engine still has room for.
     pub fn seat(&mut self, alloc: A) -> Result<Seat<L, A>, SeatFault>
-        ensures ok { IfOk result (λ seat. HandedOut self.old self.new seat) }
+        ensures ok { IfOk result (λ seat. HandsOut self.old self.new seat) }
         ensures err { IfErr result (λ why. (self.new ≡ self.old) × RefusesSeat self.old why) }
     {
         if self.seats == MAX_SEATS {
@@ -124,7 +124,7 @@ impl<L: Naming, A: Allocator> Book<L, A> {
     }
 
     /// How many seats are handed out.
-    pub fn handed_out(&self) -> u16
+    pub fn seat_count(&self) -> u16
         ensures value { result ≡ self.now.seats }
         ensures most { result ≤ 64 }
     {
@@ -133,7 +133,8 @@ impl<L: Naming, A: Allocator> Book<L, A> {
 
     /// The entries since the start.
     pub(crate) fn since(&self) -> &[Entry<A>]
-        ensures { map marked_of result.now ≡ drop self.now.start (marked self.now.engine) }
+        ensures { map entry_with_mark result.now
+            ≡ drop self.now.start (entries_with_marks self.now.engine) }
     {
         &self.engine.journal().entries()[self.start..]
     }

@@ -9,7 +9,7 @@ ghost use Rattle.ocp_core.specs.Log.{answer_in, log_after};
 ghost use Rattle.ocp_core.specs.Slice.{slice_in, slice_log};
 ghost use Rattle.ocp_core.specs.Commits.{Commits};
 ghost use Rattle.ocp_seats.specs.Receipts.{step_entries, slice_entries, commit_entries, request_entries, drain_entries, command_entries};
-ghost use Rattle.ocp_seats.specs.Seats.{Changed, Gained};
+ghost use Rattle.ocp_seats.specs.Seats.{GrowsBy, Gains};
 
 use crate::gains::{clear_break, commit, drain, request, set_break, slice, step, trace};
 use crate::{
@@ -35,9 +35,9 @@ impl<L: Naming, A: Allocator> Book<L, A> {
             (answer_in self.old.engine (world.Request seat.old.number time octets.now)) }
         ensures journal { OnOk result (self.new.engine ≡
             log_after self.old.engine (world.Request seat.old.number time octets.now)) }
-        ensures book { Changed self.old self.new
+        ensures book { GrowsBy self.old self.new
             (request_entries seat.old.number time octets.now result) }
-        ensures seat { Gained seat.old seat.new
+        ensures seat { Gains seat.old seat.new
             (request_entries seat.old.number time octets.now result) }
         ensures err { OnErr result ((self.new ≡ self.old) × (seat.new ≡ seat.old)) }
     {
@@ -61,9 +61,9 @@ impl<L: Naming, A: Allocator> Book<L, A> {
             (answer_in self.old.engine (world.Drain seat.old.number time)) }
         ensures journal { OnOk result (self.new.engine ≡
             log_after self.old.engine (world.Drain seat.old.number time)) }
-        ensures book { Changed self.old self.new
+        ensures book { GrowsBy self.old self.new
             (drain_entries seat.old.number time result) }
-        ensures seat { Gained seat.old seat.new
+        ensures seat { Gains seat.old seat.new
             (drain_entries seat.old.number time result) }
         ensures err { OnErr result ((self.new ≡ self.old) × (seat.new ≡ seat.old)) }
     {
@@ -79,8 +79,8 @@ impl<L: Naming, A: Allocator> Book<L, A> {
             answer_in self.old.engine (world.Step seat.old.number id) }
         ensures journal { self.new.engine ≡
             log_after self.old.engine (world.Step seat.old.number id) }
-        ensures book { Changed self.old self.new (step_entries seat.old.number id result) }
-        ensures seat { Gained seat.old seat.new (step_entries seat.old.number id result) }
+        ensures book { GrowsBy self.old self.new (step_entries seat.old.number id result) }
+        ensures seat { Gains seat.old seat.new (step_entries seat.old.number id result) }
     {
         let by = seat.number;
         let mark = step(&mut self.engine, by, id);
@@ -107,8 +107,8 @@ impl<L: Naming, A: Allocator> Book<L, A> {
         ensures slice { result ≡ slice_in self.old.engine seat.old.number id budget }
         ensures journal { self.new.engine ≡
             slice_log self.old.engine seat.old.number id budget }
-        ensures book { Changed self.old self.new (slice_entries seat.old.number id result) }
-        ensures seat { Gained seat.old seat.new (slice_entries seat.old.number id result) }
+        ensures book { GrowsBy self.old self.new (slice_entries seat.old.number id result) }
+        ensures seat { Gains seat.old seat.new (slice_entries seat.old.number id result) }
     {
         let by = seat.number;
         let slice = slice(&mut self.engine, by, id, budget);
@@ -128,8 +128,8 @@ impl<L: Naming, A: Allocator> Book<L, A> {
     #[tactic(auto, using(crate::proofs::Going::goes_on_further))]
     pub fn commit(&mut self, seat: &mut Seat<L, A>, work: Work<A>) -> CommitOutcome
         ensures engine { Commits self.old.engine self.new.engine seat.old.number work result }
-        ensures book { Changed self.old self.new (commit_entries seat.old.number work.id result) }
-        ensures seat { Gained seat.old seat.new (commit_entries seat.old.number work.id result) }
+        ensures book { GrowsBy self.old self.new (commit_entries seat.old.number work.id result) }
+        ensures seat { Gains seat.old seat.new (commit_entries seat.old.number work.id result) }
     {
         let by = seat.number;
         let id = work.id();
@@ -158,9 +158,9 @@ impl<L: Naming, A: Allocator> Book<L, A> {
             (world.Debug seat.old.number id (command.SetBreak place)) }
         ensures journal { self.new.engine ≡ log_after self.old.engine
             (world.Debug seat.old.number id (command.SetBreak place)) }
-        ensures book { Changed self.old self.new
+        ensures book { GrowsBy self.old self.new
             (command_entries seat.old.number id (command.SetBreak place) result) }
-        ensures seat { Gained seat.old seat.new
+        ensures seat { Gains seat.old seat.new
             (command_entries seat.old.number id (command.SetBreak place) result) }
     {
         let by = seat.number;
@@ -184,9 +184,9 @@ impl<L: Naming, A: Allocator> Book<L, A> {
             (world.Debug seat.old.number id (command.ClearBreak place)) }
         ensures journal { self.new.engine ≡ log_after self.old.engine
             (world.Debug seat.old.number id (command.ClearBreak place)) }
-        ensures book { Changed self.old self.new
+        ensures book { GrowsBy self.old self.new
             (command_entries seat.old.number id (command.ClearBreak place) result) }
-        ensures seat { Gained seat.old seat.new
+        ensures seat { Gains seat.old seat.new
             (command_entries seat.old.number id (command.ClearBreak place) result) }
     {
         let by = seat.number;
@@ -205,9 +205,9 @@ impl<L: Naming, A: Allocator> Book<L, A> {
             (world.Debug seat.old.number id (command.SetTrace on)) }
         ensures journal { self.new.engine ≡ log_after self.old.engine
             (world.Debug seat.old.number id (command.SetTrace on)) }
-        ensures book { Changed self.old self.new
+        ensures book { GrowsBy self.old self.new
             (command_entries seat.old.number id (command.SetTrace on) result) }
-        ensures seat { Gained seat.old seat.new
+        ensures seat { Gains seat.old seat.new
             (command_entries seat.old.number id (command.SetTrace on) result) }
     {
         let by = seat.number;

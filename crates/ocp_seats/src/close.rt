@@ -1,8 +1,8 @@
 //! The end of a book: whether all seats are back, and their receipts are the journal.
 
 ghost use Rattle.std.specs.Prelude.{◌≡◌, ◌≢◌, ◌≤◌, ◌<◌, ◌==◌, ◌↔◌, ℕ, All, IfErr, IfNone, IfOk, IfSome, IsTrue, MatchOption, count_by, drop, length, map, slice_index, slice_index_or};
-ghost use Rattle.ocp_core.specs.Marks.{marked};
-ghost use Rattle.ocp_core.specs.Journal.{marked_of};
+ghost use Rattle.ocp_core.specs.Marks.{entries_with_marks};
+ghost use Rattle.ocp_core.specs.Journal.{entry_with_mark};
 ghost use Rattle.ocp_seats.specs.Going.{GoesOn};
 ghost use Rattle.ocp_seats.specs.Closing.{IsWhole, IsReceipted, RefusesClose};
 ghost use Rattle.ocp_seats.specs.History.{IsHistory};
@@ -36,13 +36,13 @@ impl<L: Naming, A: Allocator> Book<L, A> {
         ensures ok { IfOk result (λ engine. engine ≡ self.engine) }
         ensures whole { IfOk result (λ _. IsWhole seats.items self.seats) }
         ensures receipted { IfOk result (λ _.
-            IsReceipted (drop self.start (marked self.engine)) seats.items) }
+            IsReceipted (drop self.start (entries_with_marks self.engine)) seats.items) }
         ensures history { IfOk result (λ _. IsHistory self.engine self.start seats.items) }
         ensures goes_on { IfOk result (λ engine. GoesOn L.log engine) }
         ensures start { IfOk result (λ _. self.start ≡ length L.log.entries) }
         ensures back { IfErr result (λ refused. (refused.book ≡ self) × (refused.seats ≡ seats)) }
         ensures err { IfErr result (λ refused. RefusesClose self.seats
-            (drop self.start (marked self.engine)) seats.items refused.why) }
+            (drop self.start (entries_with_marks self.engine)) seats.items refused.why) }
     {
         match self.close_fault(seats.as_slice()) {
             Some(why) => Err(NotClosed {
@@ -57,14 +57,14 @@ impl<L: Naming, A: Allocator> Book<L, A> {
     /// Why the book is not closed with these seats.
     fn close_fault(&self, seats: &[Seat<L, A>]) -> Option<CloseFault>
         ensures none { IfNone result (IsWhole seats.now self.now.seats
-            × IsReceipted (drop self.now.start (marked self.now.engine)) seats.now) }
+            × IsReceipted (drop self.now.start (entries_with_marks self.now.engine)) seats.now) }
         ensures some { IfSome result (λ why. RefusesClose self.now.seats
-            (drop self.now.start (marked self.now.engine)) seats.now why) }
+            (drop self.now.start (entries_with_marks self.now.engine)) seats.now why) }
     {
-        if !is_whole(seats, self.handed_out()) {
+        if !is_whole(seats, self.seat_count()) {
             return Some(CloseFault::MissingSeat);
         }
-        if !is_receipted(self.since(), seats, self.handed_out()) {
+        if !is_receipted(self.since(), seats, self.seat_count()) {
             return Some(CloseFault::ReceiptMismatch);
         }
         None
@@ -125,7 +125,7 @@ fn is_receipted<L: Naming, A: Allocator>(
 ) -> bool
     requires whole { IsWhole seats.now handed_out }
     requires most { handed_out ≤ 64 }
-    ensures { IsTrue result ↔ IsReceipted (map marked_of entries.now) seats.now }
+    ensures { IsTrue result ↔ IsReceipted (map entry_with_mark entries.now) seats.now }
 {
     let mut places = first_places();
     for entry in entries {

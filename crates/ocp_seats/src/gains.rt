@@ -8,7 +8,7 @@ ghost use Rattle.ocp_world.specs.Answers.{Answers};
 ghost use Rattle.ocp_core.specs.Log.{Asked, Drained, answer_in, log_after};
 ghost use Rattle.ocp_core.specs.Slice.{slice_in, slice_log};
 ghost use Rattle.ocp_core.specs.Commits.{Commits};
-ghost use Rattle.ocp_core.specs.Journal.{marked_of};
+ghost use Rattle.ocp_core.specs.Journal.{entry_with_mark};
 ghost use Rattle.ocp_core.specs.Receipts.{reports_in};
 ghost use Rattle.ocp_seats.specs.Receipts.{step_entries, slice_entries, commit_entries, request_entries, drain_entries, command_entries};
 ghost use Rattle.ocp_seats.specs.Seats.{Grows};
@@ -30,7 +30,7 @@ pub(crate) fn request<A: Allocator + Copy>(
         (answer_in engine.old (world.Request by time octets.now)) }
     ensures journal { OnOk result
         (engine.new ≡ log_after engine.old (world.Request by time octets.now)) }
-    ensures receipt { IfOk result (λ r. marked_of r.1 ≡
+    ensures receipt { IfOk result (λ r. entry_with_mark r.1 ≡
         record { entry = Asked by time octets.now; mark = Requested (Ok r.0) }) }
     ensures gain { Grows engine.old engine.new
         (request_entries by time octets.now (reports_in result)) }
@@ -47,7 +47,7 @@ pub(crate) fn drain<A: Allocator + Copy>(
 ) -> Result<(Reports<A>, Entry<A>), EngineFault>
     ensures answer { Answers (reports_in result) (answer_in engine.old (world.Drain by time)) }
     ensures journal { OnOk result (engine.new ≡ log_after engine.old (world.Drain by time)) }
-    ensures receipt { IfOk result (λ r. marked_of r.1 ≡
+    ensures receipt { IfOk result (λ r. entry_with_mark r.1 ≡
         record { entry = Drained by time; mark = Requested (Ok r.0) }) }
     ensures gain { Grows engine.old engine.new (drain_entries by time (reports_in result)) }
     ensures err { OnErr result (engine.new ≡ engine.old) }

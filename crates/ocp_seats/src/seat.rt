@@ -1,7 +1,7 @@
 //! Seats.
 
 ghost use Rattle.std.specs.Prelude.{◌≡◌, ◌↔◌, ◌<◌, ◌+◌, ◌^◌, [], ◌∷◌, ℕ, IsTrue, Some, length, map, slice_get};
-ghost use Rattle.ocp_seats.specs.Seats.{Gained};
+ghost use Rattle.ocp_seats.specs.Seats.{Gains};
 
 use ocp_core::{Engine, Entry};
 use std::alloc::{AllocError, Allocator, Global};
@@ -41,18 +41,18 @@ pub struct Seat<L: Naming, A: Allocator = Global> {
 
 impl<L: Naming, A: Allocator> Model for Seat<L, A> {
     ghost use Rattle.std.specs.Prelude.{◌≡◌, ◌≤◌, length, map, vec_len, vec_capacity};
-    ghost use Rattle.ocp_core.specs.Journal.{marked_of};
-    ghost use Rattle.ocp_seats.specs.Seats.{Seated};
+    ghost use Rattle.ocp_core.specs.Journal.{entry_with_mark};
+    ghost use Rattle.ocp_seats.specs.Seats.{SeatContents};
 
-    ghost Value = { Seated };
+    ghost Value = { SeatContents };
 
-    ghost use Rattle.ocp_seats.specs.Mirror.Codes.{seated_code};
+    ghost use Rattle.ocp_seats.specs.Mirror.Codes.{seat_code};
 
-    ghost coded = { seated_code };
+    ghost coded = { seat_code };
 
     ghost view = { λ s. record {
       number = s.number;
-      receipts = map marked_of s.receipts.items;
+      receipts = map entry_with_mark s.receipts.items;
       share = s.share.amount;
     } };
 
@@ -61,7 +61,7 @@ impl<L: Naming, A: Allocator> Model for Seat<L, A> {
 }
 
 impl<L: Naming, A: Allocator> Seat<L, A> {
-    ghost use Rattle.ocp_core.specs.Journal.{marked_of};
+    ghost use Rattle.ocp_core.specs.Journal.{entry_with_mark};
 
     /// 1, 2 and so on, in the order in which seats are handed out.
     pub fn number(&self) -> u16
@@ -73,7 +73,7 @@ impl<L: Naming, A: Allocator> Seat<L, A> {
     /// One for each entry that the seat's calls appended, the oldest first: a copy of the entry
     /// with its mark.
     pub fn receipts(&self) -> &[Entry<A>]
-        ensures value { map marked_of result.now ≡ self.now.receipts }
+        ensures value { map entry_with_mark result.now ≡ self.now.receipts }
         ensures length { length result.now ≡ length self.now.receipts }
     {
         self.receipts.as_slice()
@@ -82,7 +82,7 @@ impl<L: Naming, A: Allocator> Seat<L, A> {
     /// Whether the receipt at a place is that of an entry.
     pub(crate) fn has_at(&self, place: usize, entry: &Entry<A>) -> bool
         ensures same { IsTrue result ↔
-            (slice_get self.now.receipts place ≡ Some (marked_of entry.now)) }
+            (slice_get self.now.receipts place ≡ Some (entry_with_mark entry.now)) }
         ensures below { IsTrue result → place + 1 < 2 ^ 64 }
     {
         if place >= self.receipts.len() {
@@ -97,7 +97,7 @@ impl<L: Naming, A: Allocator> Seat<L, A> {
         requires { length engine.now.entries + L.room ≡
             engine.now.capacity + (tally.old.total + 1) }
         ensures tally { tally.new.total ≡ tally.old.total + 1 }
-        ensures seat { Gained self.old self.new (marked_of entry ∷ []) }
+        ensures seat { Gains self.old self.new (entry_with_mark entry ∷ []) }
     {
         tally.add(&mut self.share, 1);
         tally.audit(&mut self.share);

@@ -11,7 +11,7 @@ use Rattle.ocp_world.specs.Replay.{replay_from, replay}
 use Rattle.ocp_world.specs.Slice.{is_running, outcome_in}
 use Rattle.ocp_world.specs.NextRunning.{Runs}
 use Rattle.ocp_core.specs.Log.{Log, Entry, Asked, Steps, Debugged, Drained, events_of, expand, world_of}
-use Rattle.ocp_core.specs.Marks.{Marked, last_outcome, mark_in, marked_from, marked}
+use Rattle.ocp_core.specs.Marks.{MarkedEntry, last_outcome, mark_in, entries_with_marks_from, entries_with_marks}
 use Rattle.ocp_core.proofs.Replays.{replay_from-append}
 use Rattle.ocp_slices.specs.Closed.{IsWorked, HasWorked}
 use Rattle.ocp_slices.specs.Instructing.{AreInstructions, IsInstructed}
@@ -23,9 +23,9 @@ append crew w [] ys one two = two
 append crew w (x ∷ xs) ys one two = (one.0, append crew (after w x).world xs ys one.1 two)
 
 -- the entries behind others have the marks of a journal that begins in the world which those leave
-drop_marked : (w : World) (xs ys : List Entry) → drop (length xs) (marked_from w (xs ++ ys)) ≡ marked_from (replay_from w (expand xs)) ys
+drop_marked : (w : World) (xs ys : List Entry) → drop (length xs) (entries_with_marks_from w (xs ++ ys)) ≡ entries_with_marks_from (replay_from w (expand xs)) ys
 drop_marked w [] ys = refl
-drop_marked w (x ∷ xs) ys = drop_marked (replay_from w (events_of x)) xs ys ∙ ap (λ (v : World). marked_from v ys) (sym (replay_from-append w (events_of x) (expand xs)))
+drop_marked w (x ∷ xs) ys = drop_marked (replay_from w (events_of x)) xs ys ∙ ap (λ (v : World). entries_with_marks_from v ys) (sym (replay_from-append w (events_of x) (expand xs)))
 
 -- ---- instructions
 
@@ -70,29 +70,29 @@ module _ (refused : (w : World) (e : Event) → is_accepted (after w e).answer �
     entry crew budget w (Debugged by id command) worked done = absurd worked
     entry crew budget w (Drained by time) worked done = absurd worked
 
-    entries : (crew budget : ℕ) (w : World) (es : List Entry) → All (λ (e : Entry). IsWorked crew budget e) es → All (λ (m : Marked). is_accepted m.mark ≡ true) (marked_from w es) → AreInstructions crew w (expand es)
+    entries : (crew budget : ℕ) (w : World) (es : List Entry) → All (λ (e : Entry). IsWorked crew budget e) es → All (λ (m : MarkedEntry). is_accepted m.mark ≡ true) (entries_with_marks_from w es) → AreInstructions crew w (expand es)
     entries crew budget w [] worked done = tt
     entries crew budget w (e ∷ es) worked done =
         let next : World = replay_from w (events_of e) in
-        let m : Marked = record { entry = e; mark = mark_in w e } in
+        let m : MarkedEntry = record { entry = e; mark = mark_in w e } in
         append crew w (events_of e) (expand es)
-        (entry crew budget w e (All-head (λ (x : Entry). IsWorked crew budget x) e es worked) (All-head (λ (x : Marked). is_accepted x.mark ≡ true) m (marked_from next es) done))
-        (entries crew budget next es (All-tail (λ (x : Entry). IsWorked crew budget x) e es worked) (All-tail (λ (x : Marked). is_accepted x.mark ≡ true) m (marked_from next es) done))
+        (entry crew budget w e (All-head (λ (x : Entry). IsWorked crew budget x) e es worked) (All-head (λ (x : MarkedEntry). is_accepted x.mark ≡ true) m (entries_with_marks_from next es) done))
+        (entries crew budget next es (All-tail (λ (x : Entry). IsWorked crew budget x) e es worked) (All-tail (λ (x : MarkedEntry). is_accepted x.mark ≡ true) m (entries_with_marks_from next es) done))
 
     pub instructed : (start now : Log) (crew budget turns : ℕ) → HasWorked start now crew budget turns → IsInstructed start now crew
-    unfolding world_of marked
+    unfolding world_of entries_with_marks
     instructed start now crew budget turns worked =
         let more : List Entry = drop (length start.entries) now.entries in
         let grown : Log = record start { entries = start.entries ++ more } in
         let is : now ≡ grown = worked.closed.goes_on.journal in
         let split : expand (start.entries ++ more) ≡ expand start.entries ++ expand more = flat_map-append events_of start.entries more in
         let begin : World = opening start.profile start.apid start.words in
-        let since : drop (length start.entries) (marked now) ≡ marked_from (world_of start) more =
-        ap (λ (l : Log). drop (length start.entries) (marked l)) is ∙ drop_marked begin start.entries more in
+        let since : drop (length start.entries) (entries_with_marks now) ≡ entries_with_marks_from (world_of start) more =
+        ap (λ (l : Log). drop (length start.entries) (entries_with_marks l)) is ∙ drop_marked begin start.entries more in
         record {
           events = expand more;
           instructions = entries crew budget (world_of start) more worked.worked
-              (subst (λ (l : List Marked). All (λ (m : Marked). is_accepted m.mark ≡ true) l) since worked.done);
+              (subst (λ (l : List MarkedEntry). All (λ (m : MarkedEntry). is_accepted m.mark ≡ true) l) since worked.done);
           world = ap world_of is ∙ ap (replay_from begin) split ∙ replay_from-append begin (expand start.entries) (expand more);
           journal = ap (λ (l : Log). expand l.entries) is ∙ split;
         }

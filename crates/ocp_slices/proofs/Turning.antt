@@ -7,55 +7,55 @@ use Rattle.ocp_table.specs.declared.answers.StepOutcome.TheVariants as S
 use Rattle.ocp_table.specs.Snapshots.{count_of}
 use Rattle.ocp_core.specs.declared.answers.CommitOutcome.{CommitOutcome}
 use Rattle.ocp_core.specs.declared.answers.CommitOutcome.TheVariants as C
-use Rattle.ocp_core.specs.Marks.{Marked}
-use Rattle.ocp_core.specs.Tickets.{Taken, Worked, IsRun}
-use Rattle.ocp_seats.specs.Seats.{Seated, Gained}
+use Rattle.ocp_core.specs.Marks.{MarkedEntry}
+use Rattle.ocp_core.specs.Tickets.{TicketContents, WorkContents, IsRun}
+use Rattle.ocp_seats.specs.Seats.{SeatContents, Gains}
 use Rattle.ocp_seats.specs.Receipts.{step_entries, commit_entries}
 use Rattle.ocp_slices.specs.declared.turn.Turn.TheVariants.{Committed, Stepped, Stale, Full}
 use Rattle.ocp_slices.specs.Replies.{Reply, TakeReply, CommitReply, StepReply}
-use Rattle.ocp_slices.specs.Turns.{HandsIn, Asks, Turned}
+use Rattle.ocp_slices.specs.Turns.{HandsIn, Asks, IsTurn}
 
 -- a seat that gained nothing is as it was
-gained_none : (old new : Seated) → Gained old new [] → new ≡ old
+gained_none : (old new : SeatContents) → Gains old new [] → new ≡ old
 gained_none old new one =
     let receipts : new.receipts ≡ old.receipts = one.receipts ∙ append-nil old.receipts in
     let share : new.share ≡ old.share = omega (arith, one.share) in
     ap (λ (k : ℕ). record { number = k; receipts = new.receipts; share = new.share }) one.number
-    ∙ ap (λ (l : List Marked). record { number = old.number; receipts = l; share = new.share }) receipts
+    ∙ ap (λ (l : List MarkedEntry). record { number = old.number; receipts = l; share = new.share }) receipts
     ∙ ap (λ (k : ℕ). record { number = old.number; receipts = old.receipts; share = k }) share
 
 apart : (n : ℕ) → C.Committed n ≡ C.Empty → ⊥
 apart n e = cc
 
-module _ (answers : Reply → Type 0) (budget : ℕ) (old : Seated) (ticket : Taken) (given : answers (TakeReply (Ok ticket))) (work : Worked) (id : work.id ≡ ticket.id) (base : work.base ≡ ticket.base) (count : work.count ≡ count_of ticket.base budget) (ran : IsRun work) where
+module _ (answers : Reply → Type 0) (budget : ℕ) (old : SeatContents) (ticket : TicketContents) (given : answers (TakeReply (Ok ticket))) (work : WorkContents) (id : work.id ≡ ticket.id) (base : work.base ≡ ticket.base) (count : work.count ≡ count_of ticket.base budget) (ran : IsRun work) where
   abbrev hands_in : (o : CommitOutcome) → answers (CommitReply old.number work o) → HandsIn answers budget old.number o
   hands_in o answered = record { ticket = ticket; given = given; work = work; id = id; base = base; count = count; ran = ran; answered = answered }
 
-  pub committed : (n : ℕ) (new : Seated) → answers (CommitReply old.number work (C.Committed n)) → Gained old new (commit_entries old.number work.id (C.Committed n)) → ((C.Committed n ≡ C.Empty) ↔ (work.count ≡ 0)) → ((k : ℕ) → C.Committed n ≡ C.Committed k → k ≡ work.count) → work.count ≤ budget → Turned answers budget old new (Committed n)
+  pub committed : (n : ℕ) (new : SeatContents) → answers (CommitReply old.number work (C.Committed n)) → Gains old new (commit_entries old.number work.id (C.Committed n)) → ((C.Committed n ≡ C.Empty) ↔ (work.count ≡ 0)) → ((k : ℕ) → C.Committed n ≡ C.Committed k → k ≡ work.count) → work.count ≤ budget → IsTurn answers budget old new (Committed n)
   committed n new answered gained empty all within =
       let same : n ≡ work.count = all n refl in
       let some : n ≢ 0 = (λ none. apart n (empty.1 (sym same ∙ none))) in
       let few : n ≤ budget = omega (arith, same, within) in
-      (some, few, (hands_in (C.Committed n) answered, sym same, subst (λ (k : ℕ). Gained old new (commit_entries old.number k (C.Committed n))) id gained))
+      (some, few, (hands_in (C.Committed n) answered, sym same, subst (λ (k : ℕ). Gains old new (commit_entries old.number k (C.Committed n))) id gained))
 
-  pub stale : (new : Seated) → answers (CommitReply old.number work C.Stale) → Gained old new [] → Turned answers budget old new Stale
+  pub stale : (new : SeatContents) → answers (CommitReply old.number work C.Stale) → Gains old new [] → IsTurn answers budget old new Stale
   stale new answered gained = (hands_in C.Stale answered, gained_none old new gained)
 
-  pub full : (new : Seated) → answers (CommitReply old.number work C.JournalFull) → Gained old new [] → Turned answers budget old new Full
+  pub full : (new : SeatContents) → answers (CommitReply old.number work C.JournalFull) → Gains old new [] → IsTurn answers budget old new Full
   full new answered gained = (inl (hands_in C.JournalFull answered), gained_none old new gained)
 
   -- an empty work leaves the seat as it was, and then comes an instruction
-  module _ (empty : answers (CommitReply old.number work C.Empty)) (mid : Seated) (first : Gained old mid []) (asked : ℕ) (is : asked ≡ work.id) where
+  module _ (empty : answers (CommitReply old.number work C.Empty)) (mid : SeatContents) (first : Gains old mid []) (asked : ℕ) (is : asked ≡ work.id) where
     abbrev asks : (o : StepOutcome) → answers (StepReply mid.number asked o) → Asks answers budget old.number o
     asks o answered = record {
       hands_in = hands_in C.Empty empty;
       answered = subst (λ (k : ℕ). answers (StepReply old.number k o)) (is ∙ id) (subst (λ (n : ℕ). answers (StepReply n asked o)) first.number answered);
     }
 
-    pub full_step : (new : Seated) → answers (StepReply mid.number asked S.JournalFull) → Gained mid new [] → Turned answers budget old new Full
+    pub full_step : (new : SeatContents) → answers (StepReply mid.number asked S.JournalFull) → Gains mid new [] → IsTurn answers budget old new Full
     full_step new answered second = (inr (asks S.JournalFull answered), gained_none mid new second ∙ gained_none old mid first)
 
-    pub stepped : (new : Seated) (o : StepOutcome) → o ≢ S.JournalFull → answers (StepReply mid.number asked o) → Gained mid new (step_entries mid.number asked o) → Turned answers budget old new (Stepped o)
+    pub stepped : (new : SeatContents) (o : StepOutcome) → o ≢ S.JournalFull → answers (StepReply mid.number asked o) → Gains mid new (step_entries mid.number asked o) → IsTurn answers budget old new (Stepped o)
     stepped new o differs answered second =
-        let gains : Gained old new (step_entries old.number asked o) = subst (λ (s : Seated). Gained s new (step_entries s.number asked o)) (gained_none old mid first) second in
-        (differs, (asks o answered, subst (λ (k : ℕ). Gained old new (step_entries old.number k o)) (is ∙ id) gains))
+        let gains : Gains old new (step_entries old.number asked o) = subst (λ (s : SeatContents). Gains s new (step_entries s.number asked o)) (gained_none old mid first) second in
+        (differs, (asks o answered, subst (λ (k : ℕ). Gains old new (step_entries old.number k o)) (is ∙ id) gains))

@@ -2,10 +2,10 @@
 use Rattle.std.specs.Prelude.{◌≡◌, ◌≤◌, ℕ, true, List, All, length, drop}
 use Rattle.ocp_world.specs.After.{is_accepted}
 use Rattle.ocp_core.specs.Log.{Log, Entry, Asked, Steps, Debugged, Drained}
-use Rattle.ocp_core.specs.Marks.{Marked, marked}
+use Rattle.ocp_core.specs.Marks.{MarkedEntry, entries_with_marks}
 use Rattle.ocp_seats.specs.declared.close.CloseFault.{CloseFault}
 use Rattle.ocp_seats.specs.declared.close.CloseFault.TheVariants.{MissingSeat, ReceiptMismatch}
-use Rattle.ocp_seats.specs.Seats.{Seated}
+use Rattle.ocp_seats.specs.Seats.{SeatContents}
 use Rattle.ocp_seats.specs.Going.{GoesOn}
 use Rattle.ocp_seats.specs.Closing.{IsWhole}
 use Rattle.ocp_seats.specs.History.{IsHistory}
@@ -13,13 +13,13 @@ use Rattle.ocp_slices.specs.Continuing.{IsWithin}
 
 -- the journal is the one at the start, gone on; the seats' numbers are 1 to their number, each
 -- once; and the entries since the start are, with their marks, just the seats' receipts
-pub record IsClosed (start now : Log) (seats : List Seated) : Type 0 where
+pub record IsClosed (start now : Log) (seats : List SeatContents) : Type 0 where
   pub goes_on : GoesOn start now
   pub whole : IsWhole seats (length seats)
   pub history : IsHistory now (length start.entries) seats
 
 -- a mismatch is told only where the seats' numbers are 1 to their number, each once
-abbrev pub RefusesShared : List Seated → CloseFault → Type 0
+abbrev pub RefusesShared : List SeatContents → CloseFault → Type 0
 RefusesShared seats MissingSeat = Unit {0}
 RefusesShared seats ReceiptMismatch = IsWhole seats (length seats)
 
@@ -35,10 +35,11 @@ IsWorked crew budget (Drained by time) = ⊥
 -- many seats, whose entries are instructions alone, within the budget, the last of each done, and
 -- no more of a seat than its turns
 pub record HasWorked (start now : Log) (crew budget turns : ℕ) : Type 0 where
-  pub seats : List Seated
+  pub seats : List SeatContents
   pub count : length seats ≡ crew
   pub closed : IsClosed start now seats
-  pub few : All (λ (s : Seated). length s.receipts ≤ turns) seats
+  pub few : All (λ (s : SeatContents). length s.receipts ≤ turns) seats
   pub worked : All (λ (e : Entry). IsWorked crew budget e) (drop (length start.entries) now.entries)
   pub done :
-      All (λ (m : Marked). is_accepted m.mark ≡ true) (drop (length start.entries) (marked now))
+      All (λ (m : MarkedEntry). is_accepted m.mark ≡ true)
+      (drop (length start.entries) (entries_with_marks now))

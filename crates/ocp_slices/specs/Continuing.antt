@@ -2,8 +2,8 @@
 use Rattle.std.specs.Prelude.{◌≡◌, ◌≤◌, ◌<◌, ◌⊎◌, ℕ, true, List, ◌++◌, All, length, slice_index_or}
 use Rattle.ocp_world.specs.After.{is_accepted}
 use Rattle.ocp_core.specs.Log.{Entry, Asked, Steps, Debugged, Drained}
-use Rattle.ocp_core.specs.Marks.{Marked}
-use Rattle.ocp_seats.specs.Seats.{Seated}
+use Rattle.ocp_core.specs.Marks.{MarkedEntry}
+use Rattle.ocp_seats.specs.Seats.{SeatContents}
 
 -- instructions of one procedure, at least one and no more than a budget, or one where the budget
 -- is 0
@@ -19,16 +19,16 @@ IsShift number budget (Drained by time) = ⊥
 
 -- the seat keeps its number, and its old receipts begin its new ones; those that came are so many
 -- at most, each of instructions of the seat within the budget, of which the last was done
-pub record Continues (turns budget : ℕ) (old new : Seated) : Type 0 where
+pub record Continues (turns budget : ℕ) (old new : SeatContents) : Type 0 where
   pub number : new.number ≡ old.number
-  pub more : List Marked
+  pub more : List MarkedEntry
   pub receipts : new.receipts ≡ old.receipts ++ more
   pub few : length more ≤ turns
-  pub shifts : All (λ (m : Marked). IsShift old.number budget m.entry) more
-  pub done : All (λ (m : Marked). is_accepted m.mark ≡ true) more
+  pub shifts : All (λ (m : MarkedEntry). IsShift old.number budget m.entry) more
+  pub done : All (λ (m : MarkedEntry). is_accepted m.mark ≡ true) more
 
 -- each seat goes on, and none comes or goes
-pub record AllContinue (turns budget : ℕ) (olds news : List Seated) : Type 0 where
+pub record AllContinue (turns budget : ℕ) (olds news : List SeatContents) : Type 0 where
   pub count : length news ≡ length olds
-  pub each : (k : ℕ) (d : Seated) → k < length olds →
+  pub each : (k : ℕ) (d : SeatContents) → k < length olds →
       Continues turns budget (slice_index_or olds k d) (slice_index_or news k d)

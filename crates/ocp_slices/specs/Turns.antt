@@ -5,9 +5,9 @@ use Rattle.ocp_table.specs.declared.answers.StepOutcome.TheVariants as S
 use Rattle.ocp_table.specs.Snapshots.{count_of}
 use Rattle.ocp_core.specs.declared.answers.CommitOutcome.{CommitOutcome}
 use Rattle.ocp_core.specs.declared.answers.CommitOutcome.TheVariants as C
-use Rattle.ocp_core.specs.Tickets.{Taken, Worked, IsRun}
+use Rattle.ocp_core.specs.Tickets.{TicketContents, WorkContents, IsRun}
 use Rattle.ocp_seats.specs.declared.book.TakeFault.TheVariants as T
-use Rattle.ocp_seats.specs.Seats.{Seated, Gained}
+use Rattle.ocp_seats.specs.Seats.{SeatContents, Gains}
 use Rattle.ocp_seats.specs.Receipts.{step_entries, commit_entries}
 use Rattle.ocp_slices.specs.Replies.{Reply, TakeReply, CommitReply, StepReply}
 use Rattle.ocp_slices.specs.declared.turn.Turn.{Turn}
@@ -16,9 +16,9 @@ use Rattle.ocp_slices.specs.declared.turn.Turn.TheVariants.{Idle, Committed, Ste
 -- a seat was given a ticket, handed in a work of it and was answered this: the work is as many
 -- instructions as the procedure does by itself within the budget
 pub record HandsIn (answers : Reply → Type 0) (budget by : ℕ) (o : CommitOutcome) : Type 0 where
-  pub ticket : Taken
+  pub ticket : TicketContents
   pub given : answers (TakeReply (Ok ticket))
-  pub work : Worked
+  pub work : WorkContents
   pub id : work.id ≡ ticket.id
   pub base : work.base ≡ ticket.base
   pub count : work.count ≡ count_of ticket.base budget
@@ -34,18 +34,18 @@ pub record Asks (answers : Reply → Type 0) (budget by : ℕ) (o : StepOutcome)
 -- what a turn answers is what the board answered, and the seat gains the entry of what was
 -- committed or stepped, or nothing; at least one instruction is committed and no more than the
 -- budget, one is stepped, and a step of a full journal is no step
-abbrev pub Turned : (Reply → Type 0) → ℕ → Seated → Seated → Turn → Type 0
-Turned answers budget old new Idle = answers (TakeReply (Err T.NoneRunning)) × (new ≡ old)
-Turned answers budget old new (Committed count) =
+abbrev pub IsTurn : (Reply → Type 0) → ℕ → SeatContents → SeatContents → Turn → Type 0
+IsTurn answers budget old new Idle = answers (TakeReply (Err T.NoneRunning)) × (new ≡ old)
+IsTurn answers budget old new (Committed count) =
     (count ≢ 0) × (count ≤ budget)
     × ((h : HandsIn answers budget old.number (C.Committed count)) × (h.work.count ≡ count)
-    × Gained old new (commit_entries old.number h.ticket.id (C.Committed count)))
-Turned answers budget old new (Stepped outcome) =
+    × Gains old new (commit_entries old.number h.ticket.id (C.Committed count)))
+IsTurn answers budget old new (Stepped outcome) =
     (outcome ≢ S.JournalFull)
     × ((a : Asks answers budget old.number outcome)
-    × Gained old new (step_entries old.number a.hands_in.ticket.id outcome))
-Turned answers budget old new Stale = HandsIn answers budget old.number C.Stale × (new ≡ old)
-Turned answers budget old new Full =
+    × Gains old new (step_entries old.number a.hands_in.ticket.id outcome))
+IsTurn answers budget old new Stale = HandsIn answers budget old.number C.Stale × (new ≡ old)
+IsTurn answers budget old new Full =
     (HandsIn answers budget old.number C.JournalFull
     ⊎ Asks answers budget old.number S.JournalFull) × (new ≡ old)
-Turned answers budget old new NoMemory = answers (TakeReply (Err T.Memory)) × (new ≡ old)
+IsTurn answers budget old new NoMemory = answers (TakeReply (Err T.Memory)) × (new ≡ old)

@@ -4,7 +4,7 @@ ghost use Rattle.std.specs.Prelude.{◌≡◌, ◌≢◌, ◌≤◌, ◌↔◌, 
 ghost use Rattle.ocp_debug.specs.declared.command.Command.TheVariants as command;
 ghost use Rattle.ocp_core.specs.declared.answers.CommitOutcome.TheVariants.{Empty, Committed};
 ghost use Rattle.ocp_seats.specs.Receipts.{step_entries, slice_entries, commit_entries, request_entries, drain_entries, command_entries};
-ghost use Rattle.ocp_seats.specs.Seats.{Gained};
+ghost use Rattle.ocp_seats.specs.Seats.{Gains};
 ghost use Rattle.ocp_slices.specs.Replies.{Reply, SeatReply, TakeReply, CommitReply, RequestReply, DrainReply, StepReply, SliceReply, CommandReply};
 
 use crate::{
@@ -33,7 +33,7 @@ pub trait Board<L: Naming> {
     /// Hands in a work.
     fn commit(&mut self, seat: &mut Seat<L>, work: Work) -> CommitOutcome
         ensures given { answers (CommitReply seat.old.number work result) }
-        ensures seat { Gained seat.old seat.new (commit_entries seat.old.number work.id result) }
+        ensures seat { Gains seat.old seat.new (commit_entries seat.old.number work.id result) }
         ensures empty { result ≡ Empty ↔ work.count ≡ 0 }
         ensures count { (n : ℕ) → result ≡ Committed n → n ≡ work.count };
 
@@ -46,7 +46,7 @@ pub trait Board<L: Naming> {
         octets: &[u8],
     ) -> Result<Reports, EngineFault>
         ensures given { answers (RequestReply seat.old.number time octets.now result) }
-        ensures seat { Gained seat.old seat.new
+        ensures seat { Gains seat.old seat.new
             (request_entries seat.old.number time octets.now result) };
 
     /// Reports the completions that wait.
@@ -57,40 +57,40 @@ pub trait Board<L: Naming> {
         time: u32,
     ) -> Result<Reports, EngineFault>
         ensures given { answers (DrainReply seat.old.number time result) }
-        ensures seat { Gained seat.old seat.new
+        ensures seat { Gains seat.old seat.new
             (drain_entries seat.old.number time result) };
 
     /// Does one instruction of a procedure.
     fn step(&mut self, seat: &mut Seat<L>, id: u16) -> StepOutcome
         ensures given { answers (StepReply seat.old.number id result) }
-        ensures seat { Gained seat.old seat.new (step_entries seat.old.number id result) };
+        ensures seat { Gains seat.old seat.new (step_entries seat.old.number id result) };
 
     /// Does instructions of a procedure.
     fn slice(&mut self, seat: &mut Seat<L>, id: u16, budget: u32) -> Slice
         requires { 1 ≤ budget }
         ensures given { answers (SliceReply seat.old.number id budget result) }
         ensures within { result.count ≤ budget }
-        ensures seat { Gained seat.old seat.new (slice_entries seat.old.number id result) };
+        ensures seat { Gains seat.old seat.new (slice_entries seat.old.number id result) };
 
     /// Sets a breakpoint.
     fn set_break(&mut self, seat: &mut Seat<L>, id: u16, place: u16) -> Result<(), DebugFault>
         ensures given { answers
             (CommandReply seat.old.number id (command.SetBreak place) result) }
-        ensures seat { Gained seat.old seat.new
+        ensures seat { Gains seat.old seat.new
             (command_entries seat.old.number id (command.SetBreak place) result) };
 
     /// Clears a breakpoint.
     fn clear_break(&mut self, seat: &mut Seat<L>, id: u16, place: u16) -> Result<(), DebugFault>
         ensures given { answers
             (CommandReply seat.old.number id (command.ClearBreak place) result) }
-        ensures seat { Gained seat.old seat.new
+        ensures seat { Gains seat.old seat.new
             (command_entries seat.old.number id (command.ClearBreak place) result) };
 
     /// Sets whether instructions of a procedure are traced.
     fn trace(&mut self, seat: &mut Seat<L>, id: u16, on: bool) -> Result<(), DebugFault>
         ensures given { answers
             (CommandReply seat.old.number id (command.SetTrace on) result) }
-        ensures seat { Gained seat.old seat.new
+        ensures seat { Gains seat.old seat.new
             (command_entries seat.old.number id (command.SetTrace on) result) };
 }
 
@@ -102,11 +102,11 @@ impl<L: Naming> Board<L> for Book<L> {
     ghost use Rattle.ocp_core.specs.Log.{answer_in, log_after};
     ghost use Rattle.ocp_core.specs.Slice.{slice_in, slice_log};
     ghost use Rattle.ocp_core.specs.Commits.{Commits};
-    ghost use Rattle.ocp_seats.specs.Seats.{Changed, HandedOut, RefusesSeat};
+    ghost use Rattle.ocp_seats.specs.Seats.{GrowsBy, HandsOut, RefusesSeat};
     ghost use Rattle.ocp_seats.specs.Taking.{Takes, RefusesTake};
 
     fn seat(&mut self, alloc: Global) -> Result<Seat<L>, SeatFault>
-        ensures ok { IfOk result (λ seat. HandedOut self.old self.new seat) }
+        ensures ok { IfOk result (λ seat. HandsOut self.old self.new seat) }
         ensures err { IfErr result (λ why. (self.new ≡ self.old) × RefusesSeat self.old why) }
         ensures receipts { IfOk result (λ seat. (seat.receipts ≡ []) × (seat.share ≡ 0)) }
         ensures number { IfOk result (λ seat. (1 ≤ seat.number) × (seat.number ≤ 64)) }
@@ -124,8 +124,8 @@ impl<L: Naming> Board<L> for Book<L> {
     #[tactic(auto, using(crate::proofs::Outcomes::empty_exactly, crate::proofs::Outcomes::committed_all))]
     fn commit(&mut self, seat: &mut Seat<L>, work: Work) -> CommitOutcome
         ensures engine { Commits self.old.engine self.new.engine seat.old.number work result }
-        ensures book { Changed self.old self.new (commit_entries seat.old.number work.id result) }
-        ensures seat { Gained seat.old seat.new (commit_entries seat.old.number work.id result) }
+        ensures book { GrowsBy self.old self.new (commit_entries seat.old.number work.id result) }
+        ensures seat { Gains seat.old seat.new (commit_entries seat.old.number work.id result) }
         ensures empty { result ≡ Empty ↔ work.count ≡ 0 }
         ensures count { (n : ℕ) → result ≡ Committed n → n ≡ work.count }
     {
@@ -143,9 +143,9 @@ impl<L: Naming> Board<L> for Book<L> {
             (answer_in self.old.engine (world.Request seat.old.number time octets.now)) }
         ensures journal { OnOk result (self.new.engine ≡
             log_after self.old.engine (world.Request seat.old.number time octets.now)) }
-        ensures book { Changed self.old self.new
+        ensures book { GrowsBy self.old self.new
             (request_entries seat.old.number time octets.now result) }
-        ensures seat { Gained seat.old seat.new
+        ensures seat { Gains seat.old seat.new
             (request_entries seat.old.number time octets.now result) }
         ensures err { OnErr result ((self.new ≡ self.old) × (seat.new ≡ seat.old)) }
     {
@@ -162,9 +162,9 @@ impl<L: Naming> Board<L> for Book<L> {
             (answer_in self.old.engine (world.Drain seat.old.number time)) }
         ensures journal { OnOk result (self.new.engine ≡
             log_after self.old.engine (world.Drain seat.old.number time)) }
-        ensures book { Changed self.old self.new
+        ensures book { GrowsBy self.old self.new
             (drain_entries seat.old.number time result) }
-        ensures seat { Gained seat.old seat.new
+        ensures seat { Gains seat.old seat.new
             (drain_entries seat.old.number time result) }
         ensures err { OnErr result ((self.new ≡ self.old) × (seat.new ≡ seat.old)) }
     {
@@ -176,8 +176,8 @@ impl<L: Naming> Board<L> for Book<L> {
             answer_in self.old.engine (world.Step seat.old.number id) }
         ensures journal { self.new.engine ≡
             log_after self.old.engine (world.Step seat.old.number id) }
-        ensures book { Changed self.old self.new (step_entries seat.old.number id result) }
-        ensures seat { Gained seat.old seat.new (step_entries seat.old.number id result) }
+        ensures book { GrowsBy self.old self.new (step_entries seat.old.number id result) }
+        ensures seat { Gains seat.old seat.new (step_entries seat.old.number id result) }
     {
         Book::step(self, seat, id)
     }
@@ -188,8 +188,8 @@ impl<L: Naming> Board<L> for Book<L> {
         ensures slice { result ≡ slice_in self.old.engine seat.old.number id budget }
         ensures journal { self.new.engine ≡
             slice_log self.old.engine seat.old.number id budget }
-        ensures book { Changed self.old self.new (slice_entries seat.old.number id result) }
-        ensures seat { Gained seat.old seat.new (slice_entries seat.old.number id result) }
+        ensures book { GrowsBy self.old self.new (slice_entries seat.old.number id result) }
+        ensures seat { Gains seat.old seat.new (slice_entries seat.old.number id result) }
     {
         Book::slice(self, seat, id, budget)
     }
@@ -199,9 +199,9 @@ impl<L: Naming> Board<L> for Book<L> {
             (world.Debug seat.old.number id (command.SetBreak place)) }
         ensures journal { self.new.engine ≡ log_after self.old.engine
             (world.Debug seat.old.number id (command.SetBreak place)) }
-        ensures book { Changed self.old self.new
+        ensures book { GrowsBy self.old self.new
             (command_entries seat.old.number id (command.SetBreak place) result) }
-        ensures seat { Gained seat.old seat.new
+        ensures seat { Gains seat.old seat.new
             (command_entries seat.old.number id (command.SetBreak place) result) }
     {
         Book::set_break(self, seat, id, place)
@@ -212,9 +212,9 @@ impl<L: Naming> Board<L> for Book<L> {
             (world.Debug seat.old.number id (command.ClearBreak place)) }
         ensures journal { self.new.engine ≡ log_after self.old.engine
             (world.Debug seat.old.number id (command.ClearBreak place)) }
-        ensures book { Changed self.old self.new
+        ensures book { GrowsBy self.old self.new
             (command_entries seat.old.number id (command.ClearBreak place) result) }
-        ensures seat { Gained seat.old seat.new
+        ensures seat { Gains seat.old seat.new
             (command_entries seat.old.number id (command.ClearBreak place) result) }
     {
         Book::clear_break(self, seat, id, place)
@@ -225,9 +225,9 @@ impl<L: Naming> Board<L> for Book<L> {
             (world.Debug seat.old.number id (command.SetTrace on)) }
         ensures journal { self.new.engine ≡ log_after self.old.engine
             (world.Debug seat.old.number id (command.SetTrace on)) }
-        ensures book { Changed self.old self.new
+        ensures book { GrowsBy self.old self.new
             (command_entries seat.old.number id (command.SetTrace on) result) }
-        ensures seat { Gained seat.old seat.new
+        ensures seat { Gains seat.old seat.new
             (command_entries seat.old.number id (command.SetTrace on) result) }
     {
         Book::trace(self, seat, id, on)

@@ -1,7 +1,7 @@
 //! How a shared engine is closed.
 
 ghost use Rattle.std.specs.Prelude.{◌≡◌, IfOk, IfErr, drop};
-ghost use Rattle.ocp_core.specs.Marks.{marked};
+ghost use Rattle.ocp_core.specs.Marks.{entries_with_marks};
 ghost use Rattle.ocp_seats.specs.Closing.{RefusesClose};
 ghost use Rattle.ocp_slices.specs.Closed.{IsClosed, RefusesShared};
 
@@ -37,7 +37,7 @@ fn close_book<L: Naming>(book: Book<L>, seats: Vec<Seat<L>>) -> Result<Engine, S
     ensures ok { IfOk result (λ engine. IsClosed L.log engine seats.items) }
     ensures back { IfErr result (λ fault. fault.seats ≡ seats) }
     ensures err { IfErr result (λ fault. RefusesClose book.seats
-        (drop book.start (marked book.engine)) seats.items fault.why) }
+        (drop book.start (entries_with_marks book.engine)) seats.items fault.why) }
     ensures why { IfErr result (λ fault. RefusesShared seats.items fault.why) }
 {
     match book.close(seats) {

@@ -4,7 +4,7 @@ ghost use Rattle.std.specs.Prelude.{◌≡◌, ◌≤◌, ◌+◌, ◌↔◌, �
 ghost use Rattle.ocp_debug.specs.declared.command.Command.TheVariants as command;
 ghost use Rattle.ocp_core.specs.declared.answers.CommitOutcome.TheVariants.{Empty, Committed};
 ghost use Rattle.ocp_seats.specs.Receipts.{step_entries, slice_entries, commit_entries, request_entries, drain_entries, command_entries};
-ghost use Rattle.ocp_seats.specs.Seats.{Gained};
+ghost use Rattle.ocp_seats.specs.Seats.{Gains};
 ghost use Rattle.ocp_slices.specs.Replies.{SeatReply, TakeReply, CommitReply, RequestReply, DrainReply, StepReply, SliceReply, CommandReply};
 
 use crate::{
@@ -80,7 +80,7 @@ impl<L: Naming, B: Board<L>> SharedEngine<L, B> {
     /// is dropped then.
     pub fn commit<R: Wait>(&self, rt: &R, seat: &mut Seat<L>, work: Work) -> CommitOutcome
         ensures given { B.answers (CommitReply seat.old.number work result) }
-        ensures seat { Gained seat.old seat.new (commit_entries seat.old.number work.id result) }
+        ensures seat { Gains seat.old seat.new (commit_entries seat.old.number work.id result) }
         ensures empty { result ≡ Empty ↔ work.count ≡ 0 }
         ensures count { (n : ℕ) → result ≡ Committed n → n ≡ work.count }
     {
@@ -98,7 +98,7 @@ impl<L: Naming, B: Board<L>> SharedEngine<L, B> {
         octets: &[u8],
     ) -> Result<Reports, EngineFault>
         ensures given { B.answers (RequestReply seat.old.number time octets.now result) }
-        ensures seat { Gained seat.old seat.new
+        ensures seat { Gains seat.old seat.new
             (request_entries seat.old.number time octets.now result) }
     {
         self.board.lock(rt).request(alloc, seat, time, octets)
@@ -115,7 +115,7 @@ impl<L: Naming, B: Board<L>> SharedEngine<L, B> {
         time: u32,
     ) -> Result<Reports, EngineFault>
         ensures given { B.answers (DrainReply seat.old.number time result) }
-        ensures seat { Gained seat.old seat.new
+        ensures seat { Gains seat.old seat.new
             (drain_entries seat.old.number time result) }
     {
         self.board.lock(rt).drain(alloc, seat, time)
@@ -124,7 +124,7 @@ impl<L: Naming, B: Board<L>> SharedEngine<L, B> {
     /// Does one instruction of a procedure, as the engine's call with the seat's number.
     pub fn step<R: Wait>(&self, rt: &R, seat: &mut Seat<L>, id: u16) -> StepOutcome
         ensures given { B.answers (StepReply seat.old.number id result) }
-        ensures seat { Gained seat.old seat.new (step_entries seat.old.number id result) }
+        ensures seat { Gains seat.old seat.new (step_entries seat.old.number id result) }
     {
         self.board.lock(rt).step(seat, id)
     }
@@ -135,7 +135,7 @@ impl<L: Naming, B: Board<L>> SharedEngine<L, B> {
         requires { 1 ≤ budget }
         ensures given { B.answers (SliceReply seat.old.number id budget result) }
         ensures within { result.count ≤ budget }
-        ensures seat { Gained seat.old seat.new (slice_entries seat.old.number id result) }
+        ensures seat { Gains seat.old seat.new (slice_entries seat.old.number id result) }
     {
         self.board.lock(rt).slice(seat, id, budget)
     }
@@ -150,7 +150,7 @@ impl<L: Naming, B: Board<L>> SharedEngine<L, B> {
     ) -> Result<(), DebugFault>
         ensures given { B.answers
             (CommandReply seat.old.number id (command.SetBreak place) result) }
-        ensures seat { Gained seat.old seat.new
+        ensures seat { Gains seat.old seat.new
             (command_entries seat.old.number id (command.SetBreak place) result) }
     {
         self.board.lock(rt).set_break(seat, id, place)
@@ -166,7 +166,7 @@ impl<L: Naming, B: Board<L>> SharedEngine<L, B> {
     ) -> Result<(), DebugFault>
         ensures given { B.answers
             (CommandReply seat.old.number id (command.ClearBreak place) result) }
-        ensures seat { Gained seat.old seat.new
+        ensures seat { Gains seat.old seat.new
             (command_entries seat.old.number id (command.ClearBreak place) result) }
     {
         self.board.lock(rt).clear_break(seat, id, place)
@@ -183,7 +183,7 @@ impl<L: Naming, B: Board<L>> SharedEngine<L, B> {
     ) -> Result<(), DebugFault>
         ensures given { B.answers
             (CommandReply seat.old.number id (command.SetTrace on) result) }
-        ensures seat { Gained seat.old seat.new
+        ensures seat { Gains seat.old seat.new
             (command_entries seat.old.number id (command.SetTrace on) result) }
     {
         self.board.lock(rt).trace(seat, id, on)

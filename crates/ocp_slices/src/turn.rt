@@ -4,7 +4,7 @@ ghost use Rattle.std.specs.Prelude.{◌≡◌, ◌≤◌};
 ghost use Rattle.ocp_table.specs.Snapshots.{count_of};
 ghost use Rattle.ocp_core.specs.Tickets.{IsRun};
 ghost use Rattle.ocp_slices.specs.Continuing.{Continues};
-ghost use Rattle.ocp_slices.specs.Turns.{Turned};
+ghost use Rattle.ocp_slices.specs.Turns.{IsTurn};
 
 use crate::{
     Board, CommitOutcome, Naming, Seat, SharedEngine, StepOutcome, TakeFault, Ticket, Work,
@@ -74,7 +74,7 @@ impl<L: Naming, B: Board<L>> SharedEngine<L, B> {
         budget: u32,
         gate: &G,
     ) -> Turn
-        ensures turned { Turned B.answers budget seat.old seat.new result }
+        ensures turned { IsTurn B.answers budget seat.old seat.new result }
     {
         let ticket = match self.take(rt, alloc) {
             Ok(ticket) => ticket,

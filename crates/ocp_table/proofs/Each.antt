@@ -18,7 +18,7 @@ use Rattle.ocp_table.specs.declared.control.Pending.TheVariants as pending
 use Rattle.ocp_table.specs.declared.answers.InstructionOutcome.{InstructionOutcome}
 use Rattle.ocp_table.specs.Records.{Rec}
 use Rattle.ocp_table.specs.Effects.{Effect, Loaded, Unloaded, Changed, Kept, Started, Sent, Pended, Quit, Resumed, Stepped, Failed}
-use Rattle.ocp_table.specs.RequestTable.{Directive, Load, Unload, Activate, Stop, Suspend, Resume, Abort, Communicate, Step, Changes, Fails, pended, sent, transition}
+use Rattle.ocp_table.specs.RequestTable.{Directive, Load, Unload, Activate, Stop, Suspend, Resume, Abort, Communicate, Step, Changes, Fails, postponement, communication, transition}
 use Rattle.ocp_table.specs.Deciding.{bad_code, effect_of_load, outcome_in, effect_of_step, effect_by, effect_on}
 
 -- what has to hold of each form, with what is known where it comes
@@ -44,7 +44,7 @@ each_step : (P : Effect → Type 0) (id : ℕ) (o : Option InstructionOutcome) �
 each_step P id (Some outcome) failed stepped = stepped outcome refl
 each_step P id None failed stepped = failed
 
-each_sent : (P : Effect → Type 0) (id : ℕ) (o : Option Rec) (full : Bool) (words : List ℕ) (there : ℕ) → P (Kept (Failed MailboxFull)) → (there + length words ≤ MAX_MAILBOX_WORDS → P (Changed id (Sent words))) → P (effect_by (sent words there) id o full)
+each_sent : (P : Effect → Type 0) (id : ℕ) (o : Option Rec) (full : Bool) (words : List ℕ) (there : ℕ) → P (Kept (Failed MailboxFull)) → (there + length words ≤ MAX_MAILBOX_WORDS → P (Changed id (Sent words))) → P (effect_by (communication words there) id o full)
 each_sent P id o full words there failed fits =
     elim (nat_le (there + length words) MAX_MAILBOX_WORDS) as (λ b. nat_le (there + length words) MAX_MAILBOX_WORDS ≡ b → P (effect_by (cond b (Changes (Sent words)) (Fails MailboxFull)) id o full)) [
       | true ↦ λ is. fits (grind (arith, nat_tests))
@@ -52,11 +52,11 @@ each_sent P id o full words there failed fits =
     ] refl
 
 module _ (P : Directive → Effect → Type 0) (id : ℕ) (r : Rec) (full : Bool) (h : Holds P id (Some r) full) where
-  each_stop : (s : ℕ) (from : PendingOrigin) (no_room : Bool) → r.control.status ≡ Running → P (Stop s from no_room) (effect_by (pended no_room (pending.Stop s from)) id (Some r) full)
+  each_stop : (s : ℕ) (from : PendingOrigin) (no_room : Bool) → r.control.status ≡ Running → P (Stop s from no_room) (effect_by (postponement no_room (pending.Stop s from)) id (Some r) full)
   each_stop s from true is = h.failed (Stop s from true) OutboxFull
   each_stop s from false is = h.stop_pends s from r refl is
 
-  each_suspend : (s : ℕ) (from : PendingOrigin) (no_room : Bool) → r.control.status ≡ Running → P (Suspend s from no_room) (effect_by (pended no_room (pending.Suspend s from)) id (Some r) full)
+  each_suspend : (s : ℕ) (from : PendingOrigin) (no_room : Bool) → r.control.status ≡ Running → P (Suspend s from no_room) (effect_by (postponement no_room (pending.Suspend s from)) id (Some r) full)
   each_suspend s from true is = h.failed (Suspend s from true) OutboxFull
   each_suspend s from false is = h.suspend_pends s from r refl is
 
@@ -65,7 +65,7 @@ module _ (P : Directive → Effect → Type 0) (id : ℕ) (r : Rec) (full : Bool
   each_pending s from no_room (pending.Suspend t older) there is = each_suspend s from no_room is
   each_pending s from no_room (pending.Stop t older) there is = h.failed (Suspend s from no_room) StopPending
 
-  each_words : (words : List ℕ) → P (Communicate words) (effect_by (sent words (length r.mailbox)) id (Some r) full)
+  each_words : (words : List ℕ) → P (Communicate words) (effect_by (communication words (length r.mailbox)) id (Some r) full)
   each_words words = each_sent (P (Communicate words)) id (Some r) full words (length r.mailbox) (h.failed (Communicate words) MailboxFull) (λ fits. h.sends words r refl fits)
 
   each_of : (d : Directive) (s : Status) → r.control.status ≡ s → P d (effect_by (transition d (Some s) r.control.pending (length r.mailbox)) id (Some r) full)

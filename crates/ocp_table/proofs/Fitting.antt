@@ -14,7 +14,7 @@ use Rattle.ocp_table.specs.Outbox.{places_of, places_in, pendings, HasPlaces}
 use Rattle.ocp_table.specs.Effects.{Effect, Changed, Kept, Stepped, record_after, records_by, records_with, outbox_by}
 use Rattle.ocp_table.specs.RequestTable.{Step, transition}
 use Rattle.ocp_table.specs.Deciding.{outcome_in, effect_of_step, effect_by, effect_on}
-use Rattle.ocp_table.specs.Shown.{filed_of_effect}
+use Rattle.ocp_table.specs.Shown.{dues_of_effect}
 use Rattle.ocp_table.specs.Slices.{Store, store_after, store_after_events}
 use Rattle.ocp_table.proofs.Totals.{of, total-insert}
 use Rattle.ocp_table.proofs.Rooms.{pendings-empty, filed-fits}
@@ -37,17 +37,17 @@ eventful_by pool id r Inactive = tt
 eventful_by pool id r Running = eventful_step id (outcome_in r pool)
 eventful_by pool id r Held = tt
 
-event_places : (e : Effect) (r : Rec) → IsEventful e → length (filed_of_effect e r.control.pending) + places_in (record_after e r) ≤ places_in r
+event_places : (e : Effect) (r : Rec) → IsEventful e → length (dues_of_effect e r.control.pending) + places_in (record_after e r) ≤ places_in r
 event_places (Changed id (Stepped outcome)) r is = let fits = filed-fits (Stepped outcome) r.control in omega (arith, fits)
 event_places (Kept why) r is = omega arith
 event_places e r is = absurd is
 
 -- what it files had a place
-pub event-fits : (pool : List ℕ) (id : ℕ) (r next : Rec) (outbox filed : List Due) → filed ≡ outbox ++ filed_of_effect (effect_on (Step pool) id (Some r) true) r.control.pending → next ≡ record_after (effect_on (Step pool) id (Some r) true) r → length outbox + places_in r ≤ 64 → length filed + places_in next ≤ 64
+pub event-fits : (pool : List ℕ) (id : ℕ) (r next : Rec) (outbox filed : List Due) → filed ≡ outbox ++ dues_of_effect (effect_on (Step pool) id (Some r) true) r.control.pending → next ≡ record_after (effect_on (Step pool) id (Some r) true) r → length outbox + places_in r ≤ 64 → length filed + places_in next ≤ 64
 event-fits pool id r next outbox filed files is fits =
     let e = effect_on (Step pool) id (Some r) true in
     let fewer = event_places e r (eventful_by pool id r r.control.status) in
-    let both : length filed ≡ length outbox + length (filed_of_effect e r.control.pending) = ap length files ∙ length-append outbox (filed_of_effect e r.control.pending) in
+    let both : length filed ≡ length outbox + length (dues_of_effect e r.control.pending) = ap length files ∙ length-append outbox (dues_of_effect e r.control.pending) in
     let after : places_in next ≡ places_in (record_after e r) = ap places_in is in
     omega (arith, fewer, both, after, fits)
 

@@ -9,7 +9,7 @@ use Rattle.std.proofs.lemmas.Bool.Decides.{nat_tests}
 use Rattle.obcp_types.specs.declared.status.Status.{Status}
 use Rattle.obcp_types.specs.declared.status.Status.TheVariants.{Inactive, Running, Held}
 use Rattle.ocp_profile.specs.declared.profile.Profile.{Profile}
-use Rattle.bpf_step.specs.Machine.{State, started, restarted}
+use Rattle.bpf_step.specs.Machine.{State, machine_at_start, machine_at_restart}
 use Rattle.ocp_table.specs.Records.{Rec, Records}
 use Rattle.ocp_table.specs.Effects.{Change, Changed, Started, Sent, Resumed, BreakSet, BreakCleared, TraceSet, record_by, new_record, with_change, records_by, failure_of}
 use Rattle.ocp_table.specs.RequestTable.{Directive, Step, transition}
@@ -66,10 +66,10 @@ module _ (m : Records) (q : ℕ) where
 
   -- what the law says of one machine
   abbrev Comes : State → Type 0
-  Comes machine = (machine_of (get m q) ≡ Some machine) ⊎ (((profile : Profile) × (machine ≡ started profile [])) ⊎ IsRestarted (machine_of (get m q)) machine)
+  Comes machine = (machine_of (get m q) ≡ Some machine) ⊎ (((profile : Profile) × (machine ≡ machine_at_start profile [])) ⊎ IsRestarted (machine_of (get m q)) machine)
 
   -- a record that is put in has a new machine
-  put_new : (id : ℕ) (r : Rec) (profile : Profile) → r.machine ≡ started profile [] → IsFit (insert m id r)
+  put_new : (id : ℕ) (r : Rec) (profile : Profile) → r.machine ≡ machine_at_start profile [] → IsFit (insert m id r)
   put_new id r profile start machine is =
       elim (eq_by_cmp nat_cmp q id) as (λ b. machine_of (cond b (Some r) (get m q)) ≡ Some machine → Comes machine) [
         | true ↦ λ here. inr (inl (profile, sym (of_some r.machine machine here) ∙ start))
@@ -77,7 +77,7 @@ module _ (m : Records) (q : ℕ) where
       ] (sym (ap machine_of (get-insert nat_cmp_total m id r q)) ∙ is)
 
   -- a record that is put in has the machine that was there, which was started anew
-  put_restarted : (id : ℕ) (r new : Rec) (arguments : List ℕ) → get m id ≡ Some r → new.machine ≡ restarted arguments r.machine → IsFit (insert m id new)
+  put_restarted : (id : ℕ) (r new : Rec) (arguments : List ℕ) → get m id ≡ Some r → new.machine ≡ machine_at_restart arguments r.machine → IsFit (insert m id new)
   put_restarted id r new arguments here start machine is =
       elim (eq_by_cmp nat_cmp q id) as (λ b. eq_by_cmp nat_cmp q id ≡ b → machine_of (cond b (Some new) (get m q)) ≡ Some machine → Comes machine) [
         | true ↦ λ at now.

@@ -10,7 +10,7 @@ use Rattle.ocp_table.specs.declared.control.Control.{Control}
 use Rattle.ocp_table.specs.declared.control.Pending.{Pending}
 use Rattle.ocp_table.specs.declared.control.Pending.TheVariants as pending
 use Rattle.ocp_table.specs.Records.{Rec, Records}
-use Rattle.ocp_table.specs.Effects.{Change, Pended, Effect, Changed, control_by, records_by, filed_by_change, outbox_by}
+use Rattle.ocp_table.specs.Effects.{Change, Pended, Effect, Changed, control_by, records_by, dues_by_change, outbox_by}
 use Rattle.ocp_table.specs.Outbox.{places_of, places_in, pendings, is_outbox_full}
 use Rattle.ocp_table.specs.Shown.{HasPlaceFor}
 use Rattle.ocp_table.proofs.Weighing.{entry, entry_in, waiting, waiting-empty, due, pended_by_change, pended_there, pended_by, moves, waiting-there, balance, files}
@@ -47,10 +47,10 @@ pendings-empty = sym (waiting-pendings empty) ∙ waiting-empty one
 -- ---- one record that changes
 
 -- what a change files had a place
-pub filed-fits : (change : Change) (c : Control) → length (filed_by_change change c.pending) + places_of (control_by change c).pending ≤ places_of c.pending + pended_by_change one change
+pub filed-fits : (change : Change) (c : Control) → length (dues_by_change change c.pending) + places_of (control_by change c).pending ≤ places_of c.pending + pended_by_change one change
 filed-fits change c =
     let moved = moves one change c in
-    let filed = due-length (filed_by_change change c.pending) in
+    let filed = due-length (dues_by_change change c.pending) in
     let before = entry-places c.pending in
     let after = entry-places (control_by change c).pending in
     omega (arith, moved, filed, before, after)

@@ -22,11 +22,11 @@ use Rattle.ocp_table.specs.declared.answers.InstructionOutcome.TheVariants.{Brok
 use Rattle.ocp_table.specs.declared.answers.TheConstants.{BUDGET_SPENT}
 use Rattle.ocp_table.specs.Budgets.{one_less, less, is_spent, IsWithin}
 use Rattle.ocp_table.specs.Records.{Rec, Records}
-use Rattle.ocp_table.specs.Effects.{Effect, Changed, Kept, Stepped, Failed, passed, records_by, outbox_by, filed_of, pool_by, record_after, with_change, machine_after, step_outcome}
+use Rattle.ocp_table.specs.Effects.{Effect, Changed, Kept, Stepped, Failed, without_pass, records_by, outbox_by, dues_of, pool_by, record_after, with_change, machine_after, step_outcome}
 use Rattle.ocp_table.specs.RequestTable.{Step, transition}
 use Rattle.ocp_table.specs.Deciding.{outcome_of, outcome_in, effect_in, effect_by, effect_on, effect_of_step, is_full}
 use Rattle.ocp_table.specs.declared.record.Record.{Record}
-use Rattle.ocp_table.specs.Shown.{shown, effect_of_record, filed_of_effect}
+use Rattle.ocp_table.specs.Shown.{record_of, effect_of_record, dues_of_effect}
 use Rattle.obcp_types.specs.declared.pending.Due.{Due}
 use Rattle.std.proofs.lemmas.List.{append-nil}
 use Rattle.ocp_table.specs.Slices.{IsSlice, Store, store_after, store_after_events, answer_to, goes_on, is_running, is_running_status, is_on, slice_count, slice_last, control_after, with_machine, RunsBy, last_ran, Leads}
@@ -106,7 +106,7 @@ ran_on r t = record {
   image = r.image;
   machine = t;
   mailbox = r.mailbox;
-  control = passed r.control;
+  control = without_pass r.control;
   breakpoints = r.breakpoints;
   traced = r.traced;
   remaining = one_less r.remaining;
@@ -123,7 +123,7 @@ module _ (m : Records) (outbox : List Due) (pool : List ℕ) (id : ℕ) where
   by_effect e = record { records = records_by e m; outbox = outbox_by e m outbox; pool = pool_by e pool }
 
   abbrev by_change : Option Rec → Store
-  by_change o = record { records = with_change o id (Stepped Ran) m; outbox = outbox ++ filed_of (Stepped Ran) o; pool = pool }
+  by_change o = record { records = with_change o id (Stepped Ran) m; outbox = outbox ++ dues_of (Stepped Ran) o; pool = pool }
 
   module _ (r : Rec) (t : State) (held : map.get m id ≡ Some r) (running : r.control.status ≡ Running) (left : is_spent r.remaining ≡ false) (next : local_next r.image r.breakpoints r.control.pass r.machine ≡ Some t) where
     effect_ran : effect_in (Step pool) id m ≡ Changed id (Stepped Ran)
@@ -170,7 +170,7 @@ status_after : (n : ℕ) (c : Control) → (control_after n c).status ≡ c.stat
 status_after zero c = refl
 status_after (suc n) c = refl
 
-passed_after : (n : ℕ) (c : Control) → passed (control_after n c) ≡ passed c
+passed_after : (n : ℕ) (c : Control) → without_pass (control_after n c) ≡ without_pass c
 passed_after zero c = refl
 passed_after (suc n) c = refl
 
@@ -189,7 +189,7 @@ module _ (m : Records) (outbox : List Due) (pool : List ℕ) (id : ℕ) (r : Rec
       let same : map.insert (map.insert m id q) id (ran_on q t) ≡ map.insert m id (with_machine (suc n) t r) =
       put-put m id q (ran_on q t)
       ∙ ap (λ c. map.insert m id (record { image = r.image; machine = t; mailbox = r.mailbox; control = c; breakpoints = r.breakpoints; traced = r.traced; remaining = one_less (less n r.remaining) })) (passed_after n r.control)
-      ∙ ap (λ o. map.insert m id (record { image = r.image; machine = t; mailbox = r.mailbox; control = passed r.control; breakpoints = r.breakpoints; traced = r.traced; remaining = o })) (less-next n r.remaining) in
+      ∙ ap (λ o. map.insert m id (record { image = r.image; machine = t; mailbox = r.mailbox; control = without_pass r.control; breakpoints = r.breakpoints; traced = r.traced; remaining = o })) (less-next n r.remaining) in
       subst (λ x. Leads id 1 (after n s) (last_ran n last) (record { records = x; outbox = outbox; pool = pool }) S.Ran) same led
 
   pub local_leads : (n : ℕ) (t : State) → IsWithin r.remaining n → ran_for n ≡ Some t → Leads id n (record { records = m; outbox = outbox; pool = pool }) last (after n t) (last_ran n last)
@@ -230,54 +230,54 @@ module _ {A : Type 0} where
   pub record IsSliced (old now : Record A) (outbox filed : List Due) (pool left : List ℕ) (n : ℕ) (last : StepOutcome) : Type 0 where
     pub running : now.control.status ≡ Running
     pub named : now.id ≡ old.id
-    pub leads : (m : Records) → map.get m old.id ≡ Some (shown old) → Leads old.id n (record { records = m; outbox = outbox; pool = pool }) S.Ran (record { records = map.insert m old.id (shown now); outbox = filed; pool = left }) last
+    pub leads : (m : Records) → map.get m old.id ≡ Some (record_of old) → Leads old.id n (record { records = m; outbox = outbox; pool = pool }) S.Ran (record { records = map.insert m old.id (record_of now); outbox = filed; pool = left }) last
 
   pub sliced-none : (r : Record A) (outbox : List Due) (pool : List ℕ) → r.control.status ≡ Running → IsSliced r r outbox outbox pool pool 0 S.Ran
   sliced-none r outbox pool running = record {
     running = running;
     named = refl;
-    leads = λ m held. subst (λ x. Leads r.id 0 (record { records = m; outbox = outbox; pool = pool }) S.Ran (record { records = x; outbox = outbox; pool = pool }) S.Ran) (sym (insert-same m r.id (shown r) held)) (leads-none r.id (record { records = m; outbox = outbox; pool = pool }) S.Ran);
+    leads = λ m held. subst (λ x. Leads r.id 0 (record { records = m; outbox = outbox; pool = pool }) S.Ran (record { records = x; outbox = outbox; pool = pool }) S.Ran) (sym (insert-same m r.id (record_of r) held)) (leads-none r.id (record { records = m; outbox = outbox; pool = pool }) S.Ran);
   }
 
   -- a stretch that the machine does by itself
-  pub sliced-run : (old now next : Record A) (outbox filed : List Due) (pool left : List ℕ) (n k : ℕ) (last : StepOutcome) (t : State) → IsSliced old now outbox filed pool left n last → IsWithin now.remaining k → local_run now.execution.image now.breakpoints.items now.control.pass now.execution.machine k ≡ Some t → shown next ≡ with_machine k t (shown now) → next.id ≡ now.id → IsSliced old next outbox filed pool left (n + k) (last_ran k last)
+  pub sliced-run : (old now next : Record A) (outbox filed : List Due) (pool left : List ℕ) (n k : ℕ) (last : StepOutcome) (t : State) → IsSliced old now outbox filed pool left n last → IsWithin now.remaining k → local_run now.execution.image now.breakpoints.items now.control.pass now.execution.machine k ≡ Some t → record_of next ≡ with_machine k t (record_of now) → next.id ≡ now.id → IsSliced old next outbox filed pool left (n + k) (last_ran k last)
   sliced-run old now next outbox filed pool left n k last t so_far inside ran made same = record {
     running = ap (λ r. r.control.status) made ∙ status_after k now.control ∙ so_far.running;
     named = same ∙ so_far.named;
     leads = λ m held.
         let id = old.id in
-        let held_now = get-put m id (shown now) in
-        let on = local_leads (map.insert m id (shown now)) filed left id (shown now) held_now so_far.running last k t inside ran in
-        let same_records : map.insert (map.insert m id (shown now)) id (with_machine k t (shown now)) ≡ map.insert m id (shown next) =
-        put-put m id (shown now) (with_machine k t (shown now)) ∙ ap (map.insert m id) (sym made) in
+        let held_now = get-put m id (record_of now) in
+        let on = local_leads (map.insert m id (record_of now)) filed left id (record_of now) held_now so_far.running last k t inside ran in
+        let same_records : map.insert (map.insert m id (record_of now)) id (with_machine k t (record_of now)) ≡ map.insert m id (record_of next) =
+        put-put m id (record_of now) (with_machine k t (record_of now)) ∙ ap (map.insert m id) (sym made) in
         leads-on id n k _ _ _ S.Ran last (last_ran k last) (so_far.leads m held)
-        (subst (λ x. Leads id k (record { records = map.insert m id (shown now); outbox = filed; pool = left }) last (record { records = x; outbox = filed; pool = left }) (last_ran k last)) same_records on);
+        (subst (λ x. Leads id k (record { records = map.insert m id (record_of now); outbox = filed; pool = left }) last (record { records = x; outbox = filed; pool = left }) (last_ran k last)) same_records on);
   }
 
   -- one event, as the call ensures it
   pub record IsEvent (now next : Record A) (outbox filed : List Due) (pool left : List ℕ) (o : StepOutcome) : Type 0 where
     pub answer : o ≡ step_outcome (effect_of_record (Step pool) now)
-    pub made : shown next ≡ record_after (effect_of_record (Step pool) now) (shown now)
-    pub filed_is : filed ≡ outbox ++ filed_of_effect (effect_of_record (Step pool) now) now.control.pending
+    pub made : record_of next ≡ record_after (effect_of_record (Step pool) now) (record_of now)
+    pub filed_is : filed ≡ outbox ++ dues_of_effect (effect_of_record (Step pool) now) now.control.pending
     pub pooled : left ≡ pool_by (effect_of_record (Step pool) now) pool
     pub same : next.id ≡ now.id
 
-  module _ (now next : Record A) (outbox filed : List Due) (pool left : List ℕ) (o : StepOutcome) (event : IsEvent now next outbox filed pool left o) (m : Records) (id : ℕ) (held : map.get m id ≡ Some (shown now)) (named : now.id ≡ id) where
-    store_event : store_after id (record { records = m; outbox = outbox; pool = pool }) ≡ record { records = map.insert m id (shown next); outbox = filed; pool = left }
+  module _ (now next : Record A) (outbox filed : List Due) (pool left : List ℕ) (o : StepOutcome) (event : IsEvent now next outbox filed pool left o) (m : Records) (id : ℕ) (held : map.get m id ≡ Some (record_of now)) (named : now.id ≡ id) where
+    store_event : store_after id (record { records = m; outbox = outbox; pool = pool }) ≡ record { records = map.insert m id (record_of next); outbox = filed; pool = left }
     store_event =
-        let records = sym (records_after_step pool m now.id id (shown now) (shown next) held named event.made) in
-        let pools = ap (λ e. pool_by e pool) (sym (same_step pool m now.id id (shown now) held named)) ∙ sym event.pooled in
-        let outboxes = sym (event.filed_is ∙ outbox_after_step pool m now.id id (shown now) outbox held named) in
+        let records = sym (records_after_step pool m now.id id (record_of now) (record_of next) held named event.made) in
+        let pools = ap (λ e. pool_by e pool) (sym (same_step pool m now.id id (record_of now) held named)) ∙ sym event.pooled in
+        let outboxes = sym (event.filed_is ∙ outbox_after_step pool m now.id id (record_of now) outbox held named) in
         λ i. record { records = records i; outbox = outboxes i; pool = pools i }
 
     answer_event : answer_to id (record { records = m; outbox = outbox; pool = pool }) ≡ o
-    answer_event = ap step_outcome (sym (same_step pool m now.id id (shown now) held named)) ∙ sym event.answer
+    answer_event = ap step_outcome (sym (same_step pool m now.id id (record_of now) held named)) ∙ sym event.answer
 
     goes_event : goes_on id (record { records = m; outbox = outbox; pool = pool }) ≡ cond (is_on o) (is_running_status next.control.status) false
     goes_event =
         ap (λ a. cond (is_on a) (is_running (map.get (store_after id (record { records = m; outbox = outbox; pool = pool })).records id)) false) answer_event
         ∙ ap (λ s. cond (is_on o) (is_running (map.get s.records id)) false) store_event
-        ∙ ap (λ x. cond (is_on o) (is_running x) false) (get-put m id (shown next))
+        ∙ ap (λ x. cond (is_on o) (is_running x) false) (get-put m id (record_of next))
 
   module _ (old now next : Record A) (outbox due filed : List Due) (pool before left : List ℕ) (n : ℕ) (last o : StepOutcome) (so_far : IsSliced old now outbox due pool before n last) (event : IsEvent now next due filed before left o) where
     runs_on : (b r : Bool) → cond b r false ≡ true → r ≡ true
@@ -296,22 +296,22 @@ module _ {A : Type 0} where
       named = event.same ∙ so_far.named;
       leads = λ m held.
           let id = old.id in
-          let q = map.insert m id (shown now) in
-          let held_now = get-put m id (shown now) in
+          let q = map.insert m id (record_of now) in
+          let held_now = get-put m id (record_of now) in
           let one = leads-one id (record { records = q; outbox = due; pool = before }) last (goes_event now next due filed before left o event q id held_now so_far.named ∙ on) in
-          let same : store_after id (record { records = q; outbox = due; pool = before }) ≡ record { records = map.insert m id (shown next); outbox = filed; pool = left } =
-          store_event now next due filed before left o event q id held_now so_far.named ∙ ap (λ x. record { records = x; outbox = filed; pool = left }) (put-put m id (shown now) (shown next)) in
+          let same : store_after id (record { records = q; outbox = due; pool = before }) ≡ record { records = map.insert m id (record_of next); outbox = filed; pool = left } =
+          store_event now next due filed before left o event q id held_now so_far.named ∙ ap (λ x. record { records = x; outbox = filed; pool = left }) (put-put m id (record_of now) (record_of next)) in
           leads-on id n 1 _ _ _ S.Ran last o (so_far.leads m held)
-          (subst (λ x. Leads id 1 (record { records = q; outbox = due; pool = before }) last (record { records = map.insert m id (shown next); outbox = filed; pool = left }) x) (answer_event now next due filed before left o event q id held_now so_far.named)
+          (subst (λ x. Leads id 1 (record { records = q; outbox = due; pool = before }) last (record { records = map.insert m id (record_of next); outbox = filed; pool = left }) x) (answer_event now next due filed before left o event q id held_now so_far.named)
           (subst (λ x. Leads id 1 (record { records = q; outbox = due; pool = before }) last x (answer_to id (record { records = q; outbox = due; pool = before }))) same one));
     }
 
     -- after which it does not
-    pub sliced-end : (budget : ℕ) → n < budget → cond (is_on o) (is_running_status next.control.status) false ≡ false → (m : Records) → map.get m old.id ≡ Some (shown old) → IsSlice old.id (record { records = m; outbox = outbox; pool = pool }) budget (record { count = n + 1; last = o }) (shown next) filed left
+    pub sliced-end : (budget : ℕ) → n < budget → cond (is_on o) (is_running_status next.control.status) false ≡ false → (m : Records) → map.get m old.id ≡ Some (record_of old) → IsSlice old.id (record { records = m; outbox = outbox; pool = pool }) budget (record { count = n + 1; last = o }) (record_of next) filed left
     sliced-end budget within off m held =
         let id = old.id in
-        let q = map.insert m id (shown now) in
-        let held_now = get-put m id (shown now) in
+        let q = map.insert m id (record_of now) in
+        let held_now = get-put m id (record_of now) in
         let start : Store = record { records = m; outbox = outbox; pool = pool } in
         let there : Store = record { records = q; outbox = due; pool = before } in
         let led = so_far.leads m held in
@@ -321,11 +321,11 @@ module _ {A : Type 0} where
         record {
           count = sym (ap (slice_count id start) split ∙ led.count (suc (budget - (n + 1))) ∙ ap (λ b. n + cond b (suc (slice_count id (store_after id there) (budget - (n + 1)))) 1) stops);
           last = sym (ap (slice_last id start S.Ran) split ∙ led.outcome (suc (budget - (n + 1))) ∙ ap (λ b. cond b (slice_last id (store_after id there) (answer_to id there) (budget - (n + 1))) (answer_to id there)) stops ∙ answered);
-          store = events-on id n 1 start ∙ ap (store_after id) led.store ∙ store_event now next due filed before left o event q id held_now so_far.named ∙ ap (λ x. record { records = x; outbox = filed; pool = left }) (put-put m id (shown now) (shown next));
+          store = events-on id n 1 start ∙ ap (store_after id) led.store ∙ store_event now next due filed before left o event q id held_now so_far.named ∙ ap (λ x. record { records = x; outbox = filed; pool = left }) (put-put m id (record_of now) (record_of next));
         }
 
   -- the budget is used
-  pub sliced-whole : (old now : Record A) (outbox filed : List Due) (pool left : List ℕ) (n : ℕ) (last : StepOutcome) → IsSliced old now outbox filed pool left n last → (m : Records) → map.get m old.id ≡ Some (shown old) → IsSlice old.id (record { records = m; outbox = outbox; pool = pool }) n (record { count = n; last = last }) (shown now) filed left
+  pub sliced-whole : (old now : Record A) (outbox filed : List Due) (pool left : List ℕ) (n : ℕ) (last : StepOutcome) → IsSliced old now outbox filed pool left n last → (m : Records) → map.get m old.id ≡ Some (record_of old) → IsSlice old.id (record { records = m; outbox = outbox; pool = pool }) n (record { count = n; last = last }) (record_of now) filed left
   sliced-whole old now outbox filed pool left n last so_far m held =
       let led = so_far.leads m held in
       let whole : n ≡ n + 0 = omega arith in

@@ -13,10 +13,10 @@ use Rattle.ocp_table.specs.declared.directive.Directive as D
 use Rattle.ocp_table.specs.declared.directive.Directive.TheVariants as directive
 use Rattle.ocp_table.specs.declared.answers.InstructionOutcome.{InstructionOutcome}
 use Rattle.ocp_table.specs.Records.{Rec, Records}
-use Rattle.ocp_table.specs.Effects.{Change, Effect, Loaded, Unloaded, Changed, Drained, Kept, Failed, record_by, record_after, records_by, outbox_by, filed_by_change, overtaken, overtaken_of, filed_of, with_change, failure_of}
+use Rattle.ocp_table.specs.Effects.{Change, Effect, Loaded, Unloaded, Changed, Drained, Kept, Failed, record_by, record_after, records_by, outbox_by, dues_by_change, failed_completion, failed_completion_of, dues_of, with_change, failure_of}
 use Rattle.ocp_table.specs.RequestTable.{Unload, Step, Fails, transition, failure_by}
 use Rattle.ocp_table.specs.Deciding.{outcome_in, effect_of_step, decision_on, effect_by, effect_on, effect_in, is_full}
-use Rattle.ocp_table.specs.Shown.{directive_of, decision_of, effect_of_decided, filed_of_effect}
+use Rattle.ocp_table.specs.Shown.{directive_of, decision_of, effect_of_decision, dues_of_effect}
 use Rattle.obcp_types.specs.declared.pending.Due.{Due}
 use Rattle.std.proofs.lemmas.List.{append-nil}
 use Rattle.ocp_table.specs.Mirror.Contents.{IsSound}
@@ -59,13 +59,13 @@ same_step pool m n id r here named =
     ∙ ap (λ o. effect_on (Step pool) id o (is_full m)) (sym here)
 
 -- what a directive was decided to do is its effect
-pub effect-decided : (d : D.Directive) (no_place : Bool) (result : Result C.Change StartFailure) (m : Records) (id : ℕ) (r : Rec) → map.get m id ≡ Some r → decision_of result ≡ decision_on (directive_of d no_place) (Some r) → effect_in (directive_of d no_place) id m ≡ effect_of_decided id result
+pub effect-decided : (d : D.Directive) (no_place : Bool) (result : Result C.Change StartFailure) (m : Records) (id : ℕ) (r : Rec) → map.get m id ≡ Some r → decision_of result ≡ decision_on (directive_of d no_place) (Some r) → effect_in (directive_of d no_place) id m ≡ effect_of_decision id result
 effect-decided d no_place result m id r here is =
     ap (λ o. effect_on (directive_of d no_place) id o (is_full m)) here
     ∙ ap (λ e. effect_by e id (Some r) (is_full m)) (sym is)
     ∙ by_result result
   where
-    by_result : (x : Result C.Change StartFailure) → effect_by (decision_of x) id (Some r) (is_full m) ≡ effect_of_decided id x
+    by_result : (x : Result C.Change StartFailure) → effect_by (decision_of x) id (Some r) (is_full m) ≡ effect_of_decision id x
     by_result (Ok change) = refl
     by_result (Err failure) = refl
 
@@ -109,10 +109,10 @@ records_by-held m id r Drained here is = absurd is
 records_by-held m id r (Kept why) here is = insert-same m id r here
 
 -- what it files is all that the effect files
-pub outbox_by-held : (m : Records) (id : ℕ) (r : Rec) (outbox : List Due) (e : Effect) → map.get m id ≡ Some r → IsAbout id e → outbox ++ filed_of_effect e r.control.pending ≡ outbox_by e m outbox
+pub outbox_by-held : (m : Records) (id : ℕ) (r : Rec) (outbox : List Due) (e : Effect) → map.get m id ≡ Some r → IsAbout id e → outbox ++ dues_of_effect e r.control.pending ≡ outbox_by e m outbox
 outbox_by-held m id r outbox (Loaded profile i image) here is = absurd is
 outbox_by-held m id r outbox (Unloaded i) here is = absurd is
-outbox_by-held m id r outbox (Changed i change) here is = sym (ap (λ k. outbox ++ filed_of change (map.get m k)) is ∙ ap (λ o. outbox ++ filed_of change o) here)
+outbox_by-held m id r outbox (Changed i change) here is = sym (ap (λ k. outbox ++ dues_of change (map.get m k)) is ∙ ap (λ o. outbox ++ dues_of change o) here)
 outbox_by-held m id r outbox Drained here is = absurd is
 outbox_by-held m id r outbox (Kept why) here is = refl
 
@@ -130,9 +130,9 @@ records_after_step pool m n id r new here named is =
     ap (map.insert m id) (is ∙ ap (λ e. record_after e r) (same_step pool m n id r here named))
     ∙ records_by-held m id r (effect_in (Step pool) id m) here (subst (IsAbout id) (same_step pool m id id r here refl) (about_step_of pool id r r.control.status))
 
-pub outbox_after_step : (pool : List ℕ) (m : Records) (n id : ℕ) (r : Rec) (outbox : List Due) → map.get m id ≡ Some r → n ≡ id → outbox ++ filed_of_effect (effect_on (Step pool) n (Some r) true) r.control.pending ≡ outbox_by (effect_in (Step pool) id m) m outbox
+pub outbox_after_step : (pool : List ℕ) (m : Records) (n id : ℕ) (r : Rec) (outbox : List Due) → map.get m id ≡ Some r → n ≡ id → outbox ++ dues_of_effect (effect_on (Step pool) n (Some r) true) r.control.pending ≡ outbox_by (effect_in (Step pool) id m) m outbox
 outbox_after_step pool m n id r outbox here named =
-    ap (λ e. outbox ++ filed_of_effect e r.control.pending) (same_step pool m n id r here named)
+    ap (λ e. outbox ++ dues_of_effect e r.control.pending) (same_step pool m n id r here named)
     ∙ outbox_by-held m id r outbox (effect_in (Step pool) id m) here (subst (IsAbout id) (same_step pool m id id r here refl) (about_step_of pool id r r.control.status))
 
 -- a failure files nothing
@@ -140,11 +140,11 @@ pub outbox-failed : (m : Records) (outbox : List Due) (e : Effect) (why : StartF
 outbox-failed m outbox e why is = sym (ap (λ x. outbox_by x m outbox) is ∙ append-nil outbox)
 
 -- what is dropped is overtaken
-pub outbox-unloaded : (m : Records) (id : ℕ) (r : Rec) (outbox : List Due) → map.get m id ≡ Some r → outbox ++ overtaken r.control.pending ≡ outbox_by (Unloaded id) m outbox
-outbox-unloaded m id r outbox here = sym (ap (λ o. outbox ++ overtaken_of o) here)
+pub outbox-unloaded : (m : Records) (id : ℕ) (r : Rec) (outbox : List Due) → map.get m id ≡ Some r → outbox ++ failed_completion r.control.pending ≡ outbox_by (Unloaded id) m outbox
+outbox-unloaded m id r outbox here = sym (ap (λ o. outbox ++ failed_completion_of o) here)
 
 pub outbox-missing : (m : Records) (id : ℕ) (outbox : List Due) → map.get m id ≡ None → outbox ≡ outbox_by (Unloaded id) m outbox
-outbox-missing m id outbox none = sym (ap (λ o. outbox ++ overtaken_of o) none ∙ append-nil outbox)
+outbox-missing m id outbox none = sym (ap (λ o. outbox ++ failed_completion_of o) none ∙ append-nil outbox)
 
 -- ---- a change that was decided
 
@@ -155,11 +155,11 @@ module _ (m : Records) (id : ℕ) (change : Change) where
   pub records-unchanged : map.get m id ≡ None → m ≡ records_by (Changed id change) m
   records-unchanged none = sym (ap (λ o. with_change o id change m) none)
 
-  pub outbox-changed : (r : Rec) (outbox : List Due) → map.get m id ≡ Some r → outbox ++ filed_by_change change r.control.pending ≡ outbox_by (Changed id change) m outbox
-  outbox-changed r outbox here = sym (ap (λ o. outbox ++ filed_of change o) here)
+  pub outbox-changed : (r : Rec) (outbox : List Due) → map.get m id ≡ Some r → outbox ++ dues_by_change change r.control.pending ≡ outbox_by (Changed id change) m outbox
+  outbox-changed r outbox here = sym (ap (λ o. outbox ++ dues_of change o) here)
 
   pub outbox-unchanged : (outbox : List Due) → map.get m id ≡ None → outbox ≡ outbox_by (Changed id change) m outbox
-  outbox-unchanged outbox none = sym (ap (λ o. outbox ++ filed_of change o) none ∙ append-nil outbox)
+  outbox-unchanged outbox none = sym (ap (λ o. outbox ++ dues_of change o) none ∙ append-nil outbox)
 
 -- ---- the slab
 

@@ -12,7 +12,7 @@ use Rattle.obcp_types.specs.declared.status.Status.TheVariants.{Inactive, Runnin
 use Rattle.verification.specs.Reports.{wants_completion}
 use Rattle.ocp_profile.specs.declared.profile.Profile.{Profile}
 use Rattle.bpf_step.specs.Machine.{State, Outcome, Next, Needs, NoInstruction}
-use Rattle.bpf_step.specs.Machine.{started, restarted}
+use Rattle.bpf_step.specs.Machine.{machine_at_start, machine_at_restart}
 use Rattle.bpf_step.specs.Step.{one_step}
 use Rattle.bpf_step.specs.Calls.{state_after_engine_call}
 use Rattle.ocp_pool.specs.declared.call.Called.{Called as Call}
@@ -72,7 +72,7 @@ machine_by_outcome (Called call) image m = state_after_engine_call m (r0_of call
 machine_by_outcome outcome image m = m
 
 abbrev pub machine_by : Change → List ℕ → State → State
-machine_by (Started budget arguments) image m = restarted arguments m
+machine_by (Started budget arguments) image m = machine_at_restart arguments m
 machine_by (Stepped outcome) image m = machine_by_outcome outcome image m
 machine_by change image m = m
 
@@ -97,12 +97,13 @@ inactive cause =
 
 -- a procedure that becomes held: at a breakpoint what is pending stays, at the end of a step it is
 -- done
-abbrev pub held : Pending → Control → Control
-held pending c = record { status = Held; pending = pending; pass = false; cause = c.cause }
+abbrev pub control_on_hold : Pending → Control → Control
+control_on_hold pending c =
+    record { status = Held; pending = pending; pass = false; cause = c.cause }
 
 -- an instruction was done: the pass flag goes off
-abbrev pub passed : Control → Control
-passed c = record { status = c.status; pending = c.pending; pass = false; cause = c.cause }
+abbrev pub without_pass : Control → Control
+without_pass c = record { status = c.status; pending = c.pending; pass = false; cause = c.cause }
 
 -- a pending stop or suspend at the end of any step (0) or of this one is done when a step ends
 abbrev pub matches : ℕ → ℕ → Bool
@@ -110,19 +111,19 @@ matches wanted step = (wanted == 0) || (wanted == step)
 
 -- the end of a step
 abbrev pub control_at_step_end : Pending → ℕ → Control → Control
-control_at_step_end pending.Nothing k c = passed c
+control_at_step_end pending.Nothing k c = without_pass c
 control_at_step_end (pending.Stop s from) k c =
-    if matches s k then inactive cause.Stopped else passed c
+    if matches s k then inactive cause.Stopped else without_pass c
 control_at_step_end (pending.Suspend s from) k c =
-    if matches s k then held pending.Nothing c else passed c
+    if matches s k then control_on_hold pending.Nothing c else without_pass c
 
 abbrev pub control_by_call : Call → Control → Control
 control_by_call (call.StepEnd k) c = control_at_step_end c.pending k c
-control_by_call other c = passed c
+control_by_call other c = without_pass c
 
 abbrev pub control_by_outcome : InstructionOutcome → Control → Control
-control_by_outcome Broke c = held c.pending c
-control_by_outcome Ran c = passed c
+control_by_outcome Broke c = control_on_hold c.pending c
+control_by_outcome Ran c = without_pass c
 control_by_outcome (Called call) c = control_by_call call c
 control_by_outcome Ended c = inactive cause.Exited
 control_by_outcome (Faulted number) c = inactive (cause.Fault number)
@@ -155,9 +156,9 @@ breakpoints_by (BreakSet place) breakpoints = with_breakpoint place breakpoints
 breakpoints_by (BreakCleared place) breakpoints = without_breakpoint place breakpoints
 breakpoints_by change breakpoints = breakpoints
 
-abbrev pub traced_by : Change → Bool → Bool
-traced_by (TraceSet on) traced = on
-traced_by change traced = traced
+abbrev pub trace_flag_by : Change → Bool → Bool
+trace_flag_by (TraceSet on) traced = on
+trace_flag_by change traced = traced
 
 -- each instruction that is done takes one from what remains of the budget; one that a breakpoint
 -- holds takes nothing, and a fault takes nothing
@@ -182,7 +183,7 @@ record_by change r = record r {
   mailbox = mailbox_by change r.mailbox;
   control = control_by change r.control;
   breakpoints = breakpoints_by change r.breakpoints;
-  traced = traced_by change r.traced;
+  traced = trace_flag_by change r.traced;
   remaining = remaining_by change r.remaining;
 }
 
@@ -190,7 +191,7 @@ record_by change r = record r {
 abbrev pub new_record : Profile → List ℕ → Rec
 new_record profile image = record {
   image = image;
-  machine = started profile [];
+  machine = machine_at_start profile [];
   mailbox = [];
   control = inactive cause.Nothing;
   breakpoints = [];
@@ -219,73 +220,73 @@ records_by (Kept why) m = m
 
 -- a completion that does not come, since something else came in between: it is reported whatever
 -- its flags are
-abbrev pub overtaken : Pending → List Due
-overtaken pending.Nothing = []
-overtaken (pending.Stop s from) = record { origin = from; failure = Some Overtaken } ∷ []
-overtaken (pending.Suspend s from) = record { origin = from; failure = Some Overtaken } ∷ []
+abbrev pub failed_completion : Pending → List Due
+failed_completion pending.Nothing = []
+failed_completion (pending.Stop s from) = record { origin = from; failure = Some Overtaken } ∷ []
+failed_completion (pending.Suspend s from) = record { origin = from; failure = Some Overtaken } ∷ []
 
 -- one that comes: it is reported where its flag is set
-abbrev pub completed : PendingOrigin → List Due
-completed from =
+abbrev pub due_completion : PendingOrigin → List Due
+due_completion from =
     if wants_completion from.ack then record { origin = from; failure = None } ∷ [] else []
 
 -- what waits to be reported after the end of a step: its completion where it matches
-abbrev pub filed_at_step_end : Pending → ℕ → List Due
-filed_at_step_end pending.Nothing k = []
-filed_at_step_end (pending.Stop s from) k = if matches s k then completed from else []
-filed_at_step_end (pending.Suspend s from) k = if matches s k then completed from else []
+abbrev pub dues_at_step_end : Pending → ℕ → List Due
+dues_at_step_end pending.Nothing k = []
+dues_at_step_end (pending.Stop s from) k = if matches s k then due_completion from else []
+dues_at_step_end (pending.Suspend s from) k = if matches s k then due_completion from else []
 
-abbrev pub filed_by_call : Call → Pending → List Due
-filed_by_call (call.StepEnd k) pending = filed_at_step_end pending k
-filed_by_call other pending = []
+abbrev pub dues_by_call : Call → Pending → List Due
+dues_by_call (call.StepEnd k) pending = dues_at_step_end pending k
+dues_by_call other pending = []
 
-abbrev pub filed_by_outcome : InstructionOutcome → Pending → List Due
-filed_by_outcome Broke pending = []
-filed_by_outcome Ran pending = []
-filed_by_outcome (Called call) pending = filed_by_call call pending
-filed_by_outcome Ended pending = overtaken pending
-filed_by_outcome (Faulted number) pending = overtaken pending
+abbrev pub dues_by_outcome : InstructionOutcome → Pending → List Due
+dues_by_outcome Broke pending = []
+dues_by_outcome Ran pending = []
+dues_by_outcome (Called call) pending = dues_by_call call pending
+dues_by_outcome Ended pending = failed_completion pending
+dues_by_outcome (Faulted number) pending = failed_completion pending
 
 -- a stop or suspend that is replaced, or whose procedure becomes inactive, is overtaken
-abbrev pub filed_by_change : Change → Pending → List Due
-filed_by_change (Started budget arguments) pending = overtaken pending
-filed_by_change (Sent words) pending = []
-filed_by_change (Pended next) pending = overtaken pending
-filed_by_change (Quit cause) pending = overtaken pending
-filed_by_change Resumed pending = []
-filed_by_change (Stepped outcome) pending = filed_by_outcome outcome pending
-filed_by_change (BreakSet place) pending = []
-filed_by_change (BreakCleared place) pending = []
-filed_by_change (TraceSet on) pending = []
+abbrev pub dues_by_change : Change → Pending → List Due
+dues_by_change (Started budget arguments) pending = failed_completion pending
+dues_by_change (Sent words) pending = []
+dues_by_change (Pended next) pending = failed_completion pending
+dues_by_change (Quit cause) pending = failed_completion pending
+dues_by_change Resumed pending = []
+dues_by_change (Stepped outcome) pending = dues_by_outcome outcome pending
+dues_by_change (BreakSet place) pending = []
+dues_by_change (BreakCleared place) pending = []
+dues_by_change (TraceSet on) pending = []
 
 -- that of a procedure that is loaded
-abbrev pub filed_of : Change → Option Rec → List Due
-filed_of change None = []
-filed_of change (Some r) = filed_by_change change r.control.pending
+abbrev pub dues_of : Change → Option Rec → List Due
+dues_of change None = []
+dues_of change (Some r) = dues_by_change change r.control.pending
 
-abbrev pub overtaken_of : Option Rec → List Due
-overtaken_of None = []
-overtaken_of (Some r) = overtaken r.control.pending
+abbrev pub failed_completion_of : Option Rec → List Due
+failed_completion_of None = []
+failed_completion_of (Some r) = failed_completion r.control.pending
 
 -- a procedure that is loaded or unloaded had nothing pending: this leaves nothing unsaid
-abbrev pub filed_by : Effect → Records → List Due
-filed_by (Loaded profile id image) m = overtaken_of (get m id)
-filed_by (Unloaded id) m = overtaken_of (get m id)
-filed_by (Changed id change) m = filed_of change (get m id)
-filed_by Drained m = []
-filed_by (Kept why) m = []
+abbrev pub dues_by : Effect → Records → List Due
+dues_by (Loaded profile id image) m = failed_completion_of (get m id)
+dues_by (Unloaded id) m = failed_completion_of (get m id)
+dues_by (Changed id change) m = dues_of change (get m id)
+dues_by Drained m = []
+dues_by (Kept why) m = []
 
 abbrev pub outbox_by : Effect → Records → List Due → List Due
 outbox_by Drained m outbox = []
-outbox_by effect m outbox = outbox ++ filed_by effect m
+outbox_by effect m outbox = outbox ++ dues_by effect m
 
 -- ---- what is set apart from requests
 
 abbrev pub with_breakpoints : List ℕ → Rec → Rec
 with_breakpoints breakpoints r = record r { breakpoints = breakpoints }
 
-abbrev pub with_traced : Bool → Rec → Rec
-with_traced traced r = record r { traced = traced }
+abbrev pub with_trace_flag : Bool → Rec → Rec
+with_trace_flag traced r = record r { traced = traced }
 
 -- the records with what is set in the record of a procedure that is loaded
 abbrev pub records_with : Option Rec → ℕ → (Rec → Rec) → Records → Records

@@ -1,7 +1,7 @@
 -- What the laws of the table say.
 use Rattle.std.specs.Prelude.{◌≡◌, ◌⊎◌, List, [], ℕ, Option, Some, None}
 use Rattle.ocp_profile.specs.declared.profile.Profile.{Profile}
-use Rattle.bpf_step.specs.Machine.{State, started, restarted}
+use Rattle.bpf_step.specs.Machine.{State, machine_at_start, machine_at_restart}
 use Rattle.ocp_table.specs.declared.control.Control.{Control}
 use Rattle.ocp_table.specs.Records.{Rec}
 use Rattle.ocp_table.specs.Effects.{Change, BreakSet, BreakCleared, TraceSet}
@@ -15,7 +15,8 @@ machine_of (Some r) = Some r.machine
 -- a machine that was there is started anew with some arguments
 abbrev pub IsRestarted : Option State → State → Type 0
 IsRestarted None machine = ⊥
-IsRestarted (Some before) machine = (arguments : List ℕ) × (machine ≡ restarted arguments before)
+IsRestarted (Some before) machine =
+    (arguments : List ℕ) × (machine ≡ machine_at_restart arguments before)
 
 -- the machine that there is afterwards is the one that was there, or a new one of some profile, or
 -- the one that was there was started anew
@@ -23,7 +24,7 @@ abbrev pub IsKeptOrStarted : Option State → Option State → Type 0
 IsKeptOrStarted old new =
     (machine : State) → new ≡ Some machine →
     (old ≡ Some machine)
-    ⊎ (((profile : Profile) × (machine ≡ started profile [])) ⊎ IsRestarted old machine)
+    ⊎ (((profile : Profile) × (machine ≡ machine_at_start profile [])) ⊎ IsRestarted old machine)
 
 -- a directive of a request: it is no instruction event
 abbrev pub IsRequest : Directive → Type 0

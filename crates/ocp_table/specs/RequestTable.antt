@@ -39,14 +39,14 @@ pub data Decision : Type 0 where
   Fails : StartFailure → Decision
 
 -- words are appended, or none of them
-abbrev pub sent : List ℕ → ℕ → Decision
-sent words there =
+abbrev pub communication : List ℕ → ℕ → Decision
+communication words there =
     if nat_le (there + length words) MAX_MAILBOX_WORDS then Changes (Sent words)
     else Fails MailboxFull
 
 -- a stop or suspend becomes pending where a place is free for it, and else what was pending stays
-abbrev pub pended : Bool → Pending → Decision
-pended full pending = if full then Fails OutboxFull else Changes (Pended pending)
+abbrev pub postponement : Bool → Pending → Decision
+postponement full pending = if full then Fails OutboxFull else Changes (Pended pending)
 
 abbrev pub transition : Directive → Option Status → Pending → ℕ → Decision
 transition (Load profile image) None p n = Loads profile image
@@ -63,14 +63,14 @@ transition (Activate budget arguments) (Some Running) p n = Fails NotInactive
 transition (Activate budget arguments) (Some Held) p n = Fails NotInactive
 transition (Stop s from full) None p n = Fails NotLoaded
 transition (Stop s from full) (Some Inactive) p n = Fails NotActive
-transition (Stop s from full) (Some Running) p n = pended full (pending.Stop s from)
+transition (Stop s from full) (Some Running) p n = postponement full (pending.Stop s from)
 transition (Stop s from full) (Some Held) p n = Changes (Quit Stopped)
 transition (Suspend s from full) None p n = Fails NotLoaded
 transition (Suspend s from full) (Some Inactive) p n = Fails NotRunning
 transition (Suspend s from full) (Some Running) pending.Nothing n =
-    pended full (pending.Suspend s from)
+    postponement full (pending.Suspend s from)
 transition (Suspend s from full) (Some Running) (pending.Suspend t other) n =
-    pended full (pending.Suspend s from)
+    postponement full (pending.Suspend s from)
 transition (Suspend s from full) (Some Running) (pending.Stop t other) n = Fails StopPending
 transition (Suspend s from full) (Some Held) p n = Fails NotRunning
 transition Resume None p n = Fails NotLoaded
@@ -83,8 +83,8 @@ transition Abort (Some Running) p n = Changes (Quit Aborted)
 transition Abort (Some Held) p n = Changes (Quit Aborted)
 transition (Communicate words) None p n = Fails NotLoaded
 transition (Communicate words) (Some Inactive) p n = Fails NotActive
-transition (Communicate words) (Some Running) p n = sent words n
-transition (Communicate words) (Some Held) p n = sent words n
+transition (Communicate words) (Some Running) p n = communication words n
+transition (Communicate words) (Some Held) p n = communication words n
 transition (Step pool) None p n = Fails NotLoaded
 transition (Step pool) (Some Inactive) p n = Fails NotRunning
 transition (Step pool) (Some Running) p n = Steps pool

@@ -17,7 +17,7 @@ use Rattle.ocp_table.specs.declared.directive.Directive.TheVariants as directive
 use Rattle.ocp_table.specs.declared.answers.InstructionOutcome.{InstructionOutcome}
 use Rattle.ocp_table.specs.declared.record.Record.{Record}
 use Rattle.ocp_table.specs.Records.{Rec, Records}
-use Rattle.ocp_table.specs.Effects.{Effect, Unloaded, Changed, Kept, Change, Started, Sent, Pended, Quit, Resumed, Stepped, Failed, new_record, overtaken, filed_by_change}
+use Rattle.ocp_table.specs.Effects.{Effect, Unloaded, Changed, Kept, Change, Started, Sent, Pended, Quit, Resumed, Stepped, Failed, new_record, failed_completion, dues_by_change}
 use Rattle.ocp_table.specs.RequestTable.{Directive, Activate, Stop, Suspend, Resume, Abort, Communicate, Decision, Changes, Fails}
 use Rattle.ocp_table.specs.Deciding.{effect_on, words_of}
 
@@ -27,8 +27,8 @@ module _ {A : Type 0} where
   abbrev pub id_of : Record A → ℕ
   id_of r = r.id
 
-  abbrev pub shown : Record A → Rec
-  shown r = record {
+  abbrev pub record_of : Record A → Rec
+  record_of r = record {
     image = r.execution.image;
     machine = r.execution.machine;
     mailbox = r.mailbox;
@@ -42,7 +42,7 @@ module _ {A : Type 0} where
   pub record IsLoading (profile : Profile) (r : Record A) (id : ℕ) (image : List ℕ)
       : Type 0 where
     pub named : id_of r ≡ id
-    pub shows : shown r ≡ new_record profile image
+    pub shows : record_of r ≡ new_record profile image
     pub idle : r.control.pending ≡ pending.Nothing
 
 -- what a request asks, where all places for pending and unreported completions are taken or not
@@ -67,20 +67,20 @@ abbrev pub decision_of : Result C.Change StartFailure → Decision
 decision_of (Ok change) = Changes (change_of change)
 decision_of (Err failure) = Fails failure
 
-abbrev pub effect_of_decided : ℕ → Result C.Change StartFailure → Effect
-effect_of_decided id (Ok change) = Changed id (change_of change)
-effect_of_decided id (Err failure) = Kept (Failed failure)
+abbrev pub effect_of_decision : ℕ → Result C.Change StartFailure → Effect
+effect_of_decision id (Ok change) = Changed id (change_of change)
+effect_of_decision id (Err failure) = Kept (Failed failure)
 
 -- the effect of a directive on a record of the table, in which whether the table is full is not
 -- asked
 abbrev pub effect_of_record : {A : Type 0} → Directive → Record A → Effect
-effect_of_record directive r = effect_on directive (id_of r) (Some (shown r)) true
+effect_of_record directive r = effect_on directive (id_of r) (Some (record_of r)) true
 
 -- what an effect on the own record files, by what is pending there
-abbrev pub filed_of_effect : Effect → Pending → List Due
-filed_of_effect (Changed id change) pending = filed_by_change change pending
-filed_of_effect (Unloaded id) pending = overtaken pending
-filed_of_effect effect pending = []
+abbrev pub dues_of_effect : Effect → Pending → List Due
+dues_of_effect (Changed id change) pending = dues_by_change change pending
+dues_of_effect (Unloaded id) pending = failed_completion pending
+dues_of_effect effect pending = []
 
 -- arguments that the machine's memory has room for
 abbrev pub HasFewArguments : Directive → Type 0

@@ -13,7 +13,7 @@ use Rattle.ocp_table.specs.declared.answers.StepOutcome.{StepOutcome}
 use Rattle.ocp_table.specs.declared.answers.StepOutcome.TheVariants as S
 use Rattle.ocp_table.specs.Budgets.{less, IsWithin}
 use Rattle.ocp_table.specs.Records.{Rec, Records}
-use Rattle.ocp_table.specs.Effects.{Effect, passed, records_by, outbox_by, pool_by, step_outcome}
+use Rattle.ocp_table.specs.Effects.{Effect, without_pass, records_by, outbox_by, pool_by, step_outcome}
 use Rattle.ocp_table.specs.RequestTable.{Step}
 use Rattle.ocp_table.specs.Deciding.{effect_in}
 
@@ -113,7 +113,7 @@ pub record IsSlice (id : ℕ) (s : Store) (budget : ℕ) (slice : Slice) (r : Re
 -- the pass flag goes off with the first of them
 abbrev pub control_after : ℕ → Control → Control
 control_after zero c = c
-control_after (suc n) c = passed c
+control_after (suc n) c = without_pass c
 
 -- a record after so many of them, which left the machine so: they are taken from the budget
 abbrev pub with_machine : ℕ → State → Rec → Rec

@@ -7,7 +7,7 @@ use Rattle.bpf_step.specs.Step.{StandsIn}
 use Rattle.bpf_step.specs.Runs.{local_run, local_count}
 use Rattle.ocp_table.specs.Budgets.{less, within}
 use Rattle.ocp_table.specs.Records.{Rec}
-use Rattle.ocp_table.specs.Effects.{passed}
+use Rattle.ocp_table.specs.Effects.{without_pass}
 
 -- image, machine, breakpoints, pass flag, trace flag and what is left of the budget of a procedure
 -- that runs
@@ -54,10 +54,10 @@ count_of s n = count_by s.traced s (within s.remaining n)
 
 -- another machine that did so many instructions is put back: the pass flag goes off, and they are
 -- taken from the budget
-abbrev pub settled : ℕ → State → Rec → Rec
-settled count machine r = record r {
+abbrev pub record_after_work : ℕ → State → Rec → Rec
+record_after_work count machine r = record r {
   machine = machine;
-  control = passed r.control;
+  control = without_pass r.control;
   remaining = less count r.remaining;
 }
 

@@ -3,10 +3,10 @@
 ghost use Rattle.std.specs.Prelude.{◌≡◌, ◌≤◌, ◌+◌, ◌++◌, Bool, false, Option, Some, IfOk, length};
 ghost use Rattle.ocp_table.specs.Records.{Rec};
 ghost use Rattle.ocp_table.specs.Outbox.{places_of};
-ghost use Rattle.ocp_table.specs.Effects.{record_by, filed_by_change};
-ghost use Rattle.ocp_table.specs.RequestTable.{pended, sent};
+ghost use Rattle.ocp_table.specs.Effects.{record_by, dues_by_change};
+ghost use Rattle.ocp_table.specs.RequestTable.{postponement, communication};
 ghost use Rattle.ocp_table.specs.Deciding.{decision_on};
-ghost use Rattle.ocp_table.specs.Shown.{shown, directive_of, change_of, decision_of, HasFewArguments, FitsIn, HasPlaceFor};
+ghost use Rattle.ocp_table.specs.Shown.{record_of, directive_of, change_of, decision_of, HasFewArguments, FitsIn, HasPlaceFor};
 
 use crate::budget::budget_of;
 use crate::outbox::Outbox;
@@ -41,8 +41,9 @@ impl<A: Allocator> Record<A> {
     ) -> Result<Change<'a>, StartFailure>
         requires few { HasFewArguments (directive_of directive false) }
         ensures decision { decision_of result ≡
-            decision_on (directive_of directive.entry full) (Some (shown self.now)) }
-        ensures fits { IfOk result (λ change. FitsIn (change_of change) (Some (shown self.now))) }
+            decision_on (directive_of directive.entry full) (Some (record_of self.now)) }
+        ensures fits { IfOk result
+            (λ change. FitsIn (change_of change) (Some (record_of self.now))) }
         ensures place { IfOk result (λ change. HasPlaceFor full (change_of change)) }
     {
         match (directive, self.control.status) {
@@ -82,11 +83,12 @@ impl<A: Allocator> Record<A> {
 
     /// Enacts what was decided. What it overtakes goes to the outbox.
     pub(crate) fn enact(&mut self, change: Change<'_>, outbox: &mut Outbox)
-        requires fits { FitsIn (change_of change) (Some (shown self.old)) }
+        requires fits { FitsIn (change_of change) (Some (record_of self.old)) }
         requires place { length outbox.old + places_of self.old.control.pending ≤ OUTBOX_PLACES }
-        ensures record { shown self.new ≡ record_by (change_of change.entry) (shown self.old) }
+        ensures record { record_of self.new
+            ≡ record_by (change_of change.entry) (record_of self.old) }
         ensures outbox { outbox.new ≡ outbox.old
-            ++ filed_by_change (change_of change.entry) self.old.control.pending }
+            ++ dues_by_change (change_of change.entry) self.old.control.pending }
         ensures id { self.new.id ≡ self.old.id }
     {
         match change {
@@ -116,7 +118,7 @@ impl<A: Allocator> Record<A> {
 
 // A stop or suspend becomes pending, or no place is free for its completion.
 fn pend<'a>(full: bool, pending: Pending) -> Result<Change<'a>, StartFailure>
-    ensures decision { decision_of result ≡ pended full pending }
+    ensures decision { decision_of result ≡ postponement full pending }
     ensures place { IfOk result (λ change. HasPlaceFor full (change_of change)) }
     ensures fits { (o : Option Rec) → IfOk result (λ change. FitsIn (change_of change) o) }
 {
@@ -128,7 +130,7 @@ fn pend<'a>(full: bool, pending: Pending) -> Result<Change<'a>, StartFailure>
 
 // Words are taken, or there is no room for all of them.
 fn send<'a>(mailbox: &Mailbox, words: &'a [u64]) -> Result<Change<'a>, StartFailure>
-    ensures decision { decision_of result ≡ sent words.now (length mailbox.now) }
+    ensures decision { decision_of result ≡ communication words.now (length mailbox.now) }
     ensures fits { (r : Rec) → r.mailbox ≡ mailbox.now →
         IfOk result (λ change. FitsIn (change_of change) (Some r)) }
     ensures place { (full : Bool) → IfOk result (λ change. HasPlaceFor full (change_of change)) }

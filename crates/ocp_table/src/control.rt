@@ -45,7 +45,7 @@ ghost use Rattle.std.specs.Prelude.{◌≡◌};
 ghost use Rattle.ocp_table.specs.Effects.{matches};
 
 impl Control {
-    ghost use Rattle.ocp_table.specs.Effects.{running, inactive, held, control_at_step_end, control_by_outcome};
+    ghost use Rattle.ocp_table.specs.Effects.{running, inactive, control_on_hold, control_at_step_end, control_by_outcome};
 
     /// That of a procedure that was started.
     pub(crate) fn running() -> Control
@@ -73,7 +73,7 @@ impl Control {
 
     // The procedure becomes held.
     fn hold(&mut self, pending: Pending)
-        ensures { self.new ≡ held pending self.old }
+        ensures { self.new ≡ control_on_hold pending self.old }
     {
         self.status = Status::Held;
         self.pending = pending;

@@ -41,7 +41,7 @@ impl<A: Allocator> Execution<A> {
     ghost use Rattle.ocp_loader.specs.LineAt.{IsPlace, line_of};
     ghost use Rattle.ocp_regions.specs.Memory.{octets_at};
     ghost use Rattle.ocp_regions.specs.declared.fault.AccessFault.TheVariants.{AccessOutside};
-    ghost use Rattle.bpf_step.specs.Machine.{restarted};
+    ghost use Rattle.bpf_step.specs.Machine.{machine_at_restart};
     ghost use Rattle.bpf_step.specs.Step.{one_step, StandsIn};
     ghost use Rattle.bpf_step.specs.Runs.{local_run, local_count};
     ghost use Rattle.ocp_table.specs.Effects.{machine_by_outcome, mailbox_by_outcome, pool_by_outcome};
@@ -125,7 +125,7 @@ impl<A: Allocator> Execution<A> {
     pub(crate) fn start(&mut self, arguments: &[u8])
         requires { length arguments.now ≤ ARGUMENT_OCTETS }
         ensures image { self.new.image ≡ self.old.image }
-        ensures machine { self.new.machine ≡ restarted arguments.now self.old.machine }
+        ensures machine { self.new.machine ≡ machine_at_restart arguments.now self.old.machine }
     {
         self.machine.start(arguments);
     }

@@ -1,7 +1,7 @@
 //! The completions that wait to be reported.
 ghost use Rattle.std.specs.Prelude.{◌≡◌, ◌≤◌, ◌<◌, ◌+◌, [], ◌∷◌, ◌++◌, length};
 ghost use Rattle.ocp_table.specs.Outbox.{places_of};
-ghost use Rattle.ocp_table.specs.Effects.{overtaken, completed, filed_at_step_end, filed_by_outcome};
+ghost use Rattle.ocp_table.specs.Effects.{failed_completion, due_completion, dues_at_step_end, dues_by_outcome};
 
 use crate::control::matches;
 use crate::{
@@ -71,7 +71,7 @@ impl Outbox {
     /// What was pending is overtaken. That is reported whatever the flags of its request are.
     pub(crate) fn overtake(&mut self, pending: Pending)
         requires { length self.old + places_of pending ≤ OUTBOX_PLACES }
-        ensures { self.new ≡ self.old ++ overtaken pending }
+        ensures { self.new ≡ self.old ++ failed_completion pending }
     {
         let origin = match pending {
             Pending::Nothing => return,
@@ -87,7 +87,7 @@ impl Outbox {
     // What was pending is completed. That is reported where the flag of its request is set.
     fn complete(&mut self, origin: PendingOrigin)
         requires { length self.old < OUTBOX_PLACES }
-        ensures { self.new ≡ self.old ++ completed origin }
+        ensures { self.new ≡ self.old ++ due_completion origin }
     {
         if is_completion_asked(origin.ack) {
             self.push(Due {
@@ -100,7 +100,7 @@ impl Outbox {
     // A step ends: what is pending for it is completed.
     fn end_step(&mut self, pending: Pending, step: u16)
         requires { length self.old + places_of pending ≤ OUTBOX_PLACES }
-        ensures { self.new ≡ self.old ++ filed_at_step_end pending step }
+        ensures { self.new ≡ self.old ++ dues_at_step_end pending step }
     {
         match pending {
             Pending::Stop(wanted, origin) if matches(wanted, step) => self.complete(origin),
@@ -113,7 +113,7 @@ impl Outbox {
     #[inline(always)]
     pub(crate) fn file(&mut self, pending: &Pending, outcome: InstructionOutcome)
         requires { length self.old + places_of pending.now ≤ OUTBOX_PLACES }
-        ensures { self.new ≡ self.old ++ filed_by_outcome outcome pending.now }
+        ensures { self.new ≡ self.old ++ dues_by_outcome outcome pending.now }
     {
         match outcome {
             InstructionOutcome::Broke => {}

@@ -31,17 +31,17 @@ impl<A: Allocator> Record<A> {
     ghost use Rattle.std.specs.Prelude.{◌≡◌, ◌≤◌, ◌+◌, ◌++◌, Bool, [], None, Some, Ok, Err, IsOk, length, true, false};
     ghost use Rattle.obcp_types.specs.declared.status.Status.TheVariants.{Running};
     ghost use Rattle.ocp_profile.specs.declared.profile.Profile.{Profile};
-    ghost use Rattle.bpf_step.specs.Machine.{started};
-    ghost use Rattle.ocp_table.specs.Effects.{Stepped, new_record, record_by, record_after, filed_by_outcome, failure_of, pool_by_outcome, control_by_outcome, machine_by_outcome, mailbox_by_outcome, remaining_by_outcome};
+    ghost use Rattle.bpf_step.specs.Machine.{machine_at_start};
+    ghost use Rattle.ocp_table.specs.Effects.{Stepped, new_record, record_by, record_after, dues_by_outcome, failure_of, pool_by_outcome, control_by_outcome, machine_by_outcome, mailbox_by_outcome, remaining_by_outcome};
     ghost use Rattle.ocp_table.specs.RequestTable.{failure_by};
     ghost use Rattle.ocp_table.specs.Deciding.{decision_on, outcome_in, outcome_unheld};
-    ghost use Rattle.ocp_table.specs.Shown.{shown, view_of, directive_of, effect_of_record, filed_of_effect, HasFewArguments};
+    ghost use Rattle.ocp_table.specs.Shown.{record_of, view_of, directive_of, effect_of_record, dues_of_effect, HasFewArguments};
     ghost use Rattle.ocp_table.specs.Outbox.{places_of};
 
     /// A procedure that was loaded.
     pub(crate) fn new(id: u16, execution: Execution<A>) -> Self
-        ensures record { (profile : Profile) → execution.machine ≡ started profile [] →
-            shown result ≡ new_record profile execution.image }
+        ensures record { (profile : Profile) → execution.machine ≡ machine_at_start profile [] →
+            record_of result ≡ new_record profile execution.image }
         ensures id { result.id ≡ id }
     {
         Record {
@@ -58,7 +58,7 @@ impl<A: Allocator> Record<A> {
     /// Decides: why an instruction event fails.
     pub(crate) fn step_failure(&self) -> Option<StartFailure>
         ensures table { (pool : List ℕ) →
-            result ≡ failure_by (decision_on (Step pool) (Some (shown self.now))) }
+            result ≡ failure_by (decision_on (Step pool) (Some (record_of self.now))) }
         ensures effect { (pool : List ℕ) →
             result ≡ failure_of (effect_of_record (Step pool) self.now) }
     {
@@ -80,10 +80,10 @@ impl<A: Allocator> Record<A> {
         requires { length outbox.old + places_of self.old.control.pending ≤ OUTBOX_PLACES }
         ensures answer { AnswersStep result (effect_of_record (Step pool.old) self.old) }
         ensures done { self.old.control.status ≡ Running → IsOk result }
-        ensures record { shown self.new ≡
-            record_after (effect_of_record (Step pool.old) self.old) (shown self.old) }
+        ensures record { record_of self.new ≡
+            record_after (effect_of_record (Step pool.old) self.old) (record_of self.old) }
         ensures outbox { outbox.new ≡ outbox.old
-            ++ filed_of_effect (effect_of_record (Step pool.old) self.old)
+            ++ dues_of_effect (effect_of_record (Step pool.old) self.old)
             self.old.control.pending }
         ensures pool { pool.new ≡ pool_by (effect_of_record (Step pool.old) self.old) pool.old }
         ensures id { self.new.id ≡ self.old.id }
@@ -98,10 +98,10 @@ impl<A: Allocator> Record<A> {
     #[inline(always)]
     fn instruction(&mut self, pool: &mut Pool<A>, outbox: &mut Outbox) -> InstructionOutcome
         requires { length outbox.old + places_of self.old.control.pending ≤ OUTBOX_PLACES }
-        ensures outcome { outcome_in (shown self.old) pool.old ≡ Some result }
-        ensures record { shown self.new ≡ record_by (Stepped result) (shown self.old) }
+        ensures outcome { outcome_in (record_of self.old) pool.old ≡ Some result }
+        ensures record { record_of self.new ≡ record_by (Stepped result) (record_of self.old) }
         ensures outbox { outbox.new ≡ outbox.old
-            ++ filed_by_outcome result self.old.control.pending }
+            ++ dues_by_outcome result self.old.control.pending }
         ensures pool { pool.new ≡ pool_by_outcome result pool.old }
         ensures id { self.new.id ≡ self.old.id }
     {
@@ -122,7 +122,7 @@ impl<A: Allocator> Record<A> {
         ensures record { self.new ≡
             record self.old { control = control_by_outcome outcome self.old.control } }
         ensures outbox { outbox.new ≡ outbox.old
-            ++ filed_by_outcome outcome self.old.control.pending }
+            ++ dues_by_outcome outcome self.old.control.pending }
     {
         outbox.file(&self.control.pending, outcome);
         self.control.follow(outcome);
@@ -131,7 +131,7 @@ impl<A: Allocator> Record<A> {
     // The instruction of a procedure that no breakpoint holds, or the fault that its budget is spent.
     #[inline(always)]
     fn execute(&mut self, pool: &mut Pool<A>) -> InstructionOutcome
-        ensures outcome { outcome_unheld (shown self.old) pool.old ≡ Some result }
+        ensures outcome { outcome_unheld (record_of self.old) pool.old ≡ Some result }
         ensures image { self.new.execution.image ≡ self.old.execution.image }
         ensures machine { self.new.execution.machine ≡
             machine_by_outcome result self.old.execution.image self.old.execution.machine }
@@ -164,7 +164,8 @@ impl<A: Allocator> Record<A> {
 
     /// Sets the breakpoints.
     pub(crate) fn set_breakpoints(&mut self, breakpoints: ArrayVec<u16, MAX_BREAKPOINTS>)
-        ensures record { shown self.new ≡ with_breakpoints breakpoints.items (shown self.old) }
+        ensures record { record_of self.new
+            ≡ with_breakpoints breakpoints.items (record_of self.old) }
         ensures id { self.new.id ≡ self.old.id }
     {
         self.breakpoints = breakpoints;
@@ -172,7 +173,7 @@ impl<A: Allocator> Record<A> {
 
     /// Sets the trace flag.
     pub(crate) fn set_traced(&mut self, traced: bool)
-        ensures record { shown self.new ≡ with_traced traced (shown self.old) }
+        ensures record { record_of self.new ≡ with_trace_flag traced (record_of self.old) }
         ensures id { self.new.id ≡ self.old.id }
     {
         self.traced = traced;
@@ -182,7 +183,7 @@ impl<A: Allocator> Record<A> {
     /// are taken from the budget.
     pub(crate) fn settle(&mut self, count: u32, machine: Machine<A>)
         requires { StandsIn self.old.execution.image machine }
-        ensures record { shown self.new ≡ settled count machine (shown self.old) }
+        ensures record { record_of self.new ≡ record_after_work count machine (record_of self.old) }
         ensures id { self.new.id ≡ self.old.id }
     {
         self.execution.settle(machine);
@@ -192,7 +193,7 @@ impl<A: Allocator> Record<A> {
 
     /// What is shown of the procedure.
     pub(crate) fn view(&self) -> View
-        ensures { result ≡ view_of (shown self.now) }
+        ensures { result ≡ view_of (record_of self.now) }
     {
         View {
             status: self.control.status,
@@ -207,9 +208,9 @@ impl<A: Allocator> Record<A> {
 }
 
 ghost use Rattle.std.specs.Prelude.{◌≡◌, ℕ, List};
-ghost use Rattle.ocp_table.specs.Effects.{pool_by, with_breakpoints, with_traced};
+ghost use Rattle.ocp_table.specs.Effects.{pool_by, with_breakpoints, with_trace_flag};
 ghost use Rattle.ocp_table.specs.RequestTable.{Unload, Step};
 ghost use Rattle.bpf_step.specs.Runs.{breaks_at};
-ghost use Rattle.ocp_table.specs.Snapshots.{settled};
+ghost use Rattle.ocp_table.specs.Snapshots.{record_after_work};
 ghost use Rattle.bpf_step.specs.Step.{StandsIn};
 ghost use Rattle.ocp_table.specs.Shown.{AnswersStep};

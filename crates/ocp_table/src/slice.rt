@@ -8,7 +8,7 @@ ghost use Rattle.ocp_table.specs.Records.{Records};
 ghost use Rattle.ocp_table.specs.Effects.{record_after, pool_by, step_outcome};
 ghost use Rattle.ocp_table.specs.RequestTable.{Step};
 ghost use Rattle.ocp_table.specs.Outbox.{places_of};
-ghost use Rattle.ocp_table.specs.Shown.{shown, effect_of_record, filed_of_effect};
+ghost use Rattle.ocp_table.specs.Shown.{record_of, effect_of_record, dues_of_effect};
 ghost use Rattle.ocp_table.specs.Slices.{is_on, is_done, is_running_status, with_machine, IsSlice};
 
 use crate::budget::{less, within};
@@ -35,8 +35,8 @@ impl<A: Allocator> Record<A> {
         ensures ran { local_run self.old.execution.image self.old.breakpoints.items
             self.old.control.pass self.old.execution.machine result ≡
             Some self.new.execution.machine }
-        ensures record { shown self.new ≡
-            with_machine result self.new.execution.machine (shown self.old) }
+        ensures record { record_of self.new ≡
+            with_machine result self.new.execution.machine (record_of self.old) }
         ensures within { result ≤ budget }
         ensures left { IsWithin self.old.remaining result }
         ensures id { self.new.id ≡ self.old.id }
@@ -59,10 +59,10 @@ impl<A: Allocator> Record<A> {
         requires { length outbox.old + places_of self.old.control.pending ≤ OUTBOX_PLACES }
         ensures answer { result ≡ step_outcome (effect_of_record (Step pool.old) self.old) }
         ensures done { self.old.control.status ≡ Running → is_done result ≡ true }
-        ensures record { shown self.new ≡
-            record_after (effect_of_record (Step pool.old) self.old) (shown self.old) }
+        ensures record { record_of self.new ≡
+            record_after (effect_of_record (Step pool.old) self.old) (record_of self.old) }
         ensures outbox { outbox.new ≡ outbox.old
-            ++ filed_of_effect (effect_of_record (Step pool.old) self.old)
+            ++ dues_of_effect (effect_of_record (Step pool.old) self.old)
             self.old.control.pending }
         ensures place { length outbox.new + places_of self.new.control.pending ≤ OUTBOX_PLACES }
         ensures pool { pool.new ≡ pool_by (effect_of_record (Step pool.old) self.old) pool.old }
@@ -84,10 +84,10 @@ impl<A: Allocator> Record<A> {
     fn run_slice(&mut self, pool: &mut Pool<A>, outbox: &mut Outbox, budget: u32) -> Slice
         requires running { self.old.control.status ≡ Running }
         requires place { length outbox.old + places_of self.old.control.pending ≤ OUTBOX_PLACES }
-        ensures slice { (m : Records) → get m self.old.id ≡ Some (shown self.old) →
+        ensures slice { (m : Records) → get m self.old.id ≡ Some (record_of self.old) →
             IsSlice self.old.id
             (record { records = m; outbox = outbox.old; pool = pool.old })
-            budget result (shown self.new) outbox.new pool.new }
+            budget result (record_of self.new) outbox.new pool.new }
         ensures done { is_done result.last ≡ true }
         ensures place { length outbox.new + places_of self.new.control.pending ≤ OUTBOX_PLACES }
         ensures id { self.new.id ≡ self.old.id }
@@ -115,10 +115,10 @@ impl<A: Allocator> Record<A> {
     pub(crate) fn slice(&mut self, pool: &mut Pool<A>, outbox: &mut Outbox, budget: u32) -> Slice
         requires budget { 1 ≤ budget }
         requires place { length outbox.old + places_of self.old.control.pending ≤ OUTBOX_PLACES }
-        ensures slice { (m : Records) → get m self.old.id ≡ Some (shown self.old) →
+        ensures slice { (m : Records) → get m self.old.id ≡ Some (record_of self.old) →
             IsSlice self.old.id
             (record { records = m; outbox = outbox.old; pool = pool.old })
-            budget result (shown self.new) outbox.new pool.new }
+            budget result (record_of self.new) outbox.new pool.new }
         ensures done { is_running_status self.old.control.status ≡ true →
             is_done result.last ≡ true }
         ensures place { length outbox.new + places_of self.new.control.pending ≤ OUTBOX_PLACES }

@@ -42,14 +42,14 @@ impl<A: Allocator> Snapshot<A> {
     ghost use Rattle.std.specs.Prelude.{◌≡◌, ◌↔◌, IfOk, IsTrue, Some, None};
     ghost use Rattle.bpf_step.specs.Step.{StandsIn};
     ghost use Rattle.ocp_table.specs.Budgets.{IsWithin};
-    ghost use Rattle.ocp_table.specs.Shown.{shown};
+    ghost use Rattle.ocp_table.specs.Shown.{record_of};
     ghost use Rattle.ocp_table.specs.Snapshots.{snapshot_of, snapshot_at, run_of, count_of};
 
     /// That of a procedure.
     fn of(alloc: A, procedure: &Record<A>) -> Result<Self, AllocError>
     where
         A: Copy,
-        ensures { IfOk result (λ s. s ≡ snapshot_of (shown procedure.now)) }
+        ensures { IfOk result (λ s. s ≡ snapshot_of (record_of procedure.now)) }
     {
         Ok(Snapshot {
             execution: procedure.execution.share(alloc)?,
@@ -64,7 +64,7 @@ impl<A: Allocator> Snapshot<A> {
     pub(crate) fn take(alloc: A, procedure: &Record<A>) -> Result<Option<Self>, AllocError>
     where
         A: Copy,
-        ensures { IfOk result (λ s. s ≡ snapshot_at (Some (shown procedure.now))) }
+        ensures { IfOk result (λ s. s ≡ snapshot_at (Some (record_of procedure.now))) }
     {
         match procedure.control.status {
             Status::Running => {
@@ -77,7 +77,7 @@ impl<A: Allocator> Snapshot<A> {
 
     /// Whether the procedure's parts are still the same.
     fn is_of(&self, procedure: &Record<A>) -> bool
-        ensures { IsTrue result ↔ (snapshot_of (shown procedure.now) ≡ self.now) }
+        ensures { IsTrue result ↔ (snapshot_of (record_of procedure.now) ≡ self.now) }
     {
         self.pass == procedure.control.pass
             && self.traced == procedure.traced
@@ -88,7 +88,7 @@ impl<A: Allocator> Snapshot<A> {
 
     /// Whether the procedure still runs, and its parts are the same.
     pub(crate) fn is_at(&self, procedure: &Record<A>) -> bool
-        ensures { IsTrue result ↔ (snapshot_at (Some (shown procedure.now)) ≡ Some self.now) }
+        ensures { IsTrue result ↔ (snapshot_at (Some (record_of procedure.now)) ≡ Some self.now) }
     {
         match procedure.control.status {
             Status::Running => self.is_of(procedure),

@@ -9,6 +9,7 @@ ghost use Rattle.ocp_words.specs.Words.{ocp, asm, run, number_option, profile_op
 use crate::help;
 use clap::builder::ValueParser;
 use clap::{Arg, Command, value_parser};
+use ocp_profile::{MAX_APID, MAX_CAPACITY, MAX_POOL_WORDS};
 use std::alloc::{AllocError, Global};
 
 /// A command with no options, and what help says of it.
@@ -64,7 +65,7 @@ fn apid_option<'a>(alloc: Global) -> Arg<'a>
         alloc,
         "apid",
         "291",
-        value_parser!(u16).range(0..=2046),
+        value_parser!(u16).range(0..=i64::from(MAX_APID)),
         help,
     )
 }
@@ -74,7 +75,13 @@ fn pool_option<'a>(alloc: Global) -> Arg<'a>
     ensures global { result.global ≡ false }
 {
     let help = "Words of the pool, 1 to 256";
-    option(alloc, "pool", "16", value_parser!(u16).range(1..=256), help)
+    option(
+        alloc,
+        "pool",
+        "16",
+        value_parser!(u16).range(1..=i64::from(MAX_POOL_WORDS)),
+        help,
+    )
 }
 
 fn journal_option<'a>(alloc: Global) -> Arg<'a>
@@ -86,7 +93,7 @@ fn journal_option<'a>(alloc: Global) -> Arg<'a>
         alloc,
         "journal",
         "100000",
-        value_parser!(u32).range(1..=1_000_000),
+        value_parser!(u32).range(1..=i64::from(MAX_CAPACITY)),
         help,
     )
 }

@@ -1,21 +1,12 @@
 //! What the program is to do.
 
 ghost use Rattle.std.specs.Prelude.{◌≡◌, ◌≤◌, ◌↔◌, IsSome, IfSome};
-ghost use Rattle.ocp_words.specs.Limits.{max_apid, max_pool_words, max_capacity};
+ghost use Rattle.ocp_profile.specs.declared.limits.TheConstants.{MAX_APID, MAX_POOL_WORDS, MAX_CAPACITY};
 ghost use Rattle.ocp_words.specs.declared.job.WordsFault.TheVariants.{Memory};
 
 use clap::Error;
-use ocp_profile::Profile;
+use ocp_profile::{MAX_APID, MAX_CAPACITY, MAX_POOL_WORDS, Profile};
 use std::alloc::{AllocError, AllocFailed};
-
-/// The greatest application process identifier of an engine.
-pub const MAX_APID: u16 = 2_046;
-
-/// The most words of a pool.
-pub const MAX_POOL_WORDS: u16 = 256;
-
-/// The most entries of a journal.
-pub const MAX_CAPACITY: u32 = 1_000_000;
 
 /// What a run of the console is made with.
 #[derive(Clone, Copy)]
@@ -28,17 +19,17 @@ pub struct Settings {
     pub pool_words: u16,
     /// How many entries the journal takes, 1 to 1,000,000.
     pub capacity: u32,
-    pub ghost apid_in_range: { apid ≤ max_apid },
-    pub ghost pool_in_range: { (1 ≤ pool_words) × (pool_words ≤ max_pool_words) },
-    pub ghost capacity_in_range: { (1 ≤ capacity) × (capacity ≤ max_capacity) },
+    pub ghost apid_in_range: { apid ≤ MAX_APID },
+    pub ghost pool_in_range: { (1 ≤ pool_words) × (pool_words ≤ MAX_POOL_WORDS) },
+    pub ghost capacity_in_range: { (1 ≤ capacity) × (capacity ≤ MAX_CAPACITY) },
 }
 
 impl Settings {
     /// The profile and these numbers, if each is in its range.
     pub fn new(profile: Profile, apid: u16, pool_words: u16, capacity: u32) -> Option<Settings>
         ensures some { IsSome result ↔
-            ((apid ≤ max_apid) × ((1 ≤ pool_words) × (pool_words ≤ max_pool_words)) ×
-            ((1 ≤ capacity) × (capacity ≤ max_capacity))) }
+            ((apid ≤ MAX_APID) × ((1 ≤ pool_words) × (pool_words ≤ MAX_POOL_WORDS)) ×
+            ((1 ≤ capacity) × (capacity ≤ MAX_CAPACITY))) }
         ensures numbers { IfSome result (λ s.
             (s.profile ≡ profile) × (s.apid ≡ apid) × (s.pool_words ≡ pool_words)
             × (s.capacity ≡ capacity)) }

@@ -15,9 +15,9 @@ use Rattle.ocp_loader.specs.LoadResult.{load_result}
 use Rattle.ocp_table.specs.declared.control.Pending.{Pending}
 use Rattle.ocp_table.specs.declared.control.Pending.TheVariants as pending
 use Rattle.ocp_table.specs.Records.{Rec, Records}
-use Rattle.ocp_table.specs.Effects.{Loaded, Unloaded, Changed, Kept, Started, Sent, Pended, Quit, Resumed, Stepped, pool_by, outbox_by, overtaken_of}
+use Rattle.ocp_table.specs.Effects.{Loaded, Unloaded, Changed, Kept, Started, Sent, Pended, Quit, Resumed, Stepped, pool_by, outbox_by, failed_completion_of}
 use Rattle.ocp_table.specs.Effects as table
-use Rattle.ocp_table.specs.RequestTable.{Directive, Load, Unload, Activate, Stop, Suspend, Resume, Abort, Communicate, Step, Decision, Loads, Unloads, Changes, Steps, Fails, transition, sent, pended}
+use Rattle.ocp_table.specs.RequestTable.{Directive, Load, Unload, Activate, Stop, Suspend, Resume, Abort, Communicate, Step, Decision, Loads, Unloads, Changes, Steps, Fails, transition, communication, postponement}
 use Rattle.ocp_table.specs.Deciding.{effect_in, effect_by, effect_of_load, decision_on, status_of, pending_of, words_of, is_full}
 use Rattle.ocp_table.specs.Shown.{directive_of}
 use Rattle.ocp_table.specs.declared.directive.Directive as D
@@ -36,10 +36,10 @@ IsCalmDecision (Changes change) = IsCalm change
 IsCalmDecision (Steps pool) = ⊥
 IsCalmDecision decision = Unit {0}
 
-calm_sent : (words : List ℕ) (there : ℕ) → IsCalmDecision (sent words there)
+calm_sent : (words : List ℕ) (there : ℕ) → IsCalmDecision (communication words there)
 calm_sent words there = elim (nat_le (there + length words) MAX_MAILBOX_WORDS) as (λ b. IsCalmDecision (cond b (Changes (Sent words)) (Fails MailboxFull))) [ true ↦ tt | false ↦ tt ]
 
-calm_pended : (full : Bool) (p : Pending) → IsCalmDecision (pended full p)
+calm_pended : (full : Bool) (p : Pending) → IsCalmDecision (postponement full p)
 calm_pended true p = tt
 calm_pended false p = tt
 
@@ -113,7 +113,7 @@ directive_leaves_pool d full id m pool = request_leaves_pool (directive_of d ful
 -- ---- the outbox
 
 -- a procedure that is loaded was not there before
-overtaken_by_load : (o : Option Rec) (profile : Profile) (id : ℕ) (image : List ℕ) (full : Bool) → effect_by (decision_on (Load profile image) o) id o full ≡ Loaded profile id image → overtaken_of o ≡ []
+overtaken_by_load : (o : Option Rec) (profile : Profile) (id : ℕ) (image : List ℕ) (full : Bool) → effect_by (decision_on (Load profile image) o) id o full ≡ Loaded profile id image → failed_completion_of o ≡ []
 overtaken_by_load None profile id image full loads = refl
 overtaken_by_load (Some r) profile id image full loads = absurd (elim r.control.status as (λ s. effect_by (transition (Load profile image) (Some s) r.control.pending (length r.mailbox)) id (Some r) full ≡ Loaded profile id image → ⊥) [
   | Inactive ↦ λ h. cc

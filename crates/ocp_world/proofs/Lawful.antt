@@ -14,7 +14,7 @@ use Rattle.obcp_messages.specs.declared.request.Request.{Request as Command}
 use Rattle.obcp_messages.specs.declared.request.Request.TheVariants as command
 use Rattle.ocp_table.specs.Records.{Rec, Records}
 use Rattle.obcp_types.specs.declared.pending.Due.{Due}
-use Rattle.ocp_table.specs.Effects.{Change, Changed, records_by, pool_by, outbox_by, filed_of, failure_of}
+use Rattle.ocp_table.specs.Effects.{Change, Changed, records_by, pool_by, outbox_by, dues_of, failure_of}
 use Rattle.ocp_table.specs.RequestTable as directive
 use Rattle.ocp_table.specs.RequestTable.{Directive}
 use Rattle.ocp_table.specs.Deciding.{effect_in, status_of}
@@ -202,7 +202,7 @@ pub command_keeps_pool : (w : World) (by own : ℕ) (command : DebugCommand) →
 command_keeps_pool w by own command = pool_kept (fault_on command (get w.records own)) command own w.pool
 
 -- a debugger files no completion
-unfiled : (command : DebugCommand) (o : Option Rec) → filed_of (change_of command) o ≡ []
+unfiled : (command : DebugCommand) (o : Option Rec) → dues_of (change_of command) o ≡ []
 unfiled command None = refl
 unfiled (SetBreak place) (Some r) = refl
 unfiled (ClearBreak place) (Some r) = refl

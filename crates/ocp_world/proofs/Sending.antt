@@ -13,11 +13,11 @@ use Rattle.ocp_table.specs.Deciding.{effect_in}
 use Rattle.ocp_table.specs.Effects as table
 use Rattle.ocp_table.specs.Effects.{Change, Changed, Kept, Unasked, Failed, Drained, records_by, outbox_by}
 use Rattle.ocp_table.specs.Shown.{directive_of}
-use Rattle.ocp_debug.specs.Traces.{kept}
+use Rattle.ocp_debug.specs.Traces.{last_traces}
 use Rattle.ocp_reports.specs.declared.origin.Origin.{Origin}
 use Rattle.ocp_reports.specs.Origin.{Dispatch}
 use Rattle.ocp_reports.specs.Reports.{reports_of}
-use Rattle.ocp_reports.specs.Due.{drained}
+use Rattle.ocp_reports.specs.Due.{drain_dispatches}
 use Rattle.ocp_reports.specs.Packets.{packets}
 use Rattle.ocp_reports.proofs.Packets.{packets-alike, length-packets}
 use Rattle.ocp_world.specs.World.{World}
@@ -55,21 +55,21 @@ module _ {A : Type 0} (w : World) (s : State A) (dispatches : List Dispatch) (re
     outbox = stands.outbox ∙ sym (append-nil w.outbox);
     pool = stands.pool;
     count = next_count count is;
-    ring = stands.ring ∙ ap kept (sym (append-nil w.traces));
+    ring = stands.ring ∙ ap last_traces (sym (append-nil w.traces));
   }
 
 -- what a drain that is accepted does: completions wait
-drain_is : (w : World) (time : ℕ) (due : List Due) → is_accepted (answer_by (drain_effect time due).reply w) ≡ true → drain_effect time due ≡ record { on_records = Drained; reply = Sends (drained time due) }
+drain_is : (w : World) (time : ℕ) (due : List Due) → is_accepted (answer_by (drain_effect time due).reply w) ≡ true → drain_effect time due ≡ record { on_records = Drained; reply = Sends (drain_dispatches time due) }
 drain_is w time [] accepted = absurd (true_false (sym accepted))
 drain_is w time (due ∷ dues) accepted = refl
 
 -- a drain that is accepted: the reports are sent, and then the outbox is emptied
-module _ {A : Type 0} (w : World) (time : ℕ) (old : State A) (stands : IsWorld w old) (accepted : is_accepted (answer_by (drain_effect time w.outbox).reply w) ≡ true) (procedures : Procedures) (profile : procedures.profile ≡ old.table.profile) (records : procedures.records ≡ old.table.records) (outbox : procedures.outbox ≡ []) (reports : List (List ℕ)) (are : reports ≡ packets old.apid old.count (drained time old.table.outbox)) (count : ℕ) (next : count ≡ (old.count + length reports) % 16384) where
+module _ {A : Type 0} (w : World) (time : ℕ) (old : State A) (stands : IsWorld w old) (accepted : is_accepted (answer_by (drain_effect time w.outbox).reply w) ≡ true) (procedures : Procedures) (profile : procedures.profile ≡ old.table.profile) (records : procedures.records ≡ old.table.records) (outbox : procedures.outbox ≡ []) (reports : List (List ℕ)) (are : reports ≡ packets old.apid old.count (drain_dispatches time old.table.outbox)) (count : ℕ) (next : count ≡ (old.count + length reports) % 16384) where
   abbrev dispatches : List Dispatch
-  dispatches = drained time w.outbox
+  dispatches = drain_dispatches time w.outbox
 
   are_here : reports ≡ packets old.apid old.count dispatches
-  are_here = are ∙ ap (λ due. packets old.apid old.count (drained time due)) stands.outbox
+  are_here = are ∙ ap (λ due. packets old.apid old.count (drain_dispatches time due)) stands.outbox
 
   abbrev Drains : Effect → Type 0
   Drains effect = DoesIn w effect (Ok reports) (record old { table = procedures; count = count })
@@ -84,7 +84,7 @@ module _ {A : Type 0} (w : World) (time : ℕ) (old : State A) (stands : IsWorld
       outbox = outbox;
       pool = stands.pool;
       count = next_count w old dispatches reports stands are_here count next;
-      ring = stands.ring ∙ ap kept (sym (append-nil w.traces));
+      ring = stands.ring ∙ ap last_traces (sym (append-nil w.traces));
     },
   )
 
@@ -127,6 +127,6 @@ module _ {A : Type 0} (w : World) (origin : Origin) (d : D.Directive) (id : ℕ)
         outbox = outbox ∙ ap (λ t. outbox_by (Changed id change) t.records t.outbox) (same ∙ same_table) ∙ ap (λ e. outbox_by e w.records w.outbox) (sym changes);
         pool = does.1.pool ∙ sym (directive_leaves_pool d (is_outbox_full w.records w.outbox) id w.records w.pool);
         count = does.1.count ∙ ap (λ o. (w.reports + length (reports_of origin o [])) % 16384) reported;
-        ring = does.1.ring ∙ ap kept (append-nil w.traces ∙ sym (directive_keeps_traces d (is_outbox_full w.records w.outbox) id w.records w.traces));
+        ring = does.1.ring ∙ ap last_traces (append-nil w.traces ∙ sym (directive_keeps_traces d (is_outbox_full w.records w.outbox) id w.records w.traces));
       },
     )

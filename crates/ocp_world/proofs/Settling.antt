@@ -15,17 +15,17 @@ use Rattle.ocp_table.specs.declared.answers.InstructionOutcome.TheVariants.{Brok
 use Rattle.ocp_table.specs.declared.answers.TheConstants.{BUDGET_SPENT}
 use Rattle.ocp_table.specs.declared.answers.StepOutcome.TheVariants as S
 use Rattle.ocp_table.specs.Records.{Rec, Records}
-use Rattle.ocp_table.specs.Effects.{Changed, Stepped, filed_of, passed, record_by, with_change, machine_after, records_with}
+use Rattle.ocp_table.specs.Effects.{Changed, Stepped, dues_of, without_pass, record_by, with_change, machine_after, records_with}
 use Rattle.ocp_table.specs.RequestTable as directive
 use Rattle.ocp_table.specs.Deciding.{outcome_of, outcome_unheld, outcome_in, effect_on, effect_in, effect_by, effect_of_step, is_full}
 use Rattle.ocp_table.specs.Budgets.{one_less, less, is_spent, IsWithin}
-use Rattle.ocp_table.specs.Snapshots.{settled}
+use Rattle.ocp_table.specs.Snapshots.{record_after_work}
 use Rattle.ocp_world.specs.World.{World, Event, Step}
 use Rattle.ocp_world.specs.After.{Stepped as Answered, after, world_after, answer_by}
 use Rattle.ocp_world.specs.Instructions.{instruction_effect}
 use Rattle.ocp_world.specs.Replay.{replay_from, answers}
 use Rattle.ocp_debug.specs.Traces.{traces_by_change, traces_if}
-use Rattle.ocp_world.specs.Settled.{world_settled, RunsAlone}
+use Rattle.ocp_world.specs.Settled.{world_after_work, RunsAlone}
 use Rattle.ocp_world.proofs.Replays.{steps-suc}
 
 -- ---- maps
@@ -113,16 +113,16 @@ effect-ran w id r next held running unspent go =
     ∙ decided w.pool id r r.control.status (is_full w.records) running
     ∙ ap (λ o. effect_of_step o id) (ran r w.pool next unspent go)
 
-stepped : (r : Rec) (next : State) → one_step r.image r.machine ≡ Next next → record_by (Stepped Ran) r ≡ settled 1 next r
+stepped : (r : Rec) (next : State) → one_step r.image r.machine ≡ Next next → record_by (Stepped Ran) r ≡ record_after_work 1 next r
 stepped r next is = ap (λ o. record {
   image = r.image;
   machine = machine_after o r.machine;
   mailbox = r.mailbox;
-  control = passed r.control;
+  control = without_pass r.control;
   breakpoints = r.breakpoints;
   traced = r.traced;
   remaining = one_less r.remaining;
-}) is ∙ (λ i. record (settled 1 next r) { remaining = less-one r.remaining i })
+}) is ∙ (λ i. record (record_after_work 1 next r) { remaining = less-one r.remaining i })
 
 -- the procedure runs untraced, and its machine goes on by itself
 record GoesOn (w : World) (id : ℕ) (r : Rec) (next : State) : Type 0 where
@@ -132,14 +132,14 @@ record GoesOn (w : World) (id : ℕ) (r : Rec) (next : State) : Type 0 where
   unspent : is_spent r.remaining ≡ false
   go : Goes r.image r.breakpoints r.control.pass r.machine next
 
-one_more : (w : World) (by id : ℕ) (r : Rec) (next : State) → GoesOn w id r next → (after w (Step by id)).world ≡ with_record id (settled 1 next r) 1 w
+one_more : (w : World) (by id : ℕ) (r : Rec) (next : State) → GoesOn w id r next → (after w (Step by id)).world ≡ with_record id (record_after_work 1 next r) 1 w
 one_more w by id r next on =
-    let records : with_change (map.get w.records id) id (Stepped Ran) w.records ≡ map.insert w.records id (settled 1 next r) =
+    let records : with_change (map.get w.records id) id (Stepped Ran) w.records ≡ map.insert w.records id (record_after_work 1 next r) =
     ap (λ o. with_change o id (Stepped Ran) w.records) on.held ∙ ap (map.insert w.records id) (stepped r next on.go.steps) in
     let traces : w.traces ++ traces_by_change id (Stepped Ran) (map.get w.records id) ≡ w.traces =
     ap (λ o. w.traces ++ traces_by_change id (Stepped Ran) o) on.held ∙ ap (λ b. w.traces ++ traces_if b id Ran r) on.untraced ∙ append-nil w.traces in
-    let outbox : w.outbox ++ filed_of (Stepped Ran) (map.get w.records id) ≡ w.outbox =
-    ap (λ o. w.outbox ++ filed_of (Stepped Ran) o) on.held ∙ append-nil w.outbox in
+    let outbox : w.outbox ++ dues_of (Stepped Ran) (map.get w.records id) ≡ w.outbox =
+    ap (λ o. w.outbox ++ dues_of (Stepped Ran) o) on.held ∙ append-nil w.outbox in
     ap (λ e. world_after (instruction_effect e) w) (effect-ran w id r next on.held on.running on.unspent on.go)
     ∙ (λ i. record w { records = records i; outbox = outbox i; events = w.events + 1; traces = traces i })
 
@@ -166,11 +166,11 @@ module _ (w : World) (by id : ℕ) (r : Rec) (held : map.get w.records id ≡ So
 
   abbrev world_at : ℕ → State → World
   world_at zero machine = w
-  world_at (suc n) machine = with_record id (settled (suc n) machine r) (suc n) w
+  world_at (suc n) machine = with_record id (record_after_work (suc n) machine r) (suc n) w
 
   abbrev record_at : ℕ → State → Rec
   record_at zero machine = r
-  record_at (suc n) machine = settled (suc n) machine r
+  record_at (suc n) machine = record_after_work (suc n) machine r
 
   same_run : (m n : State) → Some m ≡ Some n → m ≡ n
   same_run m n is = cc
@@ -187,7 +187,7 @@ module _ (w : World) (by id : ℕ) (r : Rec) (held : map.get w.records id ≡ So
         ∙ ap (λ b. local_next r.image r.breakpoints b machine) (sym (first_pass r.control.pass)) ∙ is);
   }
   goes_on_at (suc n) machine next within so_far is = record {
-    held = get-put w.records id (settled (suc n) machine r);
+    held = get-put w.records id (record_after_work (suc n) machine r);
     running = running;
     untraced = untraced;
     unspent = unspent_later n r.remaining within;
@@ -198,12 +198,12 @@ module _ (w : World) (by id : ℕ) (r : Rec) (held : map.get w.records id ≡ So
   counts_on : (n : ℕ) → w.events + suc n + 1 ≡ w.events + suc (suc n)
   counts_on n = omega arith
 
-  settled_at : (n : ℕ) (machine next : State) → with_record id (settled 1 next (record_at n machine)) 1 (world_at n machine) ≡ with_record id (settled (suc n) next r) (suc n) w
+  settled_at : (n : ℕ) (machine next : State) → with_record id (record_after_work 1 next (record_at n machine)) 1 (world_at n machine) ≡ with_record id (record_after_work (suc n) next r) (suc n) w
   settled_at zero machine next = refl
   settled_at (suc n) machine next =
-      let taken : settled 1 next (settled (suc n) machine r) ≡ settled (suc (suc n)) next r = λ i. record (settled (suc (suc n)) next r) { remaining = less-more n r.remaining i } in
-      let records : map.insert (map.insert w.records id (settled (suc n) machine r)) id (settled 1 next (settled (suc n) machine r)) ≡ map.insert w.records id (settled (suc (suc n)) next r) =
-      put-put w.records id (settled (suc n) machine r) (settled 1 next (settled (suc n) machine r)) ∙ ap (map.insert w.records id) taken in
+      let taken : record_after_work 1 next (record_after_work (suc n) machine r) ≡ record_after_work (suc (suc n)) next r = λ i. record (record_after_work (suc (suc n)) next r) { remaining = less-more n r.remaining i } in
+      let records : map.insert (map.insert w.records id (record_after_work (suc n) machine r)) id (record_after_work 1 next (record_after_work (suc n) machine r)) ≡ map.insert w.records id (record_after_work (suc (suc n)) next r) =
+      put-put w.records id (record_after_work (suc n) machine r) (record_after_work 1 next (record_after_work (suc n) machine r)) ∙ ap (map.insert w.records id) taken in
       λ i. record w { records = records i; events = counts_on n i }
 
   pub world_after_run : (n : ℕ) (machine : State) → IsWithin r.remaining n → run n ≡ Some machine → replay_from w (replicate n (Step by id)) ≡ world_at n machine
@@ -236,13 +236,13 @@ module _ (w : World) (by id : ℕ) (r : Rec) (held : map.get w.records id ≡ So
 
 -- ---- the law
 
-at_least_one : (w : World) (by id : ℕ) (r : Rec) (held : map.get w.records id ≡ Some r) (running : r.control.status ≡ Running) (untraced : r.traced ≡ false) (n : ℕ) (machine : State) → 1 ≤ n → IsWithin r.remaining n → local_run r.image r.breakpoints r.control.pass r.machine n ≡ Some machine → replay_from w (replicate n (Step by id)) ≡ world_settled id machine n w
+at_least_one : (w : World) (by id : ℕ) (r : Rec) (held : map.get w.records id ≡ Some r) (running : r.control.status ≡ Running) (untraced : r.traced ≡ false) (n : ℕ) (machine : State) → 1 ≤ n → IsWithin r.remaining n → local_run r.image r.breakpoints r.control.pass r.machine n ≡ Some machine → replay_from w (replicate n (Step by id)) ≡ world_after_work id machine n w
 at_least_one w by id r held running untraced zero machine some within is = absurd (omega arith)
 at_least_one w by id r held running untraced (suc n) machine some within is =
     world_after_run w by id r held running untraced (suc n) machine within is
-    ∙ sym (ap (λ o. record w { records = records_with o id (settled (suc n) machine) w.records; events = w.events + suc n }) held)
+    ∙ sym (ap (λ o. record w { records = records_with o id (record_after_work (suc n) machine) w.records; events = w.events + suc n }) held)
 
-pub world_of_run : (w : World) (by id : ℕ) (r : Rec) (n : ℕ) (machine : State) → RunsAlone w id r n machine → replay_from w (replicate n (Step by id)) ≡ world_settled id machine n w
+pub world_of_run : (w : World) (by id : ℕ) (r : Rec) (n : ℕ) (machine : State) → RunsAlone w id r n machine → replay_from w (replicate n (Step by id)) ≡ world_after_work id machine n w
 world_of_run w by id r n machine alone = at_least_one w by id r alone.held alone.running alone.untraced n machine alone.some alone.within alone.ran
 
 pub answers_alone : (w : World) (by id : ℕ) (r : Rec) (n : ℕ) (machine : State) → RunsAlone w id r n machine → answers w (replicate n (Step by id)) ≡ replicate n (Answered S.Ran)

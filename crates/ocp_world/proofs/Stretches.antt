@@ -17,7 +17,7 @@ use Rattle.ocp_table.specs.RequestTable.{transition}
 use Rattle.ocp_table.specs.Deciding.{effect_in, effect_on, effect_by, effect_of_step, outcome_in, is_full}
 use Rattle.ocp_table.specs.Slices.{Store, is_traced, store_after_events}
 use Rattle.ocp_table.specs.Slices as table
-use Rattle.ocp_debug.specs.Traces.{kept, traces_by, traces_by_change, traces_of, traces_if}
+use Rattle.ocp_debug.specs.Traces.{last_traces, traces_by, traces_by_change, traces_of, traces_if}
 use Rattle.ocp_world.specs.declared.state.State.{State}
 use Rattle.ocp_world.specs.Mirror.State.{IsWorld}
 use Rattle.ocp_world.specs.World.{World, Step}
@@ -129,7 +129,7 @@ module _ {A : Type 0} where
         outbox = sym (ap (λ s. s.outbox) whole);
         pool = sym (ap (λ s. s.pool) whole);
         count = count ∙ stands.count ∙ ap (λ k. k % 16384) (sym (same_reports by id n w));
-        ring = ring ∙ stands.ring ∙ ap kept (sym (same_traces by id n w same_off));
+        ring = ring ∙ stands.ring ∙ ap last_traces (sym (same_traces by id n w same_off));
       }
 
   pub sliced_count : (old : State A) (id budget k : ℕ) → k ≡ table.slice_count id (store_in old) budget → (w : World) (by : ℕ) → IsWorld w old → k ≡ slice_count w by id budget

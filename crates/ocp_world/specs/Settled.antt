@@ -7,14 +7,14 @@ use Rattle.bpf_step.specs.Runs.{local_run}
 use Rattle.ocp_table.specs.Records.{Rec}
 use Rattle.ocp_table.specs.Effects.{records_with}
 use Rattle.ocp_table.specs.Budgets.{IsWithin}
-use Rattle.ocp_table.specs.Snapshots.{settled}
+use Rattle.ocp_table.specs.Snapshots.{record_after_work}
 use Rattle.ocp_world.specs.World.{World}
 
 -- the world in which this machine is put back into a procedure after so many instructions, each an
 -- accepted event that takes one from its budget, and its pass flag is off
-abbrev pub world_settled : ℕ → State → ℕ → World → World
-world_settled id machine count w = record w {
-  records = records_with (get w.records id) id (settled count machine) w.records;
+abbrev pub world_after_work : ℕ → State → ℕ → World → World
+world_after_work id machine count w = record w {
+  records = records_with (get w.records id) id (record_after_work count machine) w.records;
   events = w.events + count;
 }
 

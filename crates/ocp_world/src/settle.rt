@@ -9,7 +9,7 @@ ghost use Rattle.ocp_table.specs.declared.answers.StepOutcome.TheVariants as out
 ghost use Rattle.ocp_world.specs.World.{World, Step};
 ghost use Rattle.ocp_world.specs.After.{Stepped};
 ghost use Rattle.ocp_world.specs.Replay.{replay_from, answers};
-ghost use Rattle.ocp_world.specs.Settled.{world_settled, RunsAlone};
+ghost use Rattle.ocp_world.specs.Settled.{world_after_work, RunsAlone};
 
 use crate::State;
 use bpf_step::Machine;
@@ -42,7 +42,7 @@ impl<A: Allocator> State<A> {
     pub fn settle(&mut self, id: u16, count: u32, machine: Machine<A>)
         requires { StandsAt (get self.old.table.records id) machine }
         ensures { (w : World) → IsWorld w self.old →
-            IsWorld (world_settled id machine count w) self.new }
+            IsWorld (world_after_work id machine count w) self.new }
     {
         self.table.settle(id, count, machine);
     }
@@ -55,7 +55,7 @@ impl<A: Allocator> State<A> {
 pub fn instructions_done_alone_are_events()
     ensures world { (w : World) (by id n : ℕ) (r : Rec) (machine : Machined) →
         RunsAlone w id r n machine →
-        replay_from w (replicate n (Step by id)) ≡ world_settled id machine n w }
+        replay_from w (replicate n (Step by id)) ≡ world_after_work id machine n w }
     ensures answers { (w : World) (by id n : ℕ) (r : Rec) (machine : Machined) →
         RunsAlone w id r n machine →
         answers w (replicate n (Step by id)) ≡ replicate n (Stepped outcome.Ran) }

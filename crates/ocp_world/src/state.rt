@@ -10,7 +10,7 @@ ghost use Rattle.ocp_table.specs.Effects.{Changed, Kept, Unasked, Failed};
 ghost use Rattle.ocp_table.specs.Shown.{view_at, change_of, directive_of, HasFewArguments};
 ghost use Rattle.ocp_debug.specs.declared.command.DebugFault.{DebugFault as Fault};
 ghost use Rattle.ocp_debug.specs.Memory.{memory_at};
-ghost use Rattle.ocp_debug.specs.Traces.{kept};
+ghost use Rattle.ocp_debug.specs.Traces.{last_traces};
 ghost use Rattle.ocp_debug.specs.Texts.{trace_line};
 ghost use Rattle.ocp_reports.specs.Reports.{reports_of};
 ghost use Rattle.ocp_world.specs.World.{World, opening, Step, Debug, Request as Asked};
@@ -132,10 +132,10 @@ impl<A: Allocator> State<A> {
     /// stays as it was.
     pub fn write_traces<B: Allocator>(&self, output: &mut Vec<u8, B>) -> Result<(), AllocError>
         ensures ok { (w : World) → IsWorld w self.now → OnOk result
-            (output.new.items ≡ output.old.items ++ flat_map trace_line (kept w.traces)) }
+            (output.new.items ≡ output.old.items ++ flat_map trace_line (last_traces w.traces)) }
         ensures err { OnErr result (output.new.items ≡ output.old.items) }
         ensures memory { (w : World) → IsWorld w self.now → OnErr result (vec_capacity output.old <
-            length (output.old.items ++ flat_map trace_line (kept w.traces))) }
+            length (output.old.items ++ flat_map trace_line (last_traces w.traces))) }
         ensures same_capacity { OnErr result (vec_capacity output.new ≡ vec_capacity output.old) }
         ensures capacity { vec_capacity output.old ≤ vec_capacity output.new }
     {

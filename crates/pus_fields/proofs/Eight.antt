@@ -3,7 +3,7 @@ use Rattle.std.proofs.Common.{◌≡◌, ℕ, zero, suc, ◌+◌, ◌*◌, ◌/�
 use Rattle.std.specs.Prelude.{bit_xor}
 use Rattle.std.proofs.lemmas.List.{append-nil, take-append-drop}
 use Rattle.pus_fields.specs.ErrorControl.{IsRemainder, plus, sum_of, bits, zeros, octet_bits, multiple, low, number_of_bits}
-use Rattle.pus_fields.specs.Mirror.Register.{dividend, shifted_bits, shifts, fed}
+use Rattle.pus_fields.specs.Mirror.Register.{dividend, shifted_bits, shifts, register_after}
 use Rattle.pus_fields.proofs.Polynomials.{sum-assoc, sum-comm, length-zeros, zeros-sum, length-sum, sum-append, length-multiple}
 use Rattle.pus_fields.proofs.Bits.{bits-cut, bits-xor, length-bits}
 use Rattle.pus_fields.proofs.Division.{shift_step, feed_step}
@@ -94,8 +94,8 @@ length-fed_one : (s : List Bool) (octet : ℕ) → length s ≡ 16 → length (s
 length-fed_one s octet e = length-sum s (bits 8 octet ++ zeros 8) (e ∙ sym (length-octet octet)) ∙ e
 
 -- a register that was fed octets has divided them
-pub fed_divides : (octets : List ℕ) (s rest r : List Bool) → length s ≡ 16 → IsRemainder (dividend (fed octets s) rest) r → IsRemainder (dividend s (octet_bits octets ++ rest)) r
-unfolding fed
+pub fed_divides : (octets : List ℕ) (s rest r : List Bool) → length s ≡ 16 → IsRemainder (dividend (register_after octets s) rest) r → IsRemainder (dividend s (octet_bits octets ++ rest)) r
+unfolding register_after
 fed_divides [] s rest r e h = h
 fed_divides (octet ∷ octets) s rest r e h =
     let fed_one = sum_of s (bits 8 octet ++ zeros 8) in
@@ -113,8 +113,8 @@ pub contribution : List ℕ → List Bool
 contribution [] = zeros 16
 contribution (octet ∷ octets) = sum_of (shifts (8 + 8 * length octets) (bits 8 octet ++ zeros 8)) (contribution octets)
 
-fed-sum : (octets : List ℕ) (s : List Bool) → length s ≡ 16 → fed octets s ≡ sum_of (shifts (8 * length octets) s) (contribution octets)
-unfolding fed contribution shifts
+fed-sum : (octets : List ℕ) (s : List Bool) → length s ≡ 16 → register_after octets s ≡ sum_of (shifts (8 * length octets) s) (contribution octets)
+unfolding register_after contribution shifts
 fed-sum [] s e = sym (sum-comm s (zeros 16) ∙ zeros-sum 16 s e)
 fed-sum (octet ∷ octets) s e =
     let o = bits 8 octet ++ zeros 8 in
@@ -152,8 +152,8 @@ bits-split n =
     sym upper ∙ ap (λ (t : List Bool). bits 8 (n / 256) ++ t) (sym (bits-cut 8 8 n (omega arith)))
 
 -- a register fed two octets is an empty one fed them with the register's halves added
-halves : (n a b : ℕ) (octets : List ℕ) → n < 65536 → fed (a ∷ b ∷ octets) (bits 16 n) ≡ fed (bit_xor a (n / 256) ∷ bit_xor b (n % 256) ∷ octets) (zeros 16)
-unfolding fed
+halves : (n a b : ℕ) (octets : List ℕ) → n < 65536 → register_after (a ∷ b ∷ octets) (bits 16 n) ≡ register_after (bit_xor a (n / 256) ∷ bit_xor b (n % 256) ∷ octets) (zeros 16)
+unfolding register_after
 halves n a b octets lt =
     let hi = bits 8 (n / 256) in
     let lo = bits 8 (n % 256) in
@@ -174,10 +174,10 @@ halves n a b octets lt =
     sum-append lo (zeros 8) (bits 8 b) (zeros 8) (length-bits 8 (n % 256) ∙ sym (length-bits 8 b))
     ∙ ap (λ (t : List Bool). t ++ zeros 8) (sum-comm lo (bits 8 b) ∙ sym (bits-xor 8 b (n % 256))) in
     let empty : sum_of (zeros 16) (x ++ zeros 8) ≡ x ++ zeros 8 = zeros-sum 16 (x ++ zeros 8) (length-octet (bit_xor a (n / 256))) in
-    ap (λ (t : List Bool). fed octets (shifts 8 (sum_of (shifts 8 t) (bits 8 b ++ zeros 8)))) first
-    ∙ ap (λ (t : List Bool). fed octets (shifts 8 (sum_of t (bits 8 b ++ zeros 8)))) moved
-    ∙ ap (λ (t : List Bool). fed octets (shifts 8 t)) (sum-assoc (shifts 8 (x ++ zeros 8)) (lo ++ zeros 8) (bits 8 b ++ zeros 8) ∙ ap (sum_of (shifts 8 (x ++ zeros 8))) second)
-    ∙ ap (λ (t : List Bool). fed octets (shifts 8 (sum_of (shifts 8 t) (y ++ zeros 8)))) (sym empty)
+    ap (λ (t : List Bool). register_after octets (shifts 8 (sum_of (shifts 8 t) (bits 8 b ++ zeros 8)))) first
+    ∙ ap (λ (t : List Bool). register_after octets (shifts 8 (sum_of t (bits 8 b ++ zeros 8)))) moved
+    ∙ ap (λ (t : List Bool). register_after octets (shifts 8 t)) (sum-assoc (shifts 8 (x ++ zeros 8)) (lo ++ zeros 8) (bits 8 b ++ zeros 8) ∙ ap (sum_of (shifts 8 (x ++ zeros 8))) second)
+    ∙ ap (λ (t : List Bool). register_after octets (shifts 8 (sum_of (shifts 8 t) (y ++ zeros 8)))) (sym empty)
 
 shifts-none : (n : ℕ) → shifts n (zeros 16) ≡ zeros 16
 unfolding shifts
@@ -185,7 +185,7 @@ shifts-none zero = refl
 shifts-none (suc n) = shifts-none n
 
 -- the register after two octets and more
-pub fed_two : (n a b : ℕ) (octets : List ℕ) → n < 65536 → fed (a ∷ b ∷ octets) (bits 16 n) ≡ contribution (bit_xor a (n / 256) ∷ bit_xor b (n % 256) ∷ octets)
+pub fed_two : (n a b : ℕ) (octets : List ℕ) → n < 65536 → register_after (a ∷ b ∷ octets) (bits 16 n) ≡ contribution (bit_xor a (n / 256) ∷ bit_xor b (n % 256) ∷ octets)
 fed_two n a b octets lt =
     let all = bit_xor a (n / 256) ∷ bit_xor b (n % 256) ∷ octets in
     halves n a b octets lt ∙ fed-sum all (zeros 16) (length-zeros 16)
@@ -248,7 +248,7 @@ pub after_eight : (n : ℕ) (os : List ℕ) (r7 r6 r5 r4 r3 r2 r1 r0 : ℕ) → 
     → IsRemainderOf (get_or os 5 0) 2 r2
     → IsRemainderOf (get_or os 6 0) 1 r1
     → IsRemainderOf (get_or os 7 0) 0 r0
-    → fed os (bits 16 n) ≡ bits 16 (bit_xor (bit_xor (bit_xor (bit_xor (bit_xor (bit_xor (bit_xor r0 r1) r2) r3) r4) r5) r6) r7)
+    → register_after os (bits 16 n) ≡ bits 16 (bit_xor (bit_xor (bit_xor (bit_xor (bit_xor (bit_xor (bit_xor r0 r1) r2) r3) r4) r5) r6) r7)
 unfolding contribution xor_all sum_all
 after_eight n os r7 r6 r5 r4 r3 r2 r1 r0 lt len e7 e6 e5 e4 e3 e2 e1 e0 =
     let rest = get_or os 2 0 ∷ get_or os 3 0 ∷ get_or os 4 0 ∷ get_or os 5 0 ∷ get_or os 6 0 ∷ get_or os 7 0 ∷ [] in
@@ -262,7 +262,7 @@ after_eight n os r7 r6 r5 r4 r3 r2 r1 r0 lt len e7 e6 e5 e4 e3 e2 e1 e0 =
     (sum_last_first (r0 ∷ r1 ∷ r2 ∷ []) r3 _
     (sum_last_first (r0 ∷ r1 ∷ []) r2 _
     (sum_last_first (r0 ∷ []) r1 (sum_all (r0 ∷ [])) refl)))))) in
-    ap (λ (t : List ℕ). fed t (bits 16 n)) (eight os len)
+    ap (λ (t : List ℕ). register_after t (bits 16 n)) (eight os len)
     ∙ fed_two n (get_or os 0 0) (get_or os 1 0) rest lt
     ∙ sums
     ∙ sym last_first

@@ -2,6 +2,7 @@
 //! engines that took them.
 
 ghost use Rattle.std.specs.Prelude.{◌≤◌};
+ghost use Rattle.ocp_profile.specs.declared.limits.TheConstants.{MAX_CAPACITY};
 
 use ocp_profile::Profile;
 use ocp_slices::{CloseFault, Engine, Naming, Seat, SharedEngine, StillShared};
@@ -92,7 +93,7 @@ pub(crate) fn engine_of(
     packets: &[&[u8]],
 ) -> Result<Engine, Fail>
     requires from { 1 ≤ capacity }
-    requires to { capacity ≤ 1000000 }
+    requires to { capacity ≤ MAX_CAPACITY }
 {
     let mut engine = Engine::new(alloc, profile, 0x123, 16, capacity)?;
     if packets

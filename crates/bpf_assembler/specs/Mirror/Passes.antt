@@ -9,7 +9,7 @@ use Rattle.ocp_loader.specs.declared.fault.LoadFault.{LoadFault}
 use Rattle.ocp_loader.specs.declared.fault.LoadFault.TheVariants as load
 use Rattle.ocp_loader.specs.FaultNumbers.{slot_of}
 use Rattle.bpf_assembler.specs.Mirror.Tables.{label_at}
-use Rattle.bpf_text.specs.Lines.{Written, Writes, InRange, Statement}
+use Rattle.bpf_text.specs.Lines.{TextLine, Writes, InRange, Statement}
 use Rattle.bpf_text.specs.Judged.{text_of}
 use Rattle.bpf_assembler.specs.Text.{label_place, end_of, entries_of, Entry, IsNew, AreDistinct, IsInstruction, AreInstructions, IsWritten}
 use Rattle.bpf_assembler.specs.Faults.{HasFault, HasLineFault, MissesLabel, IsFirstMiss, IsLineOfSlot}
@@ -21,7 +21,7 @@ use Rattle.bpf_assembler.specs.declared.fault.AsmFault.TheVariants.{Memory, At}
 -- ---- the first pass
 
 -- the map has the labels of the lines
-abbrev pub AreLabels : BTreeMap (Bor (List ℕ)) ℕ → List Written → Type 0
+abbrev pub AreLabels : BTreeMap (Bor (List ℕ)) ℕ → List TextLine → Type 0
 AreLabels m ws = (name : List ℕ) → label_at m name ≡ label_place name 0 ws
 
 -- what a row stands for
@@ -35,7 +35,7 @@ entry row =
 
 -- what is known of the lines so far
 pub record Knows (m : BTreeMap (Bor (List ℕ)) ℕ) (rs : List Row) (n p : ℕ)
-    (ws : List Written) : Type 0 where
+    (ws : List TextLine) : Type 0 where
   pub labels : AreLabels m ws
   pub rows : map entry rs ≡ entries_of 1 0 ws
   pub count : n ≡ length ws
@@ -43,7 +43,7 @@ pub record Knows (m : BTreeMap (Bor (List ℕ)) ℕ) (rs : List Row) (n p : ℕ)
   pub distinct : AreDistinct [] ws
 
 -- the label is new and known from now on; or it is not new
-abbrev pub PutsLabel : Option (List ℕ) → BTreeMap (Bor (List ℕ)) ℕ → List Written →
+abbrev pub PutsLabel : Option (List ℕ) → BTreeMap (Bor (List ℕ)) ℕ → List TextLine →
     Result Bool AsmFault → Type 0
 PutsLabel label new ws (Ok true) =
     IsNew label ws × ((body : Option Statement) →
@@ -53,17 +53,17 @@ PutsLabel label new ws (Err Memory) = Unit {0}
 PutsLabel label new ws (Err (At number y)) = ⊥
 
 -- one more line is written, and known; or it is at fault
-abbrev pub Adds : List ℕ → BTreeMap (Bor (List ℕ)) ℕ → List Row → ℕ → ℕ → List Written →
+abbrev pub Adds : List ℕ → BTreeMap (Bor (List ℕ)) ℕ → List Row → ℕ → ℕ → List TextLine →
     Result Unit AsmFault → Type 0
 Adds text m rows count place ws (Ok u) =
-    (w : Written) × Writes text w × InRange w.body × Knows m rows count place (ws ++ w ∷ [])
+    (w : TextLine) × Writes text w × InRange w.body × Knows m rows count place (ws ++ w ∷ [])
 Adds text m rows count place ws (Err Memory) = Unit {0}
 Adds text m rows count place ws (Err (At n y)) = (n ≡ length ws + 1) × HasFault ws text y
 
 -- the first pass is done: the text is lines that are written so, and known
 pub record IsCollected (text : List ℕ) (m : BTreeMap (Bor (List ℕ)) ℕ)
     (rs : List Row) : Type 0 where
-  pub lines : List Written
+  pub lines : List TextLine
   pub written : IsWritten text lines
   pub labels : AreLabels m lines
   pub rows : map entry rs ≡ entries_of 1 0 lines
@@ -77,19 +77,19 @@ Collects text m rows (Err (At n y)) = HasLineFault text n y
 -- ---- the second pass
 
 -- the line is the instruction; or the instruction misses its label
-abbrev pub Resolves : List Written → Entry → Result Line AsmFault → Type 0
+abbrev pub Resolves : List TextLine → Entry → Result Line AsmFault → Type 0
 Resolves ws e (Ok l) = IsInstruction ws e.place e.statement.line e.statement.name l
 Resolves ws e (Err Memory) = ⊥
 Resolves ws e (Err (At n y)) =
     (n ≡ e.number) × MissesLabel ws e.place e.statement.line e.statement.name y
 
 -- the octets are the image of the instructions
-pub record AreResolved (ws : List Written) (entries : List Entry) (octets : List ℕ) : Type 0 where
+pub record AreResolved (ws : List TextLine) (entries : List Entry) (octets : List ℕ) : Type 0 where
   pub lines : List Line
   pub instructions : AreInstructions ws entries lines
   pub image : IsImageOf octets lines
 
-abbrev pub ResolvesAll : List Written → List Entry → {Z : Type 0} → (Z → List ℕ) →
+abbrev pub ResolvesAll : List TextLine → List Entry → {Z : Type 0} → (Z → List ℕ) →
     Result Z AsmFault → Type 0
 ResolvesAll ws es octets (Ok v) = AreResolved ws es (octets v)
 ResolvesAll ws es octets (Err Memory) = Unit {0}

@@ -24,8 +24,8 @@ abbrev pub ◌>>=◌ : {A B : Type 0} → Option A → (A → Option B) → Opti
 None >>= f = None
 
 -- the fields spell the instruction, which has one slot
-abbrev pub Spelled : Fields → Line → Type 0
-Spelled f l = (first_slot l ≡ f) × (second_slot l ≡ [])
+abbrev pub IsSpelling : Fields → Line → Type 0
+IsSpelling f l = (first_slot l ≡ f) × (second_slot l ≡ [])
 
 -- the operand of an opcode, by bit 3: imm with a src of zero, or src with an imm of zero (RFC 9669,
 -- section 4)

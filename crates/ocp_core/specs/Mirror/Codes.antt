@@ -8,35 +8,35 @@ use Rattle.ocp_debug.specs.declared.command.Command.{Command}
 use Rattle.ocp_debug.specs.contracts.command.Command as C
 use Rattle.ocp_core.specs.Log.{Entry, Asked, Steps, Debugged, Drained, Log}
 
-abbrev pub Stored : Type 0
-Stored = (ℕ × (ℕ × List ℕ)) ⊎ ((ℕ × (ℕ × ℕ)) ⊎ ((ℕ × (ℕ × Command)) ⊎ (ℕ × ℕ)))
+abbrev pub EntryForm : Type 0
+EntryForm = (ℕ × (ℕ × List ℕ)) ⊎ ((ℕ × (ℕ × ℕ)) ⊎ ((ℕ × (ℕ × Command)) ⊎ (ℕ × ℕ)))
 
-abbrev pub stored : Entry → Stored
-stored (Asked by time octets) = inl (by, (time, octets))
-stored (Steps by id count) = inr (inl (by, (id, count)))
-stored (Debugged by id command) = inr (inr (inl (by, (id, command))))
-stored (Drained by time) = inr (inr (inr (by, time)))
+abbrev pub form_of_entry : Entry → EntryForm
+form_of_entry (Asked by time octets) = inl (by, (time, octets))
+form_of_entry (Steps by id count) = inr (inl (by, (id, count)))
+form_of_entry (Debugged by id command) = inr (inr (inl (by, (id, command))))
+form_of_entry (Drained by time) = inr (inr (inr (by, time)))
 
-abbrev pub read_back : Stored → Entry
-read_back (inl e) = Asked e.0 e.1.0 e.1.1
-read_back (inr (inl e)) = Steps e.0 e.1.0 e.1.1
-read_back (inr (inr (inl e))) = Debugged e.0 e.1.0 e.1.1
-read_back (inr (inr (inr e))) = Drained e.0 e.1
+abbrev pub entry_of_form : EntryForm → Entry
+entry_of_form (inl e) = Asked e.0 e.1.0 e.1.1
+entry_of_form (inr (inl e)) = Steps e.0 e.1.0 e.1.1
+entry_of_form (inr (inr (inl e))) = Debugged e.0 e.1.0 e.1.1
+entry_of_form (inr (inr (inr e))) = Drained e.0 e.1
 
-abbrev pub stored_ok : (e : Entry) → read_back (stored e) ≡ e
-stored_ok (Asked by time octets) = refl
-stored_ok (Steps by id count) = refl
-stored_ok (Debugged by id command) = refl
-stored_ok (Drained by time) = refl
+abbrev pub entry_round_trip : (e : Entry) → entry_of_form (form_of_entry e) ≡ e
+entry_round_trip (Asked by time octets) = refl
+entry_round_trip (Steps by id count) = refl
+entry_round_trip (Debugged by id command) = refl
+entry_round_trip (Drained by time) = refl
 
 abbrev pub entry_code : Coded Entry
 entry_code =
-    code_by Stored
+    code_by EntryForm
     (coded⊎ (coded× coded_ℕ (coded× coded_ℕ (coded_list coded_ℕ)))
     (coded⊎ (coded× coded_ℕ (coded× coded_ℕ coded_ℕ))
     (coded⊎ (coded× coded_ℕ (coded× coded_ℕ (C.the_row).coded))
     (coded× coded_ℕ coded_ℕ))))
-    stored read_back stored_ok
+    form_of_entry entry_of_form entry_round_trip
 
 abbrev pub log_code : Coded Log
 log_code =

@@ -5,17 +5,17 @@ use Rattle.bpf_step.specs.Machine.{State}
 use Rattle.bpf_step.specs.Mirror.Codes.{state_code}
 use Rattle.ocp_table.specs.Snapshots.{Snapshot}
 use Rattle.ocp_table.specs.Mirror.Codes.{snapshot_code}
-use Rattle.ocp_core.specs.Tickets.{Taken, Worked}
+use Rattle.ocp_core.specs.Tickets.{TicketContents, WorkContents}
 
-abbrev pub taken_code : Coded Taken
-taken_code =
+abbrev pub ticket_code : Coded TicketContents
+ticket_code =
     code_by (ℕ × Snapshot) (coded× coded_ℕ snapshot_code)
     (λ t. (t.id, t.base))
     (λ p. record { id = p.0; base = p.1 })
     (λ _. refl)
 
-abbrev pub worked_code : Coded Worked
-worked_code =
+abbrev pub work_code : Coded WorkContents
+work_code =
     code_by (ℕ × (Snapshot × (State × ℕ)))
     (coded× coded_ℕ (coded× snapshot_code (coded× state_code coded_ℕ)))
     (λ w. (w.id, (w.base, (w.end, w.count))))

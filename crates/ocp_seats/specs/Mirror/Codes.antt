@@ -11,53 +11,54 @@ use Rattle.ocp_world.specs.contracts.answers.EngineFault as E
 use Rattle.ocp_world.specs.After.{Answer, Requested, Stepped, Commanded}
 use Rattle.ocp_core.specs.Log.{Log, Entry}
 use Rattle.ocp_core.specs.Mirror.Codes.{entry_code, log_code}
-use Rattle.ocp_core.specs.Marks.{Marked}
-use Rattle.ocp_seats.specs.Seats.{Booked, Seated}
+use Rattle.ocp_core.specs.Marks.{MarkedEntry}
+use Rattle.ocp_seats.specs.Seats.{BookContents, SeatContents}
 
-abbrev pub Stored : Type 0
-Stored = Result (List (List ℕ)) EngineFault ⊎ (StepOutcome ⊎ Option DebugFault)
+abbrev pub AnswerForm : Type 0
+AnswerForm = Result (List (List ℕ)) EngineFault ⊎ (StepOutcome ⊎ Option DebugFault)
 
-abbrev pub stored : Answer → Stored
-stored (Requested result) = inl result
-stored (Stepped outcome) = inr (inl outcome)
-stored (Commanded (Ok done)) = inr (inr None)
-stored (Commanded (Err fault)) = inr (inr (Some fault))
+abbrev pub form_of_answer : Answer → AnswerForm
+form_of_answer (Requested result) = inl result
+form_of_answer (Stepped outcome) = inr (inl outcome)
+form_of_answer (Commanded (Ok done)) = inr (inr None)
+form_of_answer (Commanded (Err fault)) = inr (inr (Some fault))
 
-abbrev pub read_back : Stored → Answer
-read_back (inl result) = Requested result
-read_back (inr (inl outcome)) = Stepped outcome
-read_back (inr (inr None)) = Commanded (Ok tt)
-read_back (inr (inr (Some fault))) = Commanded (Err fault)
+abbrev pub answer_of_form : AnswerForm → Answer
+answer_of_form (inl result) = Requested result
+answer_of_form (inr (inl outcome)) = Stepped outcome
+answer_of_form (inr (inr None)) = Commanded (Ok tt)
+answer_of_form (inr (inr (Some fault))) = Commanded (Err fault)
 
-abbrev pub stored_ok : (a : Answer) → read_back (stored a) ≡ a
-stored_ok (Requested result) = refl
-stored_ok (Stepped outcome) = refl
-stored_ok (Commanded (Ok done)) = refl
-stored_ok (Commanded (Err fault)) = refl
+abbrev pub answer_round_trip : (a : Answer) → answer_of_form (form_of_answer a) ≡ a
+answer_round_trip (Requested result) = refl
+answer_round_trip (Stepped outcome) = refl
+answer_round_trip (Commanded (Ok done)) = refl
+answer_round_trip (Commanded (Err fault)) = refl
 
 abbrev pub answer_code : Coded Answer
 answer_code =
-    code_by Stored
+    code_by AnswerForm
     (coded⊎ (coded_result (coded_list (coded_list coded_ℕ)) (E.the_row).coded)
     (coded⊎ (O.the_row).coded (coded_option (D.the_row).coded)))
-    stored read_back stored_ok
+    form_of_answer answer_of_form answer_round_trip
 
-abbrev pub marked_code : Coded Marked
-marked_code =
+abbrev pub marked_entry_code : Coded MarkedEntry
+marked_entry_code =
     code_by (Entry × Answer) (coded× entry_code answer_code)
     (λ m. (m.entry, m.mark))
     (λ p. record { entry = p.0; mark = p.1 })
     (λ _. refl)
 
-abbrev pub seated_code : Coded Seated
-seated_code =
-    code_by (ℕ × (List Marked × ℕ)) (coded× coded_ℕ (coded× (coded_list marked_code) coded_ℕ))
+abbrev pub seat_code : Coded SeatContents
+seat_code =
+    code_by (ℕ × (List MarkedEntry × ℕ))
+    (coded× coded_ℕ (coded× (coded_list marked_entry_code) coded_ℕ))
     (λ s. (s.number, (s.receipts, s.share)))
     (λ p. record { number = p.0; receipts = p.1.0; share = p.1.1 })
     (λ _. refl)
 
-abbrev pub booked_code : Coded Booked
-booked_code =
+abbrev pub book_code : Coded BookContents
+book_code =
     code_by (Log × (ℕ × (ℕ × (Option ℕ × ℕ))))
     (coded× log_code (coded× coded_ℕ (coded× coded_ℕ (coded× (coded_option coded_ℕ) coded_ℕ))))
     (λ b. (b.engine, (b.start, (b.seats, (b.taken, b.count)))))

@@ -60,14 +60,14 @@ procedures_code =
     (λ p. record { profile = p.0; records = p.1.0; outbox = p.1.1 })
     (λ _. refl)
 
-abbrev pub rest_taken : Snapshot → List ℕ × (Bool × Option ℕ)
-rest_taken s = (s.breakpoints, (s.traced, s.remaining))
+abbrev pub snapshot_rest : Snapshot → List ℕ × (Bool × Option ℕ)
+snapshot_rest s = (s.breakpoints, (s.traced, s.remaining))
 
 abbrev pub snapshot_code : Coded Snapshot
 snapshot_code =
     code_by (Execution × (Bool × (List ℕ × (Bool × Option ℕ))))
     (coded× execution_code (coded× coded_bool rest_code))
-    (λ s. (record { image = s.image; machine = s.machine }, (s.pass, rest_taken s)))
+    (λ s. (record { image = s.image; machine = s.machine }, (s.pass, snapshot_rest s)))
     (λ p. record {
       image = p.0.image;
       machine = p.0.machine;

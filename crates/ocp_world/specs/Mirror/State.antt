@@ -1,6 +1,6 @@
 -- Which worlds a state stands for, and what a request or a drain makes of it.
 use Rattle.std.specs.Prelude.{◌≡◌, ◌%◌, ℕ, List, Result, Ok, Err}
-use Rattle.ocp_debug.specs.Traces.{kept}
+use Rattle.ocp_debug.specs.Traces.{last_traces}
 use Rattle.ocp_world.specs.declared.answers.EngineFault.{EngineFault}
 use Rattle.ocp_world.specs.World.{World}
 use Rattle.ocp_world.specs.Effect.{Effect}
@@ -16,7 +16,7 @@ module _ {A : Type 0} where
     pub outbox : s.table.outbox ≡ w.outbox
     pub pool : s.pool ≡ w.pool
     pub count : s.count ≡ w.reports % 16384
-    pub ring : s.ring ≡ kept w.traces
+    pub ring : s.ring ≡ last_traces w.traces
 
   -- the state stands for the next world, or where there are no reports for the old one
   abbrev pub StandsAfter : Result (List (List ℕ)) EngineFault → World → World → State A → Type 0

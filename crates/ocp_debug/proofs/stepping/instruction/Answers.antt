@@ -4,7 +4,7 @@ use Rattle.std.specs.FinMap.{get}
 use Rattle.ocp_table.specs.Effects.{step_outcome}
 use Rattle.ocp_table.specs.RequestTable.{Step}
 use Rattle.ocp_table.specs.Deciding.{effect_in}
-use Rattle.ocp_debug.specs.Traces.{kept}
+use Rattle.ocp_debug.specs.Traces.{last_traces}
 use Rattle.ocp_debug.specs.Mirror.Tracing.{next_at, trace_after}
 use Rattle.ocp_debug.proofs.Tracing.{traced}
 use Rattle.ocp_debug.proofs.stepping.instruction.Goals as goal
@@ -12,7 +12,7 @@ use Rattle.ocp_debug.proofs.stepping.instruction.Goals as goal
 pub returns-clause-ring : goal.returns-clause-ring
 returns-clause-ring g c =
     c.note.ensures
-    ∙ ap (λ made. kept (c.args.ring.now ++ made))
+    ∙ ap (λ made. last_traces (c.args.ring.now ++ made))
     (ap option_to_list c.trace_after.ensures
     ∙ ap (λ next. option_to_list (trace_after c.args.id next c.instruction-outcome.result (get c.instruction-outcome.new.self.records c.args.id))) c.next_at-next.ensures
     ∙ ap (λ outcome. option_to_list (trace_after c.args.id (next_at (get c.args.table.now.records c.args.id)) outcome (get c.instruction-outcome.new.self.records c.args.id))) c.instruction-outcome.ensures.answer

@@ -11,16 +11,16 @@ pub returns-in-Request : goal.returns-in-Request
 returns-in-Request g c =
     let log = c.args.self.now in
     let e = Request c.in-Request.by c.in-Request.time c.in-Request.octets.now in
-    subst (λ x. Applies log c.request.new.self (event_of x) c.replied.result) (sym c.in-Request.is)
-    (subst (Applies log c.request.new.self e) (sym c.replied.ensures)
+    subst (λ x. Applies log c.request.new.self (event_of x) c.reply.result) (sym c.in-Request.is)
+    (subst (Applies log c.request.new.self e) (sym c.reply.ensures)
     (replied_so c.refused_events_change_nothing.ensures log c.request.new.self e _ (λ is. c.worlds_have_no_full_journal.ensures.request (world_of log) e (sym is)) refl (λ taken. taken) c.request.result c.request.ensures.answer c.request.ensures.journal c.request.ensures.err))
 
 pub returns-in-Drain : goal.returns-in-Drain
 returns-in-Drain g c =
     let log = c.args.self.now in
     let e = Drain c.in-Drain.by c.in-Drain.time in
-    subst (λ x. Applies log c.drain.new.self (event_of x) c.replied-in-Drain.result) (sym c.in-Drain.is)
-    (subst (Applies log c.drain.new.self e) (sym c.replied-in-Drain.ensures)
+    subst (λ x. Applies log c.drain.new.self (event_of x) c.reply-in-Drain.result) (sym c.in-Drain.is)
+    (subst (Applies log c.drain.new.self e) (sym c.reply-in-Drain.ensures)
     (replied_so c.refused_events_change_nothing.ensures log c.drain.new.self e _ (λ is. c.worlds_have_no_full_journal.ensures.request (world_of log) e (sym is)) refl (λ taken. taken) c.drain.result c.drain.ensures.answer c.drain.ensures.journal c.drain.ensures.err))
 
 pub returns-in_default : goal.returns-in_default

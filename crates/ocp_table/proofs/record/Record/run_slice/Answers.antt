@@ -1,6 +1,6 @@
 use Rattle.std.proofs.Common.{◌≡◌, ◌+◌, refl, subst, sym, ◌∙◌, arith}
 use Rattle.ocp_table.specs.declared.answers.StepOutcome.TheVariants as S
-use Rattle.ocp_table.specs.Shown.{shown}
+use Rattle.ocp_table.specs.Shown.{record_of}
 use Rattle.ocp_table.specs.Slices.{last_ran, IsSlice}
 use Rattle.ocp_table.proofs.Slicing.{sliced-none, sliced-run, sliced-event, sliced-end, sliced-whole, ran_some}
 use Rattle.ocp_table.proofs.record.Record.run_slice.Goals as goal
@@ -18,8 +18,8 @@ returns-then-count-budget-clause-slice g c m held =
     let ran = sliced-run c.args.self.now c.loop-count.self c.run-count.new.self c.args.outbox.now c.loop-count.outbox c.args.pool.now c.loop-count.pool c.loop-count.count c.run-count.result c.loop-count.last _ c.loop-count.invariant.sliced c.run-count.ensures.left c.run-count.ensures.ran c.run-count.ensures.record c.run-count.ensures.id in
     let last : last_ran c.run-count.result c.loop-count.last ≡ S.Ran = ran_some c.run-count.result c.loop-count.last (omega arith) in
     let whole = sliced-whole c.args.self.now c.run-count.new.self c.args.outbox.now c.loop-count.outbox c.args.pool.now c.loop-count.pool (c.loop-count.count + c.run-count.result) _ ran m held in
-    subst (λ b. IsSlice c.args.self.now.id (record { records = m; outbox = c.args.outbox.now; pool = c.args.pool.now }) b (record { count = c.loop-count.count + c.run-count.result; last = S.Ran }) (shown c.run-count.new.self) c.loop-count.outbox c.loop-count.pool) c.if-count-budget.true
-    (subst (λ o. IsSlice c.args.self.now.id (record { records = m; outbox = c.args.outbox.now; pool = c.args.pool.now }) (c.loop-count.count + c.run-count.result) (record { count = c.loop-count.count + c.run-count.result; last = o }) (shown c.run-count.new.self) c.loop-count.outbox c.loop-count.pool) last whole)
+    subst (λ b. IsSlice c.args.self.now.id (record { records = m; outbox = c.args.outbox.now; pool = c.args.pool.now }) b (record { count = c.loop-count.count + c.run-count.result; last = S.Ran }) (record_of c.run-count.new.self) c.loop-count.outbox c.loop-count.pool) c.if-count-budget.true
+    (subst (λ o. IsSlice c.args.self.now.id (record { records = m; outbox = c.args.outbox.now; pool = c.args.pool.now }) (c.loop-count.count + c.run-count.result) (record { count = c.loop-count.count + c.run-count.result; last = o }) (record_of c.run-count.new.self) c.loop-count.outbox c.loop-count.pool) last whole)
 
 pub returns-then-not-goes_on-clause-slice : goal.returns-then-not-goes_on-clause-slice
 returns-then-not-goes_on-clause-slice g c m held =
@@ -48,5 +48,5 @@ loop-count-preserved g c =
 pub returns-clause-slice : goal.returns-clause-slice
 returns-clause-slice g c m held =
     let used : c.loop-count.count ≡ c.args.budget = omega arith in
-    subst (λ b. IsSlice c.args.self.now.id (record { records = m; outbox = c.args.outbox.now; pool = c.args.pool.now }) b (record { count = c.loop-count.count; last = c.loop-count.last }) (shown c.loop-count.self) c.loop-count.outbox c.loop-count.pool) used
+    subst (λ b. IsSlice c.args.self.now.id (record { records = m; outbox = c.args.outbox.now; pool = c.args.pool.now }) b (record { count = c.loop-count.count; last = c.loop-count.last }) (record_of c.loop-count.self) c.loop-count.outbox c.loop-count.pool) used
     (sliced-whole c.args.self.now c.loop-count.self c.args.outbox.now c.loop-count.outbox c.args.pool.now c.loop-count.pool c.loop-count.count c.loop-count.last c.loop-count.invariant.sliced m held)
