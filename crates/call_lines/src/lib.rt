@@ -12,10 +12,10 @@
 //! no value of the arguments.
 #![tactic(auto)]
 
+mod reading;
 mod script;
 mod shown;
-mod words;
 
+pub use reading::{Fault, flag, octets, profile_of, words};
 pub use script::{Calls, End, Reply, Script, answer_lines, exit_code};
 pub use shown::{Numbers, Octets, Text};
-pub use words::{Fault, flag, octets, profile_of, words};

@@ -6,15 +6,8 @@ use crate::runs::Runs;
 use crate::views;
 use call_lines::{Fault, flag, octets, profile_of};
 use ocp_core::Engine;
+use ocp_profile::{MAX_APID, MAX_CAPACITY, MAX_POOL_WORDS};
 use std::alloc::Global;
-
-/// The greatest application process identifier of an engine, its most pool words, and its most
-/// entries.
-const MAX_APID: u16 = 2_046;
-
-const MAX_WORDS: u16 = 256;
-
-const MAX_CAPACITY: u32 = 1_000_000;
 
 /// An engine of a profile, an application process identifier, so many pool words, and so many
 /// entries.
@@ -25,7 +18,7 @@ pub(crate) fn engine_of(
     words: u16,
     capacity: u32,
 ) -> Result<Engine, Fault> {
-    if apid > MAX_APID || words == 0 || words > MAX_WORDS {
+    if apid > MAX_APID || words == 0 || words > MAX_POOL_WORDS {
         return Err(Fault::Syntax);
     }
     if capacity == 0 || capacity > MAX_CAPACITY {

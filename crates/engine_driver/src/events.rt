@@ -9,8 +9,8 @@ use std::alloc::Global;
 /// ended before one of them, the refusal and its index before the answers.
 pub(crate) fn run(engine: &mut Engine, alloc: Global, words: &[&str]) -> Result<String, Fault> {
     let groups = groups(alloc, words)?;
-    let carried = carried(alloc, &groups)?;
-    let events = events(alloc, &groups, &carried)?;
+    let payloads = payloads(alloc, &groups)?;
+    let events = events(alloc, &groups, &payloads)?;
     show_run(alloc, engine.run(alloc, &events))
 }
 
@@ -29,24 +29,24 @@ fn groups<'a, 'b>(alloc: Global, words: &'b [&'a str]) -> Result<Vec<&'b [&'a st
 }
 
 /// The octets that each event carries: those of a request.
-fn carried(alloc: Global, groups: &[&[&str]]) -> Result<Vec<Vec<u8>>, Fault> {
-    let mut carried = Vec::new(alloc);
+fn payloads(alloc: Global, groups: &[&[&str]]) -> Result<Vec<Vec<u8>>, Fault> {
+    let mut payloads = Vec::new(alloc);
     for group in groups {
-        carried.push(match **group {
+        payloads.push(match **group {
             ["Request", _, _, packet] => octets(alloc, packet)?,
             _ => Vec::new(alloc),
         })?;
     }
-    Ok(carried)
+    Ok(payloads)
 }
 
 fn events<'a>(
     alloc: Global,
     groups: &[&[&str]],
-    carried: &'a [Vec<u8>],
+    payloads: &'a [Vec<u8>],
 ) -> Result<Vec<Event<'a>>, Fault> {
     let mut events = Vec::new(alloc);
-    for (group, octets) in groups.iter().zip(carried.iter()) {
+    for (group, octets) in groups.iter().zip(payloads.iter()) {
         events.push(event(*group, octets.as_slice())?)?;
     }
     Ok(events)

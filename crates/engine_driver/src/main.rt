@@ -42,7 +42,7 @@ fn answer_seats<L: Naming>(
 {
     let mut shared = Shared::<L>::new(rt.alloc(), engine, blank);
     let end = answer_lines(rt, script, &mut shared)?;
-    Ok((end, shared.closed()))
+    Ok((end, shared.into_engine()))
 }
 
 /// Answers the lines of a book of the desk's engine, which then is the desk's again.

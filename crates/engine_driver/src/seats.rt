@@ -38,7 +38,7 @@ impl<L: Naming> Shared<L> {
     }
 
     /// The engine, where the book was closed.
-    pub fn closed(self) -> Option<Engine> {
+    pub fn into_engine(self) -> Option<Engine> {
         self.closed
     }
 

@@ -4,12 +4,10 @@ use crate::answers::{add_text, show_done, show_ok, show_outcome};
 use crate::views::show_view;
 use call_lines::{Fault, flag, octets, profile_of};
 use ocp_debug::{clear_break, set_break, set_trace, view};
+use ocp_profile::MAX_POOL_WORDS;
 use ocp_regions::ARGUMENT_OCTETS;
 use ocp_table::{LoadFailure, PendingOrigin, Pool, Profile, StartFailure, Table};
 use std::alloc::Global;
-
-/// The most words of a pool.
-const MAX_WORDS: u16 = 256;
 
 /// A table, and the pool of its procedures.
 #[derive(Drop)]
@@ -56,7 +54,7 @@ pub(crate) fn table_answer(
 }
 
 fn pool_of(alloc: Global, count: u16) -> Result<Pool, Fault> {
-    if count == 0 || count > MAX_WORDS {
+    if count == 0 || count > MAX_POOL_WORDS {
         return Err(Fault::Syntax);
     }
     Ok(Pool::new(alloc, count)?)

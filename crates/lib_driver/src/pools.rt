@@ -47,7 +47,7 @@ pub(crate) fn answer(
             let machine = machine_of(made, machine)?;
             call(alloc, number.parse()?, machine, pool, &mut shared.mailbox)
         }
-        ["ocp_pool.operation", ..] => operation(alloc, called_of(words)?),
+        ["ocp_pool.operation", ..] => operation(alloc, call_of(words)?),
         _ => Err(Fault::Syntax),
     }
 }
@@ -99,7 +99,7 @@ fn call(
 }
 
 /// What an engine call did, in words.
-fn called_of(words: &[&str]) -> Result<Called, Fault> {
+fn call_of(words: &[&str]) -> Result<Called, Fault> {
     match *words {
         [_, "PoolGet", index, word] => Ok(Called::PoolGet {
             index: index.parse()?,
