@@ -109,7 +109,7 @@ fn book_answer<L: Naming>(
     match *words {
         ["ocp_seats.seat"] => hand_out(book, seats, alloc),
         ["ocp_seats.take"] => take(book, runs, alloc),
-        ["ocp_seats.handed_out"] => Ok(format!(in alloc; "{}", book.handed_out())?),
+        ["ocp_seats.seat_count"] => Ok(format!(in alloc; "{}", book.seat_count())?),
         [name, number, ..] if name.starts_with("ocp_seats.") => {
             let seat = place_of(seats, number)?.as_mut().ok_or(Fault::Syntax)?;
             seat_answer(book, seat, runs, alloc, words)
