@@ -25,9 +25,18 @@ at("listing").onclick = guarded(event => event.target.dataset.slot !== undefined
 at("mark").onclick = guarded(() => mark(Number(at("number").value)));
 at("more-records").ontoggle = guarded(() => showHistory(it.moment, walkTo));
 addEventListener("resize", () => draw(here()));
+// What is reached by Tab, or written, is scrolled until it stands above the foot.
+new ResizeObserver(([foot]) => document.documentElement.style.setProperty("--foot", `${foot.target.offsetHeight}px`)).observe(document.querySelector("footer"));
 matchMedia("(prefers-color-scheme: dark)").onchange = () => draw(here());
 
-for (const name of ["apid", "pool", "journal", "profile"]) at(name).onchange = () => { texts.readText(); script.readScript(); };
+// The text stays that is to be loaded, though the pass that is run anew comes to another.
+for (const name of ["apid", "pool", "journal", "profile"]) {
+    at(name).onchange = async () => {
+        it.stay = true;
+        await Promise.all([texts.readText(), script.readScript()]);
+        it.stay = false;
+    };
+}
 at("example").onclick = guarded(async () => {
     await texts.example();
     const id = Number(at("id").value);

@@ -6,7 +6,7 @@ import { inWords, readRequests } from "./words.js";
 
 const field = editor(at("script"));
 const USUAL = { apid: 291, pool: 16, journal: 100000, profile: 1 };
-let turn = 0, walk = null, goal = null, drawn = [-1, -1], packetTurn = 0;
+let turn = 0, walk = null, goal = null, drawn = [-1, -1], packetTurn = 0, behind = -1;
 
 export function whenRead(work) { walk = work; }
 const sent = () => ({ script: at("script").value, options: options() });
@@ -46,6 +46,7 @@ export async function askPass(name, body) {
 function showCommand() {
     const words = Object.entries(options()).filter(([name, value]) => value !== USUAL[name]).map(([name, value]) => ` --${name} ${value}`);
     at("command").textContent = `./ocp run${words.join("")} < pass.ocp`;
+    at("budget").hidden = options().profile !== 2;
 }
 
 function rowOf(index) {
@@ -116,12 +117,13 @@ export async function showPackets(line) {
     if (!packets.length) at("packets").textContent = "This line has no packets: a send, an up and a drain line have some.";
 }
 
+// Puts lines behind the line of the cursor, or behind those that were put there before.
 export function insert(...added) {
-    const area = at("script"), until = area.value.slice(0, area.selectionStart);
-    const end = until === "" ? 0 : (area.value.indexOf("\n", area.selectionStart) + 1 || area.value.length);
+    const area = at("script"), from = area.selectionStart;
+    const end = from === 0 || from === behind ? from : area.value.indexOf("\n", from) + 1 || area.value.length;
     const head = area.value.slice(0, end), whole = `${head}${head && !head.endsWith("\n") ? "\n" : ""}${added.join("\n")}\n`;
     area.value = `${whole}${area.value.slice(end)}`;
-    area.selectionStart = area.selectionEnd = whole.length;
+    area.selectionStart = area.selectionEnd = behind = whole.length;
     return readScript([Infinity, 0]);
 }
 function imageOrRefusal() {
@@ -153,6 +155,7 @@ export function start() {
         at("makers").append(maker, " ");
     }
     at("reload").onclick = guarded(() => reload(Number(at("id").value)));
+    at("script").addEventListener("input", () => { behind = -1; });
     at("script").addEventListener("input", later(() => readScript()));
     at("save-script").onclick = () => save("pass.ocp", at("script").value);
 }
