@@ -1,5 +1,5 @@
 // The script of a pass: by hand or by buttons, with what each line printed behind it, and the packets of one line.
-import { at, button, guarded, it, keep, keepInView, later, make, options, question, save, say } from "./shared.js";
+import { at, button, caughtUp, guarded, it, keep, keepInView, later, make, options, question, save, say } from "./shared.js";
 import { editor } from "./editor.js";
 import { imageShown } from "./texts.js";
 import { inWords, readRequests } from "./words.js";
@@ -150,11 +150,11 @@ export const MAKERS = {
 
 export function start() {
     for (const [name, made] of Object.entries(MAKERS)) {
-        const maker = button(name, () => insert(made(at("id").value, at("number").value)));
+        const maker = button(name, async () => { await caughtUp(); await insert(made(at("id").value, at("number").value)); });
         maker.title = name === "Load" ? "send 9 load <procedure> <image of the text>" : made("<procedure>", "<number>");
         at("makers").append(maker, " ");
     }
-    at("reload").onclick = guarded(() => reload(Number(at("id").value)));
+    at("reload").onclick = guarded(async () => { await caughtUp(); await reload(Number(at("id").value)); });
     at("script").addEventListener("input", () => { behind = -1; });
     at("script").addEventListener("input", later(() => readScript()));
     at("save-script").onclick = () => save("pass.ocp", at("script").value);

@@ -75,9 +75,21 @@ export function keepInView(box, part) {
     if (top < 0 || top + 20 > seen) box.scrollTop += top - seen / 3;
 }
 
+// Work that waits until nothing was written for a while; a key or a button has it done at once.
+const due = new Set(), busy = new Set();
 export function later(work, wait = 300) {
     let clock;
-    return () => { keep(); clearTimeout(clock); clock = setTimeout(work, wait); };
+    const now = () => {
+        clearTimeout(clock);
+        due.delete(now);
+        const done = work().finally(() => busy.delete(done));
+        busy.add(done);
+    };
+    return () => { keep(); clearTimeout(clock); due.add(now); clock = setTimeout(now, wait); };
+}
+export async function caughtUp() {
+    for (const now of [...due]) now();
+    while (busy.size) await Promise.all(busy);
 }
 
 export function save(name, text) {
