@@ -125,7 +125,10 @@ def in_c(page):
     page.press("New")
     page.script("const field = document.getElementById('language'); field.value = 'c'; field.dispatchEvent(new Event('change'))")
     page.set("text", "#include \"ocp.h\"\nword entry(const octet *arguments, word count)\n{ return x; }\n")
+    page.check("page: how C begins", "word entry(const octet *arguments, word count)" in page.shown("forms"))
     page.until("a fault in C", lambda: any(line == 3 and "undeclared" in hint for line, hint in page.marks("text", "fault")), 20)
+    page.set("text", "int main(void)\n{ return 0; }\n")
+    page.until("a fault of no line is marked at the first", lambda: [line for line, hint in page.marks("text", "fault") if "no function `entry`" in hint] == [1], 20)
     page.set("text", (Path(__file__).resolve().parent.parent / "c" / "checksum.c").read_text())
     page.until("a text in C", lambda: "; line" in page.shown("listing"), 20)
     page.set("script", "")
@@ -156,7 +159,7 @@ def walk_back(page, ocp, pictures):
     page.check("page: the whole region", page.shown("memory-stack").count("\n") == 256 and "10000ff0  00" in page.shown("memory-stack"))
     page.check("page: what changed is in view", page.in_view("#memory-stack", ".changed") and page.in_view("#rows", ".here"))
     if pictures:
-        page.picture(pictures / "bench-fault.png", 800, 1150, "dark", "#rows")
+        page.picture(pictures / "bench-fault.png", 800, 1200, "dark", "section[aria-label=Text] h3")
 
 
 def breakpoints(page, ocp):
@@ -195,6 +198,7 @@ def second_profile(page):
     time.sleep(1)
     page.set("text", "lddw r1, 0x30000ff8\nstdw [r1], 9\nexit\n")
     page.until("its listing", lambda: "stdw [r1+0], 9" in page.shown("listing") and page.shown("listed") == "of this text")
+    page.check("page: what a budget is", page.script("return document.getElementById('budget').checkVisibility()"))
     page.press("Load", "Activate", "Step")
     page.until("an activation without a budget", lambda: "send 1 activate 7 0" in page.find("script").get_attribute("value"))
     page.until("its words", lambda: page.shown("command") == "./ocp run --profile 2 < pass.ocp")
@@ -202,6 +206,7 @@ def second_profile(page):
     page.key(page.keys.ARROW_LEFT)
     page.until("its last word", lambda: "30000ff0  00 00 00 00 00 00 00 00  09" in page.shown("memory-work"))
     page.find("profile").send_keys("1")
+    page.until("no budget", lambda: "activate 7 0" in page.shown("rows") and not page.script("return document.getElementById('budget').checkVisibility()"))
 
 
 def by_keyboard(page):
@@ -209,14 +214,21 @@ def by_keyboard(page):
     page.script("document.activeElement.blur(); window.getSelection().removeAllRanges(); scrollTo(0, 0); document.querySelectorAll('details').forEach(each => { each.open = true; })")
     wanted = set(page.script("return [...document.querySelectorAll('button, input, select, textarea, summary, [tabindex]')].filter(each =>"
                              "each.tabIndex >= 0 && !each.disabled && each.checkVisibility()).map((each, index) => { each.dataset.reach = index; return index; })"))
-    reached = set()
+    reached, hidden = set(), set()
     for _ in range(len(wanted) + 40):
         page.press_tab()
+        hidden |= set(page.script("const part = document.activeElement, box = part.getBoundingClientRect(), room = document.querySelector('footer').getBoundingClientRect().top - box.bottom;"
+                                  "return part === document.body || part.closest('footer') || part.tagName === 'TEXTAREA' || box.top >= 0 && room >= 0 ? [] : [part.outerHTML.slice(0, 60)]"))
         found = page.script("return document.activeElement.dataset.reach")
         reached |= {int(found)} if found else set()
     lost = page.script("return [...document.querySelectorAll('[data-reach]')].filter(each => arguments[0].includes(Number(each.dataset.reach))).map(each => each.outerHTML.slice(0, 90))",
                        sorted(wanted - reached))
     page.check(f"page: Tab does not reach {lost}", not lost)
+    page.check(f"page: the foot hides {hidden}", not hidden)
+    for key, name in (("t", "text"), ("s", "script")):
+        had = page.find(name).get_attribute("value")
+        page.key(key)
+        page.check(f"page: {key} goes into the {name}", page.script("return document.activeElement.id") == name and page.find(name).get_attribute("value") == had)
     page.check("page: rows are reached by keys", page.script("return document.querySelectorAll('#rows .here').length") == 1)
 
 
@@ -308,7 +320,7 @@ def example(page):
         time.sleep(0.3)
     page.until("the octets of the address", lambda: page.script(changed) == "03 00")
     page.until("the line behind the store", lambda: [line for line, _ in page.marks("text", "next")] == [10])
-    page.until("the store in words", lambda: page.shown("last") == "The last event did stxdw [r2+0], r1 at place 7, line 9. It changed "
+    page.until("the store in words", lambda: page.shown("last") == "The last event did stxdw [r2+0], r1 at place 7, line 9: r2+0 is 0x10000ff8. It changed "
                "stack 10000ff8: 00 → 03, 10000ffb: 30 → 00.")
     mended = page.find("text").get_attribute("value").replace("jle64 r1, 3", "jlt64 r1, 3")
     page.set("text", mended)
@@ -317,6 +329,71 @@ def example(page):
     page.until("the mended procedure ends", lambda: "Ended" in page.shown("rows") and "r0000000000000001e" in page.shown("registers"))
     page.script("window.confirm = () => true")
     page.press("Close")
+
+
+def newcomer(page, ocp):
+    """What stood in the way of those who saw the page for the first time."""
+    image = ocp(["asm"], "ldxdw r1, [r10-8]\nexit").strip()
+    page.write("script", f"send 9 load 7 {image}\nsend 9 load 7 {image}\n")
+    page.until("a load that is refused", lambda: "AlreadyLoaded" in page.shown("rows"))
+    page.key(page.keys.END)
+    page.until("the refusal in words", lambda: page.shown("last").startswith("Line 2, load 7: not started: 16 AlreadyLoaded. \"Reload\" puts"))
+    page.check("page: it is red", page.find("last").get_attribute("class") == "bad")
+    page.write("script", f"send 9 load 7 {image}\nstep 7 0\n")
+    page.until("what ends a pass", lambda: "Line 1, load 7: completed. Line 2 is refused, and nothing from there on is run: " in page.shown("last")
+               and "1 to 1000000" in page.shown("last"))
+    page.write("script", f"send 9 load 7 {image}\nsend 1 activate 7\nbreak 7 1\n")
+    page.until("a line that prints", lambda: "break 7 1 set" in page.shown("rows"))
+    page.key(page.keys.END)
+    page.until("what it printed", lambda: page.shown("last") == "Line 3 printed: break 7 1 set.")
+    page.script("const area = document.getElementById('script'); area.selectionStart = area.selectionEnd = 3")
+    page.press("Drain", "Drain", "Resume")
+    page.until("buttons put lines in their order", lambda: page.find("script").get_attribute("value").endswith(
+        "\ndrain\ndrain\nsend 1 resume 7\nsend 1 activate 7\nbreak 7 1\n"))
+    page.write("script", f"send 9 load 7 {image}\nsend 1 activate 7\nstep 7 1\n")
+    page.until("where a load reads", lambda: page.shown("last") == "The last event did ldxdw r1, [r10-8] at place 0: r10-8 is 0x10000ff8. It changed r1 0x20000000 → 0x0.")
+    image = ocp(["asm"], "mov64 r2, 9\nlddw r1, 0x3\ncall 3\nexit").strip()
+    page.script("document.getElementById('more-records').open = true")
+    page.write("script", f"send 9 load 7 {image}\nsend 1 activate 7\nstep 7 3\n")
+    page.until("the record of a call", lambda: "Called r0 0000000000000009" in page.shown("records"))
+    page.check("page: records are not cut", page.script("const box = document.getElementById('records'); return box.scrollWidth <= box.clientWidth"))
+    page.set("text", "mov64 r0, 4660\nexit\n")
+    page.write("script", "")
+    page.press("Load")
+    page.until("what was just written is loaded", lambda: page.find("script").get_attribute("value") == "send 9 load 7 b7000000341200009500000000000000\n")
+    page.write("script", "pool 1\npool 2\npool 3\n")
+    page.key(page.keys.END)
+    page.until("a key goes through what was just written", lambda: page.shown("where") == "event 0 of 0, after line 3")
+    page.set("text", "mov64 r0, 1\n" * 17 + "exit\n")
+    page.until("a text longer than its field", lambda: "17  exit" in page.shown("listing"))
+    page.write("script", "")
+    page.set("number", "20")
+    page.press("Load", "Activate", "Step")
+    page.script("document.getElementById('help').open = true; scrollTo(0, 0)")
+    page.key(page.keys.END, page.keys.ARROW_LEFT, page.keys.ARROW_RIGHT)
+    page.until("the line that is next stands above the foot", lambda: page.marks("text", "next") == [[18, ""]] and page.script(
+        "return document.querySelector('.bar.next').getBoundingClientRect().bottom <= document.querySelector('footer').getBoundingClientRect().top"))
+    page.script("scrollTo(0, 0)")
+    page.find("text").send_keys(page.keys.CONTROL, page.keys.END)
+    page.find("text").send_keys("exit", page.keys.BACKSPACE * 4)
+    page.check("page: what is written stands above the foot", page.script("const area = document.getElementById('text');"
+               "return area.getBoundingClientRect().top + 4 + 18 * area.value.split('\\n').length - area.scrollTop <= document.querySelector('footer').getBoundingClientRect().top"))
+    page.script("document.getElementById('help').open = false; scrollTo(0, 1e6)")
+    page.key("f")
+    page.until("a message is seen from the end of the page", lambda: page.shown("message") == "There is no fault after this event." and page.script(
+        "const box = document.getElementById('message').getBoundingClientRect(); return box.top >= 0 && box.bottom < innerHeight && scrollY > 100"))
+    page.press("New")
+    page.write("apid", "292\t")
+    page.until("the pass is run anew", lambda: "1924c000" in page.shown("rows"))
+    time.sleep(0.5)
+    page.check("page: a new text stays in view", page.find("text").get_attribute("value") == "")
+    page.write("apid", "291\t")
+    page.until("the usual options", lambda: "1923c000" in page.shown("rows"))
+    page.press("Close")
+    given = [line.split(" | ") for line in (Path(__file__).resolve().parents[2] / "docs/CARD.md").read_text().splitlines() if " = word r1" in line or "next_param" in line or "step_end" in line]
+    words = " ".join(page.shown("forms").split())
+    calls = [f"call {number.strip('| ')} {name.replace(' (profile 2)', '')} {gives.strip('| ')}" for number, name, gives in given]
+    page.check(f"page: the calls {calls}", len(calls) == 6 and all(call in words for call in calls))
 
 
 def nothing_overlaps(page):
@@ -360,6 +437,7 @@ def page(address, ocp, check, pictures):
         pending(shown)
         bad_input(shown)
         example(shown)
+        newcomer(shown, ocp)
         second_profile(shown)
         nothing_overlaps(shown)
         by_keyboard(shown)

@@ -1,33 +1,44 @@
 // The page: puts its parts together, and hears keys, clicks and files.
-import { at, bringBack, guarded, it, question, say } from "./shared.js";
+import { at, bringBack, caughtUp, guarded, it, question, say } from "./shared.js";
 import * as texts from "./texts.js";
 import * as script from "./script.js";
 import { KEYS, here, mark, passRead, walk, walkTo } from "./walk.js";
 import { showHistory } from "./state.js";
 import { draw, eventAt } from "./timeline.js";
 
+// What was written is read first: the walk is in the pass that stands on the page.
+const press = guarded(async key => { await caughtUp(); await KEYS[key](); });
 document.addEventListener("keydown", event => {
     if (event.key === "Escape") document.activeElement.blur();
     const typing = /TEXTAREA|SELECT|INPUT/.test(event.target.tagName) && event.target.id !== "slider";
     if (typing || event.ctrlKey || event.altKey || event.metaKey || !KEYS[event.key]) return;
     event.preventDefault();
     say("");
-    guarded(KEYS[event.key])();
+    if (/^[ts]$/.test(event.key)) KEYS[event.key](); else press(event.key);
 });
 at("slider").oninput = guarded(() => walkTo(Number(at("slider").value)));
 at("lanes").onclick = guarded(event => walkTo(eventAt(event.offsetX)));
 at("lanes").onwheel = event => { if (event.deltaY) { event.preventDefault(); KEYS[event.deltaY < 0 ? "+" : "-"](); } };
 for (const [name, key] of [["zoom-in", "+"], ["zoom-out", "-"], ["zoom-all", "0"], ["event-back", "ArrowLeft"], ["event-on", "ArrowRight"],
     ["line-back", "ArrowUp"], ["line-on", "ArrowDown"], ["break-back", "B"], ["break-on", "b"], ["fault-back", "F"], ["fault-on", "f"]]) {
-    at(name).onclick = guarded(() => KEYS[key]());
+    at(name).onclick = () => press(key);
 }
 at("listing").onclick = guarded(event => event.target.dataset.slot !== undefined && mark(Number(event.target.dataset.slot)));
 at("mark").onclick = guarded(() => mark(Number(at("number").value)));
 at("more-records").ontoggle = guarded(() => showHistory(it.moment, walkTo));
 addEventListener("resize", () => draw(here()));
+// What is reached by Tab, or written, is scrolled until it stands above the foot.
+new ResizeObserver(([foot]) => document.documentElement.style.setProperty("--foot", `${foot.target.offsetHeight}px`)).observe(document.querySelector("footer"));
 matchMedia("(prefers-color-scheme: dark)").onchange = () => draw(here());
 
-for (const name of ["apid", "pool", "journal", "profile"]) at(name).onchange = () => { texts.readText(); script.readScript(); };
+// The text stays that is to be loaded, though the pass that is run anew comes to another.
+for (const name of ["apid", "pool", "journal", "profile"]) {
+    at(name).onchange = async () => {
+        it.stay = true;
+        await Promise.all([texts.readText(), script.readScript()]);
+        it.stay = false;
+    };
+}
 at("example").onclick = guarded(async () => {
     await texts.example();
     const id = Number(at("id").value);

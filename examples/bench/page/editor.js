@@ -1,5 +1,5 @@
 // A text field with the numbers of its lines, and marks inside of the text: a fault with its hint, and the line that is next.
-import { make } from "./shared.js";
+import { heightSeen, make } from "./shared.js";
 
 const HEIGHT = 18, TAB = 8;
 const columns = line => [...line].reduce((column, letter) => letter === "\t" ? column + TAB - column % TAB : column + 1, 0);
@@ -34,10 +34,10 @@ export function editor(area) {
         mark(found, shows = null) {
             marks = found;
             if (shows !== null && document.activeElement !== area) {
-                const top = (shows - 1) * HEIGHT;
-                if (top < area.scrollTop || top + 2 * HEIGHT > area.scrollTop + area.clientHeight) {
-                    area.scrollTop = Math.max(0, top - area.clientHeight / 3);
-                }
+                const top = (shows - 1) * HEIGHT, seen = heightSeen(area);
+                if (top < area.scrollTop || top + 2 * HEIGHT > area.scrollTop + seen) area.scrollTop = Math.max(0, top - seen / 3);
+                // The last lines of a text come above the foot with the page alone.
+                if (seen < area.clientHeight) scrollBy(0, Math.max(0, top + 2 * HEIGHT - area.scrollTop - seen));
             }
             paint();
         },

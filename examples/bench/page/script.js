@@ -1,12 +1,12 @@
 // The script of a pass: by hand or by buttons, with what each line printed behind it, and the packets of one line.
-import { at, button, guarded, it, keep, keepInView, later, make, options, question, save, say } from "./shared.js";
+import { at, button, caughtUp, guarded, it, keep, keepInView, later, make, options, question, save, say } from "./shared.js";
 import { editor } from "./editor.js";
 import { imageShown } from "./texts.js";
 import { inWords, readRequests } from "./words.js";
 
 const field = editor(at("script"));
 const USUAL = { apid: 291, pool: 16, journal: 100000, profile: 1 };
-let turn = 0, walk = null, goal = null, drawn = [-1, -1], packetTurn = 0;
+let turn = 0, walk = null, goal = null, drawn = [-1, -1], packetTurn = 0, behind = -1;
 
 export function whenRead(work) { walk = work; }
 const sent = () => ({ script: at("script").value, options: options() });
@@ -46,6 +46,7 @@ export async function askPass(name, body) {
 function showCommand() {
     const words = Object.entries(options()).filter(([name, value]) => value !== USUAL[name]).map(([name, value]) => ` --${name} ${value}`);
     at("command").textContent = `./ocp run${words.join("")} < pass.ocp`;
+    at("budget").hidden = options().profile !== 2;
 }
 
 function rowOf(index) {
@@ -116,12 +117,13 @@ export async function showPackets(line) {
     if (!packets.length) at("packets").textContent = "This line has no packets: a send, an up and a drain line have some.";
 }
 
+// Puts lines behind the line of the cursor, or behind those that were put there before.
 export function insert(...added) {
-    const area = at("script"), until = area.value.slice(0, area.selectionStart);
-    const end = until === "" ? 0 : (area.value.indexOf("\n", area.selectionStart) + 1 || area.value.length);
+    const area = at("script"), from = area.selectionStart;
+    const end = from === 0 || from === behind ? from : area.value.indexOf("\n", from) + 1 || area.value.length;
     const head = area.value.slice(0, end), whole = `${head}${head && !head.endsWith("\n") ? "\n" : ""}${added.join("\n")}\n`;
     area.value = `${whole}${area.value.slice(end)}`;
-    area.selectionStart = area.selectionEnd = whole.length;
+    area.selectionStart = area.selectionEnd = behind = whole.length;
     return readScript([Infinity, 0]);
 }
 function imageOrRefusal() {
@@ -148,11 +150,12 @@ export const MAKERS = {
 
 export function start() {
     for (const [name, made] of Object.entries(MAKERS)) {
-        const maker = button(name, () => insert(made(at("id").value, at("number").value)));
+        const maker = button(name, async () => { await caughtUp(); await insert(made(at("id").value, at("number").value)); });
         maker.title = name === "Load" ? "send 9 load <procedure> <image of the text>" : made("<procedure>", "<number>");
         at("makers").append(maker, " ");
     }
-    at("reload").onclick = guarded(() => reload(Number(at("id").value)));
+    at("reload").onclick = guarded(async () => { await caughtUp(); await reload(Number(at("id").value)); });
+    at("script").addEventListener("input", () => { behind = -1; });
     at("script").addEventListener("input", later(() => readScript()));
     at("save-script").onclick = () => save("pass.ocp", at("script").value);
 }

@@ -6,6 +6,7 @@ export const it = {
     key: null, lines: [], rows: [], starts: [0], total: 0,  // the pass as the program ran it
     moment: [0, 0], chosen: null, state: null,          // where the walk stands
     marks: new Map(),                                   // identifier to the places that the page marks
+    stay: false,                                        // whether the text in view stays, whatever procedure is
 };
 
 export function say(text) { at("message").textContent = text; }
@@ -62,15 +63,33 @@ export function bringBack() {
     it.tab = Math.min(Number(localStorage.getItem("bench tab")) || 0, Math.max(0, it.texts.length - 1));
 }
 
-// Scrolls a box until a part of it is seen.
-export function keepInView(box, part) {
-    const top = part.getBoundingClientRect().top - box.getBoundingClientRect().top;
-    if (top < 0 || top + 20 > box.clientHeight) box.scrollTop += top - box.clientHeight / 3;
+// How much of a box stands above the foot of the page; all of it where nearly nothing does.
+export function heightSeen(box) {
+    const room = document.querySelector("footer").getBoundingClientRect().top - box.getBoundingClientRect().top;
+    return room > 80 ? Math.min(box.clientHeight, room) : box.clientHeight;
 }
 
+// Scrolls a box until a part of it is seen.
+export function keepInView(box, part) {
+    const top = part.getBoundingClientRect().top - box.getBoundingClientRect().top, seen = heightSeen(box);
+    if (top < 0 || top + 20 > seen) box.scrollTop += top - seen / 3;
+}
+
+// Work that waits until nothing was written for a while; a key or a button has it done at once.
+const due = new Set(), busy = new Set();
 export function later(work, wait = 300) {
     let clock;
-    return () => { keep(); clearTimeout(clock); clock = setTimeout(work, wait); };
+    const now = () => {
+        clearTimeout(clock);
+        due.delete(now);
+        const done = work().finally(() => busy.delete(done));
+        busy.add(done);
+    };
+    return () => { keep(); clearTimeout(clock); due.add(now); clock = setTimeout(now, wait); };
+}
+export async function caughtUp() {
+    for (const now of [...due]) now();
+    while (busy.size) await Promise.all(busy);
 }
 
 export function save(name, text) {

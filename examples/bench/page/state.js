@@ -52,13 +52,19 @@ function mailboxText(words, view) {
     return words.length ? `${words.length} of 16, the oldest first: ${words.join(", ")}` : "empty, room for 16";
 }
 
+const register = (view, name) => BigInt(`0x${view[1 + Number(name.slice(1))].split(" ")[1]}`);
+
+// Where an instruction reads or writes, by the registers before it.
+export function addressOf(view, instruction) {
+    const found = /\[(r\d+)([+-]\d+)\]/.exec(instruction);
+    return found ? `: ${found[1]}${found[2]} is 0x${BigInt.asUintN(64, register(view, found[1]) + BigInt(found[2])).toString(16)}` : "";
+}
+
 // Why an instruction could not be done, by the registers, which a fault leaves as they were.
 export function reasonOf(view, instruction) {
-    const fault = / fault(\d) /.exec(view[0]), found = /\[(r\d+)([+-]\d+)\]/.exec(instruction);
-    const register = name => BigInt(`0x${view[1 + Number(name.slice(1))].split(" ")[1]}`);
-    const address = found ? `${found[1]}${found[2]} is 0x${BigInt.asUintN(64, register(found[1]) + BigInt(found[2])).toString(16)}, ` : "";
-    return { 1: `: ${address}and all octets of an access have to lie in one region of memory`, 2: `: ${address}and the arguments are read only`,
-        3: ": at depth 7 no further local call is done", 4: `: r1 is ${fault ? register("r1") : ""}, and the pool has ${it.state.pool.length} words`,
+    const fault = / fault(\d) /.exec(view[0]), address = addressOf(view, instruction);
+    return { 1: `${address}, and all octets of an access have to lie in one region of memory`, 2: `${address}, and the arguments are read only`,
+        3: ": at depth 7 no further local call is done", 4: `: r1 is ${fault ? register(view, "r1") : ""}, and the pool has ${it.state.pool.length} words`,
         5: ": nothing is left of the budget of its activation" }[fault ? fault[1] : ""] || "";
 }
 
@@ -131,11 +137,12 @@ export async function showHistory(moment, walkTo) {
         const before = index ? found.records[index - 1][2] : null, [place, outcome, registers, text] = record;
         const changes = before ? registers.flatMap((word, at) => word === before[at] ? [] : [`r${at} ${word}`]) : [];
         const event = events[found.records.length - 1 - index];
-        const said = `${String(place).padStart(4)}  ${text.padEnd(28)} ${outcome === "Ran" ? "" : outcome} ${changes.join(" ")}`;
+        const said = `${String(place).padStart(4)}  ${text.padEnd(24)} ${[...outcome === "Ran" ? [] : [outcome], ...changes].join(" ")}`;
         const row = button(said, () => event !== undefined && walkTo(event), "row");
         row.tabIndex = -1;
         return row;
     }));
+    if (!found.records.length) at("records").textContent = "none up to this event";
     at("records").scrollTop = at("records").scrollHeight;
 }
 

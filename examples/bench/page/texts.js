@@ -50,7 +50,7 @@ function tabs() {
 }
 
 function mark(next = null) {
-    const faults = (shown().faults || []).filter(([line]) => line > 0).map(([line, hint]) => ({ line, kind: "fault", hint }));
+    const faults = (shown().faults || []).map(([line, hint]) => ({ line: Math.max(1, line), kind: "fault", hint }));
     field.mark([...next === null ? [] : [{ line: next, kind: "next", hint: "" }], ...faults], next);
 }
 
@@ -89,12 +89,16 @@ function list(image, place = -1) {
 }
 const placesOf = image => (it.texts.find(text => text.image === image) || {}).places || {};
 
-// Shows the code of a procedure at its place: the listing, and the text that has this image.
-export async function showPlace(image, place) {
+// Asks for the listing of an image, where it is not known.
+export async function readListing(image) {
     if (image && !listings.has(image)) listings.set(image, (await question("listing", { image })).listing);
+}
+
+// Shows the code of a procedure at its place: the listing, and the text that has this image.
+export function showPlace(image, place) {
     if (!image) return list(shown().image || "");
     const index = shown().image === image ? it.tab : it.texts.findIndex(text => text.image === image);
-    if (index >= 0 && index !== it.tab && document.activeElement !== at("text")) {
+    if (index >= 0 && index !== it.tab && !it.stay && document.activeElement !== at("text")) {
         it.tab = index;
         at("text").value = shown().text;
         at("language").value = shown().language;

@@ -1,8 +1,9 @@
 // The walk: a moment is so many whole lines, and then so many instructions of the next one. Every state is the program's.
 import { at, guarded, it, say } from "./shared.js";
 import { askPass, showPackets, showReports, showRows } from "./script.js";
-import { instructionAt, showPlace } from "./texts.js";
-import { changesOf, reasonOf, showHistory, showState } from "./state.js";
+import { instructionAt, readListing, showPlace } from "./texts.js";
+import { addressOf, changesOf, reasonOf, showHistory, showState } from "./state.js";
+import { inWords } from "./words.js";
 import { draw, readTimeline, zoom } from "./timeline.js";
 
 const states = new Map(), visited = new Map();
@@ -75,29 +76,48 @@ async function show(moment, event, line, state, before) {
     draw(event);
     showRows(line, moment);
     showReports(moment[0]);
-    const image = await place(moment, state), changes = changesOf(state, before), was = before.views[it.chosen];
-    at("last").textContent = [lastEvent(moment, line, image, was), changes.length ? `It changed ${changes.join("; ")}.` : ""].join(" ").trim();
+    const image = imageAt(moment, state), changes = changesOf(state, before), was = before.views[it.chosen];
+    await readListing(image);
+    const said = [lastEvent(moment, line, image, was), changes.length ? `It changed ${changes.join("; ")}.` : "", refused(moment)].filter(text => text).join(" ");
+    at("last").textContent = said;
+    at("last").className = / not (accepted|started|completed)|is the fault of|is refused/.test(said) ? "bad" : "";
+    showPlace(image, placeNow());
+}
+
+// At the end of a pass that a line with a fault has cut: which line, and how it should stand.
+function refused(moment) {
+    const row = it.rows.at(-1);
+    return row?.fault && moment[0] === last() && !moment[1] ?
+        `Line ${it.rows.length} is refused, and nothing from there on is run: ${it.hint || row.printed.at(-1)}` : "";
+}
+
+// What a line came to that is no step: its report that failed, or else its last one, or what it printed.
+function cameTo(row, line) {
+    const reports = row.printed.map(shown => inWords(shown, line)).filter(text => text);
+    const told = reports.find(text => / not /.test(text)) || reports.at(-1) || (row.printed.length === 1 ? row.printed[0] : "");
+    if (!told) return `Line ${line + 1} was done.`;
+    const loaded = / AlreadyLoaded/.test(told) ? " \"Reload\" puts a text into the line that loads the procedure; another procedure takes another number." : "";
+    return told.startsWith(`line ${line + 1}, `) ? `L${told.slice(1)}.${loaded}` : `Line ${line + 1} printed: ${told}.`;
 }
 
 // What the last event was: an instruction, a breakpoint that held, or a line.
 function lastEvent(moment, line, image, was) {
     const row = it.rows[line];
     if (event0(moment) || !row) return "";
-    if (row.free || !/^ *step /.test(it.lines[line])) return `Line ${line + 1} was done.`;
+    if (row.free || !/^ *step /.test(it.lines[line])) return cameTo(row, line);
     if (!row.events || !was) return `Line ${line + 1} did nothing.`;
     const place = Number(was[0].split(" ")[5]), held = !moment[1] && row.printed.some(shown => / Broke$/.test(shown));
     const faulted = !moment[1] && row.printed.some(shown => / Faulted /.test(shown));
     const instruction = instructionAt(image, place);
     if (faulted) return `The last event is the fault of ${instruction}${reasonOf(it.state.views[it.chosen] || was, instruction)}.`;
-    return held ? `A breakpoint held it before ${instruction}.` : `The last event did ${instruction}.`;
+    return held ? `A breakpoint held it before ${instruction}.` : `The last event did ${instruction}${addressOf(was, instruction)}.`;
 }
 const event0 = moment => !moment[0] && !moment[1];
 
-async function place(moment, state) {
-    const view = state.views[it.chosen];
+// The image of the procedure in view, by the last line up to a moment that loaded it.
+function imageAt(moment, state) {
     let image = null;
-    if (view) for (const row of it.rows.slice(0, moment[0])) if (row.image && row.image[0] === it.chosen) [, image] = row.image;
-    await showPlace(image, view ? Number(view[0].split(" ")[5]) : -1);
+    if (state.views[it.chosen]) for (const row of it.rows.slice(0, moment[0])) if (row.image && row.image[0] === it.chosen) [, image] = row.image;
     return image;
 }
 
@@ -153,4 +173,5 @@ export const KEYS = {
     m: async () => { await settled(); if (placeNow() >= 0) await mark(placeNow()); },
     "+": () => { zoom(1 / 4, here()); draw(here()); }, "-": () => { zoom(4, here()); draw(here()); }, 0: () => { zoom(Infinity, here()); draw(here()); },
     Home: () => walk([0, 0]), End: () => walk([last(), 0]),
+    t: () => at("text").focus(), s: () => at("script").focus(),
 };
