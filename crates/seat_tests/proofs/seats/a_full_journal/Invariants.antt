@@ -1,8 +1,0 @@
-use Rattle.std.proofs.Common.{◌-◌, length}
-use Rattle.seat_tests.proofs.seats.a_full_journal.Given as goal
-
-abbrev pub ghosts-in_full-L-Ledger : goal.ghosts-in_full-L-Ledger
-ghosts-in_full-L-Ledger g a = record { name = a.blank.name; parts = a.blank.parts }
-
-abbrev pub ghosts-in_full-L-Naming : goal.ghosts-in_full-L-Naming
-ghosts-in_full-L-Naming g a = record { room = a.engine.capacity - length a.engine.entries; log = a.engine }
