@@ -1,6 +1,6 @@
 //! Hostile use, by tests alone: growths of memory that are refused one after another, named
-//! refusals where there is no memory, devices that fail, packets that are cut, and octets that are
-//! no procedure. Beside the tests the crate has the allocator that refuses.
+//! refusals where there is no memory, and devices that fail. Beside the tests the crate has the
+//! allocator that refuses.
 #![tactic(auto)]
 
 #[cfg(test)]
@@ -14,8 +14,6 @@ mod drains;
 #[cfg(test)]
 mod engine;
 pub mod heap;
-#[cfg(test)]
-mod images;
 #[cfg(test)]
 mod makers;
 #[cfg(test)]
