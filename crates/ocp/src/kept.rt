@@ -1,11 +1,12 @@
 //! What a job read and wrote, as far as a hint needs it.
 
-ghost use Rattle.std.specs.Prelude.{◌≡◌};
+ghost use Rattle.std.specs.Prelude.{◌≡◌, ◌≤◌, length};
 
 use arrayvec::ArrayVec;
-use memchr::{memchr_iter, memrchr};
+use memchr::memrchr;
 use ocp_console::{Sink, Source};
 use std::alloc::{AllocError, Global};
+use std::mem::swap;
 
 /// How much of what was read is kept.
 #[derive(Clone, Copy)]
@@ -19,9 +20,10 @@ pub(crate) enum Keeps {
 /// What was read, as far as it is kept. Where memory is refused for it, nothing is.
 #[derive(Drop)]
 pub(crate) struct Text {
-    alloc: Global,
     keeps: Keeps,
     octets: Vec<u8>,
+    /// Room for what is kept next.
+    spare: Vec<u8>,
     /// How many lines stand in front of what is kept.
     before: u64,
     /// How many lines end in what is kept, and where the line behind them begins; 0 where all is
@@ -31,12 +33,35 @@ pub(crate) struct Text {
     is_lost: bool,
 }
 
+/// The most octets whose newlines are counted at a time, so that the count fits into an octet.
+const PIECE: usize = 255;
+
+/// How many newlines a piece has. No octet ends the loop, so that it takes many of them at a time.
+fn newlines_in(piece: &[u8]) -> u8
+    requires { length piece.now ≤ 255 }
+{
+    let mut count = 0;
+    for octet in piece {
+        count += u8::from(*octet == b'\n');
+    }
+    count
+}
+
+/// How many newlines there are.
+fn newlines(octets: &[u8]) -> u64 {
+    let mut count = 0u64;
+    for piece in octets.chunks(PIECE) {
+        count = count.saturating_add(u64::from(newlines_in(piece)));
+    }
+    count
+}
+
 impl Text {
     pub fn new(alloc: Global, keeps: Keeps) -> Text {
         Text {
-            alloc,
             keeps,
             octets: Vec::new(alloc),
+            spare: Vec::new(alloc),
             before: 0,
             ended: 0,
             open: 0,
@@ -46,14 +71,10 @@ impl Text {
 
     /// Keeps the line that has not ended, and no line in front of it.
     fn cut(&mut self) -> Result<(), AllocError> {
-        let open = self.octets.get(self.open..).unwrap_or(&[]);
-        if open.is_empty() {
-            self.octets.clear();
-        } else {
-            let mut next = Vec::new(self.alloc);
-            next.extend_from_slice(open)?;
-            self.octets = next;
-        }
+        self.spare.clear();
+        self.spare
+            .extend_from_slice(self.octets.get(self.open..).unwrap_or(&[]))?;
+        swap(&mut self.octets, &mut self.spare);
         self.before = self.before.saturating_add(self.ended);
         self.ended = 0;
         self.open = 0;
@@ -65,8 +86,10 @@ impl Text {
         if self.ended != 0 {
             self.cut()?;
         }
-        if let Some(last) = memrchr(b'\n', octets) {
-            self.ended = memchr_iter(b'\n', octets).count() as u64;
+        let ended = newlines(octets);
+        if ended != 0 {
+            let last = memrchr(b'\n', octets).unwrap_or(0);
+            self.ended = ended;
             self.open = self.octets.len().saturating_add(last).saturating_add(1);
         }
         self.octets.extend_from_slice(octets)

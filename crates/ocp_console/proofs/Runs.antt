@@ -1,8 +1,6 @@
 -- What the runs of lines write.
-use Rattle.std.proofs.Common.{◌≡◌, ◌++◌, ◌<◌, ◌≤◌, ◌+◌, List, [], ◌∷◌, ℕ, suc, Bool, true, false, eqb, ltb, leb, cond, length, Option, Some, None, Result, Ok, Err, refl, sym, ap, subst, ◌∙◌, arith, append_assoc, append-nil, inl, inr, drop, get_or, add-one}
-use Rattle.std.proofs.Math.Seq.{drop-cons}
-use Rattle.std.proofs.Math.ListN.{drop_of_length-le}
-use Rattle.std.specs.Prelude.{codes, ◌⊎◌}
+use Rattle.std.proofs.Common.{◌≡◌, ◌++◌, ◌<◌, ◌≤◌, ◌+◌, List, [], ◌∷◌, ℕ, suc, true, false, eqb, ltb, leb, length, Option, Some, None, Result, Ok, Err, refl, sym, ap, subst, ◌∙◌, arith, append_assoc, append-nil, inl, inr}
+use Rattle.std.specs.Prelude.{codes}
 use Rattle.std.specs.Option.{option_map_or}
 use Rattle.std.specs.Io.KnownBytes.{Appends}
 use Rattle.std.proofs.KnownBytes.{Appends-trans, Appends-nil}
@@ -19,7 +17,7 @@ use Rattle.ocp_console.specs.Crew.{CrewAnswers, HasDone, HasRefused, crew_fault}
 use Rattle.ocp_console.specs.Script.{Step, Ends, Goes, step_of, Writing, IsFailure, Follows, FaultLine, AtStep, Writes, PrintsBy}
 use Rattle.ocp_console.specs.Mirror.Session.{after_line}
 use Rattle.ocp_console.specs.Mirror.Lines.{is_one_line}
-use Rattle.ocp_console.proofs.Cutting.{Begins, ended_line, open_line, longer_line, one_line-snoc}
+use Rattle.ocp_console.proofs.Cutting.{Begins, ended_line, open_line, longer_line}
 
 -- ---- a text that was to be written
 
@@ -174,21 +172,30 @@ newline_done old new crew state next before p after octet asked one is none h = 
       (h.2 (lines_of more) later ending (subst (λ (t : List ℕ). after_line crew next (before + 1) asked (lines_of (t ++ more)) later ending) none w)),
 )
 
-pub pushed_on : (a : Option (List ℕ)) (crew : CrewAnswers) (state : State) (before : ℕ) (p after : List ℕ) (octet : ℕ) → after ≡ p ++ octet ∷ []
-    → (sent : List ℕ) × Appends a a sent × ((more later : List ℕ) (ending : Result Unit ConsoleFault) → Writes crew state before (lines_of (after ++ more)) later ending → Writes crew state before (lines_of (p ++ octet ∷ more)) (sent ++ later) ending)
-pushed_on a crew state before p after octet is = (
-  [],
-  Appends-nil a,
+-- ---- a whole line
+
+line_lines : (p line more : List ℕ) → p ≡ [] → is_one_line line ≡ true → lines_of (p ++ (line ++ 10 ∷ more)) ≡ Ended line ∷ lines_of more
+line_lines p line more empty one = ap (λ (t : List ℕ). lines_of (t ++ (line ++ 10 ∷ more))) empty ∙ ended_line line more one
+
+pub line_failed : (old new : Option (List ℕ)) (crew : CrewAnswers) (state : State) (before : ℕ) (p line : List ℕ) (e : ConsoleFault) → p ≡ [] → is_one_line line ≡ true
+    → (sent : List ℕ) × Appends old new sent × ((more : List Line) → Writes crew state before (Ended line ∷ more) sent (Err e))
+    → (sent : List ℕ) × Appends old new sent × ((more : List ℕ) → Writes crew state before (lines_of (p ++ (line ++ 10 ∷ more))) sent (Err e))
+line_failed old new crew state before p line e empty one h = (h.0, h.1, λ more. subst (λ (ls : List Line). Writes crew state before ls h.0 (Err e)) (sym (line_lines p line more empty one)) (h.2 (lines_of more)))
+
+pub line_done : (old new : Option (List ℕ)) (crew : CrewAnswers) (state next : State) (before : ℕ) (p line : List ℕ) (asked : Option Shift) → p ≡ [] → is_one_line line ≡ true
+    → (sent : List ℕ) × Appends old new sent × ((more : List Line) (later : List ℕ) (ending : Result Unit ConsoleFault) → after_line crew next (before + 1) asked more later ending → Writes crew state before (Ended line ∷ more) (sent ++ later) ending)
+    → (sent : List ℕ) × Appends old new sent
+    × ((more later : List ℕ) (ending : Result Unit ConsoleFault) → after_line crew next (before + 1) asked (lines_of (p ++ more)) later ending → Writes crew state before (lines_of (p ++ (line ++ 10 ∷ more))) (sent ++ later) ending)
+line_done old new crew state next before p line asked empty one h = (
+  h.0,
+  h.1,
   λ more later ending w.
-      subst (λ (t : List ℕ). Writes crew state before (lines_of t) later ending) (append_assoc p (octet ∷ []) more) (subst (λ (t : List ℕ). Writes crew state before (lines_of (t ++ more)) later ending) is w),
+      subst (λ (ls : List Line). Writes crew state before ls (h.0 ++ later) ending) (sym (line_lines p line more empty one))
+      (h.2 (lines_of more) later ending (subst (λ (t : List ℕ). after_line crew next (before + 1) asked (lines_of (t ++ more)) later ending) empty w)),
 )
 
 pub not_newline : (c : ℕ) → (c ≡ 10 → ⊥) → eqb c 10 ≡ false
 not_newline c ne = elim (eqb_tells c 10) [ inl h ↦ absurd (ne h.1) | inr h ↦ h.0 ]
-
-pub pushed_line : (b : Bool) (p : List ℕ) (c : ℕ) → is_one_line p ≡ true → (c ≡ 10 → ⊥) → is_one_line (cond b (p ++ c ∷ []) p) ≡ true
-pushed_line true p c one ne = one_line-snoc p c one (not_newline c ne)
-pushed_line false p c one ne = one
 
 -- a line that has its most octets, and one more
 pub full_line : (p : List ℕ) (c : ℕ) (more : List ℕ) (n : ℕ) → is_one_line p ≡ true → (c ≡ 10 → ⊥) → length p ≡ n → Begins (lines_of (p ++ c ∷ more)) (n + 1)
@@ -196,39 +203,68 @@ full_line p c more n one ne e =
     let state : suc (length p) ≡ n + 1 = omega (arith, e) in
     subst (Begins (lines_of (p ++ c ∷ more))) state (longer_line p c more one (not_newline c ne))
 
--- ---- octet after octet
+-- ---- line after line
 
+-- what a session did of these octets is answered, and these are left of them
 abbrev pub SoFar : Option (List ℕ) → Option (List ℕ) → (List ℕ → Writing) → (List ℕ → Writing) → List ℕ → List ℕ → Type 0
 SoFar old new whole rest octets left =
     (sent : List ℕ) × Appends old new sent × ((more later : List ℕ) (ending : Result Unit ConsoleFault) → rest (left ++ more) later ending → whole (octets ++ more) (sent ++ later) ending)
 
-pub none_so_far : (a : Option (List ℕ)) (whole : List ℕ → Writing) (octets : List ℕ) → SoFar a a whole whole octets (drop 0 octets)
+pub none_so_far : (a : Option (List ℕ)) (whole : List ℕ → Writing) (octets : List ℕ) → SoFar a a whole whole octets octets
 none_so_far a whole octets = ([], Appends-nil a, λ more later ending w. w)
 
-pub more_answered : (old mid new : Option (List ℕ)) (whole rest after : List ℕ → Writing) (octets : List ℕ) (i : ℕ) → i < length octets → SoFar old mid whole rest octets (drop i octets)
-    → (sent : List ℕ) × Appends mid new sent × ((more later : List ℕ) (ending : Result Unit ConsoleFault) → after more later ending → rest (get_or octets i 0 ∷ more) (sent ++ later) ending) → SoFar old new whole after octets (drop (i + 1) octets)
-more_answered old mid new whole rest after octets i lt so_far h = (
+-- octets that go on with a line write nothing
+same_text : (line piece left more : List ℕ) → (line ++ piece) ++ (left ++ more) ≡ line ++ ((piece ++ left) ++ more)
+same_text line piece left more = append_assoc line piece (left ++ more) ∙ ap (λ (t : List ℕ). line ++ t) (sym (append_assoc piece left more))
+
+pub filled_on : (crew : CrewAnswers) (state : State) (before : ℕ) (line after octets piece left : List ℕ) → octets ≡ piece ++ left → after ≡ line ++ piece
+    → (more later : List ℕ) (ending : Result Unit ConsoleFault) → Writes crew state before (lines_of (after ++ (left ++ more))) later ending → Writes crew state before (lines_of (line ++ (octets ++ more))) later ending
+filled_on crew state before line after octets piece left parts is more later ending w =
+    subst (λ (t : List ℕ). Writes crew state before (lines_of (line ++ (t ++ more))) later ending) (sym parts)
+    (subst (λ (t : List ℕ). Writes crew state before (lines_of t) later ending) (same_text line piece left more) (subst (λ (t : List ℕ). Writes crew state before (lines_of (t ++ (left ++ more))) later ending) is w))
+
+-- a step that answers what stands in front of what is left behind it
+pub more_answered : (old mid new : Option (List ℕ)) (whole rest after : List ℕ → Writing) (octets left behind : List ℕ) (onto : List ℕ → List ℕ) → ((more : List ℕ) → left ++ more ≡ onto (behind ++ more)) → SoFar old mid whole rest octets left
+    → (sent : List ℕ) × Appends mid new sent × ((more later : List ℕ) (ending : Result Unit ConsoleFault) → after more later ending → rest (onto more) (sent ++ later) ending) → SoFar old new whole after octets behind
+more_answered old mid new whole rest after octets left behind onto cut so_far h = (
   so_far.0 ++ h.0,
   Appends-trans old mid new so_far.0 h.0 so_far.1 h.1,
   λ more later ending w.
       subst (λ (t : List ℕ). whole (octets ++ more) t ending) (sym (append_assoc so_far.0 h.0 later))
-      (so_far.2 more (h.0 ++ later) ending (subst (λ (t : List ℕ). rest (t ++ more) (h.0 ++ later) ending) (sym (drop-cons octets i 0 lt))
-      (h.2 (drop (suc i) octets ++ more) later ending (subst (λ (k : ℕ). after (drop k octets ++ more) later ending) (add-one i) w)))),
+      (so_far.2 more (h.0 ++ later) ending (subst (λ (t : List ℕ). rest t (h.0 ++ later) ending) (sym (cut more)) (h.2 (behind ++ more) later ending w))),
 )
 
-pub ended_at : (old mid new : Option (List ℕ)) (whole rest : List ℕ → Writing) (octets : List ℕ) (i : ℕ) (e : ConsoleFault) → i < length octets → SoFar old mid whole rest octets (drop i octets)
-    → (sent : List ℕ) × Appends mid new sent × ((more : List ℕ) → rest (get_or octets i 0 ∷ more) sent (Err e)) → (sent : List ℕ) × Appends old new sent × ((more : List ℕ) → whole (octets ++ more) sent (Err e))
-ended_at old mid new whole rest octets i e lt so_far h = (
+-- a step that fails there
+pub ended_at : (old mid new : Option (List ℕ)) (whole rest : List ℕ → Writing) (octets left behind : List ℕ) (onto : List ℕ → List ℕ) (e : ConsoleFault) → ((more : List ℕ) → left ++ more ≡ onto (behind ++ more)) → SoFar old mid whole rest octets left
+    → (sent : List ℕ) × Appends mid new sent × ((more : List ℕ) → rest (onto more) sent (Err e)) → (sent : List ℕ) × Appends old new sent × ((more : List ℕ) → whole (octets ++ more) sent (Err e))
+ended_at old mid new whole rest octets left behind onto e cut so_far h = (
   so_far.0 ++ h.0,
   Appends-trans old mid new so_far.0 h.0 so_far.1 h.1,
-  λ more.
-      so_far.2 more h.0 (Err e) (subst (λ (t : List ℕ). rest (t ++ more) h.0 (Err e)) (sym (drop-cons octets i 0 lt)) (h.2 (drop (suc i) octets ++ more))),
+  λ more. so_far.2 more h.0 (Err e) (subst (λ (t : List ℕ). rest t h.0 (Err e)) (sym (cut more)) (h.2 (behind ++ more))),
 )
 
-pub all_answered : (old new : Option (List ℕ)) (whole rest : List ℕ → Writing) (octets : List ℕ) (i : ℕ) → length octets ≤ i → SoFar old new whole rest octets (drop i octets)
+-- what is left is answered as far as the rest behind it
+pub gone_on : (old mid new : Option (List ℕ)) (whole rest after : List ℕ → Writing) (octets left behind : List ℕ) → SoFar old mid whole rest octets left
+    → (sent : List ℕ) × Appends mid new sent × ((more later : List ℕ) (ending : Result Unit ConsoleFault) → after (behind ++ more) later ending → rest (left ++ more) (sent ++ later) ending) → SoFar old new whole after octets behind
+gone_on old mid new whole rest after octets left behind so_far h = (
+  so_far.0 ++ h.0,
+  Appends-trans old mid new so_far.0 h.0 so_far.1 h.1,
+  λ more later ending w. subst (λ (t : List ℕ). whole (octets ++ more) t ending) (sym (append_assoc so_far.0 h.0 later)) (so_far.2 more (h.0 ++ later) ending (h.2 more later ending w)),
+)
+
+-- what is left is done on
+pub done_on : (old mid new : Option (List ℕ)) (whole rest after : List ℕ → Writing) (octets left : List ℕ) → SoFar old mid whole rest octets left
+    → (sent : List ℕ) × Appends mid new sent × ((more later : List ℕ) (ending : Result Unit ConsoleFault) → after more later ending → rest more (sent ++ later) ending) → SoFar old new whole after octets left
+done_on old mid new whole rest after octets left so_far h =
+    gone_on old mid new whole rest after octets left left so_far (h.0, h.1, λ more later ending w. h.2 (left ++ more) later ending w)
+
+pub failed_at : (old mid new : Option (List ℕ)) (whole rest : List ℕ → Writing) (octets left : List ℕ) (e : ConsoleFault) → SoFar old mid whole rest octets left
+    → (sent : List ℕ) × Appends mid new sent × ((more : List ℕ) → rest (left ++ more) sent (Err e)) → (sent : List ℕ) × Appends old new sent × ((more : List ℕ) → whole (octets ++ more) sent (Err e))
+failed_at old mid new whole rest octets left e so_far h = (so_far.0 ++ h.0, Appends-trans old mid new so_far.0 h.0 so_far.1 h.1, λ more. so_far.2 more h.0 (Err e) (h.2 more))
+
+pub all_answered : (old new : Option (List ℕ)) (whole rest : List ℕ → Writing) (octets left : List ℕ) → left ≡ [] → SoFar old new whole rest octets left
     → (sent : List ℕ) × Appends old new sent × ((more later : List ℕ) (ending : Result Unit ConsoleFault) → rest more later ending → whole (octets ++ more) (sent ++ later) ending)
-all_answered old new whole rest octets i le so_far =
-    (so_far.0, so_far.1, λ more later ending w. so_far.2 more later ending (subst (λ (t : List ℕ). rest (t ++ more) later ending) (sym (drop_of_length-le octets le)) w))
+all_answered old new whole rest octets left none so_far = (so_far.0, so_far.1, λ more later ending w. so_far.2 more later ending (subst (λ (t : List ℕ). rest (t ++ more) later ending) (sym none) w))
 
 -- ---- the end of a script
 

@@ -1,10 +1,9 @@
 -- The octets that a run takes.
-use Rattle.std.proofs.Common.{◌≡◌, ◌≢◌, ◌<◌, ◌≤◌, ◌+◌, ℕ, List, [], ◌∷◌, ◌++◌, true, Option, Some, None, IfSome, refl, sym, ap, ◌∙◌, subst, arith, length, length-append, take, drop, get_or, append_assoc, append-nil, take-append-drop}
-use Rattle.std.proofs.lemmas.List.{take_more, take_all}
+use Rattle.std.proofs.Common.{◌≡◌, ◌≢◌, ◌<◌, ◌≤◌, ◌+◌, ℕ, List, [], ◌∷◌, ◌++◌, true, Option, Some, None, IfSome, refl, sym, ap, ◌∙◌, subst, arith, length, length-append, take, drop, append_assoc, append-nil, take-append-drop}
 use Rattle.std.specs.Io.KnownBytes.{Consumes, Keeps}
 use Rattle.std.proofs.KnownBytes.{Consumes-nil, Consumes-kept}
 use Rattle.text_lines.specs.Lines.{Line, Ended, Open, lines_of, octets_of}
-use Rattle.ocp_console.specs.Mirror.Lines.{is_one_line, HasTaken}
+use Rattle.ocp_console.specs.Mirror.Lines.{is_one_line, HasTaken, TakesUpTo}
 use Rattle.ocp_ports.specs.Reading.{ReadsWhile}
 use Rattle.ocp_console.specs.Reading.{AreShort, IsWithin}
 use Rattle.ocp_console.proofs.Cutting.{ended_line, open_line}
@@ -27,26 +26,55 @@ newline_taken before line after octets o one le is empty t = record {
   room = λ ne. absurd (ne empty);
 }
 
-pub octet_taken : (before : ℕ) (line after octets : List ℕ) (o : ℕ) → before < 100000 → after ≡ line ++ o ∷ [] → HasTaken before line octets → HasTaken before after (octets ++ o ∷ [])
-octet_taken before line after octets o lt is t = record {
+-- octets that go on with a line
+pub piece_taken : (before : ℕ) (line after octets piece : List ℕ) → (0 < length piece → before < 100000) → after ≡ line ++ piece → HasTaken before line octets → HasTaken before after (octets ++ piece)
+piece_taken before line after octets piece few is t = record {
   done = t.done;
   count = t.count;
   short = t.short;
   cut = λ more.
-      ap lines_of (append_assoc octets (o ∷ []) more) ∙ t.cut (o ∷ more) ∙ ap (λ (a : List ℕ). t.done ++ lines_of a) (sym (append_assoc line (o ∷ []) more))
+      ap lines_of (append_assoc octets piece more) ∙ t.cut (piece ++ more) ∙ ap (λ (a : List ℕ). t.done ++ lines_of a) (sym (append_assoc line piece more))
       ∙ ap (λ (a : List ℕ). t.done ++ lines_of (a ++ more)) (sym is);
-  room = λ ne. lt;
+  room = λ ne. has_room line piece few t.room (subst (λ (a : List ℕ). a ≢ []) is ne);
+}
+  where
+    has_room : (line piece : List ℕ) → (0 < length piece → before < 100000) → (line ≢ [] → before < 100000) → line ++ piece ≢ [] → before < 100000
+    has_room [] [] h k ne = absurd (ne refl)
+    has_room [] (o ∷ piece) h k ne = h (omega arith)
+    has_room (c ∷ line) piece h k ne = k (λ e. absurd cc)
+
+-- ---- taken and left
+
+pub none_taken : (before : ℕ) (line front octets : List ℕ) → HasTaken before line front → TakesUpTo before line (front ++ octets) octets
+none_taken before line front octets t = record { front = front; parts = refl; taken = t }
+
+-- a step that takes a piece of what is left
+pub more_taken : (before next : ℕ) (line after octets left piece behind : List ℕ) → left ≡ piece ++ behind → ((front : List ℕ) → HasTaken before line front → HasTaken next after (front ++ piece)) → TakesUpTo before line octets left
+    → TakesUpTo next after octets behind
+more_taken before next line after octets left piece behind cut step t = record {
+  front = t.front ++ piece;
+  parts = append_assoc t.front piece behind ∙ ap (λ (a : List ℕ). t.front ++ a) (sym cut) ∙ t.parts;
+  taken = step t.front t.taken;
 }
 
--- one octet more of a piece
-pub piece_taken : (before : ℕ) (line octets piece : List ℕ) (i : ℕ) → i < length piece → HasTaken before line ((octets ++ take i piece) ++ get_or piece i 0 ∷ []) → HasTaken before line (octets ++ take (i + 1) piece)
-piece_taken before line octets piece i lt t = subst (HasTaken before line) (append_assoc octets (take i piece) (get_or piece i 0 ∷ []) ∙ ap (λ (p : List ℕ). octets ++ p) (sym (take_more piece i 0 lt))) t
+-- a step that takes what is left, as far as what stands behind it
+pub taken_on : (before next : ℕ) (line after octets left behind : List ℕ) → ((front : List ℕ) → HasTaken before line front → TakesUpTo next after (front ++ left) behind) → TakesUpTo before line octets left → TakesUpTo next after octets behind
+taken_on before next line after octets left behind step t = subst (λ (o : List ℕ). TakesUpTo next after o behind) t.parts (step t.front t.taken)
 
-pub piece_begun : (before : ℕ) (line octets piece : List ℕ) → HasTaken before line octets → HasTaken before line (octets ++ take 0 piece)
-piece_begun before line octets piece t = subst (HasTaken before line) (sym (append-nil octets)) t
+pub all_taken : (before : ℕ) (line octets left : List ℕ) → left ≡ [] → TakesUpTo before line octets left → HasTaken before line octets
+all_taken before line octets left none t = subst (HasTaken before line) (sym (append-nil t.front) ∙ ap (λ (a : List ℕ). t.front ++ a) (sym none) ∙ t.parts) t.taken
 
-pub whole_piece : (before : ℕ) (line octets piece : List ℕ) (i : ℕ) → length piece ≤ i → HasTaken before line (octets ++ take i piece) → HasTaken before line (octets ++ piece)
-whole_piece before line octets piece i le t = subst (λ (p : List ℕ). HasTaken before line (octets ++ p)) (take_all i piece le) t
+-- a whole line
+pub line_taken : (before : ℕ) (p line octets : List ℕ) → p ≡ [] → is_one_line line ≡ true → length line ≤ 40000 → before < 100000 → HasTaken before p octets → HasTaken (before + 1) p (octets ++ (line ++ 10 ∷ []))
+line_taken before p line octets empty one le few t =
+    subst (HasTaken (before + 1) p) (append_assoc octets line (10 ∷ []))
+    (newline_taken before line p (octets ++ line) 10 one le refl empty (record {
+      done = t.done;
+      count = t.count;
+      short = t.short;
+      cut = λ more. ap lines_of (append_assoc octets line more) ∙ t.cut (line ++ more) ∙ ap (λ (a : List ℕ). t.done ++ lines_of (a ++ (line ++ more))) empty;
+      room = λ ne. few;
+    }))
 
 short-open : (lines : List Line) (line : List ℕ) → AreShort lines → length line ≤ 40000 → is_one_line line ≡ true → AreShort (lines ++ lines_of line)
 short-open lines [] h le one = subst AreShort (sym (append-nil lines)) h

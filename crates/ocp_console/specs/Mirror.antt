@@ -1,4 +1,5 @@
 -- A run line by line and octet by octet, for its proofs.
+pub mod Fronts
 pub mod Lines
 pub mod Replies
 pub mod Session

@@ -14,11 +14,11 @@ pub(crate) fn answer<A: Allocator + Copy>(
     alloc: A,
     console: &mut Console<A>,
     line: &[u8],
-) -> Result<Option<Reply<A>>, AllocError>
+) -> Result<Option<Reply>, AllocError>
     ensures effect { IfOk result
         (λ answered. MatchOption answered (respond (state_of console.old) line.now ≡ None)
         (λ reply. respond (state_of console.old) line.now ≡
-        Some (effect_by (state_of console.new) reply))) }
+        Some (effect_by (state_of console.new) console.new.output.items reply))) }
     ensures kept { IfOk result (λ answered. IfSome answered
         (λ reply. IsKept (state_of console.old) (state_of console.new) reply)) }
 {

@@ -1,6 +1,6 @@
 //! What a console keeps from line to line, and what each line does to it.
 
-ghost use Rattle.std.specs.Prelude.{◌≡◌, ◌<◌, ◌≤◌, length, IfOk, IfErr};
+ghost use Rattle.std.specs.Prelude.{◌≡◌, ◌<◌, ◌≤◌, length, IfOk, IfErr, OnOk};
 ghost use Rattle.space_packet.specs.declared.range.TheConstants.{IDLE_APID};
 ghost use Rattle.pus_fields.specs.declared.writing.TheConstants.{MAX_TELECOMMAND_DATA};
 ghost use Rattle.obcp_messages.specs.Request.{HasFittingBudget, request_data};
@@ -17,7 +17,7 @@ use ocp_lines::{Command, Flags, MAX_MEMORY_LENGTH, MemoryLength, Shift, Verb};
 use ocp_profile::Profile;
 use ocp_words::Settings;
 use space_packet::{Apid, SequenceCount};
-use std::alloc::{AllocError, Allocator, Global};
+use std::alloc::{AllocError, Allocator};
 
 /// What a console keeps from line to line.
 #[derive(Drop)]
@@ -31,14 +31,16 @@ pub(crate) struct Console<A: Allocator> {
     pub time: u32,
     /// The ground count: the sequence count of the next telecommand.
     pub count: SequenceCount,
+    /// What the last line printed.
+    pub output: Vec<u8, A>,
     pub ghost apid_in_range: { apid < IDLE_APID },
 }
 
 /// What a line leads to.
-#[derive(Drop)]
-pub(crate) enum Reply<A: Allocator = Global> {
-    /// It was done, and this is printed.
-    Printed(Vec<u8, A>),
+#[derive(Clone, Copy)]
+pub(crate) enum Reply {
+    /// It was done, and the console's output is printed.
+    Printed,
     /// The crew is to work.
     Work(Shift),
 }
@@ -67,34 +69,33 @@ impl<A: Allocator + Copy> Console<A> {
             apid: Apid::new(settings.apid).unwrap(),
             time: 0,
             count: SequenceCount::new(0).unwrap(),
+            output: Vec::new(alloc),
         })
     }
 
     /// These octets reach the engine.
-    fn receive(&mut self, alloc: A, octets: &[u8]) -> Result<Vec<u8, A>, AllocError>
-        ensures { IfOk result
-            (λ output. (state_of self.new, output.items) ≡
+    fn receive(&mut self, alloc: A, octets: &[u8]) -> Result<(), AllocError>
+        ensures { OnOk result ((state_of self.new, self.new.output.items) ≡
             on_octets (state_of self.old) octets.now) }
     {
         let answer = self.engine.request(alloc, 0, self.time, octets);
-        answer_text(alloc, answer)
+        answer_text(answer, &mut self.output)
     }
 
     /// What a `drain` line does.
-    fn drain(&mut self, alloc: A) -> Result<Vec<u8, A>, AllocError>
-        ensures { IfOk result
-            (λ output. (state_of self.new, output.items) ≡ on_drain (state_of self.old)) }
+    fn drain(&mut self, alloc: A) -> Result<(), AllocError>
+        ensures { OnOk result
+            ((state_of self.new, self.new.output.items) ≡ on_drain (state_of self.old)) }
     {
         let answer = self.engine.drain(alloc, 0, self.time);
-        answer_text(alloc, answer)
+        answer_text(answer, &mut self.output)
     }
 
     /// A telecommand of this request reaches the engine.
-    fn ask(&mut self, alloc: A, flags: Flags, request: &Request) -> Result<Vec<u8, A>, AllocError>
+    fn ask(&mut self, alloc: A, flags: Flags, request: &Request) -> Result<(), AllocError>
         requires short { length (request_data self.old.profile request.now) ≤ MAX_TELECOMMAND_DATA }
         requires fits { HasFittingBudget self.old.profile request.now }
-        ensures { IfOk result
-            (λ output. (state_of self.new, output.items) ≡
+        ensures { OnOk result ((state_of self.new, self.new.output.items) ≡
             on_request (state_of self.old) flags.number request.now) }
     {
         let packet = telecommand(alloc, self.profile, self.apid, self.count, flags, request)?;
@@ -103,10 +104,9 @@ impl<A: Allocator + Copy> Console<A> {
     }
 
     /// What a `send` line does.
-    fn send(&mut self, alloc: A, flags: Flags, verb: Verb<A>) -> Result<Vec<u8, A>, AllocError>
+    fn send(&mut self, alloc: A, flags: Flags, verb: Verb<A>) -> Result<(), AllocError>
         requires { HasFittingBudget self.old.profile (request_of verb) }
-        ensures { IfOk result
-            (λ output. (state_of self.new, output.items) ≡
+        ensures { OnOk result ((state_of self.new, self.new.output.items) ≡
             on_request (state_of self.old) flags.number (request_of verb)) }
     {
         match verb {
@@ -144,87 +144,86 @@ impl<A: Allocator + Copy> Console<A> {
     }
 
     /// What a `trace` line prints.
-    fn traces(&self, alloc: A) -> Result<Vec<u8, A>, AllocError>
-        ensures { IfOk result (λ output. output.items ≡ trace_lines (state_of self.now)) }
+    fn traces(&mut self) -> Result<(), AllocError>
+        ensures state { state_of self.new ≡ state_of self.old }
+        ensures output { OnOk result (self.new.output.items ≡ trace_lines (state_of self.old)) }
     {
-        let mut output = Vec::new(alloc);
-        self.engine.trace_lines(&mut output)?;
-        Ok(output)
+        self.output.clear();
+        self.engine.trace_lines(&mut self.output)
     }
 
     /// What a `view` line prints.
-    fn view(&self, alloc: A, id: u16) -> Result<Vec<u8, A>, AllocError>
-        ensures { IfOk result (λ output. output.items ≡ view_text (state_of self.now) id) }
+    fn view(&mut self, id: u16) -> Result<(), AllocError>
+        ensures state { state_of self.new ≡ state_of self.old }
+        ensures output { OnOk result (self.new.output.items ≡ view_text (state_of self.old) id) }
     {
-        let mut output = Vec::new(alloc);
-        view_text(id, self.engine.view(id), &mut output)?;
-        Ok(output)
+        self.output.clear();
+        view_text(id, self.engine.view(id), &mut self.output)
     }
 
     /// What a `mem` line prints.
-    fn memory(
-        &self,
-        alloc: A,
-        id: u16,
-        address: u64,
-        length: MemoryLength,
-    ) -> Result<Vec<u8, A>, AllocError>
-        ensures { IfOk result (λ output. output.items ≡
-            memory_text (state_of self.now) id address length.number) }
+    fn memory(&mut self, id: u16, address: u64, length: MemoryLength) -> Result<(), AllocError>
+        ensures state { state_of self.new ≡ state_of self.old }
+        ensures output { OnOk result (self.new.output.items ≡
+            memory_text (state_of self.old) id address length.number) }
     {
         let mut room = [0; MAX_MEMORY_LENGTH as usize];
         let octets = &mut room[..usize::from(length.number)];
         match self.engine.memory(id, address, octets) {
-            Ok(()) => octets_text(alloc, id, address, octets),
-            Err(fault) => no_octets_text(alloc, id, address, fault),
+            Ok(()) => octets_text(id, address, octets, &mut self.output),
+            Err(fault) => no_octets_text(id, address, fault, &mut self.output),
         }
     }
 
     /// Does what a line says that needs no crew.
-    pub fn obey(&mut self, alloc: A, command: Command<A>) -> Result<Reply<A>, AllocError>
+    pub fn obey(&mut self, alloc: A, command: Command<A>) -> Result<Reply, AllocError>
         requires { IsSayable self.old.profile (meaning_of command) }
-        ensures effect { IfOk result (λ reply. effect_by (state_of self.new) reply ≡
+        ensures effect { IfOk result
+            (λ reply. effect_by (state_of self.new) self.new.output.items reply ≡
             effect_of (state_of self.old) (meaning_of command)) }
         ensures kept { IfOk result
             (λ reply. IsKept (state_of self.old) (state_of self.new) reply) }
     {
-        let printed = match command {
+        match command {
             Command::Work(shift) => return Ok(Reply::Work(shift)),
-            Command::Nothing => Ok(Vec::new(alloc)),
-            Command::Up(octets) => self.receive(alloc, octets.as_slice()),
-            Command::Send { flags, verb } => self.send(alloc, flags, verb),
+            Command::Nothing => self.output.clear(),
+            Command::Up(octets) => self.receive(alloc, octets.as_slice())?,
+            Command::Send { flags, verb } => self.send(alloc, flags, verb)?,
             Command::Time(time) => {
                 self.time = time;
-                Ok(Vec::new(alloc))
+                self.output.clear();
             }
             Command::Step { id, steps } => {
                 let slice = self.engine.slice(0, id, steps.number);
-                step_text(alloc, id, slice)
+                step_text(id, slice, &mut self.output)?;
             }
             Command::Break { id, place } => {
                 let answer = self.engine.set_break(0, id, place);
-                break_text(alloc, id, place, answer)
+                break_text(id, place, answer, &mut self.output)?;
             }
             Command::Unbreak { id, place } => {
                 let answer = self.engine.clear_break(0, id, place);
-                unbreak_text(alloc, id, place, answer)
+                unbreak_text(id, place, answer, &mut self.output)?;
             }
             Command::Trace { id, on } => {
                 let answer = self.engine.trace(0, id, on);
-                switch_text(alloc, id, on, answer)
+                switch_text(id, on, answer, &mut self.output)?;
             }
-            Command::Traces => self.traces(alloc),
-            Command::View(id) => self.view(alloc, id),
+            Command::Traces => self.traces()?,
+            Command::View(id) => self.view(id)?,
             Command::Memory {
                 id,
                 address,
                 length,
-            } => self.memory(alloc, id, address, length),
-            Command::Pool(index) => pool_text(alloc, index, self.engine.pool_word(index)),
-            Command::Journal => journal_text(alloc, self.engine.events()),
-            Command::Drain => self.drain(alloc),
-        };
-        Ok(Reply::Printed(printed?))
+            } => self.memory(id, address, length)?,
+            Command::Pool(index) => {
+                let word = self.engine.pool_word(index);
+                pool_text(index, word, &mut self.output)?;
+            }
+            Command::Journal => journal_text(self.engine.events(), &mut self.output)?,
+            Command::Drain => self.drain(alloc)?,
+        }
+        Ok(Reply::Printed)
     }
 
     /// The console after the crew's work, or none where the crew refused: then the engine is gone.
@@ -244,6 +243,7 @@ impl<A: Allocator + Copy> Console<A> {
             apid,
             time,
             count,
+            output,
         } = self;
         let engine = crew.work(engine, shift.workers, shift.budget, shift.turns)?;
         Ok(Console {
@@ -252,6 +252,7 @@ impl<A: Allocator + Copy> Console<A> {
             apid,
             time,
             count,
+            output,
         })
     }
 }

@@ -1,8 +1,9 @@
 //! What is printed of the debugger's commands.
 
-ghost use Rattle.std.specs.Prelude.{◌≡◌, Ok, Err, IfOk};
+ghost use Rattle.std.specs.Prelude.{◌≡◌, Ok, Err, OnOk};
 ghost use Rattle.ocp_console.specs.Texts.{ending_text, break_line, unbreak_line, switch_name, switch_line, memory_line};
 
+use crate::text::Text;
 use ocp_debug::{DebugFault, fault_name};
 use std::alloc::{AllocError, Allocator};
 
@@ -16,73 +17,100 @@ fn ending(word: &'static str, answer: Result<(), DebugFault>) -> &'static str
     }
 }
 
-/// The line of a breakpoint that is to be set.
+/// Writes the line of a breakpoint that is to be set.
 pub(crate) fn break_text<A: Allocator>(
-    alloc: A,
     id: u16,
     place: u16,
     answer: Result<(), DebugFault>,
-) -> Result<Vec<u8, A>, AllocError>
-    ensures { IfOk result (λ output. output.items ≡ break_line id place answer) }
+    output: &mut Vec<u8, A>,
+) -> Result<(), AllocError>
+    ensures { OnOk result (output.new.items ≡ break_line id place answer) }
 {
-    let ending = ending("set", answer);
-    let text = format!(in alloc; "break {id} {place} {ending}\n")?;
-    Ok(text.into_bytes())
+    let mut text = Text::new();
+    text.push(b"break ");
+    text.push_number(id);
+    text.push(b" ");
+    text.push_number(place);
+    text.push(b" ");
+    text.push(ending("set", answer).as_bytes());
+    text.push(b"\n");
+    text.write_to(output)
 }
 
-/// The line of a breakpoint that is to be cleared.
+/// Writes the line of a breakpoint that is to be cleared.
 pub(crate) fn unbreak_text<A: Allocator>(
-    alloc: A,
     id: u16,
     place: u16,
     answer: Result<(), DebugFault>,
-) -> Result<Vec<u8, A>, AllocError>
-    ensures { IfOk result (λ output. output.items ≡ unbreak_line id place answer) }
+    output: &mut Vec<u8, A>,
+) -> Result<(), AllocError>
+    ensures { OnOk result (output.new.items ≡ unbreak_line id place answer) }
 {
-    let ending = ending("cleared", answer);
-    let text = format!(in alloc; "unbreak {id} {place} {ending}\n")?;
-    Ok(text.into_bytes())
+    let mut text = Text::new();
+    text.push(b"unbreak ");
+    text.push_number(id);
+    text.push(b" ");
+    text.push_number(place);
+    text.push(b" ");
+    text.push(ending("cleared", answer).as_bytes());
+    text.push(b"\n");
+    text.write_to(output)
 }
 
-/// The line of a trace flag that is to be set or cleared.
+/// Writes the line of a trace flag that is to be set or cleared.
 pub(crate) fn switch_text<A: Allocator>(
-    alloc: A,
     id: u16,
     on: bool,
     answer: Result<(), DebugFault>,
-) -> Result<Vec<u8, A>, AllocError>
-    ensures { IfOk result (λ output. output.items ≡ switch_line id on answer) }
+    output: &mut Vec<u8, A>,
+) -> Result<(), AllocError>
+    ensures { OnOk result (output.new.items ≡ switch_line id on answer) }
 {
-    let ending = ending(if on { "on" } else { "off" }, answer);
-    let text = format!(in alloc; "trace {id} {ending}\n")?;
-    Ok(text.into_bytes())
+    let mut text = Text::new();
+    text.push(b"trace ");
+    text.push_number(id);
+    text.push(b" ");
+    text.push(ending(if on { "on" } else { "off" }, answer).as_bytes());
+    text.push(b"\n");
+    text.write_to(output)
 }
 
-/// The line of a procedure's octets from an address on.
+/// Writes the line of a procedure's octets from an address on.
 pub(crate) fn octets_text<A: Allocator + Copy>(
-    alloc: A,
     id: u16,
     address: u64,
     octets: &[u8],
-) -> Result<Vec<u8, A>, AllocError>
-    ensures { IfOk result (λ output. output.items ≡ memory_line id address (Ok octets.now)) }
+    output: &mut Vec<u8, A>,
+) -> Result<(), AllocError>
+    ensures { OnOk result (output.new.items ≡ memory_line id address (Ok octets.now)) }
 {
-    let place = hex::encode(alloc, address.to_be_bytes())?;
-    let digits = hex::encode(alloc, octets)?;
-    let text = format!(in alloc; "mem {id} 0x{place} {digits}\n")?;
-    Ok(text.into_bytes())
+    let mut text = Text::new();
+    text.push(b"mem ");
+    text.push_number(id);
+    text.push(b" 0x");
+    text.push_word(address);
+    text.push(b" ");
+    text.write_to(output)?;
+    let digits = hex::encode(*output.allocator(), octets)?;
+    output.extend_from_slice(digits.as_bytes())?;
+    output.push(b'\n')?;
+    Ok(())
 }
 
-/// The line of octets that cannot be read.
+/// Writes the line of octets that cannot be read.
 pub(crate) fn no_octets_text<A: Allocator>(
-    alloc: A,
     id: u16,
     address: u64,
     fault: DebugFault,
-) -> Result<Vec<u8, A>, AllocError>
-    ensures { IfOk result (λ output. output.items ≡ memory_line id address (Err fault)) }
+    output: &mut Vec<u8, A>,
+) -> Result<(), AllocError>
+    ensures { OnOk result (output.new.items ≡ memory_line id address (Err fault)) }
 {
-    let name = fault_name(fault);
-    let text = format!(in alloc; "mem {id} {name}\n")?;
-    Ok(text.into_bytes())
+    let mut text = Text::new();
+    text.push(b"mem ");
+    text.push_number(id);
+    text.push(b" ");
+    text.push(fault_name(fault).as_bytes());
+    text.push(b"\n");
+    text.write_to(output)
 }

@@ -12,6 +12,7 @@ mod script;
 mod sending;
 mod session;
 mod steps;
+mod text;
 mod texts;
 
 pub use crew::Crew;

@@ -1,10 +1,11 @@
 //! A run, line by line.
 
-ghost use Rattle.std.specs.Prelude.{◌≡◌, ◌≢◌, ◌<◌, ◌≤◌, ◌⊎◌, ◌++◌, ◌∷◌, [], true, false, vec_len, OnOk};
+ghost use Rattle.std.specs.Prelude.{◌≡◌, ◌<◌, ◌≤◌, ◌⊎◌, ◌++◌, ◌∷◌, [], true, vec_len, IfOk, IfSome, length, take, slice_index};
 ghost use Rattle.ocp_console.specs.Reading.{max_lines, max_line_octets};
 ghost use Rattle.ocp_console.specs.Mirror.Lines.{is_one_line};
 
 use crate::console::Console;
+use memchr::memchr;
 use std::alloc::{AllocError, Allocator};
 
 /// The most lines of a script.
@@ -25,6 +26,18 @@ pub(crate) struct Session<A: Allocator> {
     pub ghost few: { before ≤ max_lines },
 }
 
+/// How many octets stand before the first newline.
+fn line_length(octets: &[u8]) -> usize
+    ensures bound { result ≤ length octets.now }
+    ensures line { is_one_line (take result octets.now) ≡ true }
+    ensures newline { result < length octets.now → slice_index octets.now result ≡ 10 }
+{
+    match memchr(b'\n', octets) {
+        Some(length) => length,
+        None => octets.len(),
+    }
+}
+
 impl<A: Allocator> Session<A> {
     pub fn new(alloc: A, console: Console<A>) -> Session<A>
         ensures console { result.console ≡ console }
@@ -38,27 +51,44 @@ impl<A: Allocator> Session<A> {
         }
     }
 
-    /// Whether the octet goes on with its line: it does not end it, and lines and line have room
-    /// for it.
-    pub fn has_room(&self, octet: u8) -> bool
-        ensures yes { result ≡ true → (octet ≢ 10) × (self.now.before < max_lines)
-            × (vec_len self.now.line < max_line_octets) }
-        ensures no { result ≡ false → (octet ≡ 10) ⊎ (self.now.before ≡ max_lines)
-            ⊎ (vec_len self.now.line ≡ max_line_octets) }
+    /// The first of these lines and the octets behind its newline, where the session has nothing of
+    /// it, it ends in these octets, and lines and line have room for it.
+    pub fn whole_line<'a>(&self, octets: &'a [u8]) -> Option<(&'a [u8], &'a [u8])>
+        ensures parts { IfSome result
+            (λ found. octets.now ≡ found.0.now ++ 10 ∷ found.1.now) }
+        ensures line { IfSome result (λ found. is_one_line found.0.now ≡ true) }
+        ensures short { IfSome result (λ found. length found.0.now ≤ max_line_octets) }
+        ensures few { IfSome result (λ _. self.now.before < max_lines) }
+        ensures empty { IfSome result (λ _. self.now.line.items ≡ []) }
     {
-        octet != b'\n' && self.before != MAX_LINES && self.line.len() != MAX_LINE_OCTETS
+        if self.before == MAX_LINES || !self.line.is_empty() {
+            return None;
+        }
+        let count = line_length(octets);
+        if count == octets.len() || count > MAX_LINE_OCTETS {
+            return None;
+        }
+        Some((&octets[..count], &octets[count + 1..]))
     }
 
-    /// Takes an octet that goes on with its line.
-    pub fn push(&mut self, octet: u8) -> Result<(), AllocError>
-        requires octet { octet ≢ 10 }
-        requires few { self.old.before < max_lines }
-        requires short { vec_len self.old.line < max_line_octets }
+    /// Takes the octets that go on with the line, as far as lines and line have room for them, and
+    /// answers how many they are.
+    pub fn fill(&mut self, octets: &[u8]) -> Result<usize, AllocError>
         ensures console { self.new.console ≡ self.old.console }
         ensures before { self.new.before ≡ self.old.before }
-        ensures line { OnOk result (self.new.line.items ≡ self.old.line.items ++ octet ∷ []) }
+        ensures bound { IfOk result (λ count. count ≤ length octets.now) }
+        ensures room { IfOk result (λ count. 0 < count → self.old.before < max_lines) }
+        ensures line { IfOk result (λ count.
+            self.new.line.items ≡ self.old.line.items ++ take count octets.now) }
+        ensures end { IfOk result (λ count. count < length octets.now →
+            (slice_index octets.now count ≡ 10) ⊎ (self.new.before ≡ max_lines)
+            ⊎ (vec_len self.new.line ≡ max_line_octets)) }
     {
-        self.line.push(octet)?;
-        Ok(())
+        if self.before == MAX_LINES {
+            return Ok(0);
+        }
+        let count = line_length(octets).min(MAX_LINE_OCTETS - self.line.len());
+        self.line.extend_from_slice(&octets[..count])?;
+        Ok(count)
     }
 }

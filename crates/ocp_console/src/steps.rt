@@ -1,13 +1,13 @@
 //! The steps of a run.
 
-ghost use Rattle.std.specs.Prelude.{◌≡◌, ◌≢◌, ◌<◌, ◌≤◌, ◌+◌, ◌-◌, ◌^◌, ◌↔◌, ℕ, List, [], ◌∷◌, ◌++◌, ◌⊎◌, length, vec_len, Some, Ok, Err, IfOk, IsErrOf};
+ghost use Rattle.std.specs.Prelude.{◌≡◌, ◌≢◌, ◌<◌, ◌≤◌, ◌+◌, ◌-◌, ◌^◌, ◌↔◌, ℕ, List, [], ◌∷◌, ◌++◌, ◌⊎◌, length, vec_len, true, Some, Ok, Err, IfOk, IsErrOf};
 ghost use Rattle.ocp_console.specs.Answering.{state_of};
 ghost use Rattle.text_lines.specs.Lines.{Line, text_of, octets_of};
 ghost use Rattle.ocp_console.specs.Reading.{max_lines, max_line_octets};
 ghost use Rattle.ocp_console.specs.Crew.{crew_fault};
 ghost use Rattle.ocp_console.specs.Script.{FaultLine, Writes, PrintsBy};
 ghost use Rattle.ocp_console.specs.Mirror.Session.{Answers, after_line, rest_of, rest_with, octets_so_far};
-ghost use Rattle.ocp_console.specs.Mirror.Lines.{HasTaken, CountsWrites};
+ghost use Rattle.ocp_console.specs.Mirror.Lines.{HasTaken, TakesUpTo, CountsWrites, is_one_line};
 
 use crate::answering::answer;
 use crate::console::{Console, Reply};
@@ -84,8 +84,8 @@ fn line_answer<W: Sink, C: Crew<Engine<A>>, A: Allocator + Copy>(
             "Syntax",
             ConsoleFault::Syntax(before + 1),
         )),
-        Some(Reply::Printed(printed)) => {
-            write_whole(writer, printed.as_slice())?;
+        Some(Reply::Printed) => {
+            write_whole(writer, console.output.as_slice())?;
             Ok(None)
         }
         Some(Reply::Work(shift)) => Ok(Some(shift)),
@@ -111,7 +111,7 @@ fn work<W: Sink, C: Crew<Engine<A>>, A: Allocator + Copy>(
 {
     match console.work(crew, shift) {
         Ok(console) => {
-            let closed = work_text(alloc, shift.workers)?;
+            let closed = work_text(shift.workers);
             write_whole(writer, closed.as_slice())?;
             Ok(console)
         }
@@ -172,6 +172,76 @@ fn feed<W: Sink, C: Crew<Engine<A>>, A: Allocator + Copy>(
     Ok(asked)
 }
 
+/// Takes a whole line, which its newline ends.
+fn pass<W: Sink, C: Crew<Engine<A>>, A: Allocator + Copy>(
+    session: &mut Session<A>,
+    alloc: A,
+    crew: &C,
+    line: &[u8],
+    writer: &mut W,
+) -> Result<Option<Shift>, ConsoleFault>
+    requires device { W.failed_writes writer.old < 2 ^ 64 - 1 }
+    requires few { session.old.before < max_lines }
+    requires empty { session.old.line.items ≡ [] }
+    requires line { is_one_line line.now ≡ true }
+    requires short { length line.now ≤ max_line_octets }
+    ensures run { Answers (W.contents writer.old) (W.contents writer.new)
+        (λ more. rest_of (C.answers crew.now) session.old (line.now ++ 10 ∷ more))
+        (λ asked more. rest_with (C.answers crew.now) session.new asked more) result }
+    ensures line { session.new.line ≡ session.old.line }
+    ensures before { IfOk result (λ _. session.new.before ≡ session.old.before + 1) }
+    ensures count { CountsWrites (W.failed_writes writer.old) (W.failed_writes writer.new) result }
+    ensures no_read { IsErrOf result ConsoleFault.Read → ⊥ }
+{
+    let text = without_carriage_return(line);
+    let asked = line_answer(
+        alloc,
+        &mut session.console,
+        crew,
+        writer,
+        session.before,
+        text,
+    )?;
+    session.before += 1;
+    Ok(asked)
+}
+
+/// Takes octets up to the end of a line, or all of them where none ends: the octets that are left,
+/// and what the line asks of the crew.
+fn take_line<'a, W: Sink, C: Crew<Engine<A>>, A: Allocator + Copy>(
+    session: &mut Session<A>,
+    alloc: A,
+    crew: &C,
+    octets: &'a [u8],
+    writer: &mut W,
+) -> Result<(&'a [u8], Option<Shift>), ConsoleFault>
+    requires device { W.failed_writes writer.old < 2 ^ 64 - 1 }
+    requires some { octets.now ≢ [] }
+    ensures run { Answers (W.contents writer.old) (W.contents writer.new)
+        (λ more. rest_of (C.answers crew.now) session.old (octets.now ++ more))
+        (λ found more.
+        rest_with (C.answers crew.now) session.new found.1 (found.0.now ++ more)) result }
+    ensures shorter { IfOk result (λ found. length found.0.now < length octets.now) }
+    ensures taken { IfOk result (λ found. octets_so_far session.old + length octets.now
+        ≤ octets_so_far session.new + length found.0.now) }
+    ensures took { (front : List ℕ) → HasTaken session.old.before session.old.line.items front →
+        IfOk result (λ found. TakesUpTo session.new.before session.new.line.items
+        (front ++ octets.now) found.0.now) }
+    ensures count { CountsWrites (W.failed_writes writer.old) (W.failed_writes writer.new) result }
+    ensures no_read { IsErrOf result ConsoleFault.Read → ⊥ }
+{
+    if let Some((line, behind)) = session.whole_line(octets) {
+        let asked = pass(session, alloc, crew, line, writer)?;
+        return Ok((behind, asked));
+    }
+    let count = session.fill(octets)?;
+    let [octet, behind @ ..] = &octets[count..] else {
+        return Ok((&[], None));
+    };
+    let asked = feed(session, alloc, crew, *octet, writer)?;
+    Ok((behind, asked))
+}
+
 /// Has the crew do what a `work` line asks for, in the session.
 fn hand_over<W: Sink, C: Crew<Engine<A>>, A: Allocator + Copy>(
     session: Session<A>,
@@ -224,14 +294,12 @@ pub(crate) fn feed_all<W: Sink, C: Crew<Engine<A>>, A: Allocator + Copy>(
     ensures no_read { IsErrOf result ConsoleFault.Read → ⊥ }
 {
     let mut session = session;
-    for octet in octets {
-        if session.has_room(*octet) {
-            session.push(*octet)?;
-        } else {
-            match feed(&mut session, alloc, crew, *octet, writer)? {
-                None => {}
-                Some(shift) => session = hand_over(session, alloc, crew, shift, writer)?,
-            }
+    let mut rest = octets;
+    while !rest.is_empty() {
+        let (behind, asked) = take_line(&mut session, alloc, crew, rest, writer)?;
+        rest = behind;
+        if let Some(shift) = asked {
+            session = hand_over(session, alloc, crew, shift, writer)?;
         }
     }
     Ok(session)

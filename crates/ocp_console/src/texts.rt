@@ -1,49 +1,64 @@
 //! What is printed of reports, steps, the pool and the journal.
 
-ghost use Rattle.std.specs.Prelude.{◌≡◌, ◌≢◌, ◌++◌, IfOk, Err, string_bytes};
-ghost use Rattle.std.specs.Fmt.{decimal};
+ghost use Rattle.std.specs.Prelude.{◌≡◌, ◌≢◌, ◌≤◌, ◌++◌, Err, length, OnOk};
 ghost use Rattle.std.specs.List.{flat_map};
-ghost use Rattle.ocp_debug.specs.Texts.{outcome_text};
 ghost use Rattle.ocp_world.specs.After.{Requested};
 ghost use Rattle.ocp_console.specs.Answering.{answer_text};
+ghost use Rattle.ocp_console.specs.Mirror.Fronts.{front_line};
 ghost use Rattle.ocp_console.specs.Texts.{report_line, discard_name, discard_line, refusal_line, step_line, pool_line, journal_line, work_line};
 
-use ocp_core::{EngineFault, Reports, Slice, StepOutcome};
-use pus_fields::{Discard, read_tm};
+use crate::text::Text;
+use ocp_core::{EngineFault, Reports, Slice};
+use pus_fields::{Discard, Tm, read_tm};
 use std::alloc::{AllocError, Allocator};
 
-/// The line of a report.
-fn report_text<A: Allocator + Copy>(alloc: A, packet: &[u8]) -> Result<String<A>, AllocError>
-    ensures { IfOk result (λ text. string_bytes text ≡ report_line packet.now) }
+/// The front of the line of a report.
+fn front_of(tm: &Tm) -> Text
+    ensures { result ≡ front_line tm.now }
 {
-    let Ok(tm) = read_tm(packet) else {
-        return Ok(String::new(alloc));
-    };
-    let service = tm.service();
-    let subtype = tm.subtype();
-    let count = tm.count().number();
-    let destination = tm.destination();
-    let payload = hex::encode(alloc, tm.payload())?;
-    let text = format!(in alloc;
-        "tm {service} {subtype} seq {count} dest {destination} data {payload}\n"
-    )?;
-    Ok(text)
+    let mut text = Text::new();
+    text.push(b"tm ");
+    text.push_number(tm.service());
+    text.push(b" ");
+    text.push_number(tm.subtype());
+    text.push(b" seq ");
+    text.push_number(tm.count().number());
+    text.push(b" dest ");
+    text.push_number(tm.destination());
+    text.push(b" data ");
+    text
 }
 
-/// The lines of reports.
-fn reports_text<A: Allocator + Copy>(
-    alloc: A,
-    reports: &Reports<A>,
-) -> Result<Vec<u8, A>, AllocError>
-    ensures { IfOk result (λ output. output.items ≡ flat_map report_line reports.now) }
+/// Appends the line of a report.
+fn push_report<A: Allocator + Copy>(
+    packet: &[u8],
+    output: &mut Vec<u8, A>,
+) -> Result<(), AllocError>
+    ensures { OnOk result (output.new.items ≡ output.old.items ++ report_line packet.now) }
 {
-    let mut text = String::new(alloc);
+    let Ok(tm) = read_tm(packet) else {
+        return Ok(());
+    };
+    output.extend_from_slice(front_of(&tm).as_slice())?;
+    let payload = hex::encode(*output.allocator(), tm.payload())?;
+    output.extend_from_slice(payload.as_bytes())?;
+    output.push(b'\n')?;
+    Ok(())
+}
+
+/// Writes the lines of reports.
+fn reports_text<A: Allocator + Copy>(
+    reports: &Reports<A>,
+    output: &mut Vec<u8, A>,
+) -> Result<(), AllocError>
+    ensures { OnOk result (output.new.items ≡ flat_map report_line reports.now) }
+{
+    output.clear();
     let packets = reports.packets();
     for packet in packets {
-        let line = report_text(alloc, packet.as_slice())?;
-        text.push_str(line.as_str())?;
+        push_report(packet.as_slice(), output)?;
     }
-    Ok(text.into_bytes())
+    Ok(())
 }
 
 fn name_of_discard(why: Discard) -> &'static str
@@ -59,97 +74,107 @@ fn name_of_discard(why: Discard) -> &'static str
 }
 
 /// The line of a request or a drain that is refused for a reason of this name.
-fn refusal_text<A: Allocator>(alloc: A, name: &str) -> Result<Vec<u8, A>, AllocError>
-    ensures { IfOk result (λ output. output.items ≡ refusal_line name.now) }
+fn refusal_text(name: &str) -> Text
+    requires { length name.now ≤ 11 }
+    ensures { result ≡ refusal_line name.now }
 {
-    let text = format!(in alloc; "refused {name}\n")?;
-    Ok(text.into_bytes())
+    let mut text = Text::new();
+    text.push(b"refused ");
+    text.push(name.as_bytes());
+    text.push(b"\n");
+    text
 }
 
 /// The line of a packet that is discarded.
-fn discard_text<A: Allocator>(alloc: A, why: Discard) -> Result<Vec<u8, A>, AllocError>
-    ensures { IfOk result (λ output. output.items ≡ discard_line why) }
+fn discard_text(why: Discard) -> Text
+    ensures { result ≡ discard_line why }
 {
-    let name = name_of_discard(why);
-    let text = format!(in alloc; "discarded {name}\n")?;
-    Ok(text.into_bytes())
+    let mut text = Text::new();
+    text.push(b"discarded ");
+    text.push(name_of_discard(why).as_bytes());
+    text.push(b"\n");
+    text
 }
 
-/// The lines of a request or a drain with this answer.
+/// Writes the lines of a request or a drain with this answer.
 pub(crate) fn answer_text<A: Allocator + Copy>(
-    alloc: A,
     answer: Result<Reports<A>, EngineFault>,
-) -> Result<Vec<u8, A>, AllocError>
-    ensures lines { IfOk result (λ output. output.items ≡ answer_text (Requested answer)) }
-    ensures memory { IfOk result (λ output. answer ≢ Err EngineFault.Memory) }
+    output: &mut Vec<u8, A>,
+) -> Result<(), AllocError>
+    ensures lines { OnOk result (output.new.items ≡ answer_text (Requested answer)) }
+    ensures memory { OnOk result (answer ≢ Err EngineFault.Memory) }
 {
     match answer {
-        Ok(reports) => reports_text(alloc, &reports),
-        Err(EngineFault::Discarded(why)) => discard_text(alloc, why),
-        Err(EngineFault::NothingDue) => refusal_text(alloc, "NothingDue"),
-        Err(EngineFault::JournalFull) => refusal_text(alloc, "JournalFull"),
+        Ok(reports) => reports_text(&reports, output),
+        Err(EngineFault::Discarded(why)) => discard_text(why).write_to(output),
+        Err(EngineFault::NothingDue) => refusal_text("NothingDue").write_to(output),
+        Err(EngineFault::JournalFull) => refusal_text("JournalFull").write_to(output),
         Err(EngineFault::Memory) => Err(AllocError),
     }
 }
 
-fn text_of_outcome<A: Allocator>(alloc: A, outcome: StepOutcome) -> Result<String<A>, AllocError>
-    ensures { IfOk result (λ text. string_bytes text ≡ outcome_text outcome) }
-{
-    match outcome {
-        StepOutcome::Broke => String::from_str(alloc, "Broke"),
-        StepOutcome::Ran => String::from_str(alloc, "Ran"),
-        StepOutcome::Called => String::from_str(alloc, "Called"),
-        StepOutcome::Ended => String::from_str(alloc, "Ended"),
-        StepOutcome::Faulted(number) => format!(in alloc; "Faulted {number}"),
-        StepOutcome::NotLoaded => String::from_str(alloc, "NotLoaded"),
-        StepOutcome::NotRunning => String::from_str(alloc, "NotRunning"),
-        StepOutcome::JournalFull => String::from_str(alloc, "JournalFull"),
-    }
-}
-
-/// The line of some steps.
-pub(crate) fn step_text<A: Allocator + Copy>(
-    alloc: A,
+/// Writes the line of some steps.
+pub(crate) fn step_text<A: Allocator>(
     id: u16,
     slice: Slice,
-) -> Result<Vec<u8, A>, AllocError>
-    ensures { IfOk result (λ output. output.items ≡ step_line id slice.count slice.last) }
+    output: &mut Vec<u8, A>,
+) -> Result<(), AllocError>
+    ensures { OnOk result (output.new.items ≡ step_line id slice.count slice.last) }
 {
-    let outcome = text_of_outcome(alloc, slice.last)?;
-    let count = slice.count;
-    let text = format!(in alloc; "step {id} {count} {outcome}\n")?;
-    Ok(text.into_bytes())
+    let mut text = Text::new();
+    text.push(b"step ");
+    text.push_number(id);
+    text.push(b" ");
+    text.push_number(slice.count);
+    text.push(b" ");
+    text.push_outcome(slice.last);
+    text.push(b"\n");
+    text.write_to(output)
 }
 
-/// The line of a word of the pool.
-pub(crate) fn pool_text<A: Allocator + Copy>(
-    alloc: A,
+/// Writes the line of a word of the pool.
+pub(crate) fn pool_text<A: Allocator>(
     index: u64,
     word: Option<u64>,
-) -> Result<Vec<u8, A>, AllocError>
-    ensures { IfOk result (λ output. output.items ≡ pool_line index word) }
+    output: &mut Vec<u8, A>,
+) -> Result<(), AllocError>
+    ensures { OnOk result (output.new.items ≡ pool_line index word) }
 {
-    let Some(word) = word else {
-        let refusal = format!(in alloc; "pool {index} BadPoolIndex\n")?;
-        return Ok(refusal.into_bytes());
-    };
-    let digits = hex::encode(alloc, word.to_be_bytes())?;
-    let text = format!(in alloc; "pool {index} {digits}\n")?;
-    Ok(text.into_bytes())
+    let mut text = Text::new();
+    text.push(b"pool ");
+    text.push_number(index);
+    match word {
+        None => text.push(b" BadPoolIndex\n"),
+        Some(word) => {
+            text.push(b" ");
+            text.push_word(word);
+            text.push(b"\n");
+        }
+    }
+    text.write_to(output)
 }
 
-/// The line of a journal with so many events.
-pub(crate) fn journal_text<A: Allocator>(alloc: A, events: u64) -> Result<Vec<u8, A>, AllocError>
-    ensures { IfOk result (λ output. output.items ≡ journal_line events) }
+/// Writes the line of a journal with so many events.
+pub(crate) fn journal_text<A: Allocator>(
+    events: u64,
+    output: &mut Vec<u8, A>,
+) -> Result<(), AllocError>
+    ensures { OnOk result (output.new.items ≡ journal_line events) }
 {
-    let text = format!(in alloc; "journal {events}\n")?;
-    Ok(text.into_bytes())
+    let mut text = Text::new();
+    text.push(b"journal ");
+    text.push_number(events);
+    text.push(b"\n");
+    text.write_to(output)
 }
 
 /// The line of workers whose work was closed.
-pub(crate) fn work_text<A: Allocator>(alloc: A, workers: u16) -> Result<Vec<u8, A>, AllocError>
-    ensures { IfOk result (λ output. output.items ≡ work_line workers) }
+pub(crate) fn work_text(workers: u16) -> Text
+    ensures { result ≡ work_line workers }
 {
-    let text = format!(in alloc; "work {workers} closed\n")?;
-    Ok(text.into_bytes())
+    let mut text = Text::new();
+    text.push(b"work ");
+    text.push_number(workers);
+    text.push(b" closed\n");
+    text
 }

@@ -19,6 +19,12 @@ pub record HasTaken (before : ℕ) (line octets : List ℕ) : Type 0 where
   pub cut : (more : List ℕ) → lines_of (octets ++ more) ≡ done ++ lines_of (line ++ more)
   pub room : line ≢ [] → before < max_lines
 
+-- the octets are those that were taken, and those that are left
+pub record TakesUpTo (before : ℕ) (line octets left : List ℕ) : Type 0 where
+  pub front : List ℕ
+  pub parts : front ++ left ≡ octets
+  pub taken : HasTaken before line front
+
 -- the count of failed writes rose, just where the answer is `Write`
 abbrev pub CountsWrites : {T : Type 0} → ℕ → ℕ → Result T ConsoleFault → Type 0
 CountsWrites old new result =

@@ -5,7 +5,6 @@ use Rattle.text_lines.specs.Lines.{Line}
 use Rattle.ocp_ports.specs.declared.fault.ConsoleFault.{ConsoleFault}
 use Rattle.ocp_ports.specs.declared.fault.ConsoleFault.TheVariants as faults
 use Rattle.ocp_console.specs.Answering.{Does, Works, state_of, respond}
-use Rattle.ocp_console.specs.Mirror.Replies.{IsKept}
 use Rattle.ocp_console.proofs.Runs.{cut, no_command, command_done, command_cut, command_asked}
 use Rattle.ocp_console.proofs.steps.line_answer.Goals as goal
 
@@ -28,21 +27,21 @@ returns-in_err-write_whole-in-Some-Printed-clause-answers g c line same short =
     let crew = g.C.Crew.answers c.args._crew.now in
     let p = err_from_is_err_and c.from_residual-in_err-write_whole-in-Some-Printed.result c.from_residual-in_err-write_whole-in-Some-Printed.ensures.1 in
     let state = state_of c.args.console.now in
-    let text = c.in-Some-Printed.printed.items in
+    let text = c.answer.new.console.output.items in
     let next = state_of c.answer.new.console in
     let some : respond state c.args.text.now ≡ Some (Does (next, text)) = rw c.in-Some-Printed.field-0-is at (rw c.in-Some-Printed.is at c.in_ok-answer.ensures.effect) in
     rw (p.1, p.2) (command_cut (g.W.Sink.contents c.args.writer.now) (g.W.Sink.contents c.write_whole.new.writer) crew state next c.args.before line (Does (next, text)) text _ c.requires.few short (ap (respond state) same ∙ some) refl
-    (rw (c.as_slice.ensures.value, c.in-Some-Printed.field-0-is) at c.in_err-write_whole-in-Some-Printed.ensures.octets))
+    (rw c.as_slice.ensures.value at c.in_err-write_whole-in-Some-Printed.ensures.octets))
 
 pub returns-in_ok-write_whole-in-Some-Printed-clause-answers : goal.returns-in_ok-write_whole-in-Some-Printed-clause-answers
 returns-in_ok-write_whole-in-Some-Printed-clause-answers g c line same short =
     let crew = g.C.Crew.answers c.args._crew.now in
     let state = state_of c.args.console.now in
-    let text = c.in-Some-Printed.printed.items in
+    let text = c.answer.new.console.output.items in
     let next = state_of c.answer.new.console in
     let some : respond state c.args.text.now ≡ Some (Does (next, text)) = rw c.in-Some-Printed.field-0-is at (rw c.in-Some-Printed.is at c.in_ok-answer.ensures.effect) in (
       text,
-      rw (c.as_slice.ensures.value, c.in-Some-Printed.field-0-is) at c.in_ok-write_whole-in-Some-Printed.ensures.octets,
+      rw c.as_slice.ensures.value at c.in_ok-write_whole-in-Some-Printed.ensures.octets,
       λ (more : List Line) (later : List ℕ) (ending : Result Unit ConsoleFault) w.
           command_done crew state next c.args.before line more (Does (next, text)) text later ending c.requires.few short (ap (respond state) same ∙ some) refl w,
     )

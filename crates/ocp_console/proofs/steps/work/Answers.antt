@@ -1,29 +1,20 @@
-use Rattle.std.proofs.Common.{◌≡◌, ◌∷◌, ◌∙◌, [], List, ℕ, ap, Some, None, Result, Err, refl}
 use Rattle.std.proofs.lemmas.Result.{err_from_is_err_and}
-use Rattle.std.proofs.KnownBytes.{Appends-nil}
 use Rattle.ocp_ports.specs.declared.fault.ConsoleFault.TheVariants as faults
 use Rattle.ocp_console.specs.Answering.{state_of}
 use Rattle.ocp_console.specs.Texts.{work_line}
 use Rattle.ocp_console.proofs.Runs.{work_done, work_cut, work_refused}
 use Rattle.ocp_console.proofs.steps.work.Goals as goal
 
-pub returns-in_err-closed-in-Ok-clause-run : goal.returns-in_err-closed-in-Ok-clause-run
-returns-in_err-closed-in-Ok-clause-run g c before =
-    let p = err_from_is_err_and c.from_residual.result c.from_residual.ensures.1 in
-    let a = g.W.Sink.contents c.args.writer.now in
-    let text = work_line c.args.shift.workers in
-    rw (p.1, p.2) (work_cut a a (g.C.Crew.answers c.args.crew.now) (state_of c.args.console) (state_of c.in-Ok.console) before c.args.shift text faults.Memory (rw c.in-Ok.is at c.work.ensures.done) tt ([], text, refl, Appends-nil a))
-
 pub returns-in_err-write_whole-in-Ok-clause-run : goal.returns-in_err-write_whole-in-Ok-clause-run
 returns-in_err-write_whole-in-Ok-clause-run g c before =
-    let p = err_from_is_err_and c.from_residual-in_err-write_whole-in-Ok.result c.from_residual-in_err-write_whole-in-Ok.ensures.1 in
-    let h = rw (c.as_slice.ensures.value, c.in_ok-closed-in-Ok.ensures) at c.in_err-write_whole-in-Ok.ensures.octets in
+    let p = err_from_is_err_and c.from_residual.result c.from_residual.ensures.1 in
+    let h = rw (c.as_slice.ensures, c.work_text-closed.ensures) at c.in_err-write_whole-in-Ok.ensures.octets in
     rw (p.1, p.2, h.0) (work_cut (g.W.Sink.contents c.args.writer.now) (g.W.Sink.contents c.write_whole.new.writer) (g.C.Crew.answers c.args.crew.now) (state_of c.args.console) (state_of c.in-Ok.console) before c.args.shift (work_line c.args.shift.workers) faults.Write (rw c.in-Ok.is at c.work.ensures.done) tt h.1)
 
 pub returns-in_ok-write_whole-in-Ok-clause-run : goal.returns-in_ok-write_whole-in-Ok-clause-run
 returns-in_ok-write_whole-in-Ok-clause-run g c before =
     work_done (g.W.Sink.contents c.args.writer.now) (g.W.Sink.contents c.write_whole.new.writer) (g.C.Crew.answers c.args.crew.now) (state_of c.args.console) (state_of c.in-Ok.console) before c.args.shift (work_line c.args.shift.workers) (rw c.in-Ok.is at c.work.ensures.done)
-    (rw (c.as_slice.ensures.value, c.in_ok-closed-in-Ok.ensures) at c.in_ok-write_whole-in-Ok.ensures.octets)
+    (rw (c.as_slice.ensures, c.work_text-closed.ensures) at c.in_ok-write_whole-in-Ok.ensures.octets)
 
 pub returns-in-Err-clause-run : goal.returns-in-Err-clause-run
 returns-in-Err-clause-run g c before =
