@@ -10,7 +10,7 @@ use Rattle.text_lines.specs.Lines.{Line, Ended, Open, octets_of, text_of, lines_
 use Rattle.ocp_ports.specs.declared.fault.ConsoleFault.{ConsoleFault}
 use Rattle.ocp_ports.specs.declared.fault.ConsoleFault.TheVariants as faults
 use Rattle.ocp_ports.specs.Printing.{PrintsPrefix}
-use Rattle.ocp_console.specs.declared.refusal.CrewFault.{CrewFault}
+use Rattle.ocp_ports.specs.declared.crew.CrewFault.{CrewFault}
 use Rattle.ocp_lines.specs.declared.command.Shift.{Shift}
 use Rattle.ocp_console.specs.Answering.{State, Effect, Works, respond}
 use Rattle.ocp_console.specs.Crew.{CrewAnswers, HasDone, HasRefused, crew_fault}

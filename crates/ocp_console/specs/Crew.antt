@@ -3,8 +3,8 @@ use Rattle.std.specs.Prelude.{◌≡◌, ℕ, List, Result, Ok, Err}
 use Rattle.ocp_core.specs.Log.{Log}
 use Rattle.ocp_ports.specs.declared.fault.ConsoleFault.{ConsoleFault}
 use Rattle.ocp_ports.specs.declared.fault.ConsoleFault.TheVariants as faults
-use Rattle.ocp_console.specs.declared.refusal.CrewFault.{CrewFault}
-use Rattle.ocp_console.specs.declared.refusal.CrewFault.TheVariants as refusal
+use Rattle.ocp_ports.specs.declared.crew.CrewFault.{CrewFault}
+use Rattle.ocp_ports.specs.declared.crew.CrewFault.TheVariants as refusal
 use Rattle.ocp_console.specs.Answering.{State, Effect, Does, Works}
 use Rattle.ocp_console.specs.Texts.{work_line}
 

@@ -9,7 +9,7 @@ use Rattle.ocp_ports.specs.declared.fault.ConsoleFault.TheVariants as faults
 use Rattle.ocp_ports.specs.Printing.{PrintsPrefix, error_line}
 use Rattle.ocp_words.specs.declared.job.Settings.{Settings}
 use Rattle.ocp_lines.specs.Grammar.{Work, command_of}
-use Rattle.ocp_console.specs.declared.refusal.CrewFault.{CrewFault}
+use Rattle.ocp_ports.specs.declared.crew.CrewFault.{CrewFault}
 use Rattle.ocp_console.specs.Answering.{State, Effect, Does, Works, opening, respond}
 use Rattle.ocp_console.specs.Crew.{CrewAnswers, HasDone, HasRefused, crew_fault}
 use Rattle.ocp_console.specs.Reading.{max_lines, max_line_octets}

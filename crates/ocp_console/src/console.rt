@@ -5,15 +5,14 @@ ghost use Rattle.space_packet.specs.declared.range.TheConstants.{IDLE_APID};
 ghost use Rattle.pus_fields.specs.declared.writing.TheConstants.{MAX_TELECOMMAND_DATA};
 ghost use Rattle.obcp_messages.specs.Request.{HasFittingBudget, request_data};
 
-use crate::crew::Crew;
 use crate::debugging::{break_text, no_octets_text, octets_text, switch_text, unbreak_text};
-use crate::refusal::CrewFault;
 use crate::sending::telecommand;
 use crate::texts::{answer_text, journal_text, pool_text, step_text};
 use obcp_messages::{Arguments, Code, Request, Words};
 use ocp_core::Engine;
 use ocp_debug::view_text;
 use ocp_lines::{Command, Flags, MAX_MEMORY_LENGTH, MemoryLength, Shift, Verb};
+use ocp_ports::{Crew, CrewFault};
 use ocp_profile::Profile;
 use ocp_words::Settings;
 use space_packet::{Apid, SequenceCount};

@@ -4,10 +4,8 @@
 
 mod answering;
 mod console;
-mod crew;
 mod debugging;
 pub mod laws;
-mod refusal;
 mod script;
 mod sending;
 mod session;
@@ -15,9 +13,7 @@ mod steps;
 mod text;
 mod texts;
 
-pub use crew::Crew;
 pub use ocp_commands::{asm, list};
-pub use ocp_ports::{ConsoleFault, Device, Sink, Source};
+pub use ocp_ports::{ConsoleFault, Crew, CrewFault, Device, Sink, Source};
 pub use ocp_words::{Job, Settings, WordsFault, not_utf8, read_words};
-pub use refusal::CrewFault;
 pub use script::run;

@@ -6,11 +6,10 @@ ghost use Rattle.ocp_console.specs.Reading.{IsWithin};
 ghost use Rattle.ocp_console.specs.Script.{IsWorkless, Prints, PrintsBy, WritesScript, transcript};
 
 use crate::console::Console;
-use crate::crew::Crew;
 use crate::session::Session;
 use crate::steps::{feed_all, finish};
 use ocp_core::Engine;
-use ocp_ports::{CHUNK, ConsoleFault, Sink, Source};
+use ocp_ports::{CHUNK, ConsoleFault, Crew, Sink, Source};
 use ocp_words::Settings;
 use std::alloc::Allocator;
 

@@ -11,13 +11,11 @@ ghost use Rattle.ocp_console.specs.Mirror.Lines.{HasTaken, TakesUpTo, CountsWrit
 
 use crate::answering::answer;
 use crate::console::{Console, Reply};
-use crate::crew::Crew;
-use crate::refusal::CrewFault;
 use crate::session::{MAX_LINES, Session};
 use crate::texts::work_text;
 use ocp_core::Engine;
 use ocp_lines::Shift;
-use ocp_ports::{ConsoleFault, Sink, error_text, write_whole};
+use ocp_ports::{ConsoleFault, Crew, CrewFault, Sink, error_text, write_whole};
 use std::alloc::Allocator;
 use text_lines::without_carriage_return;
 

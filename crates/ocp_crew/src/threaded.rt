@@ -4,8 +4,8 @@ ghost use Rattle.std.specs.Prelude.{◌≤◌, IfOk};
 ghost use Rattle.std.specs.Thread.{IsSync};
 ghost use Rattle.ocp_slices.specs.Closed.{HasWorked};
 
-use ocp_console::{Crew, CrewFault};
 use ocp_core::Engine;
+use ocp_ports::{Crew, CrewFault};
 use ocp_slices::{Open, WorkFault, work};
 use std::alloc::Global;
 use std::sync::Wait;

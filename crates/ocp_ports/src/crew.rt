@@ -1,9 +1,10 @@
 //! Who does the work of a `work` line.
 
-ghost use Rattle.std.specs.Prelude.{◌≤◌, ℕ, Result};
-ghost use Rattle.ocp_console.specs.declared.refusal.CrewFault.{CrewFault};
+ghost use Rattle.std.specs.Prelude.{◌≡◌, ◌≤◌, ℕ, Result};
+ghost use Rattle.ocp_ports.specs.declared.crew.CrewFault.{CrewFault};
+ghost use Rattle.ocp_ports.specs.declared.crew.CrewFault.TheVariants.{Memory};
 
-use crate::refusal::CrewFault;
+use std::alloc::AllocError;
 
 /// Who does the work of a `work` line, on engines of the type `E`.
 pub trait Crew<E> {
@@ -21,4 +22,21 @@ pub trait Crew<E> {
         requires some { 1 ≤ workers }
         requires few { workers ≤ 16 }
         ensures { answers self.now engine workers budget turns result };
+}
+
+/// Why a crew gave no engine back.
+#[derive(Clone, Copy, Debug)]
+pub enum CrewFault {
+    /// Memory ran out.
+    Memory,
+    /// The work could not be closed.
+    Workers,
+}
+
+impl From<AllocError> for CrewFault {
+    ghost from_gives = { λ _ e. e ≡ Memory };
+
+    fn from(_e: AllocError) -> CrewFault {
+        CrewFault::Memory
+    }
 }
