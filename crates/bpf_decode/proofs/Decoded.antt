@@ -18,7 +18,7 @@ use Rattle.bpf_decode.proofs.Only.{found_at, wide_length}
 not_ten : (n : ℕ) → n ≢ 10 → (n == 10) ≡ false
 not_ten n h = grind (arith, nat_tests)
 
-not_written : (l : Line) → ¬ WritesFramePointer l → writes_frame_pointer l ≡ false
+pub not_written : (l : Line) → ¬ WritesFramePointer l → writes_frame_pointer l ≡ false
 not_written (line.Arithmetic width operation dst operand) h = not_ten dst h
 not_written (line.Negate width dst) h = not_ten dst h
 not_written (line.MoveExtended extension dst src) h = not_ten dst h
@@ -71,7 +71,7 @@ decoded_of octets l b n = result_of octets l b false (not_written l n)
 is_ten : (n : ℕ) → n ≡ 10 → (n == 10) ≡ true
 is_ten n h = grind (arith, nat_tests)
 
-is_written : (l : Line) → WritesFramePointer l → writes_frame_pointer l ≡ true
+pub is_written : (l : Line) → WritesFramePointer l → writes_frame_pointer l ≡ true
 is_written (line.Arithmetic width operation dst operand) h = is_ten dst h
 is_written (line.Negate width dst) h = is_ten dst h
 is_written (line.MoveExtended extension dst src) h = is_ten dst h

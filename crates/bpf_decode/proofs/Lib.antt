@@ -7,4 +7,5 @@ pub mod Only
 mod FirstFault
 mod KnownLine
 pub mod Decoded
+mod Sound
 mod Total

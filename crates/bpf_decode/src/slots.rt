@@ -1,5 +1,4 @@
-//! The fields of the slots of an image.
-// Instructions among the octets of code.
+//! Instructions among the octets of an image.
 ghost use Rattle.std.specs.Prelude.{◌≡◌, ◌≢◌, ◌≤◌, ◌<◌, ◌+◌, ◌*◌, ◌/◌, ◌%◌, ◌⊎◌, length, drop, take, IfOk, IfErr, IfSome, IfNone, Ok, Err, IsTrue, slice_index};
 ghost use Rattle.bpf_decode.specs.declared.fault.DecodeFault.{DecodeFault};
 ghost use Rattle.bpf_decode.specs.Mirror.Codes.{is_opcode};
@@ -7,7 +6,6 @@ ghost use Rattle.bpf_types.specs.declared.line.Line.{Line};
 ghost use Rattle.bpf_types.specs.Line.{first_slot, second_slot, spelling, WritesFramePointer};
 ghost use Rattle.bpf_decode.specs.Mirror.Decoding.{raw_fields, high_in, wide_at, line_at, fields_in, permitted_line, spelling_in, decode_result};
 ghost use Rattle.bpf_decode.specs.Decoding.{BeginsWith, HasBadRegister};
-ghost use Rattle.bpf_decode.specs.Mirror.Rows.{IsSpelling};
 ghost use Rattle.bpf_decode.specs.Faults.{IsFirst};
 
 use crate::codes::is_known;
@@ -22,9 +20,7 @@ const WIDE: u8 = 0x18;
 fn fields_at(octets: &[u8]) -> Option<Fields>
     requires { 8 ≤ length octets.now }
     ensures exact { result ≡ fields_in octets.now }
-    ensures found { IfSome result (λ fields. fields ≡ raw_fields octets.now) }
-    ensures registers { IfSome result (λ fields. (fields.dst ≤ 10) × (fields.src ≤ 10)) }
-    ensures none { IfNone result (HasBadRegister octets.now) }
+    ensures opcode { IfSome result (λ fields. fields.opcode ≡ slice_index octets.now 0) }
 {
     let dst = Reg::new(octets[1] % 16)?;
     let src = Reg::new(octets[1] / 16)?;
@@ -69,56 +65,20 @@ fn wide_of(fields: Fields, octets: &[u8]) -> Option<Line>
 /// The instruction of these fields, which are those of the octets' first slot.
 fn line_of(fields: Fields, octets: &[u8]) -> Option<Line>
     requires { fields.opcode ≡ 0x18 → 16 ≤ length octets.now }
-    ensures exact { result ≡ line_at fields octets.now }
-    ensures short { IfSome result (λ l. fields.opcode ≢ 0x18 → IsSpelling fields l) }
+    ensures { result ≡ line_at fields octets.now }
 {
     if fields.opcode == WIDE {
         wide_of(fields, octets)
     } else {
-        short_of(fields)
+        short_of(&fields)
     }
 }
 
-/// The instruction, unless it writes R10.
-fn permitted_line(line: Line) -> Result<Line, DecodeFault>
-    ensures exact { result ≡ permitted_line line }
-    ensures ok { IfOk result (λ r. (r ≡ line) × ¬ WritesFramePointer line) }
-    ensures err { IfErr result
-        (λ e. (e ≡ DecodeFault.WritesFramePointer) × WritesFramePointer line) }
-{
-    let copied = line;
-    if copied.writes_frame_pointer() {
-        Err(DecodeFault::WritesFramePointer)
-    } else {
-        Ok(line)
-    }
-}
-
-/// The instruction that the octets begin with, where its opcode is known and its slots are there.
-fn decode_known(octets: &[u8]) -> Result<Line, DecodeFault>
-    requires room { 8 ≤ length octets.now }
-    requires wide { slice_index octets.now 0 ≡ 0x18 → 16 ≤ length octets.now }
-    requires known { IsTrue (is_opcode (slice_index octets.now 0)) }
-    ensures exact { result ≡ spelling_in (fields_in octets.now) octets.now }
-    ensures ok { IfOk result (λ line. BeginsWith octets.now line × ¬ WritesFramePointer line) }
-    ensures err { IfErr result (λ fault. IsFirst fault octets.now) }
-{
-    match fields_at(octets) {
-        Some(fields) => match line_of(fields, octets) {
-            Some(line) => permitted_line(line),
-            None => Err(DecodeFault::ReservedField),
-        },
-        None => Err(DecodeFault::BadRegister),
-    }
-}
-
-/// The instruction that the octets begin with.
+/// The instruction that the octets begin with, or their first fault.
 #[tactic(auto, unfolding(crate::specs::Mirror::Decoding::decode_result))]
 fn decode(octets: &[u8]) -> Result<Line, DecodeFault>
     requires { 8 ≤ length octets.now }
-    ensures exact { result ≡ decode_result octets.now }
-    ensures ok { IfOk result (λ line. BeginsWith octets.now line × ¬ WritesFramePointer line) }
-    ensures err { IfErr result (λ fault. IsFirst fault octets.now) }
+    ensures { result ≡ decode_result octets.now }
 {
     let opcode = octets[0];
     if opcode == WIDE && octets.len() < 16 {
@@ -127,20 +87,12 @@ fn decode(octets: &[u8]) -> Result<Line, DecodeFault>
     if !is_known(opcode) {
         return Err(DecodeFault::UnknownOpcode);
     }
-    decode_known(octets)
-}
-
-/// The instruction that the octets begin with, and no other.
-fn decode_octets(octets: &[u8]) -> Result<Line, DecodeFault>
-    requires { 8 ≤ length octets.now }
-    ensures exact { result ≡ decode_result octets.now }
-    ensures ok { IfOk result (λ line. BeginsWith octets.now line × ¬ WritesFramePointer line) }
-    ensures only { (line : Line) → BeginsWith octets.now line → ¬ WritesFramePointer line →
-        result ≡ Ok line }
-    ensures err { IfErr result (λ fault. IsFirst fault octets.now) }
-    ensures first { (fault : DecodeFault) → IsFirst fault octets.now → result ≡ Err fault }
-{
-    decode(octets)
+    let fields = fields_at(octets).ok_or(DecodeFault::BadRegister)?;
+    match line_of(fields, octets) {
+        Some(line) if line.writes_frame_pointer() => Err(DecodeFault::WritesFramePointer),
+        Some(line) => Ok(line),
+        None => Err(DecodeFault::ReservedField),
+    }
 }
 
 /// The instruction at a slot, counted in slots of 8 octets (RFC 9669, section 3).
@@ -158,5 +110,5 @@ pub fn decode_at(code: &[u8], slot: usize) -> Result<Line, DecodeFault>
     ensures first { (fault : DecodeFault) → IsFirst fault (drop (8 * slot) code.now) →
         result ≡ Err fault }
 {
-    decode_octets(&code[8 * slot..])
+    decode(&code[8 * slot..])
 }

@@ -1,36 +1,49 @@
--- What the parts of an opcode stand for, by the tables of RFC 9669, sections 4 and 5.
-use Rattle.std.specs.Prelude.{ℕ, ◌/◌, ◌%◌, Bool, false, ◌&&◌, ◌||◌, not, nat_le, ◌==◌, if◌then◌else◌, Option, Some, None}
+-- What the parts of an opcode stand for: the one whose code in the instruction table they are.
+use Rattle.std.specs.Prelude.{ℕ, ◌/◌, ◌%◌, ℤ, List, [], ◌∷◌, Bool, false, ◌&&◌, ◌||◌, not, nat_le, ◌==◌, if◌then◌else◌, Option, Some, None}
+use Rattle.std.specs.Ordering.{int_eq}
 use Rattle.bpf_types.specs.declared.line.Operation.{Operation}
 use Rattle.bpf_types.specs.declared.line.Operation.TheVariants as op
 use Rattle.bpf_types.specs.declared.line.Comparison.{Comparison}
 use Rattle.bpf_types.specs.declared.line.Comparison.TheVariants as comparison
+use Rattle.bpf_types.specs.declared.line.Order.{Order}
+use Rattle.bpf_types.specs.declared.line.Order.TheVariants as order
 use Rattle.bpf_types.specs.declared.line.Size.{Size}
 use Rattle.bpf_types.specs.declared.line.Size.TheVariants as size
 use Rattle.bpf_types.specs.declared.line.SignedSize.{SignedSize}
 use Rattle.bpf_types.specs.declared.line.SignedSize.TheVariants as signed_size
+use Rattle.bpf_types.specs.Line.{code_of, offset_of, comparison_code, order_opcode, size_code, signed_size_code}
 
--- the unsigned operation of a code, the high four bits of an arithmetic opcode (RFC 9669,
--- section 4.1)
-abbrev pub operation_at : ℕ → Option Operation
-operation_at n =
-    if n == 0 then Some op.Add else if n == 1 then Some op.Sub else if n == 2 then Some op.Mul
-    else if n == 3 then Some op.Div
-    else if n == 4 then Some op.Or else if n == 5 then Some op.And else if n == 6 then Some op.Lsh
-    else if n == 7 then Some op.Rsh
-    else if n == 9 then Some op.Mod else if n == 10 then Some op.Xor
-    else if n == 11 then Some op.Mov else if n == 12 then Some op.Arsh else None
+-- the first element that passes a test
+abbrev pub first : {A : Type 0} → (A → Bool) → List A → Option A
+first test [] = None
+first test (x ∷ xs) = if test x then Some x else first test xs
 
--- the test of a code, the high four bits of a jump's opcode (RFC 9669, section 4.3)
+-- the operation of a code, the high four bits of an arithmetic opcode, and an offset field
+abbrev pub operation_at : ℕ → ℤ → Option Operation
+operation_at n offset = first (λ o. (n == code_of o) && int_eq offset (offset_of o))
+    (op.Add ∷ op.Sub ∷ op.Mul ∷ op.Div ∷ op.SignedDiv ∷ op.Or ∷ op.And ∷ op.Lsh ∷ op.Rsh ∷ op.Mod
+    ∷ op.SignedMod ∷ op.Xor ∷ op.Mov ∷ op.Arsh ∷ [])
+
+-- the test of a code, the high four bits of a jump's opcode
 abbrev pub comparison_at : ℕ → Option Comparison
-comparison_at n =
-    if n == 1 then Some comparison.Equal else if n == 2 then Some comparison.Greater
-    else if n == 3 then Some comparison.GreaterOrEqual
-    else if n == 4 then Some comparison.Set else if n == 5 then Some comparison.NotEqual
-    else if n == 6 then Some comparison.SignedGreater
-    else if n == 7 then Some comparison.SignedGreaterOrEqual
-    else if n == 10 then Some comparison.Less else if n == 11 then Some comparison.LessOrEqual
-    else if n == 12 then Some comparison.SignedLess
-    else if n == 13 then Some comparison.SignedLessOrEqual else None
+comparison_at n = first (λ c. n == comparison_code c)
+    (comparison.Equal ∷ comparison.Greater ∷ comparison.GreaterOrEqual ∷ comparison.Set
+    ∷ comparison.NotEqual ∷ comparison.SignedGreater ∷ comparison.SignedGreaterOrEqual
+    ∷ comparison.Less ∷ comparison.LessOrEqual ∷ comparison.SignedLess
+    ∷ comparison.SignedLessOrEqual ∷ [])
+
+-- the byte order instruction of an opcode
+abbrev pub order_at : ℕ → Option Order
+order_at n = first (λ o. n == order_opcode o) (order.Little ∷ order.Big ∷ order.Swap ∷ [])
+
+-- the size of a load or a store by its two bits
+abbrev pub size_at : ℕ → Option Size
+size_at n = first (λ s. n == size_code s) (size.Word ∷ size.Half ∷ size.Byte ∷ size.Double ∷ [])
+
+-- the size of a load that extends the sign by the same bits
+abbrev pub signed_size_at : ℕ → Option SignedSize
+signed_size_at n =
+    first (λ s. n == signed_size_code s) (signed_size.Word ∷ signed_size.Half ∷ signed_size.Byte ∷ [])
 
 -- the number lies between two others, or is one of them
 abbrev pub is_within : ℕ → ℕ → ℕ → Bool
@@ -58,16 +71,3 @@ known_digits low code =
 -- some row has this opcode
 abbrev pub is_opcode : ℕ → Bool
 is_opcode n = known_digits (n % 16) (n / 16)
-
--- the size of a load or a store by its two bits (RFC 9669, section 5)
-abbrev pub size_at : ℕ → Size
-size_at n =
-    if n == 0 then size.Word else if n == 1 then size.Half else if n == 2 then size.Byte
-    else size.Double
-
--- the size of a load that extends the sign: any but 8 octets (RFC 9669, section 5.2)
-abbrev pub signed_size_at : Size → Option SignedSize
-signed_size_at size.Word = Some signed_size.Word
-signed_size_at size.Half = Some signed_size.Half
-signed_size_at size.Byte = Some signed_size.Byte
-signed_size_at size.Double = None
