@@ -7,8 +7,9 @@ ghost use Rattle.bpf_decode.specs.Decoding.{BeginsWith};
 ghost use Rattle.bpf_decode.specs.Faults.{IsFirst};
 ghost use Rattle.bpf_listing.specs.Canonical.{canonical};
 ghost use Rattle.bpf_listing.specs.Listing.{IsListed, IsImageOf, NoneWritesFramePointer, IsFaultOf, IsNextFault, NeedsMore, LacksRoom, listing};
+ghost use Rattle.bpf_listing.specs.Mirror.Measured.{IsMeasured};
 
-use crate::writing::text_of;
+use crate::text::Text;
 use bpf_decode::{DecodeFault, decode_at, instructions_are_unique};
 use bpf_types::Line;
 use std::alloc::Allocator;
@@ -25,10 +26,15 @@ pub enum DisassembleFault {
     Memory,
 }
 
-/// Appends the line of the instruction at a slot, and gives how many slots it has.
+/// No line is longer, with its newline.
+const LONGEST_LINE: u128 = 49;
+
+/// Appends the line of the instruction at a slot, and gives how many slots it has. The text is
+/// room for the line.
 fn write_next<A: Allocator>(
     code: &[u8],
     slot: usize,
+    text: &mut Text,
     out: &mut Vec<u8, A>,
 ) -> Result<usize, DisassembleFault>
     requires { 8 * slot + 8 ≤ length code.now }
@@ -37,52 +43,49 @@ fn write_next<A: Allocator>(
         × (¬ WritesFramePointer line) × (8 * slots ≡ length (spelling line))
         × (out.new.items ≡ out.old.items ++ (canonical line ++ codes "\n"))) }
     ensures few { IfOk result (λ slots. (1 ≤ slots) × (slots ≤ 2)) }
+    ensures short { IfOk result
+        (λ slots. length out.new.items ≤ length out.old.items + 49 * slots) }
     ensures err { OnErr result (out.new.items ≡ out.old.items) }
     ensures decode { IfErr result (IsNextFault slot (drop (8 * slot) code.now)) }
     ensures memory { IsErrOf result DisassembleFault.Memory →
         NeedsMore (drop (8 * slot) code.now) (vec_capacity out.old) (length out.old.items) }
+    ensures full { IsErrOf result DisassembleFault.Memory →
+        vec_capacity out.old < length out.old.items + 49 }
     ensures capacity { vec_capacity out.old ≤ vec_capacity out.new }
 {
     let line = match decode_at(code, slot) {
         Ok(line) => line,
         Err(fault) => return Err(DisassembleFault::Decode(fault, slot)),
     };
-    let copied = line;
-    let mut text = text_of(copied);
-    text.push_all(b"\n");
+    text.write_line(&line);
     match out.extend_from_slice(text.as_slice()) {
         Ok(()) => Ok(usize::from(line.slots())),
         Err(_) => Err(DisassembleFault::Memory),
     }
 }
 
-/// How many slots the instruction at a slot has, and how many octets its line.
-fn next_len(code: &[u8], slot: usize) -> Result<(usize, usize), DisassembleFault>
-    requires { 8 * slot + 8 ≤ length code.now }
-    ensures ok { IfOk result
-        (λ next. (line : Line) × BeginsWith (drop (8 * slot) code.now) line
-        × (¬ WritesFramePointer line) × (8 * next.0 ≡ length (spelling line))
-        × (next.1 ≡ length (canonical line ++ codes "\n"))) }
-    ensures few { IfOk result (λ next. (1 ≤ next.0) × (next.0 ≤ 2)) }
-    ensures short { IfOk result (λ next. next.1 ≤ 64) }
-    ensures decode { IfErr result (λ e. (e ≢ DisassembleFault.Memory) ×
-        IsNextFault slot (drop (8 * slot) code.now) e) }
+/// How many octets the line of an instruction has; or, where they are not counted, how many a line
+/// has at most, for each of its slots.
+fn line_len(line: &Line, counted: bool) -> u128
+    ensures counted { IsTrue counted → result ≡ length (canonical line.now ++ codes "\n") }
+    ensures most { IsFalse counted → 8 * result ≡ 49 * length (spelling line.now) }
+    ensures few { result ≤ 98 }
 {
-    match decode_at(code, slot) {
-        Ok(line) => {
-            let copied = line;
-            let len = text_of(copied).as_slice().len() + 1;
-            Ok((usize::from(line.slots()), len))
-        }
-        Err(fault) => Err(DisassembleFault::Decode(fault, slot)),
+    if counted {
+        let mut text = Text::new();
+        text.write_line(line);
+        text.as_slice().len() as u128
+    } else {
+        LONGEST_LINE * u128::from(line.slots())
     }
 }
 
-/// How many octets the listing of an image has.
-fn listing_len(code: &[u8]) -> Result<u128, DisassembleFault>
+/// How many octets the listing of an image has; or, where they are not counted, how many it has at
+/// most.
+fn listing_len(code: &[u8], counted: bool) -> Result<u128, DisassembleFault>
     requires { length code.now % 8 ≡ 0 }
-    ensures ok { IfOk result
-        (λ len. (text : List ℕ) × IsListed code.now [] text × (len ≡ length text)) }
+    ensures ok { IfOk result (IsMeasured code.now counted) }
+    ensures most { IfOk result (λ len. IsFalse counted → 49 * length code.now ≤ 8 * len) }
     ensures fault { IfErr result (λ e. (e ≢ DisassembleFault.Ragged)
         × (e ≢ DisassembleFault.Memory) × IsFaultOf code.now e) }
 {
@@ -90,9 +93,13 @@ fn listing_len(code: &[u8]) -> Result<u128, DisassembleFault>
     let mut slot = 0;
     let mut len = 0;
     while slot < slots {
-        let next = next_len(code, slot)?;
-        len += next.1 as u128;
-        slot += next.0;
+        match decode_at(code, slot) {
+            Ok(line) => {
+                len += line_len(&line, counted);
+                slot += usize::from(line.slots());
+            }
+            Err(fault) => return Err(DisassembleFault::Decode(fault, slot)),
+        }
     }
     Ok(len)
 }
@@ -108,13 +115,16 @@ fn write_lines<A: Allocator>(code: &[u8], out: &mut Vec<u8, A>) -> Result<(), Di
         vec_capacity out.old < length (out.old.items ++ listing lines) }
     ensures room { IsErrOf result DisassembleFault.Memory →
         LacksRoom code.now (vec_capacity out.old) (length out.old.items) }
+    ensures full { IsErrOf result DisassembleFault.Memory →
+        8 * vec_capacity out.old < 8 * length out.old.items + 49 * length code.now }
     ensures capacity { vec_capacity out.old ≤ vec_capacity out.new }
 {
     instructions_are_unique();
     let slots = code.len() / 8;
+    let mut text = Text::new();
     let mut slot = 0;
     while slot < slots {
-        slot += write_next(code, slot, out)?;
+        slot += write_next(code, slot, &mut text, out)?;
     }
     Ok(())
 }
@@ -161,9 +171,12 @@ pub fn disassemble<A: Allocator>(code: &[u8], out: &mut Vec<u8, A>) -> Result<()
     if code.len() % 8 != 0 {
         return Err(DisassembleFault::Ragged);
     }
-    let len = listing_len(code)?;
-    if !has_room(out, len) {
-        return Err(DisassembleFault::Memory);
+    let most = listing_len(code, false)?;
+    if !has_room(out, most) {
+        let len = listing_len(code, true)?;
+        if !has_room(out, len) {
+            return Err(DisassembleFault::Memory);
+        }
     }
     match write_lines(code, out) {
         Ok(()) => Ok(()),

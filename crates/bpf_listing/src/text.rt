@@ -1,10 +1,9 @@
 //! A text on the stack, and the parts of a line that it takes.
 ghost use Rattle.std.specs.Prelude.{◌≡◌, ◌≤◌, ◌+◌, ◌<◌, ◌^◌, ◌++◌, ◌∷◌, [], List, ℕ, length};
 ghost use Rattle.std.specs.Fmt.{decimal, signed_decimal, digit_glyph};
-ghost use Rattle.bpf_listing.specs.Canonical.{hex_digits, with_sign, register};
+ghost use Rattle.bpf_listing.specs.Canonical.{hex_digits, with_sign};
 
 use arrayvec::ArrayVec;
-use bpf_types::Reg;
 use itoa::Buffer;
 use std::marker::Model;
 
@@ -30,18 +29,14 @@ impl Text {
         }
     }
 
-    /// A text that begins with this piece.
-    pub(crate) fn from_piece(piece: &[u8]) -> Self
-        requires { length piece.now ≤ 64 }
-        ensures { result ≡ piece.now }
+    /// Takes all octets out.
+    pub(crate) fn clear(&mut self)
+        ensures { self.new ≡ [] }
     {
-        let mut text = Self::new();
-        text.push_all(piece);
-        text
+        self.octets.clear();
     }
 
     /// The text's octets.
-
     pub fn as_slice(&self) -> &[u8]
         ensures { result.now ≡ self.now }
     {
@@ -56,9 +51,7 @@ impl Text {
     {
         let _fits = self.octets.try_extend_from_slice(piece);
     }
-}
 
-impl Text {
     /// Appends a number in decimal digits.
     pub(crate) fn push_number(&mut self, number: u32)
         requires { length self.old + 10 ≤ 64 }
@@ -87,16 +80,6 @@ impl Text {
     {
         self.push_all(if number < 0 { b"-" } else { b"+" });
         self.push_number(number.unsigned_abs());
-    }
-
-    /// Appends a register.
-    pub(crate) fn push_register(&mut self, reg: Reg)
-        requires { length self.old + 11 ≤ 64 }
-        ensures items { self.new ≡ self.old ++ register reg }
-        ensures len { length self.new ≤ length self.old + 11 }
-    {
-        self.push_all(b"r");
-        self.push_number(u32::from(reg.number()));
     }
 
     /// Appends the last `count` hexadecimal digits of a number, in lower case.

@@ -10,6 +10,7 @@ loop-slot-preserved g c =
     let h = c.in_ok-slot.ensures.ok in (
       listed_more c.args.code.now c.args.out.now.items c.loop-slot.out.items c.write_next.new.out.items c.loop-slot.slot c.in_ok-slot.field-0 h.0 c.loop-slot.invariant.0 h.1 h.2 h.3 h.4,
       omega (arith, c.loop-slot.invariant.1, c.write_next.ensures.capacity),
+      omega (arith, c.loop-slot.invariant.2, c.in_ok-slot.ensures.short),
     )
 
 pub returns-in_err-slot-clause-memory : goal.returns-in_err-slot-clause-memory
