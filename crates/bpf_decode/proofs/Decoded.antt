@@ -12,7 +12,7 @@ use Rattle.bpf_decode.specs.Mirror.Codes.{is_opcode}
 use Rattle.bpf_decode.specs.Mirror.Decoding.{raw_fields, fields_in, permitted_line_of, spelling_in, decode_result}
 use Rattle.bpf_decode.specs.Decoding.{BeginsWith}
 use Rattle.bpf_decode.proofs.Decode.{fields_of, in_range}
-use Rattle.bpf_decode.proofs.KnownLine.{known_line}
+use Rattle.bpf_decode.proofs.Complete.{known_line}
 use Rattle.bpf_decode.proofs.Only.{found_at, wide_length}
 
 not_ten : (n : ℕ) → n ≢ 10 → (n == 10) ≡ false

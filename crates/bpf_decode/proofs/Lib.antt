@@ -5,7 +5,6 @@ mod Known
 mod Decode
 pub mod Only
 mod FirstFault
-mod KnownLine
 pub mod Decoded
 mod Sound
 mod Total

@@ -13,7 +13,7 @@ use Rattle.bpf_decode.specs.Faults.{Has, IsFirst}
 use Rattle.bpf_decode.proofs.Decode.{InRange, begins, none_found, raw_in_range, registers_there}
 use Rattle.bpf_decode.proofs.Decoded.{is_written, not_written}
 use Rattle.bpf_decode.proofs.Known.{known}
-use Rattle.bpf_decode.proofs.KnownLine.{known_line}
+use Rattle.bpf_decode.proofs.Complete.{known_line}
 use Rattle.bpf_decode.proofs.Only.{decide}
 
 -- the answer is right

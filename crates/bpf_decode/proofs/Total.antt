@@ -18,7 +18,7 @@ use Rattle.bpf_decode.specs.Decoding.{BeginsWith}
 use Rattle.bpf_decode.specs.Faults.{AreOctets, IsDecodable, IsFaulty}
 use Rattle.bpf_decode.proofs.Decode.{none_found}
 use Rattle.bpf_decode.proofs.Known.{known}
-use Rattle.bpf_decode.proofs.KnownLine.{known_line}
+use Rattle.bpf_decode.proofs.Complete.{known_line}
 use Rattle.bpf_decode.proofs.Only.{found_at, decide}
 
 -- a fact holds or not
