@@ -1,6 +1,6 @@
 -- An image is that of one list of instructions at most.
-use Rattle.std.proofs.Common.{◌≡◌, ◌≢◌, ◌*◌, ◌<◌, ◌≤◌, ℕ, suc, List, [], ◌∷◌, ◌++◌, refl, sym, ap, ◌∙◌, subst, arith, length, length-append, length-drop, take, drop, append_assoc, take-append-drop, Result, Ok, Err}
-use Rattle.std.specs.Prelude.{codes, MatchResult, OnOk, IfErr, is_err, ◌%◌, true}
+use Rattle.std.proofs.Common.{◌≡◌, ◌*◌, ◌<◌, ◌≤◌, ℕ, suc, List, [], ◌∷◌, ◌++◌, refl, sym, ap, ◌∙◌, subst, arith, length, length-append, length-drop, take, drop, append_assoc, take-append-drop, Result, Ok, Err}
+use Rattle.std.specs.Prelude.{codes, ◌%◌}
 use Rattle.std.specs.List.{All}
 use Rattle.std.specs.Result.{IsErrAnd}
 use Rattle.std.proofs.Math.Seq.{drop-append_seam}
@@ -12,10 +12,8 @@ use Rattle.bpf_types.specs.Line.{spelling, IsLine, WritesFramePointer}
 use Rattle.bpf_decode.specs.declared.fault.DecodeFault.{DecodeFault}
 use Rattle.bpf_decode.specs.Decoding.{BeginsWith}
 use Rattle.bpf_decode.specs.Faults.{IsFirst}
-use Rattle.bpf_listing.specs.declared.disassembly.DisassembleFault.{DisassembleFault}
-use Rattle.bpf_listing.specs.declared.disassembly.DisassembleFault.TheVariants as fault
 use Rattle.bpf_listing.specs.Canonical.{canonical}
-use Rattle.bpf_listing.specs.Listing.{NeedsMore, IsImageOf, IsListed, HasFaultAt, IsFaultOf, NoneWritesFramePointer, image_of, listing}
+use Rattle.bpf_listing.specs.Listing.{NeedsMore, IsImageOf, IsListed, HasFaultAt, NoneWritesFramePointer, image_of, listing}
 
 abbrev pub OneLine : Type 0
 OneLine = (octets : List ℕ) (a b : Line) → BeginsWith octets a → BeginsWith octets b → a ≡ b
@@ -86,27 +84,6 @@ slots_of _ = omega arith
 pub whole_slots : (lines : List Line) → length (image_of lines) % 8 ≡ 0
 whole_slots [] = omega arith
 whole_slots (l ∷ lines) = omega (arith, slots_of l, whole_slots lines, length-append (spelling l) (image_of lines))
-
-both : {E : Type 0} (r : Result (Unit {0}) E) (P : Type 0) (Q : E → Type 0) → OnOk r P → IfErr r Q → MatchResult r (λ _. P) Q
-both (Ok u) P Q h g = h
-both (Err e) P Q h g = g
-
-pub only : OneLine → NoFault → (image old new : List ℕ) (r : Result (Unit {0}) DisassembleFault) (lines : List Line) → IsImageOf image lines → NoneWritesFramePointer lines
-    → MatchResult r (λ _. IsListed image old new) (λ e. (e ≢ fault.Ragged) × IsFaultOf image e)
-    → MatchResult r (λ _. new ≡ old ++ listing lines) (λ e. e ≡ fault.Memory)
-only one none image old new (Ok u) lines is permitted h = h.text ∙ ap (λ (k : List Line). old ++ listing k) (one_image one image h.lines lines h.whole is)
-only one none image old new (Err fault.Ragged) lines is permitted h = absurd (h.0 refl)
-only one none image old new (Err (fault.Decode f slot)) lines is permitted h = absurd (no_lines one none image slot f lines h.1 is permitted)
-only one none image old new (Err fault.Memory) lines is permitted h = refl
-
-pub only_of : OneLine → NoFault → (image old new : List ℕ) (r : Result (Unit {0}) DisassembleFault) → OnOk r (IsListed image old new) → IfErr r (λ e. (e ≢ fault.Ragged) × IsFaultOf image e)
-    → (lines : List Line) → IsImageOf image lines → NoneWritesFramePointer lines → MatchResult r (λ _. new ≡ old ++ listing lines) (λ e. e ≡ fault.Memory)
-only_of one none image old new r ok err lines is permitted = only one none image old new r lines is permitted (both r (IsListed image old new) (λ e. (e ≢ fault.Ragged) × IsFaultOf image e) ok err)
-
--- the same for a refusal, whatever the vector is then
-pub refused : (r : Result (Unit {0}) DisassembleFault) (P Q : Type 0) → is_err r ≡ true → MatchResult r (λ _. P) (λ e. e ≡ fault.Memory) → MatchResult r (λ _. Q) (λ e. e ≡ fault.Memory)
-refused (Ok u) P Q h g = absurd cc
-refused (Err e) P Q h g = g
 
 -- the text of the first instruction is no longer than the listing
 begun : OneLine → (l : Line) (more : List Line) (rest : List ℕ) → BeginsWith rest l → rest ≡ image_of more → All IsLine more

@@ -1,6 +1,6 @@
 -- A listing that is measured fits where there is room for it.
-use Rattle.std.proofs.Common.{◌≡◌, ◌≢◌, ◌+◌, ◌*◌, ◌<◌, ◌≤◌, ℕ, List, [], ◌++◌, refl, sym, ap, ◌∙◌, arith, length, take, drop, length-append, Result, Ok, Err}
-use Rattle.std.specs.Prelude.{codes, OnOk, OnErr, is_err, Bool, true, false}
+use Rattle.std.proofs.Common.{◌≡◌, ◌≢◌, ◌+◌, ◌*◌, ◌<◌, ◌≤◌, ℕ, List, [], ◌++◌, refl, sym, ap, ◌∙◌, arith, length, take, drop, length-append}
+use Rattle.std.specs.Prelude.{codes, Bool, true, false}
 use Rattle.std.proofs.lemmas.List.{append-nil}
 use Rattle.bpf_types.specs.declared.line.Line.{Line}
 use Rattle.bpf_types.specs.Line.{spelling, WritesFramePointer}
@@ -69,11 +69,3 @@ pub unmeasured : OneLine → NoFault → (code : List ℕ) (e : DisassembleFault
 unmeasured one none code fault.Ragged h lines is permitted = h.0 refl
 unmeasured one none code (fault.Decode d slot) h lines is permitted = no_lines one none code slot d lines h.2 is permitted
 unmeasured one none code fault.Memory h lines is permitted = h.1 refl
-
-pub on_err_of : {T E Q : Type 0} (r : Result T E) → OnErr r Q → is_err r ≡ true → Q
-on_err_of (Ok x) h e = absurd cc
-on_err_of (Err x) h e = h
-
-pub on_ok_of : {T E Q : Type 0} (r : Result T E) → OnOk r Q → is_err r ≡ false → Q
-on_ok_of (Ok x) h e = h
-on_ok_of (Err x) h e = absurd cc

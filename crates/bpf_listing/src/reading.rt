@@ -10,7 +10,7 @@ ghost use Rattle.bpf_listing.specs.Mirror.Reading.{word_length, number_field, si
 
 use crate::mnemonic::{Access, Jump, Mnemonic, mnemonic_of};
 use crate::scan::{Field, fields_of};
-use crate::writing::text_of;
+use crate::text::Text;
 use bpf_types::{Extension, Line, Operand, Reg, SwapWidth, Width};
 
 /// The first word of a text, and what stands behind the space that ends it.
@@ -29,11 +29,7 @@ fn first_word(text: &[u8]) -> (&[u8], &[u8])
 fn register_of(field: Field) -> Option<Reg>
     ensures only { (n : ℕ) → IsReg n → field.number ≡ n → result ≡ Some n }
 {
-    if field.number <= 10 {
-        Reg::new(field.number as u8)
-    } else {
-        None
-    }
+    Reg::new(u8::try_from(field.number).ok()?)
 }
 
 /// A number of 32 bits, behind a sign or a space.
@@ -41,34 +37,15 @@ fn number_of(field: Field) -> Option<i32>
     ensures only { (z : ℤ) → FitsSigned w32 z →
         (field ≡ signed_field z) ⊎ (field ≡ number_field z) → result ≡ Some z }
 {
-    if field.mark == b'-' {
-        if field.number <= 0x8000_0000 {
-            Some((-(field.number as i64)) as i32)
-        } else {
-            None
-        }
-    } else if field.number < 0x8000_0000 {
-        Some(field.number as i32)
-    } else {
-        None
-    }
+    let number = i64::try_from(field.number).ok()?;
+    i32::try_from(if field.mark == b'-' { -number } else { number }).ok()
 }
 
 /// A number of 16 bits, behind its sign.
 fn half_of(field: Field) -> Option<i16>
     ensures only { (z : ℤ) → FitsSigned w16 z → field ≡ signed_field z → result ≡ Some z }
 {
-    if field.mark == b'-' {
-        if field.number <= 0x8000 {
-            Some((-(field.number as i32)) as i16)
-        } else {
-            None
-        }
-    } else if field.number < 0x8000 {
-        Some(field.number as i16)
-    } else {
-        None
-    }
+    i16::try_from(number_of(field)?).ok()
 }
 
 fn operand_of(field: Field) -> Option<Operand>
@@ -225,8 +202,9 @@ pub fn read_line(text: &[u8]) -> Option<Line>
     ensures only { (line : Line) → IsLine line → text.now ≡ canonical line → result ≡ Some line }
 {
     let line = candidate(text)?;
-    let written = line;
-    if text_of(written).as_slice() == text {
+    let mut written = Text::new();
+    written.push_line(&line);
+    if written.as_slice() == text {
         Some(line)
     } else {
         None

@@ -57,8 +57,8 @@ impl Text {
         self.push_all(b"]");
     }
 
-    /// Appends the canonical text of an instruction.
-    fn push_line(&mut self, line: &Line)
+    /// Appends the canonical text of an instruction to the empty text.
+    pub(crate) fn push_line(&mut self, line: &Line)
         requires { self.old ≡ [] }
         ensures items { self.new ≡ canonical line.now }
         ensures len { length self.new ≤ 48 }
