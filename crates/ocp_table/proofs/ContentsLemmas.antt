@@ -1,15 +1,16 @@
 -- A slab of records with ids of their own, seen as a map: what a lookup finds, and what a change at one key makes of it.
-use Rattle.std.proofs.Common.{◌≡◌, ◌≢◌, ℕ, suc, ◌+◌, true, false, cond, get_or, is_some, count_by, List, [], ◌∷◌, map, Option, Some, None, refl, sym, ap, subst, ◌∙◌, inl, inr, arith, Contains}
+use Rattle.std.proofs.Common.{◌≡◌, ◌≢◌, ℕ, suc, ◌+◌, ◌<◌, ◌≤◌, length, true, false, cond, get_or, is_some, count_by, List, [], ◌∷◌, map, Option, Some, None, refl, sym, ap, subst, ◌∙◌, inl, inr, arith, Contains}
 use Rattle.std.specs.Prelude.{◌==◌, IsSome, IfSome, IfNone}
 use Rattle.std.proofs.lemmas.Bool.{cases_eq, eqb-true}
 use Rattle.std.proofs.lemmas.Bool.Decides.{nat_tests}
-use Rattle.std.proofs.lemmas.List.Sums.{sum_by-cons}
+use Rattle.std.proofs.lemmas.List.Sums.{sum_by-cons, sum_by-set}
 use Rattle.std.specs.Ordering.{nat_cmp}
 use Rattle.std.specs.Cmp.{nat_cmp_total, unsigned_tied}
 use Rattle.std.specs.FinMap as map
+use Rattle.ocp_table.specs.declared.table.TheConstants.{MAX_PROCEDURES}
 use Rattle.slab.specs.Slab.{Slab, get, entries, entries_from, slab_len, Updates, with_value}
-use Rattle.slab.proofs.SlabLemmas.{Contains-entries, Contains-cons, Contains-cons_cases, Updates-with_value}
-use Rattle.ocp_table.specs.Mirror.Contents.{IsDistinct, IsUnder, IsAbsent, contents}
+use Rattle.slab.proofs.SlabLemmas.{ContainsKey-within, Contains-entries, Contains-cons, Contains-cons_cases, Updates-with_value}
+use Rattle.ocp_table.specs.Mirror.Contents.{IsDistinct, IsAbsent, IsSound, IsUnder, contents}
 
 module _ {T X : Type 0} (id_of : T → ℕ) (shown : T → X) where
   abbrev pair : ℕ × T → ℕ × X
@@ -137,9 +138,6 @@ module _ {T : Type 0} (id_of : T → ℕ) where
     ];
   }
 
-  pub IsUnder-head : (s : Slab T) (id : ℕ) (k : ℕ) (r : T) (items rest : List (ℕ × T)) → items ≡ (k, r) ∷ rest → id_of r ≡ id → IsLeft s id items → IsUnder id_of s k id
-  IsUnder-head s id k r items rest is n left = record { held = r; at = left.held (k, r) (subst (λ xs. Contains xs (k, r)) (sym is) (0, omega arith, refl)); named = n }
-
   pub IsAbsent-end : (s : Slab T) (id : ℕ) (items : List (ℕ × T)) → items ≡ [] → IsLeft s id items → IsAbsent id_of s id
   IsAbsent-end s id items is left key r at n = let c : Contains [] (key, r) = subst (λ xs. Contains xs (key, r)) is (left.named key r at n) in absurd (omega (arith, c.1))
 
@@ -154,12 +152,6 @@ module _ {T X : Type 0} (id_of : T → ℕ) (shown : T → X) where
   same_held : (a b : T) → Some a ≡ Some b → a ≡ b
   same_held a b e = cc
 
-  pub named_at : (s : Slab T) (k id : ℕ) (r : T) → IsUnder id_of s k id → get s k ≡ Some r → id_of r ≡ id
-  named_at s k id r under at = ap id_of (same_held _ _ (sym at ∙ under.at)) ∙ under.named
-
-  pub get-held : (s : Slab T) (k : ℕ) (r : T) (id : ℕ) → IsDistinct id_of s → IsUnder id_of s k id → get s k ≡ Some r → map.get (contents id_of shown s) id ≡ Some (shown r)
-  get-held s k r id apart under at = get-from_Stands id_of shown s apart id (shown r) (record { key = k; held = r; at = at; named = named_at s k id r under at; shows = refl })
-
   Replaces-same : (s : Slab T) (k : ℕ) (old new : T) → IsDistinct id_of s → get s k ≡ Some old → id_of new ≡ id_of old → Replaces id_of shown s k new
   Replaces-same s k old new apart at same = record {
     same = λ q at_q. ap id_of (same_held _ _ (sym at_q ∙ at)) ∙ sym same;
@@ -172,10 +164,34 @@ module _ {T X : Type 0} (id_of : T → ℕ) (shown : T → X) where
   pub IsDistinct-with_value : (s : Slab T) (k : ℕ) (old new : T) → IsDistinct id_of s → get s k ≡ Some old → id_of new ≡ id_of old → IsDistinct id_of (with_value s k new)
   IsDistinct-with_value s k old new apart at same = IsDistinct-put id_of shown s _ k new apart (Replaces-same s k old new apart at same) (Updates-with_value s k new (held_key s k old at))
 
-  pub contents-with_value : (s : Slab T) (k id : ℕ) (old new : T) → IsDistinct id_of s → IsUnder id_of s k id → get s k ≡ Some old → id_of new ≡ id_of old → contents id_of shown (with_value s k new) ≡ map.insert (contents id_of shown s) id (shown new)
-  contents-with_value s k id old new apart under at same =
-      contents-put id_of shown s _ k new apart (Replaces-same s k old new apart at same) (Updates-with_value s k new (held_key s k old at))
-      ∙ ap (λ q. map.insert (contents id_of shown s) q (shown new)) (same ∙ named_at s k id old under at)
+  slab_len-with_value : (s : Slab T) (k : ℕ) (old new : T) → get s k ≡ Some old → slab_len (with_value s k new) ≡ slab_len s
+  slab_len-with_value s k old new at =
+      let within : k < length s.slots = ContainsKey-within s k (held_key s k old at) in
+      let f : Option T → ℕ = λ o. cond (is_some o) 1 0 in
+      let one : f (get_or s.slots k None) ≡ 1 = ap f at in
+      omega (arith, sum_by-set f s.slots k (Some new) None within, one)
+
+  -- the record with the id is under this key
+  IsUnder-at : (s : Slab T) (k id : ℕ) (old : T) → IsSound id_of s → get s k ≡ Some old → id_of old ≡ id → IsUnder id_of shown s k id
+  IsUnder-at s k id old sound at is =
+      let named : (r : T) → get s k ≡ Some r → id_of r ≡ id = λ r at_r. ap id_of (same_held _ _ (sym at_r ∙ at)) ∙ is in
+      record {
+        held = old;
+        at = at;
+        named = named;
+        there = λ r at_r. get-from_Stands id_of shown s sound.distinct id (shown r) (record { key = k; held = r; at = at_r; named = named r at_r; shows = refl });
+        put = λ new same.
+            contents-put id_of shown s _ k new sound.distinct (Replaces-same s k old new sound.distinct at (same ∙ sym is)) (Updates-with_value s k new (held_key s k old at))
+            ∙ ap (λ q. map.insert (contents id_of shown s) q (shown new)) same;
+        sound = λ new same. record {
+          distinct = IsDistinct-with_value s k old new sound.distinct at (same ∙ sym is);
+          few = subst (λ n. n ≤ MAX_PROCEDURES) (sym (slab_len-with_value s k old new at)) sound.few;
+          room = sound.room;
+        };
+      }
+
+  pub IsUnder-head : (s : Slab T) (id : ℕ) (k : ℕ) (r : T) (items rest : List (ℕ × T)) → IsSound id_of s → items ≡ (k, r) ∷ rest → id_of r ≡ id → IsLeft id_of s id items → IsUnder id_of shown s k id
+  IsUnder-head s id k r items rest sound is n left = IsUnder-at s k id r sound (left.held (k, r) (subst (λ xs. Contains xs (k, r)) (sym is) (0, omega arith, refl))) n
 
   -- the keys do not matter to what is shown
   shown_alike : (i j : ℕ) (slots : List (Option T)) → map (pair id_of shown) (entries_from i slots) ≡ map (pair id_of shown) (entries_from j slots)
@@ -247,9 +263,9 @@ module _ {T X : Type 0} (id_of : T → ℕ) (shown : T → X) where
       some_none e = cc
 
   -- what a search by keys finds, the map has
-  pub is_some-contents : (s : Slab T) (id : ℕ) (o : Option ℕ) → IsDistinct id_of s → IfSome o (λ key. IsUnder id_of s key id) → IfNone o (IsAbsent id_of s id) → is_some o ≡ is_some (map.get (contents id_of shown s) id)
-  is_some-contents s id None apart found absent = ap is_some (sym (get-absent id_of shown s id absent))
-  is_some-contents s id (Some key) apart found absent = ap is_some (sym (get-from_Stands id_of shown s apart id (shown found.held) (record { key = key; held = found.held; at = found.at; named = found.named; shows = refl })))
+  pub is_some-contents : (s : Slab T) (id : ℕ) (o : Option ℕ) → IfSome o (λ key. IsUnder id_of shown s key id) → IfNone o (map.get (contents id_of shown s) id ≡ None) → is_some o ≡ is_some (map.get (contents id_of shown s) id)
+  is_some-contents s id None found absent = ap is_some (sym absent)
+  is_some-contents s id (Some key) found absent = ap is_some (sym (found.there found.held found.at))
 
 module _ {T X : Type 0} (id_of : T → ℕ) (shown : T → X) where
   some_none : {r : T} → Some r ≡ None → ⊥

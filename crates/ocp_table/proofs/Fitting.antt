@@ -1,20 +1,15 @@
 -- The places of the outbox fit after each call of a table.
-use Rattle.std.proofs.Common.{◌≡◌, ◌≤◌, ℕ, zero, suc, ◌+◌, List, [], ◌++◌, length, Option, Some, None, true, refl, sym, ap, subst, ◌∙◌, arith}
-use Rattle.std.specs.Prelude.{IfSome}
+use Rattle.std.proofs.Common.{◌≡◌, ◌≤◌, ℕ, zero, suc, ◌+◌, List, [], ◌++◌, length, Option, Some, None, refl, sym, ap, subst, ◌∙◌, arith}
 use Rattle.std.specs.FinMap as map
 use Rattle.std.proofs.lemmas.List.{length-append}
 use Rattle.obcp_types.specs.declared.pending.Due.{Due}
-use Rattle.obcp_types.specs.declared.status.Status.{Status}
-use Rattle.obcp_types.specs.declared.status.Status.TheVariants.{Inactive, Running, Held}
 use Rattle.ocp_table.specs.declared.answers.InstructionOutcome.{InstructionOutcome}
 use Rattle.ocp_table.specs.declared.answers.Slice.{Slice}
 use Rattle.ocp_table.specs.declared.control.Pending.TheVariants as pending
 use Rattle.ocp_table.specs.Records.{Rec, Records}
 use Rattle.ocp_table.specs.Outbox.{places_of, places_in, pendings, HasPlaces}
-use Rattle.ocp_table.specs.Effects.{Effect, Changed, Kept, Stepped, record_after, records_by, records_with, outbox_by}
-use Rattle.ocp_table.specs.RequestTable.{Step, transition}
-use Rattle.ocp_table.specs.Deciding.{outcome_in, effect_of_step, effect_by, effect_on}
-use Rattle.ocp_table.specs.Shown.{dues_of_effect}
+use Rattle.ocp_table.specs.Effects.{Effect, Stepped, record_by, records_by, records_with, outbox_by, dues_by_outcome}
+use Rattle.ocp_table.specs.RequestTable.{Step}
 use Rattle.ocp_table.specs.Slices.{Store, store_after, store_after_events}
 use Rattle.ocp_table.proofs.Totals.{of, total-insert}
 use Rattle.ocp_table.proofs.Rooms.{pendings-empty, filed-fits}
@@ -22,33 +17,12 @@ use Rattle.ocp_table.proofs.Asked.{places-after}
 
 -- ---- an event of a record
 
--- an instruction event, or none
-abbrev IsEventful : Effect → Type 0
-IsEventful (Changed id (Stepped outcome)) = Unit {0}
-IsEventful (Kept why) = Unit {0}
-IsEventful effect = ⊥
-
-eventful_step : (id : ℕ) (o : Option InstructionOutcome) → IsEventful (effect_of_step o id)
-eventful_step id (Some outcome) = tt
-eventful_step id None = tt
-
-eventful_by : (pool : List ℕ) (id : ℕ) (r : Rec) (s : Status) → IsEventful (effect_by (transition (Step pool) (Some s) r.control.pending (length r.mailbox)) id (Some r) true)
-eventful_by pool id r Inactive = tt
-eventful_by pool id r Running = eventful_step id (outcome_in r pool)
-eventful_by pool id r Held = tt
-
-event_places : (e : Effect) (r : Rec) → IsEventful e → length (dues_of_effect e r.control.pending) + places_in (record_after e r) ≤ places_in r
-event_places (Changed id (Stepped outcome)) r is = let fits = filed-fits (Stepped outcome) r.control in omega (arith, fits)
-event_places (Kept why) r is = omega arith
-event_places e r is = absurd is
-
 -- what it files had a place
-pub event-fits : (pool : List ℕ) (id : ℕ) (r next : Rec) (outbox filed : List Due) → filed ≡ outbox ++ dues_of_effect (effect_on (Step pool) id (Some r) true) r.control.pending → next ≡ record_after (effect_on (Step pool) id (Some r) true) r → length outbox + places_in r ≤ 64 → length filed + places_in next ≤ 64
-event-fits pool id r next outbox filed files is fits =
-    let e = effect_on (Step pool) id (Some r) true in
-    let fewer = event_places e r (eventful_by pool id r r.control.status) in
-    let both : length filed ≡ length outbox + length (dues_of_effect e r.control.pending) = ap length files ∙ length-append outbox (dues_of_effect e r.control.pending) in
-    let after : places_in next ≡ places_in (record_after e r) = ap places_in is in
+pub event-fits : (outcome : InstructionOutcome) (r next : Rec) (outbox filed : List Due) → filed ≡ outbox ++ dues_by_outcome outcome r.control.pending → next ≡ record_by (Stepped outcome) r → length outbox + places_in r ≤ 64 → length filed + places_in next ≤ 64
+event-fits outcome r next outbox filed files is fits =
+    let fewer = filed-fits (Stepped outcome) r.control in
+    let both : length filed ≡ length outbox + length (dues_by_outcome outcome r.control.pending) = ap length files ∙ length-append outbox (dues_by_outcome outcome r.control.pending) in
+    let after : places_in next ≡ places_in (record_by (Stepped outcome) r) = ap places_in is in
     omega (arith, fewer, both, after, fits)
 
 -- ---- calls of a table
@@ -90,8 +64,5 @@ places_after_events : (id n : ℕ) (s : Store) → HasPlaces s.records s.outbox 
 places_after_events id zero s fits = fits
 places_after_events id (suc n) s fits = places_after_events id n (store_after id s) (places-after (Step s.pool) id s.records s.outbox fits tt)
 
-pub fits-sliced : (result : Option Slice) (id : ℕ) (s t : Store) → HasPlaces s.records s.outbox → (result ≡ None → (t.records ≡ s.records) × (t.outbox ≡ s.outbox) × (t.pool ≡ s.pool)) → IfSome result (λ slice. store_after_events id slice.count s ≡ t) → HasPlaces t.records t.outbox
-fits-sliced None id s t fits kept made =
-    let stays = kept refl in
-    subst (λ x. HasPlaces x t.outbox) (sym stays.0) (subst (HasPlaces s.records) (sym stays.1) fits)
-fits-sliced (Some slice) id s t fits kept made = subst (λ x. HasPlaces x.records x.outbox) made (places_after_events id slice.count s fits)
+pub fits-sliced : (slice : Slice) (id : ℕ) (s t : Store) → HasPlaces s.records s.outbox → store_after_events id slice.count s ≡ t → HasPlaces t.records t.outbox
+fits-sliced slice id s t fits made = subst (λ x. HasPlaces x.records x.outbox) made (places_after_events id slice.count s fits)

@@ -12,3 +12,4 @@ pub mod Tables
 pub mod Rows
 pub mod Counting
 pub mod Slicing
+pub mod Held

@@ -1,8 +1,8 @@
 -- What a directive does to the records, by the record that a look-up finds.
-use Rattle.std.proofs.Common.{◌≡◌, ℕ, ◌+◌, ◌≤◌, ◌<◌, ◌++◌, length, get_or, is_some, subst, Bool, true, false, List, Option, Some, None, cond, refl, sym, ap, ◌∙◌, arith}
+use Rattle.std.proofs.Common.{◌≡◌, ℕ, ◌+◌, ◌≤◌, ◌<◌, ◌++◌, length, subst, Bool, true, false, List, Option, Some, None, refl, sym, ap, ◌∙◌, arith}
 use Rattle.std.specs.Prelude.{IsSome, Result, Ok, Err}
 use Rattle.std.specs.FinMap as map
-use Rattle.slab.specs.Slab.{Slab, Updates, get, slab_len, with_value}
+use Rattle.slab.specs.Slab.{Slab, Updates, slab_len}
 use Rattle.obcp_types.specs.declared.status.Status.{Status}
 use Rattle.obcp_types.specs.declared.status.Status.TheVariants.{Inactive, Running, Held}
 use Rattle.obcp_types.specs.declared.failure.StartFailure.{StartFailure}
@@ -21,9 +21,7 @@ use Rattle.obcp_types.specs.declared.pending.Due.{Due}
 use Rattle.std.proofs.lemmas.List.{append-nil}
 use Rattle.ocp_table.specs.Mirror.Contents.{IsSound}
 use Rattle.std.proofs.lemmas.Bool.Decides.{nat_tests}
-use Rattle.std.proofs.lemmas.List.Sums.{sum_by-set}
-use Rattle.slab.proofs.SlabLemmas.{ContainsKey-within}
-use Rattle.ocp_table.proofs.ContentsLemmas.{insert-same, IsDistinct-with_value, IsDistinct-removed}
+use Rattle.ocp_table.proofs.ContentsLemmas.{insert-same, IsDistinct-removed}
 
 -- ---- no procedure has the id
 
@@ -167,20 +165,6 @@ module _ {T : Type 0} where
   -- a table that is not full has room for one more record
   pub few_from_room : (s : Slab T) (m : Records) → slab_len s ≡ map.len m → is_full m ≡ false → slab_len s < MAX_PROCEDURES
   few_from_room s m same free = let few : map.len m < MAX_PROCEDURES = grind (arith, nat_tests) in omega (arith, same, few)
-
-  slab_len-with_value : (s : Slab T) (k : ℕ) (old new : T) → get s k ≡ Some old → slab_len (with_value s k new) ≡ slab_len s
-  slab_len-with_value s k old new at =
-      let within : k < length s.slots = ContainsKey-within s k (subst IsSome (sym at) refl) in
-      let f : Option T → ℕ = λ o. cond (is_some o) 1 0 in
-      let one : f (get_or s.slots k None) ≡ 1 = ap f at in
-      omega (arith, sum_by-set f s.slots k (Some new) None within, one)
-
-  pub IsSound-with_value : (id_of : T → ℕ) (s : Slab T) (k : ℕ) (old new : T) → IsSound id_of s → get s k ≡ Some old → id_of new ≡ id_of old → IsSound id_of (with_value s k new)
-  IsSound-with_value id_of s k old new sound at named = record {
-    distinct = IsDistinct-with_value id_of id_of s k old new sound.distinct at named;
-    few = subst (λ n. n ≤ MAX_PROCEDURES) (sym (slab_len-with_value s k old new at)) sound.few;
-    room = sound.room;
-  }
 
   pub IsSound-removed : (id_of : T → ℕ) (s t : Slab T) (k : ℕ) → IsSound id_of s → Updates s t k None → slab_len t + 1 ≡ slab_len s → t.capacity ≡ s.capacity → IsSound id_of t
   IsSound-removed id_of s t k sound u fewer same = record {

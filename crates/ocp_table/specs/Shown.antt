@@ -14,10 +14,9 @@ use Rattle.ocp_table.specs.declared.change.Change as C
 use Rattle.ocp_table.specs.declared.change.Change.TheVariants as change
 use Rattle.ocp_table.specs.declared.directive.Directive as D
 use Rattle.ocp_table.specs.declared.directive.Directive.TheVariants as directive
-use Rattle.ocp_table.specs.declared.answers.InstructionOutcome.{InstructionOutcome}
 use Rattle.ocp_table.specs.declared.record.Record.{Record}
 use Rattle.ocp_table.specs.Records.{Rec, Records}
-use Rattle.ocp_table.specs.Effects.{Effect, Unloaded, Changed, Kept, Change, Started, Sent, Pended, Quit, Resumed, Stepped, Failed, new_record, failed_completion, dues_by_change}
+use Rattle.ocp_table.specs.Effects.{Effect, Unloaded, Changed, Kept, Change, Started, Sent, Pended, Quit, Resumed, Failed, new_record, failed_completion, dues_by_change}
 use Rattle.ocp_table.specs.RequestTable.{Directive, Activate, Stop, Suspend, Resume, Abort, Communicate, Decision, Changes, Fails}
 use Rattle.ocp_table.specs.Deciding.{effect_on, words_of}
 
@@ -97,12 +96,6 @@ FitsIn other o = Unit {0}
 abbrev pub HasPlaceFor : Bool → Change → Type 0
 HasPlaceFor full (Pended pending) = full ≡ false
 HasPlaceFor full other = Unit {0}
-
--- what an instruction event is answered, by its effect
-abbrev pub AnswersStep : Result InstructionOutcome StartFailure → Effect → Type 0
-AnswersStep (Ok outcome) (Changed id (Stepped what)) = outcome ≡ what
-AnswersStep (Err failure) (Kept (Failed why)) = failure ≡ why
-AnswersStep _ _ = ⊥
 
 -- ---- what readers show
 

@@ -55,25 +55,22 @@ pub enum LoadFailure {
 }
 
 impl StepOutcome {
-    ghost use Rattle.std.specs.Prelude.{◌≡◌, true, IsOk};
-    ghost use Rattle.ocp_table.specs.Effects.{Effect, Kept, Failed, step_outcome};
-    ghost use Rattle.ocp_table.specs.Shown.{AnswersStep};
+    ghost use Rattle.std.specs.Prelude.{◌≡◌, true};
+    ghost use Rattle.ocp_table.specs.Effects.{Kept, Failed, step_outcome, step_outcome_of};
     ghost use Rattle.ocp_table.specs.Slices.{is_on, is_done};
 
-    /// That of an instruction event which was answered so.
+    /// That of an instruction event which did so.
     #[inline(always)]
-    pub(crate) fn of(answer: Result<InstructionOutcome, StartFailure>) -> StepOutcome
-        ensures outcome { (effect : Effect) → AnswersStep answer effect →
-            result ≡ step_outcome effect }
-        ensures done { IsOk answer → is_done result ≡ true }
+    pub(crate) fn of(outcome: InstructionOutcome) -> StepOutcome
+        ensures outcome { result ≡ step_outcome_of outcome }
+        ensures done { is_done result ≡ true }
     {
-        match answer {
-            Ok(InstructionOutcome::Broke) => StepOutcome::Broke,
-            Ok(InstructionOutcome::Ran) => StepOutcome::Ran,
-            Ok(InstructionOutcome::Called(_)) => StepOutcome::Called,
-            Ok(InstructionOutcome::Ended) => StepOutcome::Ended,
-            Ok(InstructionOutcome::Faulted(number)) => StepOutcome::Faulted(number),
-            Err(failure) => StepOutcome::of_failure(failure),
+        match outcome {
+            InstructionOutcome::Broke => StepOutcome::Broke,
+            InstructionOutcome::Ran => StepOutcome::Ran,
+            InstructionOutcome::Called(_) => StepOutcome::Called,
+            InstructionOutcome::Ended => StepOutcome::Ended,
+            InstructionOutcome::Faulted(number) => StepOutcome::Faulted(number),
         }
     }
 

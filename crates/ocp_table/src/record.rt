@@ -69,34 +69,14 @@ impl<A: Allocator> Record<A> {
         }
     }
 
-    /// The instruction event of a running procedure, or it fails and changes nothing. What it
-    /// completes or overtakes goes to the outbox.
+    /// The instruction event of a running procedure. What it completes or overtakes goes to the
+    /// outbox.
     #[inline(always)]
-    pub(crate) fn step(
+    pub(crate) fn instruction(
         &mut self,
         pool: &mut Pool<A>,
         outbox: &mut Outbox,
-    ) -> Result<InstructionOutcome, StartFailure>
-        requires { length outbox.old + places_of self.old.control.pending ≤ OUTBOX_PLACES }
-        ensures answer { AnswersStep result (effect_of_record (Step pool.old) self.old) }
-        ensures done { self.old.control.status ≡ Running → IsOk result }
-        ensures record { record_of self.new ≡
-            record_after (effect_of_record (Step pool.old) self.old) (record_of self.old) }
-        ensures outbox { outbox.new ≡ outbox.old
-            ++ dues_of_effect (effect_of_record (Step pool.old) self.old)
-            self.old.control.pending }
-        ensures pool { pool.new ≡ pool_by (effect_of_record (Step pool.old) self.old) pool.old }
-        ensures id { self.new.id ≡ self.old.id }
-    {
-        match self.control.status {
-            Status::Running => Ok(self.instruction(pool, outbox)),
-            Status::Inactive | Status::Held => Err(StartFailure::NotRunning),
-        }
-    }
-
-    // The instruction event of a running procedure.
-    #[inline(always)]
-    fn instruction(&mut self, pool: &mut Pool<A>, outbox: &mut Outbox) -> InstructionOutcome
+    ) -> InstructionOutcome
         requires { length outbox.old + places_of self.old.control.pending ≤ OUTBOX_PLACES }
         ensures outcome { outcome_in (record_of self.old) pool.old ≡ Some result }
         ensures record { record_of self.new ≡ record_by (Stepped result) (record_of self.old) }
@@ -162,23 +142,6 @@ impl<A: Allocator> Record<A> {
         breaks_at(self.control.pass, breakpoints, self.execution.place())
     }
 
-    /// Sets the breakpoints.
-    pub(crate) fn set_breakpoints(&mut self, breakpoints: ArrayVec<u16, MAX_BREAKPOINTS>)
-        ensures record { record_of self.new
-            ≡ with_breakpoints breakpoints.items (record_of self.old) }
-        ensures id { self.new.id ≡ self.old.id }
-    {
-        self.breakpoints = breakpoints;
-    }
-
-    /// Sets the trace flag.
-    pub(crate) fn set_traced(&mut self, traced: bool)
-        ensures record { record_of self.new ≡ with_trace_flag traced (record_of self.old) }
-        ensures id { self.new.id ≡ self.old.id }
-    {
-        self.traced = traced;
-    }
-
     /// Puts back a machine that did so many instructions apart: the pass flag goes off, and they
     /// are taken from the budget.
     pub(crate) fn settle(&mut self, count: u32, machine: Machine<A>)
@@ -208,9 +171,8 @@ impl<A: Allocator> Record<A> {
 }
 
 ghost use Rattle.std.specs.Prelude.{◌≡◌, ℕ, List};
-ghost use Rattle.ocp_table.specs.Effects.{pool_by, with_breakpoints, with_trace_flag};
+ghost use Rattle.ocp_table.specs.Effects.{pool_by};
 ghost use Rattle.ocp_table.specs.RequestTable.{Unload, Step};
 ghost use Rattle.bpf_step.specs.Runs.{breaks_at};
 ghost use Rattle.ocp_table.specs.Snapshots.{record_after_work};
 ghost use Rattle.bpf_step.specs.Step.{StandsIn};
-ghost use Rattle.ocp_table.specs.Shown.{AnswersStep};

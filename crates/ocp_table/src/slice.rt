@@ -53,9 +53,9 @@ impl<A: Allocator> Record<A> {
         count
     }
 
-    // One instruction event.
+    /// One instruction event.
     #[inline(never)]
-    fn event(&mut self, pool: &mut Pool<A>, outbox: &mut Outbox) -> StepOutcome
+    pub(crate) fn event(&mut self, pool: &mut Pool<A>, outbox: &mut Outbox) -> StepOutcome
         requires { length outbox.old + places_of self.old.control.pending ≤ OUTBOX_PLACES }
         ensures answer { result ≡ step_outcome (effect_of_record (Step pool.old) self.old) }
         ensures done { self.old.control.status ≡ Running → is_done result ≡ true }
@@ -68,7 +68,10 @@ impl<A: Allocator> Record<A> {
         ensures pool { pool.new ≡ pool_by (effect_of_record (Step pool.old) self.old) pool.old }
         ensures id { self.new.id ≡ self.old.id }
     {
-        StepOutcome::of(self.step(pool, outbox))
+        match self.control.status {
+            Status::Running => StepOutcome::of(self.instruction(pool, outbox)),
+            Status::Inactive | Status::Held => StepOutcome::NotRunning,
+        }
     }
 
     // Whether a slice goes on after this outcome.

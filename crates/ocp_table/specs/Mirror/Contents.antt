@@ -1,21 +1,19 @@
 -- A slab of records, each with an id of its own, as a map from id to what is shown of the record.
-use Rattle.std.specs.Prelude.{◌≡◌, ◌≢◌, ℕ, ◌≤◌, map, Some}
+use Rattle.std.specs.Prelude.{◌≡◌, ◌≢◌, ℕ, ◌≤◌, List, map, Some}
 use Rattle.std.specs.Ordering.{nat_cmp}
+use Rattle.std.specs.FinMap as map
 use Rattle.std.specs.FinMap.{FinMap, from_entries}
+use Rattle.obcp_types.specs.declared.pending.Due.{Due}
 use Rattle.ocp_table.specs.declared.table.TheConstants.{MAX_PROCEDURES}
-use Rattle.slab.specs.Slab.{Slab, get, entries, slab_len}
+use Rattle.ocp_table.specs.Records.{Rec}
+use Rattle.ocp_table.specs.Outbox.{HasPlaces}
+use Rattle.slab.specs.Slab.{Slab, get, entries, slab_len, with_value}
 
 module _ {T : Type 0} (id_of : T → ℕ) where
   -- no id stands under two keys
   abbrev pub IsDistinct : Slab T → Type 0
   IsDistinct s =
       (i j : ℕ) (r q : T) → get s i ≡ Some r → get s j ≡ Some q → id_of r ≡ id_of q → i ≡ j
-
-  -- the record under this key has this id
-  pub record IsUnder (s : Slab T) (key id : ℕ) : Type 0 where
-    pub held : T
-    pub at : get s key ≡ Some held
-    pub named : id_of held ≡ id
 
   -- no record has this id
   abbrev pub IsAbsent : Slab T → ℕ → Type 0
@@ -30,3 +28,20 @@ module _ {T : Type 0} (id_of : T → ℕ) where
 module _ {T X : Type 0} (id_of : T → ℕ) (shown : T → X) where
   abbrev pub contents : Slab T → FinMap nat_cmp X
   contents s = from_entries (map (λ e. (id_of e.1, shown e.1)) (entries s))
+
+  -- a record is under this key, and is the one that the map has under this id, where another one
+  -- with this id may be put
+  pub record IsUnder (s : Slab T) (key id : ℕ) : Type 0 where
+    pub held : T
+    pub at : get s key ≡ Some held
+    pub named : (r : T) → get s key ≡ Some r → id_of r ≡ id
+    pub there : (r : T) → get s key ≡ Some r → map.get (contents s) id ≡ Some (shown r)
+    pub put : (new : T) → id_of new ≡ id →
+        contents (with_value s key new) ≡ map.insert (contents s) id (shown new)
+    pub sound : (new : T) → id_of new ≡ id → IsSound id_of (with_value s key new)
+
+module _ {T : Type 0} (id_of : T → ℕ) (shown : T → Rec) where
+  -- and there is a place for what is pending and what waits
+  pub record IsHolding (s : Slab T) (outbox : List Due) : Type 0 where
+    pub sound : IsSound id_of s
+    pub places : HasPlaces (contents id_of shown s) outbox

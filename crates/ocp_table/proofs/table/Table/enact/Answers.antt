@@ -1,13 +1,46 @@
-use Rattle.std.proofs.Common.{subst, sym}
+use Rattle.std.proofs.Common.{refl, sym, subst, ◌∙◌}
+use Rattle.std.specs.FinMap as map
 use Rattle.ocp_table.specs.Outbox.{is_outbox_full}
 use Rattle.ocp_table.specs.Effects.{Changed}
-use Rattle.ocp_table.specs.Shown.{change_of, HasPlaceFor}
+use Rattle.ocp_table.specs.Shown.{id_of, record_of, change_of, FitsIn, HasPlaceFor}
+use Rattle.ocp_table.specs.Mirror.Contents.{contents}
+use Rattle.ocp_table.proofs.Held.{place_at, records_at, holds-by}
 use Rattle.ocp_table.proofs.Rooms.{outbox_fits}
-use Rattle.ocp_table.proofs.Fitting.{fits_by}
+use Rattle.ocp_table.proofs.Tables.{records-changed, records-unchanged, outbox-changed, outbox-unchanged}
 use Rattle.ocp_table.proofs.table.Table.enact.Goals as goal
+
+pub returns-in_default-clause-records : goal.returns-in_default-clause-records
+returns-in_default-clause-records g c = rw (← c.self.view_is) (records-unchanged _ c.args.id (change_of c.args.change) c.in_default.ensures.absent)
+
+pub returns-in_default-clause-outbox : goal.returns-in_default-clause-outbox
+returns-in_default-clause-outbox g c = rw (← c.self.view_is) (outbox-unchanged _ c.args.id (change_of c.args.change) c.self.inside.outbox c.in_default.ensures.absent)
+
+pub enact-requires-clause-fits : goal.enact-requires-clause-fits
+enact-requires-clause-fits g c =
+    let fits = subst (λ t. FitsIn (change_of c.args.change) (map.get t.records c.args.id)) (sym c.self.view_is) c.requires.fits in
+    subst (FitsIn (change_of c.args.change)) (c.in-Some.ensures.found.there _ c.index_mut-record.ensures.value) fits
+
+pub enact-requires-clause-place : goal.enact-requires-clause-place
+enact-requires-clause-place g c = place_at id_of record_of c.self.inside.records c.self.inside.outbox _ c.args.id _ c.in-Some.ensures.found c.index_mut-record.ensures.value c.self.invariant
 
 pub invariant_of-self : goal.invariant_of-self
 invariant_of-self g c =
+    let m = contents id_of record_of c.self.inside.records in
     let effect = Changed c.args.id (change_of c.args.change) in
+    let there = c.in-Some.ensures.found.there _ c.index_mut-record.ensures.value in
     let place = subst (λ t. HasPlaceFor (is_outbox_full t.records t.outbox) (change_of c.args.change)) (sym c.self.view_is) c.requires.place in
-    fits_by c.self.inside.records _ c.self.inside.outbox _ effect c.enact.ensures.records c.enact.ensures.outbox (outbox_fits c.self.inside.records c.self.inside.outbox c.self.invariant effect place)
+    holds-by id_of record_of c.self.inside.records c.self.inside.outbox _ c.args.id _ c.in-Some.ensures.found c.index_mut-record.ensures.value c.self.invariant _ c.enact.ensures.id effect _
+    (records_at id_of record_of c.self.inside.records c.self.inside.outbox _ c.args.id _ c.in-Some.ensures.found c.index_mut-record.ensures.value c.self.invariant _ c.enact.ensures.id _ refl ∙ records-changed m c.args.id (change_of c.args.change) _ _ there c.enact.ensures.record)
+    (c.enact.ensures.outbox ∙ outbox-changed m c.args.id (change_of c.args.change) _ c.self.inside.outbox there)
+    (outbox_fits m c.self.inside.outbox c.self.invariant.places effect place)
+
+pub returns-clause-records : goal.returns-clause-records
+returns-clause-records g c =
+    let m = contents id_of record_of c.self.inside.records in
+    let there = c.in-Some.ensures.found.there _ c.index_mut-record.ensures.value in
+    rw (← c.self.view_is) (records_at id_of record_of c.self.inside.records c.self.inside.outbox _ c.args.id _ c.in-Some.ensures.found c.index_mut-record.ensures.value c.self.invariant _ c.enact.ensures.id _ refl ∙ records-changed m c.args.id (change_of c.args.change) _ _ there c.enact.ensures.record)
+
+pub returns-clause-outbox : goal.returns-clause-outbox
+returns-clause-outbox g c =
+    let there = c.in-Some.ensures.found.there _ c.index_mut-record.ensures.value in
+    rw (← c.self.view_is) (c.enact.ensures.outbox ∙ outbox-changed (contents id_of record_of c.self.inside.records) c.args.id (change_of c.args.change) _ c.self.inside.outbox there)
