@@ -172,7 +172,7 @@ module _ {T X : Type 0} (id_of : T → ℕ) (shown : T → X) where
       omega (arith, sum_by-set f s.slots k (Some new) None within, one)
 
   -- the record with the id is under this key
-  IsUnder-at : (s : Slab T) (k id : ℕ) (old : T) → IsSound id_of s → get s k ≡ Some old → id_of old ≡ id → IsUnder id_of shown s k id
+  pub IsUnder-at : (s : Slab T) (k id : ℕ) (old : T) → IsSound id_of s → get s k ≡ Some old → id_of old ≡ id → IsUnder id_of shown s k id
   IsUnder-at s k id old sound at is =
       let named : (r : T) → get s k ≡ Some r → id_of r ≡ id = λ r at_r. ap id_of (same_held _ _ (sym at_r ∙ at)) ∙ is in
       record {

@@ -1,6 +1,6 @@
 -- What a directive does to the records, by the record that a look-up finds.
 use Rattle.std.proofs.Common.{◌≡◌, ℕ, ◌+◌, ◌≤◌, ◌<◌, ◌++◌, length, subst, Bool, true, false, List, Option, Some, None, refl, sym, ap, ◌∙◌, arith}
-use Rattle.std.specs.Prelude.{IsSome, Result, Ok, Err}
+use Rattle.std.specs.Prelude.{IsSome}
 use Rattle.std.specs.FinMap as map
 use Rattle.slab.specs.Slab.{Slab, Updates, slab_len}
 use Rattle.obcp_types.specs.declared.status.Status.{Status}
@@ -8,7 +8,6 @@ use Rattle.obcp_types.specs.declared.status.Status.TheVariants.{Inactive, Runnin
 use Rattle.obcp_types.specs.declared.failure.StartFailure.{StartFailure}
 use Rattle.obcp_types.specs.declared.failure.StartFailure.TheVariants.{NotLoaded}
 use Rattle.ocp_table.specs.declared.table.TheConstants.{MAX_PROCEDURES}
-use Rattle.ocp_table.specs.declared.change.Change as C
 use Rattle.ocp_table.specs.declared.directive.Directive as D
 use Rattle.ocp_table.specs.declared.directive.Directive.TheVariants as directive
 use Rattle.ocp_table.specs.declared.answers.InstructionOutcome.{InstructionOutcome}
@@ -16,7 +15,7 @@ use Rattle.ocp_table.specs.Records.{Rec, Records}
 use Rattle.ocp_table.specs.Effects.{Change, Effect, Loaded, Unloaded, Changed, Drained, Kept, Failed, record_by, record_after, records_by, outbox_by, dues_by_change, failed_completion, failed_completion_of, dues_of, with_change, failure_of}
 use Rattle.ocp_table.specs.RequestTable.{Unload, Step, Fails, transition, failure_by}
 use Rattle.ocp_table.specs.Deciding.{outcome_in, effect_of_step, decision_on, effect_by, effect_on, effect_in, is_full}
-use Rattle.ocp_table.specs.Shown.{directive_of, decision_of, effect_of_decision, dues_of_effect}
+use Rattle.ocp_table.specs.Shown.{directive_of, dues_of_effect}
 use Rattle.obcp_types.specs.declared.pending.Due.{Due}
 use Rattle.std.proofs.lemmas.List.{append-nil}
 use Rattle.ocp_table.specs.Mirror.Contents.{IsSound}
@@ -55,17 +54,6 @@ same_step pool m n id r here named =
     ap (λ i. effect_on (Step pool) i (Some r) true) named
     ∙ same_step_of pool id r r.control.status (is_full m)
     ∙ ap (λ o. effect_on (Step pool) id o (is_full m)) (sym here)
-
--- what a directive was decided to do is its effect
-pub effect-decided : (d : D.Directive) (no_place : Bool) (result : Result C.Change StartFailure) (m : Records) (id : ℕ) (r : Rec) → map.get m id ≡ Some r → decision_of result ≡ decision_on (directive_of d no_place) (Some r) → effect_in (directive_of d no_place) id m ≡ effect_of_decision id result
-effect-decided d no_place result m id r here is =
-    ap (λ o. effect_on (directive_of d no_place) id o (is_full m)) here
-    ∙ ap (λ e. effect_by e id (Some r) (is_full m)) (sym is)
-    ∙ by_result result
-  where
-    by_result : (x : Result C.Change StartFailure) → effect_by (decision_of x) id (Some r) (is_full m) ≡ effect_of_decision id x
-    by_result (Ok change) = refl
-    by_result (Err failure) = refl
 
 -- an unload
 unload_of : (id : ℕ) (r : Rec) (s : Status) (full : Bool) → s ≡ Inactive → effect_by (transition Unload (Some s) r.control.pending (length r.mailbox)) id (Some r) full ≡ Unloaded id

@@ -16,7 +16,7 @@ use Rattle.ocp_table.specs.declared.directive.Directive as D
 use Rattle.ocp_table.specs.declared.directive.Directive.TheVariants as directive
 use Rattle.ocp_table.specs.declared.record.Record.{Record}
 use Rattle.ocp_table.specs.Records.{Rec, Records}
-use Rattle.ocp_table.specs.Effects.{Effect, Unloaded, Changed, Kept, Change, Started, Sent, Pended, Quit, Resumed, Failed, new_record, failed_completion, dues_by_change}
+use Rattle.ocp_table.specs.Effects.{Effect, Unloaded, Changed, Change, Started, Sent, Pended, Quit, Resumed, new_record, failed_completion, dues_by_change}
 use Rattle.ocp_table.specs.RequestTable.{Directive, Activate, Stop, Suspend, Resume, Abort, Communicate, Decision, Changes, Fails}
 use Rattle.ocp_table.specs.Deciding.{effect_on, words_of}
 
@@ -65,10 +65,6 @@ change_of change.Resumed = Resumed
 abbrev pub decision_of : Result C.Change StartFailure → Decision
 decision_of (Ok change) = Changes (change_of change)
 decision_of (Err failure) = Fails failure
-
-abbrev pub effect_of_decision : ℕ → Result C.Change StartFailure → Effect
-effect_of_decision id (Ok change) = Changed id (change_of change)
-effect_of_decision id (Err failure) = Kept (Failed failure)
 
 -- the effect of a directive on a record of the table, in which whether the table is full is not
 -- asked

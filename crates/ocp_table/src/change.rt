@@ -10,7 +10,7 @@ ghost use Rattle.ocp_table.specs.Shown.{record_of, directive_of, change_of, deci
 
 use crate::budget::budget_of;
 use crate::outbox::Outbox;
-use crate::{Cause, Control, Directive, OUTBOX_PLACES, Pending, Record};
+use crate::{Cause, Control, Directive, OUTBOX_PLACES, Pending, Place, Record};
 use obcp_types::{StartFailure, Status};
 use ocp_pool::Mailbox;
 use std::alloc::Allocator;
@@ -29,6 +29,13 @@ pub enum Change<'a> {
     Quit(Cause),
     /// It runs on, past a breakpoint at its place.
     Resumed,
+}
+
+/// What was decided of a request, and where its record was found.
+#[derive(Clone, Copy)]
+pub struct Decided<'a> {
+    pub change: Change<'a>,
+    pub(crate) place: Place,
 }
 
 impl<A: Allocator> Record<A> {

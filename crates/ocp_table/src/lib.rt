@@ -18,7 +18,7 @@ mod table;
 mod view;
 
 pub use answers::{BUDGET_SPENT, InstructionOutcome, LoadFailure, Slice, StepOutcome};
-pub use change::Change;
+pub use change::{Change, Decided};
 pub use control::{Cause, Control, Pending};
 pub use directive::Directive;
 pub use execution::Execution;
@@ -26,6 +26,7 @@ pub use obcp_types::{CompletionFailure, Due, PendingOrigin, StartFailure, Status
 pub use ocp_pool::{Called, Mailbox, Pool};
 pub use ocp_profile::Profile;
 pub use record::{MAX_BREAKPOINTS, Record};
+pub use slots::Place;
 pub use snapshot::Snapshot;
 pub use table::{MAX_PROCEDURES, OUTBOX_PLACES, Table};
 pub use view::View;

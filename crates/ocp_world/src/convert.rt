@@ -3,25 +3,16 @@
 ghost use Rattle.std.specs.Prelude.{◌≡◌, ℕ, List};
 ghost use Rattle.pus_fields.specs.TelecommandFaults.{telecommand_of};
 ghost use Rattle.ocp_world.specs.World.{World, Request as Asked};
-ghost use Rattle.ocp_world.specs.Requests.{command_of, status_report, pending_origin};
+ghost use Rattle.ocp_world.specs.Requests.{status_report, pending_origin};
 ghost use Rattle.ocp_world.specs.After.{after};
 ghost use Rattle.ocp_world.specs.Mirror.Answering.{discard_of, IsDiscard};
 
-use obcp_messages::{Report, Request, RequestFault, StatusRows, read_request};
+use obcp_messages::{Report, StatusRows};
 use obcp_types::PendingOrigin;
-use ocp_profile::Profile;
 use ocp_reports::Origin;
 use ocp_table::Table;
 use pus_fields::{Discard, Tc, TcFault};
 use std::alloc::Allocator;
-
-/// The request of a telecommand, as a profile reads it.
-#[tactic(auto, unfolding(crate::specs::Requests::command_of))]
-pub fn command_of<'a>(profile: Profile, telecommand: &Tc<'a>) -> Result<Request<'a>, RequestFault>
-    ensures { result ≡ command_of profile telecommand.now }
-{
-    read_request(profile, telecommand)
-}
 
 /// Why octets are discarded, as they were read, where they are: then the request is refused so in
 /// every world of this application process, and else it is accepted.

@@ -20,9 +20,9 @@ ghost use Rattle.ocp_world.specs.Requests.{refusal_effect, start_effect, directi
 ghost use Rattle.ocp_world.specs.After.{Stepped, Commanded, after, effect_of};
 ghost use Rattle.ocp_world.specs.Loading.{FindsPlace, IsLoadInto, TakesRecord};
 
-use crate::convert::{command_of, pending_origin, status_report};
+use crate::convert::{pending_origin, status_report};
 use crate::{EngineFault, Heap};
-use obcp_messages::{Report, Request};
+use obcp_messages::{Report, Request, read_request};
 use obcp_types::{AcceptanceFailure, StartFailure};
 use ocp_debug::{Command, DebugFault, TraceRing};
 use ocp_pool::{MAX_POOL_WORDS, Pool};
@@ -177,21 +177,6 @@ impl<A: Allocator> State<A> {
         Ok(reports)
     }
 
-    // Sends the report of a failed acceptance.
-    fn refuse(
-        &mut self,
-        heap: &mut Heap<A>,
-        origin: Origin,
-        failure: AcceptanceFailure,
-    ) -> Result<CopiedReports<A>, EngineFault>
-    where
-        A: Copy,
-        ensures does { Does self.old self.new result (λ w. refusal_effect origin failure) }
-        ensures memory { result ≡ Err engine.Memory → heap.new ≡ true }
-    {
-        self.reply(heap, origin, Outcome::Refused(failure), &None)
-    }
-
     // Sends the reports of a failed start.
     fn fail(
         &mut self,
@@ -249,9 +234,9 @@ impl<A: Allocator> State<A> {
         ensures memory { result ≡ Err engine.Memory → heap.new ≡ true }
     {
         match self.table.check_unload(id) {
-            Ok(()) => {
+            Ok(place) => {
                 let reports = self.reply(heap, origin, Outcome::Done, &None)?;
-                self.table.remove(id);
+                self.table.remove(id, place);
                 Ok(reports)
             }
             Err(failure) => self.fail(heap, origin, failure),
@@ -275,29 +260,13 @@ impl<A: Allocator> State<A> {
         ensures memory { result ≡ Err engine.Memory → heap.new ≡ true }
     {
         match self.table.decide(id, directive) {
-            Ok(change) => {
-                let reports = self.reply(heap, origin, outcome_of(change), &None)?;
-                self.table.enact(id, change);
+            Ok(decided) => {
+                let reports = self.reply(heap, origin, outcome_of(decided.change), &None)?;
+                self.table.enact(id, decided);
                 Ok(reports)
             }
             Err(failure) => self.fail(heap, origin, failure),
         }
-    }
-
-    // Reports the status of all procedures.
-    fn report_status(
-        &mut self,
-        heap: &mut Heap<A>,
-        origin: Origin,
-    ) -> Result<CopiedReports<A>, EngineFault>
-    where
-        A: Copy,
-        ensures does { Does self.old self.new result
-            (λ w. start_effect origin (status_report w.records ∷ []) (Kept Unasked)) }
-        ensures memory { result ≡ Err engine.Memory → heap.new ≡ true }
-    {
-        let report = status_report(&self.table);
-        self.reply(heap, origin, Outcome::Done, &Some(report))
     }
 
     // Serves a request, with the number of its event.
@@ -338,7 +307,10 @@ impl<A: Allocator> State<A> {
             Request::Communicate { id, words } => {
                 self.direct(heap, origin, id, Directive::Communicate(words.as_slice()))
             }
-            Request::Status => self.report_status(heap, origin),
+            Request::Status => {
+                let report = status_report(&self.table);
+                self.reply(heap, origin, Outcome::Done, &Some(report))
+            }
             Request::Abort { id } => self.direct(heap, origin, id, Directive::Abort),
         }
     }
@@ -347,6 +319,7 @@ impl<A: Allocator> State<A> {
     /// event has this number: so many were accepted before it. Where its reports found memory,
     /// Memory is answered only for a load under an id that is free, in a table with room, of 1 to
     /// 2,048 whole slots.
+    #[tactic(auto, unfolding(crate::specs::Requests::command_of))]
     pub fn receive(
         &mut self,
         heap: &mut Heap<A>,
@@ -365,16 +338,19 @@ impl<A: Allocator> State<A> {
         match read {
             Ok(telecommand) => {
                 let origin = Origin::of_telecommand(&telecommand, time);
-                match command_of(self.table.profile(), &telecommand) {
+                match read_request(self.table.profile(), &telecommand) {
                     Ok(request) => self.serve(heap, event, origin, request),
-                    Err(fault) => self.refuse(heap, origin, AcceptanceFailure::Request(fault)),
+                    Err(fault) => {
+                        let outcome = Outcome::Refused(AcceptanceFailure::Request(fault));
+                        self.reply(heap, origin, outcome, &None)
+                    }
                 }
             }
-            Err(TcFault::Rejected(rejection, request)) => self.refuse(
-                heap,
-                Origin::of_packet(request, time),
-                AcceptanceFailure::Packet(rejection),
-            ),
+            Err(TcFault::Rejected(rejection, request)) => {
+                let origin = Origin::of_packet(request, time);
+                let outcome = Outcome::Refused(AcceptanceFailure::Packet(rejection));
+                self.reply(heap, origin, outcome, &None)
+            }
             Err(TcFault::Discarded(cause)) => Err(EngineFault::Discarded(cause)),
         }
     }

@@ -10,15 +10,15 @@ use Rattle.ocp_table.proofs.Tables.{records-changed, records-unchanged, outbox-c
 use Rattle.ocp_table.proofs.table.Table.enact.Goals as goal
 
 pub returns-in_default-clause-records : goal.returns-in_default-clause-records
-returns-in_default-clause-records g c = rw (← c.self.view_is) (records-unchanged _ c.args.id (change_of c.args.change) c.in_default.ensures.absent)
+returns-in_default-clause-records g c = rw (← c.self.view_is) (records-unchanged _ c.args.id (change_of c.args.decided.change) c.in_default.ensures.absent)
 
 pub returns-in_default-clause-outbox : goal.returns-in_default-clause-outbox
-returns-in_default-clause-outbox g c = rw (← c.self.view_is) (outbox-unchanged _ c.args.id (change_of c.args.change) c.self.inside.outbox c.in_default.ensures.absent)
+returns-in_default-clause-outbox g c = rw (← c.self.view_is) (outbox-unchanged _ c.args.id (change_of c.args.decided.change) c.self.inside.outbox c.in_default.ensures.absent)
 
 pub enact-requires-clause-fits : goal.enact-requires-clause-fits
 enact-requires-clause-fits g c =
-    let fits = subst (λ t. FitsIn (change_of c.args.change) (map.get t.records c.args.id)) (sym c.self.view_is) c.requires.fits in
-    subst (FitsIn (change_of c.args.change)) (c.in-Some.ensures.found.there _ c.index_mut-record.ensures.value) fits
+    let fits = subst (λ t. FitsIn (change_of c.args.decided.change) (map.get t.records c.args.id)) (sym c.self.view_is) c.requires.fits in
+    subst (FitsIn (change_of c.args.decided.change)) (c.in-Some.ensures.found.there _ c.index_mut-record.ensures.value) fits
 
 pub enact-requires-clause-place : goal.enact-requires-clause-place
 enact-requires-clause-place g c = place_at id_of record_of c.self.inside.records c.self.inside.outbox _ c.args.id _ c.in-Some.ensures.found c.index_mut-record.ensures.value c.self.invariant
@@ -26,21 +26,21 @@ enact-requires-clause-place g c = place_at id_of record_of c.self.inside.records
 pub invariant_of-self : goal.invariant_of-self
 invariant_of-self g c =
     let m = contents id_of record_of c.self.inside.records in
-    let effect = Changed c.args.id (change_of c.args.change) in
+    let effect = Changed c.args.id (change_of c.args.decided.change) in
     let there = c.in-Some.ensures.found.there _ c.index_mut-record.ensures.value in
-    let place = subst (λ t. HasPlaceFor (is_outbox_full t.records t.outbox) (change_of c.args.change)) (sym c.self.view_is) c.requires.place in
+    let place = subst (λ t. HasPlaceFor (is_outbox_full t.records t.outbox) (change_of c.args.decided.change)) (sym c.self.view_is) c.requires.place in
     holds-by id_of record_of c.self.inside.records c.self.inside.outbox _ c.args.id _ c.in-Some.ensures.found c.index_mut-record.ensures.value c.self.invariant _ c.enact.ensures.id effect _
-    (records_at id_of record_of c.self.inside.records c.self.inside.outbox _ c.args.id _ c.in-Some.ensures.found c.index_mut-record.ensures.value c.self.invariant _ c.enact.ensures.id _ refl ∙ records-changed m c.args.id (change_of c.args.change) _ _ there c.enact.ensures.record)
-    (c.enact.ensures.outbox ∙ outbox-changed m c.args.id (change_of c.args.change) _ c.self.inside.outbox there)
+    (records_at id_of record_of c.self.inside.records c.self.inside.outbox _ c.args.id _ c.in-Some.ensures.found c.index_mut-record.ensures.value c.self.invariant _ c.enact.ensures.id _ refl ∙ records-changed m c.args.id (change_of c.args.decided.change) _ _ there c.enact.ensures.record)
+    (c.enact.ensures.outbox ∙ outbox-changed m c.args.id (change_of c.args.decided.change) _ c.self.inside.outbox there)
     (outbox_fits m c.self.inside.outbox c.self.invariant.places effect place)
 
 pub returns-clause-records : goal.returns-clause-records
 returns-clause-records g c =
     let m = contents id_of record_of c.self.inside.records in
     let there = c.in-Some.ensures.found.there _ c.index_mut-record.ensures.value in
-    rw (← c.self.view_is) (records_at id_of record_of c.self.inside.records c.self.inside.outbox _ c.args.id _ c.in-Some.ensures.found c.index_mut-record.ensures.value c.self.invariant _ c.enact.ensures.id _ refl ∙ records-changed m c.args.id (change_of c.args.change) _ _ there c.enact.ensures.record)
+    rw (← c.self.view_is) (records_at id_of record_of c.self.inside.records c.self.inside.outbox _ c.args.id _ c.in-Some.ensures.found c.index_mut-record.ensures.value c.self.invariant _ c.enact.ensures.id _ refl ∙ records-changed m c.args.id (change_of c.args.decided.change) _ _ there c.enact.ensures.record)
 
 pub returns-clause-outbox : goal.returns-clause-outbox
 returns-clause-outbox g c =
     let there = c.in-Some.ensures.found.there _ c.index_mut-record.ensures.value in
-    rw (← c.self.view_is) (c.enact.ensures.outbox ∙ outbox-changed (contents id_of record_of c.self.inside.records) c.args.id (change_of c.args.change) _ c.self.inside.outbox there)
+    rw (← c.self.view_is) (c.enact.ensures.outbox ∙ outbox-changed (contents id_of record_of c.self.inside.records) c.args.id (change_of c.args.decided.change) _ c.self.inside.outbox there)
