@@ -58,6 +58,9 @@ impl Text {
         ensures items { self.new ≡ self.old ++ decimal number }
         ensures len { length self.new ≤ length self.old + 10 }
     {
+        if number < 10 {
+            return self.push_all(&[b'0' + number as u8]);
+        }
         let mut buffer = Buffer::new();
         self.push_all(buffer.format(number).as_bytes());
     }
