@@ -9,7 +9,7 @@ ghost use Rattle.ocp_debug.specs.Mirror.Tracing.{next_at, leaves_trace, trace_af
 
 use crate::{StepOutcome, Trace, TraceRing};
 use bpf_types::Line;
-use ocp_table::{Pool, Table};
+use ocp_table::{Place, Pool, Table};
 use std::alloc::Allocator;
 
 /// The next instruction of a traced procedure.
@@ -20,10 +20,10 @@ pub(crate) struct Next {
 }
 
 /// The next instruction, where the procedure is traced.
-fn next_at<A: Allocator>(table: &Table<A>, id: u16) -> Option<Next>
+fn next_at<A: Allocator>(table: &Table<A>, id: u16, at: Place) -> Option<Next>
     ensures { result ≡ next_at (get table.now.records id) }
 {
-    let record = table.record(id)?;
+    let record = table.record_at(id, at)?;
     if !record.traced {
         return None;
     }
@@ -51,6 +51,7 @@ fn leaves_trace(outcome: StepOutcome) -> bool
 fn trace_after<A: Allocator>(
     table: &Table<A>,
     id: u16,
+    at: Place,
     next: Option<Next>,
     outcome: StepOutcome,
 ) -> Option<Trace>
@@ -60,7 +61,7 @@ fn trace_after<A: Allocator>(
     if !leaves_trace(outcome) {
         return None;
     }
-    let record = table.record(id)?;
+    let record = table.record_at(id, at)?;
     Some(Trace {
         id,
         place: next.place,
@@ -92,8 +93,9 @@ pub fn instruction<A: Allocator>(
         last_traces (ring.old
         ++ traces_by (effect_in (Step pool.old) id table.old.records) table.old.records) }
 {
-    let next = next_at(table, id);
-    let outcome = table.instruction(id, pool);
-    ring.note(trace_after(table, id, next, outcome));
+    let at = table.place(id);
+    let next = next_at(table, id, at);
+    let outcome = table.instruction_at(id, at, pool);
+    ring.note(trace_after(table, id, at, next, outcome));
     outcome
 }

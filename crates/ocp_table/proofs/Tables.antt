@@ -1,6 +1,5 @@
 -- What a directive does to the records, by the record that a look-up finds.
 use Rattle.std.proofs.Common.{◌≡◌, ℕ, ◌+◌, ◌≤◌, ◌<◌, ◌++◌, length, subst, Bool, true, false, List, Option, Some, None, refl, sym, ap, ◌∙◌, arith}
-use Rattle.std.specs.Prelude.{IsSome}
 use Rattle.std.specs.FinMap as map
 use Rattle.slab.specs.Slab.{Slab, Updates, slab_len}
 use Rattle.obcp_types.specs.declared.status.Status.{Status}
@@ -8,14 +7,12 @@ use Rattle.obcp_types.specs.declared.status.Status.TheVariants.{Inactive, Runnin
 use Rattle.obcp_types.specs.declared.failure.StartFailure.{StartFailure}
 use Rattle.obcp_types.specs.declared.failure.StartFailure.TheVariants.{NotLoaded}
 use Rattle.ocp_table.specs.declared.table.TheConstants.{MAX_PROCEDURES}
-use Rattle.ocp_table.specs.declared.directive.Directive as D
-use Rattle.ocp_table.specs.declared.directive.Directive.TheVariants as directive
 use Rattle.ocp_table.specs.declared.answers.InstructionOutcome.{InstructionOutcome}
 use Rattle.ocp_table.specs.Records.{Rec, Records}
-use Rattle.ocp_table.specs.Effects.{Change, Effect, Loaded, Unloaded, Changed, Drained, Kept, Failed, record_by, record_after, records_by, outbox_by, dues_by_change, failed_completion, failed_completion_of, dues_of, with_change, failure_of}
-use Rattle.ocp_table.specs.RequestTable.{Unload, Step, Fails, transition, failure_by}
-use Rattle.ocp_table.specs.Deciding.{outcome_in, effect_of_step, decision_on, effect_by, effect_on, effect_in, is_full}
-use Rattle.ocp_table.specs.Shown.{directive_of, dues_of_effect}
+use Rattle.ocp_table.specs.Effects.{Change, Effect, Loaded, Unloaded, Changed, Drained, Kept, Failed, record_by, record_after, records_by, outbox_by, dues_by_change, failed_completion, failed_completion_of, dues_of, with_change}
+use Rattle.ocp_table.specs.RequestTable.{Step, transition}
+use Rattle.ocp_table.specs.Deciding.{outcome_in, effect_of_step, effect_by, effect_on, effect_in, is_full}
+use Rattle.ocp_table.specs.Shown.{dues_of_effect}
 use Rattle.obcp_types.specs.declared.pending.Due.{Due}
 use Rattle.std.proofs.lemmas.List.{append-nil}
 use Rattle.ocp_table.specs.Mirror.Contents.{IsSound}
@@ -24,22 +21,8 @@ use Rattle.ocp_table.proofs.ContentsLemmas.{insert-same, IsDistinct-removed}
 
 -- ---- no procedure has the id
 
-absent : (d : D.Directive) (no_place : Bool) → decision_on (directive_of d no_place) None ≡ Fails NotLoaded
-absent (directive.Activate budget arguments) no_place = refl
-absent (directive.Stop s from) no_place = refl
-absent (directive.Suspend s from) no_place = refl
-absent directive.Resume no_place = refl
-absent directive.Abort no_place = refl
-absent (directive.Communicate words) no_place = refl
-
-pub absent-effect : (d : D.Directive) (no_place : Bool) (id : ℕ) (m : Records) → map.get m id ≡ None → effect_in (directive_of d no_place) id m ≡ Kept (Failed NotLoaded)
-absent-effect d no_place id m is = ap (λ o. effect_on (directive_of d no_place) id o (is_full m)) is ∙ ap (λ e. effect_by e id None (is_full m)) (absent d no_place)
-
 pub absent-step : (pool : List ℕ) (id : ℕ) (m : Records) → map.get m id ≡ None → effect_in (Step pool) id m ≡ Kept (Failed NotLoaded)
 absent-step pool id m is = ap (λ o. effect_on (Step pool) id o (is_full m)) is
-
-pub absent-unload : (id : ℕ) (m : Records) → map.get m id ≡ None → effect_in Unload id m ≡ Kept (Failed NotLoaded)
-absent-unload id m is = ap (λ o. effect_on Unload id o (is_full m)) is
 
 -- ---- what is decided of a record that is there
 
@@ -54,27 +37,6 @@ same_step pool m n id r here named =
     ap (λ i. effect_on (Step pool) i (Some r) true) named
     ∙ same_step_of pool id r r.control.status (is_full m)
     ∙ ap (λ o. effect_on (Step pool) id o (is_full m)) (sym here)
-
--- an unload
-unload_of : (id : ℕ) (r : Rec) (s : Status) (full : Bool) → s ≡ Inactive → effect_by (transition Unload (Some s) r.control.pending (length r.mailbox)) id (Some r) full ≡ Unloaded id
-unload_of id r Inactive full is = refl
-unload_of id r Running full is = absurd (cc)
-unload_of id r Held full is = absurd (cc)
-
-pub unloads : (m : Records) (id : ℕ) (r : Rec) → map.get m id ≡ Some r → r.control.status ≡ Inactive → effect_in Unload id m ≡ Unloaded id
-unloads m id r here is = ap (λ o. effect_on Unload id o (is_full m)) here ∙ unload_of id r r.control.status (is_full m) is
-
-failure_of_step : (o : Option InstructionOutcome) (id : ℕ) → IsSome o → None ≡ failure_of (effect_of_step o id)
-failure_of_step (Some outcome) id is = refl
-failure_of_step None id is = absurd (cc)
-
-step_decides : (pool : List ℕ) (id : ℕ) (r : Rec) (s : Status) → IsSome (outcome_in r pool) → failure_by (transition (Step pool) (Some s) r.control.pending (length r.mailbox)) ≡ failure_of (effect_by (transition (Step pool) (Some s) r.control.pending (length r.mailbox)) id (Some r) true)
-step_decides pool id r Inactive able = refl
-step_decides pool id r Running able = failure_of_step (outcome_in r pool) id able
-step_decides pool id r Held able = refl
-
-pub step_decided_by_table : (pool : List ℕ) (id : ℕ) (r : Rec) → IsSome (outcome_in r pool) → failure_by (decision_on (Step pool) (Some r)) ≡ failure_of (effect_on (Step pool) id (Some r) true)
-step_decided_by_table pool id r able = step_decides pool id r r.control.status able
 
 -- ---- what it changes
 

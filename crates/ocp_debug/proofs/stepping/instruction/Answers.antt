@@ -14,7 +14,7 @@ returns-clause-ring g c =
     c.note.ensures
     ∙ ap (λ made. last_traces (c.args.ring.now ++ made))
     (ap option_to_list c.trace_after.ensures
-    ∙ ap (λ next. option_to_list (trace_after c.args.id next c.instruction-outcome.result (get c.instruction-outcome.new.self.records c.args.id))) c.next_at-next.ensures
-    ∙ ap (λ outcome. option_to_list (trace_after c.args.id (next_at (get c.args.table.now.records c.args.id)) outcome (get c.instruction-outcome.new.self.records c.args.id))) c.instruction-outcome.ensures.answer
-    ∙ ap (λ after. option_to_list (trace_after c.args.id (next_at (get c.args.table.now.records c.args.id)) (step_outcome (effect_in (Step c.args.pool.now) c.args.id c.args.table.now.records)) (get after c.args.id))) c.instruction-outcome.ensures.records
+    ∙ ap (λ next. option_to_list (trace_after c.args.id next c.instruction_at-outcome.result (get c.instruction_at-outcome.new.self.records c.args.id))) c.next_at-next.ensures
+    ∙ ap (λ outcome. option_to_list (trace_after c.args.id (next_at (get c.args.table.now.records c.args.id)) outcome (get c.instruction_at-outcome.new.self.records c.args.id))) c.instruction_at-outcome.ensures.answer
+    ∙ ap (λ after. option_to_list (trace_after c.args.id (next_at (get c.args.table.now.records c.args.id)) (step_outcome (effect_in (Step c.args.pool.now) c.args.id c.args.table.now.records)) (get after c.args.id))) c.instruction_at-outcome.ensures.records
     ∙ traced c.args.pool.now c.args.id c.args.table.now.records)
