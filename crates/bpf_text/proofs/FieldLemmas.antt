@@ -1,13 +1,18 @@
 -- Fields of an instruction's text.
-use Rattle.std.proofs.Common.{◌≡◌, ◌<◌, ◌≤◌, ◌+◌, ◌-◌, ℕ, List, [], ◌∷◌, length, get_or, take, drop, Option, Some, None, Result, Ok, Err, FitsSigned, refl, sym, ap, ◌∙◌, subst, arith, inl, inr, ◌⊎◌, ℤ, pos, ◌-ℤ◌}
+use Rattle.std.proofs.Common.{◌≡◌, ◌<◌, ◌≤◌, ◌+◌, ◌-◌, ℕ, List, [], ◌∷◌, length, get_or, take, drop, ◌^◌, Option, Some, None, Result, Ok, Err, FitsSigned, refl, sym, ap, ◌∙◌, subst, arith, inl, inr, ◌⊎◌, ℤ, pos, negsuc, ◌-ℤ◌}
+use Rattle.std.proofs.lemmas.Int.{ints}
 use Rattle.bpf_text.proofs.Scanning.{whole_drop}
 use Rattle.bpf_text.specs.Number.{digit, IsNumeral}
 use Rattle.std.specs.Int.{w32}
 use Rattle.bpf_types.specs.declared.line.Operand.{Operand}
 use Rattle.bpf_types.specs.declared.line.Operand.TheVariants.{Immediate, Register}
-use Rattle.bpf_types.specs.Line.{IsOperand}
+use Rattle.bpf_types.specs.Line.{IsOperand, extension_width, extension_bits}
+use Rattle.bpf_types.specs.declared.line.Width.{Width}
+use Rattle.bpf_types.specs.declared.line.Width.TheVariants.{W32, W64}
+use Rattle.bpf_types.specs.declared.line.Extension.{Extension}
+use Rattle.bpf_types.specs.declared.line.Extension.TheVariants as extension
 use Rattle.bpf_text.specs.Fields.{IsRegister, IsInteger, IsImmediate, IsDistance, IsOffset, IsSecond, IsTarget, IsName, as_signed}
-use Rattle.bpf_text.specs.Mirror.Gives.{Gives, Narrows}
+use Rattle.bpf_text.specs.Mirror.Gives.{Gives, IsWide, bits_in, HasExtension}
 use Rattle.bpf_text.specs.declared.line.LineFault.{LineFault}
 use Rattle.bpf_text.specs.declared.line.LineFault.TheVariants.{Syntax, Range}
 
@@ -25,11 +30,6 @@ two_octets (x ∷ y ∷ z ∷ t) a le e = absurd (omega arith)
 pub front_octet : (t : List ℕ) (a : ℕ) → 1 ≤ length t → get_or t 0 0 ≡ a → t ≡ a ∷ drop 1 t
 front_octet [] a le e = absurd (omega arith)
 front_octet (x ∷ t) a le e = ap (λ (o : ℕ). o ∷ t) e
-
-pub gives_read : {V : Type 0} (Is Fits : V → Type 0) (r : Result V LineFault) (w : V) → Is w → Narrows Fits w r → Gives (λ (v : V). v) Is Fits r
-gives_read Is Fits (Ok v) w is h = (subst Is (sym h.0) is, h.1)
-gives_read Is Fits (Err Syntax) w is h = absurd h
-gives_read Is Fits (Err Range) w is h = (w, is, h)
 
 -- a letter begins no numeral, and neither does a sign
 pub letter_no_numeral : (o : ℕ) (digits : List ℕ) (n : ℕ) → 10 ≤ digit o → IsNumeral (o ∷ digits) n → ⊥
@@ -73,10 +73,10 @@ no_distance token digits o e none z h = none h.1 (subst (λ (t : List ℕ). IsNu
     same (inl p) = let q = p.0 in cc
     same (inr p) = let q = p.0 in cc
 
-pub no_immediate : (t : List ℕ) → length t < 1 → (z : ℤ) → IsImmediate t z → ⊥
-no_immediate [] lt z (y, inl h, e) = elim h.1 [ inl k ↦ k.0 refl | inr k ↦ let q = k.1 in absurd cc ]
-no_immediate [] lt z (y, inr h, e) = let q = h.2 in absurd cc
-no_immediate (x ∷ t) lt z h = absurd (omega arith)
+pub no_integer : (t : List ℕ) → length t < 1 → (z : ℤ) → IsInteger t z → ⊥
+no_integer [] lt z (inl h) = elim h.1 [ inl k ↦ k.0 refl | inr k ↦ let q = k.1 in absurd cc ]
+no_integer [] lt z (inr h) = let q = h.2 in absurd cc
+no_integer (x ∷ t) lt z h = absurd (omega arith)
 
 pub register_in_range : (token : List ℕ) (n : ℕ) → IsRegister token n → n ≤ 10
 register_in_range token n (inl h) = let lt = h.0 in omega arith
@@ -107,7 +107,66 @@ no_closing t z e h = by h.3
     by (inl k) = let p = k.0 in absurd (omega (arith, ap (λ (u : List ℕ). get_or u 0 0) (sym e ∙ p)))
     by (inr k) = let p = k.0 in absurd (omega (arith, ap (λ (u : List ℕ). get_or u 0 0) (sym e ∙ p)))
 
-pub offset_read : (token : List ℕ) (Fits : ℤ → Type 0) (r : Result ℤ LineFault) → Gives (λ (z : ℤ). z) (IsDistance token) Fits r → Gives (λ (z : ℤ). z) (IsOffset (Some token)) Fits r
-offset_read token Fits (Ok z) h = h
-offset_read token Fits (Err Syntax) h = h
-offset_read token Fits (Err Range) h = h
+-- a number that is out of the range of 64 bits is none of those in it
+big : (n : ℕ) (z : ℤ) → (n < 2 ^ 64 → ⊥) → (z ≡ pos n) ⊎ (z ≡ pos 0 -ℤ pos n) → ¬ IsWide z
+big n z h e m = h (subst (λ (k : ℕ). k < 2 ^ 64) (same e m.2) m.1)
+  where
+    same : (z ≡ pos n) ⊎ (z ≡ pos 0 -ℤ pos n) → (z ≡ pos m.0) ⊎ (z ≡ pos 0 -ℤ pos m.0) → m.0 ≡ n
+    same (inl a) (inl b) = omega (arith, ints)
+    same (inl a) (inr b) = omega (arith, ints)
+    same (inr a) (inl b) = omega (arith, ints)
+    same (inr a) (inr b) = omega (arith, ints)
+
+pub distance_err : (token digits : List ℕ) (o : ℕ) (fault : LineFault) → token ≡ o ∷ digits → (o ≡ 43) ⊎ (o ≡ 45) → {V : Type 0} → (f : V → ℕ) → Gives f (IsNumeral digits) (λ (n : ℕ). n < 2 ^ 64) (Err fault) → {U : Type 0} → (g : U → ℤ) → Gives g (IsDistance token) IsWide (Err fault)
+distance_err token digits o Syntax e sign f h g = no_distance token digits o e h
+distance_err token digits o Range e (inl p) f h g = (pos h.0, plus_distance token digits h.0 (subst (λ (x : ℕ). token ≡ x ∷ digits) p e) h.1, big h.0 (pos h.0) h.2 (inl refl))
+distance_err token digits o Range e (inr p) f h g = (pos 0 -ℤ pos h.0, minus_distance token digits h.0 (subst (λ (x : ℕ). token ≡ x ∷ digits) p e) h.1, big h.0 (pos 0 -ℤ pos h.0) h.2 (inr refl))
+
+pub minus_err : (token digits : List ℕ) (fault : LineFault) → token ≡ 45 ∷ digits → {V : Type 0} → (f : V → ℕ) → Gives f (IsNumeral digits) (λ (n : ℕ). n < 2 ^ 64) (Err fault) → {U : Type 0} → (g : U → ℤ) → Gives g (IsInteger token) IsWide (Err fault)
+minus_err token digits Syntax e f h g = λ z k. let p = minus_integer token digits z e k in h p.0 p.1
+minus_err token digits Range e f h g = (pos 0 -ℤ pos h.0, inr (digits, h.0, e, h.1, refl), big h.0 (pos 0 -ℤ pos h.0) h.2 (inr refl))
+
+pub plain_err : (token : List ℕ) (fault : LineFault) → (get_or token 0 0 ≡ 45 → ⊥) → {V : Type 0} → (f : V → ℕ) → Gives f (IsNumeral token) (λ (n : ℕ). n < 2 ^ 64) (Err fault) → {U : Type 0} → (g : U → ℤ) → Gives g (IsInteger token) IsWide (Err fault)
+plain_err token Syntax other f h g = λ z k. let p = plain_integer token z other k in h p.0 p.1
+plain_err token Range other f h g = (pos h.0, inl (h.0, h.1, refl), big h.0 (pos h.0) h.2 (inl refl))
+
+as_signed_wide : (z : ℤ) → FitsSigned w32 (as_signed z) → IsWide z
+as_signed_wide (pos n) h = (n, grind (arith, ints), inl refl)
+as_signed_wide (negsuc n) h = (n + 1, grind (arith, ints), inr (omega (arith, ints)))
+
+pub immediate_err : (token : List ℕ) (fault : LineFault) → {V : Type 0} → (f : V → ℤ) → Gives f (IsInteger token) IsWide (Err fault) → {U : Type 0} → (g : U → ℤ) → Gives g (IsImmediate token) (FitsSigned w32) (Err fault)
+immediate_err token Syntax f h g = λ z k. h k.0 k.1
+immediate_err token Range f h g = (as_signed h.0, (h.0, h.1, refl), λ m. h.2 (as_signed_wide h.0 m))
+
+-- an extension has the width of its class
+pub bits_in_class : (w : Width) (e : Extension) (n : ℕ) → extension_width e ≡ w → extension_bits e ≡ n → bits_in w e ≡ n
+bits_in_class w e n is same = subst (λ (v : Width). bits_in v e ≡ n) is (own e ∙ same)
+  where
+    own : (e : Extension) → bits_in (extension_width e) e ≡ extension_bits e
+    own extension.From8To32 = refl
+    own extension.From16To32 = refl
+    own extension.From8To64 = refl
+    own extension.From16To64 = refl
+    own extension.From32To64 = refl
+
+some_bits : (w : Width) → HasExtension w 0 → ⊥
+some_bits w (extension.From8To32, is, same) = omega arith
+some_bits w (extension.From16To32, is, same) = omega arith
+some_bits w (extension.From8To64, is, same) = omega arith
+some_bits w (extension.From16To64, is, same) = omega arith
+some_bits w (extension.From32To64, is, same) = omega arith
+
+pub extension_class : (w : Width) (e : Extension) → HasExtension w (bits_in w e) → (extension_width e ≡ w) × (bits_in w e ≡ extension_bits e)
+extension_class W32 extension.From8To32 h = (refl, refl)
+extension_class W32 extension.From16To32 h = (refl, refl)
+extension_class W32 extension.From8To64 h = absurd (some_bits W32 h)
+extension_class W32 extension.From16To64 h = absurd (some_bits W32 h)
+extension_class W32 extension.From32To64 h = absurd (some_bits W32 h)
+extension_class W64 extension.From8To64 h = (refl, refl)
+extension_class W64 extension.From16To64 h = (refl, refl)
+extension_class W64 extension.From32To64 h = (refl, refl)
+extension_class W64 extension.From8To32 h = absurd (some_bits W64 h)
+extension_class W64 extension.From16To32 h = absurd (some_bits W64 h)
+
+pub immediate_ok : (token : List ℕ) (z y v : ℤ) → IsInteger token z → y ≡ as_signed z → FitsSigned w32 y → v ≡ y → Gives (λ (x : ℤ). x) (IsImmediate token) (FitsSigned w32) (Ok v)
+immediate_ok token z y v is e fits same = ((z, is, same ∙ e), subst (FitsSigned w32) (sym same) fits)

@@ -3,6 +3,7 @@ pub mod Scanning
 pub mod FieldLemmas
 pub mod TokenLists
 pub mod Runs
+pub mod ReadLemmas
 pub mod FormLemmas
 pub mod JudgeLemmas
 pub mod ReadingLemmas

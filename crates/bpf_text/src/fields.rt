@@ -1,22 +1,22 @@
-//! Registers, numbers and names in an instruction's text.
+//! Registers, numbers and names in an instruction's text, each from its token.
 
-ghost use Rattle.std.specs.Prelude.{◌≡◌, ◌<◌, ◌^◌, ◌-ℤ◌, ◌↔◌, ℕ, pos, min, IfSome, IfNone, FitsSigned, IsTrue};
+ghost use Rattle.std.specs.Prelude.{◌≡◌, ◌<◌, ◌^◌, ◌-ℤ◌, ◌<ℤ◌, ◌↔◌, ℕ, pos, IfSome, IfNone, FitsSigned, IsTrue};
 ghost use Rattle.std.specs.Int.{w16, w32};
-ghost use Rattle.bpf_types.specs.Line.{IsReg, IsOperand};
+ghost use Rattle.bpf_types.specs.Line.{IsReg, IsOperand, swap_width_bits};
 ghost use Rattle.bpf_text.specs.Number.{IsNumeral};
 ghost use Rattle.bpf_text.specs.Tokens.{AllWord};
-ghost use Rattle.bpf_text.specs.Fields.{IsRegister, IsImmediate, IsSecond, IsDistance, IsOffset, IsFirst, IsName, IsTarget, as_signed};
-ghost use Rattle.bpf_text.specs.Mirror.Gives.{Gives, Narrows};
-ghost use Rattle.bpf_text.specs.Judged.{text_of, target_of};
+ghost use Rattle.bpf_text.specs.Fields.{IsRegister, IsInteger, IsImmediate, IsSecond, IsDistance, IsFirst, IsName, IsTarget, as_signed};
+ghost use Rattle.bpf_text.specs.Mirror.Gives.{Gives, IsWide, bits_in, HasExtension, HasSwapWidth};
+ghost use Rattle.bpf_text.specs.Judged.{target_of};
 
 use crate::line::LineFault;
 use crate::number::numeral;
 use crate::token::{is_word_octet, run_len};
-use bpf_types::{Operand, Reg};
+use bpf_types::{Extension, Operand, Reg, SwapWidth, Width};
 
-/// The register that the token names.
+/// The register that the token names: r0 to r10.
 #[tactic(auto, using(crate::proofs::FieldLemmas::register_text))]
-fn register_of(token: &[u8]) -> Option<Reg>
+pub fn register(token: &[u8]) -> Option<Reg>
     ensures some { IfSome result (λ n. IsRegister token.now n) }
     ensures none { IfNone result ((n : ℕ) → IsRegister token.now n → ⊥) }
 {
@@ -27,39 +27,25 @@ fn register_of(token: &[u8]) -> Option<Reg>
     }
 }
 
-/// The register that the token names; a register over 10 is none.
-#[tactic(auto, using(crate::proofs::FieldLemmas::register_in_range))]
-pub fn register(token: &[u8]) -> Result<Reg, LineFault>
-    ensures { Gives (λ n. n) (IsRegister token.now) IsReg result }
+/// The number that the token is, with a minus in front or not.
+fn integer(token: &[u8]) -> Result<i128, LineFault>
+    ensures { Gives (λ z. z) (IsInteger token.now) IsWide result }
 {
-    match register_of(token) {
-        Some(register) => Ok(register),
-        None => Err(LineFault::Syntax),
+    match token {
+        [] => Err(LineFault::Syntax),
+        [b'-', digits @ ..] => Ok(-i128::from(numeral(digits)?)),
+        _ => Ok(i128::from(numeral(token)?)),
     }
 }
 
-/// The immediate that a number without a sign stands for.
-fn unsigned_immediate(n: u128) -> Result<i32, LineFault>
-    ensures { (m : ℕ) → n ≡ min m (2 ^ 64) → Narrows (FitsSigned w32) (as_signed (pos m)) result }
+/// A number of 32 bits without a sign stands for the signed one of the same bits.
+fn as_signed(number: i128) -> i128
+    ensures { result ≡ as_signed number }
 {
-    if n < 0x8000_0000 {
-        Ok(n as i32)
-    } else if n < 0x1_0000_0000 {
-        Ok((n as i64 - 0x1_0000_0000) as i32)
+    if 0x8000_0000 <= number && number < 0x1_0000_0000 {
+        number - 0x1_0000_0000
     } else {
-        Err(LineFault::Range)
-    }
-}
-
-/// The immediate that a number with a minus stands for.
-fn negative_immediate(n: u128) -> Result<i32, LineFault>
-    ensures { (m : ℕ) → n ≡ min m (2 ^ 64) →
-        Narrows (FitsSigned w32) (as_signed (pos 0 -ℤ pos m)) result }
-{
-    if n <= 0x8000_0000 {
-        Ok((0 - n as i64) as i32)
-    } else {
-        Err(LineFault::Range)
+        number
     }
 }
 
@@ -67,20 +53,9 @@ fn negative_immediate(n: u128) -> Result<i32, LineFault>
 pub fn immediate(token: &[u8]) -> Result<i32, LineFault>
     ensures { Gives (λ z. z) (IsImmediate token.now) (FitsSigned w32) result }
 {
-    match token {
-        [] => Err(LineFault::Syntax),
-        [b'-', digits @ ..] => {
-            match numeral(digits) {
-                Some(n) => negative_immediate(n),
-                None => Err(LineFault::Syntax),
-            }
-        }
-        _ => {
-            match numeral(token) {
-                Some(n) => unsigned_immediate(n),
-                None => Err(LineFault::Syntax),
-            }
-        }
+    match i32::try_from(as_signed(integer(token)?)) {
+        Ok(immediate) => Ok(immediate),
+        Err(_) => Err(LineFault::Range),
     }
 }
 
@@ -88,34 +63,20 @@ pub fn immediate(token: &[u8]) -> Result<i32, LineFault>
 pub fn second(token: &[u8]) -> Result<Operand, LineFault>
     ensures { Gives (λ o. o) (IsSecond token.now) IsOperand result }
 {
-    match register_of(token) {
+    match register(token) {
         Some(register) => Ok(Operand::Register(register)),
-        None => {
-            let imm = immediate(token)?;
-            Ok(Operand::Immediate(imm))
-        }
+        None => Ok(Operand::Immediate(immediate(token)?)),
     }
 }
 
-/// A distance of 16 bits that goes forward.
-fn short_forward(n: u128) -> Result<i16, LineFault>
-    ensures { (m : ℕ) → n ≡ min m (2 ^ 64) → Narrows (FitsSigned w16) (pos m) result }
+/// The distance that the token is: a sign and a number.
+fn distance(token: &[u8]) -> Result<i128, LineFault>
+    ensures { Gives (λ z. z) (IsDistance token.now) IsWide result }
 {
-    if n < 0x8000 {
-        Ok(n as i16)
-    } else {
-        Err(LineFault::Range)
-    }
-}
-
-/// A distance of 16 bits that goes back.
-fn short_backward(n: u128) -> Result<i16, LineFault>
-    ensures { (m : ℕ) → n ≡ min m (2 ^ 64) → Narrows (FitsSigned w16) (pos 0 -ℤ pos m) result }
-{
-    if n <= 0x8000 {
-        Ok((0 - n as i32) as i16)
-    } else {
-        Err(LineFault::Range)
+    match token {
+        [b'+', digits @ ..] => Ok(i128::from(numeral(digits)?)),
+        [b'-', digits @ ..] => Ok(-i128::from(numeral(digits)?)),
+        _ => Err(LineFault::Syntax),
     }
 }
 
@@ -123,90 +84,49 @@ fn short_backward(n: u128) -> Result<i16, LineFault>
 pub fn short_distance(token: &[u8]) -> Result<i16, LineFault>
     ensures { Gives (λ z. z) (IsDistance token.now) (FitsSigned w16) result }
 {
-    match token {
-        [b'+', digits @ ..] => {
-            match numeral(digits) {
-                Some(n) => short_forward(n),
-                None => Err(LineFault::Syntax),
-            }
-        }
-        [b'-', digits @ ..] => {
-            match numeral(digits) {
-                Some(n) => short_backward(n),
-                None => Err(LineFault::Syntax),
-            }
-        }
-        _ => Err(LineFault::Syntax),
-    }
-}
-
-/// A distance of 32 bits that goes forward.
-fn long_forward(n: u128) -> Result<i32, LineFault>
-    ensures { (m : ℕ) → n ≡ min m (2 ^ 64) → Narrows (FitsSigned w32) (pos m) result }
-{
-    if n < 0x8000_0000 {
-        Ok(n as i32)
-    } else {
-        Err(LineFault::Range)
-    }
-}
-
-/// A distance of 32 bits that goes back.
-fn long_backward(n: u128) -> Result<i32, LineFault>
-    ensures { (m : ℕ) → n ≡ min m (2 ^ 64) → Narrows (FitsSigned w32) (pos 0 -ℤ pos m) result }
-{
-    if n <= 0x8000_0000 {
-        Ok((0 - n as i64) as i32)
-    } else {
-        Err(LineFault::Range)
-    }
+    i16::try_from(distance(token)?).map_err(|_| LineFault::Range)
 }
 
 /// The distance of 32 bits that the token is.
-pub fn long_distance(token: &[u8]) -> Result<i32, LineFault>
+fn long_distance(token: &[u8]) -> Result<i32, LineFault>
     ensures { Gives (λ z. z) (IsDistance token.now) (FitsSigned w32) result }
 {
-    match token {
-        [b'+', digits @ ..] => {
-            match numeral(digits) {
-                Some(n) => long_forward(n),
-                None => Err(LineFault::Syntax),
-            }
-        }
-        [b'-', digits @ ..] => {
-            match numeral(digits) {
-                Some(n) => long_backward(n),
-                None => Err(LineFault::Syntax),
-            }
-        }
-        _ => Err(LineFault::Syntax),
-    }
+    i32::try_from(distance(token)?).map_err(|_| LineFault::Range)
 }
 
-/// The offset that the token is, or zero where there is none.
-pub fn offset(token: Option<&[u8]>) -> Result<i16, LineFault>
-    ensures { Gives (λ z. z) (IsOffset (text_of token.entry)) (FitsSigned w16) result }
+/// The distance of 16 bits that the token is, or the name with a distance of 0.
+pub fn short_target(token: &[u8]) -> Result<(i16, Option<&[u8]>), LineFault>
+    ensures { Gives target_of (IsTarget token.now) (λ w. FitsSigned w16 w.0) result }
 {
-    match token {
-        Some(token) => short_distance(token),
-        None => Ok(0),
+    if is_name(token) {
+        return Ok((0, Some(token)));
     }
+    Ok((short_distance(token)?, None))
 }
 
-/// The number of 64 bits that the token is.
-pub fn wide(token: &[u8]) -> Result<u64, LineFault>
-    ensures { Gives (λ n. n) (IsNumeral token.now) (λ n. n < 2 ^ 64) result }
+/// The distance of 32 bits that the token is, or the name with a distance of 0.
+pub fn long_target(token: &[u8]) -> Result<(i32, Option<&[u8]>), LineFault>
+    ensures { Gives target_of (IsTarget token.now) (λ w. FitsSigned w32 w.0) result }
 {
-    match numeral(token) {
-        None => Err(LineFault::Syntax),
-        Some(n) => {
-            if n < 0x1_0000_0000_0000_0000 {
-                Ok(n as u64)
-            } else {
-                Err(LineFault::Range)
-            }
-        }
+    if is_name(token) {
+        return Ok((0, Some(token)));
     }
+    Ok((long_distance(token)?, None))
+}
+
+/// The width that the token says, which a sign is extended from.
+#[tactic(auto, using(crate::proofs::FieldLemmas::bits_in_class))]
+pub fn extension(width: Width, token: &[u8]) -> Result<Extension, LineFault>
+    ensures { Gives (bits_in width) (IsNumeral token.now) (HasExtension width) result }
+{
+    Extension::new(width, numeral(token)?).ok_or(LineFault::Range)
+}
+
+/// The width that the token says, of a byte order instruction.
+pub fn swap_width(token: &[u8]) -> Result<SwapWidth, LineFault>
+    ensures { Gives swap_width_bits (IsNumeral token.now) HasSwapWidth result }
+{
+    SwapWidth::new(numeral(token)?).ok_or(LineFault::Range)
 }
 
 fn is_first_octet(octet: u8) -> bool
@@ -229,26 +149,4 @@ pub fn is_name(token: &[u8]) -> bool
         [] => false,
         [first, rest @ ..] => is_first_octet(*first) && rest.len() < 32 && all_word(rest),
     }
-}
-
-/// The distance of 16 bits that the token is, or the name with a distance of 0.
-pub fn short_target(token: &[u8]) -> Result<(i16, Option<&[u8]>), LineFault>
-    ensures { Gives target_of (IsTarget token.now) (λ w. FitsSigned w16 w.0) result }
-{
-    if is_name(token) {
-        return Ok((0, Some(token)));
-    }
-    let distance = short_distance(token)?;
-    Ok((distance, None))
-}
-
-/// The distance of 32 bits that the token is, or the name with a distance of 0.
-pub fn long_target(token: &[u8]) -> Result<(i32, Option<&[u8]>), LineFault>
-    ensures { Gives target_of (IsTarget token.now) (λ w. FitsSigned w32 w.0) result }
-{
-    if is_name(token) {
-        return Ok((0, Some(token)));
-    }
-    let distance = long_distance(token)?;
-    Ok((distance, None))
 }

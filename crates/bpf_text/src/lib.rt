@@ -2,10 +2,10 @@
 #![tactic(auto)]
 
 mod fields;
-mod forms;
 pub mod laws;
 mod line;
 mod number;
+mod operands;
 mod reading;
 mod statements;
 mod token;

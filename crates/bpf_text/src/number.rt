@@ -2,6 +2,9 @@
 
 ghost use Rattle.std.specs.Prelude.{◌≡◌, ◌<◌, ◌≤◌, ◌^◌, ℕ, IfSome, IfNone, min};
 ghost use Rattle.bpf_text.specs.Number.{digit, number_in, Spells, IsNumeral};
+ghost use Rattle.bpf_text.specs.Mirror.Gives.{Gives};
+
+use crate::line::LineFault;
 
 /// No number of an instruction is so large.
 const LIMIT: u128 = 0x1_0000_0000_0000_0000;
@@ -18,33 +21,33 @@ fn digit_of(octet: u8) -> u8
     }
 }
 
-/// The number that the digits spell, or the limit where it is larger.
-fn in_base(base: u8, octets: &[u8]) -> Option<u128>
+/// The number of 64 bits that the digits spell.
+fn in_base(base: u8, octets: &[u8]) -> Result<u64, LineFault>
     requires low { 2 ≤ base }
     requires high { base ≤ 36 }
-    ensures some { IfSome result
-        (λ n. Spells base octets.now (number_in base octets.now)
-        × (n ≡ min (number_in base octets.now) (2 ^ 64))) }
-    ensures none { IfNone result ((n : ℕ) → Spells base octets.now n → ⊥) }
+    ensures { Gives (λ n. n) (Spells base octets.now) (λ n. n < 2 ^ 64) result }
 {
     if octets.is_empty() {
-        return None;
+        return Err(LineFault::Syntax);
     }
     let mut n: u128 = 0;
     for octet in octets {
         let digit = digit_of(*octet);
         if digit >= base {
-            return None;
+            return Err(LineFault::Syntax);
         }
         n = (n * u128::from(base) + u128::from(digit)).min(LIMIT);
     }
-    Some(n)
+    if n < LIMIT {
+        Ok(n as u64)
+    } else {
+        Err(LineFault::Range)
+    }
 }
 
-/// The number that the octets spell, or the limit where it is larger.
-pub fn numeral(octets: &[u8]) -> Option<u128>
-    ensures some { IfSome result (λ v. (n : ℕ) × IsNumeral octets.now n × (v ≡ min n (2 ^ 64))) }
-    ensures none { IfNone result ((n : ℕ) → IsNumeral octets.now n → ⊥) }
+/// The number of 64 bits that the octets spell: decimal digits, or `0x` and hexadecimal ones.
+pub fn numeral(octets: &[u8]) -> Result<u64, LineFault>
+    ensures { Gives (λ n. n) (IsNumeral octets.now) (λ n. n < 2 ^ 64) result }
 {
     match octets {
         [b'0', b'x', digits @ ..] => in_base(16, digits),

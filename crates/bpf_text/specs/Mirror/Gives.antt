@@ -1,5 +1,11 @@
 -- What a reader says.
-use Rattle.std.specs.Prelude.{◌≡◌, Result, Ok, Err}
+use Rattle.std.specs.Prelude.{◌≡◌, ◌<◌, ◌^◌, ℕ, ℤ, pos, ◌-ℤ◌, ◌⊎◌, Result, Ok, Err}
+use Rattle.bpf_types.specs.declared.line.Width.{Width}
+use Rattle.bpf_types.specs.declared.line.Extension.{Extension}
+use Rattle.bpf_types.specs.declared.line.Extension.TheVariants as extension
+use Rattle.bpf_types.specs.declared.line.Width.TheVariants.{W32, W64}
+use Rattle.bpf_types.specs.declared.line.SwapWidth.{SwapWidth}
+use Rattle.bpf_types.specs.Line.{swap_width_bits, extension_width, extension_bits}
 use Rattle.bpf_text.specs.declared.line.LineFault.{LineFault}
 use Rattle.bpf_text.specs.declared.line.LineFault.TheVariants.{Syntax, Range}
 
@@ -11,18 +17,23 @@ Gives {V} {W} view Is Fits (Ok v) = Is (view v) × Fits (view v)
 Gives {V} {W} view Is Fits (Err Syntax) = (w : W) → ¬ Is w
 Gives {V} {W} view Is Fits (Err Range) = (w : W) × Is w × ¬ Fits w
 
--- the number is this one and in its range; or this one is out of its range
-abbrev pub Narrows : {V : Type 0} → (V → Type 0) → V → Result V LineFault → Type 0
-Narrows {V} Fits w (Ok v) = (v ≡ w) × Fits v
-Narrows {V} Fits w (Err Syntax) = ⊥
-Narrows {V} Fits w (Err Range) = ¬ Fits w
+-- the width of an extension of the class, or 0 where it is of the other class
+abbrev pub bits_in : Width → Extension → ℕ
+bits_in W32 extension.From8To32 = 8
+bits_in W32 extension.From16To32 = 16
+bits_in W64 extension.From8To64 = 8
+bits_in W64 extension.From16To64 = 16
+bits_in W64 extension.From32To64 = 32
+bits_in width other = 0
 
--- two readings together, where Syntax comes before Range
-abbrev pub both_of : {V : Type 0} → {W : Type 0} → Result V LineFault → Result W LineFault →
-    Result (V × W) LineFault
-both_of (Err Syntax) second = Err Syntax
-both_of (Err Range) (Err Syntax) = Err Syntax
-both_of (Err Range) (Err Range) = Err Range
-both_of (Err Range) (Ok w) = Err Range
-both_of (Ok v) (Err fault) = Err fault
-both_of (Ok v) (Ok w) = Ok (v, w)
+-- an extension of the class, or a byte order instruction, has this width
+abbrev pub HasExtension : Width → ℕ → Type 0
+HasExtension width n =
+    (e : Extension) × (extension_width e ≡ width) × (extension_bits e ≡ n)
+
+abbrev pub HasSwapWidth : ℕ → Type 0
+HasSwapWidth n = (s : SwapWidth) × (swap_width_bits s ≡ n)
+
+-- a number of 64 bits, with a minus or without
+abbrev pub IsWide : ℤ → Type 0
+IsWide z = (n : ℕ) × (n < 2 ^ 64) × ((z ≡ pos n) ⊎ (z ≡ pos 0 -ℤ pos n))

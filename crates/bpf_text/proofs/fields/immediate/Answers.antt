@@ -1,26 +1,24 @@
-use Rattle.std.proofs.Common.{◌≡◌, ◌-◌, ◌-ℤ◌, pos, drop, take, length, get_or, arith, FitsSigned}
-use Rattle.std.specs.Int.{w32}
-use Rattle.bpf_text.specs.Fields.{IsImmediate, as_signed}
-use Rattle.bpf_text.proofs.FieldLemmas.{front_rest, minus_read, no_minus, no_plain, no_immediate, gives_read}
+use Rattle.std.proofs.Common.{ℤ, ap, sym, subst, ◌∙◌, to_z, of_z, to_z-of_z, SFits, FitsSigned, rules}
+use Rattle.std.specs.Int.{w32, w128}
+use Rattle.bpf_text.specs.Fields.{as_signed}
+use Rattle.std.proofs.lemmas.Result.{err_from_is_err_and}
+use Rattle.bpf_text.proofs.FieldLemmas.{immediate_err, immediate_ok}
 use Rattle.bpf_text.proofs.fields.immediate.Goals as goal
 
-pub returns-in-Some : goal.returns-in-Some
-returns-in-Some c =
-    let t = c.args.token.now in
-    let first : get_or t 0 0 ≡ 45 = omega arith in
-    let h = c.in-Some.ensures.some in
-    gives_read (IsImmediate t) (FitsSigned w32) c.negative_immediate.result (as_signed (pos 0 -ℤ pos h.0))
-    (minus_read t (take (length t - 1) (drop 1 t)) h.0 (front_rest t 45 c.in-45.len_at_least first) h.1)
-    (c.negative_immediate.ensures h.0 h.2)
+pub returns-in_err-integer : goal.returns-in_err-integer
+returns-in_err-integer c =
+    let p = err_from_is_err_and c.from_residual.result c.from_residual.ensures.1 in
+    rw (p.1, p.2) (immediate_err c.args.token.now c.in_err-integer.field-0.0 (λ (z : ℤ). z) c.in_err-integer.ensures (λ (z : ℤ). z))
 
-pub returns-in-None : goal.returns-in-None
-returns-in-None c =
-    let t = c.args.token.now in
-    let first : get_or t 0 0 ≡ 45 = omega arith in
-    no_minus t (take (length t - 1) (drop 1 t)) (front_rest t 45 c.in-45.len_at_least first) c.in-None.ensures.none
+pub returns-in-Ok : goal.returns-in-Ok
+returns-in-Ok c =
+    let a : SFits w128 c.as_signed.result = search rules in
+    let b : SFits w128 c.in_ok-integer.field-0 = search rules in
+    let i : SFits w32 c.in-Ok.immediate = search rules in
+    immediate_ok c.args.token.now c.in_ok-integer.field-0 c.as_signed.result (to_z w32 (of_z w32 c.in-Ok.immediate)) c.in_ok-integer.ensures.0 (c.as_signed.ensures ∙ ap as_signed (to_z-of_z b)) (subst (FitsSigned w32) (to_z-of_z a) c.in-Ok.ensures.0) (to_z-of_z i ∙ c.in-Ok.ensures.1 ∙ to_z-of_z a)
 
-pub returns-in-None-numeral : goal.returns-in-None-numeral
-returns-in-None-numeral c = no_plain c.args.token.now (λ e. omega arith) c.in-None-numeral.ensures.none
-
-pub returns-in-empty : goal.returns-in-empty
-returns-in-empty c = no_immediate c.args.token.now c.in-empty.len_below
+pub returns-in-Err : goal.returns-in-Err
+returns-in-Err c =
+    let a : SFits w128 c.as_signed.result = search rules in
+    let b : SFits w128 c.in_ok-integer.field-0 = search rules in
+    (c.as_signed.result, (c.in_ok-integer.field-0, c.in_ok-integer.ensures.0, c.as_signed.ensures ∙ ap as_signed (to_z-of_z b)), λ m. c.in-Err.ensures (subst (FitsSigned w32) (sym (to_z-of_z a)) m))

@@ -1,11 +1,29 @@
-use Rattle.std.proofs.Common.{ℕ}
+use Rattle.std.proofs.Common.{◌<◌, ◌^◌, ℕ, ℤ, List, [], ◌∷◌, Option, Some, None, Bor, FitsSigned, SFits, to_z, of_z, to_z-of_z, rules, ap, sym, subst, ◌∙◌}
+use Rattle.std.specs.Int.{w16, w32}
+use Rattle.bpf_types.specs.Line.{IsReg, IsOperand, extension_bits, swap_width_bits}
+use Rattle.bpf_types.specs.declared.line.Line.TheVariants as line
+use Rattle.bpf_listing.specs.declared.mnemonic.Mnemonic.TheVariants as word
+use Rattle.bpf_listing.specs.declared.mnemonic.Jump.TheVariants as leap
 use Rattle.bpf_types.specs.declared.line.Operand.{Operand}
-use Rattle.std.proofs.lemmas.Result.{err_from_is_err_and}
-use Rattle.bpf_text.specs.Judged.{texts}
-use Rattle.bpf_text.proofs.JudgeLemmas.{arithmetic_err}
+use Rattle.bpf_types.specs.declared.line.Extension.{Extension}
+use Rattle.bpf_types.specs.declared.line.SwapWidth.{SwapWidth}
+use Rattle.bpf_text.specs.Number.{IsNumeral}
+use Rattle.bpf_text.specs.Fields.{IsRegister, IsImmediate, IsSecond, IsTarget}
+use Rattle.bpf_text.specs.Judged.{target_of}
+use Rattle.bpf_text.specs.Mirror.Gives.{bits_in, HasExtension, HasSwapWidth}
+use Rattle.bpf_text.specs.Mirror.Reads.{state, Answers, Token, Behind, Then, Memory}
+use Rattle.bpf_text.proofs.ReadLemmas.{then_next, behind_next}
+use Rattle.bpf_text.proofs.JudgeLemmas.{arithmetic, plain}
 use Rattle.bpf_text.proofs.statements.arithmetic.Goals as goal
 
 pub returns-in_err-dst : goal.returns-in_err-dst
-returns-in_err-dst c =
-    let p = err_from_is_err_and c.from_residual.result c.from_residual.ensures.1 in
-    rw (p.1, p.2) (arithmetic_err c.args.width c.args.operation (texts c.args.operands.now) c.in_err-dst.field-0.0 (λ (p : ℕ × Operand). p) c.in_err-dst.ensures)
+returns-in_err-dst c = rw c.from_residual.ensures (arithmetic c.args.width c.args.operation (state c.args.operands.now) None (state c.register.new.self) (λ w rest m. c.in_err-dst.ensures w.0 m.0 m.1))
+
+pub returns-in_err-mark : goal.returns-in_err-mark
+returns-in_err-mark c = rw c.from_residual-in_err-mark.ensures (arithmetic c.args.width c.args.operation (state c.args.operands.now) None (state c.mark.new.self) (then_next c.in_ok-dst.ensures (λ (o : Operand). o) (Behind (44 ∷ []) (Token IsSecond)) IsOperand None (state c.mark.new.self) (λ w rest m. c.in_err-mark.ensures.none m.0 m.1)))
+
+pub returns-in_err-operand : goal.returns-in_err-operand
+returns-in_err-operand c = rw c.from_residual-in_err-operand.ensures (arithmetic c.args.width c.args.operation (state c.args.operands.now) None (state c.second.new.self) (then_next c.in_ok-dst.ensures (λ (o : Operand). o) (Behind (44 ∷ []) (Token IsSecond)) IsOperand None (state c.second.new.self) (behind_next (44 ∷ []) (state c.register.new.self) (state c.mark.new.self) c.in_ok-mark.ensures.some (λ (o : Operand). o) (Token IsSecond) IsOperand None (state c.second.new.self) c.in_err-operand.ensures)))
+
+pub returns : goal.returns
+returns c = rw c.plain.ensures (arithmetic c.args.width c.args.operation (state c.args.operands.now) (Some (c.in_ok-dst.dst, c.in_ok-operand.operand)) (state c.second.new.self) (then_next c.in_ok-dst.ensures (λ (o : Operand). o) (Behind (44 ∷ []) (Token IsSecond)) IsOperand (Some c.in_ok-operand.operand) (state c.second.new.self) (behind_next (44 ∷ []) (state c.register.new.self) (state c.mark.new.self) c.in_ok-mark.ensures.some (λ (o : Operand). o) (Token IsSecond) IsOperand (Some c.in_ok-operand.operand) (state c.second.new.self) c.in_ok-operand.ensures)))

@@ -1,15 +1,35 @@
-use Rattle.std.proofs.Common.{ℤ}
-use Rattle.std.proofs.lemmas.Result.{err_from_is_err_and}
-use Rattle.bpf_text.specs.Judged.{texts, target_of}
-use Rattle.bpf_text.proofs.JudgeLemmas.{local_err, call_err}
+use Rattle.std.proofs.Common.{◌≡◌, ◌≢◌, ℕ, ℤ, List, [], ◌∷◌, Option, Some, None, Bor, ap, sym, ◌∙◌, subst, FitsSigned, SFits, to_z-of_z, rules}
+use Rattle.std.specs.Int.{w32}
+use Rattle.bpf_types.specs.declared.line.Line.TheVariants as line
+use Rattle.bpf_listing.specs.declared.mnemonic.Mnemonic.TheVariants as word
+use Rattle.bpf_listing.specs.declared.mnemonic.Jump.TheVariants as leap
+use Rattle.bpf_text.specs.Mirror.Reads.{State, state, Answers}
+use Rattle.bpf_text.proofs.ReadLemmas.{if_some, if_none}
+use Rattle.bpf_text.proofs.JudgeLemmas.{call, call_local, plain}
 use Rattle.bpf_text.proofs.statements.call.Goals as goal
 
-pub returns-in_err-distance-in-Some : goal.returns-in_err-distance-in-Some
-returns-in_err-distance-in-Some c =
-    let p = err_from_is_err_and c.from_residual.result c.from_residual.ensures.1 in
-    rw (p.1, p.2) (local_err (texts c.args.operands.now) (texts c.in-Some.others.now) c.in_err-distance-in-Some.field-0.0 target_of c.in-Some.ensures.some c.in_err-distance-in-Some.ensures)
+pub returns-in_err-distance : goal.returns-in_err-distance
+returns-in_err-distance c = rw c.from_residual.ensures
+    (call_local (state c.args.operands.now) (state c.local.new.self) None (state c.long_target.new.self) (if_some c.local.result c.local.ensures.some (sym c.is_some.ensures ∙ c.if-is_some.true)) c.in_err-distance.ensures)
 
-pub returns-in_err-number-in-None : goal.returns-in_err-number-in-None
-returns-in_err-number-in-None c =
-    let p = err_from_is_err_and c.from_residual-in_err-number-in-None.result c.from_residual-in_err-number-in-None.ensures.1 in
-    rw (p.1, p.2) (call_err (texts c.args.operands.now) c.in_err-number-in-None.field-0.0 (λ (z : ℤ). z) c.in-None.ensures.none c.in_err-number-in-None.ensures)
+pub returns-then-is_some : goal.returns-then-is_some
+returns-then-is_some c =
+    let f : SFits w32 c.in_ok-distance.distance = search rules in
+    subst (λ (y : ℤ). Answers (word.Jump leap.Call) (state c.args.operands.now) (Some (record { line = line.CallLocal y; name = c.in_ok-distance.name })) (state c.long_target.new.self)) (sym (to_z-of_z f)) (call_local (state c.args.operands.now) (state c.local.new.self) (Some (c.in_ok-distance.distance, c.in_ok-distance.name)) (state c.long_target.new.self) (if_some c.local.result c.local.ensures.some (sym c.is_some.ensures ∙ c.if-is_some.true)) c.in_ok-distance.ensures)
+
+pub returns-in_err-number : goal.returns-in_err-number
+returns-in_err-number c =
+    let no = sym c.is_some.ensures ∙ c.if-is_some.false in
+    let same : state c.local.new.self ≡ state c.args.operands.now = if_none c.local.result c.local.ensures.stays no in
+    let none = if_none c.local.result c.local.ensures.none no in
+    rw c.from_residual-in_err-number.ensures (subst (λ (s : State). Answers (word.Jump leap.Call) s None (state c.immediate.new.self)) same
+    (call (state c.local.new.self) None (state c.immediate.new.self) (subst (λ (s : State). (rest : List (List ℕ)) → s.0 ≢ (108 ∷ 111 ∷ 99 ∷ 97 ∷ 108 ∷ []) ∷ rest) (sym same) none) c.in_err-number.ensures))
+
+pub returns : goal.returns
+returns c =
+    let f : SFits w32 c.in_ok-number.number = search rules in
+    let no = sym c.is_some.ensures ∙ c.if-is_some.false in
+    let same : state c.local.new.self ≡ state c.args.operands.now = if_none c.local.result c.local.ensures.stays no in
+    let none = if_none c.local.result c.local.ensures.none no in
+    rw (c.plain.ensures ∙ ap (λ (y : ℤ). Some (plain (line.Call y))) (to_z-of_z f)) (subst (λ (s : State). Answers (word.Jump leap.Call) s (Some (plain (line.Call c.in_ok-number.number))) (state c.immediate.new.self)) same
+    (call (state c.local.new.self) (Some c.in_ok-number.number) (state c.immediate.new.self) (subst (λ (s : State). (rest : List (List ℕ)) → s.0 ≢ (108 ∷ 111 ∷ 99 ∷ 97 ∷ 108 ∷ []) ∷ rest) (sym same) none) c.in_ok-number.ensures))

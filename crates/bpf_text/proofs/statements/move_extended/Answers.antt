@@ -1,13 +1,35 @@
-use Rattle.std.proofs.Common.{ℕ}
-use Rattle.std.proofs.lemmas.Result.{err_from_is_err_and}
-use Rattle.bpf_text.specs.Judged.{texts}
-use Rattle.bpf_text.proofs.JudgeLemmas.{extended_err, odd_extended}
+use Rattle.std.proofs.Common.{◌<◌, ◌^◌, ℕ, ℤ, List, [], ◌∷◌, Option, Some, None, Bor, FitsSigned, SFits, to_z, of_z, to_z-of_z, rules, ap, sym, subst, ◌∙◌}
+use Rattle.std.specs.Int.{w16, w32}
+use Rattle.bpf_types.specs.Line.{IsReg, IsOperand, extension_bits, swap_width_bits}
+use Rattle.bpf_types.specs.declared.line.Line.TheVariants as line
+use Rattle.bpf_listing.specs.declared.mnemonic.Mnemonic.TheVariants as word
+use Rattle.bpf_listing.specs.declared.mnemonic.Jump.TheVariants as leap
+use Rattle.bpf_types.specs.declared.line.Operand.{Operand}
+use Rattle.bpf_types.specs.declared.line.Extension.{Extension}
+use Rattle.bpf_types.specs.declared.line.SwapWidth.{SwapWidth}
+use Rattle.bpf_text.specs.Number.{IsNumeral}
+use Rattle.bpf_text.specs.Fields.{IsRegister, IsImmediate, IsSecond, IsTarget}
+use Rattle.bpf_text.specs.Judged.{target_of}
+use Rattle.bpf_text.specs.Mirror.Gives.{bits_in, HasExtension, HasSwapWidth}
+use Rattle.bpf_text.specs.Mirror.Reads.{state, Answers, Token, Behind, Then, Memory}
+use Rattle.bpf_text.proofs.ReadLemmas.{then_next, behind_next}
+use Rattle.bpf_text.proofs.JudgeLemmas.{move_extended, plain}
 use Rattle.bpf_text.proofs.statements.move_extended.Goals as goal
 
 pub returns-in_err-dst : goal.returns-in_err-dst
-returns-in_err-dst c =
-    let p = err_from_is_err_and c.from_residual.result c.from_residual.ensures.1 in
-    rw (p.1, p.2) (extended_err c.args.width (texts c.args.operands.now) c.in_err-dst.field-0.0 (λ (p : (ℕ × ℕ) × ℕ). p) c.in_err-dst.ensures)
+returns-in_err-dst c = rw c.from_residual.ensures (move_extended c.args.width (state c.args.operands.now) None (state c.register.new.self) (λ w rest m. c.in_err-dst.ensures w.0 m.0 m.1))
 
-pub returns-in-None : goal.returns-in-None
-returns-in-None c = odd_extended c.args.width (texts c.args.operands.now) _ _ _ c.in_ok-dst.ensures.0 c.in-None.ensures.none
+pub returns-in_err-mark : goal.returns-in_err-mark
+returns-in_err-mark c = rw c.from_residual-in_err-mark.ensures (move_extended c.args.width (state c.args.operands.now) None (state c.mark.new.self) (then_next c.in_ok-dst.ensures (λ (p : (ℕ) × (Extension)). ((λ (n : ℕ). n) p.0, (bits_in c.args.width) p.1)) (Behind (44 ∷ []) (Then (Token IsRegister) (Behind (44 ∷ []) (Token IsNumeral)))) (λ (p : (ℕ) × (ℕ)). IsReg p.0 × (HasExtension c.args.width) p.1) None (state c.mark.new.self) (λ w rest m. c.in_err-mark.ensures.none m.0 m.1)))
+
+pub returns-in_err-src : goal.returns-in_err-src
+returns-in_err-src c = rw c.from_residual-in_err-src.ensures (move_extended c.args.width (state c.args.operands.now) None (state c.register-2.new.self) (then_next c.in_ok-dst.ensures (λ (p : (ℕ) × (Extension)). ((λ (n : ℕ). n) p.0, (bits_in c.args.width) p.1)) (Behind (44 ∷ []) (Then (Token IsRegister) (Behind (44 ∷ []) (Token IsNumeral)))) (λ (p : (ℕ) × (ℕ)). IsReg p.0 × (HasExtension c.args.width) p.1) None (state c.register-2.new.self) (behind_next (44 ∷ []) (state c.register.new.self) (state c.mark.new.self) c.in_ok-mark.ensures.some (λ (p : (ℕ) × (Extension)). ((λ (n : ℕ). n) p.0, (bits_in c.args.width) p.1)) (Then (Token IsRegister) (Behind (44 ∷ []) (Token IsNumeral))) (λ (p : (ℕ) × (ℕ)). IsReg p.0 × (HasExtension c.args.width) p.1) None (state c.register-2.new.self) (λ w rest m. c.in_err-src.ensures w.0 m.0 m.1))))
+
+pub returns-in_err-mark-2 : goal.returns-in_err-mark-2
+returns-in_err-mark-2 c = rw c.from_residual-in_err-mark-2.ensures (move_extended c.args.width (state c.args.operands.now) None (state c.mark-2.new.self) (then_next c.in_ok-dst.ensures (λ (p : (ℕ) × (Extension)). ((λ (n : ℕ). n) p.0, (bits_in c.args.width) p.1)) (Behind (44 ∷ []) (Then (Token IsRegister) (Behind (44 ∷ []) (Token IsNumeral)))) (λ (p : (ℕ) × (ℕ)). IsReg p.0 × (HasExtension c.args.width) p.1) None (state c.mark-2.new.self) (behind_next (44 ∷ []) (state c.register.new.self) (state c.mark.new.self) c.in_ok-mark.ensures.some (λ (p : (ℕ) × (Extension)). ((λ (n : ℕ). n) p.0, (bits_in c.args.width) p.1)) (Then (Token IsRegister) (Behind (44 ∷ []) (Token IsNumeral))) (λ (p : (ℕ) × (ℕ)). IsReg p.0 × (HasExtension c.args.width) p.1) None (state c.mark-2.new.self) (then_next c.in_ok-src.ensures (bits_in c.args.width) (Behind (44 ∷ []) (Token IsNumeral)) (HasExtension c.args.width) None (state c.mark-2.new.self) (λ w rest m. c.in_err-mark-2.ensures.none m.0 m.1)))))
+
+pub returns-in_err-extension : goal.returns-in_err-extension
+returns-in_err-extension c = rw c.from_residual-in_err-extension.ensures (move_extended c.args.width (state c.args.operands.now) None (state c.extension.new.self) (then_next c.in_ok-dst.ensures (λ (p : (ℕ) × (Extension)). ((λ (n : ℕ). n) p.0, (bits_in c.args.width) p.1)) (Behind (44 ∷ []) (Then (Token IsRegister) (Behind (44 ∷ []) (Token IsNumeral)))) (λ (p : (ℕ) × (ℕ)). IsReg p.0 × (HasExtension c.args.width) p.1) None (state c.extension.new.self) (behind_next (44 ∷ []) (state c.register.new.self) (state c.mark.new.self) c.in_ok-mark.ensures.some (λ (p : (ℕ) × (Extension)). ((λ (n : ℕ). n) p.0, (bits_in c.args.width) p.1)) (Then (Token IsRegister) (Behind (44 ∷ []) (Token IsNumeral))) (λ (p : (ℕ) × (ℕ)). IsReg p.0 × (HasExtension c.args.width) p.1) None (state c.extension.new.self) (then_next c.in_ok-src.ensures (bits_in c.args.width) (Behind (44 ∷ []) (Token IsNumeral)) (HasExtension c.args.width) None (state c.extension.new.self) (behind_next (44 ∷ []) (state c.register-2.new.self) (state c.mark-2.new.self) c.in_ok-mark-2.ensures.some (bits_in c.args.width) (Token IsNumeral) (HasExtension c.args.width) None (state c.extension.new.self) c.in_err-extension.ensures)))))
+
+pub returns : goal.returns
+returns c = rw c.plain.ensures (move_extended c.args.width (state c.args.operands.now) (Some (c.in_ok-dst.dst, (c.in_ok-src.src, c.in_ok-extension.extension))) (state c.extension.new.self) (then_next c.in_ok-dst.ensures (λ (p : (ℕ) × (Extension)). ((λ (n : ℕ). n) p.0, (bits_in c.args.width) p.1)) (Behind (44 ∷ []) (Then (Token IsRegister) (Behind (44 ∷ []) (Token IsNumeral)))) (λ (p : (ℕ) × (ℕ)). IsReg p.0 × (HasExtension c.args.width) p.1) (Some (c.in_ok-src.src, c.in_ok-extension.extension)) (state c.extension.new.self) (behind_next (44 ∷ []) (state c.register.new.self) (state c.mark.new.self) c.in_ok-mark.ensures.some (λ (p : (ℕ) × (Extension)). ((λ (n : ℕ). n) p.0, (bits_in c.args.width) p.1)) (Then (Token IsRegister) (Behind (44 ∷ []) (Token IsNumeral))) (λ (p : (ℕ) × (ℕ)). IsReg p.0 × (HasExtension c.args.width) p.1) (Some (c.in_ok-src.src, c.in_ok-extension.extension)) (state c.extension.new.self) (then_next c.in_ok-src.ensures (bits_in c.args.width) (Behind (44 ∷ []) (Token IsNumeral)) (HasExtension c.args.width) (Some c.in_ok-extension.extension) (state c.extension.new.self) (behind_next (44 ∷ []) (state c.register-2.new.self) (state c.mark-2.new.self) c.in_ok-mark-2.ensures.some (bits_in c.args.width) (Token IsNumeral) (HasExtension c.args.width) (Some c.in_ok-extension.extension) (state c.extension.new.self) c.in_ok-extension.ensures)))))

@@ -1,10 +1,23 @@
-use Rattle.std.proofs.Common.{ℕ}
-use Rattle.std.proofs.lemmas.Result.{err_from_is_err_and}
-use Rattle.bpf_text.specs.Judged.{texts}
-use Rattle.bpf_text.proofs.JudgeLemmas.{negate_err}
+use Rattle.std.proofs.Common.{◌<◌, ◌^◌, ℕ, ℤ, List, [], ◌∷◌, Option, Some, None, Bor, FitsSigned, SFits, to_z, of_z, to_z-of_z, rules, ap, sym, subst, ◌∙◌}
+use Rattle.std.specs.Int.{w16, w32}
+use Rattle.bpf_types.specs.Line.{IsReg, IsOperand, extension_bits, swap_width_bits}
+use Rattle.bpf_types.specs.declared.line.Line.TheVariants as line
+use Rattle.bpf_listing.specs.declared.mnemonic.Mnemonic.TheVariants as word
+use Rattle.bpf_listing.specs.declared.mnemonic.Jump.TheVariants as leap
+use Rattle.bpf_types.specs.declared.line.Operand.{Operand}
+use Rattle.bpf_types.specs.declared.line.Extension.{Extension}
+use Rattle.bpf_types.specs.declared.line.SwapWidth.{SwapWidth}
+use Rattle.bpf_text.specs.Number.{IsNumeral}
+use Rattle.bpf_text.specs.Fields.{IsRegister, IsImmediate, IsSecond, IsTarget}
+use Rattle.bpf_text.specs.Judged.{target_of}
+use Rattle.bpf_text.specs.Mirror.Gives.{bits_in, HasExtension, HasSwapWidth}
+use Rattle.bpf_text.specs.Mirror.Reads.{state, Answers, Token, Behind, Then, Memory}
+use Rattle.bpf_text.proofs.ReadLemmas.{then_next, behind_next}
+use Rattle.bpf_text.proofs.JudgeLemmas.{negate, plain}
 use Rattle.bpf_text.proofs.statements.negate.Goals as goal
 
 pub returns-in_err-dst : goal.returns-in_err-dst
-returns-in_err-dst c =
-    let p = err_from_is_err_and c.from_residual.result c.from_residual.ensures.1 in
-    rw (p.1, p.2) (negate_err c.args.width (texts c.args.operands.now) c.in_err-dst.field-0.0 (λ (p : ℕ). p) c.in_err-dst.ensures)
+returns-in_err-dst c = rw c.from_residual.ensures (negate c.args.width (state c.args.operands.now) None (state c.register.new.self) c.in_err-dst.ensures)
+
+pub returns : goal.returns
+returns c = rw c.plain.ensures (negate c.args.width (state c.args.operands.now) (Some c.in_ok-dst.dst) (state c.register.new.self) c.in_ok-dst.ensures)

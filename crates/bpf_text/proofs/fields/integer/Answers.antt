@@ -1,0 +1,19 @@
+use Rattle.std.proofs.Common.{◌≡◌, ◌-◌, drop, take, length, get_or, arith, inl, inr, refl, ℕ, ℤ}
+use Rattle.std.proofs.lemmas.Result.{err_from_is_err_and}
+use Rattle.bpf_text.proofs.FieldLemmas.{front_rest, no_integer, minus_err, plain_err}
+use Rattle.bpf_text.proofs.fields.integer.Goals as goal
+
+pub returns-in_err-numeral-in-45 : goal.returns-in_err-numeral-in-45
+returns-in_err-numeral-in-45 c =
+    let t = c.args.token.now in
+    let first : get_or t 0 0 ≡ 45 = omega arith in
+    let p = err_from_is_err_and c.from_residual.result c.from_residual.ensures.1 in
+    rw (p.1, p.2) (minus_err t (take (length t - 1) (drop 1 t)) c.in_err-numeral-in-45.field-0.0 (front_rest t 45 c.in-45.len_at_least first) (λ (n : ℕ). n) c.in_err-numeral-in-45.ensures (λ (z : ℤ). z))
+
+pub returns-in_err-numeral-in_default : goal.returns-in_err-numeral-in_default
+returns-in_err-numeral-in_default c =
+    let p = err_from_is_err_and c.from_residual-in_err-numeral-in_default.result c.from_residual-in_err-numeral-in_default.ensures.1 in
+    rw (p.1, p.2) (plain_err c.args.token.now c.in_err-numeral-in_default.field-0.0 (λ e. omega arith) (λ (n : ℕ). n) c.in_err-numeral-in_default.ensures (λ (z : ℤ). z))
+
+pub returns-in-empty : goal.returns-in-empty
+returns-in-empty c = no_integer c.args.token.now c.in-empty.len_below
