@@ -1,5 +1,5 @@
 -- Fields of an instruction's text.
-use Rattle.std.proofs.Common.{◌≡◌, ◌<◌, ◌≤◌, ◌+◌, ◌-◌, ℕ, List, [], ◌∷◌, length, get_or, take, drop, ◌^◌, Option, Some, None, Result, Ok, Err, FitsSigned, refl, sym, ap, ◌∙◌, subst, arith, inl, inr, ◌⊎◌, ℤ, pos, negsuc, ◌-ℤ◌}
+use Rattle.std.proofs.Common.{◌≡◌, ◌<◌, ◌≤◌, ◌+◌, ◌-◌, ℕ, List, [], ◌∷◌, length, get_or, take, drop, ◌^◌, Option, Some, None, Ok, Err, FitsSigned, refl, sym, ap, ◌∙◌, subst, arith, inl, inr, ◌⊎◌, ℤ, pos, negsuc, ◌-ℤ◌}
 use Rattle.std.proofs.lemmas.Int.{ints}
 use Rattle.bpf_text.proofs.Scanning.{whole_drop}
 use Rattle.bpf_text.specs.Number.{digit, IsNumeral}
@@ -11,7 +11,7 @@ use Rattle.bpf_types.specs.declared.line.Width.{Width}
 use Rattle.bpf_types.specs.declared.line.Width.TheVariants.{W32, W64}
 use Rattle.bpf_types.specs.declared.line.Extension.{Extension}
 use Rattle.bpf_types.specs.declared.line.Extension.TheVariants as extension
-use Rattle.bpf_text.specs.Fields.{IsRegister, IsInteger, IsImmediate, IsDistance, IsOffset, IsSecond, IsTarget, IsName, as_signed}
+use Rattle.bpf_text.specs.Fields.{IsRegister, IsInteger, IsImmediate, IsDistance, IsSecond, IsTarget, IsName, as_signed}
 use Rattle.bpf_text.specs.Mirror.Gives.{Gives, IsWide, bits_in, HasExtension}
 use Rattle.bpf_text.specs.declared.line.LineFault.{LineFault}
 use Rattle.bpf_text.specs.declared.line.LineFault.TheVariants.{Syntax, Range}

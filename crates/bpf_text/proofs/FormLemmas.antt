@@ -1,7 +1,7 @@
 -- Operands, as they are defined and as they are read one after another.
-use Rattle.std.proofs.Common.{◌≡◌, ◌≢◌, ℕ, ℤ, List, [], ◌∷◌, Option, Some, None, refl, sym, ap, ◌∙◌, inl, inr, ◌⊎◌}
-use Rattle.bpf_text.specs.Fields.{IsRegister, IsDistance, IsOffset}
-use Rattle.bpf_text.specs.Mirror.Reads.{Token, Behind, Then, Closed, Memory}
+use Rattle.std.proofs.Common.{◌≡◌, ◌≢◌, ℕ, ℤ, List, [], ◌∷◌, Option, Some, None, refl, ap, ◌∙◌, inl, inr}
+use Rattle.bpf_text.specs.Fields.{IsRegister, IsOffset}
+use Rattle.bpf_text.specs.Mirror.Reads.{Token, Behind, Then, Memory}
 use Rattle.bpf_text.proofs.FieldLemmas.{no_closing}
 use Rattle.bpf_text.specs.Lines.{AreOne, AreTwo, AreThree, AreLoad, AreStore, in_brackets}
 

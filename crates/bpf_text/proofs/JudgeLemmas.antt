@@ -1,7 +1,7 @@
 -- Instructions of each mnemonic.
-use Rattle.std.proofs.Common.{Bor, ◌≡◌, ◌≢◌, ◌<◌, ◌^◌, ℕ, ℤ, List, [], ◌∷◌, get_or, Option, Some, None, Result, Ok, Err, refl, sym, ap, ◌∙◌, subst, arith, ◌⊎◌, true, false, inl, inr, FitsSigned, option_map}
+use Rattle.std.proofs.Common.{Bor, ◌≡◌, ◌≢◌, ◌<◌, ◌^◌, ℕ, ℤ, List, [], ◌∷◌, get_or, Option, Some, None, Result, Ok, Err, refl, sym, ap, ◌∙◌, subst, arith, true, false, inl, inr, FitsSigned, option_map}
 use Rattle.std.specs.Int.{w16, w32}
-use Rattle.bpf_types.specs.Line.{IsLine, IsReg, IsOperand, swap_width_bits, extension_width, extension_bits}
+use Rattle.bpf_types.specs.Line.{IsLine, IsReg, IsOperand, swap_width_bits}
 use Rattle.bpf_types.specs.declared.line.Line.{Line}
 use Rattle.bpf_types.specs.declared.line.Line.TheVariants as line
 use Rattle.bpf_types.specs.declared.line.Operand.{Operand}
@@ -24,7 +24,7 @@ use Rattle.bpf_listing.specs.Mnemonics.{mnemonic_name}
 use Rattle.bpf_text.specs.Number.{IsNumeral}
 use Rattle.bpf_text.specs.Fields.{IsRegister, IsImmediate, IsSecond, IsTarget}
 use Rattle.bpf_text.specs.Mirror.Gives.{Gives, bits_in, HasExtension, HasSwapWidth}
-use Rattle.bpf_text.specs.Mirror.Reads.{State, Token, Behind, Then, Closed, Memory, Reads, Answers, verdict}
+use Rattle.bpf_text.specs.Mirror.Reads.{State, Token, Behind, Then, Memory, Reads, Answers, verdict}
 use Rattle.bpf_text.specs.Lines.{IsOperands, mnemonic_of, AreOne, AreTwo, AreThree, AreLoad, AreStore}
 use Rattle.bpf_text.specs.Judged.{Judges, JudgesForm, text_of, target_of}
 use Rattle.bpf_text.specs.declared.line.Source.{Source}

@@ -1,14 +1,13 @@
 -- Readings one after another.
-use Rattle.std.proofs.Common.{◌≡◌, ◌≢◌, ℕ, ℤ, pos, List, [], ◌∷◌, Option, Some, None, Result, Ok, Err, IfSome, IfNone, Bor, length, ◌≤◌, ◌-◌, take, drop, arith, get_or, is_some, Bool, true, false, refl, sym, ap, ◌∙◌, subst, inl, inr, ◌⊎◌, FitsSigned}
+use Rattle.std.proofs.Common.{◌≡◌, ◌≢◌, ℕ, ℤ, pos, List, [], ◌∷◌, Option, Some, None, Result, Ok, Err, IfSome, IfNone, Bor, length, ◌≤◌, ◌-◌, take, drop, arith, is_some, Bool, true, false, refl, sym, ap, ◌∙◌, subst, inl, inr, ◌⊎◌, FitsSigned}
 use Rattle.std.specs.Int.{w16}
 use Rattle.bpf_types.specs.Line.{IsReg}
-use Rattle.bpf_text.specs.Fields.{IsRegister, IsDistance, IsOffset}
+use Rattle.bpf_text.specs.Fields.{IsRegister, IsDistance}
 use Rattle.bpf_text.specs.Mirror.Gives.{Gives}
 use Rattle.bpf_text.specs.Mirror.Reads.{State, Token, Behind, Then, Closed, Found, Reads, Notes, verdict}
 use Rattle.bpf_text.specs.declared.line.LineFault.{LineFault}
 use Rattle.bpf_text.specs.declared.line.LineFault.TheVariants.{Syntax, Range}
 use Rattle.bpf_text.proofs.FieldLemmas.{no_closing, register_in_range}
-use Rattle.bpf_text.proofs.Scanning.{whole_drop}
 use Rattle.bpf_text.specs.Judged.{texts}
 use Rattle.std.proofs.lemmas.Grind.{common_steps}
 

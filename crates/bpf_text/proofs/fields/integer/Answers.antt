@@ -1,4 +1,4 @@
-use Rattle.std.proofs.Common.{◌≡◌, ◌-◌, drop, take, length, get_or, arith, inl, inr, refl, ℕ, ℤ}
+use Rattle.std.proofs.Common.{◌≡◌, ◌-◌, drop, take, length, get_or, arith, ℕ, ℤ}
 use Rattle.std.proofs.lemmas.Result.{err_from_is_err_and}
 use Rattle.bpf_text.proofs.FieldLemmas.{front_rest, no_integer, minus_err, plain_err}
 use Rattle.bpf_text.proofs.fields.integer.Goals as goal

@@ -1,4 +1,4 @@
-use Rattle.std.proofs.Common.{◌≡◌, ◌≢◌, ℕ, ℤ, List, [], ◌∷◌, Option, Some, None, Bor, ap, sym, ◌∙◌, subst, FitsSigned, SFits, to_z-of_z, rules}
+use Rattle.std.proofs.Common.{◌≡◌, ◌≢◌, ℕ, ℤ, List, [], ◌∷◌, Some, None, ap, sym, ◌∙◌, subst, SFits, to_z-of_z, rules}
 use Rattle.std.specs.Int.{w32}
 use Rattle.bpf_types.specs.declared.line.Line.TheVariants as line
 use Rattle.bpf_listing.specs.declared.mnemonic.Mnemonic.TheVariants as word

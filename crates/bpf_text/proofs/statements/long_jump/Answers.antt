@@ -1,19 +1,10 @@
-use Rattle.std.proofs.Common.{◌<◌, ◌^◌, ℕ, ℤ, List, [], ◌∷◌, Option, Some, None, Bor, FitsSigned, SFits, to_z, of_z, to_z-of_z, rules, ap, sym, subst, ◌∙◌}
-use Rattle.std.specs.Int.{w16, w32}
-use Rattle.bpf_types.specs.Line.{IsReg, IsOperand, extension_bits, swap_width_bits}
+use Rattle.std.proofs.Common.{ℤ, Some, None, SFits, to_z-of_z, rules, sym, subst}
+use Rattle.std.specs.Int.{w32}
 use Rattle.bpf_types.specs.declared.line.Line.TheVariants as line
 use Rattle.bpf_listing.specs.declared.mnemonic.Mnemonic.TheVariants as word
 use Rattle.bpf_listing.specs.declared.mnemonic.Jump.TheVariants as leap
-use Rattle.bpf_types.specs.declared.line.Operand.{Operand}
-use Rattle.bpf_types.specs.declared.line.Extension.{Extension}
-use Rattle.bpf_types.specs.declared.line.SwapWidth.{SwapWidth}
-use Rattle.bpf_text.specs.Number.{IsNumeral}
-use Rattle.bpf_text.specs.Fields.{IsRegister, IsImmediate, IsSecond, IsTarget}
-use Rattle.bpf_text.specs.Judged.{target_of}
-use Rattle.bpf_text.specs.Mirror.Gives.{bits_in, HasExtension, HasSwapWidth}
-use Rattle.bpf_text.specs.Mirror.Reads.{state, Answers, Token, Behind, Then, Memory}
-use Rattle.bpf_text.proofs.ReadLemmas.{then_next, behind_next}
-use Rattle.bpf_text.proofs.JudgeLemmas.{long_jump, plain}
+use Rattle.bpf_text.specs.Mirror.Reads.{state, Answers}
+use Rattle.bpf_text.proofs.JudgeLemmas.{long_jump}
 use Rattle.bpf_text.proofs.statements.long_jump.Goals as goal
 
 pub returns-in_err-distance : goal.returns-in_err-distance
