@@ -4,7 +4,7 @@ use Rattle.std.specs.Int.{w16}
 use Rattle.bpf_types.specs.Line.{IsReg}
 use Rattle.bpf_text.specs.Fields.{IsRegister, IsDistance}
 use Rattle.bpf_text.specs.Mirror.Gives.{Gives}
-use Rattle.bpf_text.specs.Mirror.Reads.{State, Token, Behind, Then, Closed, Found, Reads, Notes, verdict}
+use Rattle.bpf_text.specs.Mirror.Reads.{State, Token, Behind, Then, Bracket, Success, Reads, Notes, verdict}
 use Rattle.bpf_text.specs.declared.line.LineFault.{LineFault}
 use Rattle.bpf_text.specs.declared.line.LineFault.TheVariants.{Syntax, Range}
 use Rattle.bpf_text.proofs.FieldLemmas.{no_closing, register_in_range}
@@ -23,7 +23,7 @@ kept_both A B a b c d o p q (inl h) (inr k) = inr (λ m. k.0 m.1, k.1)
 kept_both A B a b c d o p q (inr h) (inl k) = inr (λ m. h.0 m.0, k.2 ∙ h.1)
 kept_both A B a b c d o p q (inr h) (inr k) = inr (λ m. h.0 m.0, k.1)
 
-pub then_next : {V W X Y : Type 0} {f : V → X} {L : List (List ℕ) → X → List (List ℕ) → Type 0} {F : X → Type 0} {s : State} {v : V} {t : State} → Found f L F s v t
+pub then_next : {V W X Y : Type 0} {f : V → X} {L : List (List ℕ) → X → List (List ℕ) → Type 0} {F : X → Type 0} {s : State} {v : V} {t : State} → Success f L F s v t
     → (g : W → Y) (M : List (List ℕ) → Y → List (List ℕ) → Type 0) (G : Y → Type 0) (r : Option W) (u : State) → Reads g M G t r u
     → Reads (λ (p : V × W). (f p.0, g p.1)) (Then L M) (λ (w : X × Y). F w.0 × G w.1) s (paired v r) u
 then_next h g M G None u k = λ w rest m. k w.1 rest (subst (λ (x : List (List ℕ)). M x w.1 rest) (h.only w.0 m.0 m.1) m.2)
@@ -71,22 +71,22 @@ pub no_token : {W : Type 0} (P : List ℕ → W → Type 0) (tokens : List (List
 no_token P tokens e w rest m = let p = m.1 in absurd cc
 
 -- the bracket that closes, with an offset or none
-pub closed_at_once : (s t : State) → (s.0 ≡ (93 ∷ []) ∷ t.0) × (t.1 ≡ s.1) → (b : FitsSigned w16 (pos 0)) → Found (λ (z : ℤ). z) Closed (FitsSigned w16) s (pos 0) t
+pub closed_at_once : (s t : State) → (s.0 ≡ (93 ∷ []) ∷ t.0) × (t.1 ≡ s.1) → (b : FitsSigned w16 (pos 0)) → Success (λ (z : ℤ). z) Bracket (FitsSigned w16) s (pos 0) t
 closed_at_once s t h b = record { written = _; is = inl (h.0, refl); kept = inl (b, refl, h.1); only = by }
   where
-    by : (w : ℤ) → (rest : List (List ℕ)) → Closed s.0 w rest → rest ≡ t.0
+    by : (w : ℤ) → (rest : List (List ℕ)) → Bracket s.0 w rest → rest ≡ t.0
     by w rest (inl k) = let e = k.0 in let f = h.0 in cc
     by w rest (inr k) = let e = k.1 in let f = h.0 in let same : k.0 ≡ 93 ∷ [] = cc in absurd (no_closing k.0 w same k.2)
 
 pub closed_read : (s t u v : State) (token : List ℕ) (read : Result ℤ LineFault) (r : Option ℤ) → ((rest : List (List ℕ)) → s.0 ≢ (93 ∷ []) ∷ rest) → (s.0 ≡ token ∷ t.0) × (t.1 ≡ s.1) → (t.0 ≡ (93 ∷ []) ∷ u.0) × (u.1 ≡ t.1)
-    → Gives (λ (z : ℤ). z) (IsDistance token) (FitsSigned w16) read → Notes u.1 read r v.1 → v.0 ≡ u.0 → Reads (λ (z : ℤ). z) Closed (FitsSigned w16) s r v
+    → Gives (λ (z : ℤ). z) (IsDistance token) (FitsSigned w16) read → Notes u.1 read r v.1 → v.0 ≡ u.0 → Reads (λ (z : ℤ). z) Bracket (FitsSigned w16) s r v
 closed_read s t u v token read r none h k g n e = by r (token_read (λ (z : ℤ). z) IsDistance (FitsSigned w16) s (t.0, u.1) (t.0, v.1) token read r (h.0, k.1 ∙ h.1) g n refl)
   where
-    to : (w : ℤ) (rest : List (List ℕ)) → Closed s.0 w rest → Token IsDistance s.0 w ((93 ∷ []) ∷ rest)
+    to : (w : ℤ) (rest : List (List ℕ)) → Bracket s.0 w rest → Token IsDistance s.0 w ((93 ∷ []) ∷ rest)
     to w rest (inl m) = absurd (none rest m.0)
     to w rest (inr m) = m
 
-    by : (r : Option ℤ) → Reads (λ (z : ℤ). z) (Token IsDistance) (FitsSigned w16) s r (t.0, v.1) → Reads (λ (z : ℤ). z) Closed (FitsSigned w16) s r v
+    by : (r : Option ℤ) → Reads (λ (z : ℤ). z) (Token IsDistance) (FitsSigned w16) s r (t.0, v.1) → Reads (λ (z : ℤ). z) Bracket (FitsSigned w16) s r v
     by None f = λ w rest m. f w ((93 ∷ []) ∷ rest) (to w rest m)
     by (Some z) f = record {
       written = f.written;
@@ -95,7 +95,7 @@ closed_read s t u v token read r none h k g n e = by r (token_read (λ (z : ℤ)
       only = λ w rest m. let p = f.only w ((93 ∷ []) ∷ rest) (to w rest m) in let q = k.0 in cc;
     }
 
-pub no_closed : (s t : State) (token : List ℕ) → ((rest : List (List ℕ)) → s.0 ≢ (93 ∷ []) ∷ rest) → s.0 ≡ token ∷ t.0 → ((rest : List (List ℕ)) → t.0 ≢ (93 ∷ []) ∷ rest) → (w : ℤ) → (rest : List (List ℕ)) → ¬ Closed s.0 w rest
+pub no_closed : (s t : State) (token : List ℕ) → ((rest : List (List ℕ)) → s.0 ≢ (93 ∷ []) ∷ rest) → s.0 ≡ token ∷ t.0 → ((rest : List (List ℕ)) → t.0 ≢ (93 ∷ []) ∷ rest) → (w : ℤ) → (rest : List (List ℕ)) → ¬ Bracket s.0 w rest
 no_closed s t token none h more w rest (inl m) = none rest m.0
 no_closed s t token none h more w rest (inr m) = let p = m.1 in let same : t.0 ≡ (93 ∷ []) ∷ rest = cc in more rest same
 

@@ -10,6 +10,7 @@ use Rattle.bpf_text.specs.declared.line.Parsed.{Parsed}
 use Rattle.bpf_text.specs.declared.line.LineFault.{LineFault}
 use Rattle.bpf_text.specs.declared.line.LineFault.TheVariants.{Syntax, Range}
 
+-- the tokens as they are written
 abbrev pub texts : List (Bor (List ℕ)) → List (List ℕ)
 texts tokens = map (λ token. token.now) tokens
 

@@ -7,7 +7,7 @@ ghost use Rattle.bpf_text.specs.Number.{IsNumeral};
 ghost use Rattle.bpf_text.specs.Fields.{IsRegister, IsImmediate, IsSecond, IsTarget};
 ghost use Rattle.bpf_text.specs.Judged.{texts, target_of};
 ghost use Rattle.bpf_text.specs.Mirror.Gives.{bits_in, HasExtension, HasSwapWidth};
-ghost use Rattle.bpf_text.specs.Mirror.Reads.{state, Reads, Token, Closed, Memory, Takes, Notes};
+ghost use Rattle.bpf_text.specs.Mirror.Reads.{state, Reads, Token, Bracket, Memory, Takes, Notes};
 
 use crate::fields;
 use crate::line::LineFault;
@@ -72,7 +72,7 @@ impl<'a> Operands<'_, 'a> {
     }
 
     /// What was read; or the other value where it is out of its range, which is noted.
-    fn noted<T: Copy>(&mut self, read: Result<T, LineFault>, other: T) -> Option<T>
+    fn note<T: Copy>(&mut self, read: Result<T, LineFault>, other: T) -> Option<T>
         ensures range { Notes self.old.is_out read result self.new.is_out }
         ensures rest { texts self.new.rest.now ≡ texts self.old.rest.now }
     {
@@ -98,7 +98,7 @@ impl<'a> Operands<'_, 'a> {
             (state self.old) result (state self.new) }
     {
         let second = fields::second(self.token()?);
-        self.noted(second, Operand::Immediate(0))
+        self.note(second, Operand::Immediate(0))
     }
 
     pub fn immediate(&mut self) -> Option<i32>
@@ -106,7 +106,7 @@ impl<'a> Operands<'_, 'a> {
             (state self.old) result (state self.new) }
     {
         let immediate = fields::immediate(self.token()?);
-        self.noted(immediate, 0)
+        self.note(immediate, 0)
     }
 
     /// A number of 64 bits.
@@ -115,7 +115,7 @@ impl<'a> Operands<'_, 'a> {
             (state self.old) result (state self.new) }
     {
         let number = numeral(self.token()?);
-        self.noted(number, 0)
+        self.note(number, 0)
     }
 
     /// The width that a sign is extended from.
@@ -124,7 +124,7 @@ impl<'a> Operands<'_, 'a> {
             (state self.old) result (state self.new) }
     {
         let extension = fields::extension(width, self.token()?);
-        self.noted(extension, Extension::From8To32)
+        self.note(extension, Extension::From8To32)
     }
 
     pub fn swap_width(&mut self) -> Option<SwapWidth>
@@ -132,7 +132,7 @@ impl<'a> Operands<'_, 'a> {
             (state self.old) result (state self.new) }
     {
         let width = fields::swap_width(self.token()?);
-        self.noted(width, SwapWidth::Bits16)
+        self.note(width, SwapWidth::Bits16)
     }
 
     /// A distance of 16 bits, or a label's name.
@@ -141,7 +141,7 @@ impl<'a> Operands<'_, 'a> {
             (state self.old) result (state self.new) }
     {
         let target = fields::short_target(self.token()?);
-        self.noted(target, (0, None))
+        self.note(target, (0, None))
     }
 
     /// A distance of 32 bits, or a label's name.
@@ -150,19 +150,19 @@ impl<'a> Operands<'_, 'a> {
             (state self.old) result (state self.new) }
     {
         let target = fields::long_target(self.token()?);
-        self.noted(target, (0, None))
+        self.note(target, (0, None))
     }
 
     /// The bracket that closes, with an offset in front or none.
     fn offset(&mut self) -> Option<i16>
-        ensures { Reads (λ z. z) Closed (FitsSigned w16) (state self.old) result (state self.new) }
+        ensures { Reads (λ z. z) Bracket (FitsSigned w16) (state self.old) result (state self.new) }
     {
         if self.mark(b']').is_some() {
             return Some(0);
         }
         let distance = fields::short_distance(self.token()?);
         self.mark(b']')?;
-        self.noted(distance, 0)
+        self.note(distance, 0)
     }
 
     /// A place in memory: a register in brackets, and an offset or none.

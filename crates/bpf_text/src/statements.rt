@@ -237,6 +237,7 @@ fn complete<'a>(
 }
 
 /// The instruction of these tokens.
+#[inline(never)]
 pub fn statement<'a>(tokens: &[&'a [u8]]) -> Result<Source<'a>, LineFault>
     ensures { JudgesForm (texts tokens.now) result }
 {

@@ -36,18 +36,18 @@ abbrev pub Then : {V W : Type 0} → (List (List ℕ) → V → List (List ℕ) 
 Then F G tokens w rest = (middle : List (List ℕ)) × F tokens w.0 middle × G middle w.1 rest
 
 -- an offset or none, and the bracket that closes
-abbrev pub Closed : List (List ℕ) → ℤ → List (List ℕ) → Type 0
-Closed tokens z rest =
+abbrev pub Bracket : List (List ℕ) → ℤ → List (List ℕ) → Type 0
+Bracket tokens z rest =
     ((tokens ≡ codes "]" ∷ rest) × (z ≡ pos 0))
     ⊎ ((token : List ℕ) × (tokens ≡ token ∷ codes "]" ∷ rest) × IsDistance token z)
 
 -- a place in memory
 abbrev pub Memory : List (List ℕ) → ℕ × ℤ → List (List ℕ) → Type 0
-Memory = Behind (codes "[") (Then (Token IsRegister) Closed)
+Memory = Behind (codes "[") (Then (Token IsRegister) Bracket)
 
 -- The value that is written is read, and nothing is noted; or it is out of its range, and this is
 -- noted. Whatever is written in front, the same tokens are left.
-pub record Found {V W : Type 0} (view : V → W)
+pub record Success {V W : Type 0} (view : V → W)
     (F : List (List ℕ) → W → List (List ℕ) → Type 0) (Fits : W → Type 0) (old : State) (v : V)
     (new : State) : Type 0 where
   pub written : W
@@ -60,7 +60,7 @@ pub record Found {V W : Type 0} (view : V → W)
 abbrev pub Reads : {V W : Type 0} → (V → W) → (List (List ℕ) → W → List (List ℕ) → Type 0) →
     (W → Type 0) → State → Option V → State → Type 0
 Reads view F Fits old None new = (w : _) → (rest : List (List ℕ)) → ¬ F old.0 w rest
-Reads view F Fits old (Some v) new = Found view F Fits old v new
+Reads view F Fits old (Some v) new = Success view F Fits old v new
 
 -- the token in front is taken, if there is one
 abbrev pub Takes : State → Option (Bor (List ℕ)) → State → Type 0

@@ -6,4 +6,4 @@ use Rattle.bpf_text.proofs.ReadLemmas.{token_read}
 use Rattle.bpf_text.proofs.operands.Operands.immediate.Goals as goal
 
 pub returns : goal.returns
-returns c = token_read (λ (z : ℤ). z) IsImmediate (FitsSigned w32) (state c.args.self.now) (state c.token.new.self) (state c.noted.new.self) c.in_ok-token.field-0.now c.immediate-immediate.result c.noted.result c.in_ok-token.ensures c.immediate-immediate.ensures c.noted.ensures.range c.noted.ensures.rest
+returns c = token_read (λ (z : ℤ). z) IsImmediate (FitsSigned w32) (state c.args.self.now) (state c.token.new.self) (state c.note.new.self) c.in_ok-token.field-0.now c.immediate-immediate.result c.note.result c.in_ok-token.ensures c.immediate-immediate.ensures c.note.ensures.range c.note.ensures.rest

@@ -1,6 +1,6 @@
 use Rattle.std.proofs.Common.{◌≡◌, ◌≢◌, ◌∷◌, [], ℤ, List, ℕ, sym, ◌∙◌, subst, arith, FitsSigned}
 use Rattle.std.specs.Int.{w16}
-use Rattle.bpf_text.specs.Mirror.Reads.{State, state, Reads, Closed}
+use Rattle.bpf_text.specs.Mirror.Reads.{State, state, Reads, Bracket}
 use Rattle.bpf_text.proofs.ReadLemmas.{closed_at_once, closed_read, if_some, if_none}
 use Rattle.bpf_text.proofs.operands.Operands.offset.Goals as goal
 
@@ -12,6 +12,6 @@ returns c =
     let no = sym c.is_some.ensures ∙ c.if-is_some.false in
     let same : state c.mark.new.self ≡ state c.args.self.now = if_none c.mark.result c.mark.ensures.stays no in
     let none = if_none c.mark.result c.mark.ensures.none no in
-    subst (λ (s : State). Reads (λ (z : ℤ). z) Closed (FitsSigned w16) s c.noted.result (state c.noted.new.self)) same
-    (closed_read (state c.mark.new.self) (state c.token.new.self) (state c.mark-2.new.self) (state c.noted.new.self) c.in_ok-token.field-0.now c.short_distance-distance.result c.noted.result
-    (subst (λ (s : State). (rest : List (List ℕ)) → s.0 ≢ (93 ∷ []) ∷ rest) (sym same) none) c.in_ok-token.ensures c.in_ok-mark.ensures.some c.short_distance-distance.ensures c.noted.ensures.range c.noted.ensures.rest)
+    subst (λ (s : State). Reads (λ (z : ℤ). z) Bracket (FitsSigned w16) s c.note.result (state c.note.new.self)) same
+    (closed_read (state c.mark.new.self) (state c.token.new.self) (state c.mark-2.new.self) (state c.note.new.self) c.in_ok-token.field-0.now c.short_distance-distance.result c.note.result
+    (subst (λ (s : State). (rest : List (List ℕ)) → s.0 ≢ (93 ∷ []) ∷ rest) (sym same) none) c.in_ok-token.ensures c.in_ok-mark.ensures.some c.short_distance-distance.ensures c.note.ensures.range c.note.ensures.rest)
