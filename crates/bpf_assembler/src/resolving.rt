@@ -15,30 +15,6 @@ use bpf_types::{Line, lines_are_in_range};
 use std::alloc::Allocator;
 use std::collections::BTreeMap;
 
-/// The distance, where it fits 16 bits.
-fn short(distance: i128) -> Option<i16>
-    ensures { MatchOption result (¬ FitsSigned w16 distance)
-        (λ d. (d ≡ distance) × FitsSigned w16 distance) }
-{
-    if -0x8000 <= distance && distance < 0x8000 {
-        Some(distance as i16)
-    } else {
-        None
-    }
-}
-
-/// The distance, where it fits 32 bits.
-fn long(distance: i128) -> Option<i32>
-    ensures { MatchOption result (¬ FitsSigned w32 distance)
-        (λ d. (d ≡ distance) × FitsSigned w32 distance) }
-{
-    if -0x8000_0000 <= distance && distance < 0x8000_0000 {
-        Some(distance as i32)
-    } else {
-        None
-    }
-}
-
 /// The jump or the local call with the distance, where it is in range.
 fn with_distance(line: Line, distance: i128) -> Option<Line>
     ensures { MatchOption result (¬ IsLine (with_distance line distance))
@@ -46,37 +22,27 @@ fn with_distance(line: Line, distance: i128) -> Option<Line>
 {
     let copied = line;
     lines_are_in_range(copied);
-    match line {
-        Line::Jump { .. } => match short(distance) {
-            Some(distance) => Some(Line::Jump { distance }),
-            None => None,
-        },
-        Line::LongJump { .. } => match long(distance) {
-            Some(distance) => Some(Line::LongJump { distance }),
-            None => None,
-        },
+    let short = i16::try_from(distance).ok();
+    let long = i32::try_from(distance).ok();
+    Some(match line {
+        Line::Jump { .. } => Line::Jump { distance: short? },
+        Line::LongJump { .. } => Line::LongJump { distance: long? },
+        Line::CallLocal { .. } => Line::CallLocal { distance: long? },
         Line::JumpIf {
             width,
             comparison,
             dst,
             operand,
             ..
-        } => match short(distance) {
-            Some(distance) => Some(Line::JumpIf {
-                width,
-                comparison,
-                dst,
-                operand,
-                distance,
-            }),
-            None => None,
+        } => Line::JumpIf {
+            width,
+            comparison,
+            dst,
+            operand,
+            distance: short?,
         },
-        Line::CallLocal { .. } => match long(distance) {
-            Some(distance) => Some(Line::CallLocal { distance }),
-            None => None,
-        },
-        _ => Some(line),
-    }
+        other => other,
+    })
 }
 
 /// The instruction of a row.
