@@ -5,18 +5,17 @@ ghost use Rattle.std.specs.FinMap.{get};
 ghost use Rattle.ocp_profile.specs.declared.limits.TheConstants.{MAX_APID, MAX_POOL_WORDS, MAX_CAPACITY};
 ghost use Rattle.ocp_table.specs.Shown.{view_at};
 ghost use Rattle.ocp_world.specs.World as world;
-ghost use Rattle.ocp_world.specs.After.{Requested, Stepped};
+ghost use Rattle.ocp_world.specs.After.{Stepped};
 ghost use Rattle.ocp_world.specs.Answers.{Answers};
 ghost use Rattle.ocp_world.specs.Loading.{TakesRecordIn};
 ghost use Rattle.ocp_world.specs.NextRunning.{IsNextRunning, Runs};
-ghost use Rattle.ocp_core.specs.Log.{Asked, Drained, empty_log, expand, world_of, answer_in, log_after};
+ghost use Rattle.ocp_core.specs.Log.{empty_log, expand, world_of, answer_in, log_after};
 ghost use Rattle.ocp_core.specs.Slice.{slice_in, slice_log};
-ghost use Rattle.ocp_core.specs.Journal.{entry_with_mark};
-ghost use Rattle.ocp_core.specs.Receipts.{reports_in};
+ghost use Rattle.ocp_core.specs.Receipts.{reports_in, entries_in, event_entries, Enters};
 ghost use Rattle.ocp_core.specs.Mirror.Admitted.{IsAdmitted, IsTaken};
 
-use crate::copies::next_copy;
-use crate::{EngineFault, Entry, Journal, Octets, Reports, Slice, StepOutcome};
+use crate::copies::{Copies, copies_of};
+use crate::{EngineFault, Entry, Input, Journal, Reports, Slice, StepOutcome};
 use ocp_profile::Profile;
 use ocp_table::View;
 use ocp_world::{Heap, State, discard_of};
@@ -73,8 +72,18 @@ impl<A: Allocator> Engine<A> {
         Ok(Engine { state, journal })
     }
 
+    /// Does what a seat asks, and answers it, with a copy of the entry that the journal gained, if
+    /// it gained one. All memory is taken before anything is changed.
+    pub fn apply<I: Input<A>>(&mut self, by: u16, input: I) -> (I::Answer, Option<Entry<A>>)
+        ensures enters { Enters self.old self.new (I.event by input) (I.answer result.0) }
+        ensures receipt { entries_in result.1 ≡
+            event_entries (I.event by input) (I.answer result.0) }
+    {
+        input.enter(self, by)
+    }
+
     // Reads the octets of a request. Refused, in this order, where they are discarded and where the journal is full.
-    fn admit<'a>(&self, octets: &'a [u8]) -> Result<Result<Tc<'a>, TcFault>, EngineFault>
+    pub(crate) fn admit<'a>(&self, octets: &'a [u8]) -> Result<Result<Tc<'a>, TcFault>, EngineFault>
         ensures ok { (by time : ℕ) → IfOk result (IsAdmitted self.now by time octets.now) }
         ensures err { (by time : ℕ) → IfErr result (λ fault.
             Answers (Err fault) (answer_in self.now (world.Request by time octets.now))) }
@@ -130,85 +139,46 @@ impl<A: Allocator> Engine<A> {
         ensures memory { result ≡ Err EngineFault.Memory → heap.new ≡ false →
             TakesRecordIn (world_of self.old) octets.now }
     {
-        let read = match self.admit(octets) {
-            Ok(read) => read,
-            Err(refused) => return Err(refused),
-        };
-        let Ok(kept) = heap.copy_of(octets) else {
-            return Err(EngineFault::Memory);
-        };
-        match self.state.receive(heap, self.journal.events(), time, read) {
-            Ok(sent) => {
-                let mut copies = sent.into_vec();
-                let mark = next_copy(&mut copies);
-                let reports = next_copy(&mut copies);
-                self.journal.push(Entry::Request {
-                    by,
-                    time,
-                    octets: kept,
-                    mark,
-                });
-                Ok(reports)
-            }
-            Err(fault) => Err(fault),
-        }
+        let read = self.admit(octets)?;
+        let (reports, _copy) = self.accept(heap, by, time, octets, read)?;
+        Ok(reports)
     }
 
-    /// `request`, which also answers a copy of the entry that the journal gained, with its mark.
-    /// All memory is taken before anything is changed.
-    pub fn request_with_receipt(
+    // Takes a request that was admitted. A copy of its reports, for a receipt, comes with them.
+    pub(crate) fn accept(
         &mut self,
-        alloc: A,
+        heap: &mut Heap<A>,
         by: u16,
         time: u32,
         octets: &[u8],
-    ) -> Result<(Reports<A>, Entry<A>), EngineFault>
+        read: Result<Tc<'_>, TcFault>,
+    ) -> Result<(Reports<A>, Reports<A>), EngineFault>
     where
         A: Copy,
+        requires { IsAdmitted self.old by time octets.now read }
         ensures answer { Answers (reports_in result)
             (answer_in self.old (world.Request by time octets.now)) }
         ensures journal { OnOk result
             (self.new ≡ log_after self.old (world.Request by time octets.now)) }
-        ensures receipt { IfOk result (λ r. entry_with_mark r.1 ≡
-            record { entry = Asked by time octets.now; mark = Requested (Ok r.0) }) }
+        ensures copy { IfOk result (λ r. r.1 ≡ r.0) }
         ensures err { OnErr result (self.new ≡ self.old) }
+        ensures memory { result ≡ Err EngineFault.Memory → heap.new ≡ false →
+            TakesRecordIn (world_of self.old) octets.now }
     {
-        let read = match self.admit(octets) {
-            Ok(read) => read,
-            Err(refused) => return Err(refused),
-        };
-        let Ok(journaled) = Octets::copy_of(alloc, octets) else {
-            return Err(EngineFault::Memory);
-        };
-        let Ok(own) = Octets::copy_of(alloc, octets) else {
-            return Err(EngineFault::Memory);
-        };
-        let mut heap = Heap::new(alloc);
-        match self
-            .state
-            .receive(&mut heap, self.journal.events(), time, read)
-        {
-            Ok(sent) => {
-                let mut copies = sent.into_vec();
-                let journal_mark = next_copy(&mut copies);
-                let receipt_mark = next_copy(&mut copies);
-                let reports = next_copy(&mut copies);
-                self.journal.push(Entry::Request {
-                    by,
-                    time,
-                    octets: journaled,
-                    mark: journal_mark,
-                });
-                let receipt = Entry::Request {
-                    by,
-                    time,
-                    octets: own,
-                    mark: receipt_mark,
-                };
-                Ok((reports, receipt))
-            }
-            Err(fault) => Err(fault),
-        }
+        let kept = heap.copy_of(octets)?;
+        let sent = self.state.receive(heap, self.journal.events(), time, read)?;
+        let Copies {
+            answer,
+            mark,
+            receipt,
+        } = copies_of(sent);
+        self.journal.push(Entry::Request {
+            by,
+            time,
+            octets: kept,
+            mark,
+        });
+        Ok((answer, receipt))
     }
 
     // Why a drain is refused before memory is taken, where it is: nothing waits, or the journal is full.
@@ -237,61 +207,35 @@ impl<A: Allocator> Engine<A> {
         ensures journal { OnOk result (self.new ≡ log_after self.old (world.Drain by time)) }
         ensures err { OnErr result (self.new ≡ self.old) }
     {
-        if let Some(fault) = self.drain_fault() {
-            return Err(fault);
-        }
-        match self.state.drain(alloc, time) {
-            Ok(sent) => {
-                let mut copies = sent.into_vec();
-                let mark = next_copy(&mut copies);
-                let reports = next_copy(&mut copies);
-                self.journal.push(Entry::Drain { by, time, mark });
-                Ok(reports)
-            }
-            Err(fault) => Err(fault),
-        }
+        let (reports, _copy) = self.drain_with_copy(alloc, by, time)?;
+        Ok(reports)
     }
 
-    /// `drain`, which also answers a copy of the entry that the journal gained, with its mark. All
-    /// memory is taken before anything is changed.
-    pub fn drain_with_receipt(
+    // `drain`, with a copy of its reports for a receipt.
+    pub(crate) fn drain_with_copy(
         &mut self,
         alloc: A,
         by: u16,
         time: u32,
-    ) -> Result<(Reports<A>, Entry<A>), EngineFault>
+    ) -> Result<(Reports<A>, Reports<A>), EngineFault>
     where
         A: Copy,
-        ensures answer { Answers (reports_in result)
-            (answer_in self.old (world.Drain by time)) }
+        ensures answer { Answers (reports_in result) (answer_in self.old (world.Drain by time)) }
         ensures journal { OnOk result (self.new ≡ log_after self.old (world.Drain by time)) }
-        ensures receipt { IfOk result (λ r. entry_with_mark r.1 ≡
-            record { entry = Drained by time; mark = Requested (Ok r.0) }) }
+        ensures copy { IfOk result (λ r. r.1 ≡ r.0) }
         ensures err { OnErr result (self.new ≡ self.old) }
     {
         if let Some(fault) = self.drain_fault() {
             return Err(fault);
         }
-        match self.state.drain(alloc, time) {
-            Ok(sent) => {
-                let mut copies = sent.into_vec();
-                let journal_mark = next_copy(&mut copies);
-                let receipt_mark = next_copy(&mut copies);
-                let reports = next_copy(&mut copies);
-                self.journal.push(Entry::Drain {
-                    by,
-                    time,
-                    mark: journal_mark,
-                });
-                let receipt = Entry::Drain {
-                    by,
-                    time,
-                    mark: receipt_mark,
-                };
-                Ok((reports, receipt))
-            }
-            Err(fault) => Err(fault),
-        }
+        let sent = self.state.drain(alloc, time)?;
+        let Copies {
+            answer,
+            mark,
+            receipt,
+        } = copies_of(sent);
+        self.journal.push(Entry::Drain { by, time, mark });
+        Ok((answer, receipt))
     }
 
     /// Does one instruction of a running procedure. Refused, in this order, where the procedure is

@@ -28,7 +28,7 @@ fn reply<A: Allocator>(given: Result<Reports<A>, EngineFault>) -> Result<Answer<
 
 impl<A: Allocator> Engine<A> {
     // Does an event.
-    fn apply(&mut self, alloc: A, event: Event<'_>) -> Result<Answer<A>, RunRefusal>
+    fn run_event(&mut self, alloc: A, event: Event<'_>) -> Result<Answer<A>, RunRefusal>
     where
         A: Copy,
         ensures { Applies self.old self.new (event_of event.entry) result }
@@ -102,7 +102,7 @@ impl<A: Allocator> Engine<A> {
             });
         };
         for (index, event) in events.iter().enumerate() {
-            match self.apply(alloc, *event) {
+            match self.run_event(alloc, *event) {
                 Ok(answer) => answers.push_reserved(answer),
                 Err(refusal) => {
                     return Err(RunFault {

@@ -12,14 +12,14 @@ pub loop-index-preserved : goal.loop-index-preserved
 loop-index-preserved g c =
     let within : c.loop-index.index < length c.args.events.now = omega arith in
     let inv = c.loop-index.invariant in
-    let applied = c.in-Ok-apply.ensures in
+    let applied = c.in-Ok-run_event.ensures in
     let start = c.args.self.now in
     let events = c.args.events.now in
     let i = c.loop-index.index in
     record {
       told = ap (map answer_of) c.push_reserved.ensures.items ∙ told_more event_of start events i _ within c.loop-index.self inv.world answer_of _ _ applied.answer inv.told;
-      world = world_more event_of start events i _ within c.loop-index.self inv.world c.apply.new.self applied.world;
-      journal = log_more event_of start events i _ within c.loop-index.self inv.journal c.apply.new.self applied.journal;
+      world = world_more event_of start events i _ within c.loop-index.self inv.world c.run_event.new.self applied.world;
+      journal = log_more event_of start events i _ within c.loop-index.self inv.journal c.run_event.new.self applied.journal;
       roomy = room_more event_of start events i _ within c.loop-index.self inv.journal inv.roomy applied.room;
       room = omega (arith, inv.room, c.push_reserved.ensures.capacity);
       count = omega (arith, inv.count, c.push_reserved.ensures.len);

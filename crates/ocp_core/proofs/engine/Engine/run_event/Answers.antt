@@ -5,7 +5,7 @@ use Rattle.ocp_core.specs.Log.{world_of}
 use Rattle.ocp_core.specs.Running.{IsDone, Applies, finds_full}
 use Rattle.ocp_core.specs.Journal.{event_of}
 use Rattle.ocp_core.proofs.Runs.{done_event, full_event, full_leaves, not_full, world_done, replied_so}
-use Rattle.ocp_core.proofs.engine.Engine.apply.Goals as goal
+use Rattle.ocp_core.proofs.engine.Engine.run_event.Goals as goal
 
 pub returns-in-Request : goal.returns-in-Request
 returns-in-Request g c =
