@@ -10,7 +10,7 @@ use Rattle.ocp_world.specs.Answers.{Answers}
 use Rattle.ocp_world.specs.Mirror.Answering.{IsUndue}
 use Rattle.ocp_world.specs.Mirror.State.{IsWorld, DoesIn}
 use Rattle.ocp_core.specs.Log.{Log, Drained, world_of, is_full, with_entry, answer_in, log_after}
-use Rattle.ocp_core.specs.Marks.{mark_in, MarkedEntry}
+use Rattle.ocp_core.specs.Marks.{mark_in}
 use Rattle.ocp_core.specs.Mirror.Admitted.{IsTaken}
 use Rattle.ocp_core.specs.Mirror.Counted.{AreCounted}
 use Rattle.ocp_core.proofs.Keeping.{IsWorld-with_entry}
@@ -64,10 +64,3 @@ module _ (log now : Log) (same : log ≡ now) (by time : ℕ) (told : IsTaken no
 
   pub journal_after : (new : Log) → new ≡ with_entry log (Drained by time) → new ≡ log_after now drain
   journal_after new is = done_log log now same drain new taken_here.taken taken_here.free is
-
--- an entry with the same reports
-abbrev entered : ℕ → ℕ → List (List ℕ) → MarkedEntry
-entered by time reports = record { entry = Drained by time; mark = Requested (Ok reports) }
-
-pub same_receipt : (by time : ℕ) (reports reports' : List (List ℕ)) → reports ≡ reports' → entered by time reports ≡ entered by time reports'
-same_receipt by time reports reports' is = ap (entered by time) is

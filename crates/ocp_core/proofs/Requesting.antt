@@ -12,7 +12,7 @@ use Rattle.ocp_world.specs.Loading.{TakesRecord, TakesRecordIn}
 use Rattle.ocp_world.specs.Replay.{replay_from}
 use Rattle.ocp_world.specs.Mirror.State.{IsWorld, DoesIn}
 use Rattle.ocp_core.specs.Log.{Log, Asked, world_of, with_entry, answer_in, log_after}
-use Rattle.ocp_core.specs.Marks.{mark_in, MarkedEntry}
+use Rattle.ocp_core.specs.Marks.{mark_in}
 use Rattle.ocp_core.specs.Mirror.Admitted.{IsAdmitted}
 use Rattle.ocp_core.specs.Mirror.Counted.{AreCounted}
 use Rattle.ocp_core.proofs.Keeping.{IsWorld-with_entry}
@@ -57,10 +57,3 @@ module _ (log now : Log) (same : log ≡ now) (by time : ℕ) (octets : List ℕ
 
     pub journal_after : (new : Log) → new ≡ with_entry log (Asked by time copy) → new ≡ log_after now e
     journal_after new is = done_log log now same e new admitted.taken admitted.free (is ∙ ap (λ o. with_entry log (Asked by time o)) copied)
-
--- an entry of the same octets with the same reports
-abbrev entered : ℕ → ℕ → List ℕ → List (List ℕ) → MarkedEntry
-entered by time octets reports = record { entry = Asked by time octets; mark = Requested (Ok reports) }
-
-pub same_receipt : (by time : ℕ) (octets octets' : List ℕ) (reports reports' : List (List ℕ)) → octets ≡ octets' → reports ≡ reports' → entered by time octets reports ≡ entered by time octets' reports'
-same_receipt by time octets octets' reports reports' one two = ap (λ o. entered by time o reports) one ∙ ap (entered by time octets') two

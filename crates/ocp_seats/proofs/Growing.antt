@@ -1,15 +1,10 @@
 -- What an answer of an engine adds to its journal.
 use Rattle.std.proofs.Common.{◌≡◌, ◌≤◌, ◌==◌, ℕ, zero, suc, Bool, true, false, cond, List, [], ◌∷◌, ◌++◌, refl, sym, ap, subst, ◌∙◌, arith}
-use Rattle.std.specs.Prelude.{Result, Ok, Err, OnOk, OnErr}
+use Rattle.std.specs.Prelude.{Ok, Err, Option, Some, None}
 use Rattle.std.proofs.lemmas.List.{append-nil}
-use Rattle.ocp_table.specs.declared.answers.StepOutcome.{StepOutcome}
 use Rattle.ocp_table.specs.declared.answers.StepOutcome.TheVariants as S
 use Rattle.ocp_table.specs.declared.answers.Slice.{Slice}
-use Rattle.ocp_debug.specs.declared.command.Command.{Command}
-use Rattle.ocp_debug.specs.declared.command.DebugFault.{DebugFault}
-use Rattle.ocp_world.specs.declared.answers.EngineFault.{EngineFault}
 use Rattle.ocp_world.specs.World.{Event, Request, Step, Debug, Drain}
-use Rattle.ocp_world.specs.Answers.{Answers}
 use Rattle.ocp_world.specs.Slice.{outcome_in, slice_count, slice_last}
 use Rattle.ocp_world.specs.After.{Answer, Requested, Stepped, Commanded, after, is_accepted}
 use Rattle.ocp_core.specs.Log.{Log, Entry, Steps, world_of, is_full, with_entry, entry_for, full_answer, answer_in, log_after}
@@ -19,8 +14,10 @@ use Rattle.ocp_core.specs.declared.answers.CommitOutcome.{CommitOutcome}
 use Rattle.ocp_core.specs.declared.answers.CommitOutcome.TheVariants as C
 use Rattle.ocp_core.specs.Tickets.{WorkContents, IsRun}
 use Rattle.ocp_core.specs.Commits.{Commits}
-use Rattle.ocp_core.specs.Receipts.{reports_in}
-use Rattle.ocp_seats.specs.Receipts.{count_entries, step_entries, slice_entries, commit_entries, report_entries, command_entries}
+use Rattle.ocp_core.specs.declared.event.Entry as N
+use Rattle.ocp_core.specs.Journal.{entry_with_mark}
+use Rattle.ocp_core.specs.Receipts.{Enters, event_entries, entries_in}
+use Rattle.ocp_seats.specs.Receipts.{count_entries, slice_entries, commit_entries}
 use Rattle.ocp_seats.specs.Seats.{Grows}
 use Rattle.ocp_seats.proofs.Marking.{marked-with_entry, event_mark, slice_mark, slice_some}
 
@@ -38,10 +35,6 @@ grows_one log new entry mark is marks = record {
 }
 
 -- ---- an event
-
--- its entry with its answer, where it is accepted
-abbrev event_entries : Event → Answer → List MarkedEntry
-event_entries e a = cond (is_accepted a) (record { entry = entry_for e; mark = a } ∷ []) []
 
 none_full : (e : Event) → event_entries e (full_answer e) ≡ []
 none_full (Request by time octets) = refl
@@ -74,30 +67,22 @@ grows_event log new e a is left =
     (subst (λ x. Grows log (log_after log e) (event_entries e x)) (sym is)
     (grows_by log e first (is_accepted first) (is_full log) refl (sym (event_mark (world_of log) e))))
 
-step_entries_are : (by id : ℕ) (o : StepOutcome) → event_entries (Step by id) (Stepped o) ≡ step_entries by id o
-step_entries_are by id S.Broke = refl
-step_entries_are by id S.Ran = refl
-step_entries_are by id S.Called = refl
-step_entries_are by id S.Ended = refl
-step_entries_are by id (S.Faulted number) = refl
-step_entries_are by id S.NotLoaded = refl
-step_entries_are by id S.NotRunning = refl
-step_entries_are by id S.JournalFull = refl
+pub grows_entered : (log new : Log) (e : Event) (a : Answer) → Enters log new e a → Grows log new (event_entries e a)
+grows_entered log new e (Requested (Ok reports)) is = grows_event log new e (Requested (Ok reports)) (sym is.0) is.1
+grows_entered log new e (Requested (Err fault)) is = grows_none log new [] is.2 refl
+grows_entered log new e (Stepped outcome) is = grows_event log new e (Stepped outcome) is.0 is.1
+grows_entered log new e (Commanded result) is = grows_event log new e (Commanded result) is.0 is.1
 
-command_entries_are : (by id : ℕ) (command : Command) (r : Result (Unit {0}) DebugFault) → event_entries (Debug by id command) (Commanded r) ≡ command_entries by id command r
-command_entries_are by id command (Ok done) = refl
-command_entries_are by id command (Err fault) = refl
+-- the entry that is handed out is the one that the journal gained
+pub grows_receipt : {A : Type 0} (log new : Log) (e : Event) (a : Answer) (entry : Option (N.Entry A)) → Enters log new e a → entries_in entry ≡ event_entries e a → Grows log new (entries_in entry)
+grows_receipt log new e a entry is same = subst (λ es. Grows log new es) (sym same) (grows_entered log new e a is)
 
-pub grows_step : (log new : Log) (by id : ℕ) (o : StepOutcome) → Stepped o ≡ answer_in log (Step by id) → new ≡ log_after log (Step by id) → Grows log new (step_entries by id o)
-grows_step log new by id o is left = subst (λ es. Grows log new es) (step_entries_are by id o) (grows_event log new (Step by id) (Stepped o) is left)
-
-pub grows_command : (log new : Log) (by id : ℕ) (command : Command) (r : Result (Unit {0}) DebugFault) → Commanded r ≡ answer_in log (Debug by id command) → new ≡ log_after log (Debug by id command) → Grows log new (command_entries by id command r)
-grows_command log new by id command r is left = subst (λ es. Grows log new es) (command_entries_are by id command r) (grows_event log new (Debug by id command) (Commanded r) is left)
-
--- an event that is answered with reports, a request or a drain
-pub grows_reported : {E : Type 0} (log new : Log) (e : Event) (r : Result (List (List ℕ) × E) EngineFault) → Answers (reports_in r) (answer_in log e) → OnOk r (new ≡ log_after log e) → OnErr r (new ≡ log) → Grows log new (report_entries (entry_for e) (reports_in r))
-grows_reported log new e (Ok done) is left same = grows_event log new e (Requested (Ok done.0)) (sym is) left
-grows_reported log new e (Err fault) is left same = grows_none log new [] same refl
+pub refused_nothing : {A : Type 0} (log new : Log) (e : Event) (a : Answer) (entry : Option (N.Entry A)) → Enters log new e a → entries_in entry ≡ event_entries e a → is_accepted a ≡ false → (entry ≡ None) × (new ≡ log)
+refused_nothing log new e a None is same refused = (refl, (subst (λ es. Grows log new es) (none_refused e a refused) (grows_entered log new e a is)).journal ∙ sym (same_log log))
+refused_nothing log new e a (Some entry) is same refused = absurd (one_is_none (same ∙ none_refused e a refused))
+  where
+    one_is_none : entry_with_mark entry ∷ [] ≡ [] → ⊥
+    one_is_none is = cc
 
 -- ---- a slice
 

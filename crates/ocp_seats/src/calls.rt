@@ -1,27 +1,48 @@
 //! The calls of a seat that change the engine.
 
-ghost use Rattle.std.specs.Prelude.{◌≡◌, ◌≤◌, OnOk, OnErr};
+ghost use Rattle.std.specs.Prelude.{◌≡◌, ◌≤◌, false, OnOk, OnErr};
 ghost use Rattle.ocp_debug.specs.declared.command.Command.TheVariants as command;
 ghost use Rattle.ocp_world.specs.World as world;
-ghost use Rattle.ocp_world.specs.After.{Stepped, Commanded};
+ghost use Rattle.ocp_world.specs.After.{Stepped, Commanded, is_accepted};
 ghost use Rattle.ocp_world.specs.Answers.{Answers};
 ghost use Rattle.ocp_core.specs.Log.{answer_in, log_after};
 ghost use Rattle.ocp_core.specs.Slice.{slice_in, slice_log};
 ghost use Rattle.ocp_core.specs.Commits.{Commits};
+ghost use Rattle.ocp_core.specs.Receipts.{Enters, event_entries};
 ghost use Rattle.ocp_seats.specs.Receipts.{step_entries, slice_entries, commit_entries, request_entries, drain_entries, command_entries};
 ghost use Rattle.ocp_seats.specs.Seats.{GrowsBy, Gains};
 
-use crate::gains::{clear_break, commit, drain, request, set_break, slice, step, trace};
+use crate::gains::{apply, commit, slice};
+use crate::input::{DebuggerCommand, Drain, Request, Step};
 use crate::{
-    Book, CommitOutcome, DebugFault, EngineFault, Entry, Naming, Reports, Seat, Slice, StepOutcome,
-    Work,
+    Book, Command, CommitOutcome, DebugFault, EngineFault, Entry, Input, Naming, Reports, Seat,
+    Slice, StepOutcome, Work,
 };
 use std::alloc::Allocator;
 
 impl<L: Naming, A: Allocator> Book<L, A> {
+    /// `Engine::apply` with the seat's number: the seat keeps the receipt of the entry that the
+    /// journal gained.
+    #[tactic(auto, using(crate::proofs::Going::goes_on_further))]
+    pub fn apply<I: Input<A>>(&mut self, seat: &mut Seat<L, A>, input: I) -> I::Answer
+        ensures enters { Enters self.old.engine self.new.engine
+            (I.event seat.old.number input) (I.answer result) }
+        ensures book { GrowsBy self.old self.new
+            (event_entries (I.event seat.old.number input) (I.answer result)) }
+        ensures seat { Gains seat.old seat.new
+            (event_entries (I.event seat.old.number input) (I.answer result)) }
+        ensures refused { is_accepted (I.answer result) ≡ false →
+            (self.new ≡ self.old) × (seat.new ≡ seat.old) }
+    {
+        let (answer, entry) = apply(&mut self.engine, seat.number, input);
+        if let Some(entry) = entry {
+            seat.gain(&mut self.tally, &self.engine, entry);
+        }
+        answer
+    }
+
     /// `Engine::request` with the seat's number. The memory of the reports and of the two copies
     /// that journal and seat keep is taken before anything is changed.
-    #[tactic(auto, using(crate::proofs::Going::goes_on_further))]
     pub fn request(
         &mut self,
         alloc: A,
@@ -41,14 +62,16 @@ impl<L: Naming, A: Allocator> Book<L, A> {
             (request_entries seat.old.number time octets.now result) }
         ensures err { OnErr result ((self.new ≡ self.old) × (seat.new ≡ seat.old)) }
     {
-        let (reports, receipt) = request(&mut self.engine, alloc, seat.number, time, octets)?;
-        seat.gain(&mut self.tally, &self.engine, receipt);
-        Ok(reports)
+        let request = Request {
+            alloc,
+            time,
+            octets,
+        };
+        self.apply(seat, request)
     }
 
     /// `Engine::drain` with the seat's number. The memory of the reports and of the two copies that
     /// journal and seat keep is taken before anything is changed.
-    #[tactic(auto, using(crate::proofs::Going::goes_on_further))]
     pub fn drain(
         &mut self,
         alloc: A,
@@ -67,13 +90,10 @@ impl<L: Naming, A: Allocator> Book<L, A> {
             (drain_entries seat.old.number time result) }
         ensures err { OnErr result ((self.new ≡ self.old) × (seat.new ≡ seat.old)) }
     {
-        let (reports, receipt) = drain(&mut self.engine, alloc, seat.number, time)?;
-        seat.gain(&mut self.tally, &self.engine, receipt);
-        Ok(reports)
+        self.apply(seat, Drain { alloc, time })
     }
 
     /// `Engine::step` with the seat's number.
-    #[tactic(auto, using(crate::proofs::Going::goes_on_further))]
     pub fn step(&mut self, seat: &mut Seat<L, A>, id: u16) -> StepOutcome
         ensures answer { Stepped result ≡
             answer_in self.old.engine (world.Step seat.old.number id) }
@@ -82,21 +102,7 @@ impl<L: Naming, A: Allocator> Book<L, A> {
         ensures book { GrowsBy self.old self.new (step_entries seat.old.number id result) }
         ensures seat { Gains seat.old seat.new (step_entries seat.old.number id result) }
     {
-        let by = seat.number;
-        let mark = step(&mut self.engine, by, id);
-        match mark {
-            StepOutcome::NotLoaded | StepOutcome::NotRunning | StepOutcome::JournalFull => mark,
-            _ => {
-                let entry = Entry::Steps {
-                    by,
-                    id,
-                    count: 1,
-                    mark,
-                };
-                seat.gain(&mut self.tally, &self.engine, entry);
-                mark
-            }
-        }
+        self.apply(seat, Step { id })
     }
 
     /// `Engine::slice` with the seat's number: at most so many instructions.
@@ -147,7 +153,6 @@ impl<L: Naming, A: Allocator> Book<L, A> {
     }
 
     /// `Engine::set_break` with the seat's number.
-    #[tactic(auto, using(crate::proofs::Going::goes_on_further))]
     pub fn set_break(
         &mut self,
         seat: &mut Seat<L, A>,
@@ -163,17 +168,11 @@ impl<L: Naming, A: Allocator> Book<L, A> {
         ensures seat { Gains seat.old seat.new
             (command_entries seat.old.number id (command.SetBreak place) result) }
     {
-        let by = seat.number;
-        let result = set_break(&mut self.engine, by, id, place);
-        if result.is_ok() {
-            let entry = Entry::SetBreak { by, id, place };
-            seat.gain(&mut self.tally, &self.engine, entry);
-        }
-        result
+        let command = Command::SetBreak(place);
+        self.apply(seat, DebuggerCommand { id, command })
     }
 
     /// `Engine::clear_break` with the seat's number.
-    #[tactic(auto, using(crate::proofs::Going::goes_on_further))]
     pub fn clear_break(
         &mut self,
         seat: &mut Seat<L, A>,
@@ -189,17 +188,11 @@ impl<L: Naming, A: Allocator> Book<L, A> {
         ensures seat { Gains seat.old seat.new
             (command_entries seat.old.number id (command.ClearBreak place) result) }
     {
-        let by = seat.number;
-        let result = clear_break(&mut self.engine, by, id, place);
-        if result.is_ok() {
-            let entry = Entry::ClearBreak { by, id, place };
-            seat.gain(&mut self.tally, &self.engine, entry);
-        }
-        result
+        let command = Command::ClearBreak(place);
+        self.apply(seat, DebuggerCommand { id, command })
     }
 
     /// `Engine::trace` with the seat's number.
-    #[tactic(auto, using(crate::proofs::Going::goes_on_further))]
     pub fn trace(&mut self, seat: &mut Seat<L, A>, id: u16, on: bool) -> Result<(), DebugFault>
         ensures answer { Commanded result ≡ answer_in self.old.engine
             (world.Debug seat.old.number id (command.SetTrace on)) }
@@ -210,12 +203,7 @@ impl<L: Naming, A: Allocator> Book<L, A> {
         ensures seat { Gains seat.old seat.new
             (command_entries seat.old.number id (command.SetTrace on) result) }
     {
-        let by = seat.number;
-        let result = trace(&mut self.engine, by, id, on);
-        if result.is_ok() {
-            let entry = Entry::Trace { by, id, on };
-            seat.gain(&mut self.tally, &self.engine, entry);
-        }
-        result
+        let command = Command::SetTrace(on);
+        self.apply(seat, DebuggerCommand { id, command })
     }
 }

@@ -11,7 +11,7 @@ mod seat;
 pub use book::{Book, TakeFault};
 pub use close::{CloseFault, NotClosed};
 pub use ocp_core::{
-    CommitOutcome, DebugFault, Engine, EngineFault, Entry, Octets, Reports, Slice, StepOutcome,
-    Ticket, Work,
+    Command, CommitOutcome, DebugFault, Engine, EngineFault, Entry, Input, Octets, Reports, Slice,
+    StepOutcome, Ticket, Work, input,
 };
 pub use seat::{MAX_SEATS, Naming, Seat, SeatFault};

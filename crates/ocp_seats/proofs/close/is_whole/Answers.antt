@@ -1,4 +1,4 @@
-use Rattle.std.proofs.Common.{◌≡◌, ◌≤◌, ◌==◌, ℕ, arith, sym, ◌∙◌, refl, count_by, below_more, length, rules}
+use Rattle.std.proofs.Common.{◌≡◌, ◌≤◌, ◌==◌, ℕ, arith, sym, ◌∙◌, refl, count_by, below_more, rules}
 use Rattle.ocp_seats.specs.Seats.{SeatContents}
 use Rattle.ocp_seats.proofs.close.is_whole.Goals as goal
 
