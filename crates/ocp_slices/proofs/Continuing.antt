@@ -1,11 +1,10 @@
 -- Seats that go on.
-use Rattle.std.proofs.Common.{◌≡◌, ◌≢◌, ◌≤◌, ◌+◌, ℕ, true, List, [], ◌∷◌, ◌++◌, length, All, inl, inr, refl, ap, sym, subst, ◌∙◌, append_assoc, length-append, arith}
+use Rattle.std.proofs.Common.{◌≡◌, ◌≢◌, ◌≤◌, ◌+◌, ℕ, true, List, [], ◌∷◌, ◌++◌, All, inl, inr, refl, ap, sym, subst, ◌∙◌, append_assoc, length-append, arith}
 use Rattle.std.proofs.lemmas.List.{append-nil}
 use Rattle.std.proofs.lemmas.List.Elements.{All-nil, All-cons, All-append}
 use Rattle.ocp_table.specs.declared.answers.StepOutcome.{StepOutcome}
 use Rattle.ocp_table.specs.declared.answers.StepOutcome.TheVariants as S
 use Rattle.ocp_world.specs.After.{is_accepted, is_done}
-use Rattle.ocp_core.specs.declared.answers.CommitOutcome.TheVariants as C
 use Rattle.ocp_core.specs.Marks.{MarkedEntry}
 use Rattle.ocp_seats.specs.Seats.{SeatContents, Gains}
 use Rattle.ocp_seats.specs.Receipts.{count_entries, step_entries}

@@ -7,7 +7,7 @@ use Rattle.ocp_table.specs.declared.answers.StepOutcome.{StepOutcome}
 use Rattle.ocp_table.specs.declared.answers.StepOutcome.TheVariants as S
 use Rattle.ocp_world.specs.World.{World, Event, Step, opening}
 use Rattle.ocp_world.specs.After.{After, after, is_accepted, is_done}
-use Rattle.ocp_world.specs.Replay.{replay_from, replay}
+use Rattle.ocp_world.specs.Replay.{replay_from}
 use Rattle.ocp_world.specs.Slice.{is_running, outcome_in}
 use Rattle.ocp_world.specs.NextRunning.{Runs}
 use Rattle.ocp_core.specs.Log.{Log, Entry, Asked, Steps, Debugged, Drained, events_of, expand, world_of}

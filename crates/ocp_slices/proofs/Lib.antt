@@ -4,3 +4,4 @@ pub mod Instructing
 pub mod Outcomes
 pub mod Turning
 pub mod Working
+pub mod Refusing

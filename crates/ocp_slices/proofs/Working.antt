@@ -1,12 +1,10 @@
 -- What workers leave behind.
-use Rattle.std.proofs.Common.{◌≡◌, ◌≤◌, ◌<◌, ◌==◌, ℕ, zero, suc, Bool, true, false, cond, List, [], ◌∷◌, ◌++◌, length, drop, map, filter, get_or, All, refl, ap, sym, subst, ◌∙◌, arith}
-use Rattle.std.proofs.lemmas.Grind.{common_steps}
+use Rattle.std.proofs.Common.{◌≡◌, ◌≤◌, ◌<◌, ◌==◌, ℕ, zero, suc, Bool, true, false, cond, List, [], ◌∷◌, ◌++◌, length, drop, filter, get_or, All, refl, ap, sym, subst, ◌∙◌, arith}
 use Rattle.std.proofs.lemmas.List.Elements.{All-nil, All-head, All-tail, All-push, All-same, All-map}
 use Rattle.ocp_world.specs.After.{is_accepted}
 use Rattle.ocp_core.specs.Log.{Log, Entry, Asked, Steps, Debugged, Drained}
 use Rattle.ocp_core.specs.Marks.{MarkedEntry, by_of, entries_with_marks, entries_by}
 use Rattle.ocp_seats.specs.Seats.{SeatContents}
-use Rattle.ocp_seats.specs.Closing.{IsReceipted}
 use Rattle.ocp_slices.specs.Continuing.{IsShift, Continues, AllContinue}
 use Rattle.ocp_slices.specs.Closed.{IsClosed, IsWorked, HasWorked}
 

@@ -1,16 +1,13 @@
 //! What stands behind the lock.
 
-ghost use Rattle.std.specs.Prelude.{◌≡◌, ◌≢◌, ◌≤◌, ◌↔◌, ℕ, [], IfOk, IfErr, OnErr};
-ghost use Rattle.ocp_debug.specs.declared.command.Command.TheVariants as command;
+ghost use Rattle.std.specs.Prelude.{◌≡◌, ◌≤◌, ◌↔◌, ℕ, [], IfOk, IfErr};
 ghost use Rattle.ocp_core.specs.declared.answers.CommitOutcome.TheVariants.{Empty, Committed};
-ghost use Rattle.ocp_seats.specs.Receipts.{step_entries, slice_entries, commit_entries, request_entries, drain_entries, command_entries};
+ghost use Rattle.ocp_core.specs.Receipts.{event_entries};
+ghost use Rattle.ocp_seats.specs.Receipts.{slice_entries, commit_entries};
 ghost use Rattle.ocp_seats.specs.Seats.{Gains};
-ghost use Rattle.ocp_slices.specs.Replies.{Reply, SeatReply, TakeReply, CommitReply, RequestReply, DrainReply, StepReply, SliceReply, CommandReply};
+ghost use Rattle.ocp_slices.specs.Replies.{Reply, SeatReply, TakeReply, CommitReply, EventReply, SliceReply};
 
-use crate::{
-    Book, CommitOutcome, DebugFault, EngineFault, Naming, Reports, Seat, SeatFault, Slice,
-    StepOutcome, TakeFault, Ticket, Work,
-};
+use crate::{Book, CommitOutcome, Input, Naming, Seat, SeatFault, Slice, TakeFault, Ticket, Work};
 use std::alloc::Global;
 
 /// What a call under the lock asks of the value behind it. `Book` meets it with the whole meaning
@@ -37,33 +34,12 @@ pub trait Board<L: Naming> {
         ensures empty { result ≡ Empty ↔ work.count ≡ 0 }
         ensures count { (n : ℕ) → result ≡ Committed n → n ≡ work.count };
 
-    /// Hands in the octets of a telecommand packet.
-    fn request(
-        &mut self,
-        alloc: Global,
-        seat: &mut Seat<L>,
-        time: u32,
-        octets: &[u8],
-    ) -> Result<Reports, EngineFault>
-        ensures given { answers (RequestReply seat.old.number time octets.now result) }
+    /// Asks the engine by the seat's number.
+    fn apply<I: Input<Global>>(&mut self, seat: &mut Seat<L>, input: I) -> I::Answer
+        ensures given { answers
+            (EventReply (I.event seat.old.number input) (I.answer result)) }
         ensures seat { Gains seat.old seat.new
-            (request_entries seat.old.number time octets.now result) };
-
-    /// Reports the completions that wait.
-    fn drain(
-        &mut self,
-        alloc: Global,
-        seat: &mut Seat<L>,
-        time: u32,
-    ) -> Result<Reports, EngineFault>
-        ensures given { answers (DrainReply seat.old.number time result) }
-        ensures seat { Gains seat.old seat.new
-            (drain_entries seat.old.number time result) };
-
-    /// Does one instruction of a procedure.
-    fn step(&mut self, seat: &mut Seat<L>, id: u16) -> StepOutcome
-        ensures given { answers (StepReply seat.old.number id result) }
-        ensures seat { Gains seat.old seat.new (step_entries seat.old.number id result) };
+            (event_entries (I.event seat.old.number input) (I.answer result)) };
 
     /// Does instructions of a procedure.
     fn slice(&mut self, seat: &mut Seat<L>, id: u16, budget: u32) -> Slice
@@ -71,37 +47,14 @@ pub trait Board<L: Naming> {
         ensures given { answers (SliceReply seat.old.number id budget result) }
         ensures within { result.count ≤ budget }
         ensures seat { Gains seat.old seat.new (slice_entries seat.old.number id result) };
-
-    /// Sets a breakpoint.
-    fn set_break(&mut self, seat: &mut Seat<L>, id: u16, place: u16) -> Result<(), DebugFault>
-        ensures given { answers
-            (CommandReply seat.old.number id (command.SetBreak place) result) }
-        ensures seat { Gains seat.old seat.new
-            (command_entries seat.old.number id (command.SetBreak place) result) };
-
-    /// Clears a breakpoint.
-    fn clear_break(&mut self, seat: &mut Seat<L>, id: u16, place: u16) -> Result<(), DebugFault>
-        ensures given { answers
-            (CommandReply seat.old.number id (command.ClearBreak place) result) }
-        ensures seat { Gains seat.old seat.new
-            (command_entries seat.old.number id (command.ClearBreak place) result) };
-
-    /// Sets whether instructions of a procedure are traced.
-    fn trace(&mut self, seat: &mut Seat<L>, id: u16, on: bool) -> Result<(), DebugFault>
-        ensures given { answers
-            (CommandReply seat.old.number id (command.SetTrace on) result) }
-        ensures seat { Gains seat.old seat.new
-            (command_entries seat.old.number id (command.SetTrace on) result) };
 }
 
 impl<L: Naming> Board<L> for Book<L> {
-    ghost use Rattle.std.specs.Prelude.{OnOk};
-    ghost use Rattle.ocp_world.specs.World as world;
-    ghost use Rattle.ocp_world.specs.After.{Stepped, Commanded};
-    ghost use Rattle.ocp_world.specs.Answers.{Answers};
-    ghost use Rattle.ocp_core.specs.Log.{answer_in, log_after};
+    ghost use Rattle.std.specs.Prelude.{false};
+    ghost use Rattle.ocp_world.specs.After.{is_accepted};
     ghost use Rattle.ocp_core.specs.Slice.{slice_in, slice_log};
     ghost use Rattle.ocp_core.specs.Commits.{Commits};
+    ghost use Rattle.ocp_core.specs.Receipts.{Enters};
     ghost use Rattle.ocp_seats.specs.Seats.{GrowsBy, HandsOut, RefusesSeat};
     ghost use Rattle.ocp_seats.specs.Taking.{Takes, RefusesTake};
 
@@ -132,54 +85,17 @@ impl<L: Naming> Board<L> for Book<L> {
         Book::commit(self, seat, work)
     }
 
-    fn request(
-        &mut self,
-        alloc: Global,
-        seat: &mut Seat<L>,
-        time: u32,
-        octets: &[u8],
-    ) -> Result<Reports, EngineFault>
-        ensures answer { Answers result
-            (answer_in self.old.engine (world.Request seat.old.number time octets.now)) }
-        ensures journal { OnOk result (self.new.engine ≡
-            log_after self.old.engine (world.Request seat.old.number time octets.now)) }
+    fn apply<I: Input<Global>>(&mut self, seat: &mut Seat<L>, input: I) -> I::Answer
+        ensures enters { Enters self.old.engine self.new.engine
+            (I.event seat.old.number input) (I.answer result) }
         ensures book { GrowsBy self.old self.new
-            (request_entries seat.old.number time octets.now result) }
+            (event_entries (I.event seat.old.number input) (I.answer result)) }
         ensures seat { Gains seat.old seat.new
-            (request_entries seat.old.number time octets.now result) }
-        ensures err { OnErr result ((self.new ≡ self.old) × (seat.new ≡ seat.old)) }
+            (event_entries (I.event seat.old.number input) (I.answer result)) }
+        ensures refused { is_accepted (I.answer result) ≡ false →
+            (self.new ≡ self.old) × (seat.new ≡ seat.old) }
     {
-        Book::request(self, alloc, seat, time, octets)
-    }
-
-    fn drain(
-        &mut self,
-        alloc: Global,
-        seat: &mut Seat<L>,
-        time: u32,
-    ) -> Result<Reports, EngineFault>
-        ensures answer { Answers result
-            (answer_in self.old.engine (world.Drain seat.old.number time)) }
-        ensures journal { OnOk result (self.new.engine ≡
-            log_after self.old.engine (world.Drain seat.old.number time)) }
-        ensures book { GrowsBy self.old self.new
-            (drain_entries seat.old.number time result) }
-        ensures seat { Gains seat.old seat.new
-            (drain_entries seat.old.number time result) }
-        ensures err { OnErr result ((self.new ≡ self.old) × (seat.new ≡ seat.old)) }
-    {
-        Book::drain(self, alloc, seat, time)
-    }
-
-    fn step(&mut self, seat: &mut Seat<L>, id: u16) -> StepOutcome
-        ensures answer { Stepped result ≡
-            answer_in self.old.engine (world.Step seat.old.number id) }
-        ensures journal { self.new.engine ≡
-            log_after self.old.engine (world.Step seat.old.number id) }
-        ensures book { GrowsBy self.old self.new (step_entries seat.old.number id result) }
-        ensures seat { Gains seat.old seat.new (step_entries seat.old.number id result) }
-    {
-        Book::step(self, seat, id)
+        Book::apply(self, seat, input)
     }
 
     fn slice(&mut self, seat: &mut Seat<L>, id: u16, budget: u32) -> Slice
@@ -192,44 +108,5 @@ impl<L: Naming> Board<L> for Book<L> {
         ensures seat { Gains seat.old seat.new (slice_entries seat.old.number id result) }
     {
         Book::slice(self, seat, id, budget)
-    }
-
-    fn set_break(&mut self, seat: &mut Seat<L>, id: u16, place: u16) -> Result<(), DebugFault>
-        ensures answer { Commanded result ≡ answer_in self.old.engine
-            (world.Debug seat.old.number id (command.SetBreak place)) }
-        ensures journal { self.new.engine ≡ log_after self.old.engine
-            (world.Debug seat.old.number id (command.SetBreak place)) }
-        ensures book { GrowsBy self.old self.new
-            (command_entries seat.old.number id (command.SetBreak place) result) }
-        ensures seat { Gains seat.old seat.new
-            (command_entries seat.old.number id (command.SetBreak place) result) }
-    {
-        Book::set_break(self, seat, id, place)
-    }
-
-    fn clear_break(&mut self, seat: &mut Seat<L>, id: u16, place: u16) -> Result<(), DebugFault>
-        ensures answer { Commanded result ≡ answer_in self.old.engine
-            (world.Debug seat.old.number id (command.ClearBreak place)) }
-        ensures journal { self.new.engine ≡ log_after self.old.engine
-            (world.Debug seat.old.number id (command.ClearBreak place)) }
-        ensures book { GrowsBy self.old self.new
-            (command_entries seat.old.number id (command.ClearBreak place) result) }
-        ensures seat { Gains seat.old seat.new
-            (command_entries seat.old.number id (command.ClearBreak place) result) }
-    {
-        Book::clear_break(self, seat, id, place)
-    }
-
-    fn trace(&mut self, seat: &mut Seat<L>, id: u16, on: bool) -> Result<(), DebugFault>
-        ensures answer { Commanded result ≡ answer_in self.old.engine
-            (world.Debug seat.old.number id (command.SetTrace on)) }
-        ensures journal { self.new.engine ≡ log_after self.old.engine
-            (world.Debug seat.old.number id (command.SetTrace on)) }
-        ensures book { GrowsBy self.old self.new
-            (command_entries seat.old.number id (command.SetTrace on) result) }
-        ensures seat { Gains seat.old seat.new
-            (command_entries seat.old.number id (command.SetTrace on) result) }
-    {
-        Book::trace(self, seat, id, on)
     }
 }

@@ -13,8 +13,9 @@ pub use board::Board;
 pub use close::StillShared;
 pub use crew::{WorkFault, work, workers};
 pub use ocp_seats::{
-    Book, CloseFault, CommitOutcome, DebugFault, Engine, EngineFault, Entry, MAX_SEATS, Naming,
-    Reports, Seat, SeatFault, Slice, StepOutcome, TakeFault, Ticket, Work,
+    Book, CloseFault, Command, CommitOutcome, DebugFault, Engine, EngineFault, Entry, Input,
+    MAX_SEATS, Naming, Reports, Seat, SeatFault, Slice, StepOutcome, TakeFault, Ticket, Work,
+    input,
 };
 pub use shared::SharedEngine;
 pub use turn::{Gate, Open, Turn};

@@ -7,9 +7,10 @@ ghost use Rattle.ocp_seats.specs.Receipts.{step_entries, slice_entries, commit_e
 ghost use Rattle.ocp_seats.specs.Seats.{Gains};
 ghost use Rattle.ocp_slices.specs.Replies.{SeatReply, TakeReply, CommitReply, RequestReply, DrainReply, StepReply, SliceReply, CommandReply};
 
+use crate::input::{DebuggerCommand, Drain, Request, Step};
 use crate::{
-    Board, Book, CommitOutcome, DebugFault, Engine, EngineFault, Naming, Reports, Seat, SeatFault,
-    Slice, StepOutcome, TakeFault, Ticket, Work,
+    Board, Book, Command, CommitOutcome, DebugFault, Engine, EngineFault, Naming, Reports, Seat,
+    SeatFault, Slice, StepOutcome, TakeFault, Ticket, Work,
 };
 use std::alloc::Global;
 use std::marker::PhantomData;
@@ -101,7 +102,12 @@ impl<L: Naming, B: Board<L>> SharedEngine<L, B> {
         ensures seat { Gains seat.old seat.new
             (request_entries seat.old.number time octets.now result) }
     {
-        self.board.lock(rt).request(alloc, seat, time, octets)
+        let request = Request {
+            alloc,
+            time,
+            octets,
+        };
+        self.board.lock(rt).apply(seat, request)
     }
 
     /// Reports the completions that wait, the oldest first, at a time in whole seconds, as the
@@ -118,7 +124,7 @@ impl<L: Naming, B: Board<L>> SharedEngine<L, B> {
         ensures seat { Gains seat.old seat.new
             (drain_entries seat.old.number time result) }
     {
-        self.board.lock(rt).drain(alloc, seat, time)
+        self.board.lock(rt).apply(seat, Drain { alloc, time })
     }
 
     /// Does one instruction of a procedure, as the engine's call with the seat's number.
@@ -126,7 +132,7 @@ impl<L: Naming, B: Board<L>> SharedEngine<L, B> {
         ensures given { B.answers (StepReply seat.old.number id result) }
         ensures seat { Gains seat.old seat.new (step_entries seat.old.number id result) }
     {
-        self.board.lock(rt).step(seat, id)
+        self.board.lock(rt).apply(seat, Step { id })
     }
 
     /// Does instructions of one procedure, at most so many, as the engine's call with the seat's
@@ -153,7 +159,10 @@ impl<L: Naming, B: Board<L>> SharedEngine<L, B> {
         ensures seat { Gains seat.old seat.new
             (command_entries seat.old.number id (command.SetBreak place) result) }
     {
-        self.board.lock(rt).set_break(seat, id, place)
+        let command = Command::SetBreak(place);
+        self.board
+            .lock(rt)
+            .apply(seat, DebuggerCommand { id, command })
     }
 
     /// Clears a breakpoint, as the engine's call with the seat's number.
@@ -169,7 +178,10 @@ impl<L: Naming, B: Board<L>> SharedEngine<L, B> {
         ensures seat { Gains seat.old seat.new
             (command_entries seat.old.number id (command.ClearBreak place) result) }
     {
-        self.board.lock(rt).clear_break(seat, id, place)
+        let command = Command::ClearBreak(place);
+        self.board
+            .lock(rt)
+            .apply(seat, DebuggerCommand { id, command })
     }
 
     /// Sets whether each instruction of a procedure leaves a trace record, as the engine's call
@@ -186,6 +198,9 @@ impl<L: Naming, B: Board<L>> SharedEngine<L, B> {
         ensures seat { Gains seat.old seat.new
             (command_entries seat.old.number id (command.SetTrace on) result) }
     {
-        self.board.lock(rt).trace(seat, id, on)
+        let command = Command::SetTrace(on);
+        self.board
+            .lock(rt)
+            .apply(seat, DebuggerCommand { id, command })
     }
 }

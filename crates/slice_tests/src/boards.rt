@@ -6,8 +6,8 @@ ghost use Rattle.std.specs.Prelude.{◌≡◌, ◌+◌, length};
 use crate::packets::{STATUS, takes_loops};
 use ocp_profile::Profile;
 use ocp_slices::{
-    Board, Book, CommitOutcome, DebugFault, Engine, EngineFault, Entry, Gate, Naming, Reports,
-    Seat, SeatFault, SharedEngine, Slice, StepOutcome, TakeFault, Ticket, Turn, Work,
+    Board, Book, CommitOutcome, DebugFault, Engine, EngineFault, Entry, Gate, Input, Naming, Seat,
+    SeatFault, SharedEngine, Slice, StepOutcome, TakeFault, Ticket, Turn, Work,
 };
 use std::alloc::Global;
 use std::cell::Cell;
@@ -28,13 +28,13 @@ pub(crate) enum Meets {
     AsFull,
 }
 
-// A book that counts its calls, refuses each third one of its steps by itself, and meets the turns as it was told to, where it
-// was. Others may see how many tickets were asked for.
+// A book that counts its calls, refuses each third event by itself, as for a full journal, and meets the turns as it was told to,
+// where it was. Others may see how many tickets were asked for.
 #[derive(Drop)]
 pub(crate) struct Counting<'a, L: Naming> {
     book: Book<L>,
     calls: u64,
-    steps: u64,
+    asked: u64,
     turns: &'static [Meets],
     turn: Meets,
     taken: &'a AtomicU64,
@@ -45,7 +45,7 @@ impl<'a, L: Naming> Counting<'a, L> {
         Counting {
             book,
             calls: 0,
-            steps: 0,
+            asked: 0,
             turns,
             turn: Meets::AsItsBook,
             taken,
@@ -86,54 +86,18 @@ impl<L: Naming> Board<L> for Counting<'_, L> {
         }
     }
 
-    fn request(
-        &mut self,
-        alloc: Global,
-        seat: &mut Seat<L>,
-        time: u32,
-        octets: &[u8],
-    ) -> Result<Reports, EngineFault> {
+    fn apply<I: Input<Global>>(&mut self, seat: &mut Seat<L>, input: I) -> I::Answer {
         self.calls = self.calls.saturating_add(1);
-        self.book.request(alloc, seat, time, octets)
-    }
-
-    fn drain(
-        &mut self,
-        alloc: Global,
-        seat: &mut Seat<L>,
-        time: u32,
-    ) -> Result<Reports, EngineFault> {
-        self.calls = self.calls.saturating_add(1);
-        self.book.drain(alloc, seat, time)
-    }
-
-    fn step(&mut self, seat: &mut Seat<L>, id: u16) -> StepOutcome {
-        self.calls = self.calls.saturating_add(1);
-        self.steps = self.steps.saturating_add(1);
-        if self.steps % 3 == 0 {
-            return StepOutcome::JournalFull;
+        self.asked = self.asked.saturating_add(1);
+        if self.asked % 3 == 0 {
+            return input.full();
         }
-        self.book.step(seat, id)
+        self.book.apply(seat, input)
     }
 
     fn slice(&mut self, seat: &mut Seat<L>, id: u16, budget: u32) -> Slice {
         self.calls = self.calls.saturating_add(1);
         self.book.slice(seat, id, budget)
-    }
-
-    fn set_break(&mut self, seat: &mut Seat<L>, id: u16, place: u16) -> Result<(), DebugFault> {
-        self.calls = self.calls.saturating_add(1);
-        self.book.set_break(seat, id, place)
-    }
-
-    fn clear_break(&mut self, seat: &mut Seat<L>, id: u16, place: u16) -> Result<(), DebugFault> {
-        self.calls = self.calls.saturating_add(1);
-        self.book.clear_break(seat, id, place)
-    }
-
-    fn trace(&mut self, seat: &mut Seat<L>, id: u16, on: bool) -> Result<(), DebugFault> {
-        self.calls = self.calls.saturating_add(1);
-        self.book.trace(seat, id, on)
     }
 }
 
@@ -145,7 +109,7 @@ fn answers_are_the_boards(rt: HostRuntime) -> Result<(), Fail> {
     through::<Brand, _>(&rt, rt.alloc(), engine, Blank::new(65))
 }
 
-// Every call through the lock is one call of the board, and each third step is refused.
+// Every call through the lock is one call of the board, and each third event is refused.
 fn through<L: Naming, R: Wait + Abort>(
     rt: &R,
     alloc: Global,
@@ -172,24 +136,27 @@ fn through<L: Naming, R: Wait + Abort>(
         shared.drain(rt, alloc, &mut seat, 0).err(),
         Some(EngineFault::NothingDue)
     );
-    for call in 1..7 {
+    for call in 3..9 {
         let wanted = if call % 3 == 0 {
             StepOutcome::JournalFull
         } else {
             StepOutcome::Ran
         };
-        assert_eq!(rt; shared.step(rt, &mut seat, 1), wanted, "step {call}");
+        assert_eq!(rt; shared.step(rt, &mut seat, 1), wanted, "event {call}");
     }
     assert_eq!(rt; shared.slice(rt, &mut seat, 1, 5).count, 5);
+    let full = Err(DebugFault::JournalFull);
+    assert_eq!(rt; shared.trace(rt, &mut seat, 1, true), full);
     assert_eq!(rt; shared.trace(rt, &mut seat, 1, true), Ok(()));
     assert_eq!(rt; shared.set_break(rt, &mut seat, 1, 2), Ok(()));
+    assert_eq!(rt; shared.set_break(rt, &mut seat, 1, 2), full);
     assert_eq!(rt;
         shared.set_break(rt, &mut seat, 1, 2),
         Err(DebugFault::AlreadySet)
     );
     assert_eq!(rt; shared.clear_break(rt, &mut seat, 1, 2), Ok(()));
     let board = shared.into_inner();
-    assert_eq!(rt; (board.calls, board.steps), (16, 6));
+    assert_eq!(rt; (board.calls, board.asked), (18, 14));
     assert_eq!(rt; board.book.engine().journal().len(), 12);
     Ok(())
 }
