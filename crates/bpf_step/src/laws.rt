@@ -1,12 +1,13 @@
 //! Laws on machines. The functions do nothing when they run: their contracts are the laws.
-ghost use Rattle.std.specs.Prelude.{◌≡◌, ◌≤◌, ℕ, List, [], length, Option};
+ghost use Rattle.std.specs.Prelude.{◌≡◌, ◌≤◌, ℕ, Bool, List, [], length, Option, Some};
 ghost use Rattle.ocp_profile.specs.declared.profile.Profile.{Profile};
 ghost use Rattle.bpf_types.specs.declared.line.Line.{Line};
 ghost use Rattle.ocp_loader.specs.Admitted.{IsAdmitted, IsAdmittedAs};
 ghost use Rattle.ocp_loader.specs.Places.{IsAt};
-ghost use Rattle.bpf_step.specs.Machine.{State, Next, machine_at_start, machine_at_restart, HasMemoryOf};
+ghost use Rattle.bpf_step.specs.Machine.{State, Next, machine_at_start, machine_at_restart, HasMemoryOf, HasAddressesOf};
 ghost use Rattle.bpf_step.specs.Calls.{state_after_engine_call};
 ghost use Rattle.bpf_step.specs.Step.{one_step, step};
+ghost use Rattle.bpf_step.specs.Runs.{local_run};
 ghost use Rattle.bpf_step.specs.Reach.{Reaches, IsFound, IsFramed};
 
 use ocp_loader::{
@@ -63,6 +64,14 @@ pub fn machines_keep_their_addresses()
         one_step image s ≡ Next t → HasMemoryOf profile t }
     ensures answered { (profile : Profile) (s : State) (r0 : ℕ) (r1 : Option ℕ) →
         HasMemoryOf profile s → HasMemoryOf profile (state_after_engine_call s r0 r1) }
+{
+    stores_keep_the_addresses();
+}
+
+/// So does a machine that does instructions by itself.
+pub fn runs_keep_the_addresses()
+    ensures { (image breakpoints : List ℕ) (pass : Bool) (s t : State) (n : ℕ) →
+        local_run image breakpoints pass s n ≡ Some t → HasAddressesOf s t }
 {
     stores_keep_the_addresses();
 }

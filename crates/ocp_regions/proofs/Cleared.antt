@@ -1,5 +1,5 @@
 -- What is left of a memory that is cleared: its addresses.
-use Rattle.std.proofs.Common.{◌≡◌, ◌≤◌, ℕ, zero, suc, ◌+◌, ◌-◌, ◌%◌, ◌^◌, List, [], ◌∷◌, ◌++◌, length, map, replicate, Option, Some, None, Result, Ok, Err, Bool, true, false, ◌&&◌, cond, refl, sym, ap, ◌∙◌, arith, length-append}
+use Rattle.std.proofs.Common.{◌≡◌, ◌≤◌, ℕ, zero, suc, ◌+◌, ◌-◌, ◌%◌, ◌^◌, List, [], ◌∷◌, ◌++◌, length, map, replicate, Option, Some, None, Result, Ok, Err, Bool, true, false, ◌&&◌, cond, refl, sym, ap, subst, ◌∙◌, arith, length-append}
 use Rattle.std.specs.Prelude.{is_some, slice_get, nat_lt, if◌then◌else◌, not}
 use Rattle.std.proofs.lemmas.List.{length-replicate}
 use Rattle.std.proofs.lemmas.Bool.Decides.{nat_tests}
@@ -9,9 +9,9 @@ use Rattle.std.specs.FinMap.{from_entries, entries, find, get, insert, get-entri
 use Rattle.std.specs.BTreeMap.{is_at}
 use Rattle.ocp_regions.specs.declared.fault.AccessFault.{AccessFault}
 use Rattle.ocp_profile.specs.declared.profile.Profile.{Profile}
-use Rattle.ocp_regions.specs.Memory.{Octets, entries_from, memory_of, work_octets, zeros, zeros_over, octets_at, in_front, with_octets, with_arguments, memory_after_store, low_octets, meets_arguments}
+use Rattle.ocp_regions.specs.Memory.{Octets, entries_from, memory_of, work_octets, IsWorkLength, zeros, zeros_over, octets_at, in_front, with_octets, with_arguments, memory_after_store, low_octets, meets_arguments}
 use Rattle.ocp_regions.proofs.Entries.{octet_in, placed_octet, or_else, get_memory}
-use Rattle.ocp_regions.proofs.Written.{zeros_again, read_arguments, length_low}
+use Rattle.ocp_regions.proofs.Written.{zeros_again, read_arguments, length_low, same_memory, same_work}
 use Rattle.ocp_regions.specs.declared.fault.AccessFault.TheVariants.{AccessOutside, WriteToArguments}
 
 -- zero where there is an octet
@@ -161,3 +161,25 @@ cleared_arguments profile octets h =
     let n : length zs ≡ 256 = simp (length-append, length-replicate) (omega (arith, h)) in
     kept_from (zeros profile) 0x2000_0000 zs (ap (λ k. is_some (octets_at (zeros profile) 0x2000_0000 k)) n ∙ arguments_there profile)
     ∙ cleared_zeros profile
+
+-- ---- memories with the same addresses
+
+same_lengths : (m n : ℕ) → replicate {A = ℕ} m 0 ≡ replicate {A = ℕ} n 0 → m ≡ n
+same_lengths m n e = sym (length-replicate {A = ℕ} m 0) ∙ ap length e ∙ length-replicate {A = ℕ} n 0
+
+module _ (s a w s' a' w' : List ℕ) (ls : length s ≡ 4096) (ls' : length s' ≡ 4096) (la : length a ≡ 256) (la' : length a' ≡ 256) where
+  -- where the work regions are as long, the addresses are the same
+  pub same_addresses : length w ≡ length w' → zeros_over (memory_of s a w) ≡ zeros_over (memory_of s' a' w')
+  same_addresses l =
+      sym (cleared_regions s a w)
+      ∙ same_memory _ _ _ _ _ _ (ap (λ n. replicate n 0) (ls ∙ sym ls')) (ap (λ n. replicate n 0) (la ∙ sym la')) (ap (λ n. replicate n 0) l)
+      ∙ cleared_regions s' a' w'
+
+  -- and only there
+  pub as_long : IsWorkLength (length w) → IsWorkLength (length w') → zeros_over (memory_of s a w) ≡ zeros_over (memory_of s' a' w') → length w ≡ length w'
+  as_long lw lw' e =
+      same_lengths (length w) (length w')
+      (same_work (replicate (length s) 0) (replicate (length a) 0) (replicate (length w) 0) (replicate (length s') 0) (replicate (length a') 0) (replicate (length w') 0)
+      (length-replicate {A = ℕ} (length s) 0 ∙ ls) (length-replicate {A = ℕ} (length s') 0 ∙ ls') (length-replicate {A = ℕ} (length a) 0 ∙ la) (length-replicate {A = ℕ} (length a') 0 ∙ la')
+      (subst IsWorkLength (sym (length-replicate {A = ℕ} (length w) 0)) lw) (subst IsWorkLength (sym (length-replicate {A = ℕ} (length w') 0)) lw')
+      (cleared_regions s a w ∙ e ∙ sym (cleared_regions s' a' w')))
