@@ -35,13 +35,13 @@ impl<A: Allocator> Model for Execution<A> {
 }
 
 impl<A: Allocator> Execution<A> {
-    ghost use Rattle.std.specs.Prelude.{◌≡◌, ◌≤◌, ◌↔◌, ℕ, List, [], None, Some, IfOk, IsSome, IsOk, IsTrue, IfErr, OnOk, OnErr, length};
+    ghost use Rattle.std.specs.Prelude.{◌≡◌, ◌≤◌, ◌↔◌, ℕ, List, [], None, Some, false, IfOk, IsSome, IsOk, IsTrue, IfErr, OnOk, OnErr, length};
     ghost use Rattle.ocp_profile.specs.declared.profile.Profile.{Profile};
     ghost use Rattle.ocp_loader.specs.LoadResult.{load_result};
     ghost use Rattle.ocp_loader.specs.LineAt.{IsPlace, line_of};
     ghost use Rattle.ocp_regions.specs.Memory.{octets_at};
     ghost use Rattle.ocp_regions.specs.declared.fault.AccessFault.TheVariants.{AccessOutside};
-    ghost use Rattle.bpf_step.specs.Machine.{machine_at_restart};
+    ghost use Rattle.bpf_step.specs.Machine.{machine_at_restart, HasAddressesOf};
     ghost use Rattle.bpf_step.specs.Step.{one_step, StandsIn};
     ghost use Rattle.bpf_step.specs.Runs.{local_run, local_count};
     ghost use Rattle.ocp_table.specs.Effects.{machine_by_outcome, mailbox_by_outcome, pool_by_outcome};
@@ -77,6 +77,25 @@ impl<A: Allocator> Execution<A> {
         })
     }
 
+    /// Becomes the same as another one, whose program is shared then, and whose machine's memory has
+    /// the addresses of this one's; no memory is asked for. It is refused where it has not, and
+    /// where the program can't be shared once more; then nothing is changed.
+    pub(crate) fn share_from(&mut self, other: &Execution<A>) -> bool
+        ensures same { IsTrue result → self.new ≡ other.now }
+        ensures addresses { HasAddressesOf self.old.machine self.new.machine }
+        ensures kept { (result ≡ false) → self.new ≡ self.old }
+    {
+        if !other.machine.has_addresses_of(&self.machine) {
+            return false;
+        }
+        let Ok(program) = Arc::try_clone(&other.program) else {
+            return false;
+        };
+        self.machine.copy_from(&other.machine);
+        self.program = program;
+        true
+    }
+
     /// A machine like this one.
     pub fn machine(&self, alloc: A) -> Result<Machine<A>, AllocError>
     where
@@ -93,8 +112,8 @@ impl<A: Allocator> Execution<A> {
         self.machine.is_same(&other.machine) && self.program.is_same(&other.program)
     }
 
-    /// Lets a machine like this one do instructions that need no engine, at most so many, and says
-    /// how many it did.
+    /// Lets a machine that becomes like this one do instructions that need no engine, at most so
+    /// many, and says how many it did.
     pub(crate) fn run(
         &self,
         machine: &mut Machine<A>,
@@ -102,23 +121,25 @@ impl<A: Allocator> Execution<A> {
         pass: bool,
         budget: u32,
     ) -> u32
-        requires { machine.old ≡ self.now.machine }
+        requires { HasAddressesOf machine.old self.now.machine }
         ensures ran { local_run self.now.image breakpoints.now pass self.now.machine result ≡
             Some machine.new }
         ensures count { result ≡
             local_count self.now.image breakpoints.now pass self.now.machine budget }
         ensures stands { StandsIn self.now.image machine.new }
     {
+        machine.copy_from(&self.machine);
         machine.run(&self.program, breakpoints, pass, budget)
     }
 
-    /// Puts another machine in the place of this one.
-    pub(crate) fn settle(&mut self, machine: Machine<A>)
-        requires { StandsIn self.old.image machine }
+    /// Makes the machine like another one, whose memory has the same addresses.
+    pub(crate) fn settle(&mut self, machine: &Machine<A>)
+        requires stands { StandsIn self.old.image machine.now }
+        requires addresses { HasAddressesOf self.old.machine machine.now }
         ensures image { self.new.image ≡ self.old.image }
-        ensures machine { self.new.machine ≡ machine }
+        ensures machine { self.new.machine ≡ machine.now }
     {
-        self.machine = machine;
+        self.machine.copy_from(machine);
     }
 
     /// Starts the machine anew with at most 256 octets of arguments.

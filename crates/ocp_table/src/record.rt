@@ -144,9 +144,11 @@ impl<A: Allocator> Record<A> {
 
     /// Puts back a machine that did so many instructions apart: the pass flag goes off, and they
     /// are taken from the budget.
-    pub(crate) fn settle(&mut self, count: u32, machine: Machine<A>)
-        requires { StandsIn self.old.execution.image machine }
-        ensures record { record_of self.new ≡ record_after_work count machine (record_of self.old) }
+    pub(crate) fn settle(&mut self, count: u32, machine: &Machine<A>)
+        requires stands { StandsIn self.old.execution.image machine.now }
+        requires addresses { HasAddressesOf self.old.execution.machine machine.now }
+        ensures record { record_of self.new ≡
+            record_after_work count machine.now (record_of self.old) }
         ensures id { self.new.id ≡ self.old.id }
     {
         self.execution.settle(machine);
@@ -175,4 +177,5 @@ ghost use Rattle.ocp_table.specs.Effects.{pool_by};
 ghost use Rattle.ocp_table.specs.RequestTable.{Unload, Step};
 ghost use Rattle.bpf_step.specs.Runs.{breaks_at};
 ghost use Rattle.ocp_table.specs.Snapshots.{record_after_work};
+ghost use Rattle.bpf_step.specs.Machine.{HasAddressesOf};
 ghost use Rattle.bpf_step.specs.Step.{StandsIn};

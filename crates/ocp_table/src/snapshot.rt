@@ -39,7 +39,8 @@ impl<A: Allocator> Model for Snapshot<A> {
 }
 
 impl<A: Allocator> Snapshot<A> {
-    ghost use Rattle.std.specs.Prelude.{◌≡◌, ◌↔◌, IfOk, IsTrue, Some, None};
+    ghost use Rattle.std.specs.Prelude.{◌≡◌, ◌↔◌, IfOk, IsTrue, Some, None, false};
+    ghost use Rattle.bpf_step.specs.Machine.{HasAddressesOf};
     ghost use Rattle.bpf_step.specs.Step.{StandsIn};
     ghost use Rattle.ocp_table.specs.Budgets.{IsWithin};
     ghost use Rattle.ocp_table.specs.Shown.{record_of};
@@ -75,6 +76,38 @@ impl<A: Allocator> Snapshot<A> {
         }
     }
 
+    /// Becomes that of a procedure, where it runs, in the same memory.
+    pub(crate) fn retake(&mut self, procedure: &Record<A>) -> bool
+        ensures taken { IsTrue result →
+            snapshot_at (Some (record_of procedure.now)) ≡ Some self.new }
+        ensures addresses { HasAddressesOf self.old.machine self.new.machine }
+        ensures kept { (result ≡ false) → self.new ≡ self.old }
+    {
+        match procedure.control.status {
+            Status::Running => self.retake_running(procedure),
+            Status::Inactive | Status::Held => false,
+        }
+    }
+
+    /// Becomes that of a procedure.
+    fn retake_running(&mut self, procedure: &Record<A>) -> bool
+        ensures taken { IsTrue result → snapshot_of (record_of procedure.now) ≡ self.new }
+        ensures addresses { HasAddressesOf self.old.machine self.new.machine }
+        ensures kept { (result ≡ false) → self.new ≡ self.old }
+    {
+        let Ok(breakpoints) = procedure.breakpoints.clone() else {
+            return false;
+        };
+        if !self.execution.share_from(&procedure.execution) {
+            return false;
+        }
+        self.breakpoints = breakpoints;
+        self.pass = procedure.control.pass;
+        self.traced = procedure.traced;
+        self.remaining = procedure.remaining;
+        true
+    }
+
     /// Whether the procedure's parts are still the same.
     fn is_of(&self, procedure: &Record<A>) -> bool
         ensures { IsTrue result ↔ (snapshot_of (record_of procedure.now) ≡ self.now) }
@@ -105,13 +138,13 @@ impl<A: Allocator> Snapshot<A> {
         self.execution.machine(alloc)
     }
 
-    /// Lets a machine as it stood do instructions that need no engine, at most so many and at most
-    /// what was left of the budget, and says how many it did: none where the procedure is traced.
-    /// It stops before the first instruction that needs the engine, and before a breakpoint, which
+    /// Makes a machine like the one that stood, lets it do instructions that need no engine, at most
+    /// so many and at most what was left of the budget, and says how many it did: none where the
+    /// procedure is traced. It stops before the first instruction that needs the engine, and before a breakpoint, which
     /// the pass flag lets the first instruction pass.
     #[tactic(auto, using(crate::proofs::Slicing::local_count_within, crate::proofs::Budgets::within_left))]
     pub fn run(&self, machine: &mut Machine<A>, budget: u32) -> u32
-        requires { machine.old ≡ self.now.machine }
+        requires { HasAddressesOf machine.old self.now.machine }
         ensures ran { run_of self.now result ≡ Some machine.new }
         ensures count { result ≡ count_of self.now budget }
         ensures within { IsWithin self.now.remaining result }

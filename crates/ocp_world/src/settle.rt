@@ -1,9 +1,9 @@
 //! A procedure that runs apart.
 
-ghost use Rattle.std.specs.Prelude.{◌≡◌, ◌↔◌, ℕ, IfOk, IsTrue, Some, replicate};
+ghost use Rattle.std.specs.Prelude.{◌≡◌, ◌↔◌, ℕ, IfOk, IsTrue, Some, false, replicate};
 ghost use Rattle.std.specs.FinMap.{get};
-ghost use Rattle.ocp_table.specs.Snapshots.{snapshot_at, StandsAt};
-ghost use Rattle.bpf_step.specs.Machine.{State as Machined};
+ghost use Rattle.ocp_table.specs.Snapshots.{snapshot_at, StandsAt, HasAddressesAt};
+ghost use Rattle.bpf_step.specs.Machine.{State as Machined, HasAddressesOf};
 ghost use Rattle.ocp_table.specs.Records.{Rec};
 ghost use Rattle.ocp_table.specs.declared.answers.StepOutcome.TheVariants as outcome;
 ghost use Rattle.ocp_world.specs.World.{World, Step};
@@ -29,6 +29,18 @@ impl<A: Allocator> State<A> {
         self.table.snapshot(alloc, id)
     }
 
+    /// The same in the memory of what was taken before: none is asked for. It is refused where the
+    /// procedure is not loaded or does not run, where its machine's memory has other addresses, and
+    /// where its program can't be shared once more; then nothing is changed.
+    pub fn snapshot_into(&self, id: u16, snapshot: &mut Snapshot<A>) -> bool
+        ensures taken { (w : World) → IsWorld w self.now →
+            IsTrue result → snapshot_at (get w.records id) ≡ Some snapshot.new }
+        ensures addresses { HasAddressesOf snapshot.old.machine snapshot.new.machine }
+        ensures kept { (result ≡ false) → snapshot.new ≡ snapshot.old }
+    {
+        self.table.snapshot_into(id, snapshot)
+    }
+
     /// Whether a procedure is loaded and runs, and its parts are the same by value as when they
     /// were taken.
     pub fn is_at(&self, id: u16, snapshot: &Snapshot<A>) -> bool
@@ -38,11 +50,12 @@ impl<A: Allocator> State<A> {
         self.table.is_at(id, snapshot)
     }
 
-    /// Puts back the machine of a procedure, which did so many instructions apart.
-    pub fn settle(&mut self, id: u16, count: u32, machine: Machine<A>)
-        requires { StandsAt (get self.old.table.records id) machine }
+    /// Makes the machine of a procedure like one that did so many instructions apart.
+    pub fn settle(&mut self, id: u16, count: u32, machine: &Machine<A>)
+        requires stands { StandsAt (get self.old.table.records id) machine.now }
+        requires addresses { HasAddressesAt (get self.old.table.records id) machine.now }
         ensures { (w : World) → IsWorld w self.old →
-            IsWorld (world_after_work id machine count w) self.new }
+            IsWorld (world_after_work id machine.now count w) self.new }
     {
         self.table.settle(id, count, machine);
     }
