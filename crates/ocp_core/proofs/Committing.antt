@@ -3,11 +3,12 @@ use Rattle.std.proofs.Common.{◌≡◌, ◌≤◌, ℕ, zero, suc, Bool, true, 
 use Rattle.std.specs.FinMap.{get}
 use Rattle.obcp_types.specs.declared.status.Status.{Status}
 use Rattle.obcp_types.specs.declared.status.Status.TheVariants.{Inactive, Running, Held}
-use Rattle.bpf_step.specs.Machine.{State as Machined}
+use Rattle.bpf_step.specs.Machine.{State as Machined, HasAddressesOf}
+use Rattle.bpf_step.specs.Runs.{local_run}
 use Rattle.bpf_step.specs.Step.{StandsIn}
 use Rattle.ocp_table.specs.Budgets.{IsWithin}
 use Rattle.ocp_table.specs.Records.{Rec}
-use Rattle.ocp_table.specs.Snapshots.{Snapshot, snapshot_of, snapshot_by, snapshot_at, run_of, StandsAt}
+use Rattle.ocp_table.specs.Snapshots.{Snapshot, snapshot_of, snapshot_by, snapshot_at, run_of, StandsAt, HasAddressesAt}
 use Rattle.ocp_world.specs.World.{World, Step}
 use Rattle.ocp_world.specs.After.{Answer, Stepped, after}
 use Rattle.ocp_world.specs.Replay.{replay_from, answers}
@@ -70,6 +71,15 @@ stands_at : (o : Option Rec) (base : Snapshot) (machine : Machined) → IsOf o b
 stands_at o base machine found stands =
     subst (λ x. StandsAt x machine) (sym found.held) (subst (λ s. StandsIn s.image machine) (sym found.same) stands)
 
+-- and has its addresses
+has_addresses : (o : Option Rec) (base : Snapshot) (machine : Machined) → IsOf o base → HasAddressesOf base.machine machine → HasAddressesAt o machine
+has_addresses o base machine found has =
+    subst (λ x. HasAddressesAt x machine) (sym found.held) (subst (λ s. HasAddressesOf s.machine machine) (sym found.same) has)
+
+-- what the law says of the machine that a run leaves
+abbrev pub RunsKeep : Type 0
+RunsKeep = (image breakpoints : List ℕ) (pass : Bool) (s t : Machined) (n : ℕ) → local_run image breakpoints pass s n ≡ Some t → HasAddressesOf s t
+
 -- what the law says of the instructions of a run
 abbrev pub AreEvents : Type 0
 AreEvents = (v : World) (by id n : ℕ) (r : Rec) (machine : Machined) → RunsAlone v id r n machine → replay_from v (replicate n (Step by id)) ≡ world_after_work id machine n v
@@ -92,6 +102,13 @@ module _ {A : Type 0} where
   may_settle log w s stands fresh run =
       subst (λ m. StandsAt (get m w.id) w.end) (sym stands.records)
       (stands_at (get (world_of log).records w.id) w.base w.end (is_of (get (world_of log).records w.id) w.base fresh) run.stands)
+
+  -- its memory has the addresses of the procedure's own
+  pub may_copy : RunsKeep → (log : Log) (w : WorkContents) (s : State A) → IsWorld (world_of log) s → IsFresh log w → IsRun w → HasAddressesAt (get s.table.records w.id) w.end
+  may_copy kept log w s stands fresh run =
+      subst (λ m. HasAddressesAt (get m w.id) w.end) (sym stands.records)
+      (has_addresses (get (world_of log).records w.id) w.base w.end (is_of (get (world_of log).records w.id) w.base fresh)
+      (kept w.base.image w.base.breakpoints w.base.pass w.base.machine w.end w.count run.ran))
 
   -- the state after a commit stands for the new journal's world
   pub IsWorld-committed : AreEvents → (log new : Log) (by : ℕ) (w : WorkContents) (s : State A) → (w.count ≡ 0 → ⊥) → IsFresh log w → IsRun w → new ≡ with_entry log (Steps by w.id w.count) → IsWorld (world_after_work w.id w.end w.count (world_of log)) s → IsWorld (world_of new) s

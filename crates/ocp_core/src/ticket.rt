@@ -1,12 +1,15 @@
 //! Procedures that run apart from the engine.
 
 use bpf_step::Machine;
+use bpf_step::laws::runs_keep_the_addresses;
 use ocp_table::Snapshot;
+use ocp_world::State;
 use std::alloc::{AllocError, Allocator, Global};
 use std::marker::Model;
 
-/// A copy of a running procedure: its machine twice, one to run and one to compare with, the shared
-/// program, the breakpoints, the pass flag, the trace flag and what remains of the budget.
+/// A copy of a running procedure: its machine, which is to compare with, another machine with the
+/// same addresses, which is to become like it and to run, the shared program, the breakpoints, the
+/// pass flag, the trace flag and what remains of the budget.
 #[derive(Drop)]
 pub struct Ticket<A: Allocator = Global> {
     id: u16,
@@ -15,7 +18,7 @@ pub struct Ticket<A: Allocator = Global> {
 }
 
 impl<A: Allocator> Model for Ticket<A> {
-    ghost use Rattle.std.specs.Prelude.{◌≡◌};
+    ghost use Rattle.bpf_step.specs.Machine.{HasAddressesOf};
     ghost use Rattle.ocp_core.specs.Tickets.{TicketContents};
 
     ghost Value = { TicketContents };
@@ -26,7 +29,7 @@ impl<A: Allocator> Model for Ticket<A> {
 
     ghost view = { λ t. record { id = t.id; base = t.base } };
 
-    ghost invariant = { λ t. t.machine ≡ t.base.machine };
+    ghost invariant = { λ t. HasAddressesOf t.machine t.base.machine };
 }
 
 /// What a ticket did: its machine is the one that it began with after that many instructions that
@@ -55,9 +58,12 @@ impl<A: Allocator> Model for Work<A> {
 }
 
 impl<A: Allocator> Ticket<A> {
-    ghost use Rattle.std.specs.Prelude.{◌≡◌, IfOk};
+    ghost use Rattle.std.specs.Prelude.{◌≡◌, IfOk, IsTrue, Some, false};
+    ghost use Rattle.std.specs.FinMap.{get};
     ghost use Rattle.ocp_table.specs.Snapshots.{count_of};
-    ghost use Rattle.ocp_core.specs.Tickets.{IsRun};
+    ghost use Rattle.ocp_world.specs.World.{World};
+    ghost use Rattle.ocp_world.specs.Mirror.State.{IsWorld};
+    ghost use Rattle.ocp_core.specs.Tickets.{ticket_at, IsRun};
 
     /// That of a procedure that was taken.
     pub(crate) fn new(alloc: A, id: u16, base: Snapshot<A>) -> Result<Self, AllocError>
@@ -67,6 +73,19 @@ impl<A: Allocator> Ticket<A> {
     {
         let machine = base.machine(alloc)?;
         Ok(Ticket { id, base, machine })
+    }
+
+    /// Becomes that of a procedure, in the same memory, or stays as it was.
+    pub(crate) fn retake(&mut self, state: &State<A>, id: u16) -> bool
+        ensures taken { (w : World) → IsWorld w state.now →
+            IsTrue result → ticket_at id (get w.records id) ≡ Some self.new }
+        ensures kept { (result ≡ false) → self.new ≡ self.old }
+    {
+        if !state.snapshot_into(id, &mut self.base) {
+            return false;
+        }
+        self.id = id;
+        true
     }
 
     /// The procedure's id.
@@ -110,6 +129,24 @@ impl<A: Allocator> Work<A> {
         ensures { result ≡ self.now.id }
     {
         self.id
+    }
+
+    /// The ticket that it was, in the same memory.
+    pub fn into_ticket(self) -> Ticket<A>
+        ensures { result ≡ record { id = self.id; base = self.base } }
+    {
+        runs_keep_the_addresses();
+        let Work {
+            id,
+            base,
+            end,
+            count: _,
+        } = self;
+        Ticket {
+            id,
+            base,
+            machine: end,
+        }
     }
 
     /// How many instructions were done.

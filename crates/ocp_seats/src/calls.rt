@@ -131,11 +131,22 @@ impl<L: Naming, A: Allocator> Book<L, A> {
     }
 
     /// `Engine::commit` with the seat's number.
-    #[tactic(auto, using(crate::proofs::Going::goes_on_further))]
     pub fn commit(&mut self, seat: &mut Seat<L, A>, work: Work<A>) -> CommitOutcome
         ensures engine { Commits self.old.engine self.new.engine seat.old.number work result }
         ensures book { GrowsBy self.old self.new (commit_entries seat.old.number work.id result) }
         ensures seat { Gains seat.old seat.new (commit_entries seat.old.number work.id result) }
+    {
+        self.hand_in(seat, &work)
+    }
+
+    /// `Engine::hand_in` with the seat's number.
+    #[tactic(auto, using(crate::proofs::Going::goes_on_further))]
+    pub fn hand_in(&mut self, seat: &mut Seat<L, A>, work: &Work<A>) -> CommitOutcome
+        ensures engine { Commits self.old.engine self.new.engine seat.old.number work.now result }
+        ensures book { GrowsBy self.old self.new
+            (commit_entries seat.old.number work.now.id result) }
+        ensures seat { Gains seat.old seat.new
+            (commit_entries seat.old.number work.now.id result) }
     {
         let by = seat.number;
         let id = work.id();

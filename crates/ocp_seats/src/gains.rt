@@ -37,11 +37,11 @@ pub(crate) fn slice<A: Allocator>(engine: &mut Engine<A>, by: u16, id: u16, budg
     engine.slice(by, id, budget)
 }
 
-pub(crate) fn commit<A: Allocator>(engine: &mut Engine<A>, by: u16, work: Work<A>) -> CommitOutcome
-    ensures engine { Commits engine.old engine.new by work result }
-    ensures gain { Grows engine.old engine.new (commit_entries by work.id result) }
+pub(crate) fn commit<A: Allocator>(engine: &mut Engine<A>, by: u16, work: &Work<A>) -> CommitOutcome
+    ensures engine { Commits engine.old engine.new by work.now result }
+    ensures gain { Grows engine.old engine.new (commit_entries by work.now.id result) }
 {
     entries_are_marked_by_their_answers();
     let _ran = work.count();
-    engine.commit(by, work)
+    engine.hand_in(by, work)
 }
