@@ -1,6 +1,6 @@
 //! What stands behind the lock.
 
-ghost use Rattle.std.specs.Prelude.{◌≡◌, ◌≤◌, ◌↔◌, ℕ, [], IfOk, IfErr};
+ghost use Rattle.std.specs.Prelude.{◌≡◌, ◌≤◌, ◌↔◌, ℕ, [], Ok, Err, IfOk, IfErr, OnOk};
 ghost use Rattle.ocp_core.specs.declared.answers.CommitOutcome.TheVariants.{Empty, Committed};
 ghost use Rattle.ocp_core.specs.Receipts.{event_entries};
 ghost use Rattle.ocp_seats.specs.Receipts.{slice_entries, commit_entries};
@@ -27,12 +27,25 @@ pub trait Board<L: Naming> {
     fn take(&mut self, alloc: Global) -> Result<Ticket, TakeFault>
         ensures given { answers (TakeReply result) };
 
+    /// The same with a ticket that there is, which becomes the one that is taken.
+    fn take_into(&mut self, alloc: Global, ticket: &mut Ticket) -> Result<(), TakeFault>
+        ensures ok { OnOk result (answers (TakeReply (Ok ticket.new))) }
+        ensures err { IfErr result (λ why. answers (TakeReply (Err why))) };
+
     /// Hands in a work.
     fn commit(&mut self, seat: &mut Seat<L>, work: Work) -> CommitOutcome
         ensures given { answers (CommitReply seat.old.number work result) }
         ensures seat { Gains seat.old seat.new (commit_entries seat.old.number work.id result) }
         ensures empty { result ≡ Empty ↔ work.count ≡ 0 }
         ensures count { (n : ℕ) → result ≡ Committed n → n ≡ work.count };
+
+    /// The same with a work that stays.
+    fn hand_in(&mut self, seat: &mut Seat<L>, work: &Work) -> CommitOutcome
+        ensures given { answers (CommitReply seat.old.number work.now result) }
+        ensures seat { Gains seat.old seat.new
+            (commit_entries seat.old.number work.now.id result) }
+        ensures empty { result ≡ Empty ↔ work.now.count ≡ 0 }
+        ensures count { (n : ℕ) → result ≡ Committed n → n ≡ work.now.count };
 
     /// Asks the engine by the seat's number.
     fn apply<I: Input<Global>>(&mut self, seat: &mut Seat<L>, input: I) -> I::Answer
@@ -74,6 +87,13 @@ impl<L: Naming> Board<L> for Book<L> {
         Book::take(self, alloc)
     }
 
+    fn take_into(&mut self, alloc: Global, ticket: &mut Ticket) -> Result<(), TakeFault>
+        ensures ok { OnOk result (Takes self.old self.new ticket.new) }
+        ensures err { IfErr result (λ why. (self.new ≡ self.old) × RefusesTake self.old why) }
+    {
+        Book::take_into(self, alloc, ticket)
+    }
+
     #[tactic(auto, using(crate::proofs::Outcomes::empty_exactly, crate::proofs::Outcomes::committed_all))]
     fn commit(&mut self, seat: &mut Seat<L>, work: Work) -> CommitOutcome
         ensures engine { Commits self.old.engine self.new.engine seat.old.number work result }
@@ -83,6 +103,19 @@ impl<L: Naming> Board<L> for Book<L> {
         ensures count { (n : ℕ) → result ≡ Committed n → n ≡ work.count }
     {
         Book::commit(self, seat, work)
+    }
+
+    #[tactic(auto, using(crate::proofs::Outcomes::empty_exactly, crate::proofs::Outcomes::committed_all))]
+    fn hand_in(&mut self, seat: &mut Seat<L>, work: &Work) -> CommitOutcome
+        ensures engine { Commits self.old.engine self.new.engine seat.old.number work.now result }
+        ensures book { GrowsBy self.old self.new
+            (commit_entries seat.old.number work.now.id result) }
+        ensures seat { Gains seat.old seat.new
+            (commit_entries seat.old.number work.now.id result) }
+        ensures empty { result ≡ Empty ↔ work.now.count ≡ 0 }
+        ensures count { (n : ℕ) → result ≡ Committed n → n ≡ work.now.count }
+    {
+        Book::hand_in(self, seat, work)
     }
 
     fn apply<I: Input<Global>>(&mut self, seat: &mut Seat<L>, input: I) -> I::Answer

@@ -1,6 +1,6 @@
 //! The engine behind a lock.
 
-ghost use Rattle.std.specs.Prelude.{◌≡◌, ◌≤◌, ◌+◌, ◌↔◌, ℕ, [], length, IfOk};
+ghost use Rattle.std.specs.Prelude.{◌≡◌, ◌≤◌, ◌+◌, ◌↔◌, ℕ, [], Ok, Err, length, IfOk, IfErr, OnOk};
 ghost use Rattle.ocp_debug.specs.declared.command.Command.TheVariants as command;
 ghost use Rattle.ocp_core.specs.declared.answers.CommitOutcome.TheVariants.{Empty, Committed};
 ghost use Rattle.ocp_seats.specs.Receipts.{step_entries, slice_entries, commit_entries, request_entries, drain_entries, command_entries};
@@ -74,6 +74,31 @@ impl<L: Naming, B: Board<L>> SharedEngine<L, B> {
         ensures given { B.answers (TakeReply result) }
     {
         self.board.lock(rt).take(alloc)
+    }
+
+    /// As `take`, with a ticket that there is, which becomes the one that is taken. It keeps its
+    /// memory, and none is asked for, where its machine has the addresses of the procedure's.
+    pub fn take_into<R: Wait>(
+        &self,
+        rt: &R,
+        alloc: Global,
+        ticket: &mut Ticket,
+    ) -> Result<(), TakeFault>
+        ensures ok { OnOk result (B.answers (TakeReply (Ok ticket.new))) }
+        ensures err { IfErr result (λ why. B.answers (TakeReply (Err why))) }
+    {
+        self.board.lock(rt).take_into(alloc, ticket)
+    }
+
+    /// As `commit`, with a work that stays, so that no memory is given back under the lock.
+    pub fn hand_in<R: Wait>(&self, rt: &R, seat: &mut Seat<L>, work: &Work) -> CommitOutcome
+        ensures given { B.answers (CommitReply seat.old.number work.now result) }
+        ensures seat { Gains seat.old seat.new
+            (commit_entries seat.old.number work.now.id result) }
+        ensures empty { result ≡ Empty ↔ work.now.count ≡ 0 }
+        ensures count { (n : ℕ) → result ≡ Committed n → n ≡ work.now.count }
+    {
+        self.board.lock(rt).hand_in(seat, work)
     }
 
     /// Puts a work's instructions into its procedure. Refused, in this order, where there are none,

@@ -1,9 +1,10 @@
 //! Turns: take a procedure, run it off the lock, and put its work back.
 
-ghost use Rattle.std.specs.Prelude.{◌≡◌, ◌≤◌};
+ghost use Rattle.std.specs.Prelude.{◌≡◌, ◌≤◌, Ok, Err, IfOk, IfErr};
 ghost use Rattle.ocp_table.specs.Snapshots.{count_of};
 ghost use Rattle.ocp_core.specs.Tickets.{IsRun};
 ghost use Rattle.ocp_slices.specs.Continuing.{Continues};
+ghost use Rattle.ocp_slices.specs.Replies.{TakeReply};
 ghost use Rattle.ocp_slices.specs.Turns.{IsTurn};
 
 use crate::{
@@ -76,7 +77,44 @@ impl<L: Naming, B: Board<L>> SharedEngine<L, B> {
     ) -> Turn
         ensures turned { IsTurn B.answers budget seat.old seat.new result }
     {
-        let ticket = match self.take(rt, alloc) {
+        self.turn_in(rt, alloc, seat, budget, gate, &mut None)
+    }
+
+    /// The next ticket, in the memory of a spare one where there is one; that stays where there is
+    /// none.
+    fn take_in<R: Wait>(
+        &self,
+        rt: &R,
+        alloc: Global,
+        spare: &mut Option<Ticket>,
+    ) -> Result<Ticket, TakeFault>
+        ensures given { B.answers (TakeReply result) }
+    {
+        let Some(mut ticket) = spare.take() else {
+            return self.take(rt, alloc);
+        };
+        match self.take_into(rt, alloc, &mut ticket) {
+            Ok(()) => Ok(ticket),
+            Err(fault) => {
+                *spare = Some(ticket);
+                Err(fault)
+            }
+        }
+    }
+
+    /// A turn in the memory of a spare ticket, where there is one, and then there is one.
+    fn turn_in<R: Wait, G: Gate>(
+        &self,
+        rt: &R,
+        alloc: Global,
+        seat: &mut Seat<L>,
+        budget: u32,
+        gate: &G,
+        spare: &mut Option<Ticket>,
+    ) -> Turn
+        ensures turned { IsTurn B.answers budget seat.old seat.new result }
+    {
+        let ticket = match self.take_in(rt, alloc, spare) {
             Ok(ticket) => ticket,
             Err(TakeFault::NoneRunning) => return Turn::Idle,
             Err(TakeFault::Memory) => return Turn::NoMemory,
@@ -85,8 +123,9 @@ impl<L: Naming, B: Board<L>> SharedEngine<L, B> {
         let number = seat.number();
         let id = work.id();
         gate.before(number, id, work.count());
-        let outcome = self.commit(rt, seat, work);
+        let outcome = self.hand_in(rt, seat, &work);
         gate.after(number, id, outcome);
+        *spare = Some(work.into_ticket());
         match outcome {
             CommitOutcome::Committed(count) => Turn::Committed(count),
             CommitOutcome::Stale => Turn::Stale,
@@ -98,7 +137,8 @@ impl<L: Naming, B: Board<L>> SharedEngine<L, B> {
         }
     }
 
-    /// That many turns, one after the other.
+    /// That many turns, one after the other. From the second on none asks for memory, where all
+    /// procedures have machines of one size.
     #[tactic(auto, using(crate::proofs::Continuing::continues_unchanged, crate::proofs::Continuing::continues_by_turn, crate::proofs::Continuing::continues_at_end))]
     pub fn turns<R: Wait, G: Gate>(
         &self,
@@ -111,8 +151,9 @@ impl<L: Naming, B: Board<L>> SharedEngine<L, B> {
     )
         ensures { Continues turns budget seat.old seat.new }
     {
+        let mut spare = None;
         for _turn in 0..turns {
-            self.turn(rt, alloc, seat, budget, gate);
+            self.turn_in(rt, alloc, seat, budget, gate, &mut spare);
         }
     }
 }

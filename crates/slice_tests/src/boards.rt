@@ -51,6 +51,18 @@ impl<'a, L: Naming> Counting<'a, L> {
             taken,
         }
     }
+
+    // A ticket is asked for, and this is how the turn is met.
+    fn meet(&mut self) -> Meets {
+        self.calls = self.calls.saturating_add(1);
+        self.taken.fetch_add(1, Ordering::SeqCst);
+        self.turn = Meets::AsItsBook;
+        if let Some((first, others)) = self.turns.split_first() {
+            self.turn = *first;
+            self.turns = others;
+        }
+        self.turn
+    }
 }
 
 impl<L: Naming> Board<L> for Counting<'_, L> {
@@ -60,29 +72,34 @@ impl<L: Naming> Board<L> for Counting<'_, L> {
     }
 
     fn take(&mut self, alloc: Global) -> Result<Ticket, TakeFault> {
-        self.calls = self.calls.saturating_add(1);
-        self.taken.fetch_add(1, Ordering::SeqCst);
-        self.turn = Meets::AsItsBook;
-        if let Some((first, others)) = self.turns.split_first() {
-            self.turn = *first;
-            self.turns = others;
-        }
-        match self.turn {
+        match self.meet() {
             Meets::NothingRuns => Err(TakeFault::NoneRunning),
             Meets::NoMemory => Err(TakeFault::Memory),
             _ => self.book.take(alloc),
         }
     }
 
+    fn take_into(&mut self, alloc: Global, ticket: &mut Ticket) -> Result<(), TakeFault> {
+        match self.meet() {
+            Meets::NothingRuns => Err(TakeFault::NoneRunning),
+            Meets::NoMemory => Err(TakeFault::Memory),
+            _ => self.book.take_into(alloc, ticket),
+        }
+    }
+
     fn commit(&mut self, seat: &mut Seat<L>, work: Work) -> CommitOutcome {
+        self.hand_in(seat, &work)
+    }
+
+    fn hand_in(&mut self, seat: &mut Seat<L>, work: &Work) -> CommitOutcome {
         self.calls = self.calls.saturating_add(1);
         if work.count() == 0 {
-            return Board::commit(&mut self.book, seat, work);
+            return Board::hand_in(&mut self.book, seat, work);
         }
         match self.turn {
             Meets::AsChanged => CommitOutcome::Stale,
             Meets::AsFull => CommitOutcome::JournalFull,
-            _ => Board::commit(&mut self.book, seat, work),
+            _ => Board::hand_in(&mut self.book, seat, work),
         }
     }
 
