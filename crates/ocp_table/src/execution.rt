@@ -77,9 +77,9 @@ impl<A: Allocator> Execution<A> {
         })
     }
 
-    /// Becomes the same as another one, whose program is shared then, and whose machine's memory has
-    /// the addresses of this one's; no memory is asked for. It is refused where it has not, and
-    /// where the program can't be shared once more; then nothing is changed.
+    /// Becomes the same as another one, whose program is shared then. No memory is asked for. It is
+    /// refused where the memory of the other's machine has other addresses than that of this one's,
+    /// and where the program can't be shared once more; then nothing is changed.
     pub(crate) fn share_from(&mut self, other: &Execution<A>) -> bool
         ensures same { IsTrue result → self.new ≡ other.now }
         ensures addresses { HasAddressesOf self.old.machine self.new.machine }

@@ -138,10 +138,10 @@ impl<A: Allocator> Snapshot<A> {
         self.execution.machine(alloc)
     }
 
-    /// Makes a machine like the one that stood, lets it do instructions that need no engine, at most
-    /// so many and at most what was left of the budget, and says how many it did: none where the
-    /// procedure is traced. It stops before the first instruction that needs the engine, and before a breakpoint, which
-    /// the pass flag lets the first instruction pass.
+    /// Makes a machine like the one that stood, and lets it do instructions that need no engine, at
+    /// most so many and at most what was left of the budget. It says how many it did: none where
+    /// the procedure is traced. It stops before the first instruction that needs the engine, and
+    /// before a breakpoint, which the pass flag lets the first instruction pass.
     #[tactic(auto, using(crate::proofs::Slicing::local_count_within, crate::proofs::Budgets::within_left))]
     pub fn run(&self, machine: &mut Machine<A>, budget: u32) -> u32
         requires { HasAddressesOf machine.old self.now.machine }

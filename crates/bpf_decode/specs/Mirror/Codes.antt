@@ -43,7 +43,8 @@ size_at n = first (λ s. n == size_code s) (size.Word ∷ size.Half ∷ size.Byt
 -- the size of a load that extends the sign by the same bits
 abbrev pub signed_size_at : ℕ → Option SignedSize
 signed_size_at n =
-    first (λ s. n == signed_size_code s) (signed_size.Word ∷ signed_size.Half ∷ signed_size.Byte ∷ [])
+    first (λ s. n == signed_size_code s)
+        (signed_size.Word ∷ signed_size.Half ∷ signed_size.Byte ∷ [])
 
 -- the number lies between two others, or is one of them
 abbrev pub is_within : ℕ → ℕ → ℕ → Bool
