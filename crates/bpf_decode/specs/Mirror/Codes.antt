@@ -44,7 +44,7 @@ size_at n = first (λ s. n == size_code s) (size.Word ∷ size.Half ∷ size.Byt
 abbrev pub signed_size_at : ℕ → Option SignedSize
 signed_size_at n =
     first (λ s. n == signed_size_code s)
-        (signed_size.Word ∷ signed_size.Half ∷ signed_size.Byte ∷ [])
+    (signed_size.Word ∷ signed_size.Half ∷ signed_size.Byte ∷ [])
 
 -- the number lies between two others, or is one of them
 abbrev pub is_within : ℕ → ℕ → ℕ → Bool
