@@ -254,8 +254,16 @@ def files(page, ocp, folder):
     opened.write_text("mov64 r4, 8\nexit\n")
     page.find("open-text").send_keys(str(opened))
     page.until("a text that is opened", lambda: "mov64 r4, 8" in page.shown("listing"))
+    before = page.find("id").get_attribute("value")
+    page.write("id", "12")
     page.find("tabs").find_elements(page.by.TAG_NAME, "button")[1].click()
     page.until("the tab before", lambda: "mov64 r3, 9" in page.shown("listing"))
+    page.check("page: the tab before has its procedure's number", page.find("id").get_attribute("value") == before != "12")
+    page.find("tabs").find_elements(page.by.TAG_NAME, "button")[2].click()
+    page.until("the tab behind", lambda: "mov64 r4, 8" in page.shown("listing"))
+    page.check("page: so has the tab behind", page.find("id").get_attribute("value") == "12")
+    page.find("tabs").find_elements(page.by.TAG_NAME, "button")[1].click()
+    page.until("the tab before, again", lambda: "mov64 r3, 9" in page.shown("listing"))
 
 
 def big(page, ocp):

@@ -49,7 +49,7 @@ const KEPT = ["script", "id", "number", "profile", "apid", "pool", "journal"];
 export function keep() {
     try {
         KEPT.forEach(name => localStorage.setItem(`bench ${name}`, at(name).value));
-        localStorage.setItem("bench texts", JSON.stringify(it.texts.map(({ name, language, text }) => ({ name, language, text }))));
+        localStorage.setItem("bench texts", JSON.stringify(it.texts.map(({ name, language, text, id }) => ({ name, language, text, id }))));
         localStorage.setItem("bench tab", it.tab);
     } catch { say("This browser keeps no more: save the texts as files."); }
 }

@@ -26,16 +26,20 @@ const shown = () => it.texts[it.tab];
 const suffix = text => text.language === "c" ? "c" : "asm";
 
 function newText(name, text = "", language = "asm") {
-    it.texts.push({ name, text, language });
+    it.texts.push({ name, text, language, id: at("id").value });
     show(it.texts.length - 1);
 }
 
-export function show(index) {
-    it.tab = Math.max(0, Math.min(index, it.texts.length - 1));
-    at("text").value = shown().text;
-    at("language").value = shown().language;
-    at("name").value = shown().name;
+// A text with its name, its language, and the number that procedures of it are loaded as.
+function bring(index) {
+    it.tab = index;
+    const { text, language, name, id } = shown();
+    for (const [field, value] of Object.entries({ text, language, name, id })) if (value !== undefined) at(field).value = value;
     tabs();
+}
+
+export function show(index) {
+    bring(Math.max(0, Math.min(index, it.texts.length - 1)));
     keep();
     return readText();
 }
@@ -99,11 +103,7 @@ export function showPlace(image, place) {
     if (!image) return list(shown().image || "");
     const index = shown().image === image ? it.tab : it.texts.findIndex(text => text.image === image);
     if (index >= 0 && index !== it.tab && !it.stay && document.activeElement !== at("text")) {
-        it.tab = index;
-        at("text").value = shown().text;
-        at("language").value = shown().language;
-        at("name").value = shown().name;
-        tabs();
+        bring(index);
     }
     mark(shown().image === image ? Number(placesOf(image)[place]) || null : null);
     list(image, place);
@@ -121,6 +121,7 @@ export function start() {
     at("text").addEventListener("input", later(readText));
     at("language").onchange = () => { shown().language = at("language").value; readText(); };
     at("name").oninput = () => { shown().name = at("name").value; tabs(); keep(); };
+    at("id").oninput = () => { shown().id = at("id").value; keep(); };
     at("new-text").onclick = () => { newText(`text ${it.texts.length + 1}`); at("text").focus(); };
     at("close-text").onclick = () => {
         if (shown().text.trim() && !confirm(`Close "${shown().name}"? Its text is lost.`)) return;
@@ -133,7 +134,7 @@ export function start() {
 export async function open(file) {
     const language = /\.[ch]$/.test(file.name) ? "c" : "asm", text = await file.text();
     if (shown().text.trim() === "") Object.assign(shown(), { name: file.name, text, language });
-    else it.texts.push({ name: file.name, text, language });
+    else it.texts.push({ name: file.name, text, language, id: at("id").value });
     return show(shown().text === text ? it.tab : it.texts.length - 1);
 }
 export function example() { newText("fault", EXAMPLE); return readText(); }
