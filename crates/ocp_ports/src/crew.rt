@@ -1,10 +1,7 @@
 //! Who does the work of a `work` line.
 
-ghost use Rattle.std.specs.Prelude.{◌≡◌, ◌≤◌, ℕ, Result};
+ghost use Rattle.std.specs.Prelude.{◌≤◌, ℕ, Result};
 ghost use Rattle.ocp_ports.specs.declared.crew.CrewFault.{CrewFault};
-ghost use Rattle.ocp_ports.specs.declared.crew.CrewFault.TheVariants.{Memory};
-
-use std::alloc::AllocError;
 
 /// Who does the work of a `work` line, on engines of the type `E`.
 pub trait Crew<E> {
@@ -31,12 +28,4 @@ pub enum CrewFault {
     Memory,
     /// The work could not be closed.
     Workers,
-}
-
-impl From<AllocError> for CrewFault {
-    ghost from_gives = { λ _ e. e ≡ Memory };
-
-    fn from(_e: AllocError) -> CrewFault {
-        CrewFault::Memory
-    }
 }

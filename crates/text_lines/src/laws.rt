@@ -7,6 +7,7 @@ ghost use Rattle.text_lines.specs.Lines.{Ended, Open, lines_of, line_texts};
 
 /// A text is cut at its newlines: a line is what stands in front of one, without a carriage return
 /// directly before it; and what stands behind the last one, unless that is nothing.
+#[tactic(auto, using(crate::proofs::Cutting::cut_line, crate::proofs::Cutting::last_line, crate::proofs::Cutting::cut_piece, crate::proofs::Cutting::last_piece))]
 pub fn texts_are_cut_at_newlines()
     ensures nothing { line_texts [] ≡ [] }
     ensures ended { (line rest : List ℕ) → All (λ octet. octet ≢ 10) line →
