@@ -57,13 +57,11 @@ pub last_two-lt : (octets : List ℕ) → 2 ≤ length octets → AreOctets octe
 last_two-lt octets le h = two-lt _ (omega (arith, length-drop (length octets - 2) octets, le)) (octets-drop (length octets - 2) octets h)
 
 -- the last two octets are those that were put there
-pub last_two-is : (octets field payload : List ℕ) (k c : ℕ) → drop 6 octets ≡ field → drop k field ≡ payload ++ big_bytes 2 c → 1 ≤ length field → c < 2 ^ 16 → last_two octets ≡ c
-last_two-is octets field payload k c e f some lt =
-    let outer : length octets - 6 ≡ length field = sym (length-drop 6 octets) ∙ ap length e in
-    let inner : length field - k ≡ length payload + 2 = sym (length-drop k field) ∙ ap length f ∙ length-append payload (big_bytes 2 c) in
-    let place : 6 + k + length payload ≡ length octets - 2 = omega (arith, outer, inner, some) in
-    let behind : drop (6 + k) octets ≡ payload ++ big_bytes 2 c = sym (drop-drop k 6 octets) ∙ ap (drop k) e ∙ f in
-    let last : drop (length octets - 2) octets ≡ big_bytes 2 c = ap (λ (n : ℕ). drop n octets) (sym place) ∙ sym (drop-drop (length payload) (6 + k) octets) ∙ ap (drop (length payload)) behind ∙ drop-append_seam payload (big_bytes 2 c) in
+pub last_two-is : (octets front : List ℕ) (c : ℕ) → drop 6 octets ≡ front ++ big_bytes 2 c → c < 2 ^ 16 → last_two octets ≡ c
+last_two-is octets front c e lt =
+    let size : length octets - 6 ≡ length front + 2 = sym (length-drop 6 octets) ∙ ap length e ∙ length-append front (big_bytes 2 c) in
+    let place : 6 + length front ≡ length octets - 2 = omega (arith, size) in
+    let last : drop (length octets - 2) octets ≡ big_bytes 2 c = ap (λ (n : ℕ). drop n octets) (sym place) ∙ sym (drop-drop (length front) 6 octets) ∙ ap (drop (length front)) e ∙ drop-append_seam front (big_bytes 2 c) in
     ap (big_number 2) last ∙ omega (arith, lt)
 
 -- what stands between a place and the last two octets
@@ -78,6 +76,15 @@ pub packet-length : (octets : List ℕ) (header : Primary) (field : List ℕ) �
 packet-length octets header field p =
     let inner : length octets - 6 ≡ length field = sym (length-drop 6 octets) ∙ ap length p.remain in
     omega (arith, inner, p.data_length)
+
+-- a data field behind a place is what stands there but for the last two octets, and these
+pub field_split : (octets : List ℕ) (header : Primary) (field : List ℕ) (k : ℕ) → IsPacket octets header field → k + 2 ≤ length field → AreOctets octets
+    → drop k field ≡ slice_range field k (length field - 2) ++ big_bytes 2 (last_two octets)
+field_split octets header field k packet room h =
+    let inner : length octets - 6 ≡ length field = sym (length-drop 6 octets) ∙ ap length packet.remain in
+    let rest : drop (6 + k) octets ≡ drop k field = sym (drop-drop k 6 octets) ∙ ap (drop k) packet.remain in
+    let size : length octets - 2 - (6 + k) ≡ length field - 2 - k = omega (arith, inner, room) in
+    sym rest ∙ tail_split octets (6 + k) (omega (arith, inner, room)) h ∙ (λ i. take (size i) (rest i) ++ big_bytes 2 (last_two octets))
 
 pub not-true : (b : Bool) → true ≡ not b → b ≡ false
 not-true true e = absurd cc

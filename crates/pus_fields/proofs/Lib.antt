@@ -5,8 +5,9 @@ pub mod Steps
 pub mod Function
 pub mod Eight
 pub mod Remainders
-pub mod Written
 pub mod Fields
+pub mod Controlled
+pub mod Written
 pub mod ReadTelecommand
 pub mod ReadTelemetry
 pub mod RoundTrips

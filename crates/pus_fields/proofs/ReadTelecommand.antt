@@ -1,7 +1,5 @@
 -- What is read as a telecommand.
 use Rattle.std.proofs.Common.{◌≡◌, ◌<◌, ◌≤◌, ℕ, ◌+◌, ◌-◌, ◌*◌, ◌/◌, ◌%◌, ◌^◌, true, false, eqb, List, [], ◌∷◌, ◌++◌, length, take, drop, slice_index, refl, sym, ap, subst, ◌∙◌, arith, length-append, length-drop, Option, Some, None, Ok, Err, eq-eqb}
-use Rattle.std.proofs.lemmas.Bool.{le-ltb}
-use Rattle.std.proofs.lemmas.List.{drop-drop}
 use Rattle.byteorder.specs.Endian.{big_bytes, big_number}
 use Rattle.space_packet.specs.declared.primary.Primary.{Primary}
 use Rattle.space_packet.specs.declared.fault.PacketFault.{PacketFault}
@@ -10,12 +8,12 @@ use Rattle.pus_fields.specs.declared.fault.Discard.TheVariants.{NotTelecommand, 
 use Rattle.pus_fields.specs.declared.fault.Rejection.{Rejection}
 use Rattle.pus_fields.specs.declared.fault.TcFault.TheVariants.{Discarded, Rejected}
 use Rattle.pus_fields.specs.Acknowledgement.{flags, flags_of}
-use Rattle.pus_fields.specs.ErrorControl.{IsErrorControl, error_control}
-use Rattle.pus_fields.specs.Rejections.{IsSound, covered_octets, last_two, rejection_of}
-use Rattle.pus_fields.specs.Telecommand.{IsTelecommand, Telecommand, telecommand_header, telecommand_secondary}
+use Rattle.pus_fields.specs.Controlled.{whole_header}
+use Rattle.pus_fields.specs.Rejections.{IsSound, last_two, rejection_of}
+use Rattle.pus_fields.specs.Telecommand.{IsTelecommand, Telecommand, telecommand_secondary}
 use Rattle.pus_fields.specs.TelecommandFaults.{discard_of, telecommand_answer, telecommand_in, telecommand_of, unless_rejected}
-use Rattle.pus_fields.proofs.Function.{same_control}
-use Rattle.pus_fields.proofs.Fields.{AreOctets, between-is, last_two-is, last_two-lt, octets-drop, tail_split}
+use Rattle.pus_fields.proofs.Controlled.{none_rejected, sound_controlled}
+use Rattle.pus_fields.proofs.Fields.{AreOctets, between-is, field_split, octets-drop}
 
 pub tc_no_packet : (apid : ℕ) (octets : List ℕ) (fault : PacketFault) → packet_in octets ≡ Err fault → telecommand_of apid octets ≡ Err (Discarded (discard_of fault))
 unfolding telecommand_of
@@ -44,10 +42,6 @@ pub tc_accepted : (apid : ℕ) (octets : List ℕ) (header : Primary) (field : L
 tc_accepted apid octets header field e t o r =
     ap (λ (x : Option Rejection). unless_rejected octets x (telecommand_in header.apid header.count field)) r ∙ sym (tc_ours apid octets header field e t o)
 
--- the data field of a telecommand
-field_of : Telecommand → ℕ → List ℕ
-field_of tc c = telecommand_secondary tc ++ tc.payload ++ big_bytes 2 c
-
 same_telecommand : (a b : Telecommand) → a.apid ≡ b.apid → a.count ≡ b.count → flags_of a.ack ≡ flags_of b.ack → a.service ≡ b.service → a.subtype ≡ b.subtype → a.source ≡ b.source → a.payload ≡ b.payload → a ≡ b
 same_telecommand a b h1 h2 h3 h4 h5 h6 h7 = λ i. record {
   apid = h1 i;
@@ -59,32 +53,19 @@ same_telecommand a b h1 h2 h3 h4 h5 h6 h7 = λ i. record {
   payload = h7 i;
 }
 
--- a telecommand's octets are not rejected, and say what it says
-sound_answer : (octets : List ℕ) (tc : Telecommand) → IsTelecommand octets tc
-    → (c : ℕ) → c < 2 ^ 16 → drop 6 octets ≡ field_of tc c → IsErrorControl (covered_octets octets) c
-    → unless_rejected octets (rejection_of 7 octets (telecommand_header tc) (field_of tc c)) (telecommand_in tc.apid tc.count (field_of tc c)) ≡ Ok tc
-unfolding field_of
-sound_answer octets tc h c lt remain checked =
-    let field = field_of tc c in
-    let r = h.in_range in
-    let len : length field ≡ length tc.payload + 7 = omega (arith, length-append tc.payload (big_bytes 2 c)) in
-    let some : 1 ≤ length field = omega (arith, len) in
-    let last : last_two octets ≡ c = last_two-is octets field tc.payload 5 c remain refl some lt in
-    let room = le-ltb (length field) 7 (omega (arith, len)) in
-    let control = eq-eqb (error_control (covered_octets octets)) (last_two octets) (sym (same_control (covered_octets octets) c lt checked) ∙ sym last) in
-    let version = eq-eqb ((2 * 2 ^ 4 + flags_of tc.ack) % 256 / 2 ^ 4) 2 (omega (arith, r.ack)) in
-    let said : telecommand_in tc.apid tc.count field ≡ tc = same_telecommand _ _ refl refl (omega (arith, r.ack)) (omega (arith, r.service)) (omega (arith, r.subtype)) (omega (arith, r.source)) (between-is field tc.payload 5 c refl) in
-    rw (room, control, version) (ap Ok said)
-
 -- the octets of a telecommand are read as that telecommand
 pub tc_is_read : (apid : ℕ) (octets : List ℕ) (header : Primary) (field : List ℕ) → packet_in octets ≡ Ok (header, field)
-    → (tc : Telecommand) → (h : IsTelecommand octets tc) → tc.apid ≡ apid → header ≡ telecommand_header tc → field ≡ telecommand_secondary tc ++ tc.payload ++ big_bytes 2 h.control
+    → (tc : Telecommand) → (h : IsTelecommand octets tc) → tc.apid ≡ apid → header ≡ whole_header true tc.apid tc.count → field ≡ telecommand_secondary tc ++ tc.payload ++ big_bytes 2 h.controlled.control
     → telecommand_of apid octets ≡ Ok tc
-unfolding field_of
 tc_is_read apid octets header field e tc h a p q =
-    let whole : packet_in octets ≡ Ok (telecommand_header tc, field_of tc h.control) = e ∙ (λ i. Ok (p i, q i)) in
-    tc_ours apid octets (telecommand_header tc) (field_of tc h.control) whole refl (eq-eqb tc.apid apid a)
-    ∙ sound_answer octets tc h h.control h.control_fits h.packet.remain h.checked
+    let r = h.in_range in
+    let said = telecommand_secondary tc ++ tc.payload ++ big_bytes 2 h.controlled.control in
+    let whole : packet_in octets ≡ Ok (whole_header true tc.apid tc.count, said) = e ∙ (λ i. Ok (p i, q i)) in
+    let version : (2 * 2 ^ 4 + flags_of tc.ack) % 256 / 2 ^ 4 ≡ 2 = omega (arith, r.ack) in
+    let sound = none_rejected 7 octets true tc.apid tc.count (telecommand_secondary tc ++ tc.payload) h.controlled (omega arith) version in
+    let same : telecommand_in tc.apid tc.count said ≡ tc = same_telecommand _ _ refl refl (omega (arith, r.ack)) (omega (arith, r.service)) (omega (arith, r.subtype)) (omega (arith, r.source)) (between-is said tc.payload 5 h.controlled.control refl) in
+    tc_ours apid octets (whole_header true tc.apid tc.count) said whole refl (eq-eqb tc.apid apid a)
+    ∙ ap (λ (x : Option Rejection). unless_rejected octets x (telecommand_in tc.apid tc.count said)) sound ∙ ap Ok same
 
 -- the first five octets of a data field are the secondary header that they say
 sound_field : (a b c d e apid count control : ℕ) (rest : List ℕ) → AreOctets (a ∷ b ∷ c ∷ d ∷ e ∷ rest) → a / 2 ^ 4 ≡ 2
@@ -107,31 +88,18 @@ sound_field a b c d e apid count control rest h v r =
 -- the same for each data field that is long enough
 whole_field : (field : List ℕ) (apid count control : ℕ) → 7 ≤ length field → AreOctets field → slice_index field 0 / 2 ^ 4 ≡ 2
     → let tc = telecommand_in apid count field in drop 5 field ≡ tc.payload ++ big_bytes 2 control → field ≡ telecommand_secondary tc ++ tc.payload ++ big_bytes 2 control
-whole_field [] apid count control le h v r = absurd (omega (arith, le))
-whole_field (a ∷ []) apid count control le h v r = absurd (omega (arith, le))
-whole_field (a ∷ b ∷ []) apid count control le h v r = absurd (omega (arith, le))
-whole_field (a ∷ b ∷ c ∷ []) apid count control le h v r = absurd (omega (arith, le))
-whole_field (a ∷ b ∷ c ∷ d ∷ []) apid count control le h v r = absurd (omega (arith, le))
 whole_field (a ∷ b ∷ c ∷ d ∷ e ∷ rest) apid count control le h v r = sound_field a b c d e apid count control rest h v r
+whole_field _ apid count control le h v r = absurd (omega (arith, le))
 
 -- a sound packet of this process is the telecommand that it says
 pub sound_is : (octets : List ℕ) (header : Primary) (field : List ℕ) → IsPacket octets header field → IsSound 7 octets header field → header.telecommand ≡ true → header.apid < 2047 → AreOctets octets
     → IsTelecommand octets (telecommand_in header.apid header.count field)
 sound_is octets header field packet sound t apid h =
     let tc = telecommand_in header.apid header.count field in
-    let inner : length octets - 6 ≡ length field = sym (length-drop 6 octets) ∙ ap length packet.remain in
-    let room : 7 ≤ length field = sound.whole.room in
-    let long : 13 ≤ length octets = omega (arith, inner, room) in
     let fields : AreOctets field = subst AreOctets packet.remain (octets-drop 6 octets h) in
-    let rest : drop 11 octets ≡ drop 5 field = sym (drop-drop 5 6 octets) ∙ ap (drop 5) packet.remain in
-    let size : length octets - 2 - 11 ≡ length field - 2 - 5 = omega (arith, inner, long) in
-    let split : drop 5 field ≡ tc.payload ++ big_bytes 2 (last_two octets) = sym rest ∙ tail_split octets 11 long h ∙ (λ i. take (size i) (rest i) ++ big_bytes 2 (last_two octets)) in
-    let whole : field ≡ telecommand_secondary tc ++ tc.payload ++ big_bytes 2 (last_two octets) = whole_field field header.apid header.count (last_two octets) room fields sound.version split in
-    let top : header ≡ telecommand_header tc = λ i. record { telecommand = t i; secondary = sound.whole.secondary i; apid = header.apid; flags = sound.whole.unsegmented i; count = header.count } in
+    let split : drop 5 field ≡ tc.payload ++ big_bytes 2 (last_two octets) = field_split octets header field 5 packet sound.whole.room h in
+    let whole : field ≡ telecommand_secondary tc ++ tc.payload ++ big_bytes 2 (last_two octets) = whole_field field header.apid header.count (last_two octets) sound.whole.room fields sound.version split in
     record {
       in_range = record { apid = apid; count = omega (arith, packet.count); ack = omega arith; service = fields 1; subtype = fields 2; source = omega (arith, octets-drop 3 field fields 0, octets-drop 3 field fields 1) };
-      control = last_two octets;
-      control_fits = last_two-lt octets (omega (arith, long)) h;
-      packet = subst (λ (x : Primary). IsPacket octets x (telecommand_secondary tc ++ tc.payload ++ big_bytes 2 (last_two octets))) top (subst (λ (x : List ℕ). IsPacket octets header x) whole packet);
-      checked = sound.checked;
+      controlled = sound_controlled 7 octets true header field (telecommand_secondary tc ++ tc.payload) packet sound t h whole;
     }

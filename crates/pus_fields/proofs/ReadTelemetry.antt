@@ -1,19 +1,17 @@
 -- What is read as telemetry.
 use Rattle.std.proofs.Common.{◌≡◌, ◌≢◌, ◌<◌, ◌≤◌, ◌⊎◌, ◌&&◌, inl, inr, ℕ, ◌+◌, ◌-◌, ◌*◌, ◌/◌, ◌%◌, ◌^◌, Bool, true, false, eqb, List, [], ◌∷◌, ◌++◌, length, take, drop, slice_index, refl, sym, ap, subst, ◌∙◌, arith, length-append, length-drop, Option, Some, None, Ok, Err, eq-eqb, eqb-true}
-use Rattle.std.proofs.lemmas.Bool.{le-ltb}
-use Rattle.std.proofs.lemmas.List.{drop-drop}
 use Rattle.byteorder.specs.Endian.{big_bytes, big_number}
 use Rattle.space_packet.specs.declared.primary.Primary.{Primary}
 use Rattle.space_packet.specs.declared.fault.PacketFault.{PacketFault}
 use Rattle.space_packet.specs.Packet.{IsPacket, packet_in}
 use Rattle.pus_fields.specs.declared.fault.Rejection.{Rejection}
 use Rattle.pus_fields.specs.declared.fault.TmFault.TheVariants.{NotProfile, NotTelemetry}
-use Rattle.pus_fields.specs.ErrorControl.{IsErrorControl, error_control}
-use Rattle.pus_fields.specs.Rejections.{IsSound, covered_octets, last_two, rejection_of}
-use Rattle.pus_fields.specs.Telemetry.{IsTelemetry, Telemetry, telemetry_header, telemetry_secondary}
+use Rattle.pus_fields.specs.Controlled.{whole_header}
+use Rattle.pus_fields.specs.Rejections.{IsSound, last_two, rejection_of}
+use Rattle.pus_fields.specs.Telemetry.{IsTelemetry, Telemetry, telemetry_secondary}
 use Rattle.pus_fields.specs.TelemetryFaults.{IsOtherProfile, fault_of, fault_of_packet, in_profile, telemetry_answer, telemetry_in, telemetry_of, unless_rejected}
-use Rattle.pus_fields.proofs.Function.{same_control}
-use Rattle.pus_fields.proofs.Fields.{AreOctets, between-is, last_two-is, last_two-lt, octets-drop, tail_split}
+use Rattle.pus_fields.proofs.Controlled.{none_rejected, sound_controlled}
+use Rattle.pus_fields.proofs.Fields.{AreOctets, between-is, field_split, octets-drop}
 
 pub tm_no_packet : (octets : List ℕ) (fault : PacketFault) → packet_in octets ≡ Err fault → telemetry_of octets ≡ Err (fault_of_packet fault)
 unfolding telemetry_of
@@ -67,10 +65,6 @@ profile_fields field e = let both = both_true _ _ e in (eqb-true _ _ both.0, eqb
 pub other_profile : (field : List ℕ) → tests_profile field ≡ false → IsOtherProfile field
 other_profile field e = elim (one_false (eqb (slice_index field 0 % 2 ^ 4) 0) (eqb (big_number 2 (drop 3 field)) 0) e) [ inl a ↦ inl (not_equal _ _ a) | inr b ↦ inr (not_equal _ _ b) ]
 
--- the data field of telemetry
-field_of : Telemetry → ℕ → List ℕ
-field_of tm c = telemetry_secondary tm ++ tm.payload ++ big_bytes 2 c
-
 same_telemetry : (a b : Telemetry) → a.apid ≡ b.apid → a.count ≡ b.count → a.service ≡ b.service → a.subtype ≡ b.subtype → a.destination ≡ b.destination → a.time ≡ b.time → a.payload ≡ b.payload → a ≡ b
 same_telemetry a b h1 h2 h3 h4 h5 h6 h7 = λ i. record {
   apid = h1 i;
@@ -89,31 +83,18 @@ four_octets n h =
     let b : n / 16777216 ≡ n / 256 / 256 / 256 = omega arith in
     omega arith
 
--- telemetry's octets are not rejected, and say what it says
-sound_answer : (octets : List ℕ) (tm : Telemetry) → IsTelemetry octets tm
-    → (c : ℕ) → c < 2 ^ 16 → drop 6 octets ≡ field_of tm c → IsErrorControl (covered_octets octets) c
-    → unless_rejected (field_of tm c) (rejection_of 13 octets (telemetry_header tm) (field_of tm c)) (telemetry_in tm.apid tm.count (field_of tm c)) ≡ Ok tm
-unfolding field_of
-sound_answer octets tm h c lt remain checked =
-    let field = field_of tm c in
-    let r = h.in_range in
-    let len : length field ≡ length tm.payload + 13 = omega (arith, length-append tm.payload (big_bytes 2 c)) in
-    let some : 1 ≤ length field = omega (arith, len) in
-    let last : last_two octets ≡ c = last_two-is octets field tm.payload 11 c remain refl some lt in
-    let room = le-ltb (length field) 13 (omega (arith, len)) in
-    let control = eq-eqb (error_control (covered_octets octets)) (last_two octets) (sym (same_control (covered_octets octets) c lt checked) ∙ sym last) in
-    let said : telemetry_in tm.apid tm.count field ≡ tm = same_telemetry _ _ refl refl (omega (arith, r.service)) (omega (arith, r.subtype)) (omega (arith, r.destination)) (four_octets tm.time r.time) (between-is field tm.payload 11 c refl) in
-    rw (room, control) (ap Ok said)
-
 -- the octets of telemetry are read as that telemetry
 pub tm_is_read : (octets : List ℕ) (header : Primary) (field : List ℕ) → packet_in octets ≡ Ok (header, field)
-    → (tm : Telemetry) → (h : IsTelemetry octets tm) → header ≡ telemetry_header tm → field ≡ telemetry_secondary tm ++ tm.payload ++ big_bytes 2 h.control
+    → (tm : Telemetry) → (h : IsTelemetry octets tm) → header ≡ whole_header false tm.apid tm.count → field ≡ telemetry_secondary tm ++ tm.payload ++ big_bytes 2 h.controlled.control
     → telemetry_of octets ≡ Ok tm
-unfolding field_of
 tm_is_read octets header field e tm h p q =
-    let whole : packet_in octets ≡ Ok (telemetry_header tm, field_of tm h.control) = e ∙ (λ i. Ok (p i, q i)) in
-    tm_other_kind octets (telemetry_header tm) (field_of tm h.control) whole refl
-    ∙ sound_answer octets tm h h.control h.control_fits h.packet.remain h.checked
+    let r = h.in_range in
+    let said = telemetry_secondary tm ++ tm.payload ++ big_bytes 2 h.controlled.control in
+    let whole : packet_in octets ≡ Ok (whole_header false tm.apid tm.count, said) = e ∙ (λ i. Ok (p i, q i)) in
+    let sound = none_rejected 13 octets false tm.apid tm.count (telemetry_secondary tm ++ tm.payload) h.controlled (omega arith) refl in
+    let same : telemetry_in tm.apid tm.count said ≡ tm = same_telemetry _ _ refl refl (omega (arith, r.service)) (omega (arith, r.subtype)) (omega (arith, r.destination)) (four_octets tm.time r.time) (between-is said tm.payload 11 h.controlled.control refl) in
+    tm_other_kind octets (whole_header false tm.apid tm.count) said whole refl
+    ∙ ap (λ (x : Option Rejection). unless_rejected said x (telemetry_in tm.apid tm.count said)) sound ∙ ap Ok same
 
 -- four octets are those of their number
 four_of : (a b c d : ℕ) (rest : List ℕ) → a < 256 → b < 256 → c < 256 → d < 256 → a ∷ b ∷ c ∷ d ∷ [] ≡ big_bytes 4 (big_number 4 (a ∷ b ∷ c ∷ d ∷ rest))
@@ -159,21 +140,12 @@ pub sound_tm_is : (octets : List ℕ) (header : Primary) (field : List ℕ) → 
     → IsTelemetry octets (telemetry_in header.apid header.count field)
 sound_tm_is octets header field packet sound t status counter h =
     let tm = telemetry_in header.apid header.count field in
-    let inner : length octets - 6 ≡ length field = sym (length-drop 6 octets) ∙ ap length packet.remain in
-    let room : 13 ≤ length field = sound.whole.room in
-    let long : 19 ≤ length octets = omega (arith, inner, room) in
     let fields : AreOctets field = subst AreOctets packet.remain (octets-drop 6 octets h) in
-    let rest : drop 17 octets ≡ drop 11 field = sym (drop-drop 11 6 octets) ∙ ap (drop 11) packet.remain in
-    let size : length octets - 2 - 17 ≡ length field - 2 - 11 = omega (arith, inner, long) in
-    let split : drop 11 field ≡ tm.payload ++ big_bytes 2 (last_two octets) = sym rest ∙ tail_split octets 17 long h ∙ (λ i. take (size i) (rest i) ++ big_bytes 2 (last_two octets)) in
-    let whole : field ≡ telemetry_secondary tm ++ tm.payload ++ big_bytes 2 (last_two octets) = whole_field field header.apid header.count (last_two octets) room fields sound.version status counter split in
-    let top : header ≡ telemetry_header tm = λ i. record { telecommand = t i; secondary = sound.whole.secondary i; apid = header.apid; flags = sound.whole.unsegmented i; count = header.count } in
+    let split : drop 11 field ≡ tm.payload ++ big_bytes 2 (last_two octets) = field_split octets header field 11 packet sound.whole.room h in
+    let whole : field ≡ telemetry_secondary tm ++ tm.payload ++ big_bytes 2 (last_two octets) = whole_field field header.apid header.count (last_two octets) sound.whole.room fields sound.version status counter split in
     let destination = octets-drop 5 field fields in
     let time = octets-drop 7 field fields in
     record {
       in_range = record { apid = omega (arith, packet.apid); count = omega (arith, packet.count); service = fields 1; subtype = fields 2; destination = omega (arith, destination 0, destination 1); time = omega (arith, time 0, time 1, time 2, time 3) };
-      control = last_two octets;
-      control_fits = last_two-lt octets (omega (arith, long)) h;
-      packet = subst (λ (x : Primary). IsPacket octets x (telemetry_secondary tm ++ tm.payload ++ big_bytes 2 (last_two octets))) top (subst (λ (x : List ℕ). IsPacket octets header x) whole packet);
-      checked = sound.checked;
+      controlled = sound_controlled 13 octets false header field (telemetry_secondary tm ++ tm.payload) packet sound t h whole;
     }

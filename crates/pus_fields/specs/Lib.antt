@@ -1,4 +1,5 @@
 pub mod Acknowledgement
+pub mod Controlled
 pub mod ErrorControl
 pub mod Mirror
 pub mod Rejections

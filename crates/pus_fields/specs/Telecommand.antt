@@ -1,13 +1,11 @@
 -- Telecommand packets (CCSDS 133.0-B, 4.1; ECSS-E-ST-70-41C, 7.4.4).
-use Rattle.std.specs.Prelude.{◌<◌, ℕ, ◌+◌, ◌-◌, ◌*◌, ◌^◌, true, List, ◌++◌, length, take}
+use Rattle.std.specs.Prelude.{◌<◌, ℕ, ◌+◌, ◌*◌, ◌^◌, true, List, ◌++◌, length}
 use Rattle.byteorder.specs.Endian.{big_bytes}
-use Rattle.space_packet.specs.declared.primary.Primary.{Primary}
-use Rattle.space_packet.specs.declared.primary.SequenceFlags.TheVariants.{Unsegmented}
-use Rattle.space_packet.specs.Packet.{IsPacket}
 use Rattle.space_packet.specs.declared.range.TheConstants.{IDLE_APID}
 use Rattle.pus_fields.specs.declared.ack.Ack.{Ack}
 use Rattle.pus_fields.specs.Acknowledgement.{flags_of}
-use Rattle.pus_fields.specs.ErrorControl.{IsErrorControl, error_control}
+use Rattle.pus_fields.specs.Controlled.{IsControlled, whole_header}
+use Rattle.pus_fields.specs.ErrorControl.{error_control}
 
 -- what a telecommand packet says
 pub record Telecommand : Type 0 where
@@ -42,31 +40,18 @@ telecommand_secondary tc =
     big_bytes 1 (2 * 2 ^ 4 + flags_of tc.ack) ++ big_bytes 1 tc.service ++ big_bytes 1 tc.subtype
     ++ big_bytes 2 tc.source
 
--- the primary header: an unsegmented telecommand with a secondary header
-abbrev pub telecommand_header : Telecommand → Primary
-telecommand_header tc = record {
-  telecommand = true;
-  secondary = true;
-  apid = tc.apid;
-  flags = Unsegmented;
-  count = tc.count;
-}
-
--- the octets are the packet of this telecommand: its data field is the secondary header, the
--- payload and the error control of all octets before it
-pub record IsTelecommand (octets : List ℕ) (tc : Telecommand) : Type 0 where
-  pub in_range : IsTelecommandInRange tc
-  pub control : ℕ
-  pub control_fits : control < 2 ^ 16
-  pub packet : IsPacket octets (telecommand_header tc)
-      (telecommand_secondary tc ++ tc.payload ++ big_bytes 2 control)
-  pub checked : IsErrorControl (take (length octets - 2) octets) control
-
 -- the octets of a telecommand but its error control
 abbrev pub telecommand_covered : Telecommand → List ℕ
 telecommand_covered tc =
     request_id tc.apid tc.count ++ big_bytes 2 (length tc.payload + 6) ++ telecommand_secondary tc
     ++ tc.payload
+
+-- the octets are the packet of this telecommand: its data field is the secondary header, the
+-- payload and the error control of all octets before it
+pub record IsTelecommand (octets : List ℕ) (tc : Telecommand) : Type 0 where
+  pub in_range : IsTelecommandInRange tc
+  pub controlled : IsControlled octets (whole_header true tc.apid tc.count)
+      (telecommand_secondary tc ++ tc.payload)
 
 -- the octets of a telecommand, one packet for each
 unfoldable pub telecommand_octets : Telecommand → List ℕ

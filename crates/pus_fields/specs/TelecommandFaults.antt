@@ -30,6 +30,12 @@ HasTcFault apid octets (Rejected why id) = (id ≡ take 4 octets)
 
 -- ---- the same as a function
 
+-- octets that are no packet are discarded for the same reason
+abbrev pub discard_of : PacketFault → Discard
+discard_of packet.Short = Short
+discard_of packet.Version = Version
+discard_of packet.Length = Length
+
 -- what a sound packet says, by its application process identifier, sequence count and data field
 abbrev pub telecommand_in : ℕ → ℕ → List ℕ → Telecommand
 telecommand_in apid count field = record {
@@ -41,12 +47,6 @@ telecommand_in apid count field = record {
   source = big_number 2 (drop 3 field);
   payload = slice_range field 5 (length field - 2);
 }
-
--- octets that are no packet are discarded for the same reason
-abbrev pub discard_of : PacketFault → Discard
-discard_of packet.Short = Short
-discard_of packet.Version = Version
-discard_of packet.Length = Length
 
 -- a rejection carries the request identifier, the first four octets
 abbrev pub unless_rejected : List ℕ → Option Rejection → Telecommand → Result Telecommand TcFault

@@ -1,10 +1,8 @@
 -- Telemetry packets (CCSDS 133.0-B, 4.1; ECSS-E-ST-70-41C, 7.4.3).
-use Rattle.std.specs.Prelude.{◌<◌, ℕ, ◌+◌, ◌-◌, ◌*◌, ◌^◌, true, false, List, ◌++◌, length, take}
+use Rattle.std.specs.Prelude.{◌<◌, ℕ, ◌+◌, ◌*◌, ◌^◌, false, List, ◌++◌, length}
 use Rattle.byteorder.specs.Endian.{big_bytes}
-use Rattle.space_packet.specs.declared.primary.Primary.{Primary}
-use Rattle.space_packet.specs.declared.primary.SequenceFlags.TheVariants.{Unsegmented}
-use Rattle.space_packet.specs.Packet.{IsPacket}
-use Rattle.pus_fields.specs.ErrorControl.{IsErrorControl, error_control}
+use Rattle.pus_fields.specs.Controlled.{IsControlled, whole_header}
+use Rattle.pus_fields.specs.ErrorControl.{error_control}
 
 -- what a telemetry packet says; the time is in whole seconds
 pub record Telemetry : Type 0 where
@@ -33,26 +31,6 @@ telemetry_secondary tm =
     big_bytes 1 (2 * 2 ^ 4) ++ big_bytes 1 tm.service ++ big_bytes 1 tm.subtype ++ big_bytes 2 0
     ++ big_bytes 2 tm.destination ++ big_bytes 4 tm.time
 
--- the primary header: unsegmented telemetry with a secondary header
-abbrev pub telemetry_header : Telemetry → Primary
-telemetry_header tm = record {
-  telecommand = false;
-  secondary = true;
-  apid = tm.apid;
-  flags = Unsegmented;
-  count = tm.count;
-}
-
--- the octets are the packet of this telemetry: its data field is the secondary header, the payload
--- and the error control of all octets before it
-pub record IsTelemetry (octets : List ℕ) (tm : Telemetry) : Type 0 where
-  pub in_range : IsTelemetryInRange tm
-  pub control : ℕ
-  pub control_fits : control < 2 ^ 16
-  pub packet : IsPacket octets (telemetry_header tm)
-      (telemetry_secondary tm ++ tm.payload ++ big_bytes 2 control)
-  pub checked : IsErrorControl (take (length octets - 2) octets) control
-
 -- the octets of a telemetry packet but its error control: version number 0 (3 bits), type 0 (1),
 -- secondary header flag 1 (1), application process identifier (11), sequence flags 11 (2), sequence
 -- count (14), the length of the data field less 1 (16), and the data field
@@ -60,6 +38,13 @@ abbrev pub telemetry_covered : Telemetry → List ℕ
 telemetry_covered tm =
     big_bytes 2 (2 ^ 11 + tm.apid) ++ big_bytes 2 (3 * 2 ^ 14 + tm.count)
     ++ big_bytes 2 (length tm.payload + 12) ++ telemetry_secondary tm ++ tm.payload
+
+-- the octets are the packet of this telemetry: its data field is the secondary header, the payload
+-- and the error control of all octets before it
+pub record IsTelemetry (octets : List ℕ) (tm : Telemetry) : Type 0 where
+  pub in_range : IsTelemetryInRange tm
+  pub controlled : IsControlled octets (whole_header false tm.apid tm.count)
+      (telemetry_secondary tm ++ tm.payload)
 
 -- the octets of telemetry, one packet for each
 unfoldable pub telemetry_octets : Telemetry → List ℕ

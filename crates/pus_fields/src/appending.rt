@@ -1,11 +1,10 @@
-//! Appending octets and numbers where room was reserved.
+//! Appending octets where room was reserved.
 
 ghost use Rattle.std.specs.Prelude.{◌≡◌, ◌≤◌, ◌+◌, ◌++◌, length, drop, vec_len, vec_capacity};
 ghost use Rattle.byteorder.specs.Endian.{big_bytes};
 ghost use Rattle.pus_fields.specs.ErrorControl.{error_control};
 
 use crate::error_control::crc16;
-use byteorder::{BigEndian, ByteOrder};
 use std::alloc::Allocator;
 
 /// Appends octets.
@@ -18,40 +17,6 @@ pub(crate) fn append_octets<A: Allocator>(out: &mut Vec<u8, A>, octets: &[u8])
     out.extend_from_slice(octets).unwrap();
 }
 
-/// Appends a number of one octet.
-pub(crate) fn append_u8<A: Allocator>(out: &mut Vec<u8, A>, number: u8)
-    requires { vec_len out.old + 1 ≤ vec_capacity out.old }
-    ensures items { out.new.items ≡ out.old.items ++ big_bytes 1 number }
-    ensures len { vec_len out.new ≡ vec_len out.old + 1 }
-    ensures capacity { vec_capacity out.old ≤ vec_capacity out.new }
-{
-    out.push_reserved(number);
-}
-
-/// Appends a number of two octets, the highest first.
-pub(crate) fn append_u16<A: Allocator>(out: &mut Vec<u8, A>, number: u16)
-    requires { vec_len out.old + 2 ≤ vec_capacity out.old }
-    ensures items { out.new.items ≡ out.old.items ++ big_bytes 2 number }
-    ensures len { vec_len out.new ≡ vec_len out.old + 2 }
-    ensures capacity { vec_capacity out.old ≤ vec_capacity out.new }
-{
-    let mut octets = [0; 2];
-    BigEndian::write_u16(&mut octets, number);
-    append_octets(out, &octets);
-}
-
-/// Appends a number of four octets, the highest first.
-pub(crate) fn append_u32<A: Allocator>(out: &mut Vec<u8, A>, number: u32)
-    requires { vec_len out.old + 4 ≤ vec_capacity out.old }
-    ensures items { out.new.items ≡ out.old.items ++ big_bytes 4 number }
-    ensures len { vec_len out.new ≡ vec_len out.old + 4 }
-    ensures capacity { vec_capacity out.old ≤ vec_capacity out.new }
-{
-    let mut octets = [0; 4];
-    BigEndian::write_u32(&mut octets, number);
-    append_octets(out, &octets);
-}
-
 /// Appends the error control of the octets from a place on.
 pub(crate) fn append_error_control<A: Allocator>(out: &mut Vec<u8, A>, start: usize)
     requires place { start ≤ vec_len out.old }
@@ -61,5 +26,5 @@ pub(crate) fn append_error_control<A: Allocator>(out: &mut Vec<u8, A>, start: us
     ensures capacity { vec_capacity out.old ≤ vec_capacity out.new }
 {
     let control = crc16(&out[start..]);
-    append_u16(out, control);
+    append_octets(out, &control.to_be_bytes());
 }

@@ -2,12 +2,10 @@
 
 ghost use Rattle.std.specs.Prelude.{◌≡◌};
 ghost use Rattle.pus_fields.specs.declared.fault.TcFault.TheVariants.{Discarded};
-ghost use Rattle.pus_fields.specs.declared.fault.WriteFault.TheVariants.{Memory};
 ghost use Rattle.pus_fields.specs.TelecommandFaults.{discard_of};
 ghost use Rattle.pus_fields.specs.TelemetryFaults.{fault_of, fault_of_packet};
 
 use space_packet::PacketFault;
-use std::alloc::AllocError;
 
 /// Why octets are discarded, with no report. They come in this order.
 #[derive(Clone, Copy, Debug, PartialEq, Eq)]
@@ -81,14 +79,6 @@ pub enum WriteFault {
     TooLong,
     /// Memory ran out.
     Memory,
-}
-
-impl From<AllocError> for WriteFault {
-    ghost from_gives = { λ _ e. e ≡ Memory };
-
-    fn from(_e: AllocError) -> WriteFault {
-        WriteFault::Memory
-    }
 }
 
 impl From<PacketFault> for TcFault {

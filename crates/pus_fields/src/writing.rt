@@ -4,7 +4,7 @@ ghost use Rattle.std.specs.Prelude.{◌≡◌, ◌<◌, ◌≤◌, ◌+◌, ◌�
 ghost use Rattle.pus_fields.specs.Telecommand.{IsTelecommand, IsTelecommandInRange, telecommand_covered, telecommand_octets};
 ghost use Rattle.pus_fields.specs.Telemetry.{IsTelemetry, IsTelemetryInRange, telemetry_covered, telemetry_octets};
 
-use crate::appending::{append_error_control, append_octets, append_u8, append_u16, append_u32};
+use crate::appending::{append_error_control, append_octets};
 use crate::fault::WriteFault;
 use crate::telecommand::Tc;
 use crate::telemetry::Tm;
@@ -33,11 +33,12 @@ fn append_tc<A: Allocator>(tc: &Tc, out: &mut Vec<u8, A>)
 {
     let payload = tc.payload();
     append_octets(out, &tc.id());
-    append_u16(out, (payload.len() + 6) as u16);
-    append_u8(out, VERSION_OCTET + tc.ack().bits());
-    append_u8(out, tc.service());
-    append_u8(out, tc.subtype());
-    append_u16(out, tc.source());
+    append_octets(out, &((payload.len() + 6) as u16).to_be_bytes());
+    append_octets(
+        out,
+        &[VERSION_OCTET + tc.ack().bits(), tc.service(), tc.subtype()],
+    );
+    append_octets(out, &tc.source().to_be_bytes());
     append_octets(out, payload);
 }
 
@@ -61,7 +62,7 @@ pub fn write_tc<A: Allocator>(tc: &Tc, out: &mut Vec<u8, A>) -> Result<(), Write
     if length > MAX_TELECOMMAND_DATA {
         return Err(WriteFault::TooLong);
     }
-    out.reserve(13 + length)?;
+    out.reserve(13 + length).map_err(|_| WriteFault::Memory)?;
     written_octets_are_the_packet();
     let start = out.len();
     append_tc(tc, out);
@@ -79,15 +80,12 @@ fn append_tm<A: Allocator>(tm: &Tm, out: &mut Vec<u8, A>)
     ensures in_range { IsTelemetryInRange tm.now }
 {
     let payload = tm.payload();
-    append_u16(out, (1 << 11) + tm.apid().number());
-    append_u16(out, (3 << 14) + tm.count().number());
-    append_u16(out, (payload.len() + 12) as u16);
-    append_u8(out, VERSION_OCTET);
-    append_u8(out, tm.service());
-    append_u8(out, tm.subtype());
-    append_u16(out, 0);
-    append_u16(out, tm.destination());
-    append_u32(out, tm.time());
+    append_octets(out, &((1 << 11) + tm.apid().number()).to_be_bytes());
+    append_octets(out, &((3 << 14) + tm.count().number()).to_be_bytes());
+    append_octets(out, &((payload.len() + 12) as u16).to_be_bytes());
+    append_octets(out, &[VERSION_OCTET, tm.service(), tm.subtype(), 0, 0]);
+    append_octets(out, &tm.destination().to_be_bytes());
+    append_octets(out, &tm.time().to_be_bytes());
     append_octets(out, payload);
 }
 
@@ -111,7 +109,7 @@ pub fn write_tm<A: Allocator>(tm: &Tm, out: &mut Vec<u8, A>) -> Result<(), Write
     if length > MAX_TELEMETRY_DATA {
         return Err(WriteFault::TooLong);
     }
-    out.reserve(19 + length)?;
+    out.reserve(19 + length).map_err(|_| WriteFault::Memory)?;
     written_octets_are_the_packet();
     let start = out.len();
     append_tm(tm, out);

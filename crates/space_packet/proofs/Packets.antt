@@ -110,26 +110,23 @@ words i s l x y z =
     let c : l / 256 % 256 * 256 + l % 256 ≡ l = omega (arith, z) in
     omega (arith, a, b, c)
 
--- the fields of a number of 48 bits that is made of them
-record Fields (n t u a f c l : ℕ) : Type 0 where
-  version : n / 2 ^ 45 % 2 ^ 3 ≡ 0
-  type : n / 2 ^ 44 % 2 ≡ t
-  secondary : n / 2 ^ 43 % 2 ≡ u
-  apid : n / 2 ^ 32 % 2 ^ 11 ≡ a
-  flags : n / 2 ^ 30 % 2 ^ 2 ≡ f
-  count : n / 2 ^ 16 % 2 ^ 14 ≡ c
-  low : n % 2 ^ 16 ≡ l
-
-fields : (n t u a f c l : ℕ) → t < 2 → u < 2 → a < 2 ^ 11 → f < 4 → c < 2 ^ 14 → l < 2 ^ 16 → n ≡ (t * 2 ^ 12 + u * 2 ^ 11 + a) * 2 ^ 32 + (f * 2 ^ 14 + c) * 2 ^ 16 + l → Fields n t u a f c l
-fields n t u a f c l tb ub ab fb cb lb e = record {
-  version = omega (arith, tb, ub, ab, fb, cb, lb, e);
-  type = omega (arith, tb, ub, ab, fb, cb, lb, e);
-  secondary = omega (arith, tb, ub, ab, fb, cb, lb, e);
-  apid = omega (arith, tb, ub, ab, fb, cb, lb, e);
-  flags = omega (arith, tb, ub, ab, fb, cb, lb, e);
-  count = omega (arith, tb, ub, ab, fb, cb, lb, e);
-  low = omega (arith, tb, ub, ab, fb, cb, lb, e);
-}
+-- octets are the packet whose header's words are their first six
+is_packet : (octets : List ℕ) (header : Primary) (payload : List ℕ) → IsHeader header → 1 ≤ length payload → length payload ≤ 65536
+    → head octets ≡ identification header * 2 ^ 32 + sequence_control header * 2 ^ 16 + (length payload - 1) → drop 6 octets ≡ payload → IsPacket octets header payload
+is_packet octets header payload small some few e rest =
+    let t = bit_below header.telecommand in
+    let u = bit_below header.secondary in
+    let f = flags_below header.flags in
+    record {
+      version = omega (arith, t, u, small.0, f, small.1, few, e);
+      telecommand = omega (arith, t, u, small.0, f, small.1, few, e);
+      secondary = omega (arith, t, u, small.0, f, small.1, few, e);
+      apid = omega (arith, t, u, small.0, f, small.1, few, e);
+      flags = omega (arith, t, u, small.0, f, small.1, few, e);
+      count = omega (arith, t, u, small.0, f, small.1, few, e);
+      data_length = omega (arith, t, u, small.0, f, small.1, some, few, e);
+      remain = rest;
+    }
 
 pub written : (header : Primary) (payload : List ℕ) → IsHeader header → 1 ≤ length payload → length payload ≤ 65536 → IsPacket (packet_octets header payload) header payload
 written header payload small some few =
@@ -139,16 +136,4 @@ written header payload small some few =
     let i : identification header < 2 ^ 16 = omega (arith, t, u, small.0) in
     let s : sequence_control header < 2 ^ 16 = omega (arith, f, small.1) in
     let l : length payload - 1 < 2 ^ 16 = omega (arith, few) in
-    let e : head (packet_octets header payload) ≡ (bit header.telecommand * 2 ^ 12 + bit header.secondary * 2 ^ 11 + header.apid) * 2 ^ 32 + (flags_number header.flags * 2 ^ 14 + header.count) * 2 ^ 16 + (length payload - 1) = words (identification header) (sequence_control header) (length payload - 1) i s l in
-    let p = fields (head (packet_octets header payload)) (bit header.telecommand) (bit header.secondary) header.apid (flags_number header.flags) header.count (length payload - 1) t u small.0 f small.1 l e in
-    let d : head (packet_octets header payload) % 2 ^ 16 + 1 ≡ length payload = omega (arith, p.low, some) in
-    record {
-      version = p.version;
-      telecommand = p.type;
-      secondary = p.secondary;
-      apid = p.apid;
-      flags = p.flags;
-      count = p.count;
-      data_length = d;
-      remain = refl;
-    }
+    is_packet (packet_octets header payload) header payload small some few (words (identification header) (sequence_control header) (length payload - 1) i s l) refl

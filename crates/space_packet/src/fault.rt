@@ -1,10 +1,5 @@
 //! Why octets are no packet, and why a packet was not written.
 
-ghost use Rattle.std.specs.Prelude.{◌≡◌};
-ghost use Rattle.space_packet.specs.declared.fault.WriteFault.TheVariants.{Memory};
-
-use std::alloc::AllocError;
-
 /// The first thing that is wrong with octets that are no packet, in this order.
 #[derive(Clone, Copy, PartialEq, Eq, Debug)]
 pub enum PacketFault {
@@ -25,12 +20,4 @@ pub enum WriteFault {
     TooLong,
     /// Memory ran out.
     Memory,
-}
-
-impl From<AllocError> for WriteFault {
-    ghost from_gives = { λ _ fault. fault ≡ Memory };
-
-    fn from(_error: AllocError) -> WriteFault {
-        WriteFault::Memory
-    }
 }

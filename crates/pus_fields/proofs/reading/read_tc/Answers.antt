@@ -1,5 +1,5 @@
-use Rattle.std.proofs.Common.{◌≡◌, ◌≤◌, ◌∙◌, ap, sym, length, arith, Err, Ok, eqb-true}
-use Rattle.pus_fields.specs.Telecommand.{telecommand_header}
+use Rattle.std.proofs.Common.{true, ◌≡◌, ◌≤◌, ◌∙◌, ap, sym, length, arith, Err, Ok, eqb-true}
+use Rattle.pus_fields.specs.Controlled.{whole_header}
 use Rattle.pus_fields.proofs.Fields.{four, not-false, not-true, packet-length}
 use Rattle.pus_fields.proofs.ReadTelecommand.{sound_is, tc_accepted, tc_is_read, tc_no_packet, tc_not_telecommand, tc_other, tc_rejected}
 use Rattle.pus_fields.proofs.reading.read_tc.Goals as goal
@@ -21,7 +21,7 @@ returns-in-Some-clause-value c =
 
 pub returns-in-Some-clause-only : goal.returns-in-Some-clause-only
 returns-in-Some-clause-only c tc h e =
-    let same = c.in-Ok.ensures.only (telecommand_header tc) _ h.packet in
+    let same = c.in-Ok.ensures.only (whole_header true tc.apid tc.count) _ h.controlled.packet in
     returns-in-Some-clause-value c ∙ tc_is_read c.args.apid c.args.octets.now _ _ c.in-Ok.ensures.value tc h e same.0 same.1
 
 pub returns-in-Some-clause-err : goal.returns-in-Some-clause-err

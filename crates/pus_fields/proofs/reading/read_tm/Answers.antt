@@ -1,5 +1,5 @@
-use Rattle.std.proofs.Common.{◌∙◌, ap, sym, arith, Err, Ok}
-use Rattle.pus_fields.specs.Telemetry.{telemetry_header}
+use Rattle.std.proofs.Common.{false, ◌∙◌, ap, sym, arith, Err, Ok}
+use Rattle.pus_fields.specs.Controlled.{whole_header}
 use Rattle.pus_fields.proofs.ReadTelemetry.{profile_fields, sound_tm_is, tm_accepted, tm_is_read, tm_no_packet, tm_not_profile, tm_not_telemetry, tm_rejected}
 use Rattle.pus_fields.proofs.reading.read_tm.Goals as goal
 
@@ -14,7 +14,7 @@ returns-in-Some-clause-value c = ap Err c.into-in-Some.ensures ∙ tm_rejected c
 
 pub returns-in-Some-clause-only : goal.returns-in-Some-clause-only
 returns-in-Some-clause-only c tm h =
-    let same = c.in-Ok.ensures.only (telemetry_header tm) _ h.packet in
+    let same = c.in-Ok.ensures.only (whole_header false tm.apid tm.count) _ h.controlled.packet in
     returns-in-Some-clause-value c ∙ tm_is_read c.args.octets.now _ _ c.in-Ok.ensures.value tm h same.0 same.1
 
 pub returns-then-not-is_in_profile-clause-value : goal.returns-then-not-is_in_profile-clause-value
@@ -25,7 +25,7 @@ returns-clause-value c = ap Ok c.tm_in.ensures ∙ tm_accepted c.args.octets.now
 
 pub returns-clause-only : goal.returns-clause-only
 returns-clause-only c tm h =
-    let same = c.in-Ok.ensures.only (telemetry_header tm) _ h.packet in
+    let same = c.in-Ok.ensures.only (whole_header false tm.apid tm.count) _ h.controlled.packet in
     returns-clause-value c ∙ tm_is_read c.args.octets.now _ _ c.in-Ok.ensures.value tm h same.0 same.1
 
 pub returns-clause-ok : goal.returns-clause-ok
