@@ -1,6 +1,7 @@
 //! Why a request is not accepted, or not started.
 
 ghost use Rattle.std.specs.Prelude.{◌≡◌};
+ghost use Rattle.obcp_types.specs.Codes.{acceptance_code, completion_code, start_code};
 
 use pus_fields::Rejection;
 
@@ -25,8 +26,6 @@ pub enum AcceptanceFailure {
 }
 
 impl AcceptanceFailure {
-    ghost use Rattle.obcp_types.specs.Codes.{acceptance_code};
-
     /// The failure code.
     pub fn code(self) -> u16
         ensures { result ≡ acceptance_code self }
@@ -72,8 +71,6 @@ pub enum StartFailure {
 }
 
 impl StartFailure {
-    ghost use Rattle.obcp_types.specs.Codes.{start_code};
-
     /// The failure code.
     pub fn code(self) -> u16
         ensures { result ≡ start_code self }
@@ -99,18 +96,14 @@ impl StartFailure {
 #[derive(Clone, Copy, PartialEq, Eq, Debug)]
 pub enum CompletionFailure {
     /// Code 26: something else came in between.
-    Overtaken,
+    Overtaken = 26,
 }
 
 impl CompletionFailure {
-    ghost use Rattle.obcp_types.specs.Codes.{completion_code};
-
     /// The failure code.
     pub fn code(self) -> u16
         ensures { result ≡ completion_code self }
     {
-        match self {
-            CompletionFailure::Overtaken => 26,
-        }
+        self as u16
     }
 }

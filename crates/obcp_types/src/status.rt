@@ -1,28 +1,23 @@
 //! The status of a procedure.
 
 ghost use Rattle.std.specs.Prelude.{◌≡◌};
+ghost use Rattle.obcp_types.specs.Codes.{status_code};
 
 /// The status of a loaded procedure.
 #[derive(Clone, Copy, PartialEq, Eq, Debug, Default)]
 pub enum Status {
     #[default]
-    Inactive,
-    Running,
-    Held,
+    Inactive = 0,
+    Running = 1,
+    Held = 2,
 }
 
 impl Status {
-    ghost use Rattle.obcp_types.specs.Codes.{status_code};
-
     /// The number of the status in a status report. The numbers are this product's own.
     pub fn code(self) -> u8
         ensures { result ≡ status_code self }
     {
-        match self {
-            Status::Inactive => 0,
-            Status::Running => 1,
-            Status::Held => 2,
-        }
+        self as u8
     }
 }
 
