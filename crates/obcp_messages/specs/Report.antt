@@ -19,13 +19,8 @@ use Rattle.obcp_messages.specs.declared.fault.ReportFault.TheVariants.{Kind, Lay
 
 -- the service of a report, and its kind in the service (ECSS-E-ST-70-41C, 8.1 and 8.18)
 abbrev pub service_of : Report → ℕ
-service_of (Accepted request) = 1
-service_of (NotAccepted request code) = 1
-service_of (Started request) = 1
-service_of (NotStarted request fault) = 1
-service_of (Completed request) = 1
-service_of (NotCompleted request code) = 1
 service_of (R.Status rows) = 18
+service_of _ = 1
 
 -- the message subtype of a report
 abbrev pub kind_of : Report → ℕ
