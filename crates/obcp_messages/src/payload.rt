@@ -14,79 +14,46 @@ pub const MAX_ARGUMENTS_LENGTH: usize = 256;
 /// The most words of a communicate request.
 pub const MAX_WORDS: usize = 8;
 
-/// The code of a load, borrowed: at most 65,535 octets.
+/// Octets at the end of a request, borrowed: at most so many.
 #[derive(Drop)]
-pub struct Code<'a> {
-    code: &'a [u8],
+pub struct Carried<'a, const MOST: usize> {
+    octets: &'a [u8],
 }
 
-impl<'a> Model for Code<'a> {
+/// The code of a load: at most 65,535 octets.
+pub type Code<'a> = Carried<'a, MAX_CODE_LENGTH>;
+
+/// The arguments of an activation: at most 256 octets.
+pub type Arguments<'a> = Carried<'a, MAX_ARGUMENTS_LENGTH>;
+
+impl<'a, const MOST: usize> Model for Carried<'a, MOST> {
     ghost use Rattle.std.specs.Prelude.{◌≤◌, ℕ, List, length};
-    ghost use Rattle.obcp_messages.specs.declared.payload.TheConstants.{MAX_CODE_LENGTH};
 
     ghost Value = { List ℕ };
 
-    ghost view = { λ code. code.code.now };
+    ghost view = { λ carried. carried.octets.now };
 
-    ghost invariant = { λ code. length code.code.now ≤ MAX_CODE_LENGTH };
+    ghost invariant = { λ carried. length carried.octets.now ≤ MOST };
 }
 
-impl<'a> Code<'a> {
-    /// These octets, where a load can carry them.
-    pub fn new(octets: &'a [u8]) -> Option<Code<'a>>
-        ensures value { IfSome result (λ code. code ≡ octets.now) }
-        ensures variant { IsSome result ↔ (length octets.now ≤ MAX_CODE_LENGTH) }
+impl<'a, const MOST: usize> Carried<'a, MOST> {
+    /// These octets, where a request can carry them.
+    pub fn new(octets: &'a [u8]) -> Option<Carried<'a, MOST>>
+        ensures value { IfSome result (λ carried. carried ≡ octets.now) }
+        ensures variant { IsSome result ↔ (length octets.now ≤ MOST) }
     {
-        if octets.len() > MAX_CODE_LENGTH {
+        if octets.len() > MOST {
             return None;
         }
-        Some(Code { code: octets })
+        Some(Carried { octets })
     }
 
-    /// The octets of the code.
+    /// The octets.
     pub fn octets(&self) -> &'a [u8]
         ensures value { result.now ≡ self.now }
-        ensures bound { length self.now ≤ MAX_CODE_LENGTH }
+        ensures bound { length self.now ≤ MOST }
     {
-        self.code
-    }
-}
-
-/// The arguments of an activation, borrowed: at most 256 octets.
-#[derive(Drop)]
-pub struct Arguments<'a> {
-    arguments: &'a [u8],
-}
-
-impl<'a> Model for Arguments<'a> {
-    ghost use Rattle.std.specs.Prelude.{◌≤◌, ℕ, List, length};
-    ghost use Rattle.obcp_messages.specs.declared.payload.TheConstants.{MAX_ARGUMENTS_LENGTH};
-
-    ghost Value = { List ℕ };
-
-    ghost view = { λ arguments. arguments.arguments.now };
-
-    ghost invariant = { λ arguments. length arguments.arguments.now ≤ MAX_ARGUMENTS_LENGTH };
-}
-
-impl<'a> Arguments<'a> {
-    /// These octets, where an activation can carry them.
-    pub fn new(octets: &'a [u8]) -> Option<Arguments<'a>>
-        ensures value { IfSome result (λ arguments. arguments ≡ octets.now) }
-        ensures variant { IsSome result ↔ (length octets.now ≤ MAX_ARGUMENTS_LENGTH) }
-    {
-        if octets.len() > MAX_ARGUMENTS_LENGTH {
-            return None;
-        }
-        Some(Arguments { arguments: octets })
-    }
-
-    /// The octets of the arguments.
-    pub fn octets(&self) -> &'a [u8]
-        ensures value { result.now ≡ self.now }
-        ensures bound { length self.now ≤ MAX_ARGUMENTS_LENGTH }
-    {
-        self.arguments
+        self.octets
     }
 }
 

@@ -15,12 +15,5 @@ pub reads_while : (IsWithin : List ℕ → Type 0) (input mid left : Option (Lis
 reads_while IsWithin None mid left before last c d w le = tt
 reads_while IsWithin (Some script) None left before last c d w le = absurd c
 reads_while IsWithin (Some script) (Some more) None before last c d w le = absurd d
-reads_while IsWithin (Some script) (Some more) (Some rest) before last c d w le = record {
-  before = before;
-  last = last;
-  rest = rest;
-  parts = c ∙ ap (λ (t : List ℕ). before ++ t) d ∙ sym (append_assoc before last rest);
-  kept = refl;
-  within = w;
-  few = le;
-}
+reads_while IsWithin (Some script) (Some more) (Some rest) before last c d w le =
+    record { before = before; last = last; rest = rest; parts = c ∙ ap (λ (t : List ℕ). before ++ t) d ∙ sym (append_assoc before last rest); kept = refl; within = w; few = le }
