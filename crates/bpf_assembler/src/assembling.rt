@@ -18,7 +18,7 @@ use crate::listings::admitted_images_are_meant_by_their_listings;
 use crate::resolving::{line_up_to, resolve_all};
 use crate::table::{Row, Table};
 use bpf_listing::images_are_unique;
-use ocp_loader::{LoadFault, load};
+use ocp_loader::{LoadFault, approve};
 use ocp_profile::Profile;
 use std::alloc::{Allocator, Global};
 use std::collections::BTreeMap;
@@ -88,8 +88,8 @@ fn image_of<A: Allocator + Copy>(
     };
     collect(&mut table, text)?;
     let octets = resolve_all(alloc, &table.labels, &table.rows)?;
-    match load(alloc, profile, &octets) {
-        Ok(_) => Ok(Image { octets }),
+    match approve(alloc, profile, &octets) {
+        Ok(()) => Ok(Image { octets }),
         Err(fault) => Err(fault_with_line(&table.rows, fault)),
     }
 }
@@ -99,7 +99,7 @@ fn image_of<A: Allocator + Copy>(
 /// The listing of an image that may be run under it means its instructions, so it gives that image.
 ///
 /// Else refused: line by line with Syntax, Range or DuplicateLabel; then in line order with
-/// UnknownLabel, or Range of the distance of a label; then with the fault of the image (`load`), at
+/// UnknownLabel, or Range of the distance of a label; then with the fault of the image (`approve`), at
 /// the line of the instruction at its slot, or at line 0 where the image is empty or too long.
 /// Memory may stand in place of any other answer. The time is linear in the text, but for a
 /// logarithm of the number of labels for each label and each name.

@@ -9,16 +9,15 @@ ghost use Rattle.bpf_assembler.specs.declared.fault.AsmFault.TheVariants.{Memory
 
 use crate::assembling::assemble;
 use crate::fault::AsmFault;
-use ocp_loader::{LoadFault, load};
+use bpf_listing::disassemble;
 use ocp_profile::Profile;
 use std::alloc::Allocator;
 
 /// Appends the canonical form of an assembly text to the octets: the text is assembled under the
-/// profile, the image loaded and the program listed. The load is refused only where memory runs
-/// out. Each instruction that the text means has its line.
+/// profile, and the image listed. Each instruction that the text means has its line.
 ///
-/// Refused as `assemble` is, and as Memory where memory for the program or its listing is refused.
-/// A refusal leaves `out` and its capacity as they were. The capacity never shrinks.
+/// Refused as `assemble` is, and as Memory where memory for the listing is refused. A refusal
+/// leaves `out` and its capacity as they were. The capacity never shrinks.
 pub fn write_canonical<A: Allocator + Copy, B: Allocator>(
     alloc: A,
     profile: Profile,
@@ -35,12 +34,8 @@ pub fn write_canonical<A: Allocator + Copy, B: Allocator>(
     ensures capacity { vec_capacity out.old ≤ vec_capacity out.new }
 {
     let image = assemble(alloc, profile, text)?;
-    match load(alloc, profile, image.octets()) {
-        Ok(program) => {
-            program.listing(out)?;
-            Ok(())
-        }
-        Err(LoadFault::Memory) => Err(AsmFault::Memory),
-        Err(_) => unreachable!(),
+    match disassemble(image.octets(), out) {
+        Ok(()) => Ok(()),
+        Err(_) => Err(AsmFault::Memory),
     }
 }

@@ -16,4 +16,4 @@ pub use laws::{
     lines_stand_at_their_places, places_are_counted_in_slots, places_lead_to_places,
     two_has_the_engine_calls_of_every_profile,
 };
-pub use program::{MAX_SLOTS, Program, load};
+pub use program::{MAX_SLOTS, Program, approve, load};

@@ -1,6 +1,6 @@
-use Rattle.std.proofs.Common.{ℕ, List, inl, refl, sym, ap, subst, ◌∙◌, Err}
+use Rattle.std.proofs.Common.{ℕ, List, Err, inl, refl, sym, ap, subst, ◌∙◌}
 use Rattle.std.proofs.lemmas.Result.{err_from_is_err_and}
-use Rattle.ocp_loader.specs.Admitted.{IsAdmittedAs}
+use Rattle.bpf_listing.specs.Listing.{IsImageOf, NoneWritesFramePointer}
 use Rattle.bpf_assembler.specs.declared.fault.AsmFault.TheVariants.{Memory}
 use Rattle.bpf_assembler.proofs.CanonicalListings.{memory_alone}
 use Rattle.bpf_assembler.proofs.canonical.write_canonical.Goals as goal
@@ -13,5 +13,7 @@ returns-in_err-image-clause-only g c = λ image h.
 pub returns-in-Ok-clause-ok : goal.returns-in-Ok-clause-ok
 returns-in-Ok-clause-ok g c =
     let meant = c.in_ok-image.ensures.means in
-    let same = sym (c.in-Ok.ensures.ok.0 ∙ c.octets.ensures.value) in
-    (meant.lines, meant.means, c.in_ok-listing-in-Ok.ensures.ok c.args.profile meant.lines (subst (λ (octets : List ℕ). IsAdmittedAs c.args.profile octets meant.lines) same meant.admitted))
+    let a = meant.admitted in
+    let whole = subst (λ (octets : List ℕ). IsImageOf octets meant.lines) (sym c.octets.ensures.value) a.whole in
+    let permitted : NoneWritesFramePointer meant.lines = λ k d lt. (a.lawful k d lt).0 in
+    (meant.lines, meant.means, c.in-Ok.ensures.only meant.lines whole permitted)
