@@ -4,7 +4,7 @@ pub mod Shown
 pub mod Unique
 pub mod Texts
 pub mod Listings
-pub mod Measured
+pub mod Written
 pub mod Images
 pub mod Faulty
 mod Total

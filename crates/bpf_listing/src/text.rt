@@ -29,13 +29,6 @@ impl Text {
         }
     }
 
-    /// Takes all octets out.
-    pub(crate) fn clear(&mut self)
-        ensures { self.new ≡ [] }
-    {
-        self.octets.clear();
-    }
-
     /// The text's octets.
     pub fn as_slice(&self) -> &[u8]
         ensures { result.now ≡ self.now }
@@ -71,8 +64,10 @@ impl Text {
         ensures items { self.new ≡ self.old ++ signed_decimal number }
         ensures len { length self.new ≤ length self.old + 11 }
     {
-        let mut buffer = Buffer::new();
-        self.push_all(buffer.format(number).as_bytes());
+        if number < 0 {
+            self.push_all(b"-");
+        }
+        self.push_number(number.unsigned_abs());
     }
 
     /// Appends a number in decimal digits, always with its sign.

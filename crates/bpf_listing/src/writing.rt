@@ -180,16 +180,17 @@ impl Text {
             Line::Exit => self.push_all(b"exit"),
         }
     }
+}
 
-    /// Writes the canonical text of an instruction with its newline, in place of what is there.
-    pub(crate) fn write_line(&mut self, line: &Line)
-        ensures items { self.new ≡ canonical line.now ++ codes "\n" }
-        ensures len { length self.new ≤ 49 }
-    {
-        self.clear();
-        self.push_line(line);
-        self.push_all(b"\n");
-    }
+/// The canonical text of an instruction with its newline.
+pub(crate) fn line_with_newline(line: &Line) -> Text
+    ensures items { result ≡ canonical line.now ++ codes "\n" }
+    ensures len { length result ≤ 49 }
+{
+    let mut text = Text::new();
+    text.push_line(line);
+    text.push_all(b"\n");
+    text
 }
 
 /// The canonical text of an instruction.

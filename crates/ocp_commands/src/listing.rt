@@ -82,12 +82,15 @@ fn digits(text: &[u8]) -> &[u8]
     digits
 }
 
+/// No line is longer, with its newline: so a listing is written in one pass.
+const LONGEST_LINE: usize = 49;
+
 /// The output for an image.
 fn output_of_image<A: Allocator + Copy>(alloc: A, image: &[u8]) -> Result<Output<A>, AllocError>
     ensures { (input : List ℕ) → HasImage input image.now →
         IfOk result (λ output. Lists input output.text.items output.done) }
 {
-    let mut listing = Vec::new(alloc);
+    let mut listing = Vec::with_capacity(alloc, (image.len() / 8).saturating_mul(LONGEST_LINE))?;
     match disassemble(image, &mut listing) {
         Ok(()) => Ok(Output::of_text(listing)),
         Err(DisassembleFault::Ragged) => output_of_fault(alloc, ListFault::Ragged),

@@ -1,9 +1,15 @@
--- Listings that are measured before they are written.
-use Rattle.std.specs.Prelude.{◌≡◌, ℕ, List, [], length, Bool, true}
+-- Listings that are written as far as there is room for them.
+use Rattle.std.specs.Prelude.{◌≡◌, ◌≤◌, ◌+◌, ◌++◌, ℕ, List, [], length}
 use Rattle.bpf_listing.specs.Listing.{IsListed}
 
--- the image has a listing, of this length where it is counted
-pub record IsMeasured (code : List ℕ) (counted : Bool) (len : ℕ) : Type 0 where
+-- the octets `new` begin with `old`
+abbrev pub Continues : List ℕ → List ℕ → Type 0
+Continues old new = (more : List ℕ) × (new ≡ old ++ more)
+
+-- the image has a listing of this length, and where that fits behind `old` into the capacity, the
+-- octets `new` are `old` and the listing
+pub record IsWritten (code : List ℕ) (capacity : ℕ) (old new : List ℕ) (len : ℕ) : Type 0 where
   pub text : List ℕ
   pub listed : IsListed code [] text
-  pub counts : counted ≡ true → len ≡ length text
+  pub counts : len ≡ length text
+  pub fits : length old + len ≤ capacity → new ≡ old ++ text
