@@ -2,5 +2,4 @@ pub mod Cutting
 pub mod Runs
 pub mod Scripts
 pub mod Workless
-pub mod Requests
 pub mod Taking

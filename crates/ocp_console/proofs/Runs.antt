@@ -12,8 +12,9 @@ use Rattle.ocp_ports.specs.declared.fault.ConsoleFault.TheVariants as faults
 use Rattle.ocp_ports.specs.Printing.{PrintsPrefix}
 use Rattle.ocp_ports.specs.declared.crew.CrewFault.{CrewFault}
 use Rattle.ocp_lines.specs.declared.command.Shift.{Shift}
-use Rattle.ocp_console.specs.Answering.{State, Effect, Works, respond}
+use Rattle.ocp_console.specs.Answering.{State, Effect, respond}
 use Rattle.ocp_console.specs.Crew.{CrewAnswers, HasDone, HasRefused, crew_fault}
+use Rattle.ocp_console.specs.Mirror.Replies.{works_of}
 use Rattle.ocp_console.specs.Script.{Step, Ends, Goes, step_of, Writing, IsFailure, Follows, FaultLine, AtStep, Writes, PrintsBy}
 use Rattle.ocp_console.specs.Mirror.Session.{after_line}
 use Rattle.ocp_console.specs.Mirror.Lines.{is_one_line}
@@ -110,29 +111,29 @@ command_cut old new crew state next before line effect text e lt le some done h 
 
 -- a command whose work is left to the crew, which writes nothing yet
 pub command_asked : (a : Option (List ℕ)) (crew : CrewAnswers) (state after : State) (before : ℕ) (line : Line) (shift : Shift) → before < 100000 → length (octets_of line) ≤ 40000 → after ≡ state
-    → respond state (text_of line) ≡ Some (Works shift.workers shift.budget shift.turns)
+    → respond state (text_of line) ≡ Some (works_of shift)
     → (sent : List ℕ) × Appends a a sent × ((more : List Line) (later : List ℕ) (ending : Result Unit ConsoleFault) → after_line crew after (before + 1) (Some shift) more later ending → Writes crew state before (line ∷ more) (sent ++ later) ending)
 command_asked a crew state after before line shift lt le kept some = (
   [],
   Appends-nil a,
   λ more later ending w.
-      command crew state before line more (Works shift.workers shift.budget shift.turns) later ending lt le some (subst (λ (s : State). after_line crew s (before + 1) (Some shift) more later ending) kept w),
+      command crew state before line more (works_of shift) later ending lt le some (subst (λ (s : State). after_line crew s (before + 1) (Some shift) more later ending) kept w),
 )
 
 -- ---- the work of a crew
 
 -- the crew's work, and what follows it
-pub work_done : (old new : Option (List ℕ)) (crew : CrewAnswers) (state next : State) (before : ℕ) (shift : Shift) (text : List ℕ) → HasDone crew state (Works shift.workers shift.budget shift.turns) (next, text) → Appends old new text
+pub work_done : (old new : Option (List ℕ)) (crew : CrewAnswers) (state next : State) (before : ℕ) (shift : Shift) (text : List ℕ) → HasDone crew state (works_of shift) (next, text) → Appends old new text
     → (sent : List ℕ) × Appends old new sent × ((more : List Line) (later : List ℕ) (ending : Result Unit ConsoleFault) → Writes crew next before more later ending → after_line crew state before (Some shift) more (sent ++ later) ending)
 work_done old new crew state next before shift text done a = (text, a, λ more later ending w. inl ((next, text), done, inl (later, refl, w)))
 
 -- the crew's work, and a failure before all of its text went out
-pub work_cut : (old new : Option (List ℕ)) (crew : CrewAnswers) (state next : State) (before : ℕ) (shift : Shift) (text : List ℕ) (e : ConsoleFault) → HasDone crew state (Works shift.workers shift.budget shift.turns) (next, text) → IsFailure (Err e) → PrintsPrefix old new text
+pub work_cut : (old new : Option (List ℕ)) (crew : CrewAnswers) (state next : State) (before : ℕ) (shift : Shift) (text : List ℕ) (e : ConsoleFault) → HasDone crew state (works_of shift) (next, text) → IsFailure (Err e) → PrintsPrefix old new text
     → (sent : List ℕ) × Appends old new sent × ((more : List Line) → after_line crew state before (Some shift) more sent (Err e))
 work_cut old new crew state next before shift text e done f p = (p.0, p.3, λ more. inl ((next, text), done, inr (f, p.1, p.2)))
 
 -- a crew that refuses
-pub work_refused : (a : Option (List ℕ)) (crew : CrewAnswers) (state : State) (before : ℕ) (shift : Shift) (refused : CrewFault) (e : ConsoleFault) → HasRefused crew state (Works shift.workers shift.budget shift.turns) refused → e ≡ crew_fault refused
+pub work_refused : (a : Option (List ℕ)) (crew : CrewAnswers) (state : State) (before : ℕ) (shift : Shift) (refused : CrewFault) (e : ConsoleFault) → HasRefused crew state (works_of shift) refused → e ≡ crew_fault refused
     → (sent : List ℕ) × Appends a a sent × ((more : List Line) → after_line crew state before (Some shift) more sent (Err e))
 work_refused a crew state before shift refused e h is = ([], Appends-nil a, λ more. inr (refused, h, (refl, ap Err is)))
 

@@ -12,7 +12,7 @@ use Rattle.ocp_lines.specs.Grammar.{Work, command_of}
 use Rattle.ocp_ports.specs.declared.crew.CrewFault.{CrewFault}
 use Rattle.ocp_console.specs.Answering.{State, Effect, Does, Works, opening, respond}
 use Rattle.ocp_console.specs.Crew.{CrewAnswers, HasDone, HasRefused, crew_fault}
-use Rattle.ocp_console.specs.Reading.{max_lines, max_line_octets}
+use Rattle.ocp_console.specs.declared.session.TheConstants.{MAX_LINES, MAX_LINE_OCTETS}
 
 -- what is printed, and how the run ends
 abbrev pub Run : Type 0
@@ -31,8 +31,8 @@ pub data Step : Type 0 where
 -- many lines, it has too many octets, it is no command.
 abbrev pub step_of : State → ℕ → Line → Step
 step_of state before line =
-    if nat_le max_lines before then Ends (codes "TooManyLines") faults.TooManyLines
-    else if nat_lt max_line_octets (length (octets_of line)) then
+    if nat_le MAX_LINES before then Ends (codes "TooManyLines") faults.TooManyLines
+    else if nat_lt MAX_LINE_OCTETS (length (octets_of line)) then
     Ends (codes "LineTooLong") (faults.LineTooLong (before + 1))
     else
     option_map_or Goes (respond state (text_of line))

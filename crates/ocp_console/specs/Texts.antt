@@ -63,17 +63,20 @@ abbrev pub ending_text : List ℕ → Result (Unit {0}) DebugFault → List ℕ
 ending_text word (Ok done) = word
 ending_text word (Err fault) = debug_fault_name fault
 
+-- the line of a command at a place, which begins so and ends so
+abbrev pub place_line : List ℕ → ℕ → ℕ → List ℕ → List ℕ
+place_line front id place end =
+    front ++ decimal id ++ codes " " ++ decimal place ++ codes " " ++ end ++ codes "\n"
+
 -- `break <id> <place> set`, or with the refusal's name
 abbrev pub break_line : ℕ → ℕ → Result (Unit {0}) DebugFault → List ℕ
 break_line id place result =
-    codes "break " ++ decimal id ++ codes " " ++ decimal place ++ codes " "
-    ++ ending_text (codes "set") result ++ codes "\n"
+    place_line (codes "break ") id place (ending_text (codes "set") result)
 
 -- `unbreak <id> <place> cleared`, or with the refusal's name
 abbrev pub unbreak_line : ℕ → ℕ → Result (Unit {0}) DebugFault → List ℕ
 unbreak_line id place result =
-    codes "unbreak " ++ decimal id ++ codes " " ++ decimal place ++ codes " "
-    ++ ending_text (codes "cleared") result ++ codes "\n"
+    place_line (codes "unbreak ") id place (ending_text (codes "cleared") result)
 
 abbrev pub switch_name : Bool → List ℕ
 switch_name true = codes "on"

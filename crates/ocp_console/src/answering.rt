@@ -22,7 +22,8 @@ pub(crate) fn answer<A: Allocator + Copy>(
     ensures kept { IfOk result (λ answered. IfSome answered
         (λ reply. IsKept (state_of console.old) (state_of console.new) reply)) }
 {
-    match read_command(alloc, console.profile, line)? {
+    let mut scratch = Vec::new(alloc);
+    match read_command(&mut scratch, console.profile, line)? {
         None => Ok(None),
         Some(command) => Ok(Some(console.obey(alloc, command)?)),
     }

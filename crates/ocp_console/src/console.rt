@@ -2,16 +2,14 @@
 
 ghost use Rattle.std.specs.Prelude.{◌≡◌, ◌<◌, ◌≤◌, length, IfOk, IfErr, OnOk};
 ghost use Rattle.space_packet.specs.declared.range.TheConstants.{IDLE_APID};
-ghost use Rattle.pus_fields.specs.declared.writing.TheConstants.{MAX_TELECOMMAND_DATA};
-ghost use Rattle.obcp_messages.specs.Request.{HasFittingBudget, request_data};
 
 use crate::debugging::{break_text, no_octets_text, octets_text, switch_text, unbreak_text};
 use crate::sending::telecommand;
 use crate::texts::{answer_text, journal_text, pool_text, step_text};
-use obcp_messages::{Arguments, Code, Request, Words};
+use obcp_messages::Request;
 use ocp_core::Engine;
 use ocp_debug::view_text;
-use ocp_lines::{Command, Flags, MAX_MEMORY_LENGTH, MemoryLength, Shift, Verb};
+use ocp_lines::{Command, Count, Flags, MAX_MEMORY_LENGTH, Shift};
 use ocp_ports::{Crew, CrewFault};
 use ocp_profile::Profile;
 use ocp_words::Settings;
@@ -45,11 +43,11 @@ pub(crate) enum Reply {
 }
 
 impl<A: Allocator + Copy> Console<A> {
-    ghost use Rattle.ocp_lines.specs.Grammar.{IsSayable, meaning_of, request_of};
-    ghost use Rattle.ocp_console.specs.Answering.{state_of, opening, on_octets, on_drain, on_request, trace_lines, view_text, memory_text, effect_of, Works};
+    ghost use Rattle.ocp_lines.specs.Grammar.{IsCarried, IsSayable, meaning_of};
+    ghost use Rattle.ocp_console.specs.Answering.{state_of, opening, on_octets, on_drain, on_request, trace_lines, view_text, memory_text, effect_of};
     ghost use Rattle.ocp_console.specs.Crew.{HasDone, HasRefused};
     ghost use Rattle.ocp_console.specs.Texts.{work_line};
-    ghost use Rattle.ocp_console.specs.Mirror.Replies.{effect_by, IsKept};
+    ghost use Rattle.ocp_console.specs.Mirror.Replies.{effect_by, works_of, IsKept};
 
     /// A console on a new engine.
     pub fn new(alloc: A, settings: Settings) -> Result<Console<A>, AllocError>
@@ -90,56 +88,15 @@ impl<A: Allocator + Copy> Console<A> {
         answer_text(answer, &mut self.output)
     }
 
-    /// A telecommand of this request reaches the engine.
-    fn ask(&mut self, alloc: A, flags: Flags, request: &Request) -> Result<(), AllocError>
-        requires short { length (request_data self.old.profile request.now) ≤ MAX_TELECOMMAND_DATA }
-        requires fits { HasFittingBudget self.old.profile request.now }
+    /// What a `send` line does: a telecommand of its request reaches the engine.
+    fn send(&mut self, alloc: A, flags: Flags, request: &Request) -> Result<(), AllocError>
+        requires { IsCarried self.old.profile request.now }
         ensures { OnOk result ((state_of self.new, self.new.output.items) ≡
             on_request (state_of self.old) flags.number request.now) }
     {
         let packet = telecommand(alloc, self.profile, self.apid, self.count, flags, request)?;
         self.count = self.count.next();
         self.receive(alloc, packet.as_slice())
-    }
-
-    /// What a `send` line does.
-    fn send(&mut self, alloc: A, flags: Flags, verb: Verb<A>) -> Result<(), AllocError>
-        requires { HasFittingBudget self.old.profile (request_of verb) }
-        ensures { OnOk result ((state_of self.new, self.new.output.items) ≡
-            on_request (state_of self.old) flags.number (request_of verb)) }
-    {
-        match verb {
-            Verb::Load { id, code } => {
-                let code = Code::new(code.as_slice()).unwrap();
-                self.ask(alloc, flags, &Request::Load { id, code })
-            }
-            Verb::Unload { id } => self.ask(alloc, flags, &Request::Unload { id }),
-            Verb::Activate {
-                id,
-                budget,
-                arguments,
-            } => {
-                let arguments = Arguments::new(arguments.as_slice()).unwrap();
-                self.ask(
-                    alloc,
-                    flags,
-                    &Request::Activate {
-                        id,
-                        budget,
-                        arguments,
-                    },
-                )
-            }
-            Verb::Stop { id, step } => self.ask(alloc, flags, &Request::Stop { id, step }),
-            Verb::Suspend { id, step } => self.ask(alloc, flags, &Request::Suspend { id, step }),
-            Verb::Resume { id } => self.ask(alloc, flags, &Request::Resume { id }),
-            Verb::Abort { id } => self.ask(alloc, flags, &Request::Abort { id }),
-            Verb::Communicate { id, parameters } => {
-                let words = Words::new(parameters.into_numbers()).unwrap();
-                self.ask(alloc, flags, &Request::Communicate { id, words })
-            }
-            Verb::Status => self.ask(alloc, flags, &Request::Status),
-        }
     }
 
     /// What a `trace` line prints.
@@ -161,13 +118,18 @@ impl<A: Allocator + Copy> Console<A> {
     }
 
     /// What a `mem` line prints.
-    fn memory(&mut self, id: u16, address: u64, length: MemoryLength) -> Result<(), AllocError>
+    fn memory(
+        &mut self,
+        id: u16,
+        address: u64,
+        length: Count<MAX_MEMORY_LENGTH>,
+    ) -> Result<(), AllocError>
         ensures state { state_of self.new ≡ state_of self.old }
         ensures output { OnOk result (self.new.output.items ≡
             memory_text (state_of self.old) id address length.number) }
     {
         let mut room = [0; MAX_MEMORY_LENGTH as usize];
-        let octets = &mut room[..usize::from(length.number)];
+        let octets = &mut room[..length.number as usize];
         match self.engine.memory(id, address, octets) {
             Ok(()) => octets_text(id, address, octets, &mut self.output),
             Err(fault) => no_octets_text(id, address, fault, &mut self.output),
@@ -175,19 +137,19 @@ impl<A: Allocator + Copy> Console<A> {
     }
 
     /// Does what a line says that needs no crew.
-    pub fn obey(&mut self, alloc: A, command: Command<A>) -> Result<Reply, AllocError>
+    pub fn obey(&mut self, alloc: A, command: Command<'_>) -> Result<Reply, AllocError>
         requires { IsSayable self.old.profile (meaning_of command) }
         ensures effect { IfOk result
             (λ reply. effect_by (state_of self.new) self.new.output.items reply ≡
-            effect_of (state_of self.old) (meaning_of command)) }
+            effect_of (state_of self.old) (meaning_of command.entry)) }
         ensures kept { IfOk result
             (λ reply. IsKept (state_of self.old) (state_of self.new) reply) }
     {
         match command {
             Command::Work(shift) => return Ok(Reply::Work(shift)),
             Command::Nothing => self.output.clear(),
-            Command::Up(octets) => self.receive(alloc, octets.as_slice())?,
-            Command::Send { flags, verb } => self.send(alloc, flags, verb)?,
+            Command::Up(octets) => self.receive(alloc, octets)?,
+            Command::Send { flags, request } => self.send(alloc, flags, &request)?,
             Command::Time(time) => {
                 self.time = time;
                 self.output.clear();
@@ -229,12 +191,10 @@ impl<A: Allocator + Copy> Console<A> {
     pub fn work<C: Crew<Engine<A>>>(self, crew: &C, shift: Shift) -> Result<Console<A>, CrewFault>
         requires { C.ready crew.now }
         ensures done { IfOk result (λ console.
-            HasDone (C.answers crew.now) (state_of self)
-            (Works shift.workers shift.budget shift.turns)
-            (state_of console, work_line shift.workers)) }
+            HasDone (C.answers crew.now) (state_of self) (works_of shift)
+            (state_of console, work_line shift.workers.number)) }
         ensures refused { IfErr result (λ refused.
-            HasRefused (C.answers crew.now) (state_of self)
-            (Works shift.workers shift.budget shift.turns) refused) }
+            HasRefused (C.answers crew.now) (state_of self) (works_of shift) refused) }
     {
         let Console {
             profile,
@@ -244,7 +204,8 @@ impl<A: Allocator + Copy> Console<A> {
             count,
             output,
         } = self;
-        let engine = crew.work(engine, shift.workers, shift.budget, shift.turns)?;
+        let workers = shift.workers.number as u16;
+        let engine = crew.work(engine, workers, shift.budget.number, shift.turns.number)?;
         Ok(Console {
             profile,
             engine,

@@ -1,7 +1,7 @@
 //! What is printed of the debugger's commands.
 
-ghost use Rattle.std.specs.Prelude.{◌≡◌, Ok, Err, OnOk};
-ghost use Rattle.ocp_console.specs.Texts.{ending_text, break_line, unbreak_line, switch_name, switch_line, memory_line};
+ghost use Rattle.std.specs.Prelude.{◌≡◌, ◌≤◌, length, Ok, Err, OnOk};
+ghost use Rattle.ocp_console.specs.Texts.{ending_text, place_line, break_line, unbreak_line, switch_name, switch_line, memory_line};
 
 use crate::text::Text;
 use ocp_debug::{DebugFault, fault_name};
@@ -17,6 +17,29 @@ fn ending(word: &'static str, answer: Result<(), DebugFault>) -> &'static str
     }
 }
 
+/// The line of a command at a place, which begins so, with this word where it was done.
+fn place_text(
+    front: &[u8],
+    id: u16,
+    place: u16,
+    word: &'static str,
+    answer: Result<(), DebugFault>,
+) -> Text
+    requires front { length front.now ≤ 8 }
+    requires word { length word.now ≤ 16 }
+    ensures { result ≡ place_line front.now id place (ending_text word.now answer) }
+{
+    let mut text = Text::new();
+    text.push(front);
+    text.push_number(id);
+    text.push(b" ");
+    text.push_number(place);
+    text.push(b" ");
+    text.push(ending(word, answer).as_bytes());
+    text.push(b"\n");
+    text
+}
+
 /// Writes the line of a breakpoint that is to be set.
 pub(crate) fn break_text<A: Allocator>(
     id: u16,
@@ -26,15 +49,7 @@ pub(crate) fn break_text<A: Allocator>(
 ) -> Result<(), AllocError>
     ensures { OnOk result (output.new.items ≡ break_line id place answer) }
 {
-    let mut text = Text::new();
-    text.push(b"break ");
-    text.push_number(id);
-    text.push(b" ");
-    text.push_number(place);
-    text.push(b" ");
-    text.push(ending("set", answer).as_bytes());
-    text.push(b"\n");
-    text.write_to(output)
+    place_text(b"break ", id, place, "set", answer).write_to(output)
 }
 
 /// Writes the line of a breakpoint that is to be cleared.
@@ -46,15 +61,7 @@ pub(crate) fn unbreak_text<A: Allocator>(
 ) -> Result<(), AllocError>
     ensures { OnOk result (output.new.items ≡ unbreak_line id place answer) }
 {
-    let mut text = Text::new();
-    text.push(b"unbreak ");
-    text.push_number(id);
-    text.push(b" ");
-    text.push_number(place);
-    text.push(b" ");
-    text.push(ending("cleared", answer).as_bytes());
-    text.push(b"\n");
-    text.write_to(output)
+    place_text(b"unbreak ", id, place, "cleared", answer).write_to(output)
 }
 
 /// Writes the line of a trace flag that is to be set or cleared.

@@ -2,8 +2,7 @@
 
 ghost use Rattle.std.specs.Prelude.{◌≡◌, ◌<◌, ◌≤◌, length, IfOk};
 ghost use Rattle.space_packet.specs.declared.range.TheConstants.{IDLE_APID};
-ghost use Rattle.pus_fields.specs.declared.writing.TheConstants.{MAX_TELECOMMAND_DATA};
-ghost use Rattle.obcp_messages.specs.Request.{HasFittingBudget, request_data};
+ghost use Rattle.ocp_lines.specs.Grammar.{IsCarried};
 ghost use Rattle.ocp_console.specs.Answering.{telecommand};
 
 use bitflags::Flags as _;
@@ -24,8 +23,7 @@ pub(crate) fn telecommand<A: Allocator + Copy>(
     request: &Request,
 ) -> Result<Vec<u8, A>, AllocError>
     requires apid { apid < IDLE_APID }
-    requires short { length (request_data profile request.now) ≤ MAX_TELECOMMAND_DATA }
-    requires fits { HasFittingBudget profile request.now }
+    requires fits { IsCarried profile request.now }
     ensures { IfOk result
         (λ packet. packet.items ≡ telecommand profile apid count flags.number request.now) }
 {

@@ -1,7 +1,7 @@
 //! A run, line by line.
 
 ghost use Rattle.std.specs.Prelude.{◌≡◌, ◌<◌, ◌≤◌, ◌⊎◌, ◌++◌, ◌∷◌, [], true, vec_len, IfOk, IfSome, length, take, slice_index};
-ghost use Rattle.ocp_console.specs.Reading.{max_lines, max_line_octets};
+ghost use Rattle.ocp_console.specs.declared.session.TheConstants.{MAX_LINES, MAX_LINE_OCTETS};
 ghost use Rattle.ocp_console.specs.Mirror.Lines.{is_one_line};
 
 use crate::console::Console;
@@ -22,8 +22,8 @@ pub(crate) struct Session<A: Allocator> {
     pub line: Vec<u8, A>,
     pub before: u32,
     pub ghost one_line: { is_one_line line.items ≡ true },
-    pub ghost short: { vec_len line ≤ max_line_octets },
-    pub ghost few: { before ≤ max_lines },
+    pub ghost short: { vec_len line ≤ MAX_LINE_OCTETS },
+    pub ghost few: { before ≤ MAX_LINES },
 }
 
 /// How many octets stand before the first newline.
@@ -57,8 +57,8 @@ impl<A: Allocator> Session<A> {
         ensures parts { IfSome result
             (λ found. octets.now ≡ found.0.now ++ 10 ∷ found.1.now) }
         ensures line { IfSome result (λ found. is_one_line found.0.now ≡ true) }
-        ensures short { IfSome result (λ found. length found.0.now ≤ max_line_octets) }
-        ensures few { IfSome result (λ _. self.now.before < max_lines) }
+        ensures short { IfSome result (λ found. length found.0.now ≤ MAX_LINE_OCTETS) }
+        ensures few { IfSome result (λ _. self.now.before < MAX_LINES) }
         ensures empty { IfSome result (λ _. self.now.line.items ≡ []) }
     {
         if self.before == MAX_LINES || !self.line.is_empty() {
@@ -77,12 +77,12 @@ impl<A: Allocator> Session<A> {
         ensures console { self.new.console ≡ self.old.console }
         ensures before { self.new.before ≡ self.old.before }
         ensures bound { IfOk result (λ count. count ≤ length octets.now) }
-        ensures room { IfOk result (λ count. 0 < count → self.old.before < max_lines) }
+        ensures room { IfOk result (λ count. 0 < count → self.old.before < MAX_LINES) }
         ensures line { IfOk result (λ count.
             self.new.line.items ≡ self.old.line.items ++ take count octets.now) }
         ensures end { IfOk result (λ count. count < length octets.now →
-            (slice_index octets.now count ≡ 10) ⊎ (self.new.before ≡ max_lines)
-            ⊎ (vec_len self.new.line ≡ max_line_octets)) }
+            (slice_index octets.now count ≡ 10) ⊎ (self.new.before ≡ MAX_LINES)
+            ⊎ (vec_len self.new.line ≡ MAX_LINE_OCTETS)) }
     {
         if self.before == MAX_LINES {
             return Ok(0);

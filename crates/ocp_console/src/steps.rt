@@ -3,7 +3,7 @@
 ghost use Rattle.std.specs.Prelude.{◌≡◌, ◌≢◌, ◌<◌, ◌≤◌, ◌+◌, ◌-◌, ◌^◌, ◌↔◌, ℕ, List, [], ◌∷◌, ◌++◌, ◌⊎◌, length, vec_len, true, Some, Ok, Err, IfOk, IsErrOf};
 ghost use Rattle.ocp_console.specs.Answering.{state_of};
 ghost use Rattle.text_lines.specs.Lines.{Line, text_of, octets_of};
-ghost use Rattle.ocp_console.specs.Reading.{max_lines, max_line_octets};
+ghost use Rattle.ocp_console.specs.declared.session.TheConstants.{MAX_LINES, MAX_LINE_OCTETS};
 ghost use Rattle.ocp_console.specs.Crew.{crew_fault};
 ghost use Rattle.ocp_console.specs.Script.{FaultLine, Writes, PrintsBy};
 ghost use Rattle.ocp_console.specs.Mirror.Session.{Answers, after_line, rest_of, rest_with, octets_so_far};
@@ -64,9 +64,9 @@ fn line_answer<W: Sink, C: Crew<Engine<A>>, A: Allocator + Copy>(
     text: &[u8],
 ) -> Result<Option<Shift>, ConsoleFault>
     requires device { W.failed_writes writer.old < 2 ^ 64 - 1 }
-    requires few { before < max_lines }
+    requires few { before < MAX_LINES }
     ensures answers { (line : Line) → text_of line ≡ text.now →
-        length (octets_of line) ≤ max_line_octets →
+        length (octets_of line) ≤ MAX_LINE_OCTETS →
         Answers (W.contents writer.old) (W.contents writer.new)
         (λ lines. Writes (C.answers _crew.now) (state_of console.old) before (line ∷ lines))
         (λ asked lines.
@@ -109,7 +109,7 @@ fn work<W: Sink, C: Crew<Engine<A>>, A: Allocator + Copy>(
 {
     match console.work(crew, shift) {
         Ok(console) => {
-            let closed = work_text(shift.workers);
+            let closed = work_text(shift.workers.number);
             write_whole(writer, closed.as_slice())?;
             Ok(console)
         }
@@ -126,8 +126,8 @@ fn feed<W: Sink, C: Crew<Engine<A>>, A: Allocator + Copy>(
     writer: &mut W,
 ) -> Result<Option<Shift>, ConsoleFault>
     requires device { W.failed_writes writer.old < 2 ^ 64 - 1 }
-    requires no_room { (octet ≡ 10) ⊎ (session.old.before ≡ max_lines)
-        ⊎ (vec_len session.old.line ≡ max_line_octets) }
+    requires no_room { (octet ≡ 10) ⊎ (session.old.before ≡ MAX_LINES)
+        ⊎ (vec_len session.old.line ≡ MAX_LINE_OCTETS) }
     ensures run { Answers (W.contents writer.old) (W.contents writer.new)
         (λ more. rest_of (C.answers crew.now) session.old (octet ∷ more))
         (λ asked more. rest_with (C.answers crew.now) session.new asked more) result }
@@ -179,10 +179,10 @@ fn pass<W: Sink, C: Crew<Engine<A>>, A: Allocator + Copy>(
     writer: &mut W,
 ) -> Result<Option<Shift>, ConsoleFault>
     requires device { W.failed_writes writer.old < 2 ^ 64 - 1 }
-    requires few { session.old.before < max_lines }
+    requires few { session.old.before < MAX_LINES }
     requires empty { session.old.line.items ≡ [] }
     requires line { is_one_line line.now ≡ true }
-    requires short { length line.now ≤ max_line_octets }
+    requires short { length line.now ≤ MAX_LINE_OCTETS }
     ensures run { Answers (W.contents writer.old) (W.contents writer.new)
         (λ more. rest_of (C.answers crew.now) session.old (line.now ++ 10 ∷ more))
         (λ asked more. rest_with (C.answers crew.now) session.new asked more) result }

@@ -169,7 +169,7 @@ pub(crate) fn journal_text<A: Allocator>(
 }
 
 /// The line of workers whose work was closed.
-pub(crate) fn work_text(workers: u16) -> Text
+pub(crate) fn work_text(workers: u32) -> Text
     ensures { result ≡ work_line workers }
 {
     let mut text = Text::new();

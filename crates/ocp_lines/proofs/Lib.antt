@@ -1,4 +1,3 @@
-mod EmptyWords
 pub mod Digits
 pub mod Hexadecimals
 pub mod NumberLists

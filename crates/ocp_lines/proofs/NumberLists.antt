@@ -1,6 +1,8 @@
 -- Numbers, one word after the other.
-use Rattle.std.proofs.Common.{◌≡◌, ◌++◌, ◌-◌, ◌^◌, ◌&&◌, List, [], ◌∷◌, ℕ, Bool, true, false, leb, cond, length, refl, sym, ap, ◌∙◌, arith, append_assoc, length-append, Option, Some, None}
+use Rattle.std.proofs.Common.{◌≡◌, ◌++◌, ◌*◌, ◌-◌, ◌^◌, ◌&&◌, List, [], ◌∷◌, ℕ, Bool, true, false, leb, cond, length, refl, sym, ap, ◌∙◌, arith, append_assoc, length-append, Option, Some, None}
 use Rattle.std.proofs.lemmas.Bool.{lt-leb}
+use Rattle.std.specs.Int.{bytes_high_first}
+use Rattle.std.specs.List.{flat_map}
 use Rattle.ocp_lines.specs.Words.{Word, number_up_to}
 use Rattle.ocp_lines.specs.Grammar.{numbers, one_to_eight, parameters_in, both}
 
@@ -36,3 +38,8 @@ more_than_eight ns n (Some ms) e =
 
 pub too_many : (words left : List Word) (word : Word) (rest : List Word) (ns : List ℕ) (n : ℕ) → numbers words ≡ behind ns (numbers left) → left ≡ word ∷ rest → Some n ≡ number_up_to (2 ^ 64 - 1) word → length ns ≡ 8 → None ≡ parameters_in words
 too_many words left word rest ns n e is value full = rw (e, is, ← value) (more_than_eight ns n (numbers rest) full)
+
+-- each word has eight octets
+pub octets_of_words : (words : List ℕ) → length (flat_map (bytes_high_first 8) words) ≡ 8 * length words
+octets_of_words [] = refl
+octets_of_words (word ∷ words) = omega (arith, octets_of_words words)

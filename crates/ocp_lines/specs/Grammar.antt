@@ -1,21 +1,19 @@
 -- The lines of a console script, and what each says.
-use Rattle.std.specs.Prelude.{ℕ, ◌-◌, ◌^◌, ◌&&◌, ◌==◌, Bool, true, false, nat_le, nat_eq, if◌then◌else◌, List, [], ◌∷◌, length, Option, Some, None, codes}
+use Rattle.std.specs.Prelude.{ℕ, ◌-◌, ◌^◌, ◌≤◌, ◌&&◌, ◌==◌, Bool, true, false, nat_le, nat_eq, if◌then◌else◌, List, [], ◌∷◌, length, Option, Some, None, codes}
 use Rattle.std.specs.List.{starts_with}
 use Rattle.std.specs.Str.{bytes_eq}
 use Rattle.std.specs.Option.{option_map}
 use Rattle.ocp_lines.specs.Words.{Word, words_of, number_up_to, octets_up_to, address_in}
 use Rattle.ocp_profile.specs.declared.profile.Profile.{Profile}
 use Rattle.ocp_profile.specs.declared.profile.Profile.TheVariants.{One, Two}
-use Rattle.obcp_messages.specs.Request.{HasFittingBudget}
+use Rattle.obcp_messages.specs.Request.{HasFittingBudget, request_data}
 use Rattle.obcp_messages.specs.declared.request.Request.{Request}
 use Rattle.obcp_messages.specs.declared.request.Request.TheVariants.{Load, Unload, Activate, Stop, Suspend, Resume, Abort, Communicate, Status}
 use Rattle.obcp_messages.specs.declared.payload.TheConstants.{MAX_ARGUMENTS_LENGTH, MAX_WORDS}
-use Rattle.ocp_lines.specs.declared.command.TheConstants.{MAX_STEPS, MAX_MEMORY_LENGTH, MAX_WORKERS, MAX_BUDGET, MAX_TURNS}
-use Rattle.ocp_lines.specs.declared.octets.TheConstants.{MAX_OCTETS_LENGTH}
+use Rattle.pus_fields.specs.declared.writing.TheConstants.{MAX_TELECOMMAND_DATA}
+use Rattle.ocp_lines.specs.declared.command.TheConstants.{MAX_OCTETS_LENGTH, MAX_STEPS, MAX_MEMORY_LENGTH, MAX_WORKERS, MAX_BUDGET, MAX_TURNS}
 use Rattle.ocp_lines.specs.declared.command.Command.{Command}
 use Rattle.ocp_lines.specs.declared.command.Command.TheVariants as command
-use Rattle.ocp_lines.specs.declared.command.Verb.{Verb}
-use Rattle.ocp_lines.specs.declared.command.Verb.TheVariants as verb
 
 -- ---- what a line can say
 
@@ -41,21 +39,10 @@ pub data Meaning : Type 0 where
   Drain : Meaning
   Work : ℕ → ℕ → ℕ → Meaning
 
-abbrev pub request_of : {A : Type 0} → Verb A → Request
-request_of (verb.Load id code) = Load id code
-request_of (verb.Unload id) = Unload id
-request_of (verb.Activate id budget arguments) = Activate id budget arguments
-request_of (verb.Stop id step) = Stop id step
-request_of (verb.Suspend id step) = Suspend id step
-request_of (verb.Resume id) = Resume id
-request_of (verb.Abort id) = Abort id
-request_of (verb.Communicate id parameters) = Communicate id parameters
-request_of verb.Status = Status
-
-abbrev pub meaning_of : {A : Type 0} → Command A → Meaning
+abbrev pub meaning_of : Command → Meaning
 meaning_of command.Nothing = Nothing
-meaning_of (command.Up octets) = Up octets
-meaning_of (command.Send flags verb) = Send flags.number (request_of verb)
+meaning_of (command.Up octets) = Up octets.now
+meaning_of (command.Send flags request) = Send flags.number request
 meaning_of (command.Time time) = Time time
 meaning_of (command.Step id steps) = Step id steps.number
 meaning_of (command.Break id place) = Break id place
@@ -67,7 +54,8 @@ meaning_of (command.Memory id address count) = Memory id address count.number
 meaning_of (command.Pool index) = Pool index
 meaning_of command.Journal = Journal
 meaning_of command.Drain = Drain
-meaning_of (command.Work shift) = Work shift.workers shift.budget shift.turns
+meaning_of (command.Work shift) =
+    Work shift.workers.number shift.budget.number shift.turns.number
 
 -- ---- how many words there are
 
@@ -181,17 +169,25 @@ load_in words =
     first_word (λ id rest.
     both (short id) (word_or_none (octets_up_to MAX_OCTETS_LENGTH) rest) Load) words
 
+-- the budget of an activation, and the words behind it: under profile Two a word says it, and under
+-- One it is 0
+abbrev pub budget_in : Profile → List Word → Option (ℕ × List Word)
+budget_in One words = Some (0, words)
+budget_in Two words = first_word (λ most rest. option_map (λ b. (b, rest)) (long most)) words
+
+-- an activation with this identifier, and with this budget and the words of its arguments
+abbrev pub activation : Option ℕ → Option (ℕ × List Word) → Option Request
+activation id None = None
+activation id (Some p) =
+    both id (word_or_none (octets_up_to MAX_ARGUMENTS_LENGTH) p.1)
+    (λ i octets. Activate i p.0 octets)
+
 -- `activate <id> [<hex>]`, and under profile Two `activate <id> <budget> [<hex>]`
 abbrev pub activate_in : Profile → List Word → Option Request
-activate_in One words = first_word (λ id rest.
-    both (short id) (word_or_none (octets_up_to MAX_ARGUMENTS_LENGTH) rest)
-    (λ i octets. Activate i 0 octets)) words
-activate_in Two words = first_word (λ id rest.
-    first_word (λ most behind.
-    three (short id) (long most) (word_or_none (octets_up_to MAX_ARGUMENTS_LENGTH) behind)
-    Activate) rest) words
+activate_in profile words =
+    first_word (λ id rest. activation (short id) (budget_in profile rest)) words
 
--- the identifier of `unload <id>`, `resume <id>` and `abort <id>`
+-- the identifier of `unload <id>`, `resume <id>` and `abort <id>`, and of `view <id>`
 abbrev pub id_in : List Word → Option ℕ
 id_in words = one_word short words
 
@@ -231,17 +227,13 @@ send_in profile words = first_word (λ ack rest.
     first_word (λ name arguments.
     both (number_up_to 15 ack) (verb_in profile name arguments) Send) rest) words
 
--- the number of `time <u32>`
-abbrev pub time_in : List Word → Option ℕ
-time_in words = one_word long words
+-- `time <u32>`
+abbrev pub time_in : List Word → Option Meaning
+time_in words = one_word (λ word. option_map Time (long word)) words
 
--- the identifier and the number of `step <id> <n>`
-abbrev pub count_in : List Word → Option (ℕ × ℕ)
-count_in words = two_words (λ id count. both (short id) (steps count) (λ i n. (i, n))) words
-
--- the identifier of `view <id>`
-abbrev pub view_in : List Word → Option ℕ
-view_in words = one_word short words
+-- `step <id> <n>`
+abbrev pub step_in : List Word → Option Meaning
+step_in words = two_words (λ id count. both (short id) (steps count) Step) words
 
 -- the identifier and the switch of `trace <id> on` and `trace <id> off`
 abbrev pub switch_in : List Word → Option (ℕ × Bool)
@@ -252,19 +244,19 @@ abbrev pub trace_in : List Word → Option Meaning
 trace_in [] = Some Traces
 trace_in (id ∷ words) = option_map (λ p. Trace p.0 p.1) (switch_in (id ∷ words))
 
--- the identifier, the address and the number of `mem <id> <address> <length>`
-abbrev pub memory_in : List Word → Option (ℕ × ℕ × ℕ)
+-- `mem <id> <address> <length>`
+abbrev pub memory_in : List Word → Option Meaning
 memory_in words = three_words (λ id address count.
-    three (short id) (address_in address) (octet_count count) (λ i a n. (i, a, n))) words
+    three (short id) (address_in address) (octet_count count) Memory) words
 
--- the index of `pool <index>`
-abbrev pub pool_in : List Word → Option ℕ
-pool_in words = one_word (number_up_to (2 ^ 64 - 1)) words
+-- `pool <index>`
+abbrev pub pool_in : List Word → Option Meaning
+pool_in words = one_word (λ word. option_map Pool (number_up_to (2 ^ 64 - 1) word)) words
 
--- the numbers of `work <workers> <budget> <turns>`
-abbrev pub work_in : List Word → Option (ℕ × ℕ × ℕ)
+-- `work <workers> <budget> <turns>`
+abbrev pub work_in : List Word → Option Meaning
 work_in words = three_words (λ workers most turns.
-    three (worker_count workers) (budget most) (turn_count turns) (λ w b t. (w, b, t))) words
+    three (worker_count workers) (budget most) (turn_count turns) Work) words
 
 -- the debugger's lines
 abbrev pub debugger_command_in : Word → List Word → Option Meaning
@@ -273,20 +265,19 @@ debugger_command_in name words =
     else if bytes_eq name (codes "unbreak") then
     option_map (λ p. Unbreak p.0 p.1) (two_shorts words)
     else if bytes_eq name (codes "trace") then trace_in words
-    else if bytes_eq name (codes "view") then option_map (λ id. View id) (view_in words)
-    else if bytes_eq name (codes "mem") then
-    option_map (λ p. Memory p.0 p.1 p.2) (memory_in words)
+    else if bytes_eq name (codes "view") then option_map (λ id. View id) (id_in words)
+    else if bytes_eq name (codes "mem") then memory_in words
     else None
 
 -- the lines without octets
 abbrev pub plain_command_in : Word → List Word → Option Meaning
 plain_command_in name words =
-    if bytes_eq name (codes "time") then option_map (λ time. Time time) (time_in words)
-    else if bytes_eq name (codes "step") then option_map (λ p. Step p.0 p.1) (count_in words)
-    else if bytes_eq name (codes "pool") then option_map (λ index. Pool index) (pool_in words)
+    if bytes_eq name (codes "time") then time_in words
+    else if bytes_eq name (codes "step") then step_in words
+    else if bytes_eq name (codes "pool") then pool_in words
     else if bytes_eq name (codes "journal") then no_word Journal words
     else if bytes_eq name (codes "drain") then no_word Drain words
-    else if bytes_eq name (codes "work") then option_map (λ p. Work p.0 p.1 p.2) (work_in words)
+    else if bytes_eq name (codes "work") then work_in words
     else debugger_command_in name words
 
 abbrev pub command_in : Profile → Word → List Word → Option Meaning
@@ -307,10 +298,20 @@ command_of profile line =
     if starts_with nat_eq line (codes "#") then Some Nothing
     else words_say profile (words_of line)
 
--- what a line of a profile can say: a request that the profile can carry
+-- a request that a telecommand of a profile can carry
+abbrev pub IsCarried : Profile → Request → Type 0
+IsCarried profile request =
+    HasFittingBudget profile request
+    × (length (request_data profile request) ≤ MAX_TELECOMMAND_DATA)
+
+-- what a line of a profile can say
 abbrev pub IsSayable : Profile → Meaning → Type 0
-IsSayable profile (Send ack request) = HasFittingBudget profile request
+IsSayable profile (Send ack request) = IsCarried profile request
 IsSayable profile _ = Unit {0}
+
+-- a command that a line of a profile can say
+abbrev pub Fits : Profile → Command → Type 0
+Fits profile command = IsSayable profile (meaning_of command)
 
 -- ---- which lines take memory: those with a word in the place of hexadecimal digits
 

@@ -3,6 +3,7 @@ use Rattle.std.specs.Prelude.{ℕ, ◌+◌, ◌*◌, ◌-◌, ◌==◌, ◌&&◌
 use Rattle.std.specs.List.{list_all, starts_with}
 use Rattle.std.specs.Result.{result_ok}
 use Rattle.hex.specs.Hex.{decode_of, hex_digit_value}
+use Rattle.ocp_lines.specs.declared.words.TheConstants.{MAX_ADDRESS_DIGITS}
 
 abbrev pub Word : Type 0
 Word = List ℕ
@@ -52,10 +53,6 @@ at_most most (Some octets) = if nat_le (length octets) most then Some octets els
 abbrev pub octets_up_to : ℕ → Word → Option (List ℕ)
 octets_up_to most word = at_most most (result_ok (decode_of word))
 
--- the most digits of an address
-abbrev pub max_address_digits : ℕ
-max_address_digits = 16
-
 -- a number with one more hexadecimal digit behind it
 abbrev pub with_digit : Option ℕ → Option ℕ → Option ℕ
 with_digit None digit = None
@@ -69,7 +66,7 @@ hexadecimal digits = fold (λ value digit. with_digit value (hex_digit_value dig
 -- the number that 1 to 16 hexadecimal digits say
 abbrev pub sixteen_digits : List ℕ → Option ℕ
 sixteen_digits digits =
-    if nat_le 1 (length digits) && nat_le (length digits) max_address_digits
+    if nat_le 1 (length digits) && nat_le (length digits) MAX_ADDRESS_DIGITS
     then hexadecimal digits else None
 
 -- an address: `0x` and 1 to 16 hexadecimal digits of both cases

@@ -1,10 +1,10 @@
 //! Pairs of hexadecimal digits, as octets.
 
-ghost use Rattle.std.specs.Prelude.{◌≡◌, ◌*◌, Ok, Some, true, length, IfOk};
+ghost use Rattle.std.specs.Prelude.{◌≡◌, ◌≢◌, ◌*◌, [], Ok, Some, true, length, IfOk, OnErr};
 ghost use Rattle.std.specs.List.{AllPass, list_all};
 ghost use Rattle.std.specs.Option.{option_map};
-ghost use Rattle.std.specs.Result.{result_ok};
 ghost use Rattle.hex.specs.Hex.{decode_of, hex_digit_value, is_hex_digit};
+ghost use Rattle.ocp_lines.specs.Words.{octets_up_to};
 
 use std::alloc::{AllocError, Allocator};
 
@@ -50,18 +50,25 @@ fn write_octets(digits: &[u8], octets: &mut [u8])
     }
 }
 
-/// The octets of a word of pairs of digits.
-pub(crate) fn decode<A: Allocator>(alloc: A, word: &[u8]) -> Result<Option<Vec<u8, A>>, AllocError>
-    ensures { IfOk result
-        (λ octets. option_map (λ vec. vec.items) octets ≡ result_ok (decode_of word.now)) }
+/// The octets that a word of pairs of digits says, where they are at most so many. They stand in
+/// the scratch vector.
+pub(crate) fn octets<'a, A: Allocator>(
+    scratch: &'a mut Vec<u8, A>,
+    word: &[u8],
+    most: usize,
+) -> Result<Option<&'a [u8]>, AllocError>
+    ensures octets { IfOk result
+        (λ octets. option_map (λ octets. octets.now) octets ≡ octets_up_to most word.now) }
+    ensures memory { OnErr result (word.now ≢ []) }
 {
-    if word.len() % 2 != 0 {
+    let count = word.len() / 2;
+    if word.len() % 2 != 0 || count > most {
         return Ok(None);
     }
     if !are_digits(word) {
         return Ok(None);
     }
-    let mut octets = vec![in alloc; 0u8; word.len() / 2]?;
-    write_octets(word, octets.as_mut_slice());
-    Ok(Some(octets))
+    scratch.resize(count, 0)?;
+    write_octets(word, scratch.as_mut_slice());
+    Ok(Some(scratch.as_slice()))
 }

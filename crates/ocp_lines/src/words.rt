@@ -2,15 +2,12 @@
 
 ghost use Rattle.std.specs.Prelude.{◌≡◌, ◌<◌, ◌≤◌, ◌^◌, ◌-◌, ◌∷◌, [], length, true, false, take, drop, slice_index, IfOk, OnErr, IfSome, IfNone, MatchOption, IsTrue, ◌↔◌, ◌≢◌, ◌⊎◌};
 ghost use Rattle.std.specs.List.{list_all};
+ghost use Rattle.std.specs.Option.{option_map};
 ghost use Rattle.hex.specs.Hex.{hex_digit_value};
-ghost use Rattle.ocp_lines.specs.Words.{words_of, is_solid, number_up_to, octets_up_to, value_of, max_address_digits, hexadecimal, address_in};
-ghost use Rattle.ocp_lines.specs.Grammar.{long, two_shorts};
-ghost use Rattle.ocp_lines.specs.declared.octets.TheConstants.{MAX_OCTETS_LENGTH};
-ghost use Rattle.obcp_messages.specs.declared.payload.TheConstants.{MAX_ARGUMENTS_LENGTH};
+ghost use Rattle.ocp_lines.specs.Words.{words_of, is_solid, number_up_to, octets_up_to, value_of, hexadecimal, address_in};
+ghost use Rattle.ocp_lines.specs.Grammar.{short, long, id_in, two_shorts, word_or_none};
 
-use crate::arguments::Arguments;
-use crate::octets::Octets;
-use crate::pairs::decode;
+use crate::pairs::octets;
 use memchr::memchr;
 use std::alloc::{AllocError, Allocator};
 
@@ -115,7 +112,7 @@ pub(crate) fn three_words(text: &[u8]) -> Option<(&[u8], &[u8], &[u8])>
 }
 
 /// The one word of a text, or the empty word where there is none.
-pub(crate) fn word_or_none(text: &[u8]) -> Option<&[u8]>
+fn word_or_none(text: &[u8]) -> Option<&[u8]>
     ensures some { IfSome result (λ word. (words_of text.now ≡ word.now ∷ [])
         ⊎ ((words_of text.now ≡ []) × (word.now ≡ []))) }
     ensures none { IfNone result (1 < length (words_of text.now)) }
@@ -150,7 +147,7 @@ pub(crate) fn number(word: &[u8], most: u64) -> Option<u64>
 
 /// The number that a word says, if it has at most 16 bits.
 pub(crate) fn short(word: &[u8]) -> Option<u16>
-    ensures { result ≡ number_up_to (2 ^ 16 - 1) word.now }
+    ensures { result ≡ short word.now }
 {
     let value = number(word, u64::from(u16::MAX))?;
     Some(value as u16)
@@ -162,6 +159,13 @@ pub(crate) fn long(word: &[u8]) -> Option<u32>
 {
     let value = number(word, u64::from(u32::MAX))?;
     Some(value as u32)
+}
+
+/// The number that the one word of a text says, if it has at most 16 bits.
+pub(crate) fn one_short(text: &[u8]) -> Option<u16>
+    ensures { result ≡ id_in (words_of text.now) }
+{
+    short(one_word(text)?)
 }
 
 /// The numbers that two words say, if each has at most 16 bits.
@@ -188,7 +192,7 @@ fn digit(octet: u8) -> Option<u8>
 
 /// The number that hexadecimal digits say.
 fn hexadecimal(digits: &[u8]) -> Option<u64>
-    requires { length digits.now ≤ max_address_digits }
+    requires { length digits.now ≤ MAX_ADDRESS_DIGITS }
     ensures { result ≡ hexadecimal digits.now }
 {
     let mut value = 0u64;
@@ -209,33 +213,19 @@ pub(crate) fn address(word: &[u8]) -> Option<u64>
     hexadecimal(digits)
 }
 
-/// The octets that a hexadecimal word says, if they are at most 65,525.
-pub(crate) fn octets<A: Allocator>(alloc: A, word: &[u8]) -> Result<Option<Octets<A>>, AllocError>
-    ensures octets { IfOk result (λ octets. octets ≡ octets_up_to MAX_OCTETS_LENGTH word.now) }
-    ensures memory { OnErr result (word.now ≢ []) }
+/// The octets that the one word of a text says, where they are at most so many. No word says none.
+/// They stand in the scratch vector.
+pub(crate) fn last_octets<'a, A: Allocator>(
+    scratch: &'a mut Vec<u8, A>,
+    text: &[u8],
+    most: usize,
+) -> Result<Option<&'a [u8]>, AllocError>
+    ensures octets { IfOk result (λ octets. option_map (λ octets. octets.now) octets ≡
+        word_or_none (octets_up_to most) (words_of text.now)) }
+    ensures memory { OnErr result (length (words_of text.now) ≡ 1) }
 {
-    if word.is_empty() {
-        return Ok(Octets::new(Vec::new(alloc)));
-    }
-    match decode(alloc, word)? {
-        Some(items) => Ok(Octets::new(items)),
-        None => Ok(None),
-    }
-}
-
-/// The octets that a hexadecimal word says, if they are at most 256.
-pub(crate) fn argument_octets<A: Allocator>(
-    alloc: A,
-    word: &[u8],
-) -> Result<Option<Arguments<A>>, AllocError>
-    ensures octets { IfOk result (λ octets. octets ≡ octets_up_to MAX_ARGUMENTS_LENGTH word.now) }
-    ensures memory { OnErr result (word.now ≢ []) }
-{
-    if word.is_empty() {
-        return Ok(Arguments::new(Vec::new(alloc)));
-    }
-    match decode(alloc, word)? {
-        Some(items) => Ok(Arguments::new(items)),
+    match word_or_none(text) {
+        Some(word) => octets(scratch, word, most),
         None => Ok(None),
     }
 }

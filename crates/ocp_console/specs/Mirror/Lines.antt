@@ -3,7 +3,8 @@ use Rattle.std.specs.Prelude.{◌≡◌, ◌≢◌, ◌<◌, ℕ, ◌==◌, Bool
 use Rattle.text_lines.specs.Lines.{Line, lines_of}
 use Rattle.ocp_ports.specs.declared.fault.ConsoleFault.{ConsoleFault}
 use Rattle.ocp_ports.specs.declared.fault.ConsoleFault.TheVariants.{Write}
-use Rattle.ocp_console.specs.Reading.{max_lines, AreShort}
+use Rattle.ocp_console.specs.Reading.{AreShort}
+use Rattle.ocp_console.specs.declared.session.TheConstants.{MAX_LINES}
 
 -- a line so far: no newline stands in it
 abbrev pub is_one_line : List ℕ → Bool
@@ -17,7 +18,7 @@ pub record HasTaken (before : ℕ) (line octets : List ℕ) : Type 0 where
   pub count : length done ≡ before
   pub short : AreShort done
   pub cut : (more : List ℕ) → lines_of (octets ++ more) ≡ done ++ lines_of (line ++ more)
-  pub room : line ≢ [] → before < max_lines
+  pub room : line ≢ [] → before < MAX_LINES
 
 -- the octets are those that were taken, and those that are left
 pub record TakesUpTo (before : ℕ) (line octets left : List ℕ) : Type 0 where

@@ -6,9 +6,10 @@ use Rattle.text_lines.specs.Lines.{Line, lines_of}
 use Rattle.ocp_lines.specs.declared.command.Shift.{Shift}
 use Rattle.ocp_ports.specs.declared.fault.ConsoleFault.{ConsoleFault}
 use Rattle.ocp_console.specs.declared.session.Session.{Session}
-use Rattle.ocp_console.specs.Answering.{State, Works, state_of}
+use Rattle.ocp_console.specs.Answering.{State, state_of}
 use Rattle.ocp_console.specs.Crew.{CrewAnswers}
-use Rattle.ocp_console.specs.Reading.{max_line_octets}
+use Rattle.ocp_console.specs.Mirror.Replies.{works_of}
+use Rattle.ocp_console.specs.declared.session.TheConstants.{MAX_LINE_OCTETS}
 use Rattle.ocp_console.specs.Script.{Writing, Goes, AtStep, Writes}
 
 -- What the run of these lines writes behind a line that was done, or whose work is still left to
@@ -17,7 +18,7 @@ abbrev pub after_line : CrewAnswers → State → ℕ → Option Shift → List 
 after_line crew state before None lines = Writes crew state before lines
 after_line crew state before (Some shift) lines =
     AtStep crew (λ next. Writes crew next before lines) state before
-    (Goes (Works shift.workers shift.budget shift.turns))
+    (Goes (works_of shift))
 
 -- what the run of what the session has of a line, and of what follows, writes
 abbrev pub rest_of : {A : Type 0} → CrewAnswers → Session A → List ℕ → Writing
@@ -30,7 +31,7 @@ rest_with crew s asked more =
 
 -- how many octets a session may have taken: it rises with each
 abbrev pub octets_so_far : {A : Type 0} → Session A → ℕ
-octets_so_far s = s.before * (max_line_octets + 1) + vec_len s.line
+octets_so_far s = s.before * (MAX_LINE_OCTETS + 1) + vec_len s.line
 
 -- A part of a script was answered: its text went out, and the rest of the run is that of what
 -- follows.

@@ -37,7 +37,8 @@ fn entries_have_seat_0_and_the_time_of_the_last_time_line(rt: HostRuntime) -> Re
         b"drain",
     ];
     for line in script {
-        let command = read_command(rt.alloc(), Profile::One, line)?.expect(
+        let mut scratch = Vec::new(rt.alloc());
+        let command = read_command(&mut scratch, Profile::One, line)?.expect(
             &rt,
             "a line of the console",
         );

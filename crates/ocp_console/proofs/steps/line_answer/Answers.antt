@@ -4,7 +4,8 @@ use Rattle.std.proofs.KnownBytes.{Appends-nil}
 use Rattle.text_lines.specs.Lines.{Line}
 use Rattle.ocp_ports.specs.declared.fault.ConsoleFault.{ConsoleFault}
 use Rattle.ocp_ports.specs.declared.fault.ConsoleFault.TheVariants as faults
-use Rattle.ocp_console.specs.Answering.{Does, Works, state_of, respond}
+use Rattle.ocp_console.specs.Answering.{Does, state_of, respond}
+use Rattle.ocp_console.specs.Mirror.Replies.{works_of}
 use Rattle.ocp_console.proofs.Runs.{cut, no_command, command_done, command_cut, command_asked}
 use Rattle.ocp_console.proofs.steps.line_answer.Goals as goal
 
@@ -52,6 +53,6 @@ returns-in-Some-Work-clause-answers g c line same short =
     let state = state_of c.args.console.now in
     let after = state_of c.answer.new.console in
     let shift = c.in-Some-Work.shift in
-    let some : respond state c.args.text.now ≡ Some (Works shift.workers shift.budget shift.turns) = rw c.in-Some-Work.field-0-is at (rw c.in-Some-Work.is at c.in_ok-answer.ensures.effect) in
+    let some : respond state c.args.text.now ≡ Some (works_of shift) = rw c.in-Some-Work.field-0-is at (rw c.in-Some-Work.is at c.in_ok-answer.ensures.effect) in
     let kept : after ≡ state = rw c.in-Some-Work.field-0-is at (rw c.in-Some-Work.is at c.in_ok-answer.ensures.kept) in
     rw c.in-Some-Work.field-0-is (command_asked (g.W.Sink.contents c.args.writer.now) crew state after c.args.before line shift c.requires.few short kept (ap (respond state) same ∙ some))

@@ -9,11 +9,11 @@ pub returns-in_err-write_whole-in-Ok-clause-run : goal.returns-in_err-write_whol
 returns-in_err-write_whole-in-Ok-clause-run g c before =
     let p = err_from_is_err_and c.from_residual.result c.from_residual.ensures.1 in
     let h = rw (c.as_slice.ensures, c.work_text-closed.ensures) at c.in_err-write_whole-in-Ok.ensures.octets in
-    rw (p.1, p.2, h.0) (work_cut (g.W.Sink.contents c.args.writer.now) (g.W.Sink.contents c.write_whole.new.writer) (g.C.Crew.answers c.args.crew.now) (state_of c.args.console) (state_of c.in-Ok.console) before c.args.shift (work_line c.args.shift.workers) faults.Write (rw c.in-Ok.is at c.work.ensures.done) tt h.1)
+    rw (p.1, p.2, h.0) (work_cut (g.W.Sink.contents c.args.writer.now) (g.W.Sink.contents c.write_whole.new.writer) (g.C.Crew.answers c.args.crew.now) (state_of c.args.console) (state_of c.in-Ok.console) before c.args.shift (work_line c.args.shift.workers.number) faults.Write (rw c.in-Ok.is at c.work.ensures.done) tt h.1)
 
 pub returns-in_ok-write_whole-in-Ok-clause-run : goal.returns-in_ok-write_whole-in-Ok-clause-run
 returns-in_ok-write_whole-in-Ok-clause-run g c before =
-    work_done (g.W.Sink.contents c.args.writer.now) (g.W.Sink.contents c.write_whole.new.writer) (g.C.Crew.answers c.args.crew.now) (state_of c.args.console) (state_of c.in-Ok.console) before c.args.shift (work_line c.args.shift.workers) (rw c.in-Ok.is at c.work.ensures.done)
+    work_done (g.W.Sink.contents c.args.writer.now) (g.W.Sink.contents c.write_whole.new.writer) (g.C.Crew.answers c.args.crew.now) (state_of c.args.console) (state_of c.in-Ok.console) before c.args.shift (work_line c.args.shift.workers.number) (rw c.in-Ok.is at c.work.ensures.done)
     (rw (c.as_slice.ensures, c.work_text-closed.ensures) at c.in_ok-write_whole-in-Ok.ensures.octets)
 
 pub returns-in-Err-clause-run : goal.returns-in-Err-clause-run
