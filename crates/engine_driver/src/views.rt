@@ -59,7 +59,10 @@ pub(crate) fn show_view(alloc: Global, view: Option<View>) -> Result<String, Fau
 
 fn show_cause(alloc: Global, cause: Cause) -> Result<String, Fault> {
     match cause {
-        Cause::Fault(number) => Ok(format!(in alloc; "Fault {number}")?),
+        Cause::Fault(fault) => {
+            let number = fault.number();
+            Ok(format!(in alloc; "Fault {number}")?)
+        }
         cause => Ok(format!(in alloc; "{cause:?}")?),
     }
 }

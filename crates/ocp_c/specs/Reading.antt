@@ -6,6 +6,7 @@ use Rattle.ocp_table.specs.declared.control.Cause.TheVariants as cause
 use Rattle.ocp_table.specs.declared.control.Pending.{Pending}
 use Rattle.ocp_table.specs.declared.control.Pending.TheVariants as pending
 use Rattle.ocp_table.specs.declared.view.View.{View}
+use Rattle.ocp_table.specs.Faults.{fault_number}
 use Rattle.ocp_debug.specs.declared.command.DebugFault.{DebugFault}
 use Rattle.ocp_c.specs.declared.status.Status.{Status}
 use Rattle.ocp_c.specs.declared.status.Status.TheVariants as status
@@ -33,14 +34,14 @@ cause_number cause.Nothing = 0
 cause_number cause.Exited = 1
 cause_number cause.Stopped = 2
 cause_number cause.Aborted = 3
-cause_number (cause.Fault number) = 4
+cause_number (cause.Fault why) = 4
 
 abbrev pub fault_of_cause : Cause → ℕ
 fault_of_cause cause.Nothing = 0
 fault_of_cause cause.Exited = 0
 fault_of_cause cause.Stopped = 0
 fault_of_cause cause.Aborted = 0
-fault_of_cause (cause.Fault number) = number
+fault_of_cause (cause.Fault why) = fault_number why
 
 abbrev pub pending_number : Pending → ℕ
 pending_number pending.Nothing = 0

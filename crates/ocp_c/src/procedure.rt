@@ -30,7 +30,7 @@ fn cause_numbers(cause: Cause) -> (u32, u32)
         Cause::Exited => (1, 0),
         Cause::Stopped => (2, 0),
         Cause::Aborted => (3, 0),
-        Cause::Fault(number) => (4, u32::from(number)),
+        Cause::Fault(fault) => (4, u32::from(fault.number())),
     }
 }
 

@@ -10,17 +10,15 @@ use Rattle.obcp_types.specs.declared.failure.StartFailure.{StartFailure}
 use Rattle.obcp_types.specs.declared.failure.StartFailure.TheVariants.{NotLoaded}
 use Rattle.obcp_types.specs.declared.status.Status.{Status}
 use Rattle.obcp_types.specs.declared.status.Status.TheVariants.{Inactive, Running, Held}
-use Rattle.bpf_step.specs.declared.answer.MachineFault.{MachineFault}
-use Rattle.bpf_step.specs.declared.answer.MachineFault.TheVariants.{AccessOutside, WriteToArguments, CallDepth}
 use Rattle.bpf_step.specs.declared.answer.Need.TheVariants as need
-use Rattle.bpf_step.specs.Machine.{Outcome, Next, Needs, NoInstruction, read, fault_number}
+use Rattle.bpf_step.specs.Machine.{Outcome, Next, Needs, NoInstruction, read}
 use Rattle.bpf_step.specs.Runs.{breaks_at}
 use Rattle.bpf_step.specs.Step.{one_step}
 use Rattle.ocp_pool.specs.declared.call.Called.{Called as Call}
 use Rattle.ocp_pool.specs.Call.{engine_call}
 use Rattle.ocp_table.specs.declared.answers.InstructionOutcome.{InstructionOutcome}
 use Rattle.ocp_table.specs.declared.answers.InstructionOutcome.TheVariants.{Broke, Ran, Called, Ended, Faulted}
-use Rattle.ocp_table.specs.declared.answers.TheConstants.{BUDGET_SPENT}
+use Rattle.ocp_table.specs.declared.fault.ProcedureFault.TheVariants.{BudgetSpent}
 use Rattle.ocp_table.specs.Budgets.{budget_of, one_less, less, is_spent}
 use Rattle.ocp_table.specs.Records.{Rec}
 use Rattle.ocp_table.specs.Effects as table
@@ -125,7 +123,7 @@ module _ (r : Rec) (pool : List ℕ) where
   abbrev of_machine : Option InstructionOutcome
   of_machine = outcome_of (one_step r.image r.machine) r.machine pool r.mailbox
 
-  able_unheld : (held spent : Bool) → is_spent r.remaining ≡ spent → IsAbleTurn (Some r) (turn_of (cond held (Some Broke) (cond spent (Some (Faulted BUDGET_SPENT)) of_machine)))
+  able_unheld : (held spent : Bool) → is_spent r.remaining ≡ spent → IsAbleTurn (Some r) (turn_of (cond held (Some Broke) (cond spent (Some (Faulted BudgetSpent)) of_machine)))
   able_unheld true spent is = tt
   able_unheld false true is = tt
   able_unheld false false is = able_of is (turn_of of_machine)
@@ -196,44 +194,39 @@ pub remains_are_counted : RemainsAreCounted
 remains_are_counted profile apid words es q r here =
     (subst (λ o. IsKeptOf o (given_budget profile apid words es q) (use_count profile apid words es q)) here (kept profile apid words es q)).counted
 
--- ---- fault 5
-
-no_fault_5 : (fault : MachineFault) → Some (Faulted (fault_number fault)) ≡ Some (Faulted 5) → ⊥
-no_fault_5 AccessOutside e = cc
-no_fault_5 WriteToArguments e = cc
-no_fault_5 CallDepth e = cc
+-- ---- the fault of a spent budget
 
 module _ (r : Rec) (pool : List ℕ) where
-  not_of_call : (c : Option Call) → Some (outcome_of_call c) ≡ Some (Faulted 5) → ⊥
+  not_of_call : (c : Option Call) → Some (outcome_of_call c) ≡ Some (Faulted BudgetSpent) → ⊥
   not_of_call (Some call) e = cc
   not_of_call None e = cc
 
-  not_of_machine : (l : Outcome) → outcome_of l r.machine pool r.mailbox ≡ Some (Faulted 5) → ⊥
+  not_of_machine : (l : Outcome) → outcome_of l r.machine pool r.mailbox ≡ Some (Faulted BudgetSpent) → ⊥
   not_of_machine (Next s) e = cc
   not_of_machine (Needs need.LastExit) e = cc
-  not_of_machine (Needs (need.Fault fault)) e = no_fault_5 fault e
+  not_of_machine (Needs (need.Fault fault)) e = cc
   not_of_machine (Needs (need.Call number)) e = not_of_call (engine_call number (read r.machine 1) (read r.machine 2) (read r.machine 3) pool r.mailbox) e
   not_of_machine NoInstruction e = cc
 
-  finds_by : (held spent : Bool) → cond held (Some Broke) (cond spent (Some (Faulted BUDGET_SPENT)) (of_machine r pool)) ≡ Some (Faulted 5) → (held ≡ false) × (spent ≡ true)
+  finds_by : (held spent : Bool) → cond held (Some Broke) (cond spent (Some (Faulted BudgetSpent)) (of_machine r pool)) ≡ Some (Faulted BudgetSpent) → (held ≡ false) × (spent ≡ true)
   finds_by true spent e = cc
   finds_by false true e = (refl, refl)
   finds_by false false e = absurd (not_of_machine (one_step r.image r.machine) e)
 
-finds : (o : Option Rec) (pool : List ℕ) → IsNext o pool (Faulted 5) → FindsNothing o
+finds : (o : Option Rec) (pool : List ℕ) → IsNext o pool (Faulted BudgetSpent) → FindsNothing o
 finds o pool is =
     let found = finds_by is.rec pool (breaks_at is.rec.control.pass is.rec.breakpoints is.rec.machine.place) (is_spent is.rec.remaining) is.next in
     record { rec = is.rec; is = is.is; runs = is.runs; passes = found.0; spent = found.1 }
 
-faults : (o : Option Rec) (pool : List ℕ) → FindsNothing o → IsNext o pool (Faulted 5)
+faults : (o : Option Rec) (pool : List ℕ) → FindsNothing o → IsNext o pool (Faulted BudgetSpent)
 faults o pool is = record {
   rec = is.rec;
   is = is.is;
   runs = is.runs;
-  next = ap (λ b. cond b (Some Broke) (outcome_unheld is.rec pool)) is.passes ∙ ap (λ b. cond b (Some (Faulted BUDGET_SPENT)) (of_machine is.rec pool)) is.spent;
+  next = ap (λ b. cond b (Some Broke) (outcome_unheld is.rec pool)) is.passes ∙ ap (λ b. cond b (Some (Faulted BudgetSpent)) (of_machine is.rec pool)) is.spent;
 }
 
 pub faults_spent : FaultsSpent
 faults_spent profile apid words es by id =
     let w = replay profile apid words es in
-    ((λ does. finds (get w.records id) w.pool (next_of w by id (Faulted 5) does)), (λ is. does_next w by id (Faulted 5) (faults (get w.records id) w.pool is)))
+    ((λ does. finds (get w.records id) w.pool (next_of w by id (Faulted BudgetSpent) does)), (λ is. does_next w by id (Faulted BudgetSpent) (faults (get w.records id) w.pool is)))

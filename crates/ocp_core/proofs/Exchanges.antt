@@ -23,7 +23,7 @@ use Rattle.ocp_pool.specs.declared.call.Called.{Called as Call}
 use Rattle.ocp_pool.specs.Call.{engine_call}
 use Rattle.ocp_table.specs.declared.answers.InstructionOutcome.{InstructionOutcome}
 use Rattle.ocp_table.specs.declared.answers.InstructionOutcome.TheVariants.{Broke, Ran, Called, Ended, Faulted}
-use Rattle.ocp_table.specs.declared.answers.TheConstants.{BUDGET_SPENT}
+use Rattle.ocp_table.specs.declared.fault.ProcedureFault.TheVariants.{BudgetSpent}
 use Rattle.ocp_table.specs.Budgets.{is_spent}
 use Rattle.ocp_table.specs.Records.{Rec, Records}
 use Rattle.ocp_table.specs.Effects.{Stepped, records_by, pool_by, dues_by, dues_of, outbox_by, step_outcome}
@@ -159,7 +159,7 @@ stable_outcome id (Needs (need.Call number)) r p p' quiet = stable_call id (engi
 stable_outcome id NoInstruction r p p' quiet = refl
 
 -- a spent budget is a fault whatever the pool
-stable_unheld : (id : ℕ) (b : Bool) (r : Rec) (p p' : List ℕ) → IsQuiet id (turn_of (cond b (Some (Faulted BUDGET_SPENT)) (outcome_of (one_step r.image r.machine) r.machine p r.mailbox))) → turn_of (cond b (Some (Faulted BUDGET_SPENT)) (outcome_of (one_step r.image r.machine) r.machine p' r.mailbox)) ≡ turn_of (cond b (Some (Faulted BUDGET_SPENT)) (outcome_of (one_step r.image r.machine) r.machine p r.mailbox))
+stable_unheld : (id : ℕ) (b : Bool) (r : Rec) (p p' : List ℕ) → IsQuiet id (turn_of (cond b (Some (Faulted BudgetSpent)) (outcome_of (one_step r.image r.machine) r.machine p r.mailbox))) → turn_of (cond b (Some (Faulted BudgetSpent)) (outcome_of (one_step r.image r.machine) r.machine p' r.mailbox)) ≡ turn_of (cond b (Some (Faulted BudgetSpent)) (outcome_of (one_step r.image r.machine) r.machine p r.mailbox))
 stable_unheld id true r p p' quiet = refl
 stable_unheld id false r p p' quiet = stable_outcome id (one_step r.image r.machine) r p p' quiet
 

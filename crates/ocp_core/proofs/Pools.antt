@@ -5,19 +5,18 @@ use Rattle.std.specs.FinMap.{get}
 use Rattle.std.proofs.lemmas.Bool.{eqb-true}
 use Rattle.std.proofs.lemmas.Option.{slice_get_past, slice_get_cases, slice_get_within, slice_get-get_or, get_or_from_slice_get}
 use Rattle.std.proofs.lemmas.List.{get_or-set_same, length-set}
-use Rattle.bpf_step.specs.declared.answer.MachineFault.{MachineFault}
-use Rattle.bpf_step.specs.declared.answer.MachineFault.TheVariants.{AccessOutside, WriteToArguments, CallDepth}
 use Rattle.bpf_step.specs.declared.answer.Need.TheVariants as need
-use Rattle.bpf_step.specs.Machine.{Outcome, Next, Needs, NoInstruction, read, fault_number}
+use Rattle.bpf_step.specs.Machine.{Outcome, Next, Needs, NoInstruction, read}
 use Rattle.bpf_step.specs.Runs.{breaks_at}
 use Rattle.bpf_step.specs.Step.{one_step}
 use Rattle.ocp_pool.specs.declared.call.Called.{Called as Call}
+use Rattle.ocp_pool.specs.declared.call.PoolFault.TheVariants.{BadPoolIndex}
 use Rattle.ocp_pool.specs.declared.call.Called.TheVariants.{NextParam, StepEnd}
 use Rattle.ocp_pool.specs.declared.call.PoolOperation.{PoolOperation}
 use Rattle.ocp_pool.specs.Call.{engine_call, pool_get, pool_set, pool_add, pool_compare_set, pool_with, pool_after_operation}
 use Rattle.ocp_table.specs.declared.answers.InstructionOutcome.{InstructionOutcome}
 use Rattle.ocp_table.specs.declared.answers.InstructionOutcome.TheVariants.{Broke, Called, Faulted}
-use Rattle.ocp_table.specs.declared.answers.TheConstants.{BUDGET_SPENT}
+use Rattle.ocp_table.specs.declared.fault.ProcedureFault.TheVariants.{BudgetSpent, Pool}
 use Rattle.ocp_table.specs.Budgets.{is_spent}
 use Rattle.ocp_table.specs.Records.{Rec}
 use Rattle.ocp_table.specs.Effects.{Effect, Changed, Change, Stepped, pool_by, pool_by_change, pool_by_outcome}
@@ -81,15 +80,15 @@ module _ (r : Rec) (pool : List ℕ) where
     abbrev IsOfMachine : Type 0
     IsOfMachine = (breaks_at r.control.pass r.breakpoints r.machine.place ≡ false) × (is_spent r.remaining ≡ false) × (result ≡ Some outcome)
 
-    unspent : (b : Bool) → is_spent r.remaining ≡ b → (Some (Faulted BUDGET_SPENT) ≡ Some outcome → ⊥) → cond b (Some (Faulted BUDGET_SPENT)) result ≡ Some outcome → (is_spent r.remaining ≡ false) × (result ≡ Some outcome)
+    unspent : (b : Bool) → is_spent r.remaining ≡ b → (Some (Faulted BudgetSpent) ≡ Some outcome → ⊥) → cond b (Some (Faulted BudgetSpent)) result ≡ Some outcome → (is_spent r.remaining ≡ false) × (result ≡ Some outcome)
     unspent true is differs e = absurd (differs e)
     unspent false is differs e = (is, e)
 
-    not_held : (b : Bool) → breaks_at r.control.pass r.breakpoints r.machine.place ≡ b → (Some Broke ≡ Some outcome → ⊥) → (Some (Faulted BUDGET_SPENT) ≡ Some outcome → ⊥) → cond b (Some Broke) (outcome_unheld r pool) ≡ Some outcome → IsOfMachine
+    not_held : (b : Bool) → breaks_at r.control.pass r.breakpoints r.machine.place ≡ b → (Some Broke ≡ Some outcome → ⊥) → (Some (Faulted BudgetSpent) ≡ Some outcome → ⊥) → cond b (Some Broke) (outcome_unheld r pool) ≡ Some outcome → IsOfMachine
     not_held true is differs differs_spent e = absurd (differs e)
     not_held false is differs differs_spent e = let here = unspent (is_spent r.remaining) refl differs_spent e in (is, here.0, here.1)
 
-    of_machine : (Some Broke ≡ Some outcome → ⊥) → (Some (Faulted BUDGET_SPENT) ≡ Some outcome → ⊥) → outcome_in r pool ≡ Some outcome → IsOfMachine
+    of_machine : (Some Broke ≡ Some outcome → ⊥) → (Some (Faulted BudgetSpent) ≡ Some outcome → ⊥) → outcome_in r pool ≡ Some outcome → IsOfMachine
     of_machine differs differs_spent e = not_held (breaks_at r.control.pass r.breakpoints r.machine.place) refl differs differs_spent e
 
   abbrev answer_of : ℤ → Option Call
@@ -230,30 +229,25 @@ module _ (r1 r2 r3 : ℕ) (pool mailbox : List ℕ) where
       none_by (k == 1) (k == 2) (k == 3) (k == 4) (k == 6) (λ four. subst (λ n. (n == 6) ≡ false) (sym (eqb-true k 4 four)) refl) is.of_pool is.none
 
 module _ (r : Rec) (pool : List ℕ) where
-  no_fault_4 : (fault : MachineFault) → Some (Faulted (fault_number fault)) ≡ Some (Faulted 4) → ⊥
-  no_fault_4 AccessOutside e = cc
-  no_fault_4 WriteToArguments e = cc
-  no_fault_4 CallDepth e = cc
-
-  outside_call : (c : Option Call) → Some (outcome_of_call c) ≡ Some (Faulted 4) → c ≡ None
+  outside_call : (c : Option Call) → Some (outcome_of_call c) ≡ Some (Faulted (Pool BadPoolIndex)) → c ≡ None
   outside_call (Some call) e = cc
   outside_call None e = refl
 
-  outside_need : (l : Outcome) → outcome_of l r.machine pool r.mailbox ≡ Some (Faulted 4) → (number : ℤ) × (l ≡ Needs (need.Call number)) × (answer_of r pool number ≡ None)
+  outside_need : (l : Outcome) → outcome_of l r.machine pool r.mailbox ≡ Some (Faulted (Pool BadPoolIndex)) → (number : ℤ) × (l ≡ Needs (need.Call number)) × (answer_of r pool number ≡ None)
   outside_need (Next s) e = cc
   outside_need (Needs need.LastExit) e = cc
-  outside_need (Needs (need.Fault fault)) e = absurd (no_fault_4 fault e)
+  outside_need (Needs (need.Fault fault)) e = cc
   outside_need (Needs (need.Call number)) e = (number, refl, outside_call (answer_of r pool number) e)
   outside_need NoInstruction e = cc
 
-outside : (o : Option Rec) (pool : List ℕ) → IsNext o pool (Faulted 4) → IsOutside o pool
+outside : (o : Option Rec) (pool : List ℕ) → IsNext o pool (Faulted (Pool BadPoolIndex)) → IsOutside o pool
 outside o pool is =
-    let of : IsOfMachine is.rec pool (Faulted 4) = of_machine is.rec pool (Faulted 4) (λ e. cc) (λ e. cc) is.next in
+    let of : IsOfMachine is.rec pool (Faulted (Pool BadPoolIndex)) = of_machine is.rec pool (Faulted (Pool BadPoolIndex)) (λ e. cc) (λ e. cc) is.next in
     let found = outside_need is.rec pool (one_step is.rec.image is.rec.machine) of.2 in
     let none = finds_none (read is.rec.machine 1) (read is.rec.machine 2) (read is.rec.machine 3) pool is.rec.mailbox found.0 found.2 in
     record { number = found.0; calls = record { rec = is.rec; is = is.is; runs = is.runs; passes = of.0; unspent = of.1; calls = found.1 }; of_pool = none.of_pool; outside = past pool (read is.rec.machine 1) none.none }
 
-faults : (o : Option Rec) (pool : List ℕ) → IsOutside o pool → IsNext o pool (Faulted 4)
+faults : (o : Option Rec) (pool : List ℕ) → IsOutside o pool → IsNext o pool (Faulted (Pool BadPoolIndex))
 faults o pool is =
     let r = is.calls.rec in
     let none : answer_of r pool is.number ≡ None = gives_none (read r.machine 1) (read r.machine 2) (read r.machine 3) pool r.mailbox is.number (record { of_pool = is.of_pool; none = slice_get_past pool (read r.machine 1) is.outside }) in
@@ -261,11 +255,11 @@ faults o pool is =
       rec = r;
       is = is.calls.is;
       runs = is.calls.runs;
-      next = ap (λ b. cond b (Some Broke) (outcome_unheld r pool)) is.calls.passes ∙ ap (λ b. cond b (Some (Faulted BUDGET_SPENT)) (outcome_of (one_step r.image r.machine) r.machine pool r.mailbox)) is.calls.unspent ∙ ap (λ l. outcome_of l r.machine pool r.mailbox) is.calls.calls ∙ ap (λ c. Some (outcome_of_call c)) none;
+      next = ap (λ b. cond b (Some Broke) (outcome_unheld r pool)) is.calls.passes ∙ ap (λ b. cond b (Some (Faulted BudgetSpent)) (outcome_of (one_step r.image r.machine) r.machine pool r.mailbox)) is.calls.unspent ∙ ap (λ l. outcome_of l r.machine pool r.mailbox) is.calls.calls ∙ ap (λ c. Some (outcome_of_call c)) none;
     }
 
 pub faults_outside : FaultsOutside
 faults_outside profile apid words es by id =
     let w = replay profile apid words es in
-    subst (λ p. Does w by id (Faulted 4) ↔ IsOutside (get w.records id) p) (pool_is profile apid words es)
-    ((λ does. outside (get w.records id) w.pool (next_of w by id (Faulted 4) does)), (λ is. does_next w by id (Faulted 4) (faults (get w.records id) w.pool is)))
+    subst (λ p. Does w by id (Faulted (Pool BadPoolIndex)) ↔ IsOutside (get w.records id) p) (pool_is profile apid words es)
+    ((λ does. outside (get w.records id) w.pool (next_of w by id (Faulted (Pool BadPoolIndex)) does)), (λ is. does_next w by id (Faulted (Pool BadPoolIndex)) (faults (get w.records id) w.pool is)))

@@ -7,6 +7,7 @@ use Rattle.obcp_types.specs.declared.status.Status.TheVariants.{Running}
 use Rattle.bpf_step.specs.Runs.{breaks_at}
 use Rattle.ocp_table.specs.declared.answers.InstructionOutcome.TheVariants.{Faulted}
 use Rattle.ocp_table.specs.declared.answers.StepOutcome.TheVariants as outcome
+use Rattle.ocp_table.specs.declared.fault.ProcedureFault.TheVariants.{BudgetSpent}
 use Rattle.ocp_table.specs.Budgets.{budget_of, less, is_spent}
 use Rattle.ocp_table.specs.Records.{Rec}
 use Rattle.ocp_table.specs.Effects.{Effect, Loaded, Unloaded, Changed, Started}
@@ -88,9 +89,9 @@ pub record FindsNothing (o : Option Rec) : Type 0 where
   pub passes : breaks_at rec.control.pass rec.breakpoints rec.machine.place ≡ false
   pub spent : is_spent rec.remaining ≡ true
 
--- the law: fault 5 is that of a spent budget, and of nothing else
+-- the law: BudgetSpent is the fault of a spent budget, and of nothing else
 abbrev pub FaultsSpent : Type 0
 FaultsSpent =
     (profile : Profile) (apid words : ℕ) (es : List Event) (by id : ℕ) →
     let w = replay profile apid words es in
-    Does w by id (Faulted 5) ↔ FindsNothing (get w.records id)
+    Does w by id (Faulted BudgetSpent) ↔ FindsNothing (get w.records id)

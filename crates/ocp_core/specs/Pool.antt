@@ -10,9 +10,11 @@ use Rattle.ocp_pool.specs.declared.call.Called.{Called as Call}
 use Rattle.ocp_pool.specs.declared.call.Called.TheVariants.{PoolGet, PoolSet, PoolAdd, PoolCompareSet}
 use Rattle.ocp_pool.specs.declared.call.PoolOperation.{PoolOperation}
 use Rattle.ocp_pool.specs.declared.call.PoolOperation.TheVariants.{Add}
+use Rattle.ocp_pool.specs.declared.call.PoolFault.TheVariants.{BadPoolIndex}
 use Rattle.ocp_pool.specs.Call.{engine_call, operation_of, pool_with}
 use Rattle.ocp_table.specs.declared.answers.InstructionOutcome.{InstructionOutcome}
 use Rattle.ocp_table.specs.declared.answers.InstructionOutcome.TheVariants.{Called, Faulted}
+use Rattle.ocp_table.specs.declared.fault.ProcedureFault.TheVariants as fault
 use Rattle.ocp_table.specs.Budgets.{is_spent}
 use Rattle.ocp_table.specs.Records.{Rec}
 use Rattle.ocp_table.specs.Effects.{Effect, Changed, Change, Stepped}
@@ -117,10 +119,10 @@ pub record IsOutside (o : Option Rec) (pool : List ℕ) : Type 0 where
   pub of_pool : is_pool_call (unsigned_abs number) ≡ true
   pub outside : length pool ≤ read calls.rec.machine 1
 
--- the law: fault 4 is that of such a call, and of nothing else
+-- the law: BadPoolIndex is the fault of such a call, and of nothing else
 abbrev pub FaultsOutside : Type 0
 FaultsOutside =
     (profile : Profile) (apid words : ℕ) (es : List Event) (by id : ℕ) →
     let w = replay profile apid words es in
-    Does w by id (Faulted 4) ↔
+    Does w by id (Faulted (fault.Pool BadPoolIndex)) ↔
     IsOutside (get w.records id) (pool_after words (operations profile apid words es))

@@ -11,6 +11,7 @@ use Rattle.ocp_table.specs.declared.control.Cause.TheVariants as cause
 use Rattle.ocp_table.specs.declared.control.Pending.{Pending}
 use Rattle.ocp_table.specs.declared.control.Pending.TheVariants as pending
 use Rattle.ocp_table.specs.declared.view.View.{View}
+use Rattle.ocp_table.specs.Faults.{fault_number}
 use Rattle.ocp_table.specs.declared.answers.StepOutcome.{StepOutcome}
 use Rattle.ocp_table.specs.declared.answers.StepOutcome.TheVariants as outcome
 use Rattle.ocp_debug.specs.declared.command.DebugFault.{DebugFault}
@@ -33,7 +34,7 @@ cause_text cause.Nothing = codes "none"
 cause_text cause.Exited = codes "exited"
 cause_text cause.Stopped = codes "stopped"
 cause_text cause.Aborted = codes "aborted"
-cause_text (cause.Fault number) = codes "fault" ++ decimal number
+cause_text (cause.Fault why) = codes "fault" ++ decimal (fault_number why)
 
 abbrev pub pending_text : Pending → List ℕ
 pending_text pending.Nothing = codes "none"

@@ -121,9 +121,9 @@ impl Text {
             Cause::Exited => self.push_all(b"exited"),
             Cause::Stopped => self.push_all(b"stopped"),
             Cause::Aborted => self.push_all(b"aborted"),
-            Cause::Fault(number) => {
+            Cause::Fault(fault) => {
                 self.push_all(b"fault");
-                self.push_number(number);
+                self.push_number(fault.number());
             }
         }
     }

@@ -18,7 +18,7 @@ use Rattle.bpf_step.specs.Step.{step, step_of, one_step, Gives}
 use Rattle.ocp_pool.specs.Call.{engine_call}
 use Rattle.ocp_table.specs.declared.answers.InstructionOutcome.{InstructionOutcome}
 use Rattle.ocp_table.specs.declared.answers.InstructionOutcome.TheVariants.{Broke, Faulted}
-use Rattle.ocp_table.specs.declared.answers.TheConstants.{BUDGET_SPENT}
+use Rattle.ocp_table.specs.declared.fault.ProcedureFault.TheVariants.{BudgetSpent}
 use Rattle.ocp_table.specs.Budgets.{is_spent}
 use Rattle.ocp_table.specs.Records.{Rec}
 use Rattle.bpf_step.specs.Runs.{breaks_at}
@@ -75,9 +75,9 @@ needs_kept asked old new (Needs found) given = given.1
 -- with breakpoints or without
 pub able_in : (r : Rec) (pool : List ℕ) → IsSome (outcome_of (one_step r.image r.machine) r.machine pool r.mailbox) → IsSome (outcome_in r pool)
 able_in r pool able =
-    elim (breaks_at r.control.pass r.breakpoints r.machine.place) as (λ b. IsSome (cond {A = Option InstructionOutcome} b (Some Broke) (cond (is_spent r.remaining) (Some (Faulted BUDGET_SPENT)) (outcome_of (one_step r.image r.machine) r.machine pool r.mailbox)))) [
+    elim (breaks_at r.control.pass r.breakpoints r.machine.place) as (λ b. IsSome (cond {A = Option InstructionOutcome} b (Some Broke) (cond (is_spent r.remaining) (Some (Faulted BudgetSpent)) (outcome_of (one_step r.image r.machine) r.machine pool r.mailbox)))) [
       | true ↦ refl
-      | false ↦ elim (is_spent r.remaining) as (λ b. IsSome (cond {A = Option InstructionOutcome} b (Some (Faulted BUDGET_SPENT)) (outcome_of (one_step r.image r.machine) r.machine pool r.mailbox))) [
+      | false ↦ elim (is_spent r.remaining) as (λ b. IsSome (cond {A = Option InstructionOutcome} b (Some (Faulted BudgetSpent)) (outcome_of (one_step r.image r.machine) r.machine pool r.mailbox))) [
         | true ↦ refl
         | false ↦ able
       ]

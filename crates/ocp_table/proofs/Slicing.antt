@@ -19,7 +19,7 @@ use Rattle.ocp_table.specs.declared.answers.StepOutcome.{StepOutcome}
 use Rattle.ocp_table.specs.declared.answers.StepOutcome.TheVariants as S
 use Rattle.ocp_table.specs.declared.answers.InstructionOutcome.{InstructionOutcome}
 use Rattle.ocp_table.specs.declared.answers.InstructionOutcome.TheVariants.{Broke, Ran, Faulted}
-use Rattle.ocp_table.specs.declared.answers.TheConstants.{BUDGET_SPENT}
+use Rattle.ocp_table.specs.declared.fault.ProcedureFault.TheVariants.{BudgetSpent}
 use Rattle.ocp_table.specs.Budgets.{one_less, less, is_spent, IsWithin}
 use Rattle.ocp_table.specs.Records.{Rec, Records}
 use Rattle.ocp_table.specs.Effects.{Effect, Changed, Kept, Stepped, Failed, without_pass, records_by, outbox_by, dues_of, pool_by, record_after, with_change, machine_after, step_outcome}
@@ -93,11 +93,11 @@ ran_of NoInstruction s t pool mailbox h = absurd (cc)
 
 ran_in : (r : Rec) (pool : List ℕ) (t : State) → is_spent r.remaining ≡ false → local_next r.image r.breakpoints r.control.pass r.machine ≡ Some t → (outcome_in r pool ≡ Some Ran) × (machine_after (one_step r.image r.machine) r.machine ≡ t)
 ran_in r pool t left h =
-    elim (breaks_at r.control.pass r.breakpoints r.machine.place) as (λ b. cond b None (next_of (one_step r.image r.machine)) ≡ Some t → (cond {A = Option InstructionOutcome} b (Some Broke) (cond (is_spent r.remaining) (Some (Faulted BUDGET_SPENT)) (outcome_of (one_step r.image r.machine) r.machine pool r.mailbox)) ≡ Some Ran) × (machine_after (one_step r.image r.machine) r.machine ≡ t)) [
+    elim (breaks_at r.control.pass r.breakpoints r.machine.place) as (λ b. cond b None (next_of (one_step r.image r.machine)) ≡ Some t → (cond {A = Option InstructionOutcome} b (Some Broke) (cond (is_spent r.remaining) (Some (Faulted BudgetSpent)) (outcome_of (one_step r.image r.machine) r.machine pool r.mailbox)) ≡ Some Ran) × (machine_after (one_step r.image r.machine) r.machine ≡ t)) [
       | true ↦ λ k. absurd (cc)
       | false ↦ λ k.
           let ran = ran_of (one_step r.image r.machine) r.machine t pool r.mailbox k in
-          (ap (λ b. cond {A = Option InstructionOutcome} b (Some (Faulted BUDGET_SPENT)) (outcome_of (one_step r.image r.machine) r.machine pool r.mailbox)) left ∙ ran.0, ran.1)
+          (ap (λ b. cond {A = Option InstructionOutcome} b (Some (Faulted BudgetSpent)) (outcome_of (one_step r.image r.machine) r.machine pool r.mailbox)) left ∙ ran.0, ran.1)
     ] h
 
 -- the record after it

@@ -11,15 +11,14 @@ use Rattle.ocp_loader.specs.declared.fault.LoadFault.{LoadFault}
 use Rattle.ocp_loader.specs.FaultNumbers.{number_of, slot_of}
 use Rattle.ocp_loader.specs.LoadResult.{load_result}
 use Rattle.bpf_step.specs.declared.answer.Need.TheVariants as need
-use Rattle.bpf_step.specs.Machine.{State, Outcome, Next, Needs, NoInstruction, read, fault_number}
+use Rattle.bpf_step.specs.Machine.{State, Outcome, Next, Needs, NoInstruction, read}
 use Rattle.bpf_step.specs.Step.{one_step}
 use Rattle.bpf_step.specs.Runs.{breaks_at}
 use Rattle.ocp_pool.specs.declared.call.Called.{Called as Call}
 use Rattle.ocp_pool.specs.declared.call.PoolFault.TheVariants.{BadPoolIndex}
 use Rattle.ocp_pool.specs.Call.{engine_call}
-use Rattle.ocp_pool.specs.Call as pool
 use Rattle.ocp_table.specs.declared.table.TheConstants.{MAX_PROCEDURES}
-use Rattle.ocp_table.specs.declared.answers.TheConstants.{BUDGET_SPENT}
+use Rattle.ocp_table.specs.declared.fault.ProcedureFault.TheVariants.{Machine, Pool, BudgetSpent}
 use Rattle.ocp_table.specs.declared.control.Pending.{Pending}
 use Rattle.ocp_table.specs.declared.control.Pending.TheVariants as pending
 use Rattle.ocp_table.specs.declared.answers.InstructionOutcome.{InstructionOutcome}
@@ -50,14 +49,14 @@ effect_of_load false (Err fault) profile id image = Kept (Failed (bad_code fault
 -- what an engine call is for its procedure: one that finds no word of the pool is a fault
 abbrev pub outcome_of_call : Option Call → InstructionOutcome
 outcome_of_call (Some call) = Called call
-outcome_of_call None = Faulted (pool.fault_number BadPoolIndex)
+outcome_of_call None = Faulted (Pool BadPoolIndex)
 
 -- what the outcome of a machine is for its procedure. A place without an instruction has none: no
 -- procedure of a table stands there, since it does not come in an image that may be run.
 abbrev pub outcome_of : Outcome → State → List ℕ → List ℕ → Option InstructionOutcome
 outcome_of (Next s) machine pool mailbox = Some Ran
 outcome_of (Needs need.LastExit) machine pool mailbox = Some Ended
-outcome_of (Needs (need.Fault fault)) machine pool mailbox = Some (Faulted (fault_number fault))
+outcome_of (Needs (need.Fault fault)) machine pool mailbox = Some (Faulted (Machine fault))
 outcome_of (Needs (need.Call number)) machine pool mailbox =
     Some (outcome_of_call
     (engine_call number (read machine 1) (read machine 2) (read machine 3) pool mailbox))
@@ -66,7 +65,7 @@ outcome_of NoInstruction machine pool mailbox = None
 -- where nothing is left of the budget, that is a fault, and else the instruction is done
 abbrev pub outcome_unheld : Rec → List ℕ → Option InstructionOutcome
 outcome_unheld r pool =
-    if is_spent r.remaining then Some (Faulted BUDGET_SPENT)
+    if is_spent r.remaining then Some (Faulted BudgetSpent)
     else outcome_of (one_step r.image r.machine) r.machine pool r.mailbox
 
 -- a breakpoint that stands at the place holds the procedure before that, unless the pass flag is on

@@ -28,6 +28,7 @@ use Rattle.ocp_table.specs.declared.answers.InstructionOutcome.TheVariants.{Brok
 use Rattle.ocp_table.specs.declared.answers.StepOutcome.{StepOutcome}
 use Rattle.ocp_table.specs.declared.answers.StepOutcome.TheVariants as step
 use Rattle.ocp_table.specs.Records.{Rec, Records}
+use Rattle.ocp_table.specs.Faults.{fault_number}
 use Rattle.ocp_table.specs.Budgets.{budget_of, one_less}
 
 -- what an event does to the record of its procedure: it is started with a budget (0 is none) and
@@ -126,7 +127,7 @@ control_by_outcome Broke c = control_on_hold c.pending c
 control_by_outcome Ran c = without_pass c
 control_by_outcome (Called call) c = control_by_call call c
 control_by_outcome Ended c = inactive cause.Exited
-control_by_outcome (Faulted number) c = inactive (cause.Fault number)
+control_by_outcome (Faulted fault) c = inactive (cause.Fault fault)
 
 abbrev pub control_by : Change → Control → Control
 control_by (Started budget arguments) c = running
@@ -167,7 +168,7 @@ remaining_by_outcome Broke remaining = remaining
 remaining_by_outcome Ran remaining = one_less remaining
 remaining_by_outcome (Called call) remaining = one_less remaining
 remaining_by_outcome Ended remaining = one_less remaining
-remaining_by_outcome (Faulted number) remaining = remaining
+remaining_by_outcome (Faulted fault) remaining = remaining
 
 -- a start alone sets the budget, and instructions alone take from it
 abbrev pub remaining_by : Change → Option ℕ → Option ℕ
@@ -245,7 +246,7 @@ dues_by_outcome Broke pending = []
 dues_by_outcome Ran pending = []
 dues_by_outcome (Called call) pending = dues_by_call call pending
 dues_by_outcome Ended pending = failed_completion pending
-dues_by_outcome (Faulted number) pending = failed_completion pending
+dues_by_outcome (Faulted fault) pending = failed_completion pending
 
 -- a stop or suspend that is replaced, or whose procedure becomes inactive, is overtaken
 abbrev pub dues_by_change : Change → Pending → List Due
@@ -327,7 +328,7 @@ step_outcome_of Broke = step.Broke
 step_outcome_of Ran = step.Ran
 step_outcome_of (Called call) = step.Called
 step_outcome_of Ended = step.Ended
-step_outcome_of (Faulted number) = step.Faulted number
+step_outcome_of (Faulted fault) = step.Faulted (fault_number fault)
 
 -- the answer to an instruction event: where none is done, the procedure is not loaded or does not
 -- run

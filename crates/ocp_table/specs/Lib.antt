@@ -1,5 +1,6 @@
 pub mod Budgets
 pub mod Records
+pub mod Faults
 pub mod Outbox
 pub mod Effects
 pub mod RequestTable

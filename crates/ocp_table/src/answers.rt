@@ -1,10 +1,7 @@
 //! What became of an event of a procedure.
+use crate::ProcedureFault;
 use obcp_types::StartFailure;
 use ocp_pool::Called;
-
-/// The number of the fault of a procedure whose budget is spent, after those of the machine and of
-/// the engine calls.
-pub const BUDGET_SPENT: u8 = 5;
 
 /// What an instruction event did to a running procedure.
 #[derive(Clone, Copy)]
@@ -16,8 +13,8 @@ pub enum InstructionOutcome {
     Called(Called),
     /// The last exit: the procedure is inactive.
     Ended,
-    /// The number of the fault: the procedure is inactive.
-    Faulted(u8),
+    /// A fault: the procedure is inactive.
+    Faulted(ProcedureFault),
 }
 
 /// What became of an instruction event. The last three change nothing, and come in this order. A
@@ -70,7 +67,7 @@ impl StepOutcome {
             InstructionOutcome::Ran => StepOutcome::Ran,
             InstructionOutcome::Called(_) => StepOutcome::Called,
             InstructionOutcome::Ended => StepOutcome::Ended,
-            InstructionOutcome::Faulted(number) => StepOutcome::Faulted(number),
+            InstructionOutcome::Faulted(fault) => StepOutcome::Faulted(fault.number()),
         }
     }
 

@@ -1,5 +1,5 @@
 //! What requests and instructions set of a procedure.
-use crate::InstructionOutcome;
+use crate::{InstructionOutcome, ProcedureFault};
 use obcp_types::{PendingOrigin, Status};
 use ocp_pool::Called;
 
@@ -11,8 +11,7 @@ pub enum Cause {
     Exited,
     Stopped,
     Aborted,
-    /// The number of the fault.
-    Fault(u8),
+    Fault(ProcedureFault),
 }
 
 /// What is done at the end of a step: of any step where the number is 0, and else of that one. It
@@ -104,8 +103,8 @@ impl Control {
             InstructionOutcome::Called(Called::StepEnd(step)) => self.end_step(step),
             InstructionOutcome::Called(_) => self.pass = false,
             InstructionOutcome::Ended => *self = Control::inactive(Cause::Exited),
-            InstructionOutcome::Faulted(number) => {
-                *self = Control::inactive(Cause::Fault(number));
+            InstructionOutcome::Faulted(fault) => {
+                *self = Control::inactive(Cause::Fault(fault));
             }
         }
     }

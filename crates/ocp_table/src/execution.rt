@@ -177,11 +177,11 @@ impl<A: Allocator> Execution<A> {
         match self.machine.local_step(&self.program) {
             Local::Stepped => InstructionOutcome::Ran,
             Local::NeedsEngine(Need::LastExit) => InstructionOutcome::Ended,
-            Local::NeedsEngine(Need::Fault(fault)) => InstructionOutcome::Faulted(fault.number()),
+            Local::NeedsEngine(Need::Fault(fault)) => InstructionOutcome::Faulted(fault.into()),
             Local::NeedsEngine(Need::Call(number)) => {
                 match engine_call(number, &mut self.machine, pool, mailbox) {
                     Ok(called) => InstructionOutcome::Called(called),
-                    Err(fault) => InstructionOutcome::Faulted(fault.number()),
+                    Err(fault) => InstructionOutcome::Faulted(fault.into()),
                 }
             }
         }

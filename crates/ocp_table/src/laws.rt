@@ -1,17 +1,27 @@
 //! Laws on effects and records. The functions do nothing when they run: their contracts are the
 //! laws.
-ghost use Rattle.std.specs.Prelude.{◌≡◌, ◌≢◌, ℕ, List, true, Some, is_some};
+ghost use Rattle.std.specs.Prelude.{◌≡◌, ◌≢◌, ℕ, List, [], ◌∷◌, map, true, Some, is_some};
 ghost use Rattle.std.specs.FinMap.{get, insert};
 ghost use Rattle.obcp_types.specs.declared.failure.StartFailure.{StartFailure as Failure};
 ghost use Rattle.obcp_types.specs.declared.status.Status.TheVariants.{Running};
+ghost use Rattle.bpf_step.specs.declared.answer.MachineFault.TheVariants.{AccessOutside, WriteToArguments, CallDepth};
 ghost use Rattle.bpf_step.specs.Machine.{State};
+ghost use Rattle.ocp_pool.specs.declared.call.PoolFault.TheVariants.{BadPoolIndex};
 ghost use Rattle.ocp_table.specs.declared.answers.StepOutcome.{StepOutcome};
+ghost use Rattle.ocp_table.specs.declared.fault.ProcedureFault.TheVariants.{Machine, Pool, BudgetSpent};
+ghost use Rattle.ocp_table.specs.Faults.{fault_number};
 ghost use Rattle.ocp_table.specs.Records.{Rec, Records};
 ghost use Rattle.ocp_table.specs.Effects.{Effect, Change, Changed, records_by, failure_of};
 ghost use Rattle.ocp_table.specs.RequestTable.{Directive as Asked, Step};
 ghost use Rattle.ocp_table.specs.Deciding.{effect_in, status_of};
 ghost use Rattle.ocp_table.specs.Slices.{Store, RunsBy, Leads, with_machine, last_ran};
 ghost use Rattle.ocp_table.specs.Laws.{machine_of, run_of, IsRequest, IsKeptOrStarted, IsDebugging, LeavesMachines};
+
+/// The faults of a procedure have the numbers 1 to 5, in this order.
+pub fn faults_are_numbered()
+    ensures { map fault_number (Machine AccessOutside ∷ Machine WriteToArguments
+        ∷ Machine CallDepth ∷ Pool BadPoolIndex ∷ BudgetSpent ∷ []) ≡ 1 ∷ 2 ∷ 3 ∷ 4 ∷ 5 ∷ [] }
+{}
 
 /// What fails changes nothing at all.
 pub fn failures_change_nothing()

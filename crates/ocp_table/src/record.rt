@@ -2,8 +2,8 @@
 use crate::budget::{budget_of, is_spent, less, remaining_after};
 use crate::outbox::Outbox;
 use crate::{
-    BUDGET_SPENT, Cause, Control, Directive, Execution, InstructionOutcome, OUTBOX_PLACES, Pending,
-    View,
+    Cause, Control, Directive, Execution, InstructionOutcome, OUTBOX_PLACES, Pending,
+    ProcedureFault, View,
 };
 use arrayvec::ArrayVec;
 use bpf_step::{Machine, breaks_at};
@@ -124,7 +124,7 @@ impl<A: Allocator> Record<A> {
         ensures id { self.new.id ≡ self.old.id }
     {
         if is_spent(self.remaining) {
-            return InstructionOutcome::Faulted(BUDGET_SPENT);
+            return InstructionOutcome::Faulted(ProcedureFault::BudgetSpent);
         }
         let outcome = self.execution.step(pool, &mut self.mailbox);
         self.remaining = remaining_after(outcome, self.remaining);

@@ -12,7 +12,7 @@ use Rattle.bpf_step.specs.Machine.{State, Outcome, Next, Needs, NoInstruction}
 use Rattle.bpf_step.specs.Step.{one_step}
 use Rattle.bpf_step.specs.Runs.{next_of, breaks_at, local_next, local_run}
 use Rattle.ocp_table.specs.declared.answers.InstructionOutcome.TheVariants.{Broke, Ran, Faulted}
-use Rattle.ocp_table.specs.declared.answers.TheConstants.{BUDGET_SPENT}
+use Rattle.ocp_table.specs.declared.fault.ProcedureFault.TheVariants.{BudgetSpent}
 use Rattle.ocp_table.specs.declared.answers.StepOutcome.TheVariants as S
 use Rattle.ocp_table.specs.Records.{Rec, Records}
 use Rattle.ocp_table.specs.Effects.{Changed, Stepped, dues_of, without_pass, record_by, with_change, machine_after, records_with}
@@ -103,7 +103,7 @@ goes image breakpoints pass m next is =
 ran : (r : Rec) (pool : List ℕ) (next : State) → is_spent r.remaining ≡ false → Goes r.image r.breakpoints r.control.pass r.machine next → outcome_in r pool ≡ Some Ran
 ran r pool next unspent go =
     ap (λ b. cond b (Some Broke) (outcome_unheld r pool)) go.free
-    ∙ ap (λ b. cond b (Some (Faulted BUDGET_SPENT)) (outcome_of (one_step r.image r.machine) r.machine pool r.mailbox)) unspent
+    ∙ ap (λ b. cond b (Some (Faulted BudgetSpent)) (outcome_of (one_step r.image r.machine) r.machine pool r.mailbox)) unspent
     ∙ ap (λ o. outcome_of o r.machine pool r.mailbox) go.steps
 
 -- its effect

@@ -1,0 +1,47 @@
+//! Why a procedure ends in a fault.
+ghost use Rattle.std.specs.Prelude.{◌≡◌};
+ghost use Rattle.ocp_table.specs.declared.fault.ProcedureFault.TheVariants as fault;
+ghost use Rattle.ocp_table.specs.Faults.{fault_number};
+
+use bpf_step::MachineFault;
+use ocp_pool::PoolFault;
+
+/// Why a procedure ends in a fault. Its machine is as before.
+#[derive(Clone, Copy, PartialEq, Eq, Debug)]
+pub enum ProcedureFault {
+    /// The machine can't do the instruction.
+    Machine(MachineFault),
+    /// An engine call is refused.
+    Pool(PoolFault),
+    /// Nothing is left of the budget.
+    BudgetSpent,
+}
+
+impl ProcedureFault {
+    /// The number of the fault: 1 to 3 are the machine's, 4 is the pool's, 5 is BudgetSpent.
+    pub fn number(self) -> u8
+        ensures { result ≡ fault_number self }
+    {
+        match self {
+            ProcedureFault::Machine(fault) => fault.number(),
+            ProcedureFault::Pool(fault) => fault.number(),
+            ProcedureFault::BudgetSpent => 5,
+        }
+    }
+}
+
+impl From<MachineFault> for ProcedureFault {
+    ghost from_gives = { λ why r. r ≡ fault.Machine why };
+
+    fn from(fault: MachineFault) -> Self {
+        ProcedureFault::Machine(fault)
+    }
+}
+
+impl From<PoolFault> for ProcedureFault {
+    ghost from_gives = { λ why r. r ≡ fault.Pool why };
+
+    fn from(fault: PoolFault) -> Self {
+        ProcedureFault::Pool(fault)
+    }
+}
