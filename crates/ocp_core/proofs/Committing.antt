@@ -12,7 +12,7 @@ use Rattle.ocp_table.specs.Snapshots.{Snapshot, snapshot_of, snapshot_by, snapsh
 use Rattle.ocp_world.specs.World.{World, Step}
 use Rattle.ocp_world.specs.After.{Answer, Stepped, after}
 use Rattle.ocp_world.specs.Replay.{replay_from, answers}
-use Rattle.ocp_world.specs.Slice.{outcome_in}
+use Rattle.ocp_world.specs.Slice.{next_outcome}
 use Rattle.ocp_table.specs.declared.answers.StepOutcome.TheVariants as S
 use Rattle.ocp_world.specs.Settled.{RunsAlone, world_after_work}
 use Rattle.ocp_world.specs.Mirror.State.{IsWorld}
@@ -25,6 +25,7 @@ use Rattle.ocp_core.proofs.Replays.{world_of-with_entry}
 use Rattle.ocp_core.specs.Mirror.Counted.{AreCounted}
 use Rattle.ocp_core.proofs.Keeping.{IsWorld-with_entry}
 use Rattle.ocp_core.proofs.Counting.{counted_steps}
+use Rattle.ocp_core.proofs.Journaling.{same_outcome}
 
 -- ---- the procedure that a snapshot is of
 
@@ -136,4 +137,4 @@ last_of_run w by id (suc n) all =
     let first = after w (Step by id) in
     let answered = head_of first.answer (Stepped S.Ran) (answers first.world (replicate n (Step by id))) (replicate n (Stepped S.Ran)) all in
     let rest = tail_of first.answer (Stepped S.Ran) (answers first.world (replicate n (Step by id))) (replicate n (Stepped S.Ran)) all in
-    ap (λ a. last_outcome first.world by id (outcome_in a) n) answered ∙ last_of_run first.world by id n rest
+    ap (λ o. last_outcome first.world by id o n) (same_outcome (next_outcome w id) S.Ran answered) ∙ last_of_run first.world by id n rest

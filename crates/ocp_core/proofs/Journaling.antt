@@ -15,7 +15,7 @@ use Rattle.ocp_debug.specs.declared.command.DebugFault.{DebugFault}
 use Rattle.ocp_world.specs.After.{Answer, Requested, Stepped, Commanded, after, is_accepted}
 use Rattle.ocp_world.specs.Answers.{Answers}
 use Rattle.ocp_world.specs.Replay.{replay_from}
-use Rattle.ocp_world.specs.Slice.{outcome_in, slice_count, slice_last}
+use Rattle.ocp_world.specs.Slice.{next_outcome, slice_count, slice_last}
 use Rattle.ocp_world.specs.Mirror.Answering.{IsDiscard, IsDebugFault}
 use Rattle.ocp_core.specs.Log.{Log, Steps, world_of, is_full, with_entry, entry_for, full_answer, answer_in, log_after, expand}
 use Rattle.ocp_core.specs.Slice.{slice_in, slice_log}
@@ -69,6 +69,9 @@ module _ (log now : Log) (same : log ≡ now) (e : Event) where
 
 -- ---- a slice of a log
 
+pub same_outcome : (a b : StepOutcome) → Stepped a ≡ Stepped b → a ≡ b
+same_outcome a b is = cc
+
 module _ (log now : Log) (same : log ≡ now) (by id budget : ℕ) where
   abbrev first : Answer
   first = (after (world_of log) (Step by id)).answer
@@ -89,19 +92,19 @@ module _ (log now : Log) (same : log ≡ now) (by id budget : ℕ) where
   log_now x is = is ∙ ap (λ l. slice_log l by id budget) same
 
   pub refused_slice : (o : StepOutcome) → is_accepted first ≡ false → Stepped o ≡ first → none o ≡ slice_in now by id budget
-  refused_slice o not_taken is = in_now (none o) (ap (λ a. none (outcome_in a)) is ∙ ap (λ b. cond b (cond (is_full log) (none S.JournalFull) whole) (none (outcome_in first))) (sym not_taken))
+  refused_slice o not_taken is = in_now (none o) (ap none (same_outcome o (next_outcome (world_of log) id) is) ∙ ap (λ b. cond b (cond (is_full log) (none S.JournalFull) whole) (none (next_outcome (world_of log) id))) (sym not_taken))
 
   pub refused_slice_log : is_accepted first ≡ false → now ≡ slice_log now by id budget
   refused_slice_log not_taken = log_now now (sym same ∙ ap (λ b. cond b (cond (is_full log) log entered) log) (sym not_taken))
 
   pub full_slice : is_accepted first ≡ true → is_full log ≡ true → none S.JournalFull ≡ slice_in now by id budget
-  full_slice taken full = in_now (none S.JournalFull) (ap (λ b. cond b (none S.JournalFull) whole) (sym full) ∙ ap (λ b. cond b (cond (is_full log) (none S.JournalFull) whole) (none (outcome_in first))) (sym taken))
+  full_slice taken full = in_now (none S.JournalFull) (ap (λ b. cond b (none S.JournalFull) whole) (sym full) ∙ ap (λ b. cond b (cond (is_full log) (none S.JournalFull) whole) (none (next_outcome (world_of log) id))) (sym taken))
 
   pub full_slice_log : is_accepted first ≡ true → is_full log ≡ true → now ≡ slice_log now by id budget
   full_slice_log taken full = log_now now (sym same ∙ ap (λ b. cond b log entered) (sym full) ∙ ap (λ b. cond b (cond (is_full log) log entered) log) (sym taken))
 
   pub done_slice : (s : Slice) → is_accepted first ≡ true → is_full log ≡ false → s.count ≡ slice_count (world_of log) by id budget → s.last ≡ slice_last (world_of log) by id S.Ran budget → s ≡ slice_in now by id budget
-  done_slice s taken free count last = in_now s ((λ i. record { count = count i; last = last i }) ∙ ap (λ b. cond b (none S.JournalFull) whole) (sym free) ∙ ap (λ b. cond b (cond (is_full log) (none S.JournalFull) whole) (none (outcome_in first))) (sym taken))
+  done_slice s taken free count last = in_now s ((λ i. record { count = count i; last = last i }) ∙ ap (λ b. cond b (none S.JournalFull) whole) (sym free) ∙ ap (λ b. cond b (cond (is_full log) (none S.JournalFull) whole) (none (next_outcome (world_of log) id))) (sym taken))
 
   pub done_slice_log : (new : Log) (n : ℕ) → is_accepted first ≡ true → is_full log ≡ false → n ≡ slice_count (world_of log) by id budget → new ≡ with_entry log (Steps by id n) → new ≡ slice_log now by id budget
   done_slice_log new n taken free count is = log_now new (is ∙ ap (λ k. with_entry log (Steps by id k)) count ∙ ap (λ b. cond b log entered) (sym free) ∙ ap (λ b. cond b (cond (is_full log) log entered) log) (sym taken))

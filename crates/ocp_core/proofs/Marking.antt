@@ -17,7 +17,7 @@ use Rattle.ocp_profile.specs.declared.profile.Profile.{Profile}
 use Rattle.ocp_world.specs.World.{World, Event, Request, Step, Debug, Drain, opening}
 use Rattle.ocp_world.specs.After.{Answer, Stepped, Commanded, After, after, is_accepted}
 use Rattle.ocp_world.specs.Replay.{replay_from, answers}
-use Rattle.ocp_world.specs.Slice.{outcome_in, goes_on, slice_count, slice_last}
+use Rattle.ocp_world.specs.Slice.{next_outcome, goes_on, slice_count, slice_last}
 use Rattle.ocp_core.specs.Log.{Log, Entry, Steps, events_of, expand, with_entry, entry_for, world_of, is_full, answer_in, log_after}
 use Rattle.ocp_core.specs.Slice.{slice_in, slice_log}
 use Rattle.ocp_core.specs.Marks.{last_outcome, mark_in, marks_from, marks, MarkedEntry, entries_with_marks_from, entries_with_marks}
@@ -57,8 +57,8 @@ pub slice_mark : (w : World) (by id : ℕ) (last : StepOutcome) (budget : ℕ) �
 slice_mark w by id last zero = refl
 slice_mark w by id last (suc budget) =
     let step : After = after w (Step by id) in
-    elim (goes_on step id) as (λ b. last_outcome w by id last (cond b (suc (slice_count step.world by id budget)) 1) ≡ cond b (slice_last step.world by id (outcome_in step.answer) budget) (outcome_in step.answer)) [
-      | true ↦ slice_mark step.world by id (outcome_in step.answer) budget
+    elim (goes_on w by id) as (λ b. last_outcome w by id last (cond b (suc (slice_count step.world by id budget)) 1) ≡ cond b (slice_last step.world by id (next_outcome w id) budget) (next_outcome w id)) [
+      | true ↦ slice_mark step.world by id (next_outcome w id) budget
       | false ↦ refl
     ]
 

@@ -5,15 +5,14 @@ use Rattle.ocp_table.specs.declared.answers.StepOutcome.TheVariants as S
 use Rattle.ocp_world.specs.World.{World, Request, Step, Debug, Drain, opening}
 use Rattle.ocp_world.specs.After.{Answer, Stepped, after}
 use Rattle.ocp_world.specs.Replay.{replay_from}
-use Rattle.ocp_world.specs.Slice.{outcome_in}
+use Rattle.ocp_world.specs.Slice.{next_outcome}
 use Rattle.ocp_core.specs.Log.{Entry, Asked, Steps, Debugged, Drained, Log, events_of}
 
 -- the outcome of the last of so many instructions, or the one before them
 abbrev pub last_outcome : World → ℕ → ℕ → StepOutcome → ℕ → StepOutcome
 last_outcome w by id last zero = last
 last_outcome w by id last (suc count) =
-    let step = after w (Step by id) in
-    last_outcome step.world by id (outcome_in step.answer) count
+    last_outcome (after w (Step by id)).world by id (next_outcome w id) count
 
 -- the mark of an entry, by the world before it: the reports of a request or of a drain, or the
 -- outcome of the last instruction

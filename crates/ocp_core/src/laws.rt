@@ -21,9 +21,10 @@ pub use budgets::budgets_are_kept;
 pub use completions::{completions_are_reported_once_at_most, each_completion_stands_in_one_place};
 pub use ocp_world::laws::{
     a_debugger_changes_breakpoints_and_trace_flags_alone, an_instruction_changes_its_own_procedure,
-    only_running_procedures_step, only_starts_and_own_instructions_change_machines,
-    refused_events_change_nothing, requests_keep_or_start_machines,
-    trace_records_are_appended_by_instructions, worlds_have_no_full_journal,
+    instructions_are_answered_by_their_outcomes, only_running_procedures_step,
+    only_starts_and_own_instructions_change_machines, refused_events_change_nothing,
+    requests_keep_or_start_machines, trace_records_are_appended_by_instructions,
+    worlds_have_no_full_journal,
 };
 pub use procedures::{
     engine_calls_answer_from_the_pool, instructions_of_two_procedures_change_places,

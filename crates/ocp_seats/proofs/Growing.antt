@@ -5,7 +5,7 @@ use Rattle.std.proofs.lemmas.List.{append-nil}
 use Rattle.ocp_table.specs.declared.answers.StepOutcome.TheVariants as S
 use Rattle.ocp_table.specs.declared.answers.Slice.{Slice}
 use Rattle.ocp_world.specs.World.{Event, Request, Step, Debug, Drain}
-use Rattle.ocp_world.specs.Slice.{outcome_in, slice_count, slice_last}
+use Rattle.ocp_world.specs.Slice.{next_outcome, slice_count, slice_last}
 use Rattle.ocp_world.specs.After.{Answer, Requested, Stepped, Commanded, after, is_accepted}
 use Rattle.ocp_core.specs.Log.{Log, Entry, Steps, world_of, is_full, with_entry, entry_for, full_answer, answer_in, log_after}
 use Rattle.ocp_core.specs.Slice.{slice_in, slice_log}
@@ -93,7 +93,7 @@ abbrev slice_by : Log → ℕ → ℕ → ℕ → Bool → Bool → Slice
 slice_by log by id budget taken full =
     cond taken
     (cond full (record { count = 0; last = S.JournalFull }) (record { count = slice_count (world_of log) by id budget; last = slice_last (world_of log) by id S.Ran budget }))
-    (record { count = 0; last = outcome_in (after (world_of log) (Step by id)).answer })
+    (record { count = 0; last = next_outcome (world_of log) id })
 
 slice_entries_some : (by id : ℕ) (s : Slice) → (s.count ≡ 0 → ⊥) → slice_entries by id s ≡ count_entries by id s.count s.last
 slice_entries_some by id s some =

@@ -4,7 +4,7 @@ use Rattle.ocp_table.specs.declared.answers.StepOutcome.{StepOutcome}
 use Rattle.ocp_world.specs.World.{World, Event, Request, Step, Debug, Drain, opening}
 use Rattle.ocp_world.specs.After.{After, after}
 use Rattle.ocp_world.specs.Replay.{replay_from}
-use Rattle.ocp_world.specs.Slice.{outcome_in, goes_on, slice_count, slice_last}
+use Rattle.ocp_world.specs.Slice.{next_outcome, goes_on, slice_count, slice_last}
 use Rattle.ocp_core.specs.Log.{Log, Entry, events_of, expand, with_entry, entry_for, world_of}
 use Rattle.ocp_core.specs.Marks.{last_outcome, mark_in, entries_with_marks_from, entries_with_marks}
 use Rattle.ocp_core.proofs.Replays.{replay_from-append}
@@ -31,15 +31,15 @@ pub slice_mark : (w : World) (by id : ℕ) (last : StepOutcome) (budget : ℕ) �
 slice_mark w by id last zero = refl
 slice_mark w by id last (suc budget) =
     let step : After = after w (Step by id) in
-    elim (goes_on step id) as (λ b. last_outcome w by id last (cond b (suc (slice_count step.world by id budget)) 1) ≡ cond b (slice_last step.world by id (outcome_in step.answer) budget) (outcome_in step.answer)) [
-      | true ↦ slice_mark step.world by id (outcome_in step.answer) budget
+    elim (goes_on w by id) as (λ b. last_outcome w by id last (cond b (suc (slice_count step.world by id budget)) 1) ≡ cond b (slice_last step.world by id (next_outcome w id) budget) (next_outcome w id)) [
+      | true ↦ slice_mark step.world by id (next_outcome w id) budget
       | false ↦ refl
     ]
 
 pub slice_some : (w : World) (by id budget : ℕ) → ((slice_count w by id (suc budget)) ≡ 0) → ⊥
 slice_some w by id budget is =
     let step : After = after w (Step by id) in
-    some (goes_on step id) is
+    some (goes_on w by id) is
   where
     some : (b : Bool) → cond b (suc (slice_count (after w (Step by id)).world by id budget)) 1 ≡ 0 → ⊥
     some true is = cc

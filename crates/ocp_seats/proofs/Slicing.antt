@@ -4,7 +4,7 @@ use Rattle.ocp_table.specs.declared.answers.StepOutcome.TheVariants as S
 use Rattle.ocp_table.specs.declared.answers.Slice.{Slice}
 use Rattle.ocp_world.specs.World.{World, Step}
 use Rattle.ocp_world.specs.After.{After, after, is_accepted}
-use Rattle.ocp_world.specs.Slice.{goes_on, outcome_in, slice_count, slice_last}
+use Rattle.ocp_world.specs.Slice.{goes_on, next_outcome, slice_count, slice_last}
 use Rattle.ocp_core.specs.Log.{Log, world_of, is_full}
 use Rattle.ocp_core.specs.Slice.{slice_in}
 
@@ -12,7 +12,7 @@ slice_count_within : (w : World) (by id budget : ℕ) → slice_count w by id bu
 slice_count_within w by id zero = omega arith
 slice_count_within w by id (suc budget) =
     let step : After = after w (Step by id) in
-    elim (goes_on step id) as (λ b. cond b (suc (slice_count step.world by id budget)) 1 ≤ suc budget) [
+    elim (goes_on w by id) as (λ b. cond b (suc (slice_count step.world by id budget)) 1 ≤ suc budget) [
       | true ↦ omega (arith, slice_count_within step.world by id budget)
       | false ↦ omega arith
     ]
@@ -20,7 +20,7 @@ slice_count_within w by id (suc budget) =
 slice_by_within : (log : Log) (by id budget : ℕ) (taken full : Bool) →
     (cond {A = Slice} taken
     (cond full (record { count = 0; last = S.JournalFull }) (record { count = slice_count (world_of log) by id budget; last = slice_last (world_of log) by id S.Ran budget }))
-    (record { count = 0; last = outcome_in (after (world_of log) (Step by id)).answer })).count ≤ budget
+    (record { count = 0; last = next_outcome (world_of log) id })).count ≤ budget
 slice_by_within log by id budget false full = omega arith
 slice_by_within log by id budget true true = omega arith
 slice_by_within log by id budget true false = slice_count_within (world_of log) by id budget

@@ -8,7 +8,7 @@ use Rattle.ocp_table.specs.declared.answers.StepOutcome.TheVariants as S
 use Rattle.ocp_world.specs.World.{World, Event, Step, opening}
 use Rattle.ocp_world.specs.After.{After, after, is_accepted, is_done}
 use Rattle.ocp_world.specs.Replay.{replay_from}
-use Rattle.ocp_world.specs.Slice.{is_running, outcome_in}
+use Rattle.ocp_world.specs.Slice.{is_running, next_outcome}
 use Rattle.ocp_world.specs.NextRunning.{Runs}
 use Rattle.ocp_core.specs.Log.{Log, Entry, Asked, Steps, Debugged, Drained, events_of, expand, world_of}
 use Rattle.ocp_core.specs.Marks.{MarkedEntry, last_outcome, mark_in, entries_with_marks_from, entries_with_marks}
@@ -37,16 +37,15 @@ module _ (refused : (w : World) (e : Event) → is_accepted (after w e).answer �
   stays : (w : World) (by id : ℕ) → is_accepted (after w (Step by id)).answer ≡ false → (o : StepOutcome) → is_done o ≡ false → (count : ℕ) → is_done (last_outcome w by id o count) ≡ false
   stays w by id again o none zero = none
   stays w by id again o none (suc count) =
-      let step : After = after w (Step by id) in
-      subst (λ (v : World). is_done (last_outcome v by id (outcome_in step.answer) count) ≡ false) (sym (refused w (Step by id) again)) (stays w by id again (outcome_in step.answer) again count)
+      subst (λ (v : World). is_done (last_outcome v by id (next_outcome w id) count) ≡ false) (sym (refused w (Step by id) again)) (stays w by id again (next_outcome w id) again count)
 
   -- so where the last one is done, the first one is
   first : (w : World) (by id : ℕ) (o : StepOutcome) (count : ℕ) → is_done (last_outcome w by id o (suc count)) ≡ true → (b : Bool) → is_accepted (after w (Step by id)).answer ≡ b → b ≡ true
   first w by id o count done true is = refl
   first w by id o count done false is =
       let step : After = after w (Step by id) in
-      let last : is_done (last_outcome step.world by id (outcome_in step.answer) count) ≡ false = subst (λ (v : World). is_done (last_outcome v by id (outcome_in step.answer) count) ≡ false) (sym (refused w (Step by id) is)) (stays w by id is (outcome_in step.answer) is count) in
-      absurd (contrary (is_done (last_outcome step.world by id (outcome_in step.answer) count)) last done)
+      let last : is_done (last_outcome step.world by id (next_outcome w id) count) ≡ false = subst (λ (v : World). is_done (last_outcome v by id (next_outcome w id) count) ≡ false) (sym (refused w (Step by id) is)) (stays w by id is (next_outcome w id) is count) in
+      absurd (contrary (is_done (last_outcome step.world by id (next_outcome w id) count)) last done)
 
   module _ (idle : (w : World) (by id : ℕ) → is_running (get w.records id) ≡ false → is_accepted (after w (Step by id)).answer ≡ false) where
     -- one that is done is of a procedure that runs
@@ -62,7 +61,7 @@ module _ (refused : (w : World) (e : Event) → is_accepted (after w e).answer �
     steps crew by id low high (suc count) w o done =
         let step : After = after w (Step by id) in
         let taken : is_accepted step.answer ≡ true = first w by id o count done (is_accepted step.answer) refl in
-        ((low, high, runs w by id taken, taken), steps crew by id low high count step.world (outcome_in step.answer) done)
+        ((low, high, runs w by id taken, taken), steps crew by id low high count step.world (next_outcome w id) done)
 
     entry : (crew budget : ℕ) (w : World) (e : Entry) → IsWorked crew budget e → is_accepted (mark_in w e) ≡ true → AreInstructions crew w (events_of e)
     entry crew budget w (Asked by time octets) worked done = absurd worked

@@ -13,7 +13,7 @@ use Rattle.ocp_table.specs.Slices as table
 use Rattle.ocp_world.specs.World.{World, Step}
 use Rattle.ocp_world.specs.After.{after, is_done, is_accepted}
 use Rattle.ocp_world.specs.Replay.{replay_from}
-use Rattle.ocp_world.specs.Slice.{goes_on, is_on, outcome_in, slice_count, slice_last}
+use Rattle.ocp_world.specs.Slice.{goes_on, is_on, next_outcome, slice_count, slice_last}
 
 -- an instruction after which a slice goes on is done
 on_done : (o : StepOutcome) (more : Bool) → cond (is_on o) more false ≡ true → is_done o ≡ true
@@ -36,7 +36,7 @@ runs pool (Some r) id full done =
     ] done
 
 module _ (by id : ℕ) where
-  one_counted : (w : World) → is_done (outcome_in (after w (Step by id)).answer) ≡ true → (after w (Step by id)).world.events ≡ w.events + 1
+  one_counted : (w : World) → is_done (next_outcome w id) ≡ true → (after w (Step by id)).world.events ≡ w.events + 1
   one_counted w done = ap (λ b. cond b (w.events + 1) w.events) done
 
   abbrev IsCounted : World → ℕ → Type 0
@@ -49,9 +49,9 @@ module _ (by id : ℕ) where
   counted w last zero done = omega arith
   counted w last (suc budget) done =
       let step = after w (Step by id) in
-      let outcome = outcome_in step.answer in
+      let outcome = next_outcome w id in
       let count = slice_count step.world by id budget in
-      elim (goes_on step id) as (λ b. goes_on step id ≡ b → is_done (cond b (slice_last step.world by id outcome budget) outcome) ≡ true → IsCounted w (cond b (suc count) 1)) [
+      elim (goes_on w by id) as (λ b. goes_on w by id ≡ b → is_done (cond b (slice_last step.world by id outcome budget) outcome) ≡ true → IsCounted w (cond b (suc count) 1)) [
         | true ↦ λ on ended. one_more w.events step.world.events count (replay_from step.world (replicate count (Step by id))).events (one_counted w (on_done outcome _ on)) (counted step.world outcome budget ended)
         | false ↦ λ off ended. one_counted w ended
       ] refl done

@@ -6,7 +6,7 @@ use Rattle.ocp_table.specs.declared.answers.StepOutcome.TheVariants.{Ran}
 use Rattle.ocp_world.specs.World.{World, Step}
 use Rattle.ocp_world.specs.After.{Stepped, after, is_accepted}
 use Rattle.ocp_world.specs.Replay.{replay_from}
-use Rattle.ocp_world.specs.Slice.{goes_on, is_on, is_running, outcome_in, slice_count, slice_last}
+use Rattle.ocp_world.specs.Slice.{goes_on, is_on, is_running, next_outcome, slice_count, slice_last}
 use Rattle.ocp_world.proofs.Replays.{replay_from-steps}
 use Rattle.ocp_world.proofs.Slices.{count_more, count_end, last_more, last_end}
 use Rattle.ocp_world.specs.Mirror.State.{IsWorld}
@@ -23,6 +23,9 @@ none_more count = omega arith
 
 none_counted : (events : ℕ) → events ≡ events + 0
 none_counted events = omega arith
+
+same_outcome : (a b : StepOutcome) → Stepped a ≡ Stepped b → a ≡ b
+same_outcome a b is = cc
 
 module _ {A : Type 0} where
   -- n steps of a slice are made
@@ -55,13 +58,13 @@ module _ {A : Type 0} where
       abbrev here : World
       here = replay_from w (replicate n (Step by id))
 
-      outcome_here : o ≡ outcome_in (after here (Step by id)).answer
-      outcome_here = ap outcome_in (more.answer here by (so_far.world w by stands))
+      outcome_here : o ≡ next_outcome here id
+      outcome_here = same_outcome o (next_outcome here id) (more.answer here by (so_far.world w by stands))
 
       next_here : IsWorld (after here (Step by id)).world next
       next_here = more.world here by (so_far.world w by stands)
 
-      tested : goes_on (after here (Step by id)) id ≡ on
+      tested : goes_on here by id ≡ on
       tested = ap (λ x. cond (is_on x) (is_running (get (after here (Step by id)).world.records id)) false) (sym outcome_here) ∙ sym (more.goes (after here (Step by id)).world next_here)
 
       pub sliced_world : IsWorld (replay_from w (replicate (n + 1) (Step by id))) next

@@ -23,7 +23,7 @@ use Rattle.ocp_world.specs.Mirror.State.{IsWorld}
 use Rattle.ocp_world.specs.World.{World, Step}
 use Rattle.ocp_world.specs.After.{after}
 use Rattle.ocp_world.specs.Replay.{replay_from}
-use Rattle.ocp_world.specs.Slice.{slice_count, slice_last, goes_on, outcome_in as answer_in}
+use Rattle.ocp_world.specs.Slice.{slice_count, slice_last, goes_on, next_outcome}
 
 abbrev pub store_of : World → Store
 store_of w = record { records = w.records; outbox = w.outbox; pool = w.pool }
@@ -32,13 +32,12 @@ store_of w = record { records = w.records; outbox = w.outbox; pool = w.pool }
 
 pub same_count : (w : World) (by id budget : ℕ) → slice_count w by id budget ≡ table.slice_count id (store_of w) budget
 same_count w by id zero = refl
-same_count w by id (suc budget) = ap (λ n. cond (goes_on (after w (Step by id)) id) (suc n) 1) (same_count (after w (Step by id)).world by id budget)
+same_count w by id (suc budget) = ap (λ n. cond (goes_on w by id) (suc n) 1) (same_count (after w (Step by id)).world by id budget)
 
 pub same_last : (w : World) (by id : ℕ) (last : StepOutcome) (budget : ℕ) → slice_last w by id last budget ≡ table.slice_last id (store_of w) last budget
 same_last w by id last zero = refl
 same_last w by id last (suc budget) =
-    let a = after w (Step by id) in
-    ap (λ o. cond (goes_on a id) o (answer_in a.answer)) (same_last a.world by id (answer_in a.answer) budget)
+    ap (λ o. cond (goes_on w by id) o (next_outcome w id)) (same_last (after w (Step by id)).world by id (next_outcome w id) budget)
 
 -- ---- the world after its steps
 

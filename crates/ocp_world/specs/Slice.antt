@@ -4,10 +4,13 @@ use Rattle.std.specs.FinMap.{get}
 use Rattle.obcp_types.specs.declared.status.Status.{Status}
 use Rattle.obcp_types.specs.declared.status.Status.TheVariants.{Inactive, Running, Held}
 use Rattle.ocp_table.specs.Records.{Rec}
+use Rattle.ocp_table.specs.Effects.{step_outcome}
+use Rattle.ocp_table.specs.RequestTable as directive
+use Rattle.ocp_table.specs.Deciding.{effect_in}
 use Rattle.ocp_table.specs.declared.answers.StepOutcome.{StepOutcome}
 use Rattle.ocp_table.specs.declared.answers.StepOutcome.TheVariants as S
 use Rattle.ocp_world.specs.World.{World, Step}
-use Rattle.ocp_world.specs.After.{After, Answer, Requested, Stepped, Commanded, after}
+use Rattle.ocp_world.specs.After.{after}
 
 abbrev pub is_running_status : Status → Bool
 is_running_status Inactive = false
@@ -30,26 +33,26 @@ is_on S.NotLoaded = false
 is_on S.NotRunning = false
 is_on S.JournalFull = false
 
--- the outcome of an instruction event
-abbrev pub outcome_in : Answer → StepOutcome
-outcome_in (Stepped outcome) = outcome
-outcome_in (Requested reports) = S.JournalFull
-outcome_in (Commanded result) = S.JournalFull
+-- the outcome of an instruction event of this procedure
+abbrev pub next_outcome : World → ℕ → StepOutcome
+next_outcome w id = step_outcome (effect_in (directive.Step w.pool) id w.records)
 
-abbrev pub goes_on : After → ℕ → Bool
-goes_on a id = if is_on (outcome_in a.answer) then is_running (get a.world.records id) else false
+-- whether a slice goes on after it
+abbrev pub goes_on : World → ℕ → ℕ → Bool
+goes_on w by id =
+    if is_on (next_outcome w id) then is_running (get (after w (Step by id)).world.records id)
+    else false
 
 -- how many instructions a slice does
 abbrev pub slice_count : World → ℕ → ℕ → ℕ → ℕ
 slice_count w by id zero = 0
 slice_count w by id (suc budget) =
-    let step = after w (Step by id) in
-    if goes_on step id then suc (slice_count step.world by id budget) else 1
+    if goes_on w by id then suc (slice_count (after w (Step by id)).world by id budget) else 1
 
 -- the outcome of its last one
 abbrev pub slice_last : World → ℕ → ℕ → StepOutcome → ℕ → StepOutcome
 slice_last w by id last zero = last
 slice_last w by id last (suc budget) =
-    let step = after w (Step by id) in
-    if goes_on step id then slice_last step.world by id (outcome_in step.answer) budget
-    else outcome_in step.answer
+    if goes_on w by id
+    then slice_last (after w (Step by id)).world by id (next_outcome w id) budget
+    else next_outcome w id

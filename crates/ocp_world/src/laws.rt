@@ -9,7 +9,7 @@ ghost use Rattle.ocp_world.specs.Replay.{replay_from};
 ghost use Rattle.ocp_world.specs.Laws.{may_change_machine, IsAppended};
 ghost use Rattle.ocp_world.specs.declared.answers.EngineFault.TheVariants.{JournalFull};
 ghost use Rattle.ocp_table.specs.declared.answers.StepOutcome.TheVariants as outcome;
-ghost use Rattle.ocp_world.specs.Slice.{is_running};
+ghost use Rattle.ocp_world.specs.Slice.{is_running, next_outcome};
 ghost use Rattle.ocp_table.specs.Laws.{machine_of, run_of, IsKeptOrStarted};
 
 use ocp_table::laws::{
@@ -38,6 +38,12 @@ pub fn only_running_procedures_step()
 {
     ocp_table::laws::only_running_procedures_step();
 }
+
+/// An instruction event is answered by the outcome that a slice asks.
+pub fn instructions_are_answered_by_their_outcomes()
+    ensures { (w : World) (by id : ℕ) →
+        (after w (Step by id)).answer ≡ Stepped (next_outcome w id) }
+{}
 
 /// An instruction leaves every other procedure's record.
 pub fn an_instruction_changes_its_own_procedure()

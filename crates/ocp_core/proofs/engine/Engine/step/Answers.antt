@@ -1,6 +1,4 @@
 use Rattle.std.proofs.Common.{sym, ap, ◌∙◌}
-use Rattle.ocp_world.specs.After.{Stepped}
-use Rattle.ocp_world.specs.Slice.{outcome_in}
 use Rattle.ocp_world.specs.World.{Step}
 use Rattle.ocp_core.specs.Log.{world_of}
 use Rattle.ocp_core.proofs.Keeping.{IsWorld-with_entry}
@@ -30,4 +28,4 @@ pub push-requires-clause-accepted : goal.push-requires-clause-accepted
 push-requires-clause-accepted g c = counted (world_of c.self.inside.journal) (Step c.args.by c.args.id) (c.in_default.ensures _ c.args.by c.self.invariant)
 
 pub push-requires-clause-mark : goal.push-requires-clause-mark
-push-requires-clause-mark g c = ap (λ answer. Stepped (outcome_in answer)) (c.step-outcome.ensures.answer _ c.args.by c.self.invariant)
+push-requires-clause-mark g c = c.step-outcome.ensures.answer (world_of c.self.inside.journal) c.args.by c.self.invariant
