@@ -28,10 +28,6 @@ pub(crate) fn answer(alloc: Global, words: &[&str]) -> Result<String, Fault> {
             let program = program_of(alloc, profile, code)?;
             line_at(alloc, &program, slot.parse()?)
         }
-        ["ocp_loader.line_ref", profile, code, slot] => {
-            let program = program_of(alloc, profile, code)?;
-            line_ref(alloc, &program, slot.parse()?)
-        }
         ["ocp_loader.listing", profile, before, code] => {
             let out = octets(alloc, before)?;
             let program = program_of(alloc, profile, code)?;
@@ -98,10 +94,6 @@ fn program_of(alloc: Global, profile: &str, code: &str) -> Result<Program, Fault
 
 fn line_at(alloc: Global, program: &Program, slot: u16) -> Result<String, Fault> {
     Ok(format!(in alloc; "{:?}", program.line_at(slot))?)
-}
-
-fn line_ref(alloc: Global, program: &Program, slot: u16) -> Result<String, Fault> {
-    Ok(format!(in alloc; "{:?}", program.line_ref(slot))?)
 }
 
 fn listing(alloc: Global, program: &Program, mut out: Vec<u8>) -> Result<String, Fault> {

@@ -17,32 +17,35 @@ use Rattle.ocp_table.specs.Records.{Rec, Records}
 use Rattle.ocp_table.specs.Effects.{Effect, Changed, Stepped, record_by, with_change, records_by, step_outcome, step_outcome_of}
 use Rattle.ocp_table.specs.RequestTable.{Step, transition}
 use Rattle.ocp_table.specs.Deciding.{outcome_in, effect_of_step, effect_by, effect_on, effect_in, is_full}
-use Rattle.ocp_debug.specs.declared.stepping.Next.{Next}
 use Rattle.ocp_debug.specs.Traces.{traces_at, traces_if, traces_of, traces_by_change, traces_by}
-use Rattle.ocp_debug.specs.Mirror.Tracing.{next_for, next_at, leaves_trace, trace_by, trace_after}
+use Rattle.ocp_debug.specs.Mirror.Tracing.{traced_place, leaves_trace, trace_of_line, trace_by, trace_after}
 
 -- ---- one record
 
 -- an event that did no instruction makes none
-none_made : (id : ℕ) (next : Option Next) (outcome : StepOutcome) (after : Option Rec) → leaves_trace outcome ≡ false → option_to_list (trace_after id next outcome after) ≡ []
+none_made : (id : ℕ) (place : Option ℕ) (outcome : StepOutcome) (after : Option Rec) → leaves_trace outcome ≡ false → option_to_list (trace_after id place outcome after) ≡ []
 none_made id None outcome after undone = refl
-none_made id (Some next) outcome after undone = ap (λ b. option_to_list (cond b (trace_by id next outcome after) None)) undone
+none_made id (Some place) outcome after undone = ap (λ b. option_to_list (cond b (trace_by id place outcome after) None)) undone
 
 module _ (id : ℕ) (r : Rec) where
-  made_at : (outcome : InstructionOutcome) (found : Option Line) → leaves_trace (step_outcome_of outcome) ≡ true →
-      option_to_list (trace_after id (next_for r.machine.place found) (step_outcome_of outcome) (Some (record_by (Stepped outcome) r))) ≡ traces_at found id outcome r
-  made_at outcome None done = refl
-  made_at outcome (Some line) done =
-      ap (λ b. option_to_list (cond b (trace_by id (record { place = r.machine.place; line = line }) (step_outcome_of outcome) (Some (record_by (Stepped outcome) r))) None)) done
+  made_of : (outcome : InstructionOutcome) (found : Option Line) → line_of r.image r.machine.place ≡ found →
+      option_to_list (trace_by id r.machine.place (step_outcome_of outcome) (Some (record_by (Stepped outcome) r))) ≡ traces_at found id outcome r
+  made_of outcome found e = ap (λ o. option_to_list (trace_of_line id r.machine.place (step_outcome_of outcome) (record_by (Stepped outcome) r) o)) e ∙ by found
+    where
+      by : (found : Option Line) → option_to_list (trace_of_line id r.machine.place (step_outcome_of outcome) (record_by (Stepped outcome) r) found) ≡ traces_at found id outcome r
+      by None = refl
+      by (Some line) = refl
 
   made_if : (outcome : InstructionOutcome) (traced : Bool) → leaves_trace (step_outcome_of outcome) ≡ true →
-      option_to_list (trace_after id (cond traced (next_for r.machine.place (line_of r.image r.machine.place)) None) (step_outcome_of outcome) (Some (record_by (Stepped outcome) r))) ≡ traces_if traced id outcome r
+      option_to_list (trace_after id (cond traced (Some r.machine.place) None) (step_outcome_of outcome) (Some (record_by (Stepped outcome) r))) ≡ traces_if traced id outcome r
   made_if outcome false done = refl
-  made_if outcome true done = made_at outcome (line_of r.image r.machine.place) done
+  made_if outcome true done =
+      ap (λ b. option_to_list (cond b (trace_by id r.machine.place (step_outcome_of outcome) (Some (record_by (Stepped outcome) r))) None)) done
+      ∙ made_of outcome (line_of r.image r.machine.place) refl
 
   made : (outcome : InstructionOutcome) →
-      option_to_list (trace_after id (next_at (Some r)) (step_outcome_of outcome) (Some (record_by (Stepped outcome) r))) ≡ traces_of id outcome r
-  made Broke = none_made id (next_at (Some r)) step.Broke (Some (record_by (Stepped Broke) r)) refl
+      option_to_list (trace_after id (traced_place (Some r)) (step_outcome_of outcome) (Some (record_by (Stepped outcome) r))) ≡ traces_of id outcome r
+  made Broke = none_made id (traced_place (Some r)) step.Broke (Some (record_by (Stepped Broke) r)) refl
   made Ran = made_if Ran r.traced refl
   made (Called call) = made_if (Called call) r.traced refl
   made Ended = made_if Ended r.traced refl
@@ -53,7 +56,7 @@ module _ (id : ℕ) (r : Rec) where
 module _ (pool : List ℕ) (id : ℕ) (m : Records) where
   -- the code makes the record of this effect
   abbrev IsMade : Option Rec → Effect → Type 0
-  IsMade o e = option_to_list (trace_after id (next_at o) (step_outcome e) (get (records_by e m) id)) ≡ traces_by e m
+  IsMade o e = option_to_list (trace_after id (traced_place o) (step_outcome e) (get (records_by e m) id)) ≡ traces_by e m
 
   same_id : eq_by_cmp nat_cmp id id ≡ true
   same_id = unsigned_tied id id ∙ grind (arith, nat_tests)
@@ -65,16 +68,16 @@ module _ (pool : List ℕ) (id : ℕ) (m : Records) where
       ∙ ap (λ b. cond b (Some (record_by (Stepped outcome) r)) (get m id)) same_id
 
   made_by_step : (r : Rec) (outcome : Option InstructionOutcome) → get m id ≡ Some r → IsMade (Some r) (effect_of_step outcome id)
-  made_by_step r None here = none_made id (next_at (Some r)) step.NotRunning (get m id) refl
+  made_by_step r None here = none_made id (traced_place (Some r)) step.NotRunning (get m id) refl
   made_by_step r (Some outcome) here =
-      ap (λ o. option_to_list (trace_after id (next_at (Some r)) (step_outcome_of outcome) o)) (changed_there r outcome here)
+      ap (λ o. option_to_list (trace_after id (traced_place (Some r)) (step_outcome_of outcome) o)) (changed_there r outcome here)
       ∙ made id r outcome
       ∙ sym (ap (λ o. traces_by_change id (Stepped outcome) o) here)
 
   made_in : (r : Rec) (status : Status) → get m id ≡ Some r → IsMade (Some r) (effect_by (transition (Step pool) (Some status) r.control.pending (length r.mailbox)) id (Some r) (is_full m))
-  made_in r Inactive here = none_made id (next_at (Some r)) step.NotRunning (get m id) refl
+  made_in r Inactive here = none_made id (traced_place (Some r)) step.NotRunning (get m id) refl
   made_in r Running here = made_by_step r (outcome_in r pool) here
-  made_in r Held here = none_made id (next_at (Some r)) step.NotRunning (get m id) refl
+  made_in r Held here = none_made id (traced_place (Some r)) step.NotRunning (get m id) refl
 
   made_on : (o : Option Rec) → get m id ≡ o → IsMade o (effect_on (Step pool) id o (is_full m))
   made_on None absent = refl

@@ -1,5 +1,5 @@
 //! The trace records that are kept.
-ghost use Rattle.std.specs.Prelude.{◌≡◌, ◌≤◌, ◌<◌, ◌++◌, ◌∷◌, [], IfOk, OnOk, OnErr, length, option_to_list, vec_capacity};
+ghost use Rattle.std.specs.Prelude.{◌≡◌, ◌≤◌, ◌<◌, ◌++◌, ◌∷◌, [], IfOk, OnOk, OnErr, length, vec_capacity};
 ghost use Rattle.std.specs.List.{flat_map};
 ghost use Rattle.ocp_debug.specs.Traces.{last_traces};
 ghost use Rattle.ocp_debug.specs.Texts.{trace_line};
@@ -53,21 +53,11 @@ impl<A: Allocator> TraceRing<A> {
         self.records.push_back(trace);
     }
 
-    // There are no more records than are kept. The function does nothing when it runs.
-    fn has_few(&self)
+    /// There are no more records than are kept. The function does nothing when it runs.
+    pub(crate) fn has_few(&self)
         ensures { length self.now ≤ TRACE_RECORDS }
     {
         let _records = &self.records;
-    }
-
-    /// Adds the record that an event made, if it made one.
-    pub(crate) fn note(&mut self, trace: Option<Trace>)
-        ensures { self.new ≡ last_traces (self.old ++ option_to_list trace) }
-    {
-        self.has_few();
-        if let Some(trace) = trace {
-            self.push(trace);
-        }
     }
 
     /// How many octets the lines have.

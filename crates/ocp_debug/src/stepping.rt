@@ -5,31 +5,21 @@ ghost use Rattle.ocp_table.specs.Effects.{records_by, outbox_by, pool_by, step_o
 ghost use Rattle.ocp_table.specs.RequestTable.{Step};
 ghost use Rattle.ocp_table.specs.Deciding.{effect_in};
 ghost use Rattle.ocp_debug.specs.Traces.{last_traces, traces_by};
-ghost use Rattle.ocp_debug.specs.Mirror.Tracing.{next_at, leaves_trace, trace_after};
+ghost use Rattle.ocp_debug.specs.Mirror.Tracing.{traced_place, leaves_trace, trace_after};
 
 use crate::{StepOutcome, Trace, TraceRing};
-use bpf_types::Line;
 use ocp_table::{Place, Pool, Table};
 use std::alloc::Allocator;
 
-/// The next instruction of a traced procedure.
-#[derive(Clone, Copy)]
-pub(crate) struct Next {
-    place: u16,
-    line: Line,
-}
-
-/// The next instruction, where the procedure is traced.
-fn next_at<A: Allocator>(table: &Table<A>, id: u16, at: Place) -> Option<Next>
-    ensures { result ≡ next_at (get table.now.records id) }
+/// The place of the next instruction, where the procedure is traced.
+fn traced_place<A: Allocator>(table: &Table<A>, id: u16, at: Place) -> Option<u16>
+    ensures { result ≡ traced_place (get table.now.records id) }
 {
     let record = table.record_at(id, at)?;
     if !record.traced {
         return None;
     }
-    let place = record.execution.place();
-    let line = record.execution.line_at(place)?;
-    Some(Next { place, line })
+    Some(record.execution.place())
 }
 
 /// Whether an instruction was done.
@@ -47,28 +37,39 @@ fn leaves_trace(outcome: StepOutcome) -> bool
     }
 }
 
-/// The trace record of this instruction, by its outcome and the table after it.
-fn trace_after<A: Allocator>(
+/// Notes the instruction at this place, where it was done and is traced, by its outcome and the
+/// table after it.
+fn note<A: Allocator>(
+    ring: &mut TraceRing<A>,
     table: &Table<A>,
     id: u16,
     at: Place,
-    next: Option<Next>,
+    place: Option<u16>,
     outcome: StepOutcome,
-) -> Option<Trace>
-    ensures { result ≡ trace_after id next outcome (get table.now.records id) }
+)
+    ensures { ring.new ≡ last_traces (ring.old
+        ++ option_to_list (trace_after id place outcome (get table.now.records id))) }
 {
-    let next = next?;
+    ring.has_few();
+    let Some(place) = place else {
+        return;
+    };
     if !leaves_trace(outcome) {
-        return None;
+        return;
     }
-    let record = table.record_at(id, at)?;
-    Some(Trace {
+    let Some(record) = table.record_at(id, at) else {
+        return;
+    };
+    let Some(line) = record.execution.line_at(place) else {
+        return;
+    };
+    ring.push(Trace {
         id,
-        place: next.place,
+        place,
         outcome,
         registers: record.execution.registers(),
-        line: next.line,
-    })
+        line,
+    });
 }
 
 /// The instruction event of a running procedure: its next instruction is done, or a breakpoint
@@ -94,8 +95,8 @@ pub fn instruction<A: Allocator>(
         ++ traces_by (effect_in (Step pool.old) id table.old.records) table.old.records) }
 {
     let at = table.place(id);
-    let next = next_at(table, id, at);
+    let place = traced_place(table, id, at);
     let outcome = table.instruction_at(id, at, pool);
-    ring.note(trace_after(table, id, at, next, outcome));
+    note(ring, table, id, at, place, outcome);
     outcome
 }

@@ -1,3 +1,4 @@
 pub mod Reading
 pub mod Checks
 pub mod Stops
+pub mod Ops

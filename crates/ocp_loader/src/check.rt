@@ -1,5 +1,5 @@
 //! Where the lines of an image lead to.
-ghost use Rattle.std.specs.Prelude.{◌≡◌, ◌≤◌, ◌<◌, ◌-◌, length, pos, ◌+ℤ◌, Some, None, option_copied};
+ghost use Rattle.std.specs.Prelude.{◌≡◌, ◌≤◌, ◌<◌, ◌-◌, length, pos, ◌+ℤ◌, Some, None};
 ghost use Rattle.ocp_loader.specs.Image.{line_in, target_of, is_last};
 ghost use Rattle.ocp_loader.specs.Mirror.Checks.{is_place, has_valid_target, first_bad_target, end_fault, lines_fault};
 
@@ -13,18 +13,6 @@ pub fn line_in(lines: &[Option<Line>], slot: usize) -> Option<Line>
 {
     if slot < lines.len() {
         lines[slot]
-    } else {
-        None
-    }
-}
-
-/// Lends the line whose first slot this is.
-#[inline(always)]
-pub fn line_ref_in(lines: &[Option<Line>], slot: usize) -> Option<&Line>
-    ensures { option_copied result ≡ line_in lines.now slot }
-{
-    if slot < lines.len() {
-        lines[slot].as_ref()
     } else {
         None
     }

@@ -5,18 +5,12 @@ use Rattle.ocp_loader.specs.LineAt.{line_of}
 use Rattle.ocp_table.specs.declared.answers.StepOutcome.{StepOutcome}
 use Rattle.ocp_table.specs.declared.answers.StepOutcome.TheVariants.{Ran, Called, Ended, Faulted}
 use Rattle.ocp_table.specs.Records.{Rec}
-use Rattle.ocp_debug.specs.declared.stepping.Next.{Next}
 use Rattle.ocp_debug.specs.declared.trace.Trace.{Trace}
 
-abbrev pub next_for : ℕ → Option Line → Option Next
-next_for place None = None
-next_for place (Some line) = Some (record { place = place; line = line })
-
--- the next instruction of a procedure that is traced
-abbrev pub next_at : Option Rec → Option Next
-next_at None = None
-next_at (Some r) =
-    if r.traced then next_for r.machine.place (line_of r.image r.machine.place) else None
+-- the place of the next instruction of a procedure that is traced
+abbrev pub traced_place : Option Rec → Option ℕ
+traced_place None = None
+traced_place (Some r) = if r.traced then Some r.machine.place else None
 
 -- an instruction was done
 abbrev pub leaves_trace : StepOutcome → Bool
@@ -26,17 +20,21 @@ leaves_trace Ended = true
 leaves_trace (Faulted number) = true
 leaves_trace outcome = false
 
-abbrev pub trace_by : ℕ → Next → StepOutcome → Option Rec → Option Trace
-trace_by id next outcome None = None
-trace_by id next outcome (Some r) = Some (record {
+abbrev pub trace_of_line : ℕ → ℕ → StepOutcome → Rec → Option Line → Option Trace
+trace_of_line id place outcome r None = None
+trace_of_line id place outcome r (Some line) = Some (record {
   id = id;
-  place = next.place;
+  place = place;
   outcome = outcome;
   registers = r.machine.registers;
-  line = next.line;
+  line = line;
 })
 
-abbrev pub trace_after : ℕ → Option Next → StepOutcome → Option Rec → Option Trace
+abbrev pub trace_by : ℕ → ℕ → StepOutcome → Option Rec → Option Trace
+trace_by id place outcome None = None
+trace_by id place outcome (Some r) = trace_of_line id place outcome r (line_of r.image place)
+
+abbrev pub trace_after : ℕ → Option ℕ → StepOutcome → Option Rec → Option Trace
 trace_after id None outcome after = None
-trace_after id (Some next) outcome after =
-    if leaves_trace outcome then trace_by id next outcome after else None
+trace_after id (Some place) outcome after =
+    if leaves_trace outcome then trace_by id place outcome after else None

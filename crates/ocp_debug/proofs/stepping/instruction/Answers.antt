@@ -5,7 +5,7 @@ use Rattle.ocp_table.specs.Effects.{step_outcome}
 use Rattle.ocp_table.specs.RequestTable.{Step}
 use Rattle.ocp_table.specs.Deciding.{effect_in}
 use Rattle.ocp_debug.specs.Traces.{last_traces}
-use Rattle.ocp_debug.specs.Mirror.Tracing.{next_at, trace_after}
+use Rattle.ocp_debug.specs.Mirror.Tracing.{traced_place, trace_after}
 use Rattle.ocp_debug.proofs.Tracing.{traced}
 use Rattle.ocp_debug.proofs.stepping.instruction.Goals as goal
 
@@ -13,8 +13,7 @@ pub returns-clause-ring : goal.returns-clause-ring
 returns-clause-ring g c =
     c.note.ensures
     ∙ ap (λ made. last_traces (c.args.ring.now ++ made))
-    (ap option_to_list c.trace_after.ensures
-    ∙ ap (λ next. option_to_list (trace_after c.args.id next c.instruction_at-outcome.result (get c.instruction_at-outcome.new.self.records c.args.id))) c.next_at-next.ensures
-    ∙ ap (λ outcome. option_to_list (trace_after c.args.id (next_at (get c.args.table.now.records c.args.id)) outcome (get c.instruction_at-outcome.new.self.records c.args.id))) c.instruction_at-outcome.ensures.answer
-    ∙ ap (λ after. option_to_list (trace_after c.args.id (next_at (get c.args.table.now.records c.args.id)) (step_outcome (effect_in (Step c.args.pool.now) c.args.id c.args.table.now.records)) (get after c.args.id))) c.instruction_at-outcome.ensures.records
+    (ap (λ place. option_to_list (trace_after c.args.id place c.instruction_at-outcome.result (get c.instruction_at-outcome.new.self.records c.args.id))) c.traced_place-place.ensures
+    ∙ ap (λ outcome. option_to_list (trace_after c.args.id (traced_place (get c.args.table.now.records c.args.id)) outcome (get c.instruction_at-outcome.new.self.records c.args.id))) c.instruction_at-outcome.ensures.answer
+    ∙ ap (λ after. option_to_list (trace_after c.args.id (traced_place (get c.args.table.now.records c.args.id)) (step_outcome (effect_in (Step c.args.pool.now) c.args.id c.args.table.now.records)) (get after c.args.id))) c.instruction_at-outcome.ensures.records
     ∙ traced c.args.pool.now c.args.id c.args.table.now.records)
