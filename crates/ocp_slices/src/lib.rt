@@ -1,5 +1,5 @@
 //! One engine behind a lock, for the threads of a caller: each change is one call under the lock,
-//! and slices run off it.
+//! and slices run off it. And the crew of threads of a console's `work` lines.
 #![tactic(auto)]
 
 mod board;
@@ -7,6 +7,7 @@ mod close;
 mod crew;
 pub mod laws;
 mod shared;
+mod threaded;
 mod turn;
 
 pub use board::Board;
@@ -18,4 +19,5 @@ pub use ocp_seats::{
     input,
 };
 pub use shared::SharedEngine;
+pub use threaded::Threaded;
 pub use turn::{Gate, Open, Turn};

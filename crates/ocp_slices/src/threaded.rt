@@ -1,12 +1,11 @@
-//! A crew of threads.
+//! The crew of threads that does the work of a console's `work` lines.
 
 ghost use Rattle.std.specs.Prelude.{◌≤◌, IfOk};
 ghost use Rattle.std.specs.Thread.{IsSync};
 ghost use Rattle.ocp_slices.specs.Closed.{HasWorked};
 
-use ocp_core::Engine;
+use crate::{Engine, Open, WorkFault, work};
 use ocp_ports::{Crew, CrewFault};
-use ocp_slices::{Open, WorkFault, work};
 use std::alloc::Global;
 use std::sync::Wait;
 use std::thread::Threads;

@@ -2,9 +2,11 @@
 
 ghost use Rattle.std.specs.Prelude.{◌≡◌, ◌≤◌, length};
 
+use crate::hint::keeps_of;
 use arrayvec::ArrayVec;
 use memchr::memrchr;
-use ocp_console::{Sink, Source};
+use ocp_ports::{Sink, Source};
+use ocp_words::Job;
 use std::alloc::{AllocError, Global};
 use std::mem::swap;
 
@@ -122,11 +124,24 @@ impl Text {
     }
 }
 
-/// A source that keeps what it read.
+/// A source that keeps what it read, as far as the hints of its job need it.
 #[derive(Drop)]
-pub(crate) struct KeptSource<S: Source + Drop> {
+pub struct KeptSource<S: Source + Drop> {
+    /// Where it reads from.
     pub inner: S,
-    pub text: Text,
+    pub(crate) text: Text,
+}
+
+impl<S: Source + Drop> KeptSource<S> {
+    /// The input of a job.
+    pub fn for_job(alloc: Global, job: Job, inner: S) -> KeptSource<S>
+        ensures { result.inner ≡ inner }
+    {
+        KeptSource {
+            inner,
+            text: Text::new(alloc, keeps_of(job)),
+        }
+    }
 }
 
 impl<S: Source + Drop> Source for KeptSource<S> {
@@ -173,9 +188,22 @@ impl Front {
 
 /// A sink that keeps the front of what it wrote.
 #[derive(Drop)]
-pub(crate) struct KeptSink<S: Sink + Drop> {
+pub struct KeptSink<S: Sink + Drop> {
+    /// Where it writes to.
     pub inner: S,
-    pub front: Front,
+    pub(crate) front: Front,
+}
+
+impl<S: Sink + Drop> KeptSink<S> {
+    /// The output of a job.
+    pub fn over(inner: S) -> KeptSink<S>
+        ensures { result.inner ≡ inner }
+    {
+        KeptSink {
+            inner,
+            front: Front::new(),
+        }
+    }
 }
 
 impl<S: Sink + Drop> Sink for KeptSink<S> {

@@ -1,0 +1,42 @@
+-- What the program does of a job.
+use Rattle.std.specs.Prelude.{◌≡◌, ℕ, Bool, true, List, Option, Result, Ok, Err}
+use Rattle.ocp_ports.specs.declared.fault.ConsoleFault.{ConsoleFault}
+use Rattle.ocp_commands.specs.Assembly.{Assembles}
+use Rattle.ocp_commands.specs.Commands.{Writes}
+use Rattle.ocp_commands.specs.Listings.{Lists}
+use Rattle.ocp_words.specs.declared.job.Job.{Job}
+use Rattle.ocp_words.specs.declared.job.Job.TheVariants.{Assemble, List as Listing, Run}
+use Rattle.ocp_words.specs.declared.job.Settings.{Settings}
+use Rattle.ocp_console.specs.Crew.{CrewAnswers}
+use Rattle.ocp_console.specs.Script.{IsWorkless, Prints, PrintsBy, WritesScript, transcript}
+use Rattle.ocp_jobs.specs.Status.{status_of}
+
+-- a run has done what it was asked for where it came to its script's end
+abbrev pub answer_of_run : Result Unit ConsoleFault → Result Bool ConsoleFault
+answer_of_run (Ok x) = Ok true
+answer_of_run (Err fault) = Err fault
+
+-- what a run writes of a script, and what it answers: for a script without `work` lines it is the
+-- transcript, for every script what its lines write with this crew
+pub record Runs (crew : CrewAnswers) (settings : Settings) (script : List ℕ)
+    (old new : Option (List ℕ)) (answer : Result Bool ConsoleFault) : Type 0 where
+  pub ending : Result Unit ConsoleFault
+  pub answered : answer ≡ answer_of_run ending
+  pub prints : IsWorkless script → Prints old new (transcript settings script) ending
+  pub writes : PrintsBy old new (WritesScript crew settings script) ending
+
+-- what the command of a job writes of an input, and what it answers: whether it did what it was
+-- asked for, or a fault
+abbrev pub Answers : CrewAnswers → Job → List ℕ → Option (List ℕ) → Option (List ℕ) →
+    Result Bool ConsoleFault → Type 0
+Answers crew (Assemble profile) input old new answer =
+    Writes (Assembles profile input) old new answer
+Answers crew Listing input old new answer = Writes (Lists input) old new answer
+Answers crew (Run settings) input old new answer = Runs crew settings input old new answer
+
+-- what is written for a job and an input, and the status that the program ends with: it is that of
+-- what the command answers
+abbrev pub Performs : CrewAnswers → Job → List ℕ → Option (List ℕ) → Option (List ℕ) → ℕ → Type 0
+Performs crew job input old new status =
+    (answer : Result Bool ConsoleFault) × Answers crew job input old new answer
+    × (status ≡ status_of answer)

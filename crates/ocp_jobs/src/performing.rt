@@ -1,0 +1,76 @@
+//! A job from its input to its output.
+
+ghost use Rattle.std.specs.Prelude.{◌≡◌, ◌<◌, ◌^◌, ◌-◌, ◌↔◌, IfSome, IsErrOf};
+ghost use Rattle.std.specs.Process.{exit_status};
+ghost use Rattle.ocp_jobs.specs.Performing.{Answers, Performs};
+
+use crate::hint::say_hint;
+use crate::kept::{KeptSink, KeptSource};
+use crate::status::status_of;
+use ocp_commands::{asm, list};
+use ocp_console::run;
+use ocp_core::Engine;
+use ocp_ports::{ConsoleFault, Crew, Sink, Source};
+use ocp_words::Job;
+use std::alloc::Global;
+use std::process::ExitCode;
+
+/// The answer of a job's command: whether it did what it was asked for, or what failed.
+fn answer_of<R: Source, W: Sink, C: Crew<Engine>>(
+    alloc: Global,
+    crew: &C,
+    job: Job,
+    reader: &mut R,
+    writer: &mut W,
+) -> Result<bool, ConsoleFault>
+    requires ready { C.ready crew.now }
+    requires reads { R.failed_reads reader.old < 2 ^ 64 - 1 }
+    requires writes { W.failed_writes writer.old < 2 ^ 64 - 1 }
+    ensures answers { IfSome (R.remaining reader.old)
+        (λ input. Answers (C.answers crew.now) job input
+        (W.contents writer.old) (W.contents writer.new) result) }
+    ensures read { IsErrOf result ConsoleFault.Read ↔
+        (R.failed_reads reader.old < R.failed_reads reader.new) }
+    ensures write { IsErrOf result ConsoleFault.Write ↔
+        (W.failed_writes writer.old < W.failed_writes writer.new) }
+{
+    match job {
+        Job::Assemble(profile) => asm(alloc, profile, reader, writer),
+        Job::List => list(alloc, reader, writer),
+        Job::Run(settings) => match run(alloc, settings, crew, reader, writer) {
+            Ok(()) => Ok(true),
+            Err(fault) => Err(fault),
+        },
+    }
+}
+
+/// Does a job, and gives the exit status: 0 where its command did what it was asked for, 1 with a
+/// fault of the input, of which it says on standard error what did not fit, and 3 where a device or
+/// the workers failed or memory was refused, which it says by name. What is said does not change
+/// what is written, nor the status.
+pub fn perform<E: Eprint + AllocGlobal, R: Source + Drop, W: Sink + Drop, C: Crew<Engine>>(
+    rt: &E,
+    crew: &C,
+    job: Job,
+    reader: &mut KeptSource<R>,
+    writer: &mut KeptSink<W>,
+) -> ExitCode
+    requires ready { C.ready crew.now }
+    requires reads { R.failed_reads reader.old.inner < 2 ^ 64 - 1 }
+    requires writes { W.failed_writes writer.old.inner < 2 ^ 64 - 1 }
+    ensures performs { IfSome (R.remaining reader.old.inner) (λ input.
+        Performs (C.answers crew.now) job input (W.contents writer.old.inner)
+        (W.contents writer.new.inner) (exit_status result)) }
+    ensures read { R.failed_reads reader.old.inner < R.failed_reads reader.new.inner →
+        exit_status result ≡ 3 }
+    ensures write { W.failed_writes writer.old.inner < W.failed_writes writer.new.inner →
+        exit_status result ≡ 3 }
+{
+    let answer = answer_of(rt.alloc(), crew, job, reader, writer);
+    match &answer {
+        Ok(true) => {}
+        Ok(false) => say_hint(rt, job, &reader.text, None, writer.front.octets()),
+        Err(fault) => say_hint(rt, job, &reader.text, Some(fault), writer.front.octets()),
+    }
+    status_of(rt, answer)
+}
