@@ -3,12 +3,11 @@ use Rattle.std.proofs.Common.{◌≡◌, ◌≤◌, ℕ, zero, suc, Bool, true, 
 use Rattle.std.specs.FinMap.{get}
 use Rattle.obcp_types.specs.declared.status.Status.{Status}
 use Rattle.obcp_types.specs.declared.status.Status.TheVariants.{Inactive, Running, Held}
-use Rattle.bpf_step.specs.Machine.{State as Machined, HasAddressesOf}
-use Rattle.bpf_step.specs.Runs.{local_run}
+use Rattle.bpf_step.specs.Machine.{State as Machined}
 use Rattle.bpf_step.specs.Step.{StandsIn}
 use Rattle.ocp_table.specs.Budgets.{IsWithin}
 use Rattle.ocp_table.specs.Records.{Rec}
-use Rattle.ocp_table.specs.Snapshots.{Snapshot, snapshot_of, snapshot_by, snapshot_at, run_of, StandsAt, HasAddressesAt}
+use Rattle.ocp_table.specs.Snapshots.{Snapshot, snapshot_of, snapshot_by, snapshot_at, run_of, StandsAt, machine_for}
 use Rattle.ocp_world.specs.World.{World, Step}
 use Rattle.ocp_world.specs.After.{Answer, Stepped, after}
 use Rattle.ocp_world.specs.Replay.{replay_from, answers}
@@ -72,14 +71,9 @@ stands_at : (o : Option Rec) (base : Snapshot) (machine : Machined) → IsOf o b
 stands_at o base machine found stands =
     subst (λ x. StandsAt x machine) (sym found.held) (subst (λ s. StandsIn s.image machine) (sym found.same) stands)
 
--- and has its addresses
-has_addresses : (o : Option Rec) (base : Snapshot) (machine : Machined) → IsOf o base → HasAddressesOf base.machine machine → HasAddressesAt o machine
-has_addresses o base machine found has =
-    subst (λ x. HasAddressesAt x machine) (sym found.held) (subst (λ s. HasAddressesOf s.machine machine) (sym found.same) has)
-
--- what the law says of the machine that a run leaves
-abbrev pub RunsKeep : Type 0
-RunsKeep = (image breakpoints : List ℕ) (pass : Bool) (s t : Machined) (n : ℕ) → local_run image breakpoints pass s n ≡ Some t → HasAddressesOf s t
+-- and the one that is given for it is that of the snapshot
+given_at : (o : Option Rec) (base : Snapshot) (machine : Machined) → IsOf o base → machine_for o machine ≡ base.machine
+given_at o base machine found = ap (λ x. machine_for x machine) found.held ∙ ap (λ s. s.machine) found.same
 
 -- what the law says of the instructions of a run
 abbrev pub AreEvents : Type 0
@@ -103,13 +97,6 @@ module _ {A : Type 0} where
   may_settle log w s stands fresh run =
       subst (λ m. StandsAt (get m w.id) w.end) (sym stands.records)
       (stands_at (get (world_of log).records w.id) w.base w.end (is_of (get (world_of log).records w.id) w.base fresh) run.stands)
-
-  -- its memory has the addresses of the procedure's own
-  pub may_copy : RunsKeep → (log : Log) (w : WorkContents) (s : State A) → IsWorld (world_of log) s → IsFresh log w → IsRun w → HasAddressesAt (get s.table.records w.id) w.end
-  may_copy kept log w s stands fresh run =
-      subst (λ m. HasAddressesAt (get m w.id) w.end) (sym stands.records)
-      (has_addresses (get (world_of log).records w.id) w.base w.end (is_of (get (world_of log).records w.id) w.base fresh)
-      (kept w.base.image w.base.breakpoints w.base.pass w.base.machine w.end w.count run.ran))
 
   -- the state after a commit stands for the new journal's world
   pub IsWorld-committed : AreEvents → (log new : Log) (by : ℕ) (w : WorkContents) (s : State A) → (w.count ≡ 0 → ⊥) → IsFresh log w → IsRun w → new ≡ with_entry log (Steps by w.id w.count) → IsWorld (world_after_work w.id w.end w.count (world_of log)) s → IsWorld (world_of new) s
@@ -138,3 +125,19 @@ last_of_run w by id (suc n) all =
     let answered = head_of first.answer (Stepped S.Ran) (answers first.world (replicate n (Step by id))) (replicate n (Stepped S.Ran)) all in
     let rest = tail_of first.answer (Stepped S.Ran) (answers first.world (replicate n (Step by id))) (replicate n (Stepped S.Ran)) all in
     ap (λ o. last_outcome first.world by id o n) (same_outcome (next_outcome w id) S.Ran answered) ∙ last_of_run first.world by id n rest
+
+-- ---- the work that stays
+
+-- the machine that the procedure gives is the one that the work began with
+pub given_back : (log : Log) (w : WorkContents) (before machine : Machined) → IsFresh log w → machine ≡ machine_for (get (world_of log).records w.id) before → machine ≡ w.base.machine
+given_back log w before machine fresh is = is ∙ given_at (get (world_of log).records w.id) w.base before (is_of (get (world_of log).records w.id) w.base fresh)
+
+-- a machine as it began has done nothing
+pub run_none : (id : ℕ) (base : Snapshot) (machine : Machined) → StandsIn base.image base.machine → machine ≡ base.machine → IsRun (record { id = id; base = base; end = machine; count = 0 })
+run_none id base machine stands is =
+    subst (λ m. IsRun (record { id = id; base = base; end = m; count = 0 })) (sym is)
+    (record { ran = refl; within = within_none base.remaining; stands = stands; untraced = λ _. refl })
+  where
+    within_none : (left : Option ℕ) → IsWithin left 0
+    within_none None = tt
+    within_none (Some n) = omega arith

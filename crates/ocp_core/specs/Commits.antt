@@ -29,3 +29,11 @@ Commits old new by w JournalFull =
 Commits old new by w (Committed count) =
     (w.count ≢ 0) × IsFresh old w × (is_full old ≡ false) × (count ≡ w.count)
     × IsCommitted old new by w
+
+-- what a work is after it was handed in: one that was committed has the machine that it began with,
+-- after no instructions, and any other is as it was
+abbrev pub work_after : WorkContents → CommitOutcome → WorkContents
+work_after w Empty = w
+work_after w Stale = w
+work_after w JournalFull = w
+work_after w (Committed count) = record w { end = w.base.machine; count = 0 }

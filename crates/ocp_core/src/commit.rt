@@ -4,10 +4,9 @@ ghost use Rattle.std.specs.Prelude.{◌≡◌, IfOk, IsTrue, Some, false};
 ghost use Rattle.std.specs.FinMap.{get};
 ghost use Rattle.ocp_core.specs.Log.{world_of};
 ghost use Rattle.ocp_core.specs.Tickets.{ticket_at};
-ghost use Rattle.ocp_core.specs.Commits.{Commits};
+ghost use Rattle.ocp_core.specs.Commits.{Commits, work_after};
 
 use crate::{CommitOutcome, Engine, Entry, StepOutcome, Ticket, Work};
-use bpf_step::laws::runs_keep_the_addresses;
 use ocp_world::instructions_done_alone_are_events;
 use std::alloc::{AllocError, Allocator};
 
@@ -43,34 +42,39 @@ impl<A: Allocator> Engine<A> {
     /// order, where there are none, where the procedure is not what the work began with, and where
     /// the journal is full; then nothing is changed. The work is dropped.
     pub fn commit(&mut self, by: u16, work: Work<A>) -> CommitOutcome
-        ensures { Commits self.old self.new by work result }
+        ensures commits { Commits self.old self.new by work result }
     {
-        self.hand_in(by, &work)
+        let mut work = work;
+        self.hand_in(by, &mut work)
     }
 
-    /// As `commit`, with a work that stays: no memory is given back, and what the machine did is
-    /// copied into the procedure's own.
-    pub fn hand_in(&mut self, by: u16, work: &Work<A>) -> CommitOutcome
-        ensures { Commits self.old self.new by work.now result }
+    /// As `commit`, with a work that stays: no memory is given back, and no machine is copied.
+    /// Where it is committed, the procedure has the machine that ran, and the work the procedure's,
+    /// which is as it began, after no instructions.
+    pub fn hand_in(&mut self, by: u16, work: &mut Work<A>) -> CommitOutcome
+        ensures commits { Commits self.old self.new by work.old result }
+        ensures work { work.new ≡ work_after work.old result }
     {
         instructions_done_alone_are_events();
-        runs_keep_the_addresses();
-        if work.count == 0 {
+        let count = work.count;
+        if count == 0 {
             return CommitOutcome::Empty;
         }
-        if !self.state.is_at(work.id, &work.base) {
+        if !self.state.is_at(work.id, &work.parts.base) {
             return CommitOutcome::Stale;
         }
         if self.journal.is_full() {
             return CommitOutcome::JournalFull;
         }
-        self.state.settle(work.id, work.count, &work.end);
+        work.parts.base.stands();
+        self.state.settle(work.id, count, &mut work.parts.machine);
+        work.count = 0;
         self.journal.push(Entry::Steps {
             by,
             id: work.id,
-            count: work.count,
+            count,
             mark: StepOutcome::Ran,
         });
-        CommitOutcome::Committed(work.count)
+        CommitOutcome::Committed(count)
     }
 }

@@ -7,14 +7,21 @@ use ocp_world::State;
 use std::alloc::{AllocError, Allocator, Global};
 use std::marker::Model;
 
+/// What a ticket and its work have of a procedure. It stands on the heap, so that a ticket becomes
+/// a work, and goes from call to call, where it is.
+#[derive(Drop)]
+pub(crate) struct Parts<A: Allocator> {
+    pub(crate) base: Snapshot<A>,
+    pub(crate) machine: Machine<A>,
+}
+
 /// A copy of a running procedure: its machine, which is to compare with, another machine with the
 /// same addresses, which is to become like it and to run, the shared program, the breakpoints, the
 /// pass flag, the trace flag and what remains of the budget.
 #[derive(Drop)]
 pub struct Ticket<A: Allocator = Global> {
     id: u16,
-    base: Snapshot<A>,
-    machine: Machine<A>,
+    parts: Box<Parts<A>, A>,
 }
 
 impl<A: Allocator> Model for Ticket<A> {
@@ -27,9 +34,9 @@ impl<A: Allocator> Model for Ticket<A> {
 
     ghost coded = { ticket_code };
 
-    ghost view = { λ t. record { id = t.id; base = t.base } };
+    ghost view = { λ t. record { id = t.id; base = t.parts.value.base } };
 
-    ghost invariant = { λ t. HasAddressesOf t.machine t.base.machine };
+    ghost invariant = { λ t. HasAddressesOf t.parts.value.machine t.parts.value.base.machine };
 }
 
 /// What a ticket did: its machine is the one that it began with after that many instructions that
@@ -37,8 +44,7 @@ impl<A: Allocator> Model for Ticket<A> {
 #[derive(Drop)]
 pub struct Work<A: Allocator = Global> {
     pub(crate) id: u16,
-    pub(crate) base: Snapshot<A>,
-    pub(crate) end: Machine<A>,
+    pub(crate) parts: Box<Parts<A>, A>,
     pub(crate) count: u32,
 }
 
@@ -51,10 +57,54 @@ impl<A: Allocator> Model for Work<A> {
 
     ghost coded = { work_code };
 
-    ghost view = { λ w. record { id = w.id; base = w.base; end = w.end; count = w.count } };
+    ghost view = { λ w. record {
+      id = w.id;
+      base = w.parts.value.base;
+      end = w.parts.value.machine;
+      count = w.count;
+    } };
 
     ghost invariant = { λ w. IsRun
-        (record { id = w.id; base = w.base; end = w.end; count = w.count }) };
+        (record {
+          id = w.id;
+          base = w.parts.value.base;
+          end = w.parts.value.machine;
+          count = w.count;
+        }) };
+}
+
+impl<A: Allocator> Parts<A> {
+    ghost use Rattle.std.specs.Prelude.{◌≡◌, IsTrue, Some, false};
+    ghost use Rattle.std.specs.FinMap.{get};
+    ghost use Rattle.bpf_step.specs.Machine.{HasAddressesOf};
+    ghost use Rattle.bpf_step.specs.Step.{StandsIn};
+    ghost use Rattle.ocp_table.specs.Budgets.{IsWithin};
+    ghost use Rattle.ocp_table.specs.Snapshots.{snapshot_at, run_of, count_of};
+    ghost use Rattle.ocp_world.specs.World.{World};
+    ghost use Rattle.ocp_world.specs.Mirror.State.{IsWorld};
+
+    /// Become those of a procedure, but for the machine that is to run, or stay as they were.
+    fn retake(&mut self, state: &State<A>, id: u16) -> bool
+        ensures taken { (w : World) → IsWorld w state.now → IsTrue result →
+            snapshot_at (get w.records id) ≡ Some self.new.base }
+        ensures kept { (result ≡ false) → self.new ≡ self.old }
+        ensures machine { self.new.machine ≡ self.old.machine }
+        ensures addresses { HasAddressesOf self.old.base.machine self.new.base.machine }
+    {
+        state.snapshot_into(id, &mut self.base)
+    }
+
+    /// Lets the other machine become like the one that stood, and run.
+    fn run(&mut self, budget: u32) -> u32
+        requires { HasAddressesOf self.old.machine self.old.base.machine }
+        ensures base { self.new.base ≡ self.old.base }
+        ensures ran { run_of self.new.base result ≡ Some self.new.machine }
+        ensures count { result ≡ count_of self.new.base budget }
+        ensures within { IsWithin self.new.base.remaining result }
+        ensures stands { StandsIn self.new.base.image self.new.machine }
+    {
+        self.base.run(&mut self.machine, budget)
+    }
 }
 
 impl<A: Allocator> Ticket<A> {
@@ -72,7 +122,8 @@ impl<A: Allocator> Ticket<A> {
         ensures { IfOk result (λ ticket. ticket ≡ record { id = id; base = base }) }
     {
         let machine = base.machine(alloc)?;
-        Ok(Ticket { id, base, machine })
+        let parts = Box::new(alloc, Parts { base, machine })?;
+        Ok(Ticket { id, parts })
     }
 
     /// Becomes that of a procedure, in the same memory, or stays as it was.
@@ -81,7 +132,7 @@ impl<A: Allocator> Ticket<A> {
             IsTrue result → ticket_at id (get w.records id) ≡ Some self.new }
         ensures kept { (result ≡ false) → self.new ≡ self.old }
     {
-        if !state.snapshot_into(id, &mut self.base) {
+        if !self.parts.retake(state, id) {
             return false;
         }
         self.id = id;
@@ -105,18 +156,9 @@ impl<A: Allocator> Ticket<A> {
         ensures count { result.count ≡ count_of self.base budget }
         ensures ran { IsRun result }
     {
-        let Ticket {
-            id,
-            base,
-            mut machine,
-        } = self;
-        let count = base.run(&mut machine, budget);
-        Work {
-            id,
-            base,
-            end: machine,
-            count,
-        }
+        let Ticket { id, mut parts } = self;
+        let count = parts.run(budget);
+        Work { id, parts, count }
     }
 }
 
@@ -138,15 +180,10 @@ impl<A: Allocator> Work<A> {
         runs_keep_the_addresses();
         let Work {
             id,
-            base,
-            end,
+            parts,
             count: _,
         } = self;
-        Ticket {
-            id,
-            base,
-            machine: end,
-        }
+        Ticket { id, parts }
     }
 
     /// How many instructions were done.

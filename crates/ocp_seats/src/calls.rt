@@ -7,7 +7,7 @@ ghost use Rattle.ocp_world.specs.After.{Stepped, Commanded, is_accepted};
 ghost use Rattle.ocp_world.specs.Answers.{Answers};
 ghost use Rattle.ocp_core.specs.Log.{answer_in, log_after};
 ghost use Rattle.ocp_core.specs.Slice.{slice_in, slice_log};
-ghost use Rattle.ocp_core.specs.Commits.{Commits};
+ghost use Rattle.ocp_core.specs.Commits.{Commits, work_after};
 ghost use Rattle.ocp_core.specs.Receipts.{Enters, event_entries};
 ghost use Rattle.ocp_seats.specs.Receipts.{step_entries, slice_entries, commit_entries, request_entries, drain_entries, command_entries};
 ghost use Rattle.ocp_seats.specs.Seats.{GrowsBy, Gains};
@@ -136,17 +136,19 @@ impl<L: Naming, A: Allocator> Book<L, A> {
         ensures book { GrowsBy self.old self.new (commit_entries seat.old.number work.id result) }
         ensures seat { Gains seat.old seat.new (commit_entries seat.old.number work.id result) }
     {
-        self.hand_in(seat, &work)
+        let mut work = work;
+        self.hand_in(seat, &mut work)
     }
 
     /// `Engine::hand_in` with the seat's number.
     #[tactic(auto, using(crate::proofs::Going::goes_on_further))]
-    pub fn hand_in(&mut self, seat: &mut Seat<L, A>, work: &Work<A>) -> CommitOutcome
-        ensures engine { Commits self.old.engine self.new.engine seat.old.number work.now result }
+    pub fn hand_in(&mut self, seat: &mut Seat<L, A>, work: &mut Work<A>) -> CommitOutcome
+        ensures engine { Commits self.old.engine self.new.engine seat.old.number work.old result }
+        ensures work { work.new ≡ work_after work.old result }
         ensures book { GrowsBy self.old self.new
-            (commit_entries seat.old.number work.now.id result) }
+            (commit_entries seat.old.number work.old.id result) }
         ensures seat { Gains seat.old seat.new
-            (commit_entries seat.old.number work.now.id result) }
+            (commit_entries seat.old.number work.old.id result) }
     {
         let by = seat.number;
         let id = work.id();

@@ -3,7 +3,7 @@
 ghost use Rattle.std.specs.Prelude.{◌≡◌, ◌≤◌, false, None};
 ghost use Rattle.ocp_world.specs.After.{is_accepted};
 ghost use Rattle.ocp_core.specs.Slice.{slice_in, slice_log};
-ghost use Rattle.ocp_core.specs.Commits.{Commits};
+ghost use Rattle.ocp_core.specs.Commits.{Commits, work_after};
 ghost use Rattle.ocp_core.specs.Receipts.{Enters, entries_in, event_entries};
 ghost use Rattle.ocp_seats.specs.Receipts.{slice_entries, commit_entries};
 ghost use Rattle.ocp_seats.specs.Seats.{Grows};
@@ -37,9 +37,14 @@ pub(crate) fn slice<A: Allocator>(engine: &mut Engine<A>, by: u16, id: u16, budg
     engine.slice(by, id, budget)
 }
 
-pub(crate) fn commit<A: Allocator>(engine: &mut Engine<A>, by: u16, work: &Work<A>) -> CommitOutcome
-    ensures engine { Commits engine.old engine.new by work.now result }
-    ensures gain { Grows engine.old engine.new (commit_entries by work.now.id result) }
+pub(crate) fn commit<A: Allocator>(
+    engine: &mut Engine<A>,
+    by: u16,
+    work: &mut Work<A>,
+) -> CommitOutcome
+    ensures engine { Commits engine.old engine.new by work.old result }
+    ensures work { work.new ≡ work_after work.old result }
+    ensures gain { Grows engine.old engine.new (commit_entries by work.old.id result) }
 {
     entries_are_marked_by_their_answers();
     let _ran = work.count();

@@ -1,5 +1,5 @@
 -- Seats that go on.
-use Rattle.std.proofs.Common.{◌≡◌, ◌≢◌, ◌≤◌, ◌+◌, ℕ, true, List, [], ◌∷◌, ◌++◌, All, inl, inr, refl, ap, sym, subst, ◌∙◌, append_assoc, length-append, arith}
+use Rattle.std.proofs.Common.{◌≡◌, ◌≢◌, ◌≤◌, ◌+◌, ◌-◌, ℕ, true, List, [], ◌∷◌, ◌++◌, All, inl, inr, refl, ap, sym, subst, ◌∙◌, append_assoc, length-append, arith}
 use Rattle.std.proofs.lemmas.List.{append-nil}
 use Rattle.std.proofs.lemmas.List.Elements.{All-nil, All-cons, All-append}
 use Rattle.ocp_table.specs.declared.answers.StepOutcome.{StepOutcome}
@@ -74,7 +74,7 @@ continues_turn answers budget old new (Committed count) is =
     let some : count ≢ 0 = is.0 in
     let low : 1 ≤ count = grind arith in
     continues_one budget old new _ is.2.2 (refl, (low, inl is.1)) refl
-continues_turn answers budget old new (Stepped answer) is = continues_answer budget is.1.0.hands_in.ticket.id old new answer is.1.1
+continues_turn answers budget old new (Stepped answer) is = continues_answer budget is.1.0.hands_in.work.id old new answer is.1.1
 continues_turn answers budget old new Stale is = continues_same budget old new is.1
 continues_turn answers budget old new Full is = continues_same budget old new is.1
 continues_turn answers budget old new NoMemory is = continues_same budget old new is.1
@@ -103,3 +103,13 @@ continues_at_end made turns budget a b within one = record {
   shifts = one.shifts;
   done = one.done;
 }
+
+pub continues_without : (turns budget : ℕ) (s : SeatContents) → turns ≡ 0 → Continues turns budget s s
+continues_without turns budget s none = subst (λ (n : ℕ). Continues n budget s s) (sym none) (continues_unchanged budget s)
+
+-- one turn more after the others
+pub continues_last : (answers : Reply → Type 0) (made turns budget : ℕ) (a b c : SeatContents) (t : Turn) → (turns ≡ 0 → ⊥) → made ≤ turns - 1 → Continues made budget a b → IsTurn answers budget b c t → Continues turns budget a c
+continues_last answers made turns budget a b c t some before one turned =
+    let low : turns ≢ 0 = some in
+    let within : made + 1 ≤ turns = grind arith in
+    continues_at_end (made + 1) turns budget a c within (continues_by_turn answers made budget a b c t one turned)

@@ -2,6 +2,7 @@
 
 ghost use Rattle.std.specs.Prelude.{◌≡◌, ◌≤◌, ◌↔◌, ℕ, [], Ok, Err, IfOk, IfErr, OnOk};
 ghost use Rattle.ocp_core.specs.declared.answers.CommitOutcome.TheVariants.{Empty, Committed};
+ghost use Rattle.ocp_core.specs.Commits.{work_after};
 ghost use Rattle.ocp_core.specs.Receipts.{event_entries};
 ghost use Rattle.ocp_seats.specs.Receipts.{slice_entries, commit_entries};
 ghost use Rattle.ocp_seats.specs.Seats.{Gains};
@@ -40,12 +41,13 @@ pub trait Board<L: Naming> {
         ensures count { (n : ℕ) → result ≡ Committed n → n ≡ work.count };
 
     /// The same with a work that stays.
-    fn hand_in(&mut self, seat: &mut Seat<L>, work: &Work) -> CommitOutcome
-        ensures given { answers (CommitReply seat.old.number work.now result) }
+    fn hand_in(&mut self, seat: &mut Seat<L>, work: &mut Work) -> CommitOutcome
+        ensures given { answers (CommitReply seat.old.number work.old result) }
+        ensures work { work.new ≡ work_after work.old result }
         ensures seat { Gains seat.old seat.new
-            (commit_entries seat.old.number work.now.id result) }
-        ensures empty { result ≡ Empty ↔ work.now.count ≡ 0 }
-        ensures count { (n : ℕ) → result ≡ Committed n → n ≡ work.now.count };
+            (commit_entries seat.old.number work.old.id result) }
+        ensures empty { result ≡ Empty ↔ work.old.count ≡ 0 }
+        ensures count { (n : ℕ) → result ≡ Committed n → n ≡ work.old.count };
 
     /// Asks the engine by the seat's number.
     fn apply<I: Input<Global>>(&mut self, seat: &mut Seat<L>, input: I) -> I::Answer
@@ -106,14 +108,15 @@ impl<L: Naming> Board<L> for Book<L> {
     }
 
     #[tactic(auto, using(crate::proofs::Outcomes::empty_exactly, crate::proofs::Outcomes::committed_all))]
-    fn hand_in(&mut self, seat: &mut Seat<L>, work: &Work) -> CommitOutcome
-        ensures engine { Commits self.old.engine self.new.engine seat.old.number work.now result }
+    fn hand_in(&mut self, seat: &mut Seat<L>, work: &mut Work) -> CommitOutcome
+        ensures engine { Commits self.old.engine self.new.engine seat.old.number work.old result }
+        ensures work { work.new ≡ work_after work.old result }
         ensures book { GrowsBy self.old self.new
-            (commit_entries seat.old.number work.now.id result) }
+            (commit_entries seat.old.number work.old.id result) }
         ensures seat { Gains seat.old seat.new
-            (commit_entries seat.old.number work.now.id result) }
-        ensures empty { result ≡ Empty ↔ work.now.count ≡ 0 }
-        ensures count { (n : ℕ) → result ≡ Committed n → n ≡ work.now.count }
+            (commit_entries seat.old.number work.old.id result) }
+        ensures empty { result ≡ Empty ↔ work.old.count ≡ 0 }
+        ensures count { (n : ℕ) → result ≡ Committed n → n ≡ work.old.count }
     {
         Book::hand_in(self, seat, work)
     }

@@ -3,6 +3,7 @@
 ghost use Rattle.std.specs.Prelude.{◌≡◌, ◌≤◌, ◌+◌, ◌↔◌, ℕ, [], Ok, Err, length, IfOk, IfErr, OnOk};
 ghost use Rattle.ocp_debug.specs.declared.command.Command.TheVariants as command;
 ghost use Rattle.ocp_core.specs.declared.answers.CommitOutcome.TheVariants.{Empty, Committed};
+ghost use Rattle.ocp_core.specs.Commits.{work_after};
 ghost use Rattle.ocp_seats.specs.Receipts.{step_entries, slice_entries, commit_entries, request_entries, drain_entries, command_entries};
 ghost use Rattle.ocp_seats.specs.Seats.{Gains};
 ghost use Rattle.ocp_slices.specs.Replies.{SeatReply, TakeReply, CommitReply, RequestReply, DrainReply, StepReply, SliceReply, CommandReply};
@@ -23,7 +24,7 @@ use std::sync::{Mutex, Wait};
 /// and the answer that it was given.
 #[derive(Drop)]
 pub struct SharedEngine<L: Naming, B: Board<L> = Book<L>> {
-    board: Mutex<B>,
+    pub(crate) board: Mutex<B>,
     of: PhantomData<L>,
 }
 
@@ -90,13 +91,15 @@ impl<L: Naming, B: Board<L>> SharedEngine<L, B> {
         self.board.lock(rt).take_into(alloc, ticket)
     }
 
-    /// As `commit`, with a work that stays, so that no memory is given back under the lock.
-    pub fn hand_in<R: Wait>(&self, rt: &R, seat: &mut Seat<L>, work: &Work) -> CommitOutcome
-        ensures given { B.answers (CommitReply seat.old.number work.now result) }
+    /// As `commit`, with a work that stays, so that no memory is given back under the lock, and no
+    /// machine is copied.
+    pub fn hand_in<R: Wait>(&self, rt: &R, seat: &mut Seat<L>, work: &mut Work) -> CommitOutcome
+        ensures given { B.answers (CommitReply seat.old.number work.old result) }
+        ensures work { work.new ≡ work_after work.old result }
         ensures seat { Gains seat.old seat.new
-            (commit_entries seat.old.number work.now.id result) }
-        ensures empty { result ≡ Empty ↔ work.now.count ≡ 0 }
-        ensures count { (n : ℕ) → result ≡ Committed n → n ≡ work.now.count }
+            (commit_entries seat.old.number work.old.id result) }
+        ensures empty { result ≡ Empty ↔ work.old.count ≡ 0 }
+        ensures count { (n : ℕ) → result ≡ Committed n → n ≡ work.old.count }
     {
         self.board.lock(rt).hand_in(seat, work)
     }

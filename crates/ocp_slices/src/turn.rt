@@ -1,12 +1,15 @@
 //! Turns: take a procedure, run it off the lock, and put its work back.
 
-ghost use Rattle.std.specs.Prelude.{◌≡◌, ◌≤◌, Ok, Err, IfOk, IfErr};
+ghost use Rattle.std.specs.Prelude.{◌≡◌, ℕ};
 ghost use Rattle.ocp_table.specs.Snapshots.{count_of};
 ghost use Rattle.ocp_core.specs.Tickets.{IsRun};
 ghost use Rattle.ocp_slices.specs.Continuing.{Continues};
-ghost use Rattle.ocp_slices.specs.Replies.{TakeReply};
-ghost use Rattle.ocp_slices.specs.Turns.{IsTurn};
+ghost use Rattle.ocp_seats.specs.Receipts.{step_entries};
+ghost use Rattle.ocp_seats.specs.Seats.{Gains};
+ghost use Rattle.ocp_slices.specs.Replies.{TakeReply, StepReply};
+ghost use Rattle.ocp_slices.specs.Turns.{IsWorkOf, IsTurn, turn_without};
 
+use crate::input::Step;
 use crate::{
     Board, CommitOutcome, Naming, Seat, SharedEngine, StepOutcome, TakeFault, Ticket, Work,
 };
@@ -51,15 +54,120 @@ pub enum Turn {
 }
 
 /// What a ticket does off the lock: at most so many instructions.
-#[tactic(auto, using(crate::proofs::Outcomes::count_within))]
 fn run_within(ticket: Ticket, budget: u32) -> Work
     ensures id { result.id ≡ ticket.id }
     ensures base { result.base ≡ ticket.base }
     ensures count { result.count ≡ count_of ticket.base budget }
     ensures ran { IsRun result }
-    ensures within { result.count ≤ budget }
 {
     ticket.run(budget)
+}
+
+/// What a turn begins with: a ticket, or why there is none; and the memory of one, where there is.
+#[derive(Drop)]
+struct Next {
+    taken: Result<Ticket, TakeFault>,
+    spare: Option<Ticket>,
+}
+
+/// The next ticket, in the memory of a spare one where there is one; that stays where there is
+/// none.
+fn take_next<L: Naming, B: Board<L>>(board: &mut B, alloc: Global, spare: Option<Ticket>) -> Next
+    ensures given { B.answers (TakeReply result.taken) }
+{
+    let Some(mut ticket) = spare else {
+        return Next {
+            taken: board.take(alloc),
+            spare: None,
+        };
+    };
+    match board.take_into(alloc, &mut ticket) {
+        Ok(()) => Next {
+            taken: Ok(ticket),
+            spare: None,
+        },
+        Err(fault) => Next {
+            taken: Err(fault),
+            spare: Some(ticket),
+        },
+    }
+}
+
+/// Why a turn without a ticket does nothing.
+fn turn_without(fault: TakeFault) -> Turn
+    ensures { result ≡ turn_without fault }
+{
+    match fault {
+        TakeFault::NoneRunning => Turn::Idle,
+        TakeFault::Memory => Turn::NoMemory,
+    }
+}
+
+/// One instruction of a procedure.
+fn step_by<L: Naming, B: Board<L>>(board: &mut B, seat: &mut Seat<L>, id: u16) -> StepOutcome
+    ensures given { B.answers (StepReply seat.old.number id result) }
+    ensures seat { Gains seat.old seat.new (step_entries seat.old.number id result) }
+{
+    board.apply(seat, Step { id })
+}
+
+/// Hands in the work of a turn, and does one instruction of its procedure where it could do none by
+/// itself: the work's outcome, and what the turn answers.
+fn put_back<L: Naming, B: Board<L>>(
+    board: &mut B,
+    seat: &mut Seat<L>,
+    work: &mut Work,
+) -> (CommitOutcome, Turn)
+    ensures turned { (budget : ℕ) → IsWorkOf B.answers budget work.old →
+        IsTurn B.answers budget seat.old seat.new result.1 }
+{
+    let id = work.id();
+    let outcome = board.hand_in(seat, work);
+    match outcome {
+        CommitOutcome::Committed(count) => (outcome, Turn::Committed(count)),
+        CommitOutcome::Stale => (outcome, Turn::Stale),
+        CommitOutcome::JournalFull => (outcome, Turn::Full),
+        CommitOutcome::Empty => match step_by(board, seat, id) {
+            StepOutcome::JournalFull => (outcome, Turn::Full),
+            answer => (outcome, Turn::Stepped(answer)),
+        },
+    }
+}
+
+/// A work's outcome, what its turn answers, and what the next one begins with.
+#[derive(Drop)]
+struct PutBack {
+    outcome: CommitOutcome,
+    turn: Turn,
+    next: Next,
+}
+
+/// Puts a work back, and takes the next ticket into its memory.
+fn put_back_and_take<L: Naming, B: Board<L>>(
+    board: &mut B,
+    alloc: Global,
+    seat: &mut Seat<L>,
+    work: Work,
+) -> PutBack
+    ensures turned { (budget : ℕ) → IsWorkOf B.answers budget work →
+        IsTurn B.answers budget seat.old seat.new result.turn }
+    ensures given { B.answers (TakeReply result.next.taken) }
+{
+    let mut work = work;
+    let (outcome, turn) = put_back(board, seat, &mut work);
+    let next = take_next(board, alloc, Some(work.into_ticket()));
+    PutBack {
+        outcome,
+        turn,
+        next,
+    }
+}
+
+/// What a turn answered, and what the next one begins with.
+#[derive(Drop)]
+struct Turned {
+    turn: Turn,
+    next: Next,
 }
 
 impl<L: Naming, B: Board<L>> SharedEngine<L, B> {
@@ -77,69 +185,77 @@ impl<L: Naming, B: Board<L>> SharedEngine<L, B> {
     ) -> Turn
         ensures turned { IsTurn B.answers budget seat.old seat.new result }
     {
-        self.turn_in(rt, alloc, seat, budget, gate, &mut None)
+        let taken = self.take(rt, alloc);
+        self.turn_with(rt, seat, budget, gate, taken)
     }
 
-    /// The next ticket, in the memory of a spare one where there is one; that stays where there is
-    /// none.
-    fn take_in<R: Wait>(
+    /// A turn that begins with what was taken.
+    #[tactic(auto, using(crate::proofs::Turning::did, crate::proofs::Turning::idle))]
+    fn turn_with<R: Wait, G: Gate>(
         &self,
         rt: &R,
-        alloc: Global,
-        spare: &mut Option<Ticket>,
-    ) -> Result<Ticket, TakeFault>
-        ensures given { B.answers (TakeReply result) }
+        seat: &mut Seat<L>,
+        budget: u32,
+        gate: &G,
+        taken: Result<Ticket, TakeFault>,
+    ) -> Turn
+        requires given { B.answers (TakeReply taken) }
+        ensures turned { IsTurn B.answers budget seat.old seat.new result }
     {
-        let Some(mut ticket) = spare.take() else {
-            return self.take(rt, alloc);
+        let ticket = match taken {
+            Ok(ticket) => ticket,
+            Err(fault) => return turn_without(fault),
         };
-        match self.take_into(rt, alloc, &mut ticket) {
-            Ok(()) => Ok(ticket),
-            Err(fault) => {
-                *spare = Some(ticket);
-                Err(fault)
-            }
-        }
+        let mut work = run_within(ticket, budget);
+        let number = seat.number();
+        let id = work.id();
+        gate.before(number, id, work.count());
+        let (outcome, turn) = put_back(&mut *self.board.lock(rt), seat, &mut work);
+        gate.after(number, id, outcome);
+        turn
     }
 
-    /// A turn in the memory of a spare ticket, where there is one, and then there is one.
-    fn turn_in<R: Wait, G: Gate>(
+    /// The same, and then takes what the next turn begins with, under one lock.
+    #[tactic(auto, using(crate::proofs::Turning::did, crate::proofs::Turning::idle))]
+    fn turn_and_take<R: Wait, G: Gate>(
         &self,
         rt: &R,
         alloc: Global,
         seat: &mut Seat<L>,
         budget: u32,
         gate: &G,
-        spare: &mut Option<Ticket>,
-    ) -> Turn
-        ensures turned { IsTurn B.answers budget seat.old seat.new result }
+        next: Next,
+    ) -> Turned
+        requires given { B.answers (TakeReply next.taken) }
+        ensures turned { IsTurn B.answers budget seat.old seat.new result.turn }
+        ensures given { B.answers (TakeReply result.next.taken) }
     {
-        let ticket = match self.take_in(rt, alloc, spare) {
+        let Next { taken, spare } = next;
+        let ticket = match taken {
             Ok(ticket) => ticket,
-            Err(TakeFault::NoneRunning) => return Turn::Idle,
-            Err(TakeFault::Memory) => return Turn::NoMemory,
+            Err(fault) => {
+                return Turned {
+                    turn: turn_without(fault),
+                    next: take_next(&mut *self.board.lock(rt), alloc, spare),
+                };
+            }
         };
         let work = run_within(ticket, budget);
         let number = seat.number();
         let id = work.id();
         gate.before(number, id, work.count());
-        let outcome = self.hand_in(rt, seat, &work);
+        let PutBack {
+            outcome,
+            turn,
+            next,
+        } = put_back_and_take(&mut *self.board.lock(rt), alloc, seat, work);
         gate.after(number, id, outcome);
-        *spare = Some(work.into_ticket());
-        match outcome {
-            CommitOutcome::Committed(count) => Turn::Committed(count),
-            CommitOutcome::Stale => Turn::Stale,
-            CommitOutcome::JournalFull => Turn::Full,
-            CommitOutcome::Empty => match self.step(rt, seat, id) {
-                StepOutcome::JournalFull => Turn::Full,
-                answer => Turn::Stepped(answer),
-            },
-        }
+        Turned { turn, next }
     }
 
-    /// That many turns, one after the other. From the second on none asks for memory, where all
-    /// procedures have machines of one size.
-    #[tactic(auto, using(crate::proofs::Continuing::continues_unchanged, crate::proofs::Continuing::continues_by_turn, crate::proofs::Continuing::continues_at_end))]
+    /// That many turns, one after the other. The lock is taken once between two of them. From the
+    /// second on none asks for memory, where all procedures have machines of one size.
+    #[tactic(auto, using(crate::proofs::Continuing::continues_unchanged, crate::proofs::Continuing::continues_by_turn, crate::proofs::Continuing::continues_without, crate::proofs::Continuing::continues_last))]
     pub fn turns<R: Wait, G: Gate>(
         &self,
         rt: &R,
@@ -151,9 +267,17 @@ impl<L: Naming, B: Board<L>> SharedEngine<L, B> {
     )
         ensures { Continues turns budget seat.old seat.new }
     {
-        let mut spare = None;
-        for _turn in 0..turns {
-            self.turn_in(rt, alloc, seat, budget, gate, &mut spare);
+        if turns == 0 {
+            return;
         }
+        let mut next = Next {
+            taken: self.take(rt, alloc),
+            spare: None,
+        };
+        for _turn in 0..turns - 1 {
+            let turned = self.turn_and_take(rt, alloc, seat, budget, gate, next);
+            next = turned.next;
+        }
+        self.turn_with(rt, seat, budget, gate, next.taken);
     }
 }

@@ -2,7 +2,7 @@
 use Rattle.std.specs.Prelude.{ℕ, Bool, true, false, List, Option, Some, None}
 use Rattle.obcp_types.specs.declared.status.Status.{Status}
 use Rattle.obcp_types.specs.declared.status.Status.TheVariants.{Inactive, Running, Held}
-use Rattle.bpf_step.specs.Machine.{State, HasAddressesOf}
+use Rattle.bpf_step.specs.Machine.{State}
 use Rattle.bpf_step.specs.Step.{StandsIn}
 use Rattle.bpf_step.specs.Runs.{local_run, local_count}
 use Rattle.ocp_table.specs.Budgets.{less, within}
@@ -61,12 +61,12 @@ record_after_work count machine r = record r {
   remaining = less count r.remaining;
 }
 
+-- the procedure gives its own machine for it, where it is loaded
+abbrev pub machine_for : Option Rec → State → State
+machine_for None machine = machine
+machine_for (Some r) machine = r.machine
+
 -- the machine and its saved places stand at instructions of the procedure, where it is loaded
 abbrev pub StandsAt : Option Rec → State → Type 0
 StandsAt None machine = Unit {0}
 StandsAt (Some r) machine = StandsIn r.image machine
-
--- the procedure's machine has the machine's addresses, where it is loaded
-abbrev pub HasAddressesAt : Option Rec → State → Type 0
-HasAddressesAt None machine = Unit {0}
-HasAddressesAt (Some r) machine = HasAddressesOf r.machine machine

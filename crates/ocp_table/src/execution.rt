@@ -7,6 +7,7 @@ use ocp_pool::{Mailbox, Pool, engine_call};
 use ocp_regions::{ARGUMENT_OCTETS, AccessFault};
 use std::alloc::{AllocError, Allocator};
 use std::marker::Model;
+use std::mem;
 use std::sync::Arc;
 
 /// A program, which may be shared, and the machine that runs it. The machine always stands at an
@@ -132,14 +133,14 @@ impl<A: Allocator> Execution<A> {
         machine.run(&self.program, breakpoints, pass, budget)
     }
 
-    /// Makes the machine like another one, whose memory has the same addresses.
-    pub(crate) fn settle(&mut self, machine: &Machine<A>)
-        requires stands { StandsIn self.old.image machine.now }
-        requires addresses { HasAddressesOf self.old.machine machine.now }
+    /// Takes another machine and gives its own for it.
+    pub(crate) fn settle(&mut self, machine: &mut Machine<A>)
+        requires stands { StandsIn self.old.image machine.old }
         ensures image { self.new.image ≡ self.old.image }
-        ensures machine { self.new.machine ≡ machine.now }
+        ensures machine { self.new.machine ≡ machine.old }
+        ensures given { machine.new ≡ self.old.machine }
     {
-        self.machine.copy_from(machine);
+        mem::swap(&mut self.machine, machine);
     }
 
     /// Starts the machine anew with at most 256 octets of arguments.
@@ -149,6 +150,15 @@ impl<A: Allocator> Execution<A> {
         ensures machine { self.new.machine ≡ machine_at_restart arguments.now self.old.machine }
     {
         self.machine.start(arguments);
+    }
+
+    /// The machine and its saved places stand at instructions of the program. The function does
+    /// nothing when it runs.
+    #[inline(always)]
+    pub(crate) fn stands(&self)
+        ensures { StandsIn self.now.image self.now.machine }
+    {
+        let _machine = &self.machine;
     }
 
     /// There is an instruction to do. The function does nothing when it runs.

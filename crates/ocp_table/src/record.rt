@@ -142,13 +142,13 @@ impl<A: Allocator> Record<A> {
         breaks_at(self.control.pass, breakpoints, self.execution.place())
     }
 
-    /// Puts back a machine that did so many instructions apart: the pass flag goes off, and they
-    /// are taken from the budget.
-    pub(crate) fn settle(&mut self, count: u32, machine: &Machine<A>)
-        requires stands { StandsIn self.old.execution.image machine.now }
-        requires addresses { HasAddressesOf self.old.execution.machine machine.now }
+    /// Takes a machine that did so many instructions apart and gives its own for it: the pass flag
+    /// goes off, and they are taken from the budget.
+    pub(crate) fn settle(&mut self, count: u32, machine: &mut Machine<A>)
+        requires stands { StandsIn self.old.execution.image machine.old }
         ensures record { record_of self.new ≡
-            record_after_work count machine.now (record_of self.old) }
+            record_after_work count machine.old (record_of self.old) }
+        ensures given { machine.new ≡ self.old.execution.machine }
         ensures id { self.new.id ≡ self.old.id }
     {
         self.execution.settle(machine);
@@ -177,5 +177,4 @@ ghost use Rattle.ocp_table.specs.Effects.{pool_by};
 ghost use Rattle.ocp_table.specs.RequestTable.{Unload, Step};
 ghost use Rattle.bpf_step.specs.Runs.{breaks_at};
 ghost use Rattle.ocp_table.specs.Snapshots.{record_after_work};
-ghost use Rattle.bpf_step.specs.Machine.{HasAddressesOf};
 ghost use Rattle.bpf_step.specs.Step.{StandsIn};

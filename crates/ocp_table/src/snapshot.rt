@@ -138,6 +138,14 @@ impl<A: Allocator> Snapshot<A> {
         self.execution.machine(alloc)
     }
 
+    /// The machine and its saved places stood at instructions of the program. The function does
+    /// nothing when it runs.
+    pub fn stands(&self)
+        ensures { StandsIn self.now.image self.now.machine }
+    {
+        self.execution.stands();
+    }
+
     /// Makes a machine like the one that stood, and lets it do instructions that need no engine, at
     /// most so many and at most what was left of the budget. It says how many it did: none where
     /// the procedure is traced. It stops before the first instruction that needs the engine, and

@@ -2,7 +2,7 @@
 
 ghost use Rattle.std.specs.Prelude.{◌≡◌, ◌↔◌, ℕ, IfOk, IsTrue, Some, false, replicate};
 ghost use Rattle.std.specs.FinMap.{get};
-ghost use Rattle.ocp_table.specs.Snapshots.{snapshot_at, StandsAt, HasAddressesAt};
+ghost use Rattle.ocp_table.specs.Snapshots.{snapshot_at, machine_for, StandsAt};
 ghost use Rattle.bpf_step.specs.Machine.{State as Machined, HasAddressesOf};
 ghost use Rattle.ocp_table.specs.Records.{Rec};
 ghost use Rattle.ocp_table.specs.declared.answers.StepOutcome.TheVariants as outcome;
@@ -50,12 +50,13 @@ impl<A: Allocator> State<A> {
         self.table.is_at(id, snapshot)
     }
 
-    /// Makes the machine of a procedure like one that did so many instructions apart.
-    pub fn settle(&mut self, id: u16, count: u32, machine: &Machine<A>)
-        requires stands { StandsAt (get self.old.table.records id) machine.now }
-        requires addresses { HasAddressesAt (get self.old.table.records id) machine.now }
-        ensures { (w : World) → IsWorld w self.old →
-            IsWorld (world_after_work id machine.now count w) self.new }
+    /// Gives a procedure a machine that did so many instructions apart, in exchange for its own.
+    pub fn settle(&mut self, id: u16, count: u32, machine: &mut Machine<A>)
+        requires stands { StandsAt (get self.old.table.records id) machine.old }
+        ensures world { (w : World) → IsWorld w self.old →
+            IsWorld (world_after_work id machine.old count w) self.new }
+        ensures machine { (w : World) → IsWorld w self.old →
+            machine.new ≡ machine_for (get w.records id) machine.old }
     {
         self.table.settle(id, count, machine);
     }

@@ -88,10 +88,11 @@ impl<L: Naming> Board<L> for Counting<'_, L> {
     }
 
     fn commit(&mut self, seat: &mut Seat<L>, work: Work) -> CommitOutcome {
-        self.hand_in(seat, &work)
+        let mut work = work;
+        self.hand_in(seat, &mut work)
     }
 
-    fn hand_in(&mut self, seat: &mut Seat<L>, work: &Work) -> CommitOutcome {
+    fn hand_in(&mut self, seat: &mut Seat<L>, work: &mut Work) -> CommitOutcome {
         self.calls = self.calls.saturating_add(1);
         if work.count() == 0 {
             return Board::hand_in(&mut self.book, seat, work);

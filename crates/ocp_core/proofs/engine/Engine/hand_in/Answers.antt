@@ -1,42 +1,59 @@
 use Rattle.std.proofs.Common.{◌≡◌, false, refl, sym, ap, subst, ◌∙◌}
+use Rattle.bpf_step.specs.Step.{StandsIn}
 use Rattle.ocp_world.specs.After.{Stepped}
-use Rattle.ocp_core.specs.Log.{Log, is_full}
-use Rattle.ocp_core.specs.Tickets.{WorkContents}
-use Rattle.ocp_core.specs.Commits.{IsFresh, IsCommitted}
-use Rattle.ocp_core.proofs.Committing.{may_copy, IsWorld-committed, world_committed, counted_commit}
+use Rattle.ocp_world.specs.Settled.{world_after_work}
+use Rattle.ocp_world.specs.Mirror.State.{IsWorld}
+use Rattle.ocp_core.specs.Log.{Log, is_full, world_of}
+use Rattle.ocp_core.specs.Tickets.{WorkContents, IsRun}
+use Rattle.ocp_core.specs.Commits.{IsFresh, IsCommitted, work_after}
+use Rattle.ocp_core.specs.declared.answers.CommitOutcome.TheVariants.{Committed}
+use Rattle.ocp_core.proofs.Committing.{given_back, run_none, IsWorld-committed, world_committed, counted_commit}
 use Rattle.ocp_core.proofs.Marking.{commit_mark}
 use Rattle.ocp_core.proofs.engine.Engine.hand_in.Goals as goal
 
 pub invariant_of-self : goal.invariant_of-self
 invariant_of-self g c =
-    let work : WorkContents = record { id = c.work.inside.id; base = c.work.inside.base; end = c.work.inside.end; count = c.work.inside.count } in
-    let fresh = (c.is_at.ensures _ c.self.invariant).0 c.if-not-is_at.false in
-    IsWorld-committed c.instructions_done_alone_are_events.ensures.world c.self.inside.journal c.push.new.self c.args.by work c.settle.new.self c.if-work-eq0.false fresh c.work.invariant c.push.ensures (c.settle.ensures _ c.self.invariant)
+    let work : WorkContents = record { id = c.work.inside.id; base = c.work.inside.parts.value.base; end = c.work.inside.parts.value.machine; count = c.work.inside.count } in
+    let fresh = subst (λ p. IsFresh c.self.inside.journal (record work { base = p.base })) c.deref.ensures ((c.is_at.ensures _ c.self.invariant).0 c.if-not-is_at.false) in
+    let settled = subst (λ p. IsWorld (world_after_work work.id p.machine work.count (world_of c.self.inside.journal)) c.settle.new.self) c.deref_mut.ensures.value (c.settle.ensures.world _ c.self.invariant) in
+    IsWorld-committed c.instructions_done_alone_are_events.ensures.world c.self.inside.journal c.push.new.self c.args.by work c.settle.new.self c.if-count-eq0.false fresh c.work.invariant c.push.ensures settled
 
-pub returns : goal.returns
-returns g c =
-    let work : WorkContents = record { id = c.work.inside.id; base = c.work.inside.base; end = c.work.inside.end; count = c.work.inside.count } in
-    let fresh = (c.is_at.ensures _ c.self.invariant).0 c.if-not-is_at.false in
+pub invariant_of-work : goal.invariant_of-work
+invariant_of-work g c =
+    let work : WorkContents = record { id = c.work.inside.id; base = c.work.inside.parts.value.base; end = c.work.inside.parts.value.machine; count = c.work.inside.count } in
+    let fresh = subst (λ p. IsFresh c.self.inside.journal (record work { base = p.base })) c.deref.ensures ((c.is_at.ensures _ c.self.invariant).0 c.if-not-is_at.false) in
+    let stands = subst (λ p. StandsIn p.base.image p.base.machine) c.deref-2.ensures c.stands.ensures in
+    let run = run_none work.id work.base c.settle.new.machine stands (given_back c.self.inside.journal work _ c.settle.new.machine fresh (c.settle.ensures.machine _ c.self.invariant)) in
+    subst (λ p. IsRun (record { id = work.id; base = p.base; end = c.settle.new.machine; count = 0 })) (sym c.deref_mut.ensures.value) run
+
+pub returns-clause-commits : goal.returns-clause-commits
+returns-clause-commits g c =
+    let work : WorkContents = record { id = c.work.inside.id; base = c.work.inside.parts.value.base; end = c.work.inside.parts.value.machine; count = c.work.inside.count } in
+    let fresh = subst (λ p. IsFresh c.self.inside.journal (record work { base = p.base })) c.deref.ensures ((c.is_at.ensures _ c.self.invariant).0 c.if-not-is_at.false) in
     let free : is_full c.self.inside.journal ≡ false = sym c.is_full.ensures ∙ c.if-is_full.false in
-    let world = world_committed c.instructions_done_alone_are_events.ensures.world c.self.inside.journal c.push.new.self c.args.by work c.if-work-eq0.false fresh c.work.invariant c.push.ensures in
+    let world = world_committed c.instructions_done_alone_are_events.ensures.world c.self.inside.journal c.push.new.self c.args.by work c.if-count-eq0.false fresh c.work.invariant c.push.ensures in
     subst (λ (log : Log). (c.args.work.now.count ≡ 0 → ⊥) × IsFresh log c.args.work.now × is_full log ≡ false × c.work.inside.count ≡ c.args.work.now.count × IsCommitted log c.push.new.self c.args.by c.args.work.now) c.self.view_is
     (subst (λ (w : WorkContents). (w.count ≡ 0 → ⊥) × IsFresh c.self.inside.journal w × is_full c.self.inside.journal ≡ false × c.work.inside.count ≡ w.count × IsCommitted c.self.inside.journal c.push.new.self c.args.by w) c.work.view_is
-    (c.if-work-eq0.false, fresh, free, refl, record { journal = c.push.ensures; world = world }))
+    (c.if-count-eq0.false, fresh, free, refl, record { journal = c.push.ensures; world = world }))
+
+pub returns-clause-work : goal.returns-clause-work
+returns-clause-work g c =
+    let work : WorkContents = record { id = c.work.inside.id; base = c.work.inside.parts.value.base; end = c.work.inside.parts.value.machine; count = c.work.inside.count } in
+    let fresh = subst (λ p. IsFresh c.self.inside.journal (record work { base = p.base })) c.deref.ensures ((c.is_at.ensures _ c.self.invariant).0 c.if-not-is_at.false) in
+    let given = given_back c.self.inside.journal work _ c.settle.new.machine fresh (c.settle.ensures.machine _ c.self.invariant) in
+    let same : (record { id = work.id; base = c.deref_mut.result.now.base; end = c.settle.new.machine; count = 0 }) ≡ work_after work (Committed work.count) =
+    ap (λ p. record { id = work.id; base = p.base; end = c.settle.new.machine; count = 0 }) c.deref_mut.ensures.value
+    ∙ ap (λ m. record { id = work.id; base = work.base; end = m; count = 0 }) given in
+    subst (λ w. (record { id = work.id; base = c.deref_mut.result.now.base; end = c.settle.new.machine; count = 0 }) ≡ work_after w (Committed work.count)) c.work.view_is same
 
 pub push-requires-clause-accepted : goal.push-requires-clause-accepted
 push-requires-clause-accepted g c =
-    let work : WorkContents = record { id = c.work.inside.id; base = c.work.inside.base; end = c.work.inside.end; count = c.work.inside.count } in
-    let fresh = (c.is_at.ensures _ c.self.invariant).0 c.if-not-is_at.false in
-    counted_commit c.instructions_done_alone_are_events.ensures.world c.self.inside.journal c.args.by work c.if-work-eq0.false fresh c.work.invariant
+    let work : WorkContents = record { id = c.work.inside.id; base = c.work.inside.parts.value.base; end = c.work.inside.parts.value.machine; count = c.work.inside.count } in
+    let fresh = subst (λ p. IsFresh c.self.inside.journal (record work { base = p.base })) c.deref.ensures ((c.is_at.ensures _ c.self.invariant).0 c.if-not-is_at.false) in
+    counted_commit c.instructions_done_alone_are_events.ensures.world c.self.inside.journal c.args.by work c.if-count-eq0.false fresh c.work.invariant
 
 pub push-requires-clause-mark : goal.push-requires-clause-mark
 push-requires-clause-mark g c =
-    let work : WorkContents = record { id = c.work.inside.id; base = c.work.inside.base; end = c.work.inside.end; count = c.work.inside.count } in
-    let fresh = (c.is_at.ensures _ c.self.invariant).0 c.if-not-is_at.false in
-    ap Stepped (sym (commit_mark c.instructions_done_alone_are_events.ensures.answers c.self.inside.journal c.args.by work c.if-work-eq0.false fresh c.work.invariant))
-
-pub settle-requires-clause-addresses : goal.settle-requires-clause-addresses
-settle-requires-clause-addresses g c =
-    let work : WorkContents = record { id = c.work.inside.id; base = c.work.inside.base; end = c.work.inside.end; count = c.work.inside.count } in
-    let fresh = (c.is_at.ensures _ c.self.invariant).0 c.if-not-is_at.false in
-    may_copy c.runs_keep_the_addresses.ensures c.self.inside.journal work c.self.inside.state c.self.invariant fresh c.work.invariant
+    let work : WorkContents = record { id = c.work.inside.id; base = c.work.inside.parts.value.base; end = c.work.inside.parts.value.machine; count = c.work.inside.count } in
+    let fresh = subst (λ p. IsFresh c.self.inside.journal (record work { base = p.base })) c.deref.ensures ((c.is_at.ensures _ c.self.invariant).0 c.if-not-is_at.false) in
+    ap Stepped (sym (commit_mark c.instructions_done_alone_are_events.ensures.answers c.self.inside.journal c.args.by work c.if-count-eq0.false fresh c.work.invariant))
