@@ -1,16 +1,21 @@
-//! Calls of ocp_regions and bpf_step, on memories and machines that lines before made.
+//! What lines before made, and calls of ocp_regions and bpf_step on its memories and machines.
 
+use crate::packets::show_written;
 use bpf_step::{MAX_SLOTS, Machine};
 use bpf_types::Size;
-use call_lines::{Fault, Numbers, Octets, octets, profile_of};
+use call_lines::{Fault, Numbers, octets, profile_of};
+use ocp_pool::{Mailbox, Pool};
 use ocp_regions::{ARGUMENT_OCTETS, AccessFault, Regions};
 use std::alloc::Global;
 
-/// The memories that there are, the first with the number 0, and the machines.
+/// The memories that there are, the first with the number 0, the machines, and the pool and the
+/// mailbox of engine calls.
 #[derive(Drop)]
 pub(crate) struct Made {
     memories: Vec<Regions>,
-    machines: Vec<Machine>,
+    pub machines: Vec<Machine>,
+    pub pool: Option<Pool>,
+    pub mailbox: Mailbox,
 }
 
 impl Made {
@@ -18,6 +23,8 @@ impl Made {
         Made {
             memories: Vec::new(alloc),
             machines: Vec::new(alloc),
+            pool: None,
+            mailbox: Mailbox::new(),
         }
     }
 }
@@ -27,27 +34,27 @@ pub(crate) fn answer(made: &mut Made, alloc: Global, words: &[&str]) -> Result<S
     match *words {
         ["ocp_regions.new", profile] => {
             let memory = Regions::new(alloc, profile_of(profile)?)?;
-            add_memory(alloc, &mut made.memories, memory)
+            add(alloc, &mut made.memories, memory)
         }
         ["ocp_regions.copy", number] => {
-            let memory = memory_at(&made.memories, number)?.copy(alloc)?;
-            add_memory(alloc, &mut made.memories, memory)
+            let memory = at(&made.memories, number)?.copy(alloc)?;
+            add(alloc, &mut made.memories, memory)
         }
         ["ocp_regions.is_same", one, other] => {
-            let one = memory_at(&made.memories, one)?;
-            show_flag(alloc, one.is_same(memory_at(&made.memories, other)?))
+            let one = at(&made.memories, one)?;
+            show_flag(alloc, one.is_same(at(&made.memories, other)?))
         }
         ["bpf_step.new", profile] => {
             let machine = Machine::new(alloc, profile_of(profile)?)?;
-            add_machine(alloc, &mut made.machines, machine)
+            add(alloc, &mut made.machines, machine)
         }
         ["bpf_step.copy", number] => {
-            let machine = machine_at(&made.machines, number)?.copy(alloc)?;
-            add_machine(alloc, &mut made.machines, machine)
+            let machine = at(&made.machines, number)?.copy(alloc)?;
+            add(alloc, &mut made.machines, machine)
         }
         ["bpf_step.is_same", one, other] => {
-            let one = machine_at(&made.machines, one)?;
-            show_flag(alloc, one.is_same(machine_at(&made.machines, other)?))
+            let one = at(&made.machines, one)?;
+            show_flag(alloc, one.is_same(at(&made.machines, other)?))
         }
         [name, number, ..] if name.starts_with("ocp_regions.") => {
             let number = number.parse::<usize>()?;
@@ -55,7 +62,7 @@ pub(crate) fn answer(made: &mut Made, alloc: Global, words: &[&str]) -> Result<S
             memory_answer(alloc, memory, words)
         }
         [_, number, ..] => {
-            let machine = machine_of(made, number)?;
+            let machine = machine_of(&mut made.machines, number)?;
             machine_answer(alloc, machine, words)
         }
         _ => Err(Fault::Syntax),
@@ -63,38 +70,25 @@ pub(crate) fn answer(made: &mut Made, alloc: Global, words: &[&str]) -> Result<S
 }
 
 /// The machine of a number.
-pub(crate) fn machine_of<'a>(made: &'a mut Made, number: &str) -> Result<&'a mut Machine, Fault> {
-    made.machines
+pub(crate) fn machine_of<'a>(
+    machines: &'a mut [Machine],
+    number: &str,
+) -> Result<&'a mut Machine, Fault> {
+    machines
         .get_mut(number.parse::<usize>()?)
         .ok_or(Fault::Syntax)
 }
 
-fn memory_at<'a>(memories: &'a [Regions], number: &str) -> Result<&'a Regions, Fault> {
-    memories.get(number.parse::<usize>()?).ok_or(Fault::Syntax)
+/// The memory or the machine of a number.
+fn at<'a, T>(made: &'a [T], number: &str) -> Result<&'a T, Fault> {
+    made.get(number.parse::<usize>()?).ok_or(Fault::Syntax)
 }
 
-fn machine_at<'a>(machines: &'a [Machine], number: &str) -> Result<&'a Machine, Fault> {
-    machines.get(number.parse::<usize>()?).ok_or(Fault::Syntax)
-}
-
-/// Adds a memory, and says its number.
-fn add_memory(
-    alloc: Global,
-    memories: &mut Vec<Regions>,
-    memory: Regions,
-) -> Result<String, Fault> {
-    memories.push(memory)?;
-    Ok(format!(in alloc; "{}", memories.len().saturating_sub(1))?)
-}
-
-/// Adds a machine, and says its number.
-fn add_machine(
-    alloc: Global,
-    machines: &mut Vec<Machine>,
-    machine: Machine,
-) -> Result<String, Fault> {
-    machines.push(machine)?;
-    Ok(format!(in alloc; "{}", machines.len().saturating_sub(1))?)
+/// Adds a memory or a machine, and says its number.
+fn add<T: Drop>(alloc: Global, made: &mut Vec<T>, one: T) -> Result<String, Fault> {
+    let number = made.len();
+    made.push(one)?;
+    Ok(format!(in alloc; "{number}")?)
 }
 
 /// The answer of a call on a memory.
@@ -106,7 +100,7 @@ fn memory_answer(alloc: Global, memory: &mut Regions, words: &[&str]) -> Result<
         ["ocp_regions.octets", _, address, before] => {
             let mut out = octets(alloc, before)?;
             let done = memory.octets(address.parse()?, &mut out);
-            show_octets(alloc, done, &out)
+            show_written(alloc, done, &out)
         }
         ["ocp_regions.store", _, address, size, value] => {
             let done = memory.store(address.parse()?, size_of(size)?, value.parse()?);
@@ -140,7 +134,7 @@ fn machine_answer(alloc: Global, machine: &mut Machine, words: &[&str]) -> Resul
         ["bpf_step.octets", _, address, before] => {
             let mut out = octets(alloc, before)?;
             let done = machine.octets(address.parse()?, &mut out);
-            show_octets(alloc, done, &out)
+            show_written(alloc, done, &out)
         }
         ["bpf_step.start", _, arguments] => {
             let arguments = octets(alloc, arguments)?;
@@ -196,16 +190,5 @@ fn show_done(alloc: Global, done: Result<(), AccessFault>) -> Result<String, Fau
     match done {
         Ok(()) => Ok(String::from_str(alloc, "Ok")?),
         Err(fault) => Ok(format!(in alloc; "{fault:?}")?),
-    }
-}
-
-fn show_octets(
-    alloc: Global,
-    done: Result<(), AccessFault>,
-    octets: &[u8],
-) -> Result<String, Fault> {
-    match done {
-        Ok(()) => Ok(format!(in alloc; "Ok {}", Octets(octets))?),
-        Err(fault) => Ok(format!(in alloc; "{fault:?} {}", Octets(octets))?),
     }
 }

@@ -14,27 +14,19 @@ mod reports;
 mod requests;
 
 use crate::machines::Made;
-use crate::pools::Shared;
 use call_lines::{Calls, End, Fault, Reply, Script, answer_lines, exit_code};
 use std::alloc::Global;
 use std::io;
 use std::process::ExitCode;
 
-/// What lines before made.
-#[derive(Drop)]
-struct Desk {
-    made: Made,
-    shared: Shared,
-}
-
-impl Calls for Desk {
+impl Calls for Made {
     fn answer(&mut self, alloc: Global, words: &[&str]) -> Result<Reply, Fault> {
         Ok(Reply::Text(answer(self, alloc, words)?))
     }
 }
 
 /// The answer of a call.
-fn answer(desk: &mut Desk, alloc: Global, words: &[&str]) -> Result<String, Fault> {
+fn answer(made: &mut Made, alloc: Global, words: &[&str]) -> Result<String, Fault> {
     let name = *words.first().ok_or(Fault::Syntax)?;
     let (library, _) = name.split_once('.').ok_or(Fault::Syntax)?;
     match library {
@@ -45,8 +37,8 @@ fn answer(desk: &mut Desk, alloc: Global, words: &[&str]) -> Result<String, Faul
         "obcp_messages" => requests::answer(alloc, words),
         "bpf_decode" | "bpf_listing" | "bpf_text" => code::answer(alloc, words),
         "bpf_assembler" | "ocp_loader" => images::answer(alloc, words),
-        "ocp_regions" | "bpf_step" => machines::answer(&mut desk.made, alloc, words),
-        "ocp_pool" => pools::answer(&mut desk.shared, &mut desk.made, alloc, words),
+        "ocp_regions" | "bpf_step" => machines::answer(made, alloc, words),
+        "ocp_pool" => pools::answer(made, alloc, words),
         "ocp_words" => command_line::answer(alloc, words),
         _ => Err(Fault::Syntax),
     }
@@ -55,11 +47,8 @@ fn answer(desk: &mut Desk, alloc: Global, words: &[&str]) -> Result<String, Faul
 /// Answers a script.
 fn run(rt: &HostRuntime) -> io::Result<End> {
     let mut script = Script::read(rt)?;
-    let mut desk = Desk {
-        made: Made::new(rt.alloc()),
-        shared: Shared::new(),
-    };
-    answer_lines(rt, &mut script, &mut desk)
+    let mut made = Made::new(rt.alloc());
+    answer_lines(rt, &mut script, &mut made)
 }
 
 fn main(rt: HostRuntime) -> ExitCode {

@@ -3,13 +3,17 @@
 use call_lines::{Fault, Octets, flag, octets};
 use space_packet::{Apid, Primary, SequenceCount, SequenceFlags, read, write};
 use std::alloc::Global;
+use std::fmt;
 
 /// The answer of a call.
 pub(crate) fn answer(alloc: Global, words: &[&str]) -> Result<String, Fault> {
     match *words {
         ["space_packet.apid", number] => apid(alloc, number.parse()?),
         ["space_packet.count", number] => count(alloc, number.parse()?),
-        ["space_packet.next", number] => next(alloc, number.parse()?),
+        ["space_packet.next", number] => {
+            let next = count_of(number)?.next();
+            Ok(format!(in alloc; "{}", next.number())?)
+        }
         ["space_packet.read", packet] => read_packet(alloc, &octets(alloc, packet)?),
         [
             "space_packet.write",
@@ -21,13 +25,23 @@ pub(crate) fn answer(alloc: Global, words: &[&str]) -> Result<String, Fault> {
             count,
             data,
         ] => {
-            let out = octets(alloc, before)?;
+            let mut out = octets(alloc, before)?;
             let data = octets(alloc, data)?;
             let header = header(kind, secondary, apid, flags, count)?;
-            write_packet(alloc, &header, &data, out)
+            show_written(alloc, write(&header, &data, &mut out), &out)
         }
         _ => Err(Fault::Syntax),
     }
+}
+
+/// The application process identifier of a word.
+pub(crate) fn apid_of(word: &str) -> Result<Apid, Fault> {
+    Apid::new(word.parse()?).ok_or(Fault::Syntax)
+}
+
+/// The sequence count of a word.
+pub(crate) fn count_of(word: &str) -> Result<SequenceCount, Fault> {
+    SequenceCount::new(word.parse()?).ok_or(Fault::Syntax)
 }
 
 fn apid(alloc: Global, number: u16) -> Result<String, Fault> {
@@ -42,11 +56,6 @@ fn count(alloc: Global, number: u16) -> Result<String, Fault> {
         Some(count) => Ok(format!(in alloc; "{}", count.number())?),
         None => Ok(String::from_str(alloc, "None")?),
     }
-}
-
-fn next(alloc: Global, number: u16) -> Result<String, Fault> {
-    let count = SequenceCount::new(number).ok_or(Fault::Syntax)?;
-    Ok(format!(in alloc; "{}", count.next().number())?)
 }
 
 fn kind_name(telecommand: bool) -> &'static str {
@@ -81,9 +90,9 @@ fn header(
     Ok(Primary {
         telecommand: is_telecommand(kind)?,
         secondary: flag(secondary)?,
-        apid: Apid::new(apid.parse()?).ok_or(Fault::Syntax)?,
+        apid: apid_of(apid)?,
         flags: flags_of(flags)?,
-        count: SequenceCount::new(count.parse()?).ok_or(Fault::Syntax)?,
+        count: count_of(count)?,
     })
 }
 
@@ -102,14 +111,14 @@ fn read_packet(alloc: Global, packet: &[u8]) -> Result<String, Fault> {
     }
 }
 
-fn write_packet(
+/// `Ok`, or the fault, and the octets that stand there then.
+pub(crate) fn show_written<E: fmt::Debug + Drop>(
     alloc: Global,
-    header: &Primary,
-    data: &[u8],
-    mut out: Vec<u8>,
+    done: Result<(), E>,
+    out: &[u8],
 ) -> Result<String, Fault> {
-    match write(header, data, &mut out) {
-        Ok(()) => Ok(format!(in alloc; "Ok {}", Octets(&out))?),
-        Err(fault) => Ok(format!(in alloc; "{fault:?} {}", Octets(&out))?),
+    match done {
+        Ok(()) => Ok(format!(in alloc; "Ok {}", Octets(out))?),
+        Err(fault) => Ok(format!(in alloc; "{fault:?} {}", Octets(out))?),
     }
 }

@@ -6,46 +6,25 @@ use call_lines::Fault;
 use ocp_pool::{Called, MAX_POOL_WORDS, Mailbox, Pool, PoolOperation, engine_call};
 use std::alloc::Global;
 
-/// The pool and the mailbox of engine calls.
-#[derive(Drop)]
-pub(crate) struct Shared {
-    pool: Option<Pool>,
-    mailbox: Mailbox,
-}
-
-impl Shared {
-    pub fn new() -> Shared {
-        Shared {
-            pool: None,
-            mailbox: Mailbox::new(),
-        }
-    }
-}
-
 /// The answer of a call.
-pub(crate) fn answer(
-    shared: &mut Shared,
-    made: &mut Made,
-    alloc: Global,
-    words: &[&str],
-) -> Result<String, Fault> {
+pub(crate) fn answer(made: &mut Made, alloc: Global, words: &[&str]) -> Result<String, Fault> {
     match *words {
         ["ocp_pool.new", count] => {
-            shared.pool = Some(pool_of(alloc, count.parse()?)?);
+            made.pool = Some(pool_of(alloc, count.parse()?)?);
             Ok(String::from_str(alloc, "Ok")?)
         }
         ["ocp_pool.append", ..] => {
-            append(alloc, &mut shared.mailbox, words)?;
+            append(alloc, &mut made.mailbox, words)?;
             Ok(String::from_str(alloc, "Ok")?)
         }
         ["ocp_pool.word", index] => {
-            let pool = shared.pool.as_ref().ok_or(Fault::Syntax)?;
+            let pool = made.pool.as_ref().ok_or(Fault::Syntax)?;
             word(alloc, pool, index.parse()?)
         }
         ["ocp_pool.engine_call", machine, number] => {
-            let pool = shared.pool.as_mut().ok_or(Fault::Syntax)?;
-            let machine = machine_of(made, machine)?;
-            call(alloc, number.parse()?, machine, pool, &mut shared.mailbox)
+            let pool = made.pool.as_mut().ok_or(Fault::Syntax)?;
+            let machine = machine_of(&mut made.machines, machine)?;
+            call(alloc, number.parse()?, machine, pool, &mut made.mailbox)
         }
         ["ocp_pool.operation", ..] => operation(alloc, call_of(words)?),
         _ => Err(Fault::Syntax),
