@@ -73,6 +73,23 @@ pub(crate) fn show_done(alloc: Global, done: Result<(), DebugFault>) -> Result<S
     }
 }
 
+/// What an answer shows as a text.
+pub(crate) trait Shown {
+    fn show(&self, alloc: Global) -> Result<String, Fault>;
+}
+
+/// The texts of all these, with a comma between two; `-` for none.
+pub(crate) fn show_all<T: Shown>(alloc: Global, all: &[T]) -> Result<String, Fault> {
+    let mut texts = String::new(alloc);
+    for one in all {
+        add_text(&mut texts, &one.show(alloc)?)?;
+    }
+    if texts.is_empty() {
+        texts.push_str("-")?;
+    }
+    Ok(texts)
+}
+
 /// A text behind those before it, with a comma between two.
 pub(crate) fn add_text(texts: &mut String, text: &str) -> Result<(), Fault> {
     if !texts.is_empty() {

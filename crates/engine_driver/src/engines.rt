@@ -1,5 +1,7 @@
 //! Calls that make an engine, or change it.
 
+ghost use Rattle.std.specs.Prelude.{◌≤◌, IfOk};
+
 use crate::answers::{show_commit, show_done, show_outcome, show_reports, show_slice};
 use crate::events::run;
 use crate::runs::Runs;
@@ -27,6 +29,16 @@ pub(crate) fn engine_of(
     Ok(Engine::new(alloc, profile_of(profile)?, apid, words, capacity)?)
 }
 
+/// The budget of a word: at least one instruction.
+pub(crate) fn budget_of(word: &str) -> Result<u32, Fault>
+    ensures { IfOk result (λ budget. 1 ≤ budget) }
+{
+    match word.parse::<u32>()? {
+        0 => Err(Fault::Syntax),
+        budget => Ok(budget),
+    }
+}
+
 /// The answer of a call.
 pub(crate) fn answer(
     engine: &mut Engine,
@@ -42,7 +54,8 @@ pub(crate) fn answer(
         ["ocp_core.drain", by, time] => drain(engine, alloc, by.parse()?, time.parse()?),
         ["ocp_core.step", by, id] => { show_outcome(alloc, engine.step(by.parse()?, id.parse()?)) }
         ["ocp_core.slice", by, id, budget] => {
-            slice(engine, alloc, by.parse()?, id.parse()?, budget.parse()?)
+            let budget = budget_of(budget)?;
+            show_slice(alloc, engine.slice(by.parse()?, id.parse()?, budget))
         }
         ["ocp_core.run", events @ ..] => run(engine, alloc, events),
         ["ocp_core.commit", by, work] => {
@@ -80,17 +93,4 @@ fn request(
 
 fn drain(engine: &mut Engine, alloc: Global, by: u16, time: u32) -> Result<String, Fault> {
     show_reports(alloc, &engine.drain(alloc, by, time))
-}
-
-fn slice(
-    engine: &mut Engine,
-    alloc: Global,
-    by: u16,
-    id: u16,
-    budget: u32,
-) -> Result<String, Fault> {
-    if budget == 0 {
-        return Err(Fault::Syntax);
-    }
-    show_slice(alloc, engine.slice(by, id, budget))
 }

@@ -1,6 +1,6 @@
 //! A list of events in words, and the run of it.
 
-use crate::answers::{add_text, show_done, show_outcome, show_reports};
+use crate::answers::{Shown, show_all, show_done, show_outcome, show_reports};
 use call_lines::{Fault, flag, octets};
 use ocp_core::{Answer, Engine, Event, RunFault, RunRefusal};
 use std::alloc::Global;
@@ -89,7 +89,7 @@ fn event<'a>(words: &[&str], octets: &'a [u8]) -> Result<Event<'a>, Fault> {
 fn show_run(alloc: Global, ended: Result<Vec<Answer>, RunFault>) -> Result<String, Fault> {
     match ended {
         Ok(answers) => {
-            let texts = show_answers(alloc, &answers)?;
+            let texts = show_all(alloc, &answers)?;
             Ok(format!(in alloc; "Ok: {texts}")?)
         }
         Err(fault) => show_run_fault(alloc, &fault),
@@ -100,26 +100,16 @@ fn show_run_fault(alloc: Global, fault: &RunFault) -> Result<String, Fault> {
     if fault.refusal == RunRefusal::Memory {
         return Err(Fault::Memory);
     }
-    let texts = show_answers(alloc, &fault.answers)?;
+    let texts = show_all(alloc, &fault.answers)?;
     Ok(format!(in alloc; "{:?} {}: {texts}", fault.refusal, fault.index)?)
 }
 
-/// The answers, with a comma between two; `-` for none.
-fn show_answers(alloc: Global, answers: &[Answer]) -> Result<String, Fault> {
-    let mut texts = String::new(alloc);
-    for answer in answers {
-        add_text(&mut texts, &show_answer(alloc, answer)?)?;
-    }
-    if texts.is_empty() {
-        texts.push_str("-")?;
-    }
-    Ok(texts)
-}
-
-fn show_answer(alloc: Global, answer: &Answer) -> Result<String, Fault> {
-    match answer {
-        Answer::Requested(answer) => show_reports(alloc, answer),
-        Answer::Stepped(outcome) => show_outcome(alloc, *outcome),
-        Answer::Commanded(done) => show_done(alloc, *done),
+impl Shown for Answer {
+    fn show(&self, alloc: Global) -> Result<String, Fault> {
+        match self {
+            Answer::Requested(answer) => show_reports(alloc, answer),
+            Answer::Stepped(outcome) => show_outcome(alloc, *outcome),
+            Answer::Commanded(done) => show_done(alloc, *done),
+        }
     }
 }

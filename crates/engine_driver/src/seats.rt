@@ -2,8 +2,10 @@
 
 ghost use Rattle.std.specs.Prelude.{◌≡◌, ◌+◌, length};
 
-use crate::answers::{show_commit, show_done, show_ok, show_outcome, show_reports, show_slice};
-use crate::entries::show_entries;
+use crate::answers::{
+    show_all, show_commit, show_done, show_ok, show_outcome, show_reports, show_slice,
+};
+use crate::engines::budget_of;
 use crate::runs::Runs;
 use crate::views;
 use call_lines::{Calls, Fault, Reply, flag, octets};
@@ -153,7 +155,7 @@ fn seat_answer<L: Naming>(
     words: &[&str],
 ) -> Result<String, Fault> {
     match *words {
-        ["ocp_seats.receipts", _] => show_entries(alloc, seat.receipts()),
+        ["ocp_seats.receipts", _] => show_all(alloc, seat.receipts()),
         ["ocp_seats.request", _, time, packet] => {
             let packet = octets(alloc, packet)?;
             request(book, seat, alloc, time.parse()?, &packet)
@@ -161,7 +163,8 @@ fn seat_answer<L: Naming>(
         ["ocp_seats.drain", _, time] => drain(book, seat, alloc, time.parse()?),
         ["ocp_seats.step", _, id] => show_outcome(alloc, book.step(seat, id.parse()?)),
         ["ocp_seats.slice", _, id, budget] => {
-            slice(book, seat, alloc, id.parse()?, budget.parse()?)
+            let budget = budget_of(budget)?;
+            show_slice(alloc, book.slice(seat, id.parse()?, budget))
         }
         ["ocp_seats.commit", _, work] => {
             let work = runs.work(work)?;
@@ -197,17 +200,4 @@ fn drain<L: Naming>(
     time: u32,
 ) -> Result<String, Fault> {
     show_reports(alloc, &book.drain(alloc, seat, time))
-}
-
-fn slice<L: Naming>(
-    book: &mut Book<L>,
-    seat: &mut Seat<L>,
-    alloc: Global,
-    id: u16,
-    budget: u32,
-) -> Result<String, Fault> {
-    if budget == 0 {
-        return Err(Fault::Syntax);
-    }
-    show_slice(alloc, book.slice(seat, id, budget))
 }

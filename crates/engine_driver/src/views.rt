@@ -1,7 +1,6 @@
 //! Calls of an engine that change nothing of it.
 
-use crate::answers::show_none;
-use crate::entries::show_entries;
+use crate::answers::{show_all, show_none};
 use crate::runs::Runs;
 use bpf_step::Machine;
 use call_lines::{Fault, Numbers};
@@ -19,7 +18,7 @@ pub(crate) fn answer(
     match *words {
         ["ocp_core.events"] => Ok(format!(in alloc; "{}", engine.events())?),
         ["ocp_core.room"] => Ok(format!(in alloc; "{}", engine.room())?),
-        ["ocp_core.entries"] => show_entries(alloc, engine.journal().entries()),
+        ["ocp_core.entries"] => show_all(alloc, engine.journal().entries()),
         ["ocp_core.pool_word", index] => show_word(alloc, engine.pool_word(index.parse()?)),
         ["ocp_core.view", id] => show_view(alloc, engine.view(id.parse()?)),
         ["ocp_core.registers", id] => show_registers(alloc, engine.view(id.parse()?)),
