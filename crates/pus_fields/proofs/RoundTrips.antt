@@ -1,5 +1,5 @@
 -- One packet for a telecommand or telemetry, which is read back.
-use Rattle.std.proofs.Common.{◌≡◌, ◌<◌, ◌≤◌, ℕ, ◌+◌, ◌^◌, Bool, true, false, eqb, All, List, ◌++◌, length, drop, refl, sym, ap, ◌∙◌, arith, Ok, eq-eqb}
+use Rattle.std.proofs.Common.{◌≡◌, ◌<◌, ◌≤◌, ℕ, ◌^◌, Bool, true, false, eqb, All, List, length, drop, refl, sym, ap, ◌∙◌, arith, Ok, eq-eqb}
 use Rattle.std.proofs.lemmas.Bool.{le-ltb}
 use Rattle.space_packet.specs.declared.primary.Primary.{Primary}
 use Rattle.space_packet.specs.declared.primary.SequenceFlags.{SequenceFlags}

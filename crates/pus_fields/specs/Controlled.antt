@@ -1,5 +1,5 @@
--- What telecommand and telemetry packets have in common (ECSS-E-ST-70-41C, 7.4): a secondary header,
--- and the error control of the packet at the end of its data field.
+-- What telecommand and telemetry packets have in common (ECSS-E-ST-70-41C, 7.4): a secondary
+-- header, and the error control of the packet at the end of its data field.
 use Rattle.std.specs.Prelude.{◌<◌, ℕ, ◌-◌, ◌^◌, Bool, true, List, ◌++◌, length, take}
 use Rattle.byteorder.specs.Endian.{big_bytes}
 use Rattle.space_packet.specs.declared.primary.Primary.{Primary}
