@@ -3,9 +3,11 @@
 ghost use Rattle.std.specs.Prelude.{◌<◌, ◌≤◌};
 
 use obcp_messages::Request;
+use pus_fields::MAX_TELECOMMAND_DATA;
 
-/// The most octets that a word says: the most code that a telecommand carries.
-pub const MAX_OCTETS_LENGTH: usize = 65_525;
+/// The most octets that a word says: the most code that a telecommand carries, whose identifier and
+/// length take four octets before it.
+pub const MAX_OCTETS_LENGTH: usize = MAX_TELECOMMAND_DATA - 4;
 
 /// The most instructions of a `step` line.
 pub const MAX_STEPS: u32 = 1_000_000;
