@@ -99,8 +99,8 @@ fn image_of<A: Allocator + Copy>(
 /// The listing of an image that may be run under it means its instructions, so it gives that image.
 ///
 /// Else refused: line by line with Syntax, Range or DuplicateLabel; then in line order with
-/// UnknownLabel, or Range of the distance of a label; then with the fault of the image (`approve`), at
-/// the line of the instruction at its slot, or at line 0 where the image is empty or too long.
+/// UnknownLabel, or Range of the distance of a label; then with the fault of the image (`approve`),
+/// at the line of the instruction at its slot, or at line 0 where the image is empty or too long.
 /// Memory may stand in place of any other answer. The time is linear in the text, but for a
 /// logarithm of the number of labels for each label and each name.
 pub fn assemble<A: Allocator + Copy>(
