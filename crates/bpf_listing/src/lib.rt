@@ -4,7 +4,6 @@
 mod disassembly;
 mod laws;
 mod mnemonic;
-mod names;
 mod reading;
 mod scan;
 mod text;

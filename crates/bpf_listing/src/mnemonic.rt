@@ -1,5 +1,6 @@
-//! The first word of an instruction's text.
-ghost use Rattle.std.specs.Prelude.{◌≡◌, ◌++◌, IfSome, Some};
+//! The first word of an instruction's text. Each table of words stands once, as a macro that is
+//! read both ways.
+ghost use Rattle.std.specs.Prelude.{◌≡◌, ◌≤◌, ◌++◌, IfSome, Some, length};
 ghost use Rattle.bpf_types.specs.declared.line.Width.{Width};
 ghost use Rattle.bpf_listing.specs.Canonical.{width_name};
 ghost use Rattle.bpf_listing.specs.declared.mnemonic.Mnemonic.{Mnemonic};
@@ -64,41 +65,132 @@ enum Stem {
     MoveExtended,
 }
 
+/// The words of the classes.
+macro_rules! widths {
+    ($way:ident $value:expr) => {
+        $way!($value, [Width::W32] b"32", [Width::W64] b"64")
+    };
+}
+
+/// The words that a class follows.
+macro_rules! stems {
+    ($way:ident $value:expr) => {
+        $way!($value,
+            [Stem::Arithmetic(Operation::Add)] b"add",
+            [Stem::Arithmetic(Operation::Sub)] b"sub",
+            [Stem::Arithmetic(Operation::Mul)] b"mul",
+            [Stem::Arithmetic(Operation::Div)] b"div",
+            [Stem::Arithmetic(Operation::SignedDiv)] b"sdiv",
+            [Stem::Arithmetic(Operation::Or)] b"or",
+            [Stem::Arithmetic(Operation::And)] b"and",
+            [Stem::Arithmetic(Operation::Lsh)] b"lsh",
+            [Stem::Arithmetic(Operation::Rsh)] b"rsh",
+            [Stem::Arithmetic(Operation::Mod)] b"mod",
+            [Stem::Arithmetic(Operation::SignedMod)] b"smod",
+            [Stem::Arithmetic(Operation::Xor)] b"xor",
+            [Stem::Arithmetic(Operation::Mov)] b"mov",
+            [Stem::Arithmetic(Operation::Arsh)] b"arsh",
+            [Stem::Negate] b"neg",
+            [Stem::MoveExtended] b"movsx",
+            [Stem::JumpIf(Comparison::Equal)] b"jeq",
+            [Stem::JumpIf(Comparison::Greater)] b"jgt",
+            [Stem::JumpIf(Comparison::GreaterOrEqual)] b"jge",
+            [Stem::JumpIf(Comparison::Set)] b"jset",
+            [Stem::JumpIf(Comparison::NotEqual)] b"jne",
+            [Stem::JumpIf(Comparison::SignedGreater)] b"jsgt",
+            [Stem::JumpIf(Comparison::SignedGreaterOrEqual)] b"jsge",
+            [Stem::JumpIf(Comparison::Less)] b"jlt",
+            [Stem::JumpIf(Comparison::LessOrEqual)] b"jle",
+            [Stem::JumpIf(Comparison::SignedLess)] b"jslt",
+            [Stem::JumpIf(Comparison::SignedLessOrEqual)] b"jsle")
+    };
+}
+
+/// The mnemonics that have no class.
+macro_rules! plain {
+    ($way:ident $value:expr) => {
+        $way!($value,
+            [Mnemonic::ByteOrder(Order::Little)] b"le",
+            [Mnemonic::ByteOrder(Order::Big)] b"be",
+            [Mnemonic::ByteOrder(Order::Swap)] b"swap",
+            [Mnemonic::LoadWide] b"lddw",
+            [Mnemonic::Jump(Jump::Short)] b"ja",
+            [Mnemonic::Jump(Jump::Long)] b"ja32",
+            [Mnemonic::Jump(Jump::Call)] b"call",
+            [Mnemonic::Jump(Jump::Exit)] b"exit",
+            [Mnemonic::Access(Access::Load(Size::Word))] b"ldxw",
+            [Mnemonic::Access(Access::Load(Size::Half))] b"ldxh",
+            [Mnemonic::Access(Access::Load(Size::Byte))] b"ldxb",
+            [Mnemonic::Access(Access::Load(Size::Double))] b"ldxdw",
+            [Mnemonic::Access(Access::LoadExtended(SignedSize::Word))] b"ldxsw",
+            [Mnemonic::Access(Access::LoadExtended(SignedSize::Half))] b"ldxsh",
+            [Mnemonic::Access(Access::LoadExtended(SignedSize::Byte))] b"ldxsb",
+            [Mnemonic::Access(Access::Store(Size::Word))] b"stxw",
+            [Mnemonic::Access(Access::Store(Size::Half))] b"stxh",
+            [Mnemonic::Access(Access::Store(Size::Byte))] b"stxb",
+            [Mnemonic::Access(Access::Store(Size::Double))] b"stxdw",
+            [Mnemonic::Access(Access::StoreImmediate(Size::Word))] b"stw",
+            [Mnemonic::Access(Access::StoreImmediate(Size::Half))] b"sth",
+            [Mnemonic::Access(Access::StoreImmediate(Size::Byte))] b"stb",
+            [Mnemonic::Access(Access::StoreImmediate(Size::Double))] b"stdw")
+    };
+}
+
+/// From a word to what it says.
+macro_rules! meaning {
+    ($value:expr, $([$($meaning:tt)*] $word:literal),*) => {
+        match $value {
+            $($word => Some($($meaning)*),)*
+            _ => None,
+        }
+    };
+}
+
+/// From a class or a stem to its word.
+macro_rules! word {
+    ($value:expr, $([$($meaning:tt)*] $word:literal),*) => {
+        match $value {
+            $($($meaning)* => $word,)*
+        }
+    };
+}
+
+/// From a mnemonic to its word, in two parts.
+macro_rules! parts {
+    ($value:expr, $([$($meaning:tt)*] $word:literal),*) => {
+        match $value {
+            Mnemonic::Arithmetic(width, operation) => classed(Stem::Arithmetic(operation), width),
+            Mnemonic::Negate(width) => classed(Stem::Negate, width),
+            Mnemonic::MoveExtended(width) => classed(Stem::MoveExtended, width),
+            Mnemonic::Jump(Jump::If(width, test)) => classed(Stem::JumpIf(test), width),
+            $($($meaning)* => ($word, b""),)*
+        }
+    };
+}
+
+/// The words of a stem and a class.
+fn classed(stem: Stem, width: Width) -> (&'static [u8], &'static [u8])
+    ensures stem { result.0.now ≡ stem_name stem }
+    ensures width { result.1.now ≡ width_name width }
+    ensures len { (length result.0.now ≤ 5) × (length result.1.now ≤ 2) }
+{
+    (stems!(word stem), widths!(word width))
+}
+
+/// The word of a mnemonic, in two parts.
+pub(crate) fn parts_of(mnemonic: Mnemonic) -> (&'static [u8], &'static [u8])
+    ensures name { result.0.now ++ result.1.now ≡ mnemonic_name mnemonic }
+    ensures len { (length result.0.now ≤ 5) × (length result.1.now ≤ 2) }
+{
+    plain!(parts mnemonic)
+}
+
 /// The stem that is this text.
 fn stem_of(word: &[u8]) -> Option<Stem>
     ensures some { IfSome result (λ s. word.now ≡ stem_name s) }
     ensures only { (s : Stem) → word.now ≡ stem_name s → result ≡ Some s }
 {
-    Some(match word {
-        b"add" => Stem::Arithmetic(Operation::Add),
-        b"sub" => Stem::Arithmetic(Operation::Sub),
-        b"mul" => Stem::Arithmetic(Operation::Mul),
-        b"div" => Stem::Arithmetic(Operation::Div),
-        b"sdiv" => Stem::Arithmetic(Operation::SignedDiv),
-        b"or" => Stem::Arithmetic(Operation::Or),
-        b"and" => Stem::Arithmetic(Operation::And),
-        b"lsh" => Stem::Arithmetic(Operation::Lsh),
-        b"rsh" => Stem::Arithmetic(Operation::Rsh),
-        b"mod" => Stem::Arithmetic(Operation::Mod),
-        b"smod" => Stem::Arithmetic(Operation::SignedMod),
-        b"xor" => Stem::Arithmetic(Operation::Xor),
-        b"mov" => Stem::Arithmetic(Operation::Mov),
-        b"arsh" => Stem::Arithmetic(Operation::Arsh),
-        b"neg" => Stem::Negate,
-        b"movsx" => Stem::MoveExtended,
-        b"jeq" => Stem::JumpIf(Comparison::Equal),
-        b"jgt" => Stem::JumpIf(Comparison::Greater),
-        b"jge" => Stem::JumpIf(Comparison::GreaterOrEqual),
-        b"jset" => Stem::JumpIf(Comparison::Set),
-        b"jne" => Stem::JumpIf(Comparison::NotEqual),
-        b"jsgt" => Stem::JumpIf(Comparison::SignedGreater),
-        b"jsge" => Stem::JumpIf(Comparison::SignedGreaterOrEqual),
-        b"jlt" => Stem::JumpIf(Comparison::Less),
-        b"jle" => Stem::JumpIf(Comparison::LessOrEqual),
-        b"jslt" => Stem::JumpIf(Comparison::SignedLess),
-        b"jsle" => Stem::JumpIf(Comparison::SignedLessOrEqual),
-        _ => return None,
-    })
+    stems!(meaning word)
 }
 
 /// The stem and the class that are this text.
@@ -108,11 +200,7 @@ fn stem_and_width(word: &[u8]) -> Option<(Stem, Width)>
         result ≡ Some (s, w) }
 {
     let end = word.len().saturating_sub(2);
-    let width = match &word[end..] {
-        b"32" => Width::W32,
-        b"64" => Width::W64,
-        _ => return None,
-    };
+    let width = widths!(meaning & word[end..])?;
     Some((stem_of(&word[..end])?, width))
 }
 
@@ -134,32 +222,7 @@ fn plain_of(word: &[u8]) -> Option<Mnemonic>
     ensures some { IfSome result (λ m. word.now ≡ mnemonic_name m) }
     ensures only { (m : Mnemonic) → IsPlain m → word.now ≡ mnemonic_name m → result ≡ Some m }
 {
-    Some(match word {
-        b"le" => Mnemonic::ByteOrder(Order::Little),
-        b"be" => Mnemonic::ByteOrder(Order::Big),
-        b"swap" => Mnemonic::ByteOrder(Order::Swap),
-        b"lddw" => Mnemonic::LoadWide,
-        b"ja" => Mnemonic::Jump(Jump::Short),
-        b"ja32" => Mnemonic::Jump(Jump::Long),
-        b"call" => Mnemonic::Jump(Jump::Call),
-        b"exit" => Mnemonic::Jump(Jump::Exit),
-        b"ldxw" => Mnemonic::Access(Access::Load(Size::Word)),
-        b"ldxh" => Mnemonic::Access(Access::Load(Size::Half)),
-        b"ldxb" => Mnemonic::Access(Access::Load(Size::Byte)),
-        b"ldxdw" => Mnemonic::Access(Access::Load(Size::Double)),
-        b"ldxsw" => Mnemonic::Access(Access::LoadExtended(SignedSize::Word)),
-        b"ldxsh" => Mnemonic::Access(Access::LoadExtended(SignedSize::Half)),
-        b"ldxsb" => Mnemonic::Access(Access::LoadExtended(SignedSize::Byte)),
-        b"stxw" => Mnemonic::Access(Access::Store(Size::Word)),
-        b"stxh" => Mnemonic::Access(Access::Store(Size::Half)),
-        b"stxb" => Mnemonic::Access(Access::Store(Size::Byte)),
-        b"stxdw" => Mnemonic::Access(Access::Store(Size::Double)),
-        b"stw" => Mnemonic::Access(Access::StoreImmediate(Size::Word)),
-        b"sth" => Mnemonic::Access(Access::StoreImmediate(Size::Half)),
-        b"stb" => Mnemonic::Access(Access::StoreImmediate(Size::Byte)),
-        b"stdw" => Mnemonic::Access(Access::StoreImmediate(Size::Double)),
-        _ => return None,
-    })
+    plain!(meaning word)
 }
 
 /// The mnemonic that is this text, or `None` where the text is no mnemonic.

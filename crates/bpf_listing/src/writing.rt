@@ -1,25 +1,32 @@
 //! Instructions as text: their one spelling.
 ghost use Rattle.std.specs.Prelude.{◌≡◌, ◌++◌, ◌≤◌, ◌<◌, ◌+◌, [], length, codes, OnOk, OnErr, vec_capacity};
+ghost use Rattle.bpf_listing.specs.Mnemonics.{mnemonic_name};
 ghost use Rattle.bpf_listing.specs.Canonical.{canonical, operand_text, place_text, register};
 
-use crate::names::{
-    comparison_name, operation_name, order_name, signed_size_name, size_name, width_name,
-};
+use crate::mnemonic::{Access, Jump, Mnemonic, parts_of};
 use crate::text::Text;
 use bpf_types::{Line, Operand, Reg};
 use std::alloc::{AllocError, Allocator};
 
 impl Text {
-    /// Appends a mnemonic in two parts, and the space behind it.
-    fn push_mnemonic(&mut self, first: &[u8], second: &[u8])
-        requires empty { self.old ≡ [] }
-        requires first { length first.now ≤ 5 }
-        requires second { length second.now ≤ 2 }
-        ensures items { self.new ≡ first.now ++ second.now ++ codes " " }
-        ensures len { length self.new ≤ 8 }
+    /// Appends a mnemonic.
+    fn push_word(&mut self, mnemonic: Mnemonic)
+        requires { self.old ≡ [] }
+        ensures items { self.new ≡ mnemonic_name mnemonic }
+        ensures len { length self.new ≤ 7 }
     {
+        let (first, second) = parts_of(mnemonic);
         self.push_all(first);
         self.push_all(second);
+    }
+
+    /// Appends a mnemonic, and the space behind it.
+    fn push_mnemonic(&mut self, mnemonic: Mnemonic)
+        requires { self.old ≡ [] }
+        ensures items { self.new ≡ mnemonic_name mnemonic ++ codes " " }
+        ensures len { length self.new ≤ 8 }
+    {
+        self.push_word(mnemonic);
         self.push_all(b" ");
     }
 
@@ -70,13 +77,13 @@ impl Text {
                 dst,
                 operand,
             } => {
-                self.push_mnemonic(operation_name(operation), width_name(width));
+                self.push_mnemonic(Mnemonic::Arithmetic(width, operation));
                 self.push_register(dst);
                 self.push_all(b", ");
                 self.push_operand(operand);
             }
             Line::Negate { width, dst } => {
-                self.push_mnemonic(b"neg", width_name(width));
+                self.push_mnemonic(Mnemonic::Negate(width));
                 self.push_register(dst);
             }
             Line::MoveExtended {
@@ -84,7 +91,7 @@ impl Text {
                 dst,
                 src,
             } => {
-                self.push_mnemonic(b"movsx", width_name(extension.width()));
+                self.push_mnemonic(Mnemonic::MoveExtended(extension.width()));
                 self.push_register(dst);
                 self.push_all(b", ");
                 self.push_register(src);
@@ -92,13 +99,13 @@ impl Text {
                 self.push_number(u32::from(extension.bits()));
             }
             Line::ByteOrder { order, width, dst } => {
-                self.push_mnemonic(order_name(order), b"");
+                self.push_mnemonic(Mnemonic::ByteOrder(order));
                 self.push_register(dst);
                 self.push_all(b", ");
                 self.push_number(u32::from(width.bits()));
             }
             Line::LoadWide { dst, value } => {
-                self.push_mnemonic(b"lddw", b"");
+                self.push_mnemonic(Mnemonic::LoadWide);
                 self.push_register(dst);
                 self.push_all(b", 0x");
                 self.push_hex(16, value);
@@ -109,7 +116,7 @@ impl Text {
                 base,
                 offset,
             } => {
-                self.push_mnemonic(b"ldx", size_name(size));
+                self.push_mnemonic(Mnemonic::Access(Access::Load(size)));
                 self.push_register(dst);
                 self.push_all(b", ");
                 self.push_place(base, offset);
@@ -120,7 +127,7 @@ impl Text {
                 base,
                 offset,
             } => {
-                self.push_mnemonic(b"ldxs", signed_size_name(size));
+                self.push_mnemonic(Mnemonic::Access(Access::LoadExtended(size)));
                 self.push_register(dst);
                 self.push_all(b", ");
                 self.push_place(base, offset);
@@ -131,7 +138,7 @@ impl Text {
                 offset,
                 value,
             } => {
-                self.push_mnemonic(b"st", size_name(size));
+                self.push_mnemonic(Mnemonic::Access(Access::StoreImmediate(size)));
                 self.push_place(base, offset);
                 self.push_all(b", ");
                 self.push_signed(value);
@@ -142,7 +149,7 @@ impl Text {
                 offset,
                 src,
             } => {
-                self.push_mnemonic(b"stx", size_name(size));
+                self.push_mnemonic(Mnemonic::Access(Access::Store(size)));
                 self.push_place(base, offset);
                 self.push_all(b", ");
                 self.push_register(src);
@@ -154,7 +161,7 @@ impl Text {
                 operand,
                 distance,
             } => {
-                self.push_mnemonic(comparison_name(comparison), width_name(width));
+                self.push_mnemonic(Mnemonic::Jump(Jump::If(width, comparison)));
                 self.push_register(dst);
                 self.push_all(b", ");
                 self.push_operand(operand);
@@ -162,22 +169,23 @@ impl Text {
                 self.push_with_sign(i32::from(distance));
             }
             Line::Jump { distance } => {
-                self.push_all(b"ja ");
+                self.push_mnemonic(Mnemonic::Jump(Jump::Short));
                 self.push_with_sign(i32::from(distance));
             }
             Line::LongJump { distance } => {
-                self.push_all(b"ja32 ");
+                self.push_mnemonic(Mnemonic::Jump(Jump::Long));
                 self.push_with_sign(distance);
             }
             Line::Call { number } => {
-                self.push_all(b"call ");
+                self.push_mnemonic(Mnemonic::Jump(Jump::Call));
                 self.push_signed(number);
             }
             Line::CallLocal { distance } => {
-                self.push_all(b"call local ");
+                self.push_mnemonic(Mnemonic::Jump(Jump::Call));
+                self.push_all(b"local ");
                 self.push_with_sign(distance);
             }
-            Line::Exit => self.push_all(b"exit"),
+            Line::Exit => self.push_word(Mnemonic::Jump(Jump::Exit)),
         }
     }
 }
