@@ -1,6 +1,6 @@
 //! The line of a fault that ends an output, and what the fault means.
 
-use crate::line::number;
+use crate::number::decimal;
 use crate::words::Words;
 
 /// A fault that ends an output: the number of its line or slot, or 0, and its name.
@@ -17,7 +17,7 @@ pub fn answer_in(output: &[u8]) -> Option<Answer<'_>> {
         return None;
     }
     let (count, behind) = behind.next_word()?;
-    let number = number(count.text)?;
+    let number = decimal(count.text)?;
     match behind.rest() {
         [b' ', name @ .., b'\n'] => Some(Answer { number, name }),
         _ => None,

@@ -1,22 +1,19 @@
 //! A refusal with its hint, as it is shown.
 
 use crate::answer::{Answer, sentence_of_fault};
-use crate::hint::{Hint, Says, write_octet};
+use crate::hint::{Hint, write_octets};
 use crate::image::{digits_of, hint_of_image};
 use crate::line::hint_of_line;
-use crate::slot::column_of_fault;
+use crate::slot::{SLOT_DIGITS, column_of_fault};
 use crate::statement::{hint_of_fault, hint_of_statement};
 use ocp_profile::Profile;
 use std::fmt;
-use text_lines::first_line;
+use text_lines::without_carriage_return;
 
 /// How many octets of a line are shown in front of a mark, and of the whole line.
 const SHOWN_BEFORE: usize = 60;
 
 const SHOWN: usize = 120;
-
-/// How many digits a slot has.
-const SLOT_DIGITS: usize = 16;
 
 /// How many octets a line of a script has at most.
 const LINE_OCTETS: usize = 40_000;
@@ -38,41 +35,23 @@ pub struct Explained<'a> {
     hint: Hint<'a>,
 }
 
-/// A fault with no word to mark.
-fn without_mark(sentence: &'static str) -> Hint<'static> {
-    Hint {
-        column: 0,
-        says: Says::Sentence(sentence),
-    }
-}
-
 /// The line of this number, from 1; the empty line where there is none.
 fn line_at(text: &[u8], number: u64) -> &[u8] {
-    let mut rest = text;
-    for _ in 1..number {
-        if rest.is_empty() {
-            return rest;
-        }
-        let (_, behind) = first_line(rest);
-        rest = behind;
+    let before = usize::try_from(number.saturating_sub(1)).unwrap_or(usize::MAX);
+    match text.split_inclusive(|octet| *octet == b'\n').nth(before) {
+        Some([line @ .., b'\n']) => without_carriage_return(line),
+        Some(line) => line,
+        None => &[],
     }
-    if rest.is_empty() {
-        return rest;
-    }
-    let (line, _) = first_line(rest);
-    line
 }
 
 /// The digits of the slot of this number, from 0, and of all behind it.
 fn slots_from(digits: &[u8], number: u64) -> &[u8] {
-    let mut rest = digits;
-    for _ in 0..number {
-        if rest.len() < SLOT_DIGITS {
-            return rest;
-        }
-        rest = &rest[SLOT_DIGITS..];
-    }
-    rest
+    let whole = digits.len() - digits.len() % SLOT_DIGITS;
+    let before = usize::try_from(number)
+        .unwrap_or(usize::MAX)
+        .saturating_mul(SLOT_DIGITS);
+    &digits[before.min(whole)..]
 }
 
 /// The digits of the instruction at the front: those of one slot, of `lddw` of two.
@@ -89,7 +68,7 @@ impl<'a> Explained<'a> {
     /// and that one, `among`, among the lines of the text.
     pub fn of_script(profile: Profile, number: u64, text: &'a [u8], among: u64) -> Explained<'a> {
         let line = line_at(text, among);
-        let unknown = without_mark("this is no line of the console");
+        let unknown = Hint::sentence(0, "this is no line of the console");
         Explained {
             place: Place::Line(number),
             line,
@@ -103,10 +82,10 @@ impl<'a> Explained<'a> {
         Explained {
             place: Place::Line(number),
             line,
-            hint: Hint {
-                column: line.len().min(LINE_OCTETS),
-                says: Says::Sentence("a line has at most 40000 octets"),
-            },
+            hint: Hint::sentence(
+                line.len().min(LINE_OCTETS),
+                "a line has at most 40000 octets",
+            ),
         }
     }
 
@@ -115,7 +94,7 @@ impl<'a> Explained<'a> {
         Explained {
             place: Place::Line(number),
             line: line_at(text, among),
-            hint: without_mark("a script has at most 100000 lines"),
+            hint: Hint::sentence(0, "a script has at most 100000 lines"),
         }
     }
 
@@ -152,7 +131,7 @@ impl<'a> Explained<'a> {
             b"TooLong" => Explained {
                 place: Place::Input,
                 line: &[],
-                hint: without_mark(sentence_of_fault(answer.name)),
+                hint: Hint::sentence(0, sentence_of_fault(answer.name)),
             },
             name => {
                 let number = match name {
@@ -163,10 +142,7 @@ impl<'a> Explained<'a> {
                 Explained {
                     place: Place::Slot(number),
                     line: shown,
-                    hint: Hint {
-                        column: column_of_fault(name, shown),
-                        says: Says::Sentence(sentence_of_fault(name)),
-                    },
+                    hint: Hint::sentence(column_of_fault(name, shown), sentence_of_fault(name)),
                 }
             }
         }
@@ -193,9 +169,7 @@ impl fmt::Display for Explained<'_> {
         }
         let begin = self.hint.column.saturating_sub(SHOWN_BEFORE);
         write!(f, "    ")?;
-        for octet in self.line.iter().skip(begin).take(SHOWN) {
-            write_octet(*octet, f)?;
-        }
+        write_octets(self.line.get(begin..).unwrap_or(&[]), SHOWN, f)?;
         write!(f, "\n    ")?;
         for _ in begin..self.hint.column {
             write!(f, " ")?;

@@ -1,7 +1,27 @@
 //! Hints.
 
+ghost use Rattle.std.specs.Prelude.{◌≡◌};
+
 use crate::part::Part;
 use std::fmt;
+
+/// Sentences that several kinds of inputs share.
+pub(crate) const BYTE_ORDER_MARK: &str = "a byte order mark stands here: save the file without it";
+
+pub(crate) const ELF_FILE: &str = "this is an ELF file: examples/c/build makes the image of one";
+
+pub(crate) const C_TEXT: &str = "this is C: examples/c/build makes the image of a C text";
+
+pub(crate) const FAULT_LINE: &str = "this is the fault line of another command: mend its input";
+
+/// Whether a line of C may begin with this word.
+pub(crate) fn is_word_of_c(word: &[u8]) -> bool {
+    match word {
+        b"int" | b"unsigned" | b"static" | b"struct" | b"void" | b"typedef" | b"extern" | b"word" =>
+            true,
+        _ => false,
+    }
+}
 
 /// What did not fit in a line: from this octet on, and why.
 #[derive(Clone, Copy)]
@@ -9,6 +29,18 @@ pub struct Hint<'a> {
     /// How many octets of the line stand in front of what did not fit.
     pub column: usize,
     pub says: Says<'a>,
+}
+
+impl Hint<'static> {
+    /// A sentence on what did not fit from this octet on.
+    pub(crate) fn sentence(column: usize, text: &'static str) -> Hint<'static>
+        ensures { result.column ≡ column }
+    {
+        Hint {
+            column,
+            says: Says::Sentence(text),
+        }
+    }
 }
 
 /// One sentence on what may stand there.
@@ -48,27 +80,30 @@ pub enum Misfit<'a> {
     More,
 }
 
-/// A word as it is shown: its first 40 octets, and a `?` for each that is no printable ASCII.
+/// How many octets of a word are shown.
+const SHOWN_OF_WORD: usize = 40;
+
+/// A word as it is shown: its first octets, and a `?` for each that is no printable ASCII.
 #[derive(Clone, Copy)]
 struct Shown<'a>(&'a [u8]);
 
 impl fmt::Display for Shown<'_> {
     fn fmt<W: fmt::Write>(&self, f: &mut fmt::Formatter<W>) -> fmt::Result {
-        for octet in self.0.iter().take(40) {
-            write_octet(*octet, f)?;
-        }
-        Ok(())
+        write_octets(self.0, SHOWN_OF_WORD, f)
     }
 }
 
-/// Writes an octet as a terminal can show it.
-pub(crate) fn write_octet<W: fmt::Write>(octet: u8, f: &mut fmt::Formatter<W>) -> fmt::Result {
-    let shown = if octet.is_ascii_graphic() || octet == b' ' {
-        octet
-    } else {
-        b'?'
-    };
-    f.write_char(char::from(shown))
+/// Writes so many of these octets, as a terminal can show them.
+pub(crate) fn write_octets<W: fmt::Write>(
+    octets: &[u8],
+    most: usize,
+    f: &mut fmt::Formatter<W>,
+) -> fmt::Result {
+    for octet in octets.iter().take(most) {
+        let is_shown = octet.is_ascii_graphic() || *octet == b' ';
+        f.write_char(char::from(if is_shown { *octet } else { b'?' }))?;
+    }
+    Ok(())
 }
 
 impl fmt::Display for Says<'_> {

@@ -1,16 +1,14 @@
 //! Hints on images in hexadecimal digits.
 
-use crate::hint::{Hint, Says};
+ghost use Rattle.std.specs.Prelude.{◌≤◌, IfSome, length};
+
+use crate::hint::{BYTE_ORDER_MARK, ELF_FILE, Hint};
 
 /// What no image may have at this place.
 fn sentence_of_octets(octets: &[u8]) -> Option<&'static str> {
     match octets {
-        [0xef, 0xbb, 0xbf, ..] => {
-            Some("a byte order mark stands here: save the file without it")
-        }
-        [0x7f, b'E', b'L', b'F', ..] => {
-            Some("this is an ELF file: examples/c/build makes the image of one")
-        }
+        [0xef, 0xbb, 0xbf, ..] => Some(BYTE_ORDER_MARK),
+        [0x7f, b'E', b'L', b'F', ..] => Some(ELF_FILE),
         [b'0', b'x' | b'X', ..] | [b'\\', b'x', ..] => {
             Some("digits stand alone, with nothing in front of them")
         }
@@ -26,30 +24,33 @@ fn sentence_of_octets(octets: &[u8]) -> Option<&'static str> {
 }
 
 /// The text without the spaces and newlines at its end.
-pub(crate) fn digits_of(text: &[u8]) -> &[u8] {
-    let mut digits = text;
-    while let [start @ .., b' ' | b'\n'] = digits {
-        digits = start;
+pub(crate) fn digits_of(text: &[u8]) -> &[u8]
+    ensures { length result.now ≤ length text.now }
+{
+    match text
+        .iter()
+        .rposition(|octet| *octet != b' ' && *octet != b'\n')
+    {
+        Some(last) => &text[..last + 1],
+        None => &[],
     }
-    digits
+}
+
+/// What no image may have at this column.
+fn hint_at(digits: &[u8], column: usize) -> Option<Hint<'static>>
+    ensures { IfSome result (λ hint. hint.column ≤ length digits.now) }
+{
+    let sentence = sentence_of_octets(digits.get(column..)?)?;
+    Some(Hint::sentence(column, sentence))
 }
 
 /// What does not fit in the text of an image that is `Hex`.
-pub fn hint_of_image(text: &[u8]) -> Hint<'_> {
-    let mut rest = digits_of(text);
-    let mut column = 0usize;
-    while let [_, behind @ ..] = rest {
-        if let Some(sentence) = sentence_of_octets(rest) {
-            return Hint {
-                column,
-                says: Says::Sentence(sentence),
-            };
-        }
-        column = column.saturating_add(1);
-        rest = behind;
-    }
-    Hint {
-        column,
-        says: Says::Sentence("the number of hexadecimal digits is even"),
-    }
+pub fn hint_of_image(text: &[u8]) -> Hint<'_>
+    ensures { result.column ≤ length text.now }
+{
+    let digits = digits_of(text);
+    let odd = Hint::sentence(digits.len(), "the number of hexadecimal digits is even");
+    (0..digits.len())
+        .find_map(|column| hint_at(digits, column))
+        .unwrap_or(odd)
 }

@@ -8,6 +8,7 @@ mod form;
 mod hint;
 mod image;
 mod line;
+mod number;
 mod operand;
 mod part;
 mod slot;

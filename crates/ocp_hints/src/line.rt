@@ -1,8 +1,10 @@
 //! Hints on console lines.
 
 use crate::form::{Form, form_of_request, form_of_verb};
-use crate::hint::{Hint, Misfit, Says};
+use crate::hint::{BYTE_ORDER_MARK, C_TEXT, FAULT_LINE, Hint, Misfit, Says, is_word_of_c};
+use crate::number::{decimal, is_hexadecimal};
 use crate::part::Part;
+use crate::slot::SLOT_DIGITS;
 use crate::words::{Word, Words};
 use ocp_profile::Profile;
 
@@ -11,6 +13,11 @@ const VERBS: [&str; 13] = [
     "send", "up", "time", "step", "view", "mem", "break", "unbreak", "trace", "pool", "journal",
     "drain", "work",
 ];
+
+/// How many digits an address has at most, and the arguments of a procedure.
+const ADDRESS_DIGITS: usize = 16;
+
+const ARGUMENT_DIGITS: usize = 512;
 
 const NO_COMMAND: &str = "a line begins with send, up, time, step, view, mem, break, unbreak, \
                           trace, pool, journal, drain, work";
@@ -21,9 +28,7 @@ const NO_VERB: &str = "a verb of send is one of load, unload, activate, stop, su
 /// What no line may have at this place, if it is a mistake by itself.
 fn sentence_of_octets(octets: &[u8]) -> Option<&'static str> {
     match octets {
-        [0xef, 0xbb, 0xbf, ..] => {
-            Some("a byte order mark stands here: save the file without it")
-        }
+        [0xef, 0xbb, 0xbf, ..] => Some(BYTE_ORDER_MARK),
         [0, ..] => Some(
             "this is a zero octet: the file is UTF-16 or binary, and a script is plain ASCII",
         ),
@@ -40,38 +45,10 @@ fn sentence_of_octets(octets: &[u8]) -> Option<&'static str> {
     }
 }
 
-/// The first octet that no line may have.
-fn hint_of_octets(line: &[u8]) -> Option<Hint<'_>> {
-    let mut rest = line;
-    let mut column = 0usize;
-    while let [_, behind @ ..] = rest {
-        if let Some(sentence) = sentence_of_octets(rest) {
-            return Some(Hint {
-                column,
-                says: Says::Sentence(sentence),
-            });
-        }
-        column = column.saturating_add(1);
-        rest = behind;
-    }
-    None
-}
-
-/// The number that decimal digits say.
-pub(crate) fn number(word: &[u8]) -> Option<u64> {
-    if word.is_empty() {
-        return None;
-    }
-    let mut value = 0u64;
-    for octet in word {
-        if !octet.is_ascii_digit() {
-            return None;
-        }
-        value = value
-            .checked_mul(10)?
-            .checked_add(u64::from(*octet - b'0'))?;
-    }
-    Some(value)
+/// What no line may have at this column.
+fn hint_at(line: &[u8], column: usize) -> Option<Hint<'static>> {
+    let sentence = sentence_of_octets(line.get(column..)?)?;
+    Some(Hint::sentence(column, sentence))
 }
 
 /// Why a word is no octets in hexadecimal digits.
@@ -79,7 +56,7 @@ fn misfit_of_octets(word: &[u8]) -> Option<Misfit<'_>> {
     match word {
         [b'0', b'x' | b'X', ..] => Some(Misfit::HexadecimalPrefix),
         b"error" => Some(Misfit::FaultLine),
-        _ if !word.iter().all(|octet| octet.is_ascii_hexdigit()) => Some(Misfit::HexadecimalDigit),
+        _ if !is_hexadecimal(word) => Some(Misfit::HexadecimalDigit),
         _ if word.len() % 2 == 1 => Some(Misfit::OddDigits),
         _ => None,
     }
@@ -89,9 +66,7 @@ fn misfit_of_octets(word: &[u8]) -> Option<Misfit<'_>> {
 fn is_address(word: &[u8]) -> bool {
     match word {
         [b'0', b'x', digits @ ..] => {
-            !digits.is_empty()
-                && digits.len() <= 16
-                && digits.iter().all(|octet| octet.is_ascii_hexdigit())
+            !digits.is_empty() && digits.len() <= ADDRESS_DIGITS && is_hexadecimal(digits)
         }
         _ => false,
     }
@@ -102,7 +77,7 @@ fn misfit_of<'a>(part: Part, word: &'a [u8]) -> Option<Misfit<'a>> {
     match part {
         Part::Octets => misfit_of_octets(word),
         Part::Arguments | Part::OnlyArguments => match misfit_of_octets(word) {
-            None if word.len() > 512 => Some(Misfit::TooManyArguments),
+            None if word.len() > ARGUMENT_DIGITS => Some(Misfit::TooManyArguments),
             Some(Misfit::OddDigits) if matches!(part, Part::OnlyArguments) => Some(Misfit::Budget),
             misfit => misfit,
         },
@@ -119,7 +94,7 @@ fn misfit_of<'a>(part: Part, word: &'a [u8]) -> Option<Misfit<'a>> {
         },
         _ => {
             let (least, greatest) = part.limits()?;
-            match number(word) {
+            match decimal(word) {
                 Some(value) if least <= value && value <= greatest => None,
                 _ => Some(Misfit::Range(part, word)),
             }
@@ -139,8 +114,7 @@ fn misfit_of_more<'a>(form: Form, word: &'a [u8]) -> Misfit<'a> {
 /// What does not fit a form in the words behind its verb.
 fn hint_of_words<'a>(form: Form, words: Words<'a>) -> Option<Hint<'a>> {
     let mut rest = words;
-    let mut found = 0usize;
-    for part in form.parts {
+    for (found, part) in form.parts.iter().enumerate() {
         let Some((word, behind)) = rest.next_word() else {
             if found >= form.needed {
                 return None;
@@ -156,7 +130,6 @@ fn hint_of_words<'a>(form: Form, words: Words<'a>) -> Option<Hint<'a>> {
                 says: Says::Form(form.text, misfit),
             });
         }
-        found = found.saturating_add(1);
         rest = behind;
     }
     let (word, _) = rest.next_word()?;
@@ -176,10 +149,10 @@ fn at<'a>(word: Word<'a>, says: Says<'a>) -> Option<Hint<'a>> {
 
 /// What does not fit in the words behind `send`.
 fn hint_of_send<'a>(profile: Profile, words: Words<'a>) -> Option<Hint<'a>> {
-    let missing = Some(Hint {
-        column: words.end(),
-        says: Says::Sentence("send <flags> <verb> .. wants another word here"),
-    });
+    let missing = Some(Hint::sentence(
+        words.end(),
+        "send <flags> <verb> .. wants another word here",
+    ));
     let Some((flags, behind)) = words.next_word() else {
         return missing;
     };
@@ -197,17 +170,14 @@ fn hint_of_send<'a>(profile: Profile, words: Words<'a>) -> Option<Hint<'a>> {
 
 /// The verb that a word is in other letters.
 fn verb_in_other_letters(word: &[u8]) -> Option<&'static str> {
-    for verb in VERBS {
-        if word.eq_ignore_ascii_case(verb.as_bytes()) {
-            return Some(verb);
-        }
-    }
-    None
+    VERBS
+        .into_iter()
+        .find(|verb| word.eq_ignore_ascii_case(verb.as_bytes()))
 }
 
 /// Whether a word has the digits of one slot of an image, or more.
 fn is_image(word: &[u8]) -> bool {
-    word.len() >= 16 && word.iter().all(|octet| octet.is_ascii_hexdigit())
+    word.len() >= SLOT_DIGITS && is_hexadecimal(word)
 }
 
 /// What does not fit in a line that begins with no verb.
@@ -220,10 +190,9 @@ fn says_of_no_verb<'a>(profile: Profile, word: &'a [u8]) -> Says<'a> {
         b"quit" | b"exit" => {
             Says::Sentence("a script ends where its input ends; in a terminal Control-D")
         }
-        b"error" => Says::Sentence("this is the fault line of another command: mend its input"),
+        b"error" => Says::Sentence(FAULT_LINE),
         b"tm" => Says::Sentence("this is a line of a transcript, and a script has requests"),
-        b"int" | b"unsigned" | b"static" | b"struct" | b"void" | b"typedef" | b"extern" | b"word" =>
-            Says::Sentence("this is C: examples/c/build makes the image of a C text"),
+        word if is_word_of_c(word) => Says::Sentence(C_TEXT),
         b"mov64" | b"mov32" | b"lddw" | b"jeq64" | b"call" | b"ja" => {
             Says::Sentence("this is assembly: asm makes its image, and send <flags> load takes it")
         }
@@ -242,7 +211,7 @@ pub fn hint_of_line<'a>(profile: Profile, line: &'a [u8]) -> Option<Hint<'a>> {
     if let [b'#', ..] = line {
         return None;
     }
-    if let Some(hint) = hint_of_octets(line) {
+    if let Some(hint) = (0..line.len()).find_map(|column| hint_at(line, column)) {
         return Some(hint);
     }
     let (verb, behind) = Words::new(line).next_word()?;

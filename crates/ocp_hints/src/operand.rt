@@ -1,5 +1,7 @@
 //! What may stand behind a mnemonic, and whether it does.
 
+use crate::number::number_in;
+
 /// What may stand at one place behind a mnemonic.
 #[derive(Clone, Copy)]
 pub(crate) enum Operand {
@@ -69,34 +71,6 @@ pub(crate) fn is_name(token: &[u8]) -> bool {
     }
 }
 
-/// What a digit is worth; 36 where it is none.
-fn value_of(octet: u8) -> u8 {
-    match octet {
-        b'0'..=b'9' => octet - b'0',
-        b'a'..=b'f' => octet - b'a' + 10,
-        b'A'..=b'F' => octet - b'A' + 10,
-        _ => 36,
-    }
-}
-
-/// The number that digits say, or the greatest one where it is greater.
-fn number_in(base: u8, digits: &[u8]) -> Option<u128> {
-    if digits.is_empty() {
-        return None;
-    }
-    let mut value = 0u128;
-    for octet in digits {
-        let digit = value_of(*octet);
-        if digit >= base {
-            return None;
-        }
-        value = value
-            .saturating_mul(u128::from(base))
-            .saturating_add(u128::from(digit));
-    }
-    Some(value)
-}
-
 /// The number that decimal digits say, or hexadecimal ones behind `0x`.
 fn number_of(token: &[u8]) -> Option<u128> {
     match token {
@@ -127,7 +101,7 @@ fn fit_among(number: Option<u128>, widths: &[u128], says: &'static str) -> Fit {
 fn fit_of_immediate(token: &[u8]) -> Fit {
     match token {
         [b'-', digits @ ..] => fit_to(number_of(digits), 0x8000_0000, IMMEDIATE),
-        _ => fit_to(number_of(token), 0xffff_ffff, IMMEDIATE),
+        _ => fit_to(number_of(token), u128::from(u32::MAX), IMMEDIATE),
     }
 }
 

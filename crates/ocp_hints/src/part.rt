@@ -1,5 +1,7 @@
 //! What may stand at one place of a console line.
 
+ghost use Rattle.std.specs.Prelude.{◌≤◌, IfSome};
+
 /// What may stand at one place of a console line.
 #[derive(Clone, Copy)]
 pub enum Part {
@@ -51,11 +53,13 @@ impl Part {
     }
 
     /// The least and the greatest number that it takes.
-    pub fn limits(self) -> Option<(u64, u64)> {
+    pub fn limits(self) -> Option<(u64, u64)>
+        ensures { IfSome result (λ limits. limits.0 ≤ limits.1) }
+    {
         match self {
             Part::Flags => Some((0, 15)),
-            Part::Identifier | Part::Place | Part::Step => Some((0, 65_535)),
-            Part::Seconds | Part::Budget => Some((0, 4_294_967_295)),
+            Part::Identifier | Part::Place | Part::Step => Some((0, u64::from(u16::MAX))),
+            Part::Seconds | Part::Budget => Some((0, u64::from(u32::MAX))),
             Part::Index | Part::Number => Some((0, u64::MAX)),
             Part::Length => Some((1, 256)),
             Part::Workers => Some((1, 16)),

@@ -1,5 +1,8 @@
 //! Where a slot of an image does not fit.
 
+/// How many digits a slot has.
+pub(crate) const SLOT_DIGITS: usize = 16;
+
 /// The digits of a field: those of these columns.
 type Field = (usize, usize);
 
@@ -9,10 +12,10 @@ const DESTINATION: Field = (3, 4);
 
 const OFFSET: Field = (4, 8);
 
-const IMM: Field = (8, 16);
+const IMM: Field = (8, SLOT_DIGITS);
 
 /// Opcode, registers and offset of the second slot of `lddw`.
-const SECOND: Field = (16, 24);
+const SECOND: Field = (SLOT_DIGITS, 24);
 
 /// The fields that the instructions of an opcode, in digits, do not use. A field that has some
 /// values alone stands behind them.
@@ -45,14 +48,12 @@ fn reserved_column(digits: &[u8]) -> usize {
     let [high, low, ..] = digits else {
         return 0;
     };
-    let mut column = 0usize;
-    for field in unused_fields([*high, *low]) {
-        column = field.0;
-        if !is_zero(digits, *field) {
-            break;
-        }
+    let fields = unused_fields([*high, *low]);
+    let first = fields.iter().find(|field| !is_zero(digits, **field));
+    match first.or(fields.last()) {
+        Some((begin, _)) => *begin,
+        None => 0,
     }
-    column
 }
 
 /// How many digits of an instruction stand before what is at fault.

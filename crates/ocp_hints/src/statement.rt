@@ -1,7 +1,7 @@
 //! Hints on lines of assembly text.
 
 use crate::answer::sentence_of_fault;
-use crate::hint::{Hint, Says};
+use crate::hint::{BYTE_ORDER_MARK, C_TEXT, ELF_FILE, FAULT_LINE, Hint, Says, is_word_of_c};
 use crate::operand::Operand::{
     Closes, Comma, Extension, Immediate, LongTarget, Offset, Opens, Register, Second,
     ShortExtension, SwapWidth, Target, Wide,
@@ -120,9 +120,8 @@ fn says_of_no_mnemonic(word: &[u8]) -> Says<'_> {
         b"send" | b"step" | b"view" | b"mem" | b"pool" | b"drain" | b"break" | b"trace" => {
             "this is a line of a script: a script goes to run"
         }
-        b"error" => "this is the fault line of another command: mend its input",
-        b"int" | b"unsigned" | b"static" | b"struct" | b"void" | b"typedef" | b"extern" | b"word" =>
-            { "this is C: examples/c/build makes the image of a C text" }
+        b"error" => FAULT_LINE,
+        word if is_word_of_c(word) => C_TEXT,
         [b'A'..=b'Z', ..] => "mnemonics and registers are in lower case",
         [b'0'..=b'9', ..] => "a text has instructions; digits of an image go to list and to load",
         _ => "this is no mnemonic; docs/CARD.md has them all",
@@ -132,21 +131,15 @@ fn says_of_no_mnemonic(word: &[u8]) -> Says<'_> {
 /// What no statement may have at this place, if it is a mistake by itself.
 fn sentence_of_octets(octets: &[u8]) -> Option<&'static str> {
     match octets {
-        [0xef, 0xbb, 0xbf, ..] => {
-            Some("a byte order mark stands here: save the file without it")
-        }
+        [0xef, 0xbb, 0xbf, ..] => Some(BYTE_ORDER_MARK),
         [0, ..] => {
             Some("this is a zero octet: the file is UTF-16 or binary, and a text is plain ASCII")
         }
         [0xff, 0xfe, ..] | [0xfe, 0xff, ..] => {
             Some("this is the byte order mark of UTF-16, and a text is plain ASCII")
         }
-        [0x7f, b'E', b'L', b'F', ..] => {
-            Some("this is an ELF file: examples/c/build makes the image of one")
-        }
-        [b'#', b'i', b'n', b'c', ..] | [b'#', b'd', b'e', b'f', ..] => {
-            Some("this is C: examples/c/build makes the image of a C text")
-        }
+        [0x7f, b'E', b'L', b'F', ..] => Some(ELF_FILE),
+        [b'#', b'i', b'n', b'c', ..] | [b'#', b'd', b'e', b'f', ..] => Some(C_TEXT),
         [b'#', b'0'..=b'9' | b'-', ..] => Some("a number has no # in front"),
         [b'#', ..] | [b'/', b'/', ..] | [b'/', b'*', ..] => Some("a comment begins with ;"),
         [b'=', ..] => Some("a value is set by mov64 <register>, <register or number>"),
@@ -161,24 +154,19 @@ fn sentence_of_octets(octets: &[u8]) -> Option<&'static str> {
     }
 }
 
+/// What no statement may have at this column.
+fn hint_at(line: &[u8], column: usize) -> Option<Hint<'static>> {
+    let sentence = sentence_of_octets(line.get(column..)?)?;
+    Some(Hint::sentence(column, sentence))
+}
+
 /// The first octet in front of the comment that no statement may have.
-fn hint_of_octets(line: &[u8]) -> Option<Hint<'_>> {
-    let mut rest = line;
-    let mut column = 0usize;
-    while let [octet, behind @ ..] = rest {
-        if *octet == b';' {
-            return None;
-        }
-        if let Some(sentence) = sentence_of_octets(rest) {
-            return Some(Hint {
-                column,
-                says: Says::Sentence(sentence),
-            });
-        }
-        column = column.saturating_add(1);
-        rest = behind;
-    }
-    None
+fn hint_of_octets(line: &[u8]) -> Option<Hint<'static>> {
+    let end = line
+        .iter()
+        .position(|octet| *octet == b';')
+        .unwrap_or(line.len());
+    (0..end).find_map(|column| hint_at(line, column))
 }
 
 /// What in the operands of a statement does not fit.
@@ -214,11 +202,7 @@ fn misfits_of(operands: &[Operand], tokens: Tokens<'_>) -> Misfits {
         }
     }
     let (more, _) = rest.next_token();
-    let form = if more.text.is_empty() {
-        None
-    } else {
-        Some(more.column)
-    };
+    let form = (!more.text.is_empty()).then_some(more.column);
     Misfits { form, range }
 }
 
@@ -263,17 +247,13 @@ fn hint_of_labels(line: &[u8]) -> Option<Hint<'_>> {
         return None;
     }
     if !is_name(label.text) {
-        return Some(Hint {
-            column: label.column,
-            says: Says::Sentence(NO_LABEL),
-        });
+        return Some(Hint::sentence(label.column, NO_LABEL));
     }
     let (second, behind) = rest.next_token();
     match behind.next_token() {
-        (colon, _) if colon.text == b":".as_slice() => Some(Hint {
-            column: second.column,
-            says: Says::Sentence("a line has one label at most"),
-        }),
+        (colon, _) if colon.text == b":".as_slice() => {
+            Some(Hint::sentence(second.column, "a line has one label at most"))
+        }
         _ => None,
     }
 }
@@ -307,15 +287,9 @@ pub fn hint_of_statement(line: &[u8]) -> Hint<'_> {
 /// What is out of its range in a line of assembly text that is `Range`.
 fn hint_of_range(line: &[u8]) -> Hint<'_> {
     let (mnemonic, behind) = behind_label(line).next_token();
-    let range = match statement_of(mnemonic.text, behind) {
-        Some(statement) => statement.misfits.range,
-        None => None,
-    };
-    let (column, says) = range.unwrap_or((behind.last_token().column, LABEL));
-    Hint {
-        column,
-        says: Says::Sentence(says),
-    }
+    let range = statement_of(mnemonic.text, behind).and_then(|statement| statement.misfits.range);
+    let (column, sentence) = range.unwrap_or((behind.last_token().column, LABEL));
+    Hint::sentence(column, sentence)
 }
 
 /// A fault of a line of assembly text, `Syntax` aside, with the word that it is about.
@@ -328,8 +302,5 @@ pub(crate) fn hint_of_fault<'a>(line: &'a [u8], name: &[u8]) -> Hint<'a> {
         b"UnknownLabel" | b"Load 9" | b"Load 10" => behind.last_token(),
         _ => mnemonic,
     };
-    Hint {
-        column: word.column,
-        says: Says::Sentence(sentence_of_fault(name)),
-    }
+    Hint::sentence(word.column, sentence_of_fault(name))
 }

@@ -16,24 +16,18 @@ pub(crate) struct Tokens<'a> {
 fn blanks_of(text: &[u8]) -> usize
     ensures { result ≤ length text.now }
 {
-    for (index, octet) in text.iter().enumerate() {
-        if *octet != b' ' && *octet != b'\t' {
-            return index;
-        }
-    }
-    text.len()
+    text.iter()
+        .position(|octet| *octet != b' ' && *octet != b'\t')
+        .unwrap_or(text.len())
 }
 
 /// How many octets stand before the first that is part of no word.
 fn word_length(text: &[u8]) -> usize
     ensures { result ≤ length text.now }
 {
-    for (index, octet) in text.iter().enumerate() {
-        if !octet.is_ascii_alphanumeric() && *octet != b'_' {
-            return index;
-        }
-    }
-    text.len()
+    text.iter()
+        .position(|octet| !octet.is_ascii_alphanumeric() && *octet != b'_')
+        .unwrap_or(text.len())
 }
 
 /// How many octets the token at the front has: a word, with a sign in front of it or none, or one

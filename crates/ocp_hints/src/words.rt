@@ -1,7 +1,5 @@
 //! The words of a line, and where they stand.
 
-ghost use Rattle.std.specs.Prelude.{◌≤◌, length};
-
 /// A word, and how many octets stand in front of it.
 #[derive(Clone, Copy)]
 pub(crate) struct Word<'a> {
@@ -14,18 +12,6 @@ pub(crate) struct Word<'a> {
 pub(crate) struct Words<'a> {
     line: &'a [u8],
     rest: &'a [u8],
-}
-
-/// How many octets stand before the first space.
-fn word_length(text: &[u8]) -> usize
-    ensures { result ≤ length text.now }
-{
-    for (index, octet) in text.iter().enumerate() {
-        if *octet == b' ' {
-            return index;
-        }
-    }
-    text.len()
 }
 
 impl<'a> Words<'a> {
@@ -45,21 +31,19 @@ impl<'a> Words<'a> {
 
     /// The next word, and the words behind it.
     pub fn next_word(self) -> Option<(Word<'a>, Words<'a>)> {
-        let mut rest = self.rest;
-        while let [b' ', behind @ ..] = rest {
-            rest = behind;
-        }
-        let length = word_length(rest);
-        if length == 0 {
-            return None;
-        }
+        let blanks = self.rest.iter().position(|octet| *octet != b' ')?;
+        let text = &self.rest[blanks..];
+        let length = text
+            .iter()
+            .position(|octet| *octet == b' ')
+            .unwrap_or(text.len());
         let word = Word {
-            column: self.line.len().saturating_sub(rest.len()),
-            text: &rest[..length],
+            column: self.line.len().saturating_sub(text.len()),
+            text: &text[..length],
         };
         let words = Words {
             line: self.line,
-            rest: &rest[length..],
+            rest: &text[length..],
         };
         Some((word, words))
     }

@@ -1,5 +1,0 @@
-use Rattle.std.proofs.Common.{length}
-use Rattle.ocp_hints.proofs.words.Words.next_word.Given as goal
-
-abbrev pub decreases-loop-rest : goal.decreases-loop-rest
-decreases-loop-rest l = length l.rest
