@@ -1,5 +1,5 @@
 -- Labels of one more line.
-use Rattle.std.proofs.Common.{◌≡◌, ◌+◌, ◌++◌, ℕ, List, [], ◌∷◌, length, Option, Some, None, Bool, true, false, cond, is_some, refl, sym, ap, ◌∙◌, subst, arith, append_assoc, append-nil, length-append, suc, map}
+use Rattle.std.proofs.Common.{◌≡◌, ◌+◌, ◌++◌, ℕ, List, [], ◌∷◌, length, Option, Some, None, Bool, true, false, cond, is_some, not, Ok, refl, sym, ap, ◌∙◌, subst, arith, append_assoc, append-nil, length-append, suc, map}
 use Rattle.std.specs.BTreeMap.{BTreeMap}
 use Rattle.std.specs.Str.{bytes_eq}
 use Rattle.std.proofs.lemmas.Slice.Eq.{bytes_eq-Decides}
@@ -7,7 +7,7 @@ use Rattle.std.proofs.Common.{Bor}
 use Rattle.bpf_text.specs.Lines.{TextLine, Statement, Writes, InRange}
 use Rattle.bpf_assembler.specs.Mirror.Tables.{label_at}
 use Rattle.bpf_assembler.specs.Text.{label_place, end_of, entries_of, entry_of, Entry, has_label, slots, IsNew, AreDistinct, EachWritten}
-use Rattle.bpf_assembler.specs.Mirror.Passes.{AreLabels, Knows, entry}
+use Rattle.bpf_assembler.specs.Mirror.Passes.{AreLabels, PutsLabel, Knows, entry}
 use Rattle.bpf_assembler.specs.declared.table.Row.{Row}
 
 -- the place of a name in one more line
@@ -50,9 +50,17 @@ new_label m n ws label place body known at none put name = put name ∙ by (byte
         rw e (ap Some at ∙ sym (place_after name 0 ws (record { label = Some label; body = body }) (subst (λ (t : List ℕ). label_place t 0 ws ≡ None) same none) ∙ ap (λ (b : Bool). cond b (Some (end_of 0 ws)) None) e))
     by false e = rw e (known name ∙ other_label name ws (record { label = Some label; body = body }) e (label_place name 0 ws) refl)
 
-pub none_from : (o : Option ℕ) (b : Bool) → b ≡ is_some o → b ≡ false → o ≡ None
-none_from None b e f = refl
-none_from (Some x) b e f = absurd cc
+-- a label that is put: it is new where it had no place
+pub label_put : (m n : BTreeMap (Bor (List ℕ)) ℕ) (ws : List TextLine) (label : List ℕ) (place : ℕ) (old : Option ℕ) (new : Bool) → AreLabels m ws → place ≡ end_of 0 ws → old ≡ label_at m label → is_some old ≡ not new
+    → ((q : List ℕ) → label_at n q ≡ cond (bytes_eq label q) (Some place) (label_at m q)) → PutsLabel (Some label) n ws (Ok new)
+label_put m n ws label place None true known at had is put =
+    let none : label_place label 0 ws ≡ None = sym (known label) ∙ sym had in
+    (none, λ body. new_label m n ws label place body known at none put)
+label_put m n ws label place None false known at had is put = absurd cc
+label_put m n ws label place (Some to) true known at had is put = absurd cc
+label_put m n ws label place (Some to) false known at had is put = λ none.
+    let e : Some to ≡ None = had ∙ known label ∙ none in
+    absurd cc
 
 -- the instructions of one more line
 pub entries_after : (number place : ℕ) (ws : List TextLine) (w : TextLine) → entries_of number place (ws ++ w ∷ []) ≡ entries_of number place ws ++ entry_of (number + length ws) (end_of place ws) w.body

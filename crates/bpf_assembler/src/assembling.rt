@@ -64,10 +64,7 @@ fn fault_with_line(rows: &[Row<'_>], fault: LoadFault) -> AsmFault
         | LoadFault::BadTarget(slot)
         | LoadFault::FallsOffEnd(slot) => line_up_to(rows, slot),
     };
-    AsmFault::At {
-        line,
-        why: Why::Load(fault),
-    }
+    AsmFault::at(line, Why::Load(fault))
 }
 
 /// The image of the instructions that a text means, where it may be run under the profile.

@@ -8,13 +8,13 @@ ghost use Rattle.bpf_assembler.specs.Text.{end_of, slots, entry_of};
 ghost use Rattle.bpf_assembler.specs.Mirror.Passes.{AreLabels, PutsLabel, Knows, Adds, Collects, entry};
 
 use crate::fault::{AsmFault, Why};
-use crate::table::{Row, Table, has, put};
+use crate::table::{Row, Table, put};
 use bpf_text::{LineFault, Source, read_line};
 use std::alloc::Allocator;
 use std::collections::BTreeMap;
 use text_lines::first_line;
 
-/// Notes a line's label, unless it stands already.
+/// Notes a line's label, and says whether it is new.
 fn put_label<'a, A: Allocator + Clone>(
     labels: &mut BTreeMap<&'a [u8], u64, A>,
     label: Option<&'a [u8]>,
@@ -26,11 +26,8 @@ fn put_label<'a, A: Allocator + Clone>(
     let Some(name) = label else {
         return Ok(true);
     };
-    if has(labels, name) {
-        return Ok(false);
-    }
-    put(labels, name, place)?;
-    Ok(true)
+    let old = put(labels, name, place)?;
+    Ok(old.is_none())
 }
 
 /// Notes a line's instruction, and gives the place after it.
@@ -74,27 +71,17 @@ fn add<'a, A: Allocator + Clone>(table: &mut Table<'a, A>, text: &'a [u8]) -> Re
     ensures place { OnOk result (table.new.place ≤ table.old.place + 2) }
 {
     let number = table.lines + 1;
-    match read_line(text) {
-        Err(LineFault::Syntax) => Err(AsmFault::At {
-            line: number,
-            why: Why::Syntax,
-        }),
-        Err(LineFault::Range) => Err(AsmFault::At {
-            line: number,
-            why: Why::Range,
-        }),
-        Ok(parsed) => {
-            if !put_label(&mut table.labels, parsed.label, table.place)? {
-                return Err(AsmFault::At {
-                    line: number,
-                    why: Why::DuplicateLabel,
-                });
-            }
-            table.place = put_row(&mut table.rows, number, table.place, &parsed.body)?;
-            table.lines = number;
-            Ok(())
-        }
+    let parsed = match read_line(text) {
+        Ok(parsed) => parsed,
+        Err(LineFault::Syntax) => return Err(AsmFault::at(number, Why::Syntax)),
+        Err(LineFault::Range) => return Err(AsmFault::at(number, Why::Range)),
+    };
+    if !put_label(&mut table.labels, parsed.label, table.place)? {
+        return Err(AsmFault::at(number, Why::DuplicateLabel));
     }
+    table.place = put_row(&mut table.rows, number, table.place, &parsed.body)?;
+    table.lines = number;
+    Ok(())
 }
 
 /// Takes all lines of a text.

@@ -1,7 +1,7 @@
 //! Why a text has no image.
 
 ghost use Rattle.std.specs.Prelude.{◌≡◌};
-ghost use Rattle.bpf_assembler.specs.declared.fault.AsmFault.TheVariants.{Memory};
+ghost use Rattle.bpf_assembler.specs.declared.fault.AsmFault.TheVariants.{Memory, At};
 
 use ocp_loader::LoadFault;
 use std::alloc::{AllocError, AllocFailed};
@@ -29,6 +29,15 @@ pub enum Why {
 pub enum AsmFault {
     At { line: u64, why: Why },
     Memory,
+}
+
+impl AsmFault {
+    /// What the line of this number has.
+    pub(crate) fn at(line: u64, why: Why) -> AsmFault
+        ensures { result ≡ At line why }
+    {
+        AsmFault::At { line, why }
+    }
 }
 
 impl From<AllocError> for AsmFault {

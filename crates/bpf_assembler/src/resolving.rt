@@ -20,8 +20,7 @@ fn with_distance(line: Line, distance: i128) -> Option<Line>
     ensures { MatchOption result (¬ IsLine (with_distance line distance))
         (λ l. (l ≡ with_distance line distance) × IsLine l) }
 {
-    let copied = line;
-    lines_are_in_range(copied);
+    lines_are_in_range(line);
     let short = i16::try_from(distance).ok();
     let long = i32::try_from(distance).ok();
     Some(match line {
@@ -49,24 +48,16 @@ fn with_distance(line: Line, distance: i128) -> Option<Line>
 fn resolve<A: Allocator>(labels: &BTreeMap<&[u8], u64, A>, row: &Row<'_>) -> Result<Line, AsmFault>
     ensures { (ws : List TextLine) → AreLabels labels.now ws → Resolves ws (entry row.now) result }
 {
-    match row.name {
-        None => Ok(row.line),
-        Some(name) => match place_at(labels, name) {
-            None => Err(AsmFault::At {
-                line: row.number,
-                why: Why::UnknownLabel,
-            }),
-            Some(to) => {
-                let distance = i128::from(to) - (i128::from(row.place) + 1);
-                match with_distance(row.line, distance) {
-                    Some(line) => Ok(line),
-                    None => Err(AsmFault::At {
-                        line: row.number,
-                        why: Why::Range,
-                    }),
-                }
-            }
-        },
+    let Some(name) = row.name else {
+        return Ok(row.line);
+    };
+    let Some(to) = place_at(labels, name) else {
+        return Err(AsmFault::at(row.number, Why::UnknownLabel));
+    };
+    let distance = i128::from(to) - (i128::from(row.place) + 1);
+    match with_distance(row.line, distance) {
+        Some(line) => Ok(line),
+        None => Err(AsmFault::at(row.number, Why::Range)),
     }
 }
 

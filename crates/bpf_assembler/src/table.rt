@@ -1,19 +1,12 @@
 //! The labels and the instructions of a text.
 
-ghost use Rattle.std.specs.Prelude.{◌≡◌, ℕ, List, Some, if◌then◌else◌, OnOk, is_some};
+ghost use Rattle.std.specs.Prelude.{◌≡◌, ℕ, List, Some, if◌then◌else◌, OnOk, IfOk};
 ghost use Rattle.std.specs.Str.{bytes_eq};
 ghost use Rattle.bpf_assembler.specs.Mirror.Tables.{label_at};
 
 use bpf_types::Line;
 use std::alloc::{AllocError, Allocator};
 use std::collections::BTreeMap;
-
-/// Whether the name is a label already.
-pub fn has<A: Allocator>(labels: &BTreeMap<&[u8], u64, A>, name: &[u8]) -> bool
-    ensures { result ≡ is_some (label_at labels.now name.now) }
-{
-    labels.contains_key(name)
-}
 
 /// The place of the label.
 pub fn place_at<A: Allocator>(labels: &BTreeMap<&[u8], u64, A>, name: &[u8]) -> Option<u64>
@@ -22,18 +15,18 @@ pub fn place_at<A: Allocator>(labels: &BTreeMap<&[u8], u64, A>, name: &[u8]) -> 
     labels.get(name).copied()
 }
 
-/// A new label.
+/// Puts a label at a place, and gives the place that it had.
 pub fn put<'a, A: Allocator + Clone>(
     labels: &mut BTreeMap<&'a [u8], u64, A>,
     name: &'a [u8],
     place: u64,
-) -> Result<(), AllocError>
-    ensures { OnOk result ((q : List ℕ) →
+) -> Result<Option<u64>, AllocError>
+    ensures old { IfOk result (λ old. old ≡ label_at labels.old name.now) }
+    ensures new { OnOk result ((q : List ℕ) →
         label_at labels.new q ≡
         (if bytes_eq name.now q then Some place else label_at labels.old q)) }
 {
-    labels.insert(name, place)?;
-    Ok(())
+    Ok(labels.insert(name, place)?)
 }
 
 /// An instruction with the number of its line and its place, and the label's name that stands in
