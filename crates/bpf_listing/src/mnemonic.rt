@@ -159,17 +159,18 @@ macro_rules! word {
 macro_rules! parts {
     ($value:expr, $([$($meaning:tt)*] $word:literal),*) => {
         match $value {
-            Mnemonic::Arithmetic(width, operation) => classed(Stem::Arithmetic(operation), width),
-            Mnemonic::Negate(width) => classed(Stem::Negate, width),
-            Mnemonic::MoveExtended(width) => classed(Stem::MoveExtended, width),
-            Mnemonic::Jump(Jump::If(width, test)) => classed(Stem::JumpIf(test), width),
+            Mnemonic::Arithmetic(width, operation) => words_of(Stem::Arithmetic(operation), width),
+            Mnemonic::Negate(width) => words_of(Stem::Negate, width),
+            Mnemonic::MoveExtended(width) => words_of(Stem::MoveExtended, width),
+            Mnemonic::Jump(Jump::If(width, test)) => words_of(Stem::JumpIf(test), width),
             $($($meaning)* => ($word, b""),)*
         }
     };
 }
 
 /// The words of a stem and a class.
-fn classed(stem: Stem, width: Width) -> (&'static [u8], &'static [u8])
+#[inline(always)]
+fn words_of(stem: Stem, width: Width) -> (&'static [u8], &'static [u8])
     ensures stem { result.0.now ≡ stem_name stem }
     ensures width { result.1.now ≡ width_name width }
     ensures len { (length result.0.now ≤ 5) × (length result.1.now ≤ 2) }
@@ -178,6 +179,7 @@ fn classed(stem: Stem, width: Width) -> (&'static [u8], &'static [u8])
 }
 
 /// The word of a mnemonic, in two parts.
+#[inline(always)]
 pub(crate) fn parts_of(mnemonic: Mnemonic) -> (&'static [u8], &'static [u8])
     ensures name { result.0.now ++ result.1.now ≡ mnemonic_name mnemonic }
     ensures len { (length result.0.now ≤ 5) × (length result.1.now ≤ 2) }

@@ -10,6 +10,7 @@ use std::alloc::{AllocError, Allocator};
 
 impl Text {
     /// Appends a mnemonic.
+    #[inline(always)]
     fn push_word(&mut self, mnemonic: Mnemonic)
         requires { self.old ≡ [] }
         ensures items { self.new ≡ mnemonic_name mnemonic }
@@ -21,6 +22,7 @@ impl Text {
     }
 
     /// Appends a mnemonic, and the space behind it.
+    #[inline(always)]
     fn push_mnemonic(&mut self, mnemonic: Mnemonic)
         requires { self.old ≡ [] }
         ensures items { self.new ≡ mnemonic_name mnemonic ++ codes " " }
