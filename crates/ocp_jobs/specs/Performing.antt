@@ -1,6 +1,8 @@
 -- What the program does of a job.
-use Rattle.std.specs.Prelude.{◌≡◌, ℕ, Bool, true, List, Option, Result, Ok, Err}
+use Rattle.std.specs.Prelude.{◌≡◌, ◌↔◌, ℕ, Bool, true, List, Option, Result, Ok, Err, IsErrOf}
+use Rattle.ocp_ports.specs.Reading.{IsShort, ReadsWhile}
 use Rattle.ocp_ports.specs.declared.fault.ConsoleFault.{ConsoleFault}
+use Rattle.ocp_ports.specs.declared.fault.ConsoleFault.TheVariants.{Read, Write}
 use Rattle.ocp_commands.specs.Assembly.{Assembles}
 use Rattle.ocp_commands.specs.Commands.{Writes}
 use Rattle.ocp_commands.specs.Listings.{Lists}
@@ -8,6 +10,7 @@ use Rattle.ocp_words.specs.declared.job.Job.{Job}
 use Rattle.ocp_words.specs.declared.job.Job.TheVariants.{Assemble, List as Listing, Run}
 use Rattle.ocp_words.specs.declared.job.Settings.{Settings}
 use Rattle.ocp_console.specs.Crew.{CrewAnswers}
+use Rattle.ocp_console.specs.Reading.{IsWithin}
 use Rattle.ocp_console.specs.Script.{IsWorkless, Prints, PrintsBy, WritesScript, transcript}
 use Rattle.ocp_jobs.specs.Status.{status_of}
 
@@ -34,9 +37,18 @@ Answers crew (Assemble profile) input old new answer =
 Answers crew Listing input old new answer = Writes (Lists input) old new answer
 Answers crew (Run settings) input old new answer = Runs crew settings input old new answer
 
+-- what the command of a job leaves of an input
+abbrev pub Leaves : Job → List ℕ → Option (List ℕ) → Type 0
+Leaves (Assemble profile) input left = ReadsWhile IsShort input left
+Leaves Listing input left = ReadsWhile IsShort input left
+Leaves (Run settings) input left = ReadsWhile IsWithin input left
+
 -- what is written for a job and an input, and the status that the program ends with: it is that of
--- what the command answers
-abbrev pub Performs : CrewAnswers → Job → List ℕ → Option (List ℕ) → Option (List ℕ) → ℕ → Type 0
-Performs crew job input old new status =
-    (answer : Result Bool ConsoleFault) × Answers crew job input old new answer
-    × (status ≡ status_of answer)
+-- what the command answers, which is a failed read or write just where one failed
+pub record Performs (crew : CrewAnswers) (job : Job) (input : List ℕ) (old new : Option (List ℕ))
+    (read_failed write_failed : Type 0) (status : ℕ) : Type 0 where
+  pub answer : Result Bool ConsoleFault
+  pub answers : Answers crew job input old new answer
+  pub read : IsErrOf answer Read ↔ read_failed
+  pub write : IsErrOf answer Write ↔ write_failed
+  pub ends : status ≡ status_of answer

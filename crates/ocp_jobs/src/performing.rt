@@ -2,7 +2,7 @@
 
 ghost use Rattle.std.specs.Prelude.{◌≡◌, ◌<◌, ◌^◌, ◌-◌, ◌↔◌, IfSome, IsErrOf};
 ghost use Rattle.std.specs.Process.{exit_status};
-ghost use Rattle.ocp_jobs.specs.Performing.{Answers, Performs};
+ghost use Rattle.ocp_jobs.specs.Performing.{Answers, Leaves, Performs};
 
 use crate::hint::say_hint;
 use crate::kept::{KeptSink, KeptSource};
@@ -29,6 +29,8 @@ fn answer_of<R: Source, W: Sink, C: Crew<Engine>>(
     ensures answers { IfSome (R.remaining reader.old)
         (λ input. Answers (C.answers crew.now) job input
         (W.contents writer.old) (W.contents writer.new) result) }
+    ensures left { IfSome (R.remaining reader.old)
+        (λ input. Leaves job input (R.remaining reader.new)) }
     ensures read { IsErrOf result ConsoleFault.Read ↔
         (R.failed_reads reader.old < R.failed_reads reader.new) }
     ensures write { IsErrOf result ConsoleFault.Write ↔
@@ -59,8 +61,13 @@ pub fn perform<E: Eprint + AllocGlobal, R: Source + Drop, W: Sink + Drop, C: Cre
     requires reads { R.failed_reads reader.old.inner < 2 ^ 64 - 1 }
     requires writes { W.failed_writes writer.old.inner < 2 ^ 64 - 1 }
     ensures performs { IfSome (R.remaining reader.old.inner) (λ input.
-        Performs (C.answers crew.now) job input (W.contents writer.old.inner)
-        (W.contents writer.new.inner) (exit_status result)) }
+        Performs (C.answers crew.now) job input
+        (W.contents writer.old.inner) (W.contents writer.new.inner)
+        (R.failed_reads reader.old.inner < R.failed_reads reader.new.inner)
+        (W.failed_writes writer.old.inner < W.failed_writes writer.new.inner)
+        (exit_status result)) }
+    ensures left { IfSome (R.remaining reader.old.inner)
+        (λ input. Leaves job input (R.remaining reader.new.inner)) }
     ensures read { R.failed_reads reader.old.inner < R.failed_reads reader.new.inner →
         exit_status result ≡ 3 }
     ensures write { W.failed_writes writer.old.inner < W.failed_writes writer.new.inner →
