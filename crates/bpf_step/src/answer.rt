@@ -1,12 +1,16 @@
 //! What an instruction gives that is not done by the machine alone.
 ghost use Rattle.std.specs.Prelude.{◌≡◌};
+ghost use Rattle.bpf_step.specs.declared.answer.MachineFault.TheVariants as fault;
 ghost use Rattle.bpf_step.specs.Machine.{fault_number};
+
+use ocp_regions::AccessFault;
 
 /// Why an instruction cannot be done. The machine is as before.
 #[derive(Clone, Copy, PartialEq, Eq, Debug)]
 pub enum MachineFault {
-    AccessOutside,
-    WriteToArguments,
+    /// An access to memory is refused.
+    Access(AccessFault),
+    /// The eighth local call within one another.
     CallDepth,
 }
 
@@ -16,10 +20,18 @@ impl MachineFault {
         ensures { result ≡ fault_number self }
     {
         match self {
-            MachineFault::AccessOutside => 1,
-            MachineFault::WriteToArguments => 2,
+            MachineFault::Access(AccessFault::AccessOutside) => 1,
+            MachineFault::Access(AccessFault::WriteToArguments) => 2,
             MachineFault::CallDepth => 3,
         }
+    }
+}
+
+impl From<AccessFault> for MachineFault {
+    ghost from_gives = { λ why r. r ≡ fault.Access why };
+
+    fn from(fault: AccessFault) -> Self {
+        MachineFault::Access(fault)
     }
 }
 

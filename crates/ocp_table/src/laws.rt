@@ -4,7 +4,8 @@ ghost use Rattle.std.specs.Prelude.{◌≡◌, ◌≢◌, ℕ, List, [], ◌∷�
 ghost use Rattle.std.specs.FinMap.{get, insert};
 ghost use Rattle.obcp_types.specs.declared.failure.StartFailure.{StartFailure as Failure};
 ghost use Rattle.obcp_types.specs.declared.status.Status.TheVariants.{Running};
-ghost use Rattle.bpf_step.specs.declared.answer.MachineFault.TheVariants.{AccessOutside, WriteToArguments, CallDepth};
+ghost use Rattle.ocp_regions.specs.declared.fault.AccessFault.TheVariants.{AccessOutside, WriteToArguments};
+ghost use Rattle.bpf_step.specs.declared.answer.MachineFault.TheVariants.{Access, CallDepth};
 ghost use Rattle.bpf_step.specs.Machine.{State};
 ghost use Rattle.ocp_pool.specs.declared.call.PoolFault.TheVariants.{BadPoolIndex};
 ghost use Rattle.ocp_table.specs.declared.answers.StepOutcome.{StepOutcome};
@@ -19,8 +20,9 @@ ghost use Rattle.ocp_table.specs.Laws.{machine_of, run_of, IsRequest, IsKeptOrSt
 
 /// The faults of a procedure have the numbers 1 to 5, in this order.
 pub fn faults_are_numbered()
-    ensures { map fault_number (Machine AccessOutside ∷ Machine WriteToArguments
-        ∷ Machine CallDepth ∷ Pool BadPoolIndex ∷ BudgetSpent ∷ []) ≡ 1 ∷ 2 ∷ 3 ∷ 4 ∷ 5 ∷ [] }
+    ensures { map fault_number (Machine (Access AccessOutside)
+        ∷ Machine (Access WriteToArguments) ∷ Machine CallDepth ∷ Pool BadPoolIndex
+        ∷ BudgetSpent ∷ []) ≡ 1 ∷ 2 ∷ 3 ∷ 4 ∷ 5 ∷ [] }
 {}
 
 /// What fails changes nothing at all.
