@@ -5,8 +5,8 @@ use Rattle.std.specs.Option.{is_some}
 use Rattle.std.specs.FinMap.{get}
 use Rattle.ocp_loader.specs.LineAt.{line_of}
 use Rattle.ocp_table.specs.declared.record.TheConstants.{MAX_BREAKPOINTS}
-use Rattle.ocp_table.specs.Records.{Rec, Records}
-use Rattle.ocp_table.specs.Effects.{Effect, Changed, Kept, Unasked, Change, BreakSet, BreakCleared, TraceSet}
+use Rattle.ocp_table.specs.Records.{Rec, Records, Procedures}
+use Rattle.ocp_table.specs.Effects.{Effect, Changed, Kept, Unasked, Change, BreakSet, BreakCleared, TraceSet, records_by}
 use Rattle.ocp_debug.specs.declared.command.Command.{Command}
 use Rattle.ocp_debug.specs.declared.command.Command.TheVariants.{SetBreak, ClearBreak, SetTrace}
 use Rattle.ocp_debug.specs.declared.command.DebugFault.{DebugFault}
@@ -52,6 +52,14 @@ effect_by (Some fault) command id = Kept Unasked
 -- in these records
 abbrev pub command_effect : Command → ℕ → Records → Effect
 command_effect command id m = effect_by (fault_on command (get m id)) command id
+
+-- a table with what an effect leaves of its records
+abbrev pub with_effect : Effect → Procedures → Procedures
+with_effect effect t = record t { records = records_by effect t.records }
+
+-- what a command leaves of a table
+abbrev pub table_by_command : Command → ℕ → Procedures → Procedures
+table_by_command command id t = with_effect (command_effect command id t.records) t
 
 -- ---- answers
 

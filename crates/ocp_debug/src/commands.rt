@@ -1,9 +1,9 @@
 //! A debugger's commands: which are refused, and what the others change.
 ghost use Rattle.std.specs.Prelude.{◌≡◌, None, Some, Ok, Err};
 ghost use Rattle.std.specs.FinMap.{get};
-ghost use Rattle.ocp_table.specs.Effects.{Changed, records_by};
+ghost use Rattle.ocp_table.specs.Effects.{Changed};
 ghost use Rattle.ocp_table.specs.Shown.{record_of};
-ghost use Rattle.ocp_debug.specs.Commands.{set_fault, fault_in, fault_on, change_of, command_effect, command_result};
+ghost use Rattle.ocp_debug.specs.Commands.{set_fault, fault_in, fault_on, change_of, command_result, table_by_command, with_effect};
 
 use crate::breakpoints::{is_set, with_breakpoint, without_breakpoint};
 use crate::{Command, DebugFault, MAX_BREAKPOINTS};
@@ -61,10 +61,7 @@ pub fn apply<A: Allocator>(
     command: Command,
 ) -> Result<(), DebugFault>
     ensures answer { result ≡ command_result command id table.old.records }
-    ensures records { table.new.records ≡
-        records_by (command_effect command id table.old.records) table.old.records }
-    ensures outbox { table.new.outbox ≡ table.old.outbox }
-    ensures profile { table.new.profile ≡ table.old.profile }
+    ensures table { table.new ≡ table_by_command command id table.old }
 {
     if let Some(fault) = fault_of(table, id, command) {
         return Err(fault);
@@ -76,10 +73,7 @@ pub fn apply<A: Allocator>(
 /// Enacts a command that is not refused.
 fn enact<A: Allocator>(table: &mut Table<A>, id: u16, command: Command)
     requires { fault_on command (get table.old.records id) ≡ None }
-    ensures records { table.new.records ≡
-        records_by (Changed id (change_of command)) table.old.records }
-    ensures outbox { table.new.outbox ≡ table.old.outbox }
-    ensures profile { table.new.profile ≡ table.old.profile }
+    ensures { table.new ≡ with_effect (Changed id (change_of command)) table.old }
 {
     let Some(record) = table.record(id) else {
         return;
@@ -102,11 +96,7 @@ fn enact<A: Allocator>(table: &mut Table<A>, id: u16, command: Command)
 /// AlreadySet and BreaksFull, in this order, and then nothing changes.
 pub fn set_break<A: Allocator>(table: &mut Table<A>, id: u16, place: u16) -> Result<(), DebugFault>
     ensures answer { result ≡ command_result (Command.SetBreak place) id table.old.records }
-    ensures records { table.new.records ≡
-        records_by (command_effect (Command.SetBreak place) id table.old.records)
-        table.old.records }
-    ensures outbox { table.new.outbox ≡ table.old.outbox }
-    ensures profile { table.new.profile ≡ table.old.profile }
+    ensures table { table.new ≡ table_by_command (Command.SetBreak place) id table.old }
 {
     apply(table, id, Command::SetBreak(place))
 }
@@ -119,11 +109,7 @@ pub fn clear_break<A: Allocator>(
     place: u16,
 ) -> Result<(), DebugFault>
     ensures answer { result ≡ command_result (Command.ClearBreak place) id table.old.records }
-    ensures records { table.new.records ≡
-        records_by (command_effect (Command.ClearBreak place) id table.old.records)
-        table.old.records }
-    ensures outbox { table.new.outbox ≡ table.old.outbox }
-    ensures profile { table.new.profile ≡ table.old.profile }
+    ensures table { table.new ≡ table_by_command (Command.ClearBreak place) id table.old }
 {
     apply(table, id, Command::ClearBreak(place))
 }
@@ -132,11 +118,7 @@ pub fn clear_break<A: Allocator>(
 /// then nothing changes.
 pub fn set_trace<A: Allocator>(table: &mut Table<A>, id: u16, on: bool) -> Result<(), DebugFault>
     ensures answer { result ≡ command_result (Command.SetTrace on) id table.old.records }
-    ensures records { table.new.records ≡
-        records_by (command_effect (Command.SetTrace on) id table.old.records)
-        table.old.records }
-    ensures outbox { table.new.outbox ≡ table.old.outbox }
-    ensures profile { table.new.profile ≡ table.old.profile }
+    ensures table { table.new ≡ table_by_command (Command.SetTrace on) id table.old }
 {
     apply(table, id, Command::SetTrace(on))
 }

@@ -8,7 +8,8 @@ use Rattle.obcp_types.specs.declared.failure.StartFailure.{StartFailure}
 use Rattle.obcp_types.specs.declared.failure.StartFailure.TheVariants.{NotLoaded}
 use Rattle.ocp_table.specs.declared.table.TheConstants.{MAX_PROCEDURES}
 use Rattle.ocp_table.specs.declared.answers.InstructionOutcome.{InstructionOutcome}
-use Rattle.ocp_table.specs.Records.{Rec, Records}
+use Rattle.ocp_profile.specs.declared.profile.Profile.{Profile}
+use Rattle.ocp_table.specs.Records.{Rec, Records, Procedures}
 use Rattle.ocp_table.specs.Effects.{Change, Effect, Loaded, Unloaded, Changed, Drained, Kept, Failed, record_by, record_after, records_by, outbox_by, dues_by_change, failed_completion, failed_completion_of, dues_of, with_change}
 use Rattle.ocp_table.specs.RequestTable.{Step, transition}
 use Rattle.ocp_table.specs.Deciding.{outcome_in, effect_of_step, effect_by, effect_on, effect_in, is_full}
@@ -18,6 +19,14 @@ use Rattle.std.proofs.lemmas.List.{append-nil}
 use Rattle.ocp_table.specs.Mirror.Contents.{IsSound}
 use Rattle.std.proofs.lemmas.Bool.Decides.{nat_tests}
 use Rattle.ocp_table.proofs.ContentsLemmas.{insert-same, IsDistinct-removed}
+
+-- ---- a table by its parts
+
+abbrev pub table_of : Profile → Records → List Due → Procedures
+table_of profile records outbox = record { profile = profile; records = records; outbox = outbox }
+
+pub table_is : (profile : Profile) (m n : Records) (o p : List Due) → m ≡ n → o ≡ p → table_of profile m o ≡ table_of profile n p
+table_is profile m n o p is files = ap (λ x. table_of profile x o) is ∙ ap (table_of profile n) files
 
 -- ---- no procedure has the id
 

@@ -23,9 +23,9 @@ use Rattle.ocp_table.specs.declared.control.Pending.{Pending}
 use Rattle.ocp_table.specs.declared.control.Pending.TheVariants as pending
 use Rattle.ocp_table.specs.declared.answers.InstructionOutcome.{InstructionOutcome}
 use Rattle.ocp_table.specs.declared.answers.InstructionOutcome.TheVariants.{Broke, Ran, Called, Ended, Faulted}
-use Rattle.ocp_table.specs.Records.{Rec, Records}
+use Rattle.ocp_table.specs.Records.{Rec, Records, Procedures}
 use Rattle.ocp_table.specs.Budgets.{is_spent}
-use Rattle.ocp_table.specs.Effects.{Effect, Loaded, Unloaded, Changed, Kept, Stepped, Failed}
+use Rattle.ocp_table.specs.Effects.{Effect, Loaded, Unloaded, Changed, Kept, Stepped, Failed, table_by}
 use Rattle.ocp_table.specs.RequestTable.{Directive, Decision, Loads, Unloads, Changes, Steps, Fails, transition}
 
 -- ---- an image is loaded
@@ -116,3 +116,7 @@ effect_on directive id o full = effect_by (decision_on directive o) id o full
 -- in these records
 abbrev pub effect_in : Directive → ℕ → Records → Effect
 effect_in directive id m = effect_on directive id (get m id) (is_full m)
+
+-- what it leaves of a table
+abbrev pub table_after : Directive → ℕ → Procedures → Procedures
+table_after directive id t = table_by (effect_in directive id t.records) t

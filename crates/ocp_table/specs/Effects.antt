@@ -27,7 +27,7 @@ use Rattle.ocp_table.specs.declared.answers.InstructionOutcome.{InstructionOutco
 use Rattle.ocp_table.specs.declared.answers.InstructionOutcome.TheVariants.{Broke, Ran, Called, Ended, Faulted}
 use Rattle.ocp_table.specs.declared.answers.StepOutcome.{StepOutcome}
 use Rattle.ocp_table.specs.declared.answers.StepOutcome.TheVariants as step
-use Rattle.ocp_table.specs.Records.{Rec, Records}
+use Rattle.ocp_table.specs.Records.{Rec, Records, Procedures}
 use Rattle.ocp_table.specs.Faults.{fault_number}
 use Rattle.ocp_table.specs.Budgets.{budget_of, one_less}
 
@@ -293,6 +293,22 @@ with_trace_flag traced r = record r { traced = traced }
 abbrev pub records_with : Option Rec → ℕ → (Rec → Rec) → Records → Records
 records_with None id set m = m
 records_with (Some r) id set m = insert m id (set r)
+
+-- ---- a table after an effect
+
+abbrev pub table_by : Effect → Procedures → Procedures
+table_by effect t = record t {
+  records = records_by effect t.records;
+  outbox = outbox_by effect t.records t.outbox;
+}
+
+-- a table with one more record
+abbrev pub with_procedure : ℕ → Rec → Procedures → Procedures
+with_procedure id r t = record t { records = insert t.records id r }
+
+-- a table with what is set in the record of a procedure, where that is loaded
+abbrev pub table_with : ℕ → (Rec → Rec) → Procedures → Procedures
+table_with id set t = record t { records = records_with (get t.records id) id set t.records }
 
 -- ---- the pool after an effect
 

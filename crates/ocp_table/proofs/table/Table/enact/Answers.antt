@@ -6,14 +6,8 @@ use Rattle.ocp_table.specs.Shown.{id_of, record_of, change_of, FitsIn, HasPlaceF
 use Rattle.ocp_table.specs.Mirror.Contents.{contents}
 use Rattle.ocp_table.proofs.Held.{place_at, records_at, holds-by}
 use Rattle.ocp_table.proofs.Rooms.{outbox_fits}
-use Rattle.ocp_table.proofs.Tables.{records-changed, records-unchanged, outbox-changed, outbox-unchanged}
+use Rattle.ocp_table.proofs.Tables.{table_is, records-changed, records-unchanged, outbox-changed, outbox-unchanged}
 use Rattle.ocp_table.proofs.table.Table.enact.Goals as goal
-
-pub returns-in_default-clause-records : goal.returns-in_default-clause-records
-returns-in_default-clause-records g c = rw (← c.self.view_is) (records-unchanged _ c.args.id (change_of c.args.decided.change) c.in_default.ensures.absent)
-
-pub returns-in_default-clause-outbox : goal.returns-in_default-clause-outbox
-returns-in_default-clause-outbox g c = rw (← c.self.view_is) (outbox-unchanged _ c.args.id (change_of c.args.decided.change) c.self.inside.outbox c.in_default.ensures.absent)
 
 pub enact-requires-clause-fits : goal.enact-requires-clause-fits
 enact-requires-clause-fits g c =
@@ -34,13 +28,11 @@ invariant_of-self g c =
     (c.enact.ensures.outbox ∙ outbox-changed m c.args.id (change_of c.args.decided.change) _ c.self.inside.outbox there)
     (outbox_fits m c.self.inside.outbox c.self.invariant.places effect place)
 
-pub returns-clause-records : goal.returns-clause-records
-returns-clause-records g c =
+pub returns-in_default : goal.returns-in_default
+returns-in_default g c = rw (← c.self.view_is) (table_is _ _ _ _ _ (records-unchanged _ c.args.id (change_of c.args.decided.change) c.in_default.ensures.absent) (outbox-unchanged _ c.args.id (change_of c.args.decided.change) c.self.inside.outbox c.in_default.ensures.absent))
+
+pub returns : goal.returns
+returns g c =
     let m = contents id_of record_of c.self.inside.records in
     let there = c.in-Some.ensures.found.there _ c.index_mut-record.ensures.value in
-    rw (← c.self.view_is) (records_at id_of record_of c.self.inside.records c.self.inside.outbox _ c.args.id _ c.in-Some.ensures.found c.index_mut-record.ensures.value c.self.invariant _ c.enact.ensures.id _ refl ∙ records-changed m c.args.id (change_of c.args.decided.change) _ _ there c.enact.ensures.record)
-
-pub returns-clause-outbox : goal.returns-clause-outbox
-returns-clause-outbox g c =
-    let there = c.in-Some.ensures.found.there _ c.index_mut-record.ensures.value in
-    rw (← c.self.view_is) (c.enact.ensures.outbox ∙ outbox-changed (contents id_of record_of c.self.inside.records) c.args.id (change_of c.args.decided.change) _ c.self.inside.outbox there)
+    rw (← c.self.view_is) (table_is _ _ _ _ _ (records_at id_of record_of c.self.inside.records c.self.inside.outbox _ c.args.id _ c.in-Some.ensures.found c.index_mut-record.ensures.value c.self.invariant _ c.enact.ensures.id _ refl ∙ records-changed m c.args.id (change_of c.args.decided.change) _ _ there c.enact.ensures.record) (c.enact.ensures.outbox ∙ outbox-changed (contents id_of record_of c.self.inside.records) c.args.id (change_of c.args.decided.change) _ c.self.inside.outbox there))

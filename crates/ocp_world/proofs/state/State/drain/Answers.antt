@@ -21,4 +21,4 @@ returns g c w by stands =
     c.in_ok-reports.ensures ∙ ap (λ due. packets c.args.self.now.apid c.args.self.now.count (drain_dispatches c.args.time due)) c.outbox.ensures in
     let count : c.count_after-self.result ≡ (c.args.self.now.count + length c.in_ok-reports.reports) % 16384 =
     c.count_after-self.ensures ∙ ap (λ n. (c.args.self.now.count + n) % 16384) c.len.ensures in
-    drained_all w c.args.time c.args.self.now stands accepted c.drain.new.self c.drain.ensures.profile c.drain.ensures.records c.drain.ensures.outbox c.in_ok-reports.reports are c.count_after-self.result count
+    drained_all w c.args.time c.args.self.now stands accepted c.drain.new.self (ap (λ t. t.profile) c.drain.ensures) (ap (λ t. t.records) c.drain.ensures) (ap (λ t. t.outbox) c.drain.ensures) c.in_ok-reports.reports are c.count_after-self.result count
