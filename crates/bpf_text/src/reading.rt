@@ -37,23 +37,14 @@ fn label_of<'b, 'a>(tokens: &'b [&'a [u8]]) -> Option<(&'a [u8], &'b [&'a [u8]])
 fn parts_of<'a>(tokens: &[&'a [u8]]) -> Result<Parsed<'a>, LineFault>
     ensures { JudgesTokens (texts tokens.now) result }
 {
-    match label_of(tokens) {
-        Some((name, rest)) => {
-            if !is_name(name) {
-                return Err(LineFault::Syntax);
-            }
-            match body_of(rest) {
-                Ok(body) => Ok(Parsed {
-                    label: Some(name),
-                    body,
-                }),
-                Err(fault) => Err(fault),
-            }
-        }
-        None => match body_of(tokens) {
-            Ok(body) => Ok(Parsed { label: None, body }),
-            Err(fault) => Err(fault),
-        },
+    let (label, rest) = match label_of(tokens) {
+        Some((name, rest)) if is_name(name) => (Some(name), rest),
+        Some(_) => return Err(LineFault::Syntax),
+        None => (None, tokens),
+    };
+    match body_of(rest) {
+        Ok(body) => Ok(Parsed { label, body }),
+        Err(fault) => Err(fault),
     }
 }
 
@@ -66,8 +57,6 @@ fn parts_of<'a>(tokens: &[&'a [u8]]) -> Result<Parsed<'a>, LineFault>
 pub fn read_line<'a>(text: &'a [u8]) -> Result<Parsed<'a>, LineFault>
     ensures { JudgesLine text.now result }
 {
-    match tokens(text) {
-        Some(found) => parts_of(found.as_slice()),
-        None => Err(LineFault::Syntax),
-    }
+    let found = tokens(text).ok_or(LineFault::Syntax)?;
+    parts_of(found.as_slice())
 }
