@@ -1,9 +1,15 @@
 -- A number, digit by digit.
 use Rattle.std.proofs.Common.{◌≡◌, ◌<◌, ◌≤◌, ◌+◌, ◌*◌, ℕ, List, take, get_or, length, min, refl, sym, ap, ◌∙◌, arith, inl, inr}
 use Rattle.std.proofs.lemmas.Bool.{cases_lt}
+use Rattle.std.proofs.lemmas.Bool.Decides.{nat_tests}
 use Rattle.std.proofs.lemmas.List.Sums.{fold_more}
 use Rattle.std.proofs.Math.Nat.{le-mul_of_pos_right}
+use Rattle.std.specs.Char.{digit_value}
 use Rattle.bpf_text.specs.Number.{digit, number_in}
+
+-- std says what a digit is worth in another form
+pub same_digit : (octet : ℕ) → digit_value octet ≡ digit octet
+same_digit octet = grind (arith, nat_tests)
 
 above : (n base : ℕ) → 2 ≤ base → n ≤ n * base
 above n base h = let pos : 0 < base = omega arith in le-mul_of_pos_right n pos

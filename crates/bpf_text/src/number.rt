@@ -9,20 +9,9 @@ use crate::line::LineFault;
 /// No number of an instruction is so large.
 const LIMIT: u128 = 0x1_0000_0000_0000_0000;
 
-/// What a digit is worth.
-fn digit_of(octet: u8) -> u8
-    ensures { result ≡ digit octet }
-{
-    match octet {
-        b'0'..=b'9' => octet - b'0',
-        b'a'..=b'z' => octet - b'a' + 10,
-        b'A'..=b'Z' => octet - b'A' + 10,
-        _ => 36,
-    }
-}
-
 /// The number of 64 bits that the digits spell.
-fn in_base(base: u8, octets: &[u8]) -> Result<u64, LineFault>
+#[tactic(auto, using(crate::proofs::Numbers::same_digit))]
+fn in_base(base: u32, octets: &[u8]) -> Result<u64, LineFault>
     requires low { 2 ≤ base }
     requires high { base ≤ 36 }
     ensures { Gives (λ n. n) (Spells base octets.now) (λ n. n < 2 ^ 64) result }
@@ -32,17 +21,12 @@ fn in_base(base: u8, octets: &[u8]) -> Result<u64, LineFault>
     }
     let mut n: u128 = 0;
     for octet in octets {
-        let digit = digit_of(*octet);
-        if digit >= base {
+        let Some(digit) = char::from(*octet).to_digit(base) else {
             return Err(LineFault::Syntax);
-        }
+        };
         n = (n * u128::from(base) + u128::from(digit)).min(LIMIT);
     }
-    if n < LIMIT {
-        Ok(n as u64)
-    } else {
-        Err(LineFault::Range)
-    }
+    u64::try_from(n).map_err(|_| LineFault::Range)
 }
 
 /// The number of 64 bits that the octets spell: decimal digits, or `0x` and hexadecimal ones.
