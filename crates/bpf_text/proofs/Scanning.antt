@@ -17,11 +17,13 @@ run_ends [] i lt unlike = absurd (omega arith)
 run_ends (octet ∷ text) zero lt unlike = unlike
 run_ends (octet ∷ text) (suc i) lt unlike = run_ends text i (omega arith) unlike
 
-pub blank_passed : (line : List ℕ) (i : ℕ) → i < length line → ((k : ℕ) → k < i → is_blank (get_or line k 0) ≡ true) → is_blank (get_or line i 0) ≡ false → AfterBlanks line (drop i line)
-blank_passed [] i lt all unlike = absurd (omega arith)
-blank_passed (octet ∷ line) zero lt all unlike = record { front = unlike; ends = (λ h. h, λ h. h); leads = λ token rest. (λ h. h, λ h. h) }
-blank_passed (octet ∷ line) (suc i) lt all unlike =
-    let p = blank_passed line i (omega arith) (λ k h. all (suc k) (omega arith)) unlike in
+-- the blanks at the front are no part of a token
+pub blank_front : (line : List ℕ) (i : ℕ) → i ≤ length line → ((k : ℕ) → k < i → is_blank (get_or line k 0) ≡ true) → (i < length line → is_blank (get_or line i 0) ≡ false) → AfterBlanks line (drop i line)
+blank_front [] zero le all unlike = record { front = tt; ends = (λ h. h, λ h. h); leads = λ token rest. (λ h. h, λ h. h) }
+blank_front (octet ∷ line) zero le all unlike = record { front = unlike (omega arith); ends = (λ h. h, λ h. h); leads = λ token rest. (λ h. h, λ h. h) }
+blank_front [] (suc i) le all unlike = absurd (omega arith)
+blank_front (octet ∷ line) (suc i) le all unlike =
+    let p = blank_front line i (omega arith) (λ k h. all (suc k) (omega arith)) (λ h. unlike (omega arith)) in
     let e : is_blank octet ≡ true = all 0 (omega arith) in
     record {
       front = p.front;
@@ -29,22 +31,8 @@ blank_passed (octet ∷ line) (suc i) lt all unlike =
       leads = λ token rest. rw e (p.leads token rest);
     }
 
-pub all_blank : (line : List ℕ) → ((k : ℕ) → k < length line → is_blank (get_or line k 0) ≡ true) → AfterBlanks line []
-all_blank [] all = record { front = tt; ends = (λ h. h, λ h. h); leads = λ token rest. (λ h. h, λ h. h) }
-all_blank (octet ∷ line) all =
-    let p = all_blank line (λ k h. all (suc k) (omega arith)) in
-    let e : is_blank octet ≡ true = all 0 (omega arith) in
-    record {
-      front = tt;
-      ends = rw e p.ends;
-      leads = λ token rest. rw e (p.leads token rest);
-    }
-
 pub whole_drop : (line : List ℕ) (i : ℕ) → take (length line - i) (drop i line) ≡ drop i line
 whole_drop line i = grind (arith, common_steps, length-drop i line)
-
-pub none_left : (line : List ℕ) → take (length line - length line) (drop (length line) line) ≡ []
-none_left line = grind (arith, common_steps, length-drop (length line) line)
 
 mark_no_word : (octet : ℕ) → is_mark octet ≡ true → is_word octet ≡ false
 mark_no_word octet h = grind (arith, nat_tests)

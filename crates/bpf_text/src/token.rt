@@ -39,24 +39,20 @@ pub fn run_len(text: &[u8]) -> usize
     ensures run { AllWord (take result text.now) }
     ensures longest { NoWord (drop result text.now) }
 {
-    for (i, octet) in text.iter().enumerate() {
-        if !is_word_octet(*octet) {
-            return i;
-        }
-    }
-    text.len()
+    text.iter()
+        .position(|octet| !is_word_octet(*octet))
+        .unwrap_or(text.len())
 }
 
 /// The line without the spaces and tabs at its front.
 fn without_blanks(line: &[u8]) -> &[u8]
     ensures same { AfterBlanks line.now result.now }
 {
-    for (i, octet) in line.iter().enumerate() {
-        if !is_blank_octet(*octet) {
-            return &line[i..];
-        }
-    }
-    &line[line.len()..]
+    let blanks = line
+        .iter()
+        .position(|octet| !is_blank_octet(*octet))
+        .unwrap_or(line.len());
+    &line[blanks..]
 }
 
 /// The token that a line begins with.
