@@ -1,6 +1,7 @@
 //! Hints on images in hexadecimal digits.
 
 ghost use Rattle.std.specs.Prelude.{◌≤◌, IfSome, length};
+ghost use Rattle.ocp_hints.specs.Columns.{IsWithin};
 
 use crate::hint::{BYTE_ORDER_MARK, ELF_FILE, Hint};
 
@@ -38,19 +39,25 @@ pub(crate) fn digits_of(text: &[u8]) -> &[u8]
 
 /// What no image may have at this column.
 fn hint_at(digits: &[u8], column: usize) -> Option<Hint<'static>>
-    ensures { IfSome result (λ hint. hint.column ≤ length digits.now) }
+    ensures within { IfSome result (λ hint. IsWithin digits.now hint.column) }
 {
     let sentence = sentence_of_octets(digits.get(column..)?)?;
     Some(Hint::sentence(column, sentence))
 }
 
-/// What does not fit in the text of an image that is `Hex`.
-pub fn hint_of_image(text: &[u8]) -> Hint<'_>
-    ensures { result.column ≤ length text.now }
+/// What does not fit in the digits of an image that is `Hex`.
+pub(crate) fn hint_of_digits(digits: &[u8]) -> Hint<'_>
+    ensures within { IsWithin digits.now result.column }
 {
-    let digits = digits_of(text);
     let odd = Hint::sentence(digits.len(), "the number of hexadecimal digits is even");
     (0..digits.len())
         .find_map(|column| hint_at(digits, column))
         .unwrap_or(odd)
+}
+
+/// What does not fit in the text of an image that is `Hex`.
+pub fn hint_of_image(text: &[u8]) -> Hint<'_>
+    ensures within { IsWithin text.now result.column }
+{
+    hint_of_digits(digits_of(text))
 }

@@ -1,5 +1,8 @@
 //! Hints on console lines.
 
+ghost use Rattle.std.specs.Prelude.{◌≡◌, IfSome};
+ghost use Rattle.ocp_hints.specs.Columns.{IsWithin};
+
 use crate::form::{Form, form_of_request, form_of_verb};
 use crate::hint::{BYTE_ORDER_MARK, C_TEXT, FAULT_LINE, Hint, Misfit, Says, is_word_of_c};
 use crate::number::{decimal, is_hexadecimal};
@@ -46,7 +49,9 @@ fn sentence_of_octets(octets: &[u8]) -> Option<&'static str> {
 }
 
 /// What no line may have at this column.
-fn hint_at(line: &[u8], column: usize) -> Option<Hint<'static>> {
+fn hint_at(line: &[u8], column: usize) -> Option<Hint<'static>>
+    ensures within { IfSome result (λ hint. IsWithin line.now hint.column) }
+{
     let sentence = sentence_of_octets(line.get(column..)?)?;
     Some(Hint::sentence(column, sentence))
 }
@@ -112,7 +117,9 @@ fn misfit_of_more<'a>(form: Form, word: &'a [u8]) -> Misfit<'a> {
 }
 
 /// What does not fit a form in the words behind its verb.
-fn hint_of_words<'a>(form: Form, words: Words<'a>) -> Option<Hint<'a>> {
+fn hint_of_words<'a>(form: Form, words: Words<'a>) -> Option<Hint<'a>>
+    ensures within { IfSome result (λ hint. IsWithin words.entry.line.now hint.column) }
+{
     let mut rest = words;
     for (found, part) in form.parts.iter().enumerate() {
         let Some((word, behind)) = rest.next_word() else {
@@ -140,7 +147,9 @@ fn hint_of_words<'a>(form: Form, words: Words<'a>) -> Option<Hint<'a>> {
 }
 
 /// A hint on a word.
-fn at<'a>(word: Word<'a>, says: Says<'a>) -> Option<Hint<'a>> {
+fn at<'a>(word: Word<'a>, says: Says<'a>) -> Option<Hint<'a>>
+    ensures { IfSome result (λ hint. hint.column ≡ word.entry.column) }
+{
     Some(Hint {
         column: word.column,
         says,
@@ -148,7 +157,9 @@ fn at<'a>(word: Word<'a>, says: Says<'a>) -> Option<Hint<'a>> {
 }
 
 /// What does not fit in the words behind `send`.
-fn hint_of_send<'a>(profile: Profile, words: Words<'a>) -> Option<Hint<'a>> {
+fn hint_of_send<'a>(profile: Profile, words: Words<'a>) -> Option<Hint<'a>>
+    ensures within { IfSome result (λ hint. IsWithin words.entry.line.now hint.column) }
+{
     let missing = Some(Hint::sentence(
         words.end(),
         "send <flags> <verb> .. wants another word here",
@@ -207,7 +218,9 @@ fn says_of_no_verb<'a>(profile: Profile, word: &'a [u8]) -> Says<'a> {
 }
 
 /// What does not fit in a line of a script under the profile; None where all of it does.
-pub fn hint_of_line<'a>(profile: Profile, line: &'a [u8]) -> Option<Hint<'a>> {
+pub fn hint_of_line<'a>(profile: Profile, line: &'a [u8]) -> Option<Hint<'a>>
+    ensures within { IfSome result (λ hint. IsWithin line.now hint.column) }
+{
     if let [b'#', ..] = line {
         return None;
     }

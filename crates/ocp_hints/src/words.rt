@@ -1,5 +1,8 @@
 //! The words of a line, and where they stand.
 
+ghost use Rattle.std.specs.Prelude.{◌≡◌, IfSome, length};
+ghost use Rattle.ocp_hints.specs.Columns.{IsWithin};
+
 /// A word, and how many octets stand in front of it.
 #[derive(Clone, Copy)]
 pub(crate) struct Word<'a> {
@@ -15,12 +18,16 @@ pub(crate) struct Words<'a> {
 }
 
 impl<'a> Words<'a> {
-    pub fn new(line: &'a [u8]) -> Words<'a> {
+    pub fn new(line: &'a [u8]) -> Words<'a>
+        ensures line { result.line.now ≡ line.now }
+    {
         Words { line, rest: line }
     }
 
     /// The column behind the line.
-    pub fn end(self) -> usize {
+    pub fn end(self) -> usize
+        ensures { result ≡ length self.entry.line.now }
+    {
         self.line.len()
     }
 
@@ -30,7 +37,10 @@ impl<'a> Words<'a> {
     }
 
     /// The next word, and the words behind it.
-    pub fn next_word(self) -> Option<(Word<'a>, Words<'a>)> {
+    pub fn next_word(self) -> Option<(Word<'a>, Words<'a>)>
+        ensures within { IfSome result (λ found. IsWithin self.entry.line.now found.0.column) }
+        ensures line { IfSome result (λ found. found.1.line.now ≡ self.entry.line.now) }
+    {
         let blanks = self.rest.iter().position(|octet| *octet != b' ')?;
         let text = &self.rest[blanks..];
         let length = text
