@@ -1,5 +1,8 @@
 //! Hints on lines of assembly text.
 
+ghost use Rattle.std.specs.Prelude.{◌+◌, ◌≤◌, IfSome, length};
+ghost use Rattle.ocp_hints.specs.Columns.{IsWithin};
+
 use crate::answer::sentence_of_fault;
 use crate::hint::{BYTE_ORDER_MARK, C_TEXT, ELF_FILE, FAULT_LINE, Hint, Says, is_word_of_c};
 use crate::operand::Operand::{
@@ -155,13 +158,17 @@ fn sentence_of_octets(octets: &[u8]) -> Option<&'static str> {
 }
 
 /// What no statement may have at this column.
-fn hint_at(line: &[u8], column: usize) -> Option<Hint<'static>> {
+fn hint_at(line: &[u8], column: usize) -> Option<Hint<'static>>
+    ensures within { IfSome result (λ hint. IsWithin line.now hint.column) }
+{
     let sentence = sentence_of_octets(line.get(column..)?)?;
     Some(Hint::sentence(column, sentence))
 }
 
 /// The first octet in front of the comment that no statement may have.
-fn hint_of_octets(line: &[u8]) -> Option<Hint<'static>> {
+fn hint_of_octets(line: &[u8]) -> Option<Hint<'static>>
+    ensures within { IfSome result (λ hint. IsWithin line.now hint.column) }
+{
     let end = line
         .iter()
         .position(|octet| *octet == b';')
@@ -179,7 +186,12 @@ struct Misfits {
 }
 
 /// What in these tokens does not fit the operands.
-fn misfits_of(operands: &[Operand], tokens: Tokens<'_>) -> Misfits {
+fn misfits_of(operands: &[Operand], tokens: Tokens<'_>) -> Misfits
+    ensures form { IfSome result.form
+        (λ column. column ≤ tokens.entry.column + length tokens.entry.rest.now) }
+    ensures range { IfSome result.range
+        (λ range. range.0 ≤ tokens.entry.column + length tokens.entry.rest.now) }
+{
     let mut rest = tokens;
     let mut range = None;
     for operand in operands {
@@ -207,7 +219,9 @@ fn misfits_of(operands: &[Operand], tokens: Tokens<'_>) -> Misfits {
 }
 
 /// The tokens of a line behind its label.
-fn behind_label(line: &[u8]) -> Tokens<'_> {
+fn behind_label(line: &[u8]) -> Tokens<'_>
+    ensures { result.column + length result.rest.now ≤ length line.now }
+{
     let tokens = Tokens::new(line);
     let (_, behind) = tokens.next_token();
     match behind.next_token() {
@@ -224,7 +238,12 @@ struct Statement {
 }
 
 /// What stands behind a mnemonic, and what in it does not fit.
-fn statement_of<'a>(mnemonic: &'a [u8], behind: Tokens<'a>) -> Option<Statement> {
+fn statement_of<'a>(mnemonic: &'a [u8], behind: Tokens<'a>) -> Option<Statement>
+    ensures form { IfSome result (λ statement. IfSome statement.misfits.form
+        (λ column. column ≤ behind.entry.column + length behind.entry.rest.now)) }
+    ensures range { IfSome result (λ statement. IfSome statement.misfits.range
+        (λ range. range.0 ≤ behind.entry.column + length behind.entry.rest.now)) }
+{
     let (word, behind_word) = behind.next_token();
     let is_local = word.text == b"local".as_slice();
     let shape = shape_of(mnemonic, is_local)?;
@@ -240,7 +259,9 @@ fn statement_of<'a>(mnemonic: &'a [u8], behind: Tokens<'a>) -> Option<Statement>
 }
 
 /// What in the labels of a line does not fit.
-fn hint_of_labels(line: &[u8]) -> Option<Hint<'_>> {
+fn hint_of_labels(line: &[u8]) -> Option<Hint<'_>>
+    ensures within { IfSome result (λ hint. IsWithin line.now hint.column) }
+{
     let (label, behind) = Tokens::new(line).next_token();
     let (colon, rest) = behind.next_token();
     if colon.text != b":".as_slice() {
@@ -259,7 +280,9 @@ fn hint_of_labels(line: &[u8]) -> Option<Hint<'_>> {
 }
 
 /// What does not fit in a statement: the word in place of its mnemonic, or one of its operands.
-fn hint_of_words(line: &[u8]) -> Hint<'_> {
+fn hint_of_words(line: &[u8]) -> Hint<'_>
+    ensures within { IsWithin line.now result.column }
+{
     let (mnemonic, behind) = behind_label(line).next_token();
     match statement_of(mnemonic.text, behind) {
         Some(statement) => Hint {
@@ -275,7 +298,9 @@ fn hint_of_words(line: &[u8]) -> Hint<'_> {
 
 /// What does not fit in a line of assembly text that is `Syntax`. An octet that no statement may
 /// have comes before a word behind it, and a zero octet before all.
-pub fn hint_of_statement(line: &[u8]) -> Hint<'_> {
+pub fn hint_of_statement(line: &[u8]) -> Hint<'_>
+    ensures within { IsWithin line.now result.column }
+{
     let hint = hint_of_labels(line).unwrap_or(hint_of_words(line));
     let is_binary = line.iter().any(|octet| *octet == 0);
     match hint_of_octets(line) {
@@ -285,7 +310,9 @@ pub fn hint_of_statement(line: &[u8]) -> Hint<'_> {
 }
 
 /// What is out of its range in a line of assembly text that is `Range`.
-fn hint_of_range(line: &[u8]) -> Hint<'_> {
+fn hint_of_range(line: &[u8]) -> Hint<'_>
+    ensures within { IsWithin line.now result.column }
+{
     let (mnemonic, behind) = behind_label(line).next_token();
     let range = statement_of(mnemonic.text, behind).and_then(|statement| statement.misfits.range);
     let (column, sentence) = range.unwrap_or((behind.last_token().column, LABEL));
@@ -293,7 +320,9 @@ fn hint_of_range(line: &[u8]) -> Hint<'_> {
 }
 
 /// A fault of a line of assembly text, `Syntax` aside, with the word that it is about.
-pub(crate) fn hint_of_fault<'a>(line: &'a [u8], name: &[u8]) -> Hint<'a> {
+pub(crate) fn hint_of_fault<'a>(line: &'a [u8], name: &[u8]) -> Hint<'a>
+    ensures within { IsWithin line.now result.column }
+{
     let (mnemonic, behind) = behind_label(line).next_token();
     let word = match name {
         b"Range" => return hint_of_range(line),

@@ -1,6 +1,6 @@
 //! The tokens of a line of assembly text, and where they stand.
 
-ghost use Rattle.std.specs.Prelude.{◌≤◌, length};
+ghost use Rattle.std.specs.Prelude.{◌≡◌, ◌+◌, ◌≤◌, length};
 
 use crate::words::Word;
 
@@ -43,7 +43,10 @@ fn token_length(text: &[u8]) -> usize
 }
 
 impl<'a> Tokens<'a> {
-    pub fn new(line: &'a [u8]) -> Tokens<'a> {
+    pub fn new(line: &'a [u8]) -> Tokens<'a>
+        ensures rest { result.rest.now ≡ line.now }
+        ensures column { result.column ≡ 0 }
+    {
         Tokens {
             rest: line,
             column: 0,
@@ -52,7 +55,11 @@ impl<'a> Tokens<'a> {
 
     /// The next token, and the tokens behind it; behind the last one the empty token, right where
     /// the last one ends.
-    pub fn next_token(self) -> (Word<'a>, Tokens<'a>) {
+    pub fn next_token(self) -> (Word<'a>, Tokens<'a>)
+        ensures within { result.0.column ≤ self.entry.column + length self.entry.rest.now }
+        ensures behind { result.1.column + length result.1.rest.now ≤
+            self.entry.column + length self.entry.rest.now }
+    {
         let blanks = blanks_of(self.rest);
         let text = &self.rest[blanks..];
         let length = token_length(text);
@@ -76,7 +83,9 @@ impl<'a> Tokens<'a> {
     }
 
     /// The last token.
-    pub fn last_token(self) -> Word<'a> {
+    pub fn last_token(self) -> Word<'a>
+        ensures within { result.column ≤ self.entry.column + length self.entry.rest.now }
+    {
         let (mut last, mut rest) = self.next_token();
         for _ in 0..self.rest.len() {
             let (token, behind) = rest.next_token();
