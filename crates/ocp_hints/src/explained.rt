@@ -1,8 +1,10 @@
 //! A refusal with its hint, as it is shown.
 
+ghost use Rattle.ocp_hints.specs.Columns.{IsWithin};
+
 use crate::answer::{Answer, sentence_of_fault};
 use crate::hint::{Hint, write_octets};
-use crate::image::{digits_of, hint_of_image};
+use crate::image::{digits_of, hint_of_digits};
 use crate::line::hint_of_line;
 use crate::slot::{SLOT_DIGITS, column_of_fault};
 use crate::statement::{hint_of_fault, hint_of_statement};
@@ -31,8 +33,9 @@ enum Place {
 #[derive(Clone, Copy)]
 pub struct Explained<'a> {
     place: Place,
-    line: &'a [u8],
-    hint: Hint<'a>,
+    /// What is shown of the input, and what in it did not fit.
+    pub line: &'a [u8],
+    pub hint: Hint<'a>,
 }
 
 /// The line of this number, from 1; the empty line where there is none.
@@ -66,7 +69,9 @@ fn digits_of_instruction(slots: &[u8]) -> &[u8] {
 impl<'a> Explained<'a> {
     /// What did not fit in the line of a script that is `Syntax`. It has this number in the script,
     /// and that one, `among`, among the lines of the text.
-    pub fn of_script(profile: Profile, number: u64, text: &'a [u8], among: u64) -> Explained<'a> {
+    pub fn of_script(profile: Profile, number: u64, text: &'a [u8], among: u64) -> Explained<'a>
+        ensures within { IsWithin result.line.now result.hint.column }
+    {
         let line = line_at(text, among);
         let unknown = Hint::sentence(0, "this is no line of the console");
         Explained {
@@ -77,7 +82,9 @@ impl<'a> Explained<'a> {
     }
 
     /// A line of a script that is too long; the numbers are those of `of_script`.
-    pub fn of_long_line(number: u64, text: &'a [u8], among: u64) -> Explained<'a> {
+    pub fn of_long_line(number: u64, text: &'a [u8], among: u64) -> Explained<'a>
+        ensures within { IsWithin result.line.now result.hint.column }
+    {
         let line = line_at(text, among);
         Explained {
             place: Place::Line(number),
@@ -90,7 +97,9 @@ impl<'a> Explained<'a> {
     }
 
     /// The first line that is too many in a script; the numbers are those of `of_script`.
-    pub fn of_many_lines(number: u64, text: &'a [u8], among: u64) -> Explained<'a> {
+    pub fn of_many_lines(number: u64, text: &'a [u8], among: u64) -> Explained<'a>
+        ensures within { IsWithin result.line.now result.hint.column }
+    {
         Explained {
             place: Place::Line(number),
             line: line_at(text, among),
@@ -99,7 +108,9 @@ impl<'a> Explained<'a> {
     }
 
     /// What did not fit in an assembly text.
-    pub fn of_text(text: &'a [u8], answer: Answer<'_>) -> Explained<'a> {
+    pub fn of_text(text: &'a [u8], answer: Answer<'_>) -> Explained<'a>
+        ensures within { IsWithin result.line.now result.hint.column }
+    {
         let line = line_at(text, answer.number);
         let hint = match answer.name {
             b"Syntax" => hint_of_statement(line),
@@ -109,7 +120,10 @@ impl<'a> Explained<'a> {
             0 => Explained {
                 place: Place::Input,
                 line: &[],
-                hint,
+                hint: Hint {
+                    column: 0,
+                    says: hint.says,
+                },
             },
             number => Explained {
                 place: Place::Line(number),
@@ -120,13 +134,15 @@ impl<'a> Explained<'a> {
     }
 
     /// What did not fit in the digits of an image.
-    pub fn of_image(text: &'a [u8], answer: Answer<'_>) -> Explained<'a> {
+    pub fn of_image(text: &'a [u8], answer: Answer<'_>) -> Explained<'a>
+        ensures within { IsWithin result.line.now result.hint.column }
+    {
         let digits = digits_of(text);
         match answer.name {
             b"Hex" => Explained {
                 place: Place::Input,
                 line: digits,
-                hint: hint_of_image(text),
+                hint: hint_of_digits(digits),
             },
             b"TooLong" => Explained {
                 place: Place::Input,
@@ -142,7 +158,10 @@ impl<'a> Explained<'a> {
                 Explained {
                     place: Place::Slot(number),
                     line: shown,
-                    hint: Hint::sentence(column_of_fault(name, shown), sentence_of_fault(name)),
+                    hint: Hint::sentence(
+                        column_of_fault(name, shown).min(shown.len()),
+                        sentence_of_fault(name),
+                    ),
                 }
             }
         }
