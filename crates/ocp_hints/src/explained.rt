@@ -33,8 +33,9 @@ enum Place {
 #[derive(Clone, Copy)]
 pub struct Explained<'a> {
     place: Place,
-    /// What is shown of the input, and what in it did not fit.
+    /// What is shown of the input.
     pub line: &'a [u8],
+    /// What in it did not fit; its column is one of the line, or the one behind it.
     pub hint: Hint<'a>,
 }
 

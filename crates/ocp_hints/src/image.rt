@@ -54,10 +54,3 @@ pub(crate) fn hint_of_digits(digits: &[u8]) -> Hint<'_>
         .find_map(|column| hint_at(digits, column))
         .unwrap_or(odd)
 }
-
-/// What does not fit in the text of an image that is `Hex`.
-pub fn hint_of_image(text: &[u8]) -> Hint<'_>
-    ensures within { IsWithin text.now result.column }
-{
-    hint_of_digits(digits_of(text))
-}

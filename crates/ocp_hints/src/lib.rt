@@ -20,7 +20,6 @@ pub use answer::{Answer, answer_in};
 pub use explained::Explained;
 pub use form::Form;
 pub use hint::{Hint, Misfit, Says};
-pub use image::hint_of_image;
 pub use line::hint_of_line;
 pub use part::Part;
 pub use statement::hint_of_statement;
