@@ -7,21 +7,18 @@ use Rattle.bpf_types.specs.declared.line.Line.{Line}
 use Rattle.bpf_types.specs.declared.line.Line.TheVariants as line
 use Rattle.bpf_types.specs.declared.line.Operand.{Operand}
 use Rattle.bpf_types.specs.declared.line.Operand.TheVariants.{Immediate, Register}
-use Rattle.bpf_types.specs.declared.line.Operation.{Operation}
 use Rattle.bpf_types.specs.declared.line.Operation.TheVariants as op
-use Rattle.bpf_types.specs.declared.line.Comparison.{Comparison}
 use Rattle.bpf_types.specs.declared.line.Comparison.TheVariants as comparison
 use Rattle.bpf_types.specs.declared.line.Extension.{Extension}
 use Rattle.bpf_types.specs.declared.line.Extension.TheVariants as extension
 use Rattle.bpf_types.specs.declared.line.SwapWidth.{SwapWidth}
 use Rattle.bpf_types.specs.declared.line.SwapWidth.TheVariants as swap
 use Rattle.bpf_types.specs.declared.line.Order.TheVariants as order
-use Rattle.bpf_types.specs.declared.line.Size.{Size}
 use Rattle.bpf_types.specs.declared.line.Size.TheVariants as size
 use Rattle.bpf_types.specs.declared.line.SignedSize.TheVariants as signed_size
 use Rattle.bpf_types.specs.declared.line.Width.{Width}
 use Rattle.bpf_types.specs.declared.line.Width.TheVariants.{W32, W64}
-use Rattle.bpf_types.specs.Line.{swap_width_bits, IsLine, extension_width, extension_bits}
+use Rattle.bpf_types.specs.Line.{operations, comparisons, orders, sizes, signed_sizes, swap_width_bits, IsLine, extension_width, extension_bits}
 use Rattle.bpf_listing.specs.declared.mnemonic.Mnemonic.{Mnemonic}
 use Rattle.bpf_listing.specs.declared.mnemonic.Mnemonic.TheVariants as word
 use Rattle.bpf_listing.specs.declared.mnemonic.Jump.TheVariants as jump
@@ -32,22 +29,13 @@ use Rattle.bpf_listing.specs.Mnemonics.{mnemonic_name}
 use Rattle.bpf_listing.specs.Mirror.Reading.{word_length, hex_on, number_field, signed_field, operand_field, Shows}
 use Rattle.bpf_listing.proofs.Shown.{IsRead, text_is_read, field_at}
 
-abbrev operations : List Operation
-operations = op.Add ∷ op.Sub ∷ op.Mul ∷ op.Div ∷ op.SignedDiv ∷ op.Or ∷ op.And ∷ op.Lsh ∷ op.Rsh ∷ op.Mod ∷ op.SignedMod ∷ op.Xor ∷ op.Mov ∷ op.Arsh ∷ []
-
-abbrev tests : List Comparison
-tests = comparison.Equal ∷ comparison.Greater ∷ comparison.GreaterOrEqual ∷ comparison.Set ∷ comparison.NotEqual ∷ comparison.SignedGreater ∷ comparison.SignedGreaterOrEqual ∷ comparison.Less ∷ comparison.LessOrEqual ∷ comparison.SignedLess ∷ comparison.SignedLessOrEqual ∷ []
-
-abbrev sizes : List Size
-sizes = size.Word ∷ size.Half ∷ size.Byte ∷ size.Double ∷ []
-
 -- each mnemonic
 abbrev mnemonics : List Mnemonic
 mnemonics = map (word.Arithmetic W32) operations ++ map (word.Arithmetic W64) operations
-    ++ map (λ t. word.Jump (jump.If W32 t)) tests ++ map (λ t. word.Jump (jump.If W64 t)) tests
+    ++ map (λ t. word.Jump (jump.If W32 t)) comparisons ++ map (λ t. word.Jump (jump.If W64 t)) comparisons
     ++ map (λ s. word.Access (access.Load s)) sizes ++ map (λ s. word.Access (access.Store s)) sizes ++ map (λ s. word.Access (access.StoreImmediate s)) sizes
-    ++ map (λ s. word.Access (access.LoadExtended s)) (signed_size.Word ∷ signed_size.Half ∷ signed_size.Byte ∷ [])
-    ++ map word.ByteOrder (order.Little ∷ order.Big ∷ order.Swap ∷ [])
+    ++ map (λ s. word.Access (access.LoadExtended s)) signed_sizes
+    ++ map word.ByteOrder orders
     ++ word.Negate W32 ∷ word.Negate W64 ∷ word.MoveExtended W32 ∷ word.MoveExtended W64 ∷ word.LoadWide
     ∷ word.Jump jump.Short ∷ word.Jump jump.Long ∷ word.Jump jump.Call ∷ word.Jump jump.Exit ∷ []
 

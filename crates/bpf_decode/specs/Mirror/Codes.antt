@@ -1,17 +1,13 @@
 -- What the parts of an opcode stand for: the one whose code in the instruction table they are.
-use Rattle.std.specs.Prelude.{ℕ, ◌/◌, ◌%◌, ℤ, List, [], ◌∷◌, Bool, false, ◌&&◌, ◌||◌, not, nat_le, ◌==◌, if◌then◌else◌, Option, Some, None}
+use Rattle.std.specs.Prelude.{ℕ, ◌/◌, ◌%◌, ℤ, pos, List, [], ◌∷◌, Bool, ◌&&◌, ◌||◌, ◌==◌, if◌then◌else◌, Option, Some, None}
+use Rattle.std.specs.Option.{is_some}
 use Rattle.std.specs.Ordering.{int_eq}
 use Rattle.bpf_types.specs.declared.line.Operation.{Operation}
-use Rattle.bpf_types.specs.declared.line.Operation.TheVariants as op
 use Rattle.bpf_types.specs.declared.line.Comparison.{Comparison}
-use Rattle.bpf_types.specs.declared.line.Comparison.TheVariants as comparison
 use Rattle.bpf_types.specs.declared.line.Order.{Order}
-use Rattle.bpf_types.specs.declared.line.Order.TheVariants as order
 use Rattle.bpf_types.specs.declared.line.Size.{Size}
-use Rattle.bpf_types.specs.declared.line.Size.TheVariants as size
 use Rattle.bpf_types.specs.declared.line.SignedSize.{SignedSize}
-use Rattle.bpf_types.specs.declared.line.SignedSize.TheVariants as signed_size
-use Rattle.bpf_types.specs.Line.{code_of, offset_of, comparison_code, order_opcode, size_code, signed_size_code}
+use Rattle.bpf_types.specs.Line.{operations, code_of, offset_of, comparisons, comparison_code, orders, order_opcode, sizes, size_code, signed_sizes, signed_size_code}
 
 -- the first element that passes a test
 abbrev pub first : {A : Type 0} → (A → Bool) → List A → Option A
@@ -20,55 +16,42 @@ first test (x ∷ xs) = if test x then Some x else first test xs
 
 -- the operation of a code, the high four bits of an arithmetic opcode, and an offset field
 abbrev pub operation_at : ℕ → ℤ → Option Operation
-operation_at n offset = first (λ o. (n == code_of o) && int_eq offset (offset_of o))
-    (op.Add ∷ op.Sub ∷ op.Mul ∷ op.Div ∷ op.SignedDiv ∷ op.Or ∷ op.And ∷ op.Lsh ∷ op.Rsh ∷ op.Mod
-    ∷ op.SignedMod ∷ op.Xor ∷ op.Mov ∷ op.Arsh ∷ [])
+operation_at n offset = first (λ o. (n == code_of o) && int_eq offset (offset_of o)) operations
 
 -- the test of a code, the high four bits of a jump's opcode
 abbrev pub comparison_at : ℕ → Option Comparison
-comparison_at n = first (λ c. n == comparison_code c)
-    (comparison.Equal ∷ comparison.Greater ∷ comparison.GreaterOrEqual ∷ comparison.Set
-    ∷ comparison.NotEqual ∷ comparison.SignedGreater ∷ comparison.SignedGreaterOrEqual
-    ∷ comparison.Less ∷ comparison.LessOrEqual ∷ comparison.SignedLess
-    ∷ comparison.SignedLessOrEqual ∷ [])
+comparison_at n = first (λ c. n == comparison_code c) comparisons
 
 -- the byte order instruction of an opcode
 abbrev pub order_at : ℕ → Option Order
-order_at n = first (λ o. n == order_opcode o) (order.Little ∷ order.Big ∷ order.Swap ∷ [])
+order_at n = first (λ o. n == order_opcode o) orders
 
 -- the size of a load or a store by its two bits
 abbrev pub size_at : ℕ → Option Size
-size_at n = first (λ s. n == size_code s) (size.Word ∷ size.Half ∷ size.Byte ∷ size.Double ∷ [])
+size_at n = first (λ s. n == size_code s) sizes
 
 -- the size of a load that extends the sign by the same bits
 abbrev pub signed_size_at : ℕ → Option SignedSize
-signed_size_at n =
-    first (λ s. n == signed_size_code s)
-    (signed_size.Word ∷ signed_size.Half ∷ signed_size.Byte ∷ [])
+signed_size_at n = first (λ s. n == signed_size_code s) signed_sizes
 
--- the number lies between two others, or is one of them
-abbrev pub is_within : ℕ → ℕ → ℕ → Bool
-is_within low high n = nat_le low n && nat_le n high
+-- some row of the classes ALU and ALU64 has this opcode (RFC 9669, sections 4.1 and 4.2)
+abbrev pub is_arithmetic : ℕ → Bool
+is_arithmetic n =
+    is_some (operation_at (n / 16) (pos 0)) || is_some (order_at n) || (n == 0x84) || (n == 0x87)
 
--- some row has an opcode with these two hexadecimal digits, the low one first
-abbrev pub known_digits : ℕ → ℕ → Bool
-known_digits low code =
-    if low == 4 then nat_le code 13 else if low == 5 then nat_le code 13
-    else if low == 7 then nat_le code 13
-    else if low == 6 then nat_le code 7 || is_within 10 13 code
-    else if low == 12 then nat_le code 13 && not (code == 8)
-    else if low == 15 then nat_le code 12 && not (code == 8)
-    else if low == 13 then is_within 1 7 code || is_within 10 13 code
-    else if low == 14 then is_within 1 7 code || is_within 10 13 code
-    else if low == 8 then code == 1
-    else if low == 1 then is_within 6 9 code
-    else if low == 9 then is_within 6 8 code
-    else if low == 2 then code == 6 || code == 7
-    else if low == 3 then code == 6 || code == 7
-    else if low == 10 then code == 6 || code == 7
-    else if low == 11 then code == 6 || code == 7
-    else false
+-- some row of the classes JMP and JMP32 has this opcode (RFC 9669, section 4.3)
+abbrev pub is_jump : ℕ → Bool
+is_jump n =
+    is_some (comparison_at (n / 16)) || (n == 0x05) || (n == 0x06) || (n == 0x85) || (n == 0x95)
 
--- some row has this opcode
+-- some row of the class LDX has this opcode (RFC 9669, sections 5.1 and 5.2)
+abbrev pub is_load : ℕ → Bool
+is_load n = (n / 32 == 3) || (n / 32 == 4) && is_some (signed_size_at (n / 8 % 4))
+
+-- some row has this opcode, by the class, its low three bits (RFC 9669, section 3.3)
 abbrev pub is_opcode : ℕ → Bool
-is_opcode n = known_digits (n % 16) (n / 16)
+is_opcode n = let class = n % 8 in if (class == 4) || (class == 7) then is_arithmetic n
+    else if (class == 5) || (class == 6) then is_jump n
+    else if class == 1 then is_load n
+    else if (class == 2) || (class == 3) then n / 32 == 3
+    else n == 0x18
