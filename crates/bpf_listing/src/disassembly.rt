@@ -5,7 +5,7 @@ ghost use Rattle.bpf_types.specs.declared.line.Line.{Line};
 ghost use Rattle.bpf_listing.specs.Listing.{IsListed, IsImageOf, NoneWritesFramePointer, IsFaultOf, LacksRoom, listing};
 ghost use Rattle.bpf_listing.specs.Mirror.Written.{Continues, IsWritten};
 
-use crate::writing::line_with_newline;
+use crate::text::Text;
 use bpf_decode::{DecodeFault, decode_at, instructions_are_unique};
 use std::alloc::Allocator;
 
@@ -53,7 +53,9 @@ fn write_lines<A: Allocator>(code: &[u8], out: &mut Vec<u8, A>) -> Result<u128, 
     while slot < slots {
         match decode_at(code, slot) {
             Ok(line) => {
-                let text = line_with_newline(&line);
+                let mut text = Text::new();
+                text.push_line(&line);
+                text.push_all(b"\n");
                 push_within(out, text.as_slice());
                 len += text.as_slice().len() as u128;
                 slot += usize::from(line.slots());

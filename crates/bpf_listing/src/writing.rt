@@ -192,17 +192,6 @@ impl Text {
     }
 }
 
-/// The canonical text of an instruction with its newline.
-pub(crate) fn line_with_newline(line: &Line) -> Text
-    ensures items { result ≡ canonical line.now ++ codes "\n" }
-    ensures len { length result ≤ 49 }
-{
-    let mut text = Text::new();
-    text.push_line(line);
-    text.push_all(b"\n");
-    text
-}
-
 /// The canonical text of an instruction.
 pub fn text_of(line: Line) -> Text
     ensures items { result ≡ canonical line }
