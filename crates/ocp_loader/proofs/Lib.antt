@@ -9,5 +9,6 @@ pub mod Complete
 pub mod First
 pub mod Line
 pub mod Stood
+pub mod Listed
 mod InOrder
 mod Loaded

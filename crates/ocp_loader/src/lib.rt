@@ -4,6 +4,7 @@
 mod check;
 mod fault;
 mod laws;
+mod listing;
 mod ops;
 mod program;
 mod read;

@@ -1,0 +1,48 @@
+//! The listing of operations, slot by slot.
+ghost use Rattle.std.specs.Prelude.{◌≡◌, ◌≤◌, ◌+◌, ◌++◌, Some, length, vec_capacity};
+ghost use Rattle.bpf_listing.specs.Canonical.{canonical};
+ghost use Rattle.ocp_loader.specs.Mirror.Listed.{text_at, text_below};
+
+use crate::ops::line_in_ops;
+use crate::program::MAX_SLOTS;
+use bpf_listing::text_of;
+use bpf_ops::Op;
+use bpf_types::Line;
+use std::alloc::Allocator;
+
+/// How many octets the lines of so many slots have, each with a newline.
+pub fn listing_len(ops: &[Op], slots: u16) -> usize
+    requires { slots ≤ MAX_SLOTS }
+    ensures { result ≡ length (text_below ops.now slots) }
+{
+    let mut len = 0;
+    for slot in 0..slots {
+        if let Some(line) = line_in_ops(ops, slot) {
+            len += text_of(line).as_slice().len() + 1;
+        }
+    }
+    len
+}
+
+/// Appends a line with its newline, where there is room for it.
+fn push_line<A: Allocator>(line: Line, out: &mut Vec<u8, A>)
+    requires { length out.old.items + length (canonical line) + 1 ≤ vec_capacity out.old }
+    ensures items { out.new.items ≡ out.old.items ++ text_at (Some line) }
+    ensures capacity { vec_capacity out.old ≤ vec_capacity out.new }
+{
+    out.extend_from_slice(text_of(line).as_slice()).unwrap();
+    out.extend_from_slice(b"\n").unwrap();
+}
+
+/// Appends the lines of so many slots, each with a newline, where there is room for them.
+pub fn push_listing<A: Allocator>(ops: &[Op], slots: u16, out: &mut Vec<u8, A>)
+    requires { length out.old.items + length (text_below ops.now slots) ≤ vec_capacity out.old }
+    ensures items { out.new.items ≡ out.old.items ++ text_below ops.now slots }
+    ensures capacity { vec_capacity out.old ≤ vec_capacity out.new }
+{
+    for slot in 0..slots {
+        if let Some(line) = line_in_ops(ops, slot) {
+            push_line(line, out);
+        }
+    }
+}
