@@ -11,6 +11,9 @@ use crate::operand::Operand::{
 };
 use crate::operand::{Fit, Operand, is_name};
 use crate::tokens::Tokens;
+use arrayvec::ArrayVec;
+use bpf_listing::{Access, Jump, Mnemonic, mnemonic_of};
+use bpf_types::Width;
 
 const TARGET: &str = "<distance with its sign, or label>";
 
@@ -21,20 +24,6 @@ const NO_LABEL: &str = "a label is a letter or _, then letters, digits and _, 32
 const LABEL: &str = "this label is out of its range, -32768 to +32767 slots from the next \
                      instruction";
 
-const ARITHMETIC: [&str; 14] = [
-    "add", "sub", "mul", "div", "sdiv", "or", "and", "lsh", "rsh", "mod", "smod", "xor", "mov",
-    "arsh",
-];
-
-const CONDITIONS: [&str; 11] = [
-    "jeq", "jgt", "jge", "jset", "jne", "jsgt", "jsge", "jlt", "jle", "jslt", "jsle",
-];
-
-/// Whether a word is one of these.
-fn is_one_of(names: &[&'static str], word: &[u8]) -> bool {
-    names.iter().any(|name| word == name.as_bytes())
-}
-
 /// What stands behind a mnemonic: as it is said, and piece by piece.
 #[derive(Clone, Copy)]
 struct Shape {
@@ -42,67 +31,58 @@ struct Shape {
     operands: &'static [Operand],
 }
 
-/// What stands behind a mnemonic that has no width in it; of `call` the word behind it decides.
-fn shape_of_name(mnemonic: &[u8], is_local: bool) -> Option<Shape> {
+/// What stands behind a mnemonic; of `call` the word behind it decides.
+fn shape_of(mnemonic: Mnemonic, is_local: bool) -> Shape {
     let (text, operands): (&str, &[Operand]) = match mnemonic {
-        b"neg64" | b"neg32" => ("<register>", &[Register]),
-        b"movsx64" => (
+        Mnemonic::Arithmetic(..) => (
+            "<register>, <register or number>",
+            &[Register, Comma, Second],
+        ),
+        Mnemonic::Negate(_) => ("<register>", &[Register]),
+        Mnemonic::MoveExtended(Width::W64) => (
             "<register>, <register>, 8 or 16 or 32",
             &[Register, Comma, Register, Comma, Extension],
         ),
-        b"movsx32" => (
+        Mnemonic::MoveExtended(Width::W32) => (
             "<register>, <register>, 8 or 16",
             &[Register, Comma, Register, Comma, ShortExtension],
         ),
-        b"le" | b"be" | b"swap" => { ("<register>, 16 or 32 or 64", &[Register, Comma, SwapWidth]) }
-        b"lddw" => (
+        Mnemonic::ByteOrder(_) => { ("<register>, 16 or 32 or 64", &[Register, Comma, SwapWidth]) }
+        Mnemonic::LoadWide => (
             "<register>, <number without a sign>",
             &[Register, Comma, Wide],
         ),
-        b"ldxb" | b"ldxh" | b"ldxw" | b"ldxdw" | b"ldxsb" | b"ldxsh" | b"ldxsw" => (
+        Mnemonic::Access(Access::Load(_) | Access::LoadExtended(_)) => (
             "<register>, [<register>+<distance>], with no blank between sign and distance",
             &[Register, Comma, Opens, Register, Offset, Closes],
         ),
-        b"stxb" | b"stxh" | b"stxw" | b"stxdw" => (
+        Mnemonic::Access(Access::Store(_)) => (
             "[<register>+<distance>], <register>",
             &[Opens, Register, Offset, Closes, Comma, Register],
         ),
-        b"stb" | b"sth" | b"stw" | b"stdw" => (
+        Mnemonic::Access(Access::StoreImmediate(_)) => (
             "[<register>+<distance>], <number>",
             &[Opens, Register, Offset, Closes, Comma, Immediate],
         ),
-        b"ja" => (TARGET, &[Target]),
-        b"ja32" => (TARGET, &[LongTarget]),
-        b"call" if is_local => (CALL, &[LongTarget]),
-        b"call" => (CALL, &[Immediate]),
-        b"exit" => ("has nothing behind it", &[]),
-        _ => return None,
+        Mnemonic::Jump(Jump::If(..)) => (
+            "<register>, <register or number>, <distance with its sign, or label>",
+            &[Register, Comma, Second, Comma, Target],
+        ),
+        Mnemonic::Jump(Jump::Short) => (TARGET, &[Target]),
+        Mnemonic::Jump(Jump::Long) => (TARGET, &[LongTarget]),
+        Mnemonic::Jump(Jump::Call) if is_local => (CALL, &[LongTarget]),
+        Mnemonic::Jump(Jump::Call) => (CALL, &[Immediate]),
+        Mnemonic::Jump(Jump::Exit) => ("has nothing behind it", &[]),
     };
-    Some(Shape { text, operands })
-}
-
-/// What stands behind a mnemonic; of `call` the word behind it decides.
-fn shape_of(mnemonic: &[u8], is_local: bool) -> Option<Shape> {
-    if let [base @ .., b'6', b'4'] | [base @ .., b'3', b'2'] = mnemonic {
-        if is_one_of(&ARITHMETIC, base) {
-            return Some(Shape {
-                text: "<register>, <register or number>",
-                operands: &[Register, Comma, Second],
-            });
-        }
-        if is_one_of(&CONDITIONS, base) {
-            return Some(Shape {
-                text: "<register>, <register or number>, <distance with its sign, or label>",
-                operands: &[Register, Comma, Second, Comma, Target],
-            });
-        }
-    }
-    shape_of_name(mnemonic, is_local)
+    Shape { text, operands }
 }
 
 /// Whether a word is a mnemonic without its width.
 fn is_without_width(word: &[u8]) -> bool {
-    is_one_of(&ARITHMETIC, word) || is_one_of(&CONDITIONS, word) || word == b"neg".as_slice()
+    let mut with_width: ArrayVec<u8, 8> = ArrayVec::new();
+    with_width.try_extend_from_slice(word).is_ok()
+        && with_width.try_extend_from_slice(b"64").is_ok()
+        && mnemonic_of(&with_width).is_some()
 }
 
 /// What to write in place of a word that is no mnemonic.
@@ -246,7 +226,7 @@ fn statement_of<'a>(mnemonic: &'a [u8], behind: Tokens<'a>) -> Option<Statement>
 {
     let (word, behind_word) = behind.next_token();
     let is_local = word.text == b"local".as_slice();
-    let shape = shape_of(mnemonic, is_local)?;
+    let shape = shape_of(mnemonic_of(mnemonic)?, is_local);
     let operands = if is_local && mnemonic == b"call".as_slice() {
         behind_word
     } else {
