@@ -14,9 +14,17 @@ use crate::{
     SeatFault, Slice, StepOutcome, TakeFault, Ticket, Work,
 };
 use std::alloc::Global;
+use std::hint::spin_loop;
 use std::marker::PhantomData;
 use std::sync::ledger::Blank;
-use std::sync::{Mutex, Wait};
+use std::sync::{Mutex, MutexGuard, Wait};
+
+/// How often a thread looks whether the lock is free before it sleeps, and how often it pauses
+/// between two looks: about a millisecond in all. The lock is held for a microsecond or two, and
+/// to be woken takes longer.
+const LOOKS: u32 = 2_000;
+
+const PAUSES: u32 = 8;
 
 /// One engine for several threads: a board behind a lock, which is the book of an engine where
 /// nothing else is said. Each call of a seat holds the lock once. It answers what the board
@@ -51,6 +59,19 @@ impl<L: Naming, B: Board<L>> SharedEngine<L, B> {
         }
     }
 
+    /// The board, under the lock.
+    pub(crate) fn lock<R: Wait>(&self, rt: &R) -> MutexGuard<'_, B> {
+        for _look in 0..LOOKS {
+            if let Some(board) = self.board.try_lock() {
+                return board;
+            }
+            for _pause in 0..PAUSES {
+                spin_loop();
+            }
+        }
+        self.board.lock(rt)
+    }
+
     /// The board, once no thread shares it.
     pub fn into_inner(self) -> B {
         let SharedEngine { board, of: _ } = self;
@@ -65,7 +86,7 @@ impl<L: Naming, B: Board<L>> SharedEngine<L, B> {
         ensures receipts { IfOk result (λ seat. (seat.receipts ≡ []) × (seat.share ≡ 0)) }
         ensures number { IfOk result (λ seat. (1 ≤ seat.number) × (seat.number ≤ 64)) }
     {
-        self.board.lock(rt).seat(alloc)
+        self.lock(rt).seat(alloc)
     }
 
     /// A ticket for the running procedure with the least id above the one taken last by any seat,
@@ -74,7 +95,7 @@ impl<L: Naming, B: Board<L>> SharedEngine<L, B> {
     pub fn take<R: Wait>(&self, rt: &R, alloc: Global) -> Result<Ticket, TakeFault>
         ensures given { B.answers (TakeReply result) }
     {
-        self.board.lock(rt).take(alloc)
+        self.lock(rt).take(alloc)
     }
 
     /// As `take`, with a ticket that there is, which becomes the one that is taken. It keeps its
@@ -88,7 +109,7 @@ impl<L: Naming, B: Board<L>> SharedEngine<L, B> {
         ensures ok { OnOk result (B.answers (TakeReply (Ok ticket.new))) }
         ensures err { IfErr result (λ why. B.answers (TakeReply (Err why))) }
     {
-        self.board.lock(rt).take_into(alloc, ticket)
+        self.lock(rt).take_into(alloc, ticket)
     }
 
     /// As `commit`, with a work that stays, so that no memory is given back under the lock, and no
@@ -101,7 +122,7 @@ impl<L: Naming, B: Board<L>> SharedEngine<L, B> {
         ensures empty { result ≡ Empty ↔ work.old.count ≡ 0 }
         ensures count { (n : ℕ) → result ≡ Committed n → n ≡ work.old.count }
     {
-        self.board.lock(rt).hand_in(seat, work)
+        self.lock(rt).hand_in(seat, work)
     }
 
     /// Puts a work's instructions into its procedure. Refused, in this order, where there are none,
@@ -113,7 +134,7 @@ impl<L: Naming, B: Board<L>> SharedEngine<L, B> {
         ensures empty { result ≡ Empty ↔ work.count ≡ 0 }
         ensures count { (n : ℕ) → result ≡ Committed n → n ≡ work.count }
     {
-        self.board.lock(rt).commit(seat, work)
+        self.lock(rt).commit(seat, work)
     }
 
     /// Takes the octets of a telecommand packet and answers its reports, as the engine's call with
@@ -135,7 +156,7 @@ impl<L: Naming, B: Board<L>> SharedEngine<L, B> {
             time,
             octets,
         };
-        self.board.lock(rt).apply(seat, request)
+        self.lock(rt).apply(seat, request)
     }
 
     /// Reports the completions that wait, the oldest first, at a time in whole seconds, as the
@@ -152,7 +173,7 @@ impl<L: Naming, B: Board<L>> SharedEngine<L, B> {
         ensures seat { Gains seat.old seat.new
             (drain_entries seat.old.number time result) }
     {
-        self.board.lock(rt).apply(seat, Drain { alloc, time })
+        self.lock(rt).apply(seat, Drain { alloc, time })
     }
 
     /// Does one instruction of a procedure, as the engine's call with the seat's number.
@@ -160,7 +181,7 @@ impl<L: Naming, B: Board<L>> SharedEngine<L, B> {
         ensures given { B.answers (StepReply seat.old.number id result) }
         ensures seat { Gains seat.old seat.new (step_entries seat.old.number id result) }
     {
-        self.board.lock(rt).apply(seat, Step { id })
+        self.lock(rt).apply(seat, Step { id })
     }
 
     /// Does instructions of one procedure, at most so many, as the engine's call with the seat's
@@ -171,7 +192,7 @@ impl<L: Naming, B: Board<L>> SharedEngine<L, B> {
         ensures within { result.count ≤ budget }
         ensures seat { Gains seat.old seat.new (slice_entries seat.old.number id result) }
     {
-        self.board.lock(rt).slice(seat, id, budget)
+        self.lock(rt).slice(seat, id, budget)
     }
 
     /// Sets a breakpoint, as the engine's call with the seat's number.
@@ -188,9 +209,7 @@ impl<L: Naming, B: Board<L>> SharedEngine<L, B> {
             (command_entries seat.old.number id (command.SetBreak place) result) }
     {
         let command = Command::SetBreak(place);
-        self.board
-            .lock(rt)
-            .apply(seat, DebuggerCommand { id, command })
+        self.lock(rt).apply(seat, DebuggerCommand { id, command })
     }
 
     /// Clears a breakpoint, as the engine's call with the seat's number.
@@ -207,9 +226,7 @@ impl<L: Naming, B: Board<L>> SharedEngine<L, B> {
             (command_entries seat.old.number id (command.ClearBreak place) result) }
     {
         let command = Command::ClearBreak(place);
-        self.board
-            .lock(rt)
-            .apply(seat, DebuggerCommand { id, command })
+        self.lock(rt).apply(seat, DebuggerCommand { id, command })
     }
 
     /// Sets whether each instruction of a procedure leaves a trace record, as the engine's call
@@ -227,8 +244,6 @@ impl<L: Naming, B: Board<L>> SharedEngine<L, B> {
             (command_entries seat.old.number id (command.SetTrace on) result) }
     {
         let command = Command::SetTrace(on);
-        self.board
-            .lock(rt)
-            .apply(seat, DebuggerCommand { id, command })
+        self.lock(rt).apply(seat, DebuggerCommand { id, command })
     }
 }

@@ -210,7 +210,7 @@ impl<L: Naming, B: Board<L>> SharedEngine<L, B> {
         let number = seat.number();
         let id = work.id();
         gate.before(number, id, work.count());
-        let (outcome, turn) = put_back(&mut *self.board.lock(rt), seat, &mut work);
+        let (outcome, turn) = put_back(&mut *self.lock(rt), seat, &mut work);
         gate.after(number, id, outcome);
         turn
     }
@@ -236,7 +236,7 @@ impl<L: Naming, B: Board<L>> SharedEngine<L, B> {
             Err(fault) => {
                 return Turned {
                     turn: turn_without(fault),
-                    next: take_next(&mut *self.board.lock(rt), alloc, spare),
+                    next: take_next(&mut *self.lock(rt), alloc, spare),
                 };
             }
         };
@@ -248,7 +248,7 @@ impl<L: Naming, B: Board<L>> SharedEngine<L, B> {
             outcome,
             turn,
             next,
-        } = put_back_and_take(&mut *self.board.lock(rt), alloc, seat, work);
+        } = put_back_and_take(&mut *self.lock(rt), alloc, seat, work);
         gate.after(number, id, outcome);
         Turned { turn, next }
     }
