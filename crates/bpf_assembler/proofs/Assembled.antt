@@ -1,7 +1,5 @@
 -- Both passes together.
 use Rattle.std.proofs.Common.{◌≡◌, ◌≢◌, ◌<◌, ◌≤◌, ◌+◌, ◌++◌, ◌/◌, ℕ, List, [], ◌∷◌, length, Option, Some, None, Err, nat_le, Bool, true, false, refl, sym, ap, ◌∙◌, subst, inl, inr, ◌⊎◌, arith, map}
-use Rattle.std.specs.BTreeMap.{BTreeMap}
-use Rattle.std.proofs.Common.{Bor}
 use Rattle.ocp_profile.specs.declared.profile.Profile.{Profile}
 use Rattle.bpf_types.specs.declared.line.Line.{Line}
 use Rattle.bpf_decode.specs.declared.fault.DecodeFault.TheVariants.{CutWide, UnknownOpcode, BadRegister, ReservedField, WritesFramePointer}
@@ -14,12 +12,12 @@ use Rattle.ocp_loader.specs.LoadResult.{load_result}
 use Rattle.ocp_loader.specs.Admitted.{IsAdmitted, IsAdmittedAs, HasSlots}
 use Rattle.bpf_text.specs.Lines.{TextLine, Statement}
 use Rattle.bpf_assembler.specs.Text.{Entry, entries_of, entry_of, AreInstructions, slots}
-use Rattle.bpf_assembler.specs.Faults.{IsFirstMiss, IsLineOfSlot, IsLineOf, IsFault}
-use Rattle.bpf_assembler.specs.Mirror.Passes.{IsCollected, AreResolved, ResolvesAll, IsLineUpTo, IsReported, entry}
+use Rattle.bpf_assembler.specs.Faults.{IsLineOfSlot, IsLineOf, IsFault}
+use Rattle.bpf_assembler.specs.Mirror.Passes.{AreResolved, ArePassed, IsLineUpTo, IsReported, entry}
 use Rattle.bpf_assembler.specs.Assembling.{IsImageOfText, IsFaultOf}
 use Rattle.bpf_assembler.specs.declared.fault.Why.TheVariants as why
 use Rattle.bpf_assembler.specs.declared.fault.AsmFault.{AsmFault}
-use Rattle.bpf_assembler.specs.declared.fault.AsmFault.TheVariants.{Memory, At}
+use Rattle.bpf_assembler.specs.declared.fault.AsmFault.TheVariants.{At}
 use Rattle.bpf_assembler.specs.declared.table.Row.{Row}
 
 -- the first instruction has place 0
@@ -53,59 +51,54 @@ line_found number ws (e ∷ es) slot n is some (inl h) = let zero : e.place ≡ 
 abbrev IsRefused : Profile → List ℕ → LoadFault → Type 0
 IsRefused profile octets fault = ((fault ≡ load.Memory) ⊎ (load_result profile octets ≡ Err fault)) × IsFirstFault profile octets fault
 
-refused : (profile : Profile) (text : List ℕ) (m : BTreeMap (Bor (List ℕ)) ℕ) (rows : List Row) (octets : List ℕ) (fault : LoadFault) (n : ℕ) (t : IsCollected text m rows) → AreResolved t.lines (map entry rows) octets
+refused : (profile : Profile) (text : List ℕ) (rows : List Row) (octets : List ℕ) (fault : LoadFault) (n : ℕ) (t : ArePassed text rows octets)
     → load_result profile octets ≡ Err fault → IsLineOf (nat_le (number_of fault) 3) (map entry rows) (slot_of fault) n → IsFault profile text n (why.Load fault)
-refused profile text m rows octets fault n t r e counted = inr (inr (record {
+refused profile text rows octets fault n t e counted = inr (inr (record {
   lines = t.lines;
-  instructions = r.lines;
+  instructions = t.resolved.lines;
   written = t.written;
-  meant = subst (λ (es : List Entry). AreInstructions t.lines es r.lines) t.rows r.instructions;
-  refused = ap (load_result profile) (sym r.image.octets) ∙ e;
+  meant = subst (λ (es : List Entry). AreInstructions t.lines es t.resolved.lines) t.rows t.resolved.instructions;
+  refused = ap (load_result profile) (sym t.resolved.image.octets) ∙ e;
   counted = subst (λ (es : List Entry). IsLineOf (nat_le (number_of fault) 3) es (slot_of fault) n) t.rows counted;
 }))
 
 -- a fault of the length
-of_length : (profile : Profile) (text : List ℕ) (m : BTreeMap (Bor (List ℕ)) ℕ) (rows : List Row) (octets : List ℕ) (fault : LoadFault) (f : AsmFault) (t : IsCollected text m rows) → AreResolved t.lines (map entry rows) octets
+of_length : (profile : Profile) (text : List ℕ) (rows : List Row) (octets : List ℕ) (fault : LoadFault) (f : AsmFault) (t : ArePassed text rows octets)
     → nat_le (number_of fault) 3 ≡ true → fault ≢ load.Memory → IsRefused profile octets fault → f ≡ At 0 (why.Load fault) → IsFaultOf profile text f
-of_length profile text m rows octets fault f t r low other (inl e, first) is = absurd (other e)
-of_length profile text m rows octets fault f t r low other (inr e, first) is =
-    subst (IsFaultOf profile text) (sym is) (refused profile text m rows octets fault 0 t r e (subst (λ (b : Bool). IsLineOf b (map entry rows) (slot_of fault) 0) (sym low) refl))
+of_length profile text rows octets fault f t low other (inl e, first) is = absurd (other e)
+of_length profile text rows octets fault f t low other (inr e, first) is =
+    subst (IsFaultOf profile text) (sym is) (refused profile text rows octets fault 0 t e (subst (λ (b : Bool). IsLineOf b (map entry rows) (slot_of fault) 0) (sym low) refl))
 
 -- a fault of a slot
-of_slot : (profile : Profile) (text : List ℕ) (m : BTreeMap (Bor (List ℕ)) ℕ) (rows : List Row) (octets : List ℕ) (fault : LoadFault) (f : AsmFault) (t : IsCollected text m rows) → AreResolved t.lines (map entry rows) octets
+of_slot : (profile : Profile) (text : List ℕ) (rows : List Row) (octets : List ℕ) (fault : LoadFault) (f : AsmFault) (t : ArePassed text rows octets)
     → nat_le (number_of fault) 3 ≡ false → fault ≢ load.Memory → HasSlots octets → IsRefused profile octets fault → (n : ℕ) × (f ≡ At n (why.Load fault)) × IsLineUpTo (map entry rows) (slot_of fault) n → IsFaultOf profile text f
-of_slot profile text m rows octets fault f t r high other slots (inl e, first) h = absurd (other e)
-of_slot profile text m rows octets fault f t r high other slots (inr e, first) (n, is, up) =
-    let found : IsLineOfSlot (map entry rows) (slot_of fault) n = line_found 1 t.lines (map entry rows) (slot_of fault) n t.rows (some_entry t.lines (map entry rows) octets r slots.some) up in
-    subst (IsFaultOf profile text) (sym is) (refused profile text m rows octets fault n t r e (subst (λ (b : Bool). IsLineOf b (map entry rows) (slot_of fault) n) (sym high) found))
+of_slot profile text rows octets fault f t high other slots (inl e, first) h = absurd (other e)
+of_slot profile text rows octets fault f t high other slots (inr e, first) (n, is, up) =
+    let found : IsLineOfSlot (map entry rows) (slot_of fault) n = line_found 1 t.lines (map entry rows) (slot_of fault) n t.rows (some_entry t.lines (map entry rows) octets t.resolved slots.some) up in
+    subst (IsFaultOf profile text) (sym is) (refused profile text rows octets fault n t e (subst (λ (b : Bool). IsLineOf b (map entry rows) (slot_of fault) n) (sym high) found))
 
-pub reported_fault : (profile : Profile) (text : List ℕ) (m : BTreeMap (Bor (List ℕ)) ℕ) (rows : List Row) (octets : List ℕ) (fault : LoadFault) (f : AsmFault) (t : IsCollected text m rows) → AreResolved t.lines (map entry rows) octets
+pub reported_fault : (profile : Profile) (text : List ℕ) (rows : List Row) (octets : List ℕ) (fault : LoadFault) (f : AsmFault) (t : ArePassed text rows octets)
     → (fault ≡ load.Memory) ⊎ (load_result profile octets ≡ Err fault) → IsFirstFault profile octets fault → IsReported (map entry rows) fault f → IsFaultOf profile text f
-reported_fault profile text m rows octets load.Memory f t r e first is = subst (IsFaultOf profile text) (sym is) tt
-reported_fault profile text m rows octets load.EmptyCode f t r e first is = of_length profile text m rows octets load.EmptyCode f t r refl (λ x. cc) (e, first) is
-reported_fault profile text m rows octets load.RaggedCode f t r e first is = of_length profile text m rows octets load.RaggedCode f t r refl (λ x. cc) (e, first) is
-reported_fault profile text m rows octets load.TooLong f t r e first is = of_length profile text m rows octets load.TooLong f t r refl (λ x. cc) (e, first) is
-reported_fault profile text m rows octets (load.Decode CutWide slot) f t r e first is = of_slot profile text m rows octets (load.Decode CutWide slot) f t r refl (λ x. cc) first.0 (e, first) is
-reported_fault profile text m rows octets (load.Decode UnknownOpcode slot) f t r e first is = of_slot profile text m rows octets (load.Decode UnknownOpcode slot) f t r refl (λ x. cc) first.0 (e, first) is
-reported_fault profile text m rows octets (load.Decode BadRegister slot) f t r e first is = of_slot profile text m rows octets (load.Decode BadRegister slot) f t r refl (λ x. cc) first.0 (e, first) is
-reported_fault profile text m rows octets (load.Decode ReservedField slot) f t r e first is = of_slot profile text m rows octets (load.Decode ReservedField slot) f t r refl (λ x. cc) first.0 (e, first) is
-reported_fault profile text m rows octets (load.Decode WritesFramePointer slot) f t r e first is = of_slot profile text m rows octets (load.Decode WritesFramePointer slot) f t r refl (λ x. cc) first.0 (e, first) is
-reported_fault profile text m rows octets (load.BadCall slot) f t r e first is = of_slot profile text m rows octets (load.BadCall slot) f t r refl (λ x. cc) first.0 (e, first) is
-reported_fault profile text m rows octets (load.BadTarget slot) f t r e first is = of_slot profile text m rows octets (load.BadTarget slot) f t r refl (λ x. cc) first.0 (e, first) is
-reported_fault profile text m rows octets (load.FallsOffEnd slot) f t r e first is = of_slot profile text m rows octets (load.FallsOffEnd slot) f t r refl (λ x. cc) first.0 (e, first) is
-
--- an instruction misses its label
-pub missed : (profile : Profile) (text : List ℕ) (m : BTreeMap (Bor (List ℕ)) ℕ) (rows : List Row) (t : IsCollected text m rows) {Z : Type 0} (view : Z → List ℕ) (f : AsmFault) → ResolvesAll t.lines (map entry rows) view (Err f) → IsFaultOf profile text f
-missed profile text m rows t view Memory h = tt
-missed profile text m rows t view (At n y) h = inr (inl (record { lines = t.lines; written = t.written; first = subst (λ (es : List Entry). IsFirstMiss t.lines es n y) t.rows h }))
+reported_fault profile text rows octets load.Memory f t e first is = subst (IsFaultOf profile text) (sym is) tt
+reported_fault profile text rows octets load.EmptyCode f t e first is = of_length profile text rows octets load.EmptyCode f t refl (λ x. cc) (e, first) is
+reported_fault profile text rows octets load.RaggedCode f t e first is = of_length profile text rows octets load.RaggedCode f t refl (λ x. cc) (e, first) is
+reported_fault profile text rows octets load.TooLong f t e first is = of_length profile text rows octets load.TooLong f t refl (λ x. cc) (e, first) is
+reported_fault profile text rows octets (load.Decode CutWide slot) f t e first is = of_slot profile text rows octets (load.Decode CutWide slot) f t refl (λ x. cc) first.0 (e, first) is
+reported_fault profile text rows octets (load.Decode UnknownOpcode slot) f t e first is = of_slot profile text rows octets (load.Decode UnknownOpcode slot) f t refl (λ x. cc) first.0 (e, first) is
+reported_fault profile text rows octets (load.Decode BadRegister slot) f t e first is = of_slot profile text rows octets (load.Decode BadRegister slot) f t refl (λ x. cc) first.0 (e, first) is
+reported_fault profile text rows octets (load.Decode ReservedField slot) f t e first is = of_slot profile text rows octets (load.Decode ReservedField slot) f t refl (λ x. cc) first.0 (e, first) is
+reported_fault profile text rows octets (load.Decode WritesFramePointer slot) f t e first is = of_slot profile text rows octets (load.Decode WritesFramePointer slot) f t refl (λ x. cc) first.0 (e, first) is
+reported_fault profile text rows octets (load.BadCall slot) f t e first is = of_slot profile text rows octets (load.BadCall slot) f t refl (λ x. cc) first.0 (e, first) is
+reported_fault profile text rows octets (load.BadTarget slot) f t e first is = of_slot profile text rows octets (load.BadTarget slot) f t refl (λ x. cc) first.0 (e, first) is
+reported_fault profile text rows octets (load.FallsOffEnd slot) f t e first is = of_slot profile text rows octets (load.FallsOffEnd slot) f t refl (λ x. cc) first.0 (e, first) is
 
 abbrev pub OneImage : Type 0
 OneImage = (image : List ℕ) (a b : List Line) → IsImageOf image a → IsImageOf image b → a ≡ b
 
 -- the image may be run
-pub assembled : (profile : Profile) → OneImage → (text : List ℕ) (m : BTreeMap (Bor (List ℕ)) ℕ) (rows : List Row) (octets : List ℕ) (t : IsCollected text m rows) → AreResolved t.lines (map entry rows) octets → IsAdmitted profile octets → IsImageOfText profile text octets
-assembled profile one text m rows octets t r a = record {
-  lines = r.lines;
-  means = record { lines = t.lines; written = t.written; instructions = subst (λ (es : List Entry). AreInstructions t.lines es r.lines) t.rows r.instructions };
-  admitted = subst (IsAdmittedAs profile octets) (one octets a.lines r.lines a.admitted.whole r.image) a.admitted;
+pub assembled : (profile : Profile) → OneImage → (text : List ℕ) (rows : List Row) (octets : List ℕ) → ArePassed text rows octets → IsAdmitted profile octets → IsImageOfText profile text octets
+assembled profile one text rows octets t a = record {
+  lines = t.resolved.lines;
+  means = record { lines = t.lines; written = t.written; instructions = subst (λ (es : List Entry). AreInstructions t.lines es t.resolved.lines) t.rows t.resolved.instructions };
+  admitted = subst (IsAdmittedAs profile octets) (one octets a.lines t.resolved.lines a.admitted.whole t.resolved.image) a.admitted;
 }

@@ -1,5 +1,5 @@
 -- A listing means its lines.
-use Rattle.std.proofs.Common.{◌≡◌, ◌+◌, ◌-◌, ℕ, zero, suc, List, [], ◌∷◌, ◌++◌, Bool, true, false, refl, sym, ap, ◌∙◌, subst, arith, append_assoc, map, length, IsTrue, inl, inr, ◌⊎◌, Result, Ok, Err}
+use Rattle.std.proofs.Common.{◌≡◌, ◌+◌, ◌-◌, ℕ, zero, suc, List, [], ◌∷◌, ◌++◌, Bool, true, false, refl, sym, ap, ◌∙◌, subst, arith, append_assoc, map, length, IsTrue}
 use Rattle.std.specs.Prelude.{codes, ◌&&◌, ◌==◌, slice_index}
 use Rattle.std.specs.List.{All, list_all}
 use Rattle.std.specs.Str.Lines.{strip_carriage_return}
@@ -100,8 +100,3 @@ listing_means_image profile texts writes image lines h = listing_means texts wri
 
 pub listing_means_no_other : (profile : Profile) → AreTexts → AreWritten → AreMeantOnce → (image : List ℕ) (lines ls : List Line) → IsAdmittedAs profile image lines → Means (listing lines) ls → ls ≡ lines
 listing_means_no_other profile texts writes meaning image lines ls h k = meaning (listing lines) ls lines k (listing_means_image profile texts writes image lines h)
-
--- what is refused where an image would do is memory
-pub memory_alone : {V E : Type 0} (m fault : E) (image : V) (result : Result V E) → result ≡ Err fault → (result ≡ Err m) ⊎ (result ≡ Ok image) → fault ≡ m
-memory_alone m fault image result is (inl e) = cc
-memory_alone m fault image result is (inr e) = absurd cc

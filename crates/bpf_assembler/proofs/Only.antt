@@ -40,6 +40,11 @@ only_image profile meaning sound text (Ok v) m f image h = inr (ap Ok (one_image
 only_image profile meaning sound text (Err Memory) m f image h = inl refl
 only_image profile meaning sound text (Err (At number y)) m f image h = absurd (image_or_fault profile sound text image number y h f)
 
+-- and memory alone is refused
+pub only_memory : (profile : Profile) → AreSound profile → (text : List ℕ) (f : AsmFault) → IsFaultOf profile text f → (image : List ℕ) → IsImageOfText profile text image → f ≡ Memory
+only_memory profile sound text Memory k image h = refl
+only_memory profile sound text (At number y) k image h = absurd (image_or_fault profile sound text image number y h k)
+
 -- where it has a fault, that is
 pub only_fault : (profile : Profile) → AreFaultyOnce profile → AreSound profile → (text : List ℕ) (r : Result (List ℕ) AsmFault) → IfOk r (IsImageOfText profile text) → IfErr r (IsFaultOf profile text) → (line : ℕ) (why : Why) → IsFault profile text line why → (r ≡ Err Memory) ⊎ (r ≡ Err (At line why))
 only_fault profile fault sound text (Ok v) m f line why h = absurd (image_or_fault profile sound text v line why m h)

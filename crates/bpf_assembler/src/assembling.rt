@@ -6,7 +6,7 @@ ghost use Rattle.bpf_listing.specs.Listing.{listing};
 ghost use Rattle.ocp_loader.specs.Admitted.{MayBeRun, IsAdmittedAs};
 ghost use Rattle.bpf_assembler.specs.Text.{Means};
 ghost use Rattle.bpf_assembler.specs.Faults.{IsFault};
-ghost use Rattle.bpf_assembler.specs.Mirror.Passes.{IsReported, entry};
+ghost use Rattle.bpf_assembler.specs.Mirror.Passes.{ArePassed, IsReported, entry};
 ghost use Rattle.bpf_assembler.specs.Assembling.{IsImageOfText, IsFaultOf};
 ghost use Rattle.bpf_assembler.specs.declared.fault.Why.{Why};
 ghost use Rattle.bpf_assembler.specs.declared.fault.AsmFault.TheVariants.{Memory, At};
@@ -18,7 +18,7 @@ use crate::listings::admitted_images_are_meant_by_their_listings;
 use crate::resolving::{line_up_to, resolve_all};
 use crate::table::{Row, Table};
 use bpf_listing::images_are_unique;
-use ocp_loader::{LoadFault, approve};
+use ocp_loader::{LoadFault, Program, approve, load};
 use ocp_profile::Profile;
 use std::alloc::{Allocator, Global};
 use std::collections::BTreeMap;
@@ -67,6 +67,25 @@ fn fault_with_line(rows: &[Row<'_>], fault: LoadFault) -> AsmFault
     AsmFault::at(line, Why::Load(fault))
 }
 
+/// Both passes: the instructions of a text in its table, and their octets.
+fn both_passes<'a, A: Allocator + Copy>(
+    alloc: A,
+    text: &'a [u8],
+) -> Result<(Table<'a, A>, Vec<u8, A>), AsmFault>
+    ensures ok { IfOk result (λ r. ArePassed text.now r.0.rows.items r.1.items) }
+    ensures fault { (profile : Profile) → IfErr result (IsFaultOf profile text.now) }
+{
+    let mut table = Table {
+        labels: BTreeMap::new(alloc),
+        rows: Vec::new(alloc),
+        lines: 0,
+        place: 0,
+    };
+    collect(&mut table, text)?;
+    let octets = resolve_all(alloc, &table.labels, &table.rows)?;
+    Ok((table, octets))
+}
+
 /// The image of the instructions that a text means, where it may be run under the profile.
 fn image_of<A: Allocator + Copy>(
     alloc: A,
@@ -77,16 +96,26 @@ fn image_of<A: Allocator + Copy>(
     ensures fault { IfErr result (IsFaultOf profile text.now) }
 {
     images_are_unique();
-    let mut table = Table {
-        labels: BTreeMap::new(alloc),
-        rows: Vec::new(alloc),
-        lines: 0,
-        place: 0,
-    };
-    collect(&mut table, text)?;
-    let octets = resolve_all(alloc, &table.labels, &table.rows)?;
+    let (table, octets) = both_passes(alloc, text)?;
     match approve(alloc, profile, &octets) {
         Ok(()) => Ok(Image { octets }),
+        Err(fault) => Err(fault_with_line(&table.rows, fault)),
+    }
+}
+
+/// The program of that image.
+pub(crate) fn program_of<A: Allocator + Copy>(
+    alloc: A,
+    profile: Profile,
+    text: &[u8],
+) -> Result<Program<A>, AsmFault>
+    ensures means { IfOk result (IsImageOfText profile text.now) }
+    ensures fault { IfErr result (IsFaultOf profile text.now) }
+{
+    images_are_unique();
+    let (table, octets) = both_passes(alloc, text)?;
+    match load(alloc, profile, &octets) {
+        Ok(program) => Ok(program),
         Err(fault) => Err(fault_with_line(&table.rows, fault)),
     }
 }

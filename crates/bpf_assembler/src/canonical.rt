@@ -7,14 +7,15 @@ ghost use Rattle.bpf_assembler.specs.Text.{Means};
 ghost use Rattle.bpf_assembler.specs.Assembling.{IsImageOfText, IsFaultOf};
 ghost use Rattle.bpf_assembler.specs.declared.fault.AsmFault.TheVariants.{Memory};
 
-use crate::assembling::assemble;
+use crate::assembling::program_of;
 use crate::fault::AsmFault;
-use bpf_listing::disassemble;
+use crate::laws::meanings_exclude_faults;
 use ocp_profile::Profile;
 use std::alloc::Allocator;
 
 /// Appends the canonical form of an assembly text to the octets: the text is assembled under the
-/// profile, and the image listed. Each instruction that the text means has its line.
+/// profile, the image loaded, and the program listed. Each instruction that the text means has its
+/// line.
 ///
 /// Refused as `assemble` is, and as Memory where memory for the listing is refused. A refusal
 /// leaves `out` and its capacity as they were. The capacity never shrinks.
@@ -33,9 +34,7 @@ pub fn write_canonical<A: Allocator + Copy, B: Allocator>(
     ensures same_capacity { OnErr result (vec_capacity out.new ≡ vec_capacity out.old) }
     ensures capacity { vec_capacity out.old ≤ vec_capacity out.new }
 {
-    let image = assemble(alloc, profile, text)?;
-    match disassemble(image.octets(), out) {
-        Ok(()) => Ok(()),
-        Err(_) => Err(AsmFault::Memory),
-    }
+    meanings_exclude_faults();
+    let program = program_of(alloc, profile, text)?;
+    Ok(program.listing(out)?)
 }

@@ -95,6 +95,15 @@ ResolvesAll ws es octets (Ok v) = AreResolved ws es (octets v)
 ResolvesAll ws es octets (Err Memory) = Unit {0}
 ResolvesAll ws es octets (Err (At n y)) = IsFirstMiss ws es n y
 
+-- ---- both passes
+
+-- the text is lines that are written so, and the octets are the image of their instructions
+pub record ArePassed (text : List ℕ) (rs : List Row) (octets : List ℕ) : Type 0 where
+  pub lines : List TextLine
+  pub written : IsWritten text lines
+  pub rows : map entry rs ≡ entries_of 1 0 lines
+  pub resolved : AreResolved lines (map entry rs) octets
+
 -- ---- the line of a fault of the image
 
 -- the line of the last instruction whose place is no greater than the slot, or 0 where there is
