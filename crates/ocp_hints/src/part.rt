@@ -2,6 +2,8 @@
 
 ghost use Rattle.std.specs.Prelude.{◌≤◌, IfSome};
 
+use ocp_lines::{MAX_BUDGET, MAX_MEMORY_LENGTH, MAX_STEPS, MAX_TURNS, MAX_WORKERS};
+
 /// What may stand at one place of a console line.
 #[derive(Clone, Copy)]
 pub enum Part {
@@ -61,9 +63,11 @@ impl Part {
             Part::Identifier | Part::Place | Part::Step => Some((0, u64::from(u16::MAX))),
             Part::Seconds | Part::Budget => Some((0, u64::from(u32::MAX))),
             Part::Index | Part::Number => Some((0, u64::MAX)),
-            Part::Length => Some((1, 256)),
-            Part::Workers => Some((1, 16)),
-            Part::Count | Part::TurnBudget | Part::Turns => Some((1, 1_000_000)),
+            Part::Length => Some((1, u64::from(MAX_MEMORY_LENGTH))),
+            Part::Workers => Some((1, u64::from(MAX_WORKERS))),
+            Part::Count => Some((1, u64::from(MAX_STEPS))),
+            Part::TurnBudget => Some((1, u64::from(MAX_BUDGET))),
+            Part::Turns => Some((1, u64::from(MAX_TURNS))),
             Part::Address | Part::Switch | Part::Octets | Part::Arguments | Part::OnlyArguments =>
                 None,
         }
