@@ -17,3 +17,4 @@ pub use ocp_commands::{asm, list};
 pub use ocp_ports::{ConsoleFault, Crew, CrewFault, Device, Sink, Source};
 pub use ocp_words::{Job, Settings, WordsFault, not_utf8, read_words};
 pub use script::run;
+pub use session::MAX_LINES;

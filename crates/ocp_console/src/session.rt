@@ -9,7 +9,7 @@ use memchr::memchr;
 use std::alloc::{AllocError, Allocator};
 
 /// The most lines of a script.
-pub(crate) const MAX_LINES: u32 = 100_000;
+pub const MAX_LINES: u32 = 100_000;
 
 /// The most octets of a line, a carriage return included and the newline not.
 pub(crate) const MAX_LINE_OCTETS: usize = 40_000;

@@ -1,12 +1,13 @@
 //! What is said of an input that is refused.
 
 use crate::kept::{Keeps, Text};
+use ocp_console::MAX_LINES;
 use ocp_hints::{Explained, answer_in};
 use ocp_ports::ConsoleFault;
 use ocp_words::Job;
 
 /// The first line that is too many in a script.
-const FIRST_LINE_TOO_MANY: u64 = 100_001;
+const FIRST_LINE_TOO_MANY: u64 = MAX_LINES as u64 + 1;
 
 /// How much of its input a job's hints need.
 pub(crate) fn keeps_of(job: Job) -> Keeps {
