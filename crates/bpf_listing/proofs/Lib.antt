@@ -1,4 +1,5 @@
 pub mod Numbers
+pub mod Digits
 pub mod Words
 pub mod Shown
 pub mod Unique

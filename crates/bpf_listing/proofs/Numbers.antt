@@ -1,6 +1,5 @@
 -- The numbers of a text are read as what they were written from.
-use Rattle.std.proofs.Common.{◌≡◌, ◌+◌, ◌-◌, ◌*◌, ◌/◌, ◌%◌, ◌^◌, ◌<◌, ◌≤◌, ℕ, zero, suc, List, [], ◌∷◌, ◌++◌, Bool, true, false, refl, sym, ap, ◌∙◌, arith, length, append_assoc, length-append, inl, inr, drop, get_or, ltb, set}
-use native.Mathlib.Numerals.{unary_clauses}
+use Rattle.std.proofs.Common.{◌≡◌, ◌+◌, ◌-◌, ◌*◌, ◌/◌, ◌%◌, ◌^◌, ◌<◌, ◌≤◌, ℕ, zero, suc, List, [], ◌∷◌, ◌++◌, Bool, true, false, refl, sym, ap, ◌∙◌, arith, length, append_assoc, length-append, drop, get_or, ltb, set}
 use Rattle.std.specs.Prelude.{if◌then◌else◌}
 use Rattle.std.specs.Fmt.{decimal, signed_decimal, digit_glyph}
 use Rattle.std.specs.Prelude.{ℤ, pos, negsuc, FitsSigned, unsigned_abs, ◌≢◌, slice_index}
@@ -10,11 +9,10 @@ use Rattle.std.proofs.Math.Seq.{drop-append_seam}
 use Rattle.std.proofs.lemmas.Int.{ints}
 use Rattle.bpf_listing.specs.declared.scan.Field.{Field}
 use Rattle.std.proofs.lemmas.Fmt.{decimal_by_steps}
-use Rattle.std.proofs.lemmas.Bool.{lt-ltb, le-ltb, cases_lt}
 use Rattle.std.proofs.lemmas.Bool.Decides.{nat_tests}
 use Rattle.bpf_listing.specs.declared.scan.Scan.{Scan}
 use Rattle.bpf_listing.specs.Canonical.{hex_digits, with_sign}
-use Rattle.bpf_listing.specs.Mirror.Reading.{past_octet, past_other, past_octets, is_digit, hex_on, hex_value, minus_or}
+use Rattle.bpf_listing.specs.Mirror.Reading.{past_octet, past_other, past_octets, is_digit, minus_or}
 
 -- the scan, with this number so far
 abbrev pub numbered : Scan → ℕ → Scan
@@ -33,20 +31,6 @@ scan_number s none n fits = decimal_by_steps (λ n ds. n < 2 ^ 64 → (rest : Li
     rw (append_assoc ds ((48 + n % 10) ∷ []) rest) (before (omega arith) ((48 + n % 10) ∷ rest)
     ∙ ap (λ (t : Scan). past_octets t rest) (fed_digit (numbered s (n / 10)) (n % 10) n (omega arith) (omega arith) fits)))
     n fits fits
-
-glyph_value : (d : ℕ) → d < 16 → hex_value (digit_glyph false d) ≡ d
-glyph_value d lt = elim (cases_lt d 10) [
-  | inl small ↦ rw (lt-ltb d 10 small) (rw (lt-ltb (48 + d) 97 (omega arith)) (omega arith))
-  | inr large ↦ rw (le-ltb d 10 large) (rw (le-ltb (87 + d) 97 (omega arith)) (omega arith))
-]
-
-pub hex_read : (count n : ℕ) → n < 16 ^ count → n < 2 ^ 64 → (rest : List ℕ) → hex_on 0 (hex_digits count n ++ rest) ≡ hex_on n rest
-hex_read zero n lt fits rest = ap (λ (k : ℕ). hex_on k rest) (let e : 0 ≡ n = omega arith in e)
-hex_read (suc count) n lt fits rest =
-    let bound = simp unary_clauses at lt in
-    rw (append_assoc (hex_digits count (n / 16)) (digit_glyph false (n % 16) ∷ []) rest)
-    (hex_read count (n / 16) (omega arith) (omega arith) (digit_glyph false (n % 16) ∷ rest)
-    ∙ ap (λ (k : ℕ). hex_on k rest) (rw (glyph_value (n % 16) (omega arith)) (omega arith)))
 
 pub hex_length : (count n : ℕ) → length (hex_digits count n) ≡ count
 hex_length zero n = refl
@@ -140,9 +124,6 @@ fed_first s o d le = either (is_digit o) (record { fields = s.fields; count = s.
 pub keeps_first : (t : List ℕ) (s : Scan) (d : Field) → 1 ≤ s.count → get_or (past_other (past_octets s t) 10).fields 0 d ≡ get_or s.fields 0 d
 keeps_first [] s d le = (closed_first s.inside s.fields s.count s.mark s.number 10 d le).0
 keeps_first (o ∷ t) s d le = let f = fed_first s o d le in keeps_first t (past_octet s o) d f.1 ∙ f.0
-
-pub hex_whole : (n : ℕ) → n < 2 ^ 64 → hex_on 0 (hex_digits 16 n) ≡ n
-hex_whole n fits = ap (λ (t : List ℕ). hex_on 0 t) (sym (append-nil (hex_digits 16 n))) ∙ hex_read 16 n (let e : n < 16 ^ 16 = fits in e) fits []
 
 pub last_16 : (front hex : List ℕ) → length hex ≡ 16 → drop (length (front ++ hex) - 16) (front ++ hex) ≡ hex
 last_16 front hex len = let e : length (front ++ hex) - 16 ≡ length front = omega (arith, length-append front hex) in rw e (drop-append_seam front hex)

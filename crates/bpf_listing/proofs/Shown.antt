@@ -20,8 +20,8 @@ use Rattle.bpf_listing.specs.declared.scan.Field.{Field}
 use Rattle.bpf_listing.specs.declared.scan.Scan.{Scan}
 use Rattle.bpf_listing.specs.Canonical.{canonical, hex_digits, operation_name, comparison_name, width_name, order_name, size_name, signed_size_name, register, with_sign, operand_text}
 use Rattle.bpf_listing.specs.Mnemonics.{mnemonic_name}
-use Rattle.bpf_listing.specs.Mirror.Reading.{word_length, hex_on, fields_in, no_field, past_other, start, past_octets, minus_or, number_field, signed_field, operand_field, Shows}
-use Rattle.bpf_listing.proofs.Numbers.{scan_number, scan_last, scan_signed, scan_signed_last, scan_with_sign, scan_with_sign_last, ◌⧺◌, field, numbered, regroup, regroup_load, regroup_store, no_letter, keeps_first, hex_length, hex_whole, last_16, wide_enough}
+use Rattle.bpf_listing.specs.Mirror.Reading.{word_length, fields_in, no_field, past_other, start, past_octets, minus_or, number_field, signed_field, operand_field, Shows}
+use Rattle.bpf_listing.proofs.Numbers.{scan_number, scan_last, scan_signed, scan_signed_last, scan_with_sign, scan_with_sign_last, ◌⧺◌, field, numbered, regroup, regroup_load, regroup_store, no_letter, keeps_first, hex_length, last_16, wide_enough}
 use Rattle.bpf_listing.proofs.Words.{Begins, arithmetic_word, jump_word, negate_word, move_word, order_word, load_word, load_extended_word, store_word, store_immediate_word, short_word, long_word, call_word, wide_word, exit_word}
 
 -- what stands where a list of numbers has ended
@@ -129,7 +129,7 @@ swap_width_small swap.Bits16 = omega arith
 swap_width_small _ = omega arith
 
 -- the digits of a wide load are the last octets, and its register is the first number
-wide_read : (dst value : ℕ) (hex : List ℕ) → dst ≤ 10 → length hex ≡ 16 → hex_on 0 hex ≡ value → IsRead (line.LoadWide dst value) (codes "lddw " ++ register dst ++ codes ", 0x" ++ hex)
+wide_read : (dst value : ℕ) (hex : List ℕ) → dst ≤ 10 → length hex ≡ 16 → hex ≡ hex_digits 16 value → IsRead (line.LoadWide dst value) (codes "lddw " ++ register dst ++ codes ", 0x" ++ hex)
 wide_read dst value hex le len e =
     let os = (register dst ++ codes ", 0x") ++ hex in
     let first : field_at os 0 ≡ field 114 dst =
@@ -137,7 +137,7 @@ wide_read dst value hex le len e =
     ∙ ap (λ (s : Scan). slice_index_or (past_other s 10).fields 0 absent) (scan_number at_first refl dst (omega arith) (codes ", 0x" ++ hex))
     ∙ keeps_first (codes "0x" ++ hex) (past_first dst) absent (omega arith) in
     read_as (line.LoadWide dst value) (codes "lddw " ++ register dst ++ codes ", 0x" ++ hex) (codes "lddw " ++ os) os word.LoadWide
-    (simp append_assoc) (wide_word os) (refl, ap (λ (f : Field). f.number) first, ap (λ (t : List ℕ). hex_on 0 t) (last_16 (register dst ++ codes ", 0x") hex len) ∙ e)
+    (simp append_assoc) (wide_word os) (refl, ap (λ (f : Field). f.number) first, last_16 (register dst ++ codes ", 0x") hex len ∙ e)
 
 pub canonical_is_read : (l : Line) → IsLine l → IsRead l (canonical l)
 canonical_is_read (line.Arithmetic width o dst operand) h =
@@ -157,7 +157,7 @@ canonical_is_read (line.ByteOrder o s dst) h =
     let os = register dst ⧺ codes ", " ⧺ decimal (swap_width_bits s) in
     read_by (line.ByteOrder o s dst) (canonical (line.ByteOrder o s dst)) (order_name o ⧺ codes " " ⧺ os) os (word.ByteOrder o) (field 114 dst) (field 32 (swap_width_bits s)) no_field
     (simp append_assoc) (order_word o os) (field_and_number dst (swap_width_bits s) h (swap_width_small s)) (refl, refl, refl)
-canonical_is_read (line.LoadWide dst value) h = wide_read dst value (hex_digits 16 value) h.0 (hex_length 16 value) (hex_whole value h.1)
+canonical_is_read (line.LoadWide dst value) h = wide_read dst value (hex_digits 16 value) h.0 (hex_length 16 value) refl
 canonical_is_read (line.JumpIf width t dst operand z) h =
     let os = register dst ⧺ codes ", " ⧺ operand_text operand ⧺ codes ", " ⧺ with_sign z in
     read_by (line.JumpIf width t dst operand z) (canonical (line.JumpIf width t dst operand z)) (comparison_name t ⧺ width_name width ⧺ codes " " ⧺ os) os (word.Jump (jump.If width t)) (field 114 dst) (operand_field operand) (signed_field z)

@@ -26,8 +26,9 @@ use Rattle.bpf_listing.specs.declared.mnemonic.Access.TheVariants as access
 use Rattle.bpf_listing.specs.declared.scan.Field.{Field}
 use Rattle.bpf_listing.specs.Canonical.{canonical}
 use Rattle.bpf_listing.specs.Mnemonics.{mnemonic_name}
-use Rattle.bpf_listing.specs.Mirror.Reading.{word_length, hex_on, number_field, signed_field, operand_field, Shows}
+use Rattle.bpf_listing.specs.Mirror.Reading.{word_length, number_field, signed_field, operand_field, Shows}
 use Rattle.bpf_listing.proofs.Shown.{IsRead, text_is_read, field_at}
+use Rattle.bpf_listing.proofs.Digits.{number_of_digits, digits_back}
 
 -- each mnemonic
 abbrev mnemonics : List Mnemonic
@@ -94,7 +95,7 @@ line_from (word.Arithmetic width o) f g h os = line.Arithmetic width o f.number 
 line_from (word.Negate width) f g h os = line.Negate width f.number
 line_from (word.MoveExtended width) f g h os = line.MoveExtended (extension_from width h.number) f.number g.number
 line_from (word.ByteOrder o) f g h os = line.ByteOrder o (swap_width_from g.number) f.number
-line_from word.LoadWide f g h os = line.LoadWide f.number (hex_on 0 (drop (length os - 16) os))
+line_from word.LoadWide f g h os = line.LoadWide f.number (number_of_digits (drop (length os - 16) os))
 line_from (word.Jump (jump.If width t)) f g h os = line.JumpIf width t f.number (operand_from g) (signed_from h)
 line_from (word.Jump jump.Short) f g h os = line.Jump (signed_from f)
 line_from (word.Jump jump.Long) f g h os = line.LongJump (signed_from f)
@@ -126,33 +127,33 @@ swap_width_back : (s : SwapWidth) → swap_width_from (swap_width_bits s) ≡ s
 swap_width_back swap.Bits16 = refl
 swap_width_back _ = refl
 
-shown_back : (l : Line) (m : Mnemonic) (f g h : Field) (os : List ℕ) → Shows l m f g h os → line_from m f g h os ≡ l
-shown_back (line.Arithmetic w o dst x) m f g h os s = rw (s.0, s.1, s.2, operand_back x) refl
-shown_back (line.Negate w dst) m f g h os s = rw (s.0, s.1) refl
-shown_back (line.MoveExtended e dst src) m f g h os s = rw (s.0, s.1, s.2, s.3, extension_back e) refl
-shown_back (line.ByteOrder o b dst) m f g h os s = rw (s.0, s.1, s.2, swap_width_back b) refl
-shown_back (line.LoadWide dst value) m f g h os s = rw (s.0, s.1, s.2) refl
-shown_back (line.JumpIf w t dst x z) m f g h os s = rw (s.0, s.1, s.2, s.3, operand_back x, signed_back z) refl
-shown_back (line.Jump z) m f g h os s = rw (s.0, s.1, signed_back z) refl
-shown_back (line.LongJump z) m f g h os s = rw (s.0, s.1, signed_back z) refl
-shown_back (line.Call z) m f g h os s = rw (s.0, ne_eqb (slice_index os 0) 108 s.2, s.1, number_back z) refl
-shown_back (line.CallLocal z) m f g h os s = rw (s.0, s.2, s.1, signed_back z) refl
-shown_back line.Exit m f g h os s = rw s refl
-shown_back (line.Load k dst base z) m f g h os s = rw (s.0, s.1, s.2, s.3, signed_back z) refl
-shown_back (line.LoadExtended k dst base z) m f g h os s = rw (s.0, s.1, s.2, s.3, signed_back z) refl
-shown_back (line.Store k base z src) m f g h os s = rw (s.0, s.1, s.2, s.3, signed_back z) refl
-shown_back (line.StoreImmediate k base z y) m f g h os s = rw (s.0, s.1, s.2, s.3, signed_back z, number_back y) refl
+shown_back : (l : Line) (m : Mnemonic) (f g h : Field) (os : List ℕ) → IsLine l → Shows l m f g h os → line_from m f g h os ≡ l
+shown_back (line.Arithmetic w o dst x) m f g h os r s = rw (s.0, s.1, s.2, operand_back x) refl
+shown_back (line.Negate w dst) m f g h os r s = rw (s.0, s.1) refl
+shown_back (line.MoveExtended e dst src) m f g h os r s = rw (s.0, s.1, s.2, s.3, extension_back e) refl
+shown_back (line.ByteOrder o b dst) m f g h os r s = rw (s.0, s.1, s.2, swap_width_back b) refl
+shown_back (line.LoadWide dst value) m f g h os r s = rw (s.0, s.1, ap number_of_digits s.2 ∙ digits_back value r.1) refl
+shown_back (line.JumpIf w t dst x z) m f g h os r s = rw (s.0, s.1, s.2, s.3, operand_back x, signed_back z) refl
+shown_back (line.Jump z) m f g h os r s = rw (s.0, s.1, signed_back z) refl
+shown_back (line.LongJump z) m f g h os r s = rw (s.0, s.1, signed_back z) refl
+shown_back (line.Call z) m f g h os r s = rw (s.0, ne_eqb (slice_index os 0) 108 s.2, s.1, number_back z) refl
+shown_back (line.CallLocal z) m f g h os r s = rw (s.0, s.2, s.1, signed_back z) refl
+shown_back line.Exit m f g h os r s = rw s refl
+shown_back (line.Load k dst base z) m f g h os r s = rw (s.0, s.1, s.2, s.3, signed_back z) refl
+shown_back (line.LoadExtended k dst base z) m f g h os r s = rw (s.0, s.1, s.2, s.3, signed_back z) refl
+shown_back (line.Store k base z src) m f g h os r s = rw (s.0, s.1, s.2, s.3, signed_back z) refl
+shown_back (line.StoreImmediate k base z y) m f g h os r s = rw (s.0, s.1, s.2, s.3, signed_back z, number_back y) refl
 
 -- a text shows one instruction
-one_read : (a b : Line) (text : List ℕ) (r : IsRead a text) (t : IsRead b text) → r.mnemonic ≡ t.mnemonic → a ≡ b
-one_read a b text r t same =
+one_read : (a b : Line) (text : List ℕ) → IsLine a → IsLine b → (r : IsRead a text) (t : IsRead b text) → r.mnemonic ≡ t.mnemonic → a ≡ b
+one_read a b text ha hb r t same =
     let os = drop (word_length text + 1) text in
-    sym (shown_back a r.mnemonic (field_at os 0) (field_at os 1) (field_at os 2) os r.shows)
+    sym (shown_back a r.mnemonic (field_at os 0) (field_at os 1) (field_at os 2) os ha r.shows)
     ∙ ap (λ (m : Mnemonic). line_from m (field_at os 0) (field_at os 1) (field_at os 2) os) same
-    ∙ shown_back b t.mnemonic (field_at os 0) (field_at os 1) (field_at os 2) os t.shows
+    ∙ shown_back b t.mnemonic (field_at os 0) (field_at os 1) (field_at os 2) os hb t.shows
 
 pub one_line : (a b : Line) → IsLine a → IsLine b → canonical a ≡ canonical b → a ≡ b
 one_line a b ha hb e =
     let r = text_is_read (canonical a) a ha refl in
     let t = text_is_read (canonical a) b hb e in
-    one_read a b (canonical a) r t (one_mnemonic r.mnemonic t.mnemonic (sym r.word ∙ t.word))
+    one_read a b (canonical a) ha hb r t (one_mnemonic r.mnemonic t.mnemonic (sym r.word ∙ t.word))

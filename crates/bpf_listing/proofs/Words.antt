@@ -1,6 +1,6 @@
 -- Words are read as what they were written from.
-use Rattle.std.proofs.Common.{◌≡◌, ◌+◌, [], List, ℕ, Bool, true, false, refl, sym, ap, ◌∙◌, take, drop, length, ◌⊎◌, inl, inr, Option, Some, None}
-use Rattle.std.specs.Prelude.{codes, ◌-◌, ◌++◌, ◌&&◌, ◌||◌, not}
+use Rattle.std.proofs.Common.{◌≡◌, ◌+◌, ◌<◌, ◌≤◌, zero, suc, ◌∷◌, get_or, arith, [], List, ℕ, Bool, true, false, refl, sym, ap, ◌∙◌, take, drop, length, ◌⊎◌, inl, inr, Option, Some, None}
+use Rattle.std.specs.Prelude.{codes, ◌-◌, ◌++◌, ◌&&◌, ◌||◌, ◌==◌, not}
 use Rattle.std.specs.Str.{bytes_eq}
 use Rattle.bpf_types.specs.declared.line.Operation.{Operation}
 use Rattle.bpf_types.specs.declared.line.Operation.TheVariants as op
@@ -178,3 +178,12 @@ paired None = word.LoadWide
 pub same_classed : (s t : Stem) (w v : Width) → ◌≡◌ {A = Option (Stem × Width)} (Some (s, w)) (Some (t, v)) → mnemonic_of_stem s w ≡ mnemonic_of_stem t v
 unfolding paired
 same_classed s t w v e = ap paired e
+
+-- a word ends at the first space
+pub word_ends : (text : List ℕ) (i : ℕ) → i ≤ length text → ((k : ℕ) → k < i → (get_or text k 0 == 32) ≡ false) → (i < length text → (get_or text i 0 == 32) ≡ true) → i ≡ word_length text
+word_ends [] zero le none at = refl
+word_ends [] (suc i) le none at = absurd (omega (arith, le))
+word_ends (octet ∷ text) zero le none at = rw (at (omega arith)) refl
+word_ends (octet ∷ text) (suc i) le none at =
+    let rest = word_ends text i (omega (arith, le)) (λ k h. none (suc k) (omega (arith, h))) (λ h. at (omega (arith, h))) in
+    rw (none 0 (omega arith)) (omega (arith, rest))

@@ -1,29 +1,37 @@
 //! Instructions from their text.
-ghost use Rattle.std.specs.Prelude.{◌≡◌, ◌+◌, ◌⊎◌, IfSome, Some, take, drop, List, ℕ, ℤ, FitsSigned};
+ghost use Rattle.std.specs.Prelude.{◌≡◌, ◌+◌, ◌-◌, ◌<◌, ◌≤◌, ◌^◌, ◌⊎◌, IfSome, Some, length, take, drop, List, ℕ, ℤ, FitsSigned};
 ghost use Rattle.std.specs.Int.{w16, w32};
 ghost use Rattle.bpf_types.specs.declared.line.Line.{Line};
+ghost use Rattle.bpf_types.specs.declared.line.Line.TheVariants as line;
 ghost use Rattle.bpf_types.specs.declared.line.Operand.{Operand};
 ghost use Rattle.bpf_types.specs.Line.{IsLine, IsOperand, IsReg};
 ghost use Rattle.bpf_listing.specs.declared.mnemonic.Mnemonic.TheVariants as word;
-ghost use Rattle.bpf_listing.specs.Canonical.{canonical};
-ghost use Rattle.bpf_listing.specs.Mirror.Reading.{word_length, number_field, signed_field, operand_field, hex_value, hex_on, Shows};
+ghost use Rattle.bpf_listing.specs.Canonical.{canonical, hex_digits};
+ghost use Rattle.bpf_listing.specs.Mirror.Reading.{word_length, number_field, signed_field, operand_field, Shows};
 
 use crate::mnemonic::{Access, Jump, Mnemonic, mnemonic_of};
 use crate::scan::{Field, fields_of};
 use crate::text::Text;
 use bpf_types::{Extension, Line, Operand, Reg, SwapWidth, Width};
+use hex::decode_to_slice;
+
+/// Where the first word of a text ends.
+fn word_end(text: &[u8]) -> usize
+    ensures exact { result ≡ word_length text.now }
+    ensures within { result ≤ length text.now }
+{
+    text.iter()
+        .position(|octet| *octet == b' ')
+        .unwrap_or(text.len())
+}
 
 /// The first word of a text, and what stands behind the space that ends it.
 fn first_word(text: &[u8]) -> (&[u8], &[u8])
     ensures word { result.0.now ≡ take (word_length text.now) text.now }
     ensures others { result.1.now ≡ drop (word_length text.now + 1) text.now }
 {
-    for (i, octet) in text.iter().enumerate() {
-        if *octet == b' ' {
-            return (&text[..i], &text[i + 1..]);
-        }
-    }
-    (text, &[])
+    let end = word_end(text);
+    (&text[..end], text.get(end + 1..).unwrap_or(&[]))
 }
 
 fn register_of(field: Field) -> Option<Reg>
@@ -58,27 +66,33 @@ fn operand_of(field: Field) -> Option<Operand>
     }
 }
 
-/// What a hexadecimal digit in lower case stands for.
-fn hex_digit(octet: u8) -> u8
-    ensures { result ≡ hex_value octet }
+/// The number that 16 hexadecimal digits say.
+fn hex_of(digits: &[u8]) -> Option<u64>
+    ensures only { (value : ℕ) → value < 2 ^ 64 → digits.now ≡ hex_digits 16 value →
+        result ≡ Some value }
 {
-    if octet < b'a' {
-        octet.saturating_sub(b'0')
-    } else {
-        octet - (b'a' - 10)
-    }
+    let mut octets = [0; 8];
+    decode_to_slice(digits, &mut octets).ok()?;
+    Some(u64::from_be_bytes(octets))
 }
 
-/// The number that hexadecimal digits say, modulo 2^64.
-fn hex_of(digits: &[u8]) -> u64
-    ensures { result ≡ hex_on 0 digits.now }
+/// The last 16 octets, or all where there are fewer.
+fn last_16(octets: &[u8]) -> &[u8]
+    ensures { result.now ≡ drop (length octets.now - 16) octets.now }
 {
-    let mut value: u64 = 0;
-    for octet in digits {
-        let digit = u64::from(hex_digit(*octet));
-        value = value.wrapping_mul(16).wrapping_add(digit);
-    }
-    value
+    &octets[octets.len().saturating_sub(16)..]
+}
+
+/// A wide load, whose value is said by the last 16 octets.
+fn wide_of(first: Field, operands: &[u8]) -> Option<Line>
+    ensures only { (dst value : ℕ) → IsReg dst → value < 2 ^ 64 → first.number ≡ dst →
+        drop (length operands.now - 16) operands.now ≡ hex_digits 16 value →
+        result ≡ Some (line.LoadWide dst value) }
+{
+    Some(Line::LoadWide {
+        dst: register_of(first)?,
+        value: hex_of(last_16(operands))?,
+    })
 }
 
 fn jump_of(jump: Jump, first: Field, second: Field, third: Field, operands: &[u8]) -> Option<Line>
@@ -176,10 +190,7 @@ fn line_of(
             width: SwapWidth::new(second.number)?,
             dst: register_of(first)?,
         },
-        Mnemonic::LoadWide => Line::LoadWide {
-            dst: register_of(first)?,
-            value: hex_of(&operands[operands.len().saturating_sub(16)..]),
-        },
+        Mnemonic::LoadWide => return wide_of(first, operands),
         Mnemonic::Jump(jump) => return jump_of(jump, first, second, third, operands),
         Mnemonic::Access(access) => return access_of(access, first, second, third),
     })

@@ -1,9 +1,10 @@
 //! A text on the stack, and the parts of a line that it takes.
 ghost use Rattle.std.specs.Prelude.{◌≡◌, ◌≤◌, ◌+◌, ◌<◌, ◌^◌, ◌++◌, ◌∷◌, [], List, ℕ, length};
-ghost use Rattle.std.specs.Fmt.{decimal, signed_decimal, digit_glyph};
+ghost use Rattle.std.specs.Fmt.{decimal, signed_decimal};
 ghost use Rattle.bpf_listing.specs.Canonical.{hex_digits, with_sign};
 
 use arrayvec::ArrayVec;
+use hex::encode_to_slice;
 use itoa::Buffer;
 use std::marker::Model;
 
@@ -80,21 +81,14 @@ impl Text {
         self.push_number(number.unsigned_abs());
     }
 
-    /// Appends the last `count` hexadecimal digits of a number, in lower case.
-    pub(crate) fn push_hex(&mut self, count: u8, number: u64)
-        requires { length self.old + count ≤ 64 }
-        ensures items { self.new ≡ self.old ++ hex_digits count number }
-        ensures len { length self.new ≡ length self.old + count }
+    /// Appends a number in 16 hexadecimal digits, in lower case.
+    pub(crate) fn push_hex(&mut self, number: u64)
+        requires { length self.old + 16 ≤ 64 }
+        ensures items { self.new ≡ self.old ++ hex_digits 16 number }
+        ensures len { length self.new ≡ length self.old + 16 }
     {
-        if count == 0 {
-            return;
-        }
-        self.push_hex(count - 1, number / 16);
-        let digit = (number % 16) as u8;
-        self.push_all(&[if digit < 10 {
-            b'0' + digit
-        } else {
-            b'a' - 10 + digit
-        }]);
+        let mut digits = [0; 16];
+        let _fits = encode_to_slice(number.to_be_bytes(), &mut digits);
+        self.push_all(&digits);
     }
 }

@@ -110,7 +110,7 @@ impl Text {
                 self.push_mnemonic(Mnemonic::LoadWide);
                 self.push_register(dst);
                 self.push_all(b", 0x");
-                self.push_hex(16, value);
+                self.push_hex(value);
             }
             Line::Load {
                 size,

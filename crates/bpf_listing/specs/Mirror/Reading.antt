@@ -15,7 +15,7 @@ use Rattle.bpf_listing.specs.declared.mnemonic.Stem.{Stem}
 use Rattle.bpf_listing.specs.declared.mnemonic.Stem.TheVariants as stem
 use Rattle.bpf_listing.specs.declared.scan.Field.{Field}
 use Rattle.bpf_listing.specs.declared.scan.Scan.{Scan}
-use Rattle.bpf_listing.specs.Canonical.{operation_name, comparison_name}
+use Rattle.bpf_listing.specs.Canonical.{operation_name, comparison_name, hex_digits}
 
 -- a mnemonic without its class
 abbrev pub stem_name : Stem → List ℕ
@@ -92,15 +92,6 @@ start =
 abbrev pub fields_in : List ℕ → List Field
 fields_in os = (past_other (past_octets start os) 10).fields
 
--- what a hexadecimal digit in lower case stands for
-abbrev pub hex_value : ℕ → ℕ
-hex_value o = if nat_lt o 97 then o - 48 else o - 87
-
--- the number that hexadecimal digits go on from another
-abbrev pub hex_on : ℕ → List ℕ → ℕ
-hex_on v [] = v
-hex_on v (o ∷ os) = hex_on ((v * 16 + hex_value o) % 2 ^ 64) os
-
 -- the octet in front of a number: a minus where the number is negative, and else the octet m
 abbrev pub minus_or : ℕ → ℤ → ℕ
 minus_or m (pos n) = m
@@ -130,7 +121,7 @@ Shows (line.MoveExtended e dst src) m f g h os =
 Shows (line.ByteOrder o s dst) m f g h os =
     (m ≡ word.ByteOrder o) × (f.number ≡ dst) × (g.number ≡ swap_width_bits s)
 Shows (line.LoadWide dst value) m f g h os =
-    (m ≡ word.LoadWide) × (f.number ≡ dst) × (hex_on 0 (drop (length os - 16) os) ≡ value)
+    (m ≡ word.LoadWide) × (f.number ≡ dst) × (drop (length os - 16) os ≡ hex_digits 16 value)
 Shows (line.JumpIf width t dst operand z) m f g h os =
     (m ≡ word.Jump (jump.If width t)) × (f.number ≡ dst) × (g ≡ operand_field operand)
     × (h ≡ signed_field z)

@@ -1,4 +1,4 @@
-use Rattle.std.proofs.Common.{◌≡◌, ◌+◌, ◌≤◌, ◌++◌, length, take, vec_capacity}
+use Rattle.std.proofs.Common.{◌≡◌, ◌+◌, ◌++◌, length, take, vec_capacity}
 use Rattle.bpf_listing.proofs.disassembly.push_within.Given as goal
 
 abbrev pub invariant-loop-octet : goal.invariant-loop-octet
