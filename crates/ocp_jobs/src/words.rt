@@ -1,10 +1,15 @@
 //! The words of the command line.
 
+ghost use Rattle.std.specs.Prelude.{◌≡◌, ◌≢◌, [], IfOk, map, string_bytes};
 ghost use Rattle.std.specs.Process.{exit_status};
+ghost use Rattle.clap.specs.Words.{subcommand_of};
+ghost use Rattle.ocp_words.specs.Jobs.{IsJob, HasDefaults};
+ghost use Rattle.ocp_words.specs.Words.{ocp};
 ghost use Rattle.ocp_jobs.specs.Status.{IsWordsStatus};
 
 use crate::status::machine_fault;
 use ocp_words::{Job, WordsFault, not_utf8, read_words};
+use std::alloc::Global;
 use std::process::ExitCode;
 use std::rt::Env;
 use std::{env, io};
@@ -17,6 +22,19 @@ const WANTED_WORDS: &str = "The commands are run, asm and list. run takes --apid
                             --pool 1 to 256, --journal 1 to 1000000 and --profile 1 or 2, asm \
                             --profile 1 or 2; numbers are in decimal digits.";
 
+/// The job that given words ask for, as `read_words` reads them.
+fn job_of(alloc: Global, given: &[String]) -> Result<Job, WordsFault>
+    ensures job { IfOk result (λ job. given.now ≢ [] →
+        IsJob (subcommand_of ocp (map string_bytes given.now)) job) }
+    ensures none { given.now ≡ [] → IfOk result HasDefaults }
+{
+    let mut words = Vec::new(alloc);
+    for word in given {
+        words.push(word.as_str())?;
+    }
+    read_words(alloc, words.as_slice())
+}
+
 /// The job that the words after the program's name ask for.
 pub fn job_of_words<R: Env + AllocGlobal>(rt: &R) -> Result<Job, WordsFault> {
     let alloc = rt.alloc();
@@ -25,11 +43,7 @@ pub fn job_of_words<R: Env + AllocGlobal>(rt: &R) -> Result<Job, WordsFault> {
         Err(error) if error.kind() == io::ErrorKind::OutOfMemory => return Err(WordsFault::Memory),
         Err(_) => return Err(not_utf8(alloc)),
     };
-    let mut words = Vec::new(alloc);
-    for word in &given {
-        words.push(word.as_str())?;
-    }
-    read_words(alloc, words.as_slice())
+    job_of(alloc, &given)
 }
 
 /// Prints the text that the words ask for, or says on standard error what is wrong with them, and
