@@ -4,8 +4,8 @@ ghost use Rattle.std.specs.Int.{w32, cast_signed};
 ghost use Rattle.bpf_types.specs.Line.{first_slot, second_slot, spelling, Spells, slot_octets};
 
 use crate::codes::{
-    class_of_arithmetic, class_of_jumps, code_of_comparison, code_of_signed_size, code_of_size,
-    opcode_of_order, operation_code,
+    CALL, EXIT, JA, JA32, LDDW, NEG, class_of_arithmetic, class_of_jumps, code_of_comparison,
+    code_of_signed_size, code_of_size, opcode_of_order, operation_code,
 };
 use bpf_types::{Fields, Line, Operand, Reg, Width};
 use std::marker::Model;
@@ -92,7 +92,7 @@ pub fn first_fields(line: &Line) -> Fields
                 Operand::Register(src) => row(opcode + 8, dst, src, offset, 0),
             }
         }
-        Line::Negate { width, dst } => row(0x80 + class_of_arithmetic(width), dst, none, 0, 0),
+        Line::Negate { width, dst } => row(NEG * 16 + class_of_arithmetic(width), dst, none, 0, 0),
         Line::MoveExtended {
             extension,
             dst,
@@ -102,16 +102,11 @@ pub fn first_fields(line: &Line) -> Fields
             row(opcode, dst, src, i16::from(extension.bits()), 0)
         }
         Line::ByteOrder { order, width, dst } => {
-            row(
-                opcode_of_order(order),
-                dst,
-                none,
-                0,
-                i32::from(width.bits()),
-            )
+            let bits = i32::from(width.bits());
+            row(opcode_of_order(order), dst, none, 0, bits)
         }
-        Line::Jump { distance } => row(0x05, none, none, distance, 0),
-        Line::LongJump { distance } => row(0x06, none, none, 0, distance),
+        Line::Jump { distance } => row(JA, none, none, distance, 0),
+        Line::LongJump { distance } => row(JA32, none, none, 0, distance),
         Line::JumpIf {
             width,
             comparison,
@@ -125,10 +120,10 @@ pub fn first_fields(line: &Line) -> Fields
                 Operand::Register(src) => row(opcode + 8, dst, src, distance, 0),
             }
         }
-        Line::Call { number } => row(0x85, none, none, 0, number),
-        Line::CallLocal { distance } => row(0x85, none, Reg::one(), 0, distance),
-        Line::Exit => row(0x95, none, none, 0, 0),
-        Line::LoadWide { dst, value } => row(0x18, dst, none, 0, low_half(value)),
+        Line::Call { number } => row(CALL, none, none, 0, number),
+        Line::CallLocal { distance } => row(CALL, none, Reg::one(), 0, distance),
+        Line::Exit => row(EXIT, none, none, 0, 0),
+        Line::LoadWide { dst, value } => row(LDDW, dst, none, 0, low_half(value)),
         Line::Load {
             size,
             dst,
@@ -166,13 +161,8 @@ pub fn encode(line: Line) -> Slots
     octets[..8].copy_from_slice(&octets_of(first_fields(&line)));
     match line {
         Line::LoadWide { value, .. } => {
-            let second = row(
-                0,
-                Reg::zero(),
-                Reg::zero(),
-                0,
-                low_half(value / 0x1_0000_0000),
-            );
+            let (none, high) = (Reg::zero(), low_half(value / 0x1_0000_0000));
+            let second = row(0, none, none, 0, high);
             octets[8..].copy_from_slice(&octets_of(second));
             Slots { octets, length: 16 }
         }

@@ -2,7 +2,9 @@
 ghost use Rattle.std.specs.Prelude.{◌≡◌};
 ghost use Rattle.bpf_decode.specs.Mirror.Rows.{operand_at, arithmetic_at, jump_at, load_at, row_at, is_same_at, short_at};
 
-use crate::codes::{comparison_of, operation_of, order_of, signed_size_of, size_of};
+use crate::codes::{
+    CALL, EXIT, JA, JA32, NEG, comparison_of, operation_of, order_of, signed_size_of, size_of,
+};
 use crate::encoding::first_fields;
 use bpf_types::{Extension, Fields, Line, Operand, SwapWidth, Width};
 
@@ -25,7 +27,7 @@ fn arithmetic_of(width: Width, fields: &Fields) -> Option<Line>
 {
     let dst = fields.dst;
     match fields.opcode / 16 {
-        8 => Some(Line::Negate { width, dst }),
+        NEG => Some(Line::Negate { width, dst }),
         11 if fields.offset != 0 => Some(Line::MoveExtended {
             extension: Extension::new(width, u64::try_from(fields.offset).ok()?)?,
             dst,
@@ -52,11 +54,11 @@ fn jump_of(width: Width, fields: &Fields) -> Option<Line>
 {
     let Fields { offset, imm, .. } = *fields;
     match fields.opcode {
-        0x05 => Some(Line::Jump { distance: offset }),
-        0x06 => Some(Line::LongJump { distance: imm }),
-        0x85 if fields.src.number() == 0 => Some(Line::Call { number: imm }),
-        0x85 => Some(Line::CallLocal { distance: imm }),
-        0x95 => Some(Line::Exit),
+        JA => Some(Line::Jump { distance: offset }),
+        JA32 => Some(Line::LongJump { distance: imm }),
+        CALL if fields.src.number() == 0 => Some(Line::Call { number: imm }),
+        CALL => Some(Line::CallLocal { distance: imm }),
+        EXIT => Some(Line::Exit),
         opcode => Some(Line::JumpIf {
             width,
             comparison: comparison_of(opcode / 16)?,

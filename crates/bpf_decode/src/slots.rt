@@ -8,13 +8,10 @@ ghost use Rattle.bpf_decode.specs.Mirror.Decoding.{raw_fields, high_in, wide_at,
 ghost use Rattle.bpf_decode.specs.Decoding.{BeginsWith, HasBadRegister};
 ghost use Rattle.bpf_decode.specs.Faults.{IsFirst};
 
-use crate::codes::is_known;
+use crate::codes::{LDDW, is_known};
 use crate::fault::DecodeFault;
 use crate::rows::short_of;
 use bpf_types::{Fields, Line, Reg};
-
-/// The opcode of a wide load, which has two slots.
-const WIDE: u8 = 0x18;
 
 /// The fields of the first slot, unless a register is not there.
 fn fields_at(octets: &[u8]) -> Option<Fields>
@@ -67,7 +64,7 @@ fn line_of(fields: Fields, octets: &[u8]) -> Option<Line>
     requires { fields.opcode ≡ 0x18 → 16 ≤ length octets.now }
     ensures { result ≡ line_at fields octets.now }
 {
-    if fields.opcode == WIDE {
+    if fields.opcode == LDDW {
         wide_of(fields, octets)
     } else {
         short_of(&fields)
@@ -81,7 +78,7 @@ fn decode(octets: &[u8]) -> Result<Line, DecodeFault>
     ensures { result ≡ decode_result octets.now }
 {
     let opcode = octets[0];
-    if opcode == WIDE && octets.len() < 16 {
+    if opcode == LDDW && octets.len() < 16 {
         return Err(DecodeFault::CutWide);
     }
     if !is_known(opcode) {

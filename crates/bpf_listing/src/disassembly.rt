@@ -21,7 +21,7 @@ pub enum DisassembleFault {
     Memory,
 }
 
-/// Appends a text where there is room for it, and else nothing.
+/// Appends a text where there is room for it, and else nothing. Four octets are taken at a time.
 fn push_within<A: Allocator>(out: &mut Vec<u8, A>, text: &[u8])
     ensures fits { length out.old.items + length text.now ≤ vec_capacity out.old →
         out.new.items ≡ out.old.items ++ text.now }
@@ -31,7 +31,15 @@ fn push_within<A: Allocator>(out: &mut Vec<u8, A>, text: &[u8])
     if out.capacity() - out.len() < text.len() {
         return;
     }
-    for octet in text {
+    let mut rest = text;
+    while let [a, b, c, d, after @ ..] = rest {
+        out.push_reserved(*a);
+        out.push_reserved(*b);
+        out.push_reserved(*c);
+        out.push_reserved(*d);
+        rest = after;
+    }
+    for octet in rest {
         out.push_reserved(*octet);
     }
 }

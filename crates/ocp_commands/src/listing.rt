@@ -8,9 +8,9 @@ ghost use Rattle.ocp_commands.specs.Listings.{is_blank, digits_of, decode_number
 use crate::output::{Output, write_output};
 use bpf_decode::DecodeFault;
 use bpf_listing::{DisassembleFault, disassemble};
-use hex::FromHexError;
 use ocp_ports::{ConsoleFault, Sink, Source, error_text, read_whole};
 use std::alloc::{AllocError, Allocator};
+use text_lines::octets_of;
 
 /// Why an input has no listing, in the order in which it is asked.
 #[derive(Clone, Copy)]
@@ -107,10 +107,10 @@ fn output_of<A: Allocator + Copy>(alloc: A, input: &[u8]) -> Result<Output<A>, A
     requires { IsShort input.now }
     ensures { IfOk result (λ output. Lists input.now output.text.items output.done) }
 {
-    match hex::decode(alloc, digits(input)) {
-        Ok(image) => output_of_image(alloc, &image),
-        Err(FromHexError::OutOfMemory) => Err(AllocError),
-        Err(_) => output_of_fault(alloc, ListFault::Hex),
+    let mut image = Vec::new(alloc);
+    match octets_of(&mut image, digits(input))? {
+        Some(image) => output_of_image(alloc, image),
+        None => output_of_fault(alloc, ListFault::Hex),
     }
 }
 

@@ -1,6 +1,6 @@
 //! The words of the command line.
 
-ghost use Rattle.std.specs.Prelude.{◌≡◌, ◌≢◌, [], IfOk, map, string_bytes};
+ghost use Rattle.std.specs.Prelude.{◌≡◌, ◌≢◌, [], IsOk, IfOk, map, string_bytes};
 ghost use Rattle.std.specs.Process.{exit_status};
 ghost use Rattle.clap.specs.Words.{subcommand_of};
 ghost use Rattle.ocp_words.specs.Jobs.{IsJob, HasDefaults};
@@ -27,6 +27,7 @@ fn job_of(alloc: Global, given: &[String]) -> Result<Job, WordsFault>
     ensures job { IfOk result (λ job. given.now ≢ [] →
         IsJob (subcommand_of ocp (map string_bytes given.now)) job) }
     ensures none { given.now ≡ [] → IfOk result HasDefaults }
+    ensures no_fault { given.now ≡ [] → IsOk result }
 {
     let mut words = Vec::new(alloc);
     for word in given {

@@ -1,4 +1,4 @@
-pub mod Digits
+pub mod Octets
 pub mod Hexadecimals
 pub mod NumberLists
 pub mod Numbers

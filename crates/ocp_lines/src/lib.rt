@@ -2,7 +2,6 @@
 #![tactic(auto)]
 
 mod command;
-mod pairs;
 mod reading;
 mod verbs;
 mod words;

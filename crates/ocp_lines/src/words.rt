@@ -7,9 +7,9 @@ ghost use Rattle.hex.specs.Hex.{hex_digit_value};
 ghost use Rattle.ocp_lines.specs.Words.{words_of, is_solid, number_up_to, octets_up_to, value_of, hexadecimal, address_in};
 ghost use Rattle.ocp_lines.specs.Grammar.{short, long, id_in, two_shorts, word_or_none};
 
-use crate::pairs::octets;
 use memchr::memchr;
 use std::alloc::{AllocError, Allocator};
+use text_lines::octets_of;
 
 /// The most hexadecimal digits of an address.
 const MAX_ADDRESS_DIGITS: usize = 16;
@@ -211,6 +211,23 @@ pub(crate) fn address(word: &[u8]) -> Option<u64>
         return None;
     }
     hexadecimal(digits)
+}
+
+/// The octets that a word of pairs of digits says, where they are at most so many. They stand in
+/// the scratch vector.
+fn octets<'a, A: Allocator>(
+    scratch: &'a mut Vec<u8, A>,
+    word: &[u8],
+    most: usize,
+) -> Result<Option<&'a [u8]>, AllocError>
+    ensures octets { IfOk result
+        (λ octets. option_map (λ octets. octets.now) octets ≡ octets_up_to most word.now) }
+    ensures memory { OnErr result (word.now ≢ []) }
+{
+    if word.len() / 2 > most {
+        return Ok(None);
+    }
+    octets_of(scratch, word)
 }
 
 /// The octets that the one word of a text says, where they are at most so many. No word says none.

@@ -1,8 +1,11 @@
-//! Lines of a text: a newline ends a line, one carriage return directly before it is no part of the
-//! line, and octets after the last newline are a line too.
+//! What texts have in common, whatever they say. Lines: a newline ends a line, one carriage return
+//! directly before it is no part of the line, and octets after the last newline are a line too. And
+//! octets, as pairs of hexadecimal digits.
 #![tactic(auto)]
 
 mod cut;
 pub mod laws;
+mod pairs;
 
 pub use cut::{first_line, without_carriage_return};
+pub use pairs::octets_of;

@@ -1,10 +1,10 @@
 //! Pairs of hexadecimal digits, as octets.
 
-ghost use Rattle.std.specs.Prelude.{◌≡◌, ◌≢◌, ◌*◌, [], Ok, Some, true, length, IfOk, OnErr};
+ghost use Rattle.std.specs.Prelude.{◌≡◌, ◌≢◌, ◌*◌, [], Ok, Some, length, IfOk, OnErr, true};
 ghost use Rattle.std.specs.List.{AllPass, list_all};
 ghost use Rattle.std.specs.Option.{option_map};
+ghost use Rattle.std.specs.Result.{result_ok};
 ghost use Rattle.hex.specs.Hex.{decode_of, hex_digit_value, is_hex_digit};
-ghost use Rattle.ocp_lines.specs.Words.{octets_up_to};
 
 use std::alloc::{AllocError, Allocator};
 
@@ -20,11 +20,11 @@ fn is_digit(octet: u8) -> bool
 
 /// Whether each octet is a hexadecimal digit. No octet ends the loop, so that it takes many of
 /// them at a time.
-fn are_digits(word: &[u8]) -> bool
-    ensures { result ≡ list_all is_hex_digit word.now }
+fn are_digits(text: &[u8]) -> bool
+    ensures { result ≡ list_all is_hex_digit text.now }
 {
     let mut all = true;
-    for octet in word {
+    for octet in text {
         all &= is_digit(*octet);
     }
     all
@@ -50,25 +50,20 @@ fn write_octets(digits: &[u8], octets: &mut [u8])
     }
 }
 
-/// The octets that a word of pairs of digits says, where they are at most so many. They stand in
-/// the scratch vector.
-pub(crate) fn octets<'a, A: Allocator>(
-    scratch: &'a mut Vec<u8, A>,
-    word: &[u8],
-    most: usize,
+/// The octets that pairs of digits of both cases say, or none where the text has an odd number of
+/// octets or one that is no digit. They stand in the given vector, in place of what it has.
+pub fn octets_of<'a, A: Allocator>(
+    place: &'a mut Vec<u8, A>,
+    digits: &[u8],
 ) -> Result<Option<&'a [u8]>, AllocError>
     ensures octets { IfOk result
-        (λ octets. option_map (λ octets. octets.now) octets ≡ octets_up_to most word.now) }
-    ensures memory { OnErr result (word.now ≢ []) }
+        (λ octets. option_map (λ octets. octets.now) octets ≡ result_ok (decode_of digits.now)) }
+    ensures memory { OnErr result (digits.now ≢ []) }
 {
-    let count = word.len() / 2;
-    if word.len() % 2 != 0 || count > most {
+    if digits.len() % 2 != 0 || !are_digits(digits) {
         return Ok(None);
     }
-    if !are_digits(word) {
-        return Ok(None);
-    }
-    scratch.resize(count, 0)?;
-    write_octets(word, scratch.as_mut_slice());
-    Ok(Some(scratch.as_slice()))
+    place.resize(digits.len() / 2, 0)?;
+    write_octets(digits, place.as_mut_slice());
+    Ok(Some(place.as_slice()))
 }

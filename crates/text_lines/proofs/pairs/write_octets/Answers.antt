@@ -1,8 +1,8 @@
 use Rattle.std.proofs.Common.{◌+◌, ◌*◌, slice_index, arith, length-set, ◌∙◌}
 use Rattle.hex.proofs.Pairs.{decode_step, decode_done}
 use Rattle.hex.proofs.HexLemmas.{decode_of-even}
-use Rattle.ocp_lines.proofs.Digits.{pair_of}
-use Rattle.ocp_lines.proofs.pairs.write_octets.Goals as goal
+use Rattle.text_lines.proofs.Digits.{pair_of}
+use Rattle.text_lines.proofs.pairs.write_octets.Goals as goal
 
 pub loop-i-preserved : goal.loop-i-preserved
 loop-i-preserved c =

@@ -1,7 +1,7 @@
 use Rattle.std.proofs.Common.{◌≡◌, take}
 use Rattle.std.specs.List.{list_all}
 use Rattle.hex.specs.Hex.{is_hex_digit}
-use Rattle.ocp_lines.proofs.pairs.are_digits.Given as goal
+use Rattle.text_lines.proofs.pairs.are_digits.Given as goal
 
 abbrev pub invariant-loop-octet : goal.invariant-loop-octet
-invariant-loop-octet l = l.all ≡ list_all is_hex_digit (take l.octet-index l.word)
+invariant-loop-octet l = l.all ≡ list_all is_hex_digit (take l.octet-index l.text)
