@@ -85,34 +85,6 @@ pub whole_slots : (lines : List Line) → length (image_of lines) % 8 ≡ 0
 whole_slots [] = omega arith
 whole_slots (l ∷ lines) = omega (arith, slots_of l, whole_slots lines, length-append (spelling l) (image_of lines))
 
--- the text of the first instruction is no longer than the listing
-begun : OneLine → (l : Line) (more : List Line) (rest : List ℕ) → BeginsWith rest l → rest ≡ image_of more → All IsLine more
-    → length (canonical l ++ codes "\n") ≤ length (listing more)
-begun one l [] rest b e h = absurd (omega (arith, some_octets l, ap length e, ap length b.2, length-append (spelling l) b.1))
-begun one l (m ∷ more) rest b e h =
-    let same : l ≡ m = one rest l m b (first_of IsLine m more h, image_of more, e) in
-    omega (arith, length-append (canonical m ++ codes "\n") (listing more), ap (λ (k : Line). length (canonical k ++ codes "\n")) same)
-
--- where a line does not fit, the listing does not
-pub too_long : OneLine → (code old mid : List ℕ) (slot before now : ℕ) → IsListed (take (8 * slot) code) old mid → before ≤ now → NeedsMore (drop (8 * slot) code) now (length mid)
-    → (lines : List Line) → IsImageOf code lines → before < length (old ++ listing lines)
-too_long one code old mid slot before now l le n lines is =
-    let c = continues one l.lines lines (drop (8 * slot) code) l.whole.ranges is.ranges
-    (ap (λ (t : List ℕ). t ++ drop (8 * slot) code) (sym l.whole.octets) ∙ take-append-drop (8 * slot) code ∙ is.octets) in
-    let rest = begun one n.line c.more (drop (8 * slot) code) n.begins c.octets c.ranges in
-    omega (
-      arith,
-      n.missing,
-      le,
-      rest,
-      length-append old (listing lines),
-      ap length l.text,
-      length-append old (listing l.lines),
-      ap (λ (k : List Line). length (listing k)) c.lines,
-      ap length (flat_map-append (λ (k : Line). canonical k ++ codes "\n") l.lines c.more),
-      length-append (listing l.lines) (listing c.more),
-    )
-
 -- what holds of an error
 pub error_of : {T E : Type 0} (r : Result T E) (P : E → Type 0) (e : E) → IsErrAnd r P → r ≡ Err e → P e
 error_of (Ok x) P e h is = absurd h

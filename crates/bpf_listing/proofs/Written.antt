@@ -65,9 +65,7 @@ written code old new capacity len w room = record {
 pub lacks : (code old new : List ℕ) (capacity len before : ℕ) → IsWritten code capacity old new len → before < length old + len → LacksRoom code before (length old)
 lacks code old new capacity len before w full = record {
   lines = w.listed.lines;
-  more = [];
-  ranges = w.listed.whole.ranges;
-  octets = w.listed.whole.octets ∙ sym (append-nil _);
+  whole = w.listed.whole;
   permitted = w.listed.permitted;
   missing = omega (arith, full, w.counts, ap length w.listed.text);
 }

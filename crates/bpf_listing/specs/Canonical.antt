@@ -132,11 +132,3 @@ canonical (line.LongJump distance) = codes "ja32 " ++ with_sign distance
 canonical (line.Call number) = codes "call " ++ signed_decimal number
 canonical (line.CallLocal distance) = codes "call local " ++ with_sign distance
 canonical line.Exit = codes "exit"
-
--- a load or a store at a place in memory
-abbrev pub IsAccess : Line → Type 0
-IsAccess (line.Load size dst base offset) = Unit {0}
-IsAccess (line.LoadExtended size dst base offset) = Unit {0}
-IsAccess (line.Store size base offset src) = Unit {0}
-IsAccess (line.StoreImmediate size base offset value) = Unit {0}
-IsAccess _ = ⊥

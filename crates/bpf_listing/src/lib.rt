@@ -17,5 +17,5 @@ pub use laws::{
 };
 pub use mnemonic::{Access, Jump, Mnemonic, mnemonic_of};
 pub use reading::read_line;
-pub use text::Text;
+pub use text::{MAX_TEXT_LENGTH, Text};
 pub use writing::{line_text, text_of};

@@ -8,10 +8,16 @@ use hex::encode_to_slice;
 use itoa::Buffer;
 use std::marker::Model;
 
-/// The text of one instruction with its newline, which is at most 49 octets long.
+/// The most octets of an instruction's text, without a newline.
+pub const MAX_TEXT_LENGTH: usize = 48;
+
+/// The room of a text: that of an instruction, and what is appended to it.
+pub(crate) const ROOM: usize = 64;
+
+/// The text of one instruction, to which a line's newline may be appended.
 #[derive(Drop)]
 pub struct Text {
-    octets: ArrayVec<u8, 64>,
+    octets: ArrayVec<u8, ROOM>,
 }
 
 impl Model for Text {
@@ -39,7 +45,7 @@ impl Text {
 
     /// Appends a piece of text.
     pub(crate) fn push_all(&mut self, piece: &[u8])
-        requires { length self.old + length piece.now ≤ 64 }
+        requires { length self.old + length piece.now ≤ ROOM }
         ensures items { self.new ≡ self.old ++ piece.now }
         ensures len { length self.new ≡ length self.old + length piece.now }
     {
@@ -48,7 +54,7 @@ impl Text {
 
     /// Appends a number in decimal digits.
     pub(crate) fn push_number(&mut self, number: u32)
-        requires { length self.old + 10 ≤ 64 }
+        requires { length self.old + 10 ≤ ROOM }
         ensures items { self.new ≡ self.old ++ decimal number }
         ensures len { length self.new ≤ length self.old + 10 }
     {
@@ -61,7 +67,7 @@ impl Text {
 
     /// Appends a number in decimal digits, with a sign where it is negative.
     pub(crate) fn push_signed(&mut self, number: i32)
-        requires { length self.old + 11 ≤ 64 }
+        requires { length self.old + 11 ≤ ROOM }
         ensures items { self.new ≡ self.old ++ signed_decimal number }
         ensures len { length self.new ≤ length self.old + 11 }
     {
@@ -73,7 +79,7 @@ impl Text {
 
     /// Appends a number in decimal digits, always with its sign.
     pub(crate) fn push_with_sign(&mut self, number: i32)
-        requires { length self.old + 11 ≤ 64 }
+        requires { length self.old + 11 ≤ ROOM }
         ensures items { self.new ≡ self.old ++ with_sign number }
         ensures len { length self.new ≤ length self.old + 11 }
     {
@@ -83,7 +89,7 @@ impl Text {
 
     /// Appends a number in 16 hexadecimal digits, in lower case.
     pub(crate) fn push_hex(&mut self, number: u64)
-        requires { length self.old + 16 ≤ 64 }
+        requires { length self.old + 16 ≤ ROOM }
         ensures items { self.new ≡ self.old ++ hex_digits 16 number }
         ensures len { length self.new ≡ length self.old + 16 }
     {

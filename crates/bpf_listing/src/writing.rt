@@ -4,7 +4,7 @@ ghost use Rattle.bpf_listing.specs.Mnemonics.{mnemonic_name};
 ghost use Rattle.bpf_listing.specs.Canonical.{canonical, operand_text, place_text, register};
 
 use crate::mnemonic::{Access, Jump, Mnemonic, parts_of};
-use crate::text::Text;
+use crate::text::{MAX_TEXT_LENGTH, ROOM, Text};
 use bpf_types::{Line, Operand, Reg};
 use std::alloc::{AllocError, Allocator};
 
@@ -34,7 +34,7 @@ impl Text {
 
     /// Appends a register.
     fn push_register(&mut self, reg: Reg)
-        requires { length self.old + 11 ≤ 64 }
+        requires { length self.old + 11 ≤ ROOM }
         ensures items { self.new ≡ self.old ++ register reg }
         ensures len { length self.new ≤ length self.old + 11 }
     {
@@ -44,7 +44,7 @@ impl Text {
 
     /// Appends the second operand.
     fn push_operand(&mut self, operand: Operand)
-        requires { length self.old + 11 ≤ 64 }
+        requires { length self.old + 11 ≤ ROOM }
         ensures items { self.new ≡ self.old ++ operand_text operand }
         ensures len { length self.new ≤ length self.old + 11 }
     {
@@ -56,7 +56,7 @@ impl Text {
 
     /// Appends a place in memory.
     fn push_place(&mut self, base: Reg, offset: i16)
-        requires { length self.old + 24 ≤ 64 }
+        requires { length self.old + 24 ≤ ROOM }
         ensures items { self.new ≡ self.old ++ place_text base offset }
         ensures len { length self.new ≤ length self.old + 24 }
     {
@@ -70,7 +70,7 @@ impl Text {
     pub(crate) fn push_line(&mut self, line: &Line)
         requires { self.old ≡ [] }
         ensures items { self.new ≡ canonical line.now }
-        ensures len { length self.new ≤ 48 }
+        ensures len { length self.new ≤ MAX_TEXT_LENGTH }
     {
         match *line {
             Line::Arithmetic {
@@ -195,7 +195,7 @@ impl Text {
 /// The canonical text of an instruction.
 pub fn text_of(line: Line) -> Text
     ensures items { result ≡ canonical line }
-    ensures len { length result ≤ 48 }
+    ensures len { length result ≤ MAX_TEXT_LENGTH }
 {
     let mut text = Text::new();
     text.push_line(&line);

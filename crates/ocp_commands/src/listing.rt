@@ -7,7 +7,7 @@ ghost use Rattle.ocp_commands.specs.Listings.{is_blank, digits_of, decode_number
 
 use crate::output::{Output, write_output};
 use bpf_decode::DecodeFault;
-use bpf_listing::{DisassembleFault, disassemble};
+use bpf_listing::{DisassembleFault, MAX_TEXT_LENGTH, disassemble};
 use ocp_ports::{ConsoleFault, Sink, Source, error_text, read_whole};
 use std::alloc::{AllocError, Allocator};
 use text_lines::octets_of;
@@ -83,7 +83,7 @@ fn digits(text: &[u8]) -> &[u8]
 }
 
 /// No line is longer, with its newline: so a listing is written in one pass.
-const LONGEST_LINE: usize = 49;
+const LONGEST_LINE: usize = MAX_TEXT_LENGTH + 1;
 
 /// The output for an image.
 fn output_of_image<A: Allocator + Copy>(alloc: A, image: &[u8]) -> Result<Output<A>, AllocError>

@@ -11,21 +11,16 @@ use bpf_types::Line;
 pub fn line_in(lines: &[Option<Line>], slot: usize) -> Option<Line>
     ensures { result ≡ line_in lines.now slot }
 {
-    if slot < lines.len() {
-        lines[slot]
-    } else {
-        None
-    }
+    lines.get(slot).copied().flatten()
 }
 
 /// Whether a line has its first slot there.
 fn is_place(lines: &[Option<Line>], place: i64) -> bool
     ensures { result ≡ is_place lines.now place }
 {
-    if place < 0 {
-        false
-    } else {
-        line_in(lines, place as usize).is_some()
+    match usize::try_from(place) {
+        Ok(slot) => line_in(lines, slot).is_some(),
+        Err(_) => false,
     }
 }
 
@@ -35,10 +30,10 @@ fn target_of(slot: u16, line: Line) -> Option<i64>
 {
     let next = i64::from(slot) + 1;
     match line {
-        Line::Jump { distance } => Some(next + i64::from(distance)),
-        Line::LongJump { distance } => Some(next + i64::from(distance)),
-        Line::JumpIf { distance, .. } => Some(next + i64::from(distance)),
-        Line::CallLocal { distance } => Some(next + i64::from(distance)),
+        Line::Jump { distance } | Line::JumpIf { distance, .. } => Some(next + i64::from(distance)),
+        Line::LongJump { distance } | Line::CallLocal { distance } => {
+            Some(next + i64::from(distance))
+        }
         _ => None,
     }
 }
@@ -47,11 +42,11 @@ fn target_of(slot: u16, line: Line) -> Option<i64>
 fn has_valid_target(lines: &[Option<Line>], slot: u16, line: Option<Line>) -> bool
     ensures { result ≡ has_valid_target lines.now slot line }
 {
-    match line {
-        Some(line) => match target_of(slot, line) {
-            Some(place) => is_place(lines, place),
-            None => true,
-        },
+    let Some(line) = line else {
+        return true;
+    };
+    match target_of(slot, line) {
+        Some(place) => is_place(lines, place),
         None => true,
     }
 }
@@ -84,13 +79,8 @@ fn end_fault(slots: u16, line: Option<Line>) -> Option<LoadFault>
     ensures { result ≡ end_fault slots line }
 {
     match line {
-        Some(line) => {
-            if is_last(line) {
-                None
-            } else {
-                Some(LoadFault::FallsOffEnd(slots.saturating_sub(1)))
-            }
-        }
+        Some(line) if is_last(line) => None,
+        Some(_) => Some(LoadFault::FallsOffEnd(slots.saturating_sub(1))),
         None => Some(LoadFault::FallsOffEnd(slots.saturating_sub(2))),
     }
 }
