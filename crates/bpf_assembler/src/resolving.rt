@@ -51,14 +51,10 @@ fn resolve<A: Allocator>(labels: &BTreeMap<&[u8], u64, A>, row: &Row<'_>) -> Res
     let Some(name) = row.name else {
         return Ok(row.line);
     };
-    let Some(to) = place_at(labels, name) else {
-        return Err(AsmFault::at(row.number, Why::UnknownLabel));
-    };
+    let unknown = AsmFault::at(row.number, Why::UnknownLabel);
+    let to = place_at(labels, name).ok_or(unknown)?;
     let distance = i128::from(to) - (i128::from(row.place) + 1);
-    match with_distance(row.line, distance) {
-        Some(line) => Ok(line),
-        None => Err(AsmFault::at(row.number, Why::Range)),
-    }
+    with_distance(row.line, distance).ok_or(AsmFault::at(row.number, Why::Range))
 }
 
 /// The octets of the instructions of all rows.
@@ -73,8 +69,7 @@ pub fn resolve_all<A: Allocator, B: Allocator>(
     let mut octets = Vec::new(alloc);
     for row in rows {
         let line = resolve(labels, row)?;
-        let copied = line;
-        lines_are_in_range(copied);
+        lines_are_in_range(line);
         let slots = encode(line);
         octets.extend_from_slice(slots.as_slice())?;
     }

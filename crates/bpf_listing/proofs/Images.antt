@@ -1,10 +1,9 @@
 -- An image is that of one list of instructions at most.
-use Rattle.std.proofs.Common.{◌≡◌, ◌*◌, ◌<◌, ◌≤◌, ℕ, suc, List, [], ◌∷◌, ◌++◌, refl, sym, ap, ◌∙◌, subst, arith, length, length-append, length-drop, take, drop, append_assoc, take-append-drop, Result, Ok, Err}
-use Rattle.std.specs.Prelude.{codes, ◌%◌}
+use Rattle.std.proofs.Common.{◌≡◌, ◌*◌, ◌<◌, ℕ, suc, List, [], ◌∷◌, ◌++◌, refl, sym, ap, ◌∙◌, subst, arith, length, length-append, length-drop, drop, append_assoc, take-append-drop, Result, Ok, Err}
+use Rattle.std.specs.Prelude.{◌%◌}
 use Rattle.std.specs.List.{All}
 use Rattle.std.specs.Result.{IsErrAnd}
 use Rattle.std.proofs.Math.Seq.{drop-append_seam}
-use Rattle.std.proofs.lemmas.Grind.{flat_map-append}
 use Rattle.std.proofs.lemmas.List.{append-nil}
 use Rattle.bpf_types.specs.declared.line.Line.{Line}
 use Rattle.bpf_types.specs.declared.line.Line.TheVariants as line
@@ -12,8 +11,7 @@ use Rattle.bpf_types.specs.Line.{spelling, IsLine, WritesFramePointer}
 use Rattle.bpf_decode.specs.declared.fault.DecodeFault.{DecodeFault}
 use Rattle.bpf_decode.specs.Decoding.{BeginsWith}
 use Rattle.bpf_decode.specs.Faults.{IsFirst}
-use Rattle.bpf_listing.specs.Canonical.{canonical}
-use Rattle.bpf_listing.specs.Listing.{NeedsMore, IsImageOf, IsListed, HasFaultAt, NoneWritesFramePointer, image_of, listing}
+use Rattle.bpf_listing.specs.Listing.{IsImageOf, HasFaultAt, NoneWritesFramePointer, image_of}
 
 abbrev pub OneLine : Type 0
 OneLine = (octets : List ℕ) (a b : Line) → BeginsWith octets a → BeginsWith octets b → a ≡ b
