@@ -30,10 +30,10 @@ fn target_of(slot: u16, line: Line) -> Option<i64>
 {
     let next = i64::from(slot) + 1;
     match line {
-        Line::Jump { distance } | Line::JumpIf { distance, .. } => Some(next + i64::from(distance)),
-        Line::LongJump { distance } | Line::CallLocal { distance } => {
-            Some(next + i64::from(distance))
-        }
+        Line::Jump { distance } => Some(next + i64::from(distance)),
+        Line::LongJump { distance } => Some(next + i64::from(distance)),
+        Line::JumpIf { distance, .. } => Some(next + i64::from(distance)),
+        Line::CallLocal { distance } => Some(next + i64::from(distance)),
         _ => None,
     }
 }
