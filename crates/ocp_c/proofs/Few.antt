@@ -14,13 +14,11 @@ use Rattle.pus_fields.specs.TelecommandFaults.{telecommand_of}
 use Rattle.obcp_types.specs.declared.failure.RequestFault.{RequestFault}
 use Rattle.obcp_types.specs.declared.pending.Due.{Due}
 use Rattle.obcp_messages.specs.declared.request.Request.{Request as Command}
-use Rattle.obcp_messages.specs.declared.request.Request.TheVariants as command
 use Rattle.ocp_table.specs.Records.{Rec, Records}
 use Rattle.ocp_table.specs.Effects.{Change, Effect, Loaded, Unloaded, Changed, Drained, Kept, new_record, record_by, with_change, records_by}
-use Rattle.ocp_table.specs.RequestTable.{Directive, Load, Unload, Activate, Stop, Suspend, Resume, Abort, Communicate, Step}
+use Rattle.ocp_table.specs.RequestTable.{Directive, Step}
 use Rattle.ocp_table.specs.Deciding.{effect_in, is_full}
 use Rattle.ocp_table.specs.Shown.{row_of, statuses_of}
-use Rattle.ocp_table.proofs.Each.{Holds, each}
 use Rattle.ocp_debug.specs.declared.command.Command as debug
 use Rattle.ocp_debug.specs.declared.command.Command.TheVariants.{SetBreak, ClearBreak, SetTrace}
 use Rattle.ocp_debug.specs.declared.command.DebugFault.{DebugFault}
@@ -29,10 +27,12 @@ use Rattle.ocp_reports.specs.declared.origin.Origin.{Origin}
 use Rattle.ocp_reports.specs.Origin.{origin_of}
 use Rattle.ocp_world.specs.World as world
 use Rattle.ocp_world.specs.World.{World, Event, opening}
-use Rattle.ocp_world.specs.Requests.{command_effect, command_of, service_effect, request_effect, next_origin, has_no_place}
+use Rattle.ocp_world.specs.Requests.{command_effect, command_of, service_effect, request_effect}
 use Rattle.ocp_world.specs.Drains.{drain_effect}
 use Rattle.ocp_world.specs.After.{effect_of, after}
 use Rattle.ocp_world.specs.Replay.{replay_from, replay}
+use Rattle.ocp_world.proofs.Asked.{each_asked}
+use Rattle.ocp_world.proofs.ByKind.{IsPlain, each_kind}
 
 -- ---- an image is loaded only where there is room
 
@@ -41,23 +41,12 @@ HasRoom m (Loaded profile id image) = is_full m ≡ false
 HasRoom m effect = Unit {0}
 
 module _ (m : Records) where
-  holds : (id : ℕ) → Holds (λ d effect. HasRoom m effect) id (get m id) (is_full m)
-  holds id = record {
-    failed = λ d failure. tt;
-    loaded = λ profile image is room. room;
-    unloaded = λ r is status. tt;
-    started = λ budget arguments r is status. tt;
-    sends = λ words r is fits. tt;
-    stop_pends = λ s from r is status. tt;
-    suspend_pends = λ s from r is status. tt;
-    stopped = λ s from full r is status. tt;
-    aborted = λ r is. tt;
-    resumed = λ r is status. tt;
-    stepped = λ pool outcome r is status next. tt;
-  }
+  room_plain : (effect : Effect) → IsPlain effect → HasRoom m effect
+  room_plain (Loaded profile id image) plain = absurd plain
+  room_plain effect plain = tt
 
   room_in : (d : Directive) (id : ℕ) → HasRoom m (effect_in d id m)
-  room_in d id = each (λ d effect. HasRoom m effect) id (get m id) (is_full m) (holds id) d
+  room_in d id = each_kind (λ d effect. HasRoom m effect) id m (λ profile image room. room) (λ pool outcome r is status next. tt) (λ d effect plain. room_plain effect plain) d
 
   room_set : (c : debug.Command) (id : ℕ) (o : Option DebugFault) → HasRoom m (commands.effect_by o c id)
   room_set (SetBreak place) id None = tt
@@ -71,15 +60,7 @@ module _ (m : Records) where
 
 module _ (w : World) where
   room_command : (request : Command) (origin : Origin) → HasRoom w.records (command_effect request origin w).on_records
-  room_command (command.Load id code) origin = room_in w.records (Load w.profile code) id
-  room_command (command.Unload id) origin = room_in w.records Unload id
-  room_command (command.Activate id budget arguments) origin = room_in w.records (Activate budget arguments) id
-  room_command (command.Stop id step) origin = room_in w.records (Stop step (next_origin origin w) (has_no_place w)) id
-  room_command (command.Suspend id step) origin = room_in w.records (Suspend step (next_origin origin w) (has_no_place w)) id
-  room_command (command.Resume id) origin = room_in w.records Resume id
-  room_command (command.Communicate id words) origin = room_in w.records (Communicate words) id
-  room_command command.Status origin = tt
-  room_command (command.Abort id) origin = room_in w.records Abort id
+  room_command request origin = each_asked w origin (λ effect. HasRoom w.records effect.on_records) (λ d id is. room_in w.records d id) tt request
 
   room_service : (r : Result Command RequestFault) (origin : Origin) → HasRoom w.records (service_effect r origin w).on_records
   room_service (Ok request) origin = room_command request origin

@@ -11,11 +11,10 @@ use Rattle.obcp_types.specs.declared.failure.RequestFault.{RequestFault}
 use Rattle.obcp_types.specs.declared.pending.Due.{Due}
 use Rattle.obcp_types.specs.declared.pending.PendingOrigin.{PendingOrigin}
 use Rattle.obcp_messages.specs.declared.request.Request.{Request as Command}
-use Rattle.obcp_messages.specs.declared.request.Request.TheVariants as command
 use Rattle.ocp_table.specs.declared.control.Pending.{Pending}
 use Rattle.ocp_table.specs.Records.{Rec, Records}
 use Rattle.ocp_table.specs.Effects.{Change, Pended, BreakSet, BreakCleared, TraceSet, Effect, Changed}
-use Rattle.ocp_table.specs.RequestTable.{Directive, Load, Unload, Activate, Stop, Suspend, Resume, Abort, Communicate, Step}
+use Rattle.ocp_table.specs.RequestTable.{Directive, Stop, Suspend, Step}
 use Rattle.ocp_table.specs.Deciding.{effect_in}
 use Rattle.ocp_table.proofs.Asked.{Asks, IsAsked, IsAskedChange, asked}
 use Rattle.ocp_table.proofs.Weighing.{entry, waiting, waiting-empty, due, pended_by_change, pended_there, pended_by, balance, files}
@@ -27,10 +26,11 @@ use Rattle.ocp_reports.specs.declared.origin.Origin.{Origin}
 use Rattle.ocp_reports.specs.Origin.{origin_of}
 use Rattle.ocp_world.specs.World as world
 use Rattle.ocp_world.specs.World.{World, Event, opening}
-use Rattle.ocp_world.specs.Requests.{command_effect, command_of, service_effect, request_effect, next_origin, has_no_place}
+use Rattle.ocp_world.specs.Requests.{command_effect, command_of, service_effect, request_effect, next_origin}
 use Rattle.ocp_world.specs.Drains.{drain_effect}
 use Rattle.ocp_world.specs.After.{effect_of, after}
 use Rattle.ocp_world.specs.Replay.{replay}
+use Rattle.ocp_world.proofs.Asked.{IsAskedIn, each_asked}
 use Rattle.std.proofs.lemmas.Bool.{leb-true}
 use Rattle.ocp_c.proofs.Few.{along}
 
@@ -72,16 +72,13 @@ module _ (w : World) where
   light_origin : (origin : Origin) → IsFour origin → excess (next_origin origin w) ≡ 0
   light_origin origin four = ap (λ b. cond b 0 1) four
 
+  light_asked : (origin : Origin) → IsFour origin → (d : Directive) → IsAskedIn w origin d → IsLight d
+  light_asked origin four (Stop s from full) is = ap excess is.0 ∙ light_origin origin four
+  light_asked origin four (Suspend s from full) is = ap excess is.0 ∙ light_origin origin four
+  light_asked origin four d is = tt
+
   light_command : (request : Command) (origin : Origin) → IsFour origin → Pends (command_effect request origin w).on_records
-  light_command (command.Load id code) origin four = light_in (Load w.profile code) id w.records tt
-  light_command (command.Unload id) origin four = light_in Unload id w.records tt
-  light_command (command.Activate id budget arguments) origin four = light_in (Activate budget arguments) id w.records tt
-  light_command (command.Stop id step) origin four = light_in (Stop step (next_origin origin w) (has_no_place w)) id w.records (light_origin origin four)
-  light_command (command.Suspend id step) origin four = light_in (Suspend step (next_origin origin w) (has_no_place w)) id w.records (light_origin origin four)
-  light_command (command.Resume id) origin four = light_in Resume id w.records tt
-  light_command (command.Communicate id words) origin four = light_in (Communicate words) id w.records tt
-  light_command command.Status origin four = refl
-  light_command (command.Abort id) origin four = light_in Abort id w.records tt
+  light_command request origin four = each_asked w origin (λ effect. Pends effect.on_records) (λ d id is. light_in d id w.records (light_asked origin four d is)) refl request
 
   light_service : (r : Result Command RequestFault) (origin : Origin) → IsFour origin → Pends (service_effect r origin w).on_records
   light_service (Ok request) origin four = light_command request origin four

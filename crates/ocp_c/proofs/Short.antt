@@ -31,7 +31,6 @@ use Rattle.obcp_messages.specs.declared.report.StartFault.{StartFault}
 use Rattle.obcp_messages.specs.declared.report.StartFault.TheVariants.{BadCode, Plain}
 use Rattle.obcp_messages.specs.declared.report.Report.{Report}
 use Rattle.obcp_messages.specs.declared.request.Request.{Request as Command}
-use Rattle.obcp_messages.specs.declared.request.Request.TheVariants as command
 use Rattle.obcp_messages.specs.Report.{start_fault, fault_data, row_data, report_data}
 use Rattle.verification.specs.declared.outcome.Outcome.{Outcome}
 use Rattle.verification.specs.declared.outcome.Outcome.TheVariants as O
@@ -41,7 +40,6 @@ use Rattle.verification.specs.Reports.{wants_acceptance, wants_start, wants_comp
 use Rattle.ocp_table.specs.Records.{Records}
 use Rattle.ocp_table.specs.Effects as table
 use Rattle.ocp_table.specs.Shown.{statuses_of}
-use Rattle.ocp_table.specs.RequestTable.{Load, Unload, Activate, Stop, Suspend, Resume, Abort, Communicate}
 use Rattle.ocp_table.specs.Deciding.{effect_in}
 use Rattle.ocp_reports.specs.declared.origin.Origin.{Origin}
 use Rattle.ocp_reports.specs.Origin.{Dispatch, origin_of, origin_of_packet}
@@ -50,7 +48,8 @@ use Rattle.ocp_reports.specs.Due.{origin_of_due, due_dispatches, drain_dispatche
 use Rattle.ocp_reports.specs.Packets.{packets, telemetry_of}
 use Rattle.ocp_world.specs.World.{World}
 use Rattle.ocp_world.specs.Effect.{Reply, Sends}
-use Rattle.ocp_world.specs.Requests.{outcome_by, start_effect, status_report, command_effect, command_of, service_effect, request_effect, next_origin, has_no_place}
+use Rattle.ocp_world.specs.Requests.{outcome_by, start_effect, status_report, command_effect, command_of, service_effect, request_effect}
+use Rattle.ocp_world.proofs.Asked.{each_asked}
 use Rattle.ocp_c.proofs.Few.{length-statuses}
 use Rattle.ocp_c.proofs.Origins.{excess, four_octets}
 
@@ -193,15 +192,7 @@ short_start origin four answer fits effect = of_outcome origin four answer fits 
 
 module _ (w : World) (few : len w.records ≤ 16) where
   short_command : (request : Command) (origin : Origin) → length origin.request ≤ 4 → IsShortReply (command_effect request origin w).reply
-  short_command (command.Load id code) origin four = short_start origin four [] tt (effect_in (Load w.profile code) id w.records)
-  short_command (command.Unload id) origin four = short_start origin four [] tt (effect_in Unload id w.records)
-  short_command (command.Activate id budget arguments) origin four = short_start origin four [] tt (effect_in (Activate budget arguments) id w.records)
-  short_command (command.Stop id step) origin four = short_start origin four [] tt (effect_in (Stop step (next_origin origin w) (has_no_place w)) id w.records)
-  short_command (command.Suspend id step) origin four = short_start origin four [] tt (effect_in (Suspend step (next_origin origin w) (has_no_place w)) id w.records)
-  short_command (command.Resume id) origin four = short_start origin four [] tt (effect_in Resume id w.records)
-  short_command (command.Communicate id words) origin four = short_start origin four [] tt (effect_in (Communicate words) id w.records)
-  short_command command.Status origin four = of_outcome origin four (status_report w.records ∷ []) (status_fits w.records few) O.Done
-  short_command (command.Abort id) origin four = short_start origin four [] tt (effect_in Abort id w.records)
+  short_command request origin four = each_asked w origin (λ effect. IsShortReply effect.reply) (λ d id is. short_start origin four [] tt (effect_in d id w.records)) (of_outcome origin four (status_report w.records ∷ []) (status_fits w.records few) O.Done) request
 
   short_refusal : (origin : Origin) → length origin.request ≤ 4 → (failure : AcceptanceFailure) → Are 4 49 (reports_of origin (O.Refused failure) [])
   short_refusal origin four failure = of_outcome origin four [] tt (O.Refused failure)

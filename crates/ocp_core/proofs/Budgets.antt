@@ -27,11 +27,12 @@ use Rattle.ocp_table.specs.Deciding.{outcome_of, outcome_of_call, outcome_unheld
 use Rattle.ocp_world.specs.World.{World, Event, Request, Step, Debug, Drain, opening}
 use Rattle.ocp_world.specs.After.{Stepped, effect_of, after}
 use Rattle.ocp_world.specs.Replay.{replay}
+use Rattle.ocp_world.proofs.Calm.{IsIdle}
 use Rattle.ocp_core.specs.Budget.{given_budget_by, given_budget, begins_anew, is_use, use_count_by, use_count, IsWithinBudget, RemainsAreCounted, FindsNothing, FaultsSpent}
 use Rattle.ocp_core.proofs.Owned.{changed_if_there, own_by, get-records_by}
 use Rattle.ocp_core.proofs.Carried.{carried_along}
 use Rattle.ocp_core.proofs.Honest.{IsNext}
-use Rattle.ocp_core.proofs.Idle.{IsIdle, idle_request, idle_debug, idle_drain}
+use Rattle.ocp_core.proofs.Idle.{idle_request, idle_debug, idle_drain}
 use Rattle.ocp_core.proofs.Pools.{next_of, does_next}
 use Rattle.ocp_core.proofs.Turns.{Turn, Refuses, Makes, by_turn, turn_of, turn_by, turn, turn_in, effect-turn}
 

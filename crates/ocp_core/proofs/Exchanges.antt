@@ -14,7 +14,6 @@ use Rattle.obcp_types.specs.declared.failure.RequestFault.{RequestFault}
 use Rattle.obcp_types.specs.declared.status.Status.{Status}
 use Rattle.obcp_types.specs.declared.status.Status.TheVariants.{Inactive, Running, Held}
 use Rattle.obcp_messages.specs.declared.request.Request.{Request as Command}
-use Rattle.obcp_messages.specs.declared.request.Request.TheVariants as command
 use Rattle.bpf_step.specs.declared.answer.Need.TheVariants as need
 use Rattle.bpf_step.specs.Machine.{Outcome, Next, Needs, NoInstruction, read}
 use Rattle.bpf_step.specs.Runs.{breaks_at}
@@ -56,15 +55,7 @@ made w [] = []
 made w (e ∷ es) = traces_made w e ++ made (after w e).world es
 
 command-retraced : (w : World) (traces : List Trace) (request : Command) (origin : Origin) → command_effect request origin (retraced w traces) ≡ command_effect request origin w
-command-retraced w traces (command.Load id code) origin = refl
-command-retraced w traces (command.Unload id) origin = refl
-command-retraced w traces (command.Activate id budget arguments) origin = refl
-command-retraced w traces (command.Stop id step) origin = refl
-command-retraced w traces (command.Suspend id step) origin = refl
-command-retraced w traces (command.Resume id) origin = refl
-command-retraced w traces (command.Communicate id words) origin = refl
-command-retraced w traces command.Status origin = refl
-command-retraced w traces (command.Abort id) origin = refl
+command-retraced w traces request origin = refl
 
 service-retraced : (w : World) (traces : List Trace) (r : Result Command RequestFault) (origin : Origin) → service_effect r origin (retraced w traces) ≡ service_effect r origin w
 service-retraced w traces (Ok request) origin = command-retraced w traces request origin

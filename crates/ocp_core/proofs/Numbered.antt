@@ -11,12 +11,11 @@ use Rattle.obcp_types.specs.declared.failure.RequestFault.{RequestFault}
 use Rattle.obcp_types.specs.declared.pending.Due.{Due}
 use Rattle.obcp_messages.specs.declared.report.Report.{Report}
 use Rattle.obcp_messages.specs.declared.request.Request.{Request as Command}
-use Rattle.obcp_messages.specs.declared.request.Request.TheVariants as command
 use Rattle.ocp_table.specs.declared.control.Pending.{Pending}
 use Rattle.ocp_table.specs.Records.{Rec, Records}
 use Rattle.ocp_table.specs.Effects as table
 use Rattle.ocp_table.specs.Effects.{Change, Pended, Changed, Drained, step_outcome}
-use Rattle.ocp_table.specs.RequestTable.{Directive, Load, Unload, Activate, Stop, Suspend, Resume, Abort, Communicate, Step}
+use Rattle.ocp_table.specs.RequestTable.{Directive, Stop, Suspend, Step}
 use Rattle.ocp_table.specs.Deciding.{effect_in}
 use Rattle.ocp_table.proofs.Asked.{Asks, IsThere, IsAsked, asked}
 use Rattle.ocp_debug.specs.declared.command.Command as debug
@@ -28,10 +27,11 @@ use Rattle.ocp_reports.specs.Origin.{origin_of}
 use Rattle.ocp_world.specs.World as world
 use Rattle.ocp_world.specs.World.{World, Event}
 use Rattle.ocp_world.specs.Effect.{Effect, Commands}
-use Rattle.ocp_world.specs.Requests.{start_effect, command_effect, command_of, service_effect, request_effect, next_origin, has_no_place}
+use Rattle.ocp_world.specs.Requests.{start_effect, command_effect, command_of, service_effect, request_effect, has_no_place}
 use Rattle.ocp_world.specs.Instructions.{instruction_effect, debug_effect}
 use Rattle.ocp_world.specs.Drains.{drain_effect}
 use Rattle.ocp_world.specs.After.{effect_of, events_by, is_done}
+use Rattle.ocp_world.proofs.Asked.{IsAskedIn, each_asked}
 use Rattle.ocp_core.specs.Outbox.{number_in, pending_by}
 
 abbrev pub IsNumberedChange : World → Option Rec → Change → Type 0
@@ -68,16 +68,13 @@ module _ (w : World) where
 
   -- ---- requests, instructions and commands
 
+  next_asked : (origin : Origin) (d : Directive) → IsAskedIn w origin d → IsNext w d
+  next_asked origin (Stop s from full) is = (ap (λ f. f.event) is.0, is.1)
+  next_asked origin (Suspend s from full) is = (ap (λ f. f.event) is.0, is.1)
+  next_asked origin d is = tt
+
   numbered_command : (request : Command) (origin : Origin) → IsNumbered w (command_effect request origin w).on_records
-  numbered_command (command.Load id code) origin = numbered_in (Load w.profile code) id tt
-  numbered_command (command.Unload id) origin = numbered_in Unload id tt
-  numbered_command (command.Activate id budget arguments) origin = numbered_in (Activate budget arguments) id tt
-  numbered_command (command.Stop id step) origin = numbered_in (Stop step (next_origin origin w) (has_no_place w)) id (refl, refl)
-  numbered_command (command.Suspend id step) origin = numbered_in (Suspend step (next_origin origin w) (has_no_place w)) id (refl, refl)
-  numbered_command (command.Resume id) origin = numbered_in Resume id tt
-  numbered_command (command.Communicate id words) origin = numbered_in (Communicate words) id tt
-  numbered_command command.Status origin = tt
-  numbered_command (command.Abort id) origin = numbered_in Abort id tt
+  numbered_command request origin = each_asked w origin (λ effect. IsNumbered w effect.on_records) (λ d id is. numbered_in d id (next_asked origin d is)) tt request
 
   numbered_service : (r : Result Command RequestFault) (origin : Origin) → IsNumbered w (service_effect r origin w).on_records
   numbered_service (Ok request) origin = numbered_command request origin
@@ -112,15 +109,7 @@ module _ (n : ℕ) where
   counts_start origin answer effect = inl (refl, omega arith)
 
   counts_command : (w : World) (request : Command) (origin : Origin) → Counts n (command_effect request origin w)
-  counts_command w (command.Load id code) origin = counts_start origin [] (effect_in (Load w.profile code) id w.records)
-  counts_command w (command.Unload id) origin = counts_start origin [] (effect_in Unload id w.records)
-  counts_command w (command.Activate id budget arguments) origin = counts_start origin [] (effect_in (Activate budget arguments) id w.records)
-  counts_command w (command.Stop id step) origin = counts_start origin [] (effect_in (Stop step (next_origin origin w) (has_no_place w)) id w.records)
-  counts_command w (command.Suspend id step) origin = counts_start origin [] (effect_in (Suspend step (next_origin origin w) (has_no_place w)) id w.records)
-  counts_command w (command.Resume id) origin = counts_start origin [] (effect_in Resume id w.records)
-  counts_command w (command.Communicate id words) origin = counts_start origin [] (effect_in (Communicate words) id w.records)
-  counts_command w command.Status origin = inl (refl, omega arith)
-  counts_command w (command.Abort id) origin = counts_start origin [] (effect_in Abort id w.records)
+  counts_command w request origin = each_asked w origin (Counts n) (λ d id is. counts_start origin [] (effect_in d id w.records)) (inl (refl, omega arith)) request
 
   counts_service : (w : World) (r : Result Command RequestFault) (origin : Origin) → Counts n (service_effect r origin w)
   counts_service w (Ok request) origin = counts_command w request origin

@@ -2,6 +2,7 @@
 #![tactic(auto)]
 
 mod command;
+mod help;
 mod reading;
 mod verbs;
 mod words;
@@ -10,4 +11,5 @@ pub use command::{
     Command, Count, Flags, MAX_BUDGET, MAX_MEMORY_LENGTH, MAX_OCTETS_LENGTH, MAX_STEPS, MAX_TURNS,
     MAX_WORKERS, Shift,
 };
+pub use help::SCRIPT_HELP;
 pub use reading::read_command;

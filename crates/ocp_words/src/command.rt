@@ -9,6 +9,7 @@ ghost use Rattle.ocp_words.specs.Words.{ocp, asm, run, number_option, profile_op
 use crate::help;
 use clap::builder::ValueParser;
 use clap::{Arg, Command, value_parser};
+use ocp_lines::SCRIPT_HELP;
 use ocp_profile::{MAX_APID, MAX_CAPACITY, MAX_POOL_WORDS};
 use std::alloc::{AllocError, Global};
 
@@ -113,7 +114,7 @@ fn run_command<'a>(alloc: Global) -> Result<Command<'a>, AllocError>
     ensures app { IfOk result (λ c. app_of c ≡ run) }
     ensures global { IfOk result (λ c. (out-Command c).has_globals ≡ false) }
 {
-    let run = plain_command(alloc, "run", help::RUN_USAGE, help::RUN, help::RUN_HELP)
+    let run = plain_command(alloc, "run", help::RUN_USAGE, help::RUN, SCRIPT_HELP)
         .arg(profile_option(alloc))?
         .arg(apid_option(alloc))?
         .arg(pool_option(alloc))?

@@ -27,7 +27,7 @@ use Rattle.ocp_debug.specs.Commands.{change_of, effect_by as debug_effect_by, fa
 use Rattle.ocp_reports.specs.declared.origin.Origin.{Origin}
 use Rattle.ocp_reports.specs.Origin.{origin_of}
 use Rattle.ocp_world.specs.World.{World, Event, Request, Step, Debug, Drain}
-use Rattle.ocp_world.specs.Requests.{command_effect, service_effect, request_effect, command_of, next_origin, has_no_place}
+use Rattle.ocp_world.specs.Requests.{directive_by, effect_asked, command_effect, service_effect, request_effect, command_of, next_origin, has_no_place}
 use Rattle.ocp_world.specs.Drains.{drain_effect}
 use Rattle.ocp_world.specs.Effect.{Reply, Discards, Sends, Steps, Commands, Undue}
 use Rattle.ocp_world.specs.After.{after, effect_of, answer_by, events_by, is_accepted}
@@ -36,6 +36,7 @@ use Rattle.ocp_world.specs.Laws.{is_start_of, is_start_in, is_start_by, may_chan
 use Rattle.ocp_world.specs.Slice.{is_running, is_running_status}
 use Rattle.ocp_world.proofs.Refusals.{is_instruction, refused_step, refused_keeps}
 use Rattle.ocp_world.proofs.Calm.{request_makes_no_trace, no_more}
+use Rattle.ocp_world.proofs.Asked.{is_request, each_asked}
 
 -- ---- only a running procedure steps
 
@@ -61,15 +62,7 @@ module _ (w : World) (q : ℕ) where
 
   module _ (asked : (d : Directive) (id : ℕ) → IsRequest d → IsKept (records_by (effect_in d id w.records) w.records)) where
     kept_by_command : (request : Command) (origin : Origin) → IsKept (records_by (command_effect request origin w).on_records w.records)
-    kept_by_command (command.Load id code) origin = asked (directive.Load w.profile code) id tt
-    kept_by_command (command.Unload id) origin = asked directive.Unload id tt
-    kept_by_command (command.Activate id budget arguments) origin = asked (directive.Activate budget arguments) id tt
-    kept_by_command (command.Stop id step) origin = asked (directive.Stop step (next_origin origin w) (has_no_place w)) id tt
-    kept_by_command (command.Suspend id step) origin = asked (directive.Suspend step (next_origin origin w) (has_no_place w)) id tt
-    kept_by_command (command.Resume id) origin = asked directive.Resume id tt
-    kept_by_command (command.Communicate id words) origin = asked (directive.Communicate words) id tt
-    kept_by_command command.Status origin = λ machine is. inl is
-    kept_by_command (command.Abort id) origin = asked directive.Abort id tt
+    kept_by_command request origin = each_asked w origin (λ effect. IsKept (records_by effect.on_records w.records)) (λ d id is. asked d id (is_request w origin d is)) (λ machine same. inl same) request
 
     kept_by_service : (r : Result Command RequestFault) (origin : Origin) → IsKept (records_by (service_effect r origin w).on_records w.records)
     kept_by_service (Ok request) origin = kept_by_command request origin
@@ -154,16 +147,20 @@ module _ (debugs : (change : Change) (id q : ℕ) (m : Records) → IsDebugging 
       other_stays : (d : Directive) (own : ℕ) → (own == id) ≡ false → Stays (records_by (effect_in d own w.records) w.records)
       other_stays d own h = ap machine_of (others d own id w.records (apart own id h))
 
+      -- nothing is asked, or what leaves machines
+      abbrev Leaves : Option (ℕ × Directive) → Type 0
+      Leaves (Some found) = LeavesMachines found.1
+      Leaves None = Unit {0}
+
+      stays_asked : (o : Option (ℕ × Directive)) (origin : Origin) → Leaves o → Stays (records_by (effect_asked o origin w.records).on_records w.records)
+      stays_asked (Some found) origin h = leaves found.1 found.0 id w.records h
+      stays_asked None origin h = refl
+
       stays_by_command : (request : Command) (origin : Origin) → is_start_of id request ≡ false → Stays (records_by (command_effect request origin w).on_records w.records)
       stays_by_command (command.Load own code) origin h = other_stays (directive.Load w.profile code) own h
       stays_by_command (command.Unload own) origin h = other_stays directive.Unload own h
       stays_by_command (command.Activate own budget arguments) origin h = other_stays (directive.Activate budget arguments) own h
-      stays_by_command (command.Stop own step) origin h = leaves (directive.Stop step (next_origin origin w) (has_no_place w)) own id w.records tt
-      stays_by_command (command.Suspend own step) origin h = leaves (directive.Suspend step (next_origin origin w) (has_no_place w)) own id w.records tt
-      stays_by_command (command.Resume own) origin h = leaves directive.Resume own id w.records tt
-      stays_by_command (command.Communicate own words) origin h = leaves (directive.Communicate words) own id w.records tt
-      stays_by_command command.Status origin h = refl
-      stays_by_command (command.Abort own) origin h = leaves directive.Abort own id w.records tt
+      stays_by_command request origin h = stays_asked (directive_by request w.profile (next_origin origin w) (has_no_place w)) origin tt
 
       stays_by_service : (r : Result Command RequestFault) (origin : Origin) → is_start_in id r ≡ false → Stays (records_by (service_effect r origin w).on_records w.records)
       stays_by_service (Ok request) origin h = stays_by_command request origin h
@@ -234,15 +231,7 @@ counted w e = counted_by (effect_of w e).reply w
 -- ---- trace records
 
 no_trace_by_request : (request : Command) (origin : Origin) (w : World) → traces_by (command_effect request origin w).on_records w.records ≡ []
-no_trace_by_request (command.Load id code) origin w = request_makes_no_trace (directive.Load w.profile code) tt id w.records
-no_trace_by_request (command.Unload id) origin w = request_makes_no_trace directive.Unload tt id w.records
-no_trace_by_request (command.Activate id budget arguments) origin w = request_makes_no_trace (directive.Activate budget arguments) tt id w.records
-no_trace_by_request (command.Stop id step) origin w = request_makes_no_trace (directive.Stop step (next_origin origin w) (has_no_place w)) tt id w.records
-no_trace_by_request (command.Suspend id step) origin w = request_makes_no_trace (directive.Suspend step (next_origin origin w) (has_no_place w)) tt id w.records
-no_trace_by_request (command.Resume id) origin w = request_makes_no_trace directive.Resume tt id w.records
-no_trace_by_request (command.Communicate id words) origin w = request_makes_no_trace (directive.Communicate words) tt id w.records
-no_trace_by_request command.Status origin w = refl
-no_trace_by_request (command.Abort id) origin w = request_makes_no_trace directive.Abort tt id w.records
+no_trace_by_request request origin w = each_asked w origin (λ effect. traces_by effect.on_records w.records ≡ []) (λ d id is. request_makes_no_trace d (is_request w origin d is) id w.records) refl request
 
 no_trace_by_service : (r : Result Command RequestFault) (origin : Origin) (w : World) → traces_by (service_effect r origin w).on_records w.records ≡ []
 no_trace_by_service (Ok request) origin w = no_trace_by_request request origin w

@@ -1,6 +1,8 @@
 pub mod Replays
 pub mod Refusals
+pub mod ByKind
 pub mod Calm
+pub mod Asked
 pub mod Slices
 pub mod Slicing
 pub mod Lawful

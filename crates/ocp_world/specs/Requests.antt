@@ -1,5 +1,5 @@
 -- What a request does.
-use Rattle.std.specs.Prelude.{ℕ, Bool, List, [], ◌∷◌, Result, Ok, Err}
+use Rattle.std.specs.Prelude.{ℕ, Bool, List, [], ◌∷◌, Option, Some, None, Result, Ok, Err}
 use Rattle.ocp_profile.specs.declared.profile.Profile.{Profile}
 use Rattle.pus_fields.specs.declared.fault.TcFault.{TcFault}
 use Rattle.pus_fields.specs.declared.fault.TcFault.TheVariants.{Discarded, Rejected}
@@ -75,24 +75,32 @@ next_origin origin w = pending_origin origin w.events
 abbrev pub has_no_place : World → Bool
 has_no_place w = is_outbox_full w.records w.outbox
 
+-- what a request asks for, and of which procedure: a load is under the profile of the world, and a
+-- stop or suspend has the origin of its event and knows whether no place is free; a request for the
+-- status asks nothing of any procedure
+abbrev pub directive_by : Command → Profile → PendingOrigin → Bool → Option (ℕ × Directive)
+directive_by (command.Load id code) profile from full = Some (id, directive.Load profile code)
+directive_by (command.Unload id) profile from full = Some (id, directive.Unload)
+directive_by (command.Activate id budget arguments) profile from full =
+    Some (id, directive.Activate budget arguments)
+directive_by (command.Stop id step) profile from full = Some (id, directive.Stop step from full)
+directive_by (command.Suspend id step) profile from full =
+    Some (id, directive.Suspend step from full)
+directive_by (command.Resume id) profile from full = Some (id, directive.Resume)
+directive_by (command.Communicate id words) profile from full =
+    Some (id, directive.Communicate words)
+directive_by command.Status profile from full = None
+directive_by (command.Abort id) profile from full = Some (id, directive.Abort)
+
+-- it is done to its procedure; where nothing is asked, the statuses of all procedures are reported
+abbrev pub effect_asked : Option (ℕ × Directive) → Origin → Records → Effect
+effect_asked (Some asked) origin m = directive_effect origin asked.1 asked.0 m
+effect_asked None origin m = start_effect origin (status_report m ∷ []) (Kept Unasked)
+
 abbrev pub command_effect : Command → Origin → World → Effect
-command_effect (command.Load id code) origin w =
-    directive_effect origin (directive.Load w.profile code) id w.records
-command_effect (command.Unload id) origin w = directive_effect origin directive.Unload id w.records
-command_effect (command.Activate id budget arguments) origin w =
-    directive_effect origin (directive.Activate budget arguments) id w.records
-command_effect (command.Stop id step) origin w =
-    directive_effect origin (directive.Stop step (next_origin origin w) (has_no_place w)) id
+command_effect request origin w =
+    effect_asked (directive_by request w.profile (next_origin origin w) (has_no_place w)) origin
     w.records
-command_effect (command.Suspend id step) origin w =
-    directive_effect origin (directive.Suspend step (next_origin origin w) (has_no_place w)) id
-    w.records
-command_effect (command.Resume id) origin w = directive_effect origin directive.Resume id w.records
-command_effect (command.Communicate id words) origin w =
-    directive_effect origin (directive.Communicate words) id w.records
-command_effect command.Status origin w =
-    start_effect origin (status_report w.records ∷ []) (Kept Unasked)
-command_effect (command.Abort id) origin w = directive_effect origin directive.Abort id w.records
 
 -- the request of a telecommand, under a profile
 unfoldable pub command_of : Profile → Telecommand → Result Command RequestFault

@@ -1,0 +1,56 @@
+//! What help says of a script. Nothing is proved of this text; `.ci/commands` compares it.
+
+/// The lines of a script with the verbs of `send`, and what the numbers of its transcript say: the
+/// text behind the options in the help of the command that runs one.
+pub const SCRIPT_HELP: &str = "Console lines:
+  send <flags> <verb> ..                  a request; flags are a sum: 1 acceptance, 2 start,
+                                          8 completion
+  up [<hex>]                              a packet from outside
+  time <seconds>                          sets the time of later reports
+  step <id> <n>                           does up to n instructions of a procedure
+  view <id>                               shows its status, place and registers
+  mem <id> 0x<digits> <length>            shows octets of its memory
+  break <id> <place>                      sets a breakpoint
+  unbreak <id> <place>                    clears it
+  trace <id> on, trace <id> off           whether its instructions are recorded
+  trace                                   shows the last 256 records
+  pool <index>                            shows a word of the pool
+  journal                                 shows how many events there were
+  drain                                   sends the reports of completions that wait
+  work <workers> <budget> <turns>         workers take turns of up to budget instructions
+  # ..                                    a comment
+
+Verbs of send:
+  load <id> [<hex>], unload <id>, activate <id> [<hex>], stop <id> <step>, suspend <id> <step>,
+  resume <id>, abort <id>, communicate <id> <number> .., status
+  With --profile 2: activate <id> <budget> [<hex>], where budget 0 is none
+
+Outcomes of step:
+  Ran, Called, Broke, Ended, Faulted <n>, NotLoaded, NotRunning, JournalFull
+
+Faults of a procedure:
+  1 AccessOutside, 2 WriteToArguments, 3 CallDepth, 4 BadPoolIndex, 5 BudgetSpent
+
+Codes of a failed acceptance (tm 1 2):
+  1 Segmented, 2 NoSecondary, 3 NoRoom, 4 Pec, 5 PusVersion, 6 Service, 7 Subtype, 8 Layout
+
+Codes of a failed start (tm 1 4):
+  16 AlreadyLoaded, 17 TableFull, 18 BadCode, 19 NotLoaded, 20 NotInactive, 21 NotActive,
+  22 NotRunning, 23 NotHeld, 24 StopPending, 25 MailboxFull, 27 OutboxFull
+
+Code of a failed completion (tm 1 8):
+  26 Overtaken
+
+Load faults, behind code 18:
+  1 EmptyCode, 2 RaggedCode, 3 TooLong, 4 CutWide, 5 UnknownOpcode, 6 BadRegister,
+  7 ReservedField, 8 WritesFramePointer, 9 BadCall, 10 BadTarget, 11 FallsOffEnd
+
+Fault lines of the script:
+  error <line> Syntax, error <line> LineTooLong, error 100001 TooManyLines
+
+Exit status:
+  0 done, 1 a fault line ends the output, 2 a mistake in the words, 3 a device, memory or the
+  workers failed
+
+Example: `echo journal | ocp run --pool 8` writes journal 0
+Manual: docs/MANUAL.md, section 4; Why Syntax?: 10";
