@@ -69,7 +69,8 @@ pub fn resolve_all<A: Allocator, B: Allocator>(
     let mut octets = Vec::new(alloc);
     for row in rows {
         let line = resolve(labels, row)?;
-        lines_are_in_range(line);
+        let copied = line;
+        lines_are_in_range(copied);
         let slots = encode(line);
         octets.extend_from_slice(slots.as_slice())?;
     }
