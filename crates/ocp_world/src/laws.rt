@@ -64,6 +64,7 @@ pub fn requests_keep_or_start_machines()
 }
 
 /// A drain empties the outbox, and leaves all procedures, the pool and the trace records.
+#[tactic(auto, using(crate::proofs::Lawful::drain_empties_outbox, crate::proofs::Lawful::drain_keeps_records, crate::proofs::Lawful::drain_keeps_pool, crate::proofs::Lawful::drain_keeps_traces))]
 pub fn a_drain_empties_the_outbox_alone()
     ensures outbox { (w : World) (by time : ℕ) → (after w (Drain by time)).world.outbox ≡ [] }
     ensures procedures { (w : World) (by time : ℕ) →
@@ -104,6 +105,7 @@ pub fn a_debugger_changes_breakpoints_and_trace_flags_alone()
 }
 
 /// Trace records are only ever appended, and by instructions alone.
+#[tactic(auto, using(crate::proofs::Lawful::traces_appended, crate::proofs::Lawful::request_keeps_traces, crate::proofs::Lawful::drain_keeps_traces))]
 pub fn trace_records_are_appended_by_instructions()
     ensures appended { (w : World) (es : List Event) →
         IsAppended w.traces (replay_from w es).traces }

@@ -6,6 +6,7 @@ ghost use Rattle.ocp_core.specs.Outbox.{EachStandsOnce, IsReportedOnceAtMost, Ea
 /// completion waits in the outbox, a drain has sent the report of its completion, or the end of a
 /// step matched it while its completion flag was off. There are 64 places for those that are
 /// pending or wait.
+#[tactic(auto, using(crate::proofs::Completions::each_stands_once, crate::proofs::Completions::places_suffice))]
 pub fn each_completion_stands_in_one_place()
     ensures place { EachStandsOnce }
     ensures room { PlacesSuffice }
