@@ -1,10 +1,10 @@
 //! Instructions among the octets of an image.
-ghost use Rattle.std.specs.Prelude.{◌≡◌, ◌≢◌, ◌≤◌, ◌<◌, ◌+◌, ◌*◌, ◌/◌, ◌%◌, ◌⊎◌, length, drop, take, IfOk, IfErr, IfSome, IfNone, Ok, Err, IsTrue, slice_index};
+ghost use Rattle.std.specs.Prelude.{◌≡◌, ◌≢◌, ◌≤◌, ◌<◌, ◌+◌, ◌*◌, ◌/◌, ◌%◌, ◌⊎◌, length, drop, take, IfOk, IfErr, IfSome, IfNone, Ok, Err, IsTrue, true, None, slice_index};
 ghost use Rattle.bpf_decode.specs.declared.fault.DecodeFault.{DecodeFault};
 ghost use Rattle.bpf_decode.specs.Mirror.Codes.{is_opcode};
 ghost use Rattle.bpf_types.specs.declared.line.Line.{Line};
 ghost use Rattle.bpf_types.specs.Line.{first_slot, second_slot, spelling, WritesFramePointer};
-ghost use Rattle.bpf_decode.specs.Mirror.Decoding.{raw_fields, high_in, wide_at, line_at, fields_in, permitted_line, spelling_in, decode_result};
+ghost use Rattle.bpf_decode.specs.Mirror.Decoding.{raw_fields, high_in, wide_at, line_at, line_found, fields_in, permitted_line, spelling_in, decode_result};
 ghost use Rattle.bpf_decode.specs.Decoding.{BeginsWith, HasBadRegister};
 ghost use Rattle.bpf_decode.specs.Faults.{IsFirst};
 
@@ -59,15 +59,37 @@ fn wide_of(fields: Fields, octets: &[u8]) -> Option<Line>
     })
 }
 
-/// The instruction of these fields, which are those of the octets' first slot.
-fn line_of(fields: Fields, octets: &[u8]) -> Option<Line>
-    requires { fields.opcode ≡ 0x18 → 16 ≤ length octets.now }
-    ensures { result ≡ line_at fields octets.now }
+/// The instruction that the octets begin with, if any.
+fn line_in(octets: &[u8]) -> Option<Line>
+    requires short { 8 ≤ length octets.now }
+    requires long { slice_index octets.now 0 ≡ 0x18 → 16 ≤ length octets.now }
+    ensures exact { result ≡ line_found octets.now }
+    ensures known { IfSome result (λ line. is_opcode (slice_index octets.now 0) ≡ true) }
 {
+    let fields = fields_at(octets)?;
     if fields.opcode == LDDW {
         wide_of(fields, octets)
     } else {
         short_of(&fields)
+    }
+}
+
+/// The first fault of octets that begin with no instruction.
+#[inline(never)]
+#[cold]
+#[tactic(auto, unfolding(crate::specs::Mirror::Decoding::decode_result))]
+fn fault_in(octets: &[u8]) -> DecodeFault
+    requires short { 8 ≤ length octets.now }
+    requires long { slice_index octets.now 0 ≡ 0x18 → 16 ≤ length octets.now }
+    requires none { line_found octets.now ≡ None }
+    ensures { decode_result octets.now ≡ Err result }
+{
+    if !is_known(octets[0]) {
+        DecodeFault::UnknownOpcode
+    } else if fields_at(octets).is_none() {
+        DecodeFault::BadRegister
+    } else {
+        DecodeFault::ReservedField
     }
 }
 
@@ -77,18 +99,13 @@ fn decode(octets: &[u8]) -> Result<Line, DecodeFault>
     requires { 8 ≤ length octets.now }
     ensures { result ≡ decode_result octets.now }
 {
-    let opcode = octets[0];
-    if opcode == LDDW && octets.len() < 16 {
+    if octets[0] == LDDW && octets.len() < 16 {
         return Err(DecodeFault::CutWide);
     }
-    if !is_known(opcode) {
-        return Err(DecodeFault::UnknownOpcode);
-    }
-    let fields = fields_at(octets).ok_or(DecodeFault::BadRegister)?;
-    match line_of(fields, octets) {
+    match line_in(octets) {
         Some(line) if line.writes_frame_pointer() => Err(DecodeFault::WritesFramePointer),
         Some(line) => Ok(line),
-        None => Err(DecodeFault::ReservedField),
+        None => Err(fault_in(octets)),
     }
 }
 

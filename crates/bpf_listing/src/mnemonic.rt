@@ -6,7 +6,7 @@ ghost use Rattle.bpf_listing.specs.Canonical.{width_name};
 ghost use Rattle.bpf_listing.specs.declared.mnemonic.Mnemonic.{Mnemonic};
 ghost use Rattle.bpf_listing.specs.declared.mnemonic.Stem.{Stem};
 ghost use Rattle.bpf_listing.specs.Mnemonics.{mnemonic_name};
-ghost use Rattle.bpf_listing.specs.Mirror.Reading.{stem_name, IsPlain};
+ghost use Rattle.bpf_listing.specs.Mirror.Reading.{stem_name, ending_of, IsPlain};
 ghost use Rattle.bpf_listing.specs.Mirror.Reading as words;
 
 use bpf_types::{Comparison, Operation, Order, SignedSize, Size, Width};
@@ -155,34 +155,44 @@ macro_rules! word {
     };
 }
 
-/// From a mnemonic to its word, in two parts.
+/// From a mnemonic to its word, without the class that it ends in, and this class.
 macro_rules! parts {
     ($value:expr, $([$($meaning:tt)*] $word:literal),*) => {
         match $value {
-            Mnemonic::Arithmetic(width, operation) => words_of(Stem::Arithmetic(operation), width),
-            Mnemonic::Negate(width) => words_of(Stem::Negate, width),
-            Mnemonic::MoveExtended(width) => words_of(Stem::MoveExtended, width),
-            Mnemonic::Jump(Jump::If(width, test)) => words_of(Stem::JumpIf(test), width),
-            $($($meaning)* => ($word, b""),)*
+            Mnemonic::Arithmetic(width, operation) => {
+                (word_of(Stem::Arithmetic(operation)), Some(width))
+            }
+            Mnemonic::Negate(width) => (word_of(Stem::Negate), Some(width)),
+            Mnemonic::MoveExtended(width) => (word_of(Stem::MoveExtended), Some(width)),
+            Mnemonic::Jump(Jump::If(width, test)) => (word_of(Stem::JumpIf(test)), Some(width)),
+            $($($meaning)* => ($word, None),)*
         }
     };
 }
 
-/// The words of a stem and a class.
+/// The word of a stem.
 #[inline(always)]
-fn words_of(stem: Stem, width: Width) -> (&'static [u8], &'static [u8])
-    ensures stem { result.0.now ≡ stem_name stem }
-    ensures width { result.1.now ≡ width_name width }
-    ensures len { (length result.0.now ≤ 5) × (length result.1.now ≤ 2) }
+fn word_of(stem: Stem) -> &'static [u8]
+    ensures stem { result.now ≡ stem_name stem }
+    ensures len { length result.now ≤ 5 }
 {
-    (stems!(word stem), widths!(word width))
+    stems!(word stem)
 }
 
-/// The word of a mnemonic, in two parts.
+/// The word of a class.
 #[inline(always)]
-pub(crate) fn parts_of(mnemonic: Mnemonic) -> (&'static [u8], &'static [u8])
-    ensures name { result.0.now ++ result.1.now ≡ mnemonic_name mnemonic }
-    ensures len { (length result.0.now ≤ 5) × (length result.1.now ≤ 2) }
+pub(crate) fn word_of_width(width: Width) -> &'static [u8]
+    ensures width { result.now ≡ width_name width }
+    ensures len { length result.now ≡ 2 }
+{
+    widths!(word width)
+}
+
+/// The word of a mnemonic, without the class that it ends in, and this class.
+#[inline(always)]
+pub(crate) fn parts_of(mnemonic: Mnemonic) -> (&'static [u8], Option<Width>)
+    ensures name { result.0.now ++ ending_of result.1 ≡ mnemonic_name mnemonic }
+    ensures len { length result.0.now ≤ 5 }
 {
     plain!(parts mnemonic)
 }

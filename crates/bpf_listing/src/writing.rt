@@ -3,7 +3,7 @@ ghost use Rattle.std.specs.Prelude.{◌≡◌, ◌++◌, ◌≤◌, ◌<◌, ◌
 ghost use Rattle.bpf_listing.specs.Mnemonics.{mnemonic_name};
 ghost use Rattle.bpf_listing.specs.Canonical.{canonical, operand_text, place_text, register};
 
-use crate::mnemonic::{Access, Jump, Mnemonic, parts_of};
+use crate::mnemonic::{Access, Jump, Mnemonic, parts_of, word_of_width};
 use crate::text::{MAX_TEXT_LENGTH, ROOM, Text};
 use bpf_types::{Line, Operand, Reg};
 use std::alloc::{AllocError, Allocator};
@@ -16,9 +16,11 @@ impl Text {
         ensures items { self.new ≡ mnemonic_name mnemonic }
         ensures len { length self.new ≤ 7 }
     {
-        let (first, second) = parts_of(mnemonic);
-        self.push_all(first);
-        self.push_all(second);
+        let (word, width) = parts_of(mnemonic);
+        self.push_all(word);
+        if let Some(width) = width {
+            self.push_all(word_of_width(width));
+        }
     }
 
     /// Appends a mnemonic, and the space behind it.
@@ -67,6 +69,7 @@ impl Text {
     }
 
     /// Appends the canonical text of an instruction to the empty text.
+    #[inline(always)]
     pub(crate) fn push_line(&mut self, line: &Line)
         requires { self.old ≡ [] }
         ensures items { self.new ≡ canonical line.now }

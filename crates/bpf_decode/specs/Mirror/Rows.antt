@@ -33,6 +33,12 @@ abbrev pub swap_width_at : ℤ → Option SwapWidth
 swap_width_at (pos bits) = swap_width_of bits
 swap_width_at (negsuc n) = None
 
+-- arithmetic with two operands (RFC 9669, section 4.1)
+abbrev pub binary_at : Width → Fields → Option Line
+binary_at width f =
+    operation_at (f.opcode / 16) f.offset
+    >>= λ operation. Some (line.Arithmetic width operation f.dst (operand_at f))
+
 -- the classes ALU and ALU64 (RFC 9669, sections 4.1 and 4.2)
 abbrev pub arithmetic_at : Width → Fields → Option Line
 arithmetic_at width f = let code = f.opcode / 16 in
@@ -42,8 +48,7 @@ arithmetic_at width f = let code = f.opcode / 16 in
     else if code == 13
     then (order_at f.opcode >>= λ order. swap_width_at f.imm
     >>= λ width. Some (line.ByteOrder order width f.dst))
-    else (operation_at code f.offset
-    >>= λ operation. Some (line.Arithmetic width operation f.dst (operand_at f)))
+    else binary_at width f
 
 -- the classes JMP and JMP32 (RFC 9669, section 4.3)
 abbrev pub jump_at : Width → Fields → Option Line
@@ -84,6 +89,14 @@ abbrev pub is_same_at : Fields → Fields → Bool
 is_same_at f g = (f.opcode == g.opcode) && (f.dst == g.dst) && (f.src == g.src)
     && int_eq f.offset g.offset && int_eq f.imm g.imm
 
+-- the instruction, where these fields spell it
+abbrev pub spelled_at : Fields → Line → Option Line
+spelled_at f l = if is_same_at (first_slot l) f then Some l else None
+
+-- the same of an instruction that may not be there
+abbrev pub spelled_of : Fields → Option Line → Option Line
+spelled_of f o = o >>= spelled_at f
+
 -- the instruction of one slot that these fields spell
 abbrev pub short_at : Fields → Option Line
-short_at f = row_at f >>= λ l. if is_same_at (first_slot l) f then Some l else None
+short_at f = spelled_of f (row_at f)

@@ -1,6 +1,6 @@
 -- What is read of an instruction's text before the text is compared with the canonical one: its
 -- first word, and the first three numbers behind it.
-use Rattle.std.specs.Prelude.{◌≡◌, ◌≢◌, ℕ, ◌+◌, ◌-◌, ◌*◌, ◌%◌, ◌^◌, ℤ, pos, negsuc, unsigned_abs, Bool, true, false, ◌&&◌, nat_lt, nat_le, ◌==◌, if◌then◌else◌, List, [], ◌∷◌, codes, length, drop, slice_index, slice_set}
+use Rattle.std.specs.Prelude.{◌≡◌, ◌≢◌, ℕ, ◌+◌, ◌-◌, ◌*◌, ◌%◌, ◌^◌, ℤ, pos, negsuc, unsigned_abs, Bool, true, false, ◌&&◌, nat_lt, nat_le, ◌==◌, if◌then◌else◌, List, [], ◌∷◌, codes, length, drop, slice_index, slice_set, Option, Some, None}
 use Rattle.bpf_types.specs.declared.line.Line.{Line}
 use Rattle.bpf_types.specs.declared.line.Line.TheVariants as line
 use Rattle.bpf_types.specs.declared.line.Operand.{Operand}
@@ -15,7 +15,7 @@ use Rattle.bpf_listing.specs.declared.mnemonic.Stem.{Stem}
 use Rattle.bpf_listing.specs.declared.mnemonic.Stem.TheVariants as stem
 use Rattle.bpf_listing.specs.declared.scan.Field.{Field}
 use Rattle.bpf_listing.specs.declared.scan.Scan.{Scan}
-use Rattle.bpf_listing.specs.Canonical.{operation_name, comparison_name, hex_digits}
+use Rattle.bpf_listing.specs.Canonical.{operation_name, comparison_name, width_name, hex_digits}
 
 -- a mnemonic without its class
 abbrev pub stem_name : Stem → List ℕ
@@ -23,6 +23,11 @@ stem_name (stem.Arithmetic operation) = operation_name operation
 stem_name (stem.JumpIf comparison) = comparison_name comparison
 stem_name stem.Negate = codes "neg"
 stem_name stem.MoveExtended = codes "movsx"
+
+-- the class that a mnemonic ends in, where it has one
+abbrev pub ending_of : Option Width → List ℕ
+ending_of (Some width) = width_name width
+ending_of None = []
 
 -- the mnemonic of a stem and a class
 abbrev pub mnemonic_of_stem : Stem → Width → Mnemonic
