@@ -59,16 +59,16 @@ fn write_lines<A: Allocator>(code: &[u8], out: &mut Vec<u8, A>) -> Result<u128, 
     let mut slot = 0;
     let mut len = 0;
     while slot < slots {
-        match &decode_at(code, slot) {
+        match decode_at(code, slot) {
             Ok(line) => {
                 let mut text = Text::new();
-                text.push_line(line);
+                text.push_line(&line);
                 text.push_all(b"\n");
                 push_within(out, text.as_slice());
                 len += text.as_slice().len() as u128;
                 slot += usize::from(line.slots());
             }
-            Err(fault) => return Err(DisassembleFault::Decode(*fault, slot)),
+            Err(fault) => return Err(DisassembleFault::Decode(fault, slot)),
         }
     }
     Ok(len)
