@@ -77,14 +77,11 @@ fn arithmetic_of(width: Width, fields: &Fields) -> Option<Line>
                 src: fields.src,
             },
         ),
-        END => spelled(
-            fields,
-            Line::ByteOrder {
-                order: order_of(fields.opcode)?,
-                width: SwapWidth::new(u64::try_from(fields.imm).ok()?)?,
-                dst,
-            },
-        ),
+        END => {
+            let order = order_of(fields.opcode)?;
+            let width = SwapWidth::new(u64::try_from(fields.imm).ok()?)?;
+            spelled(fields, Line::ByteOrder { order, width, dst })
+        }
         _ => binary_of(width, fields),
     }
 }

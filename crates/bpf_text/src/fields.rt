@@ -5,7 +5,7 @@ ghost use Rattle.std.specs.Int.{w16, w32};
 ghost use Rattle.bpf_types.specs.Line.{IsReg, IsOperand, swap_width_bits};
 ghost use Rattle.bpf_text.specs.Number.{IsNumeral};
 ghost use Rattle.bpf_text.specs.Tokens.{AllWord};
-ghost use Rattle.bpf_text.specs.Fields.{IsRegister, IsInteger, IsImmediate, IsSecond, IsDistance, IsFirst, IsName, IsTarget, as_signed};
+ghost use Rattle.bpf_text.specs.Fields.{IsRegister, IsInteger, IsImmediate, IsSecond, IsDistance, IsName, IsTarget, as_signed};
 ghost use Rattle.bpf_text.specs.Mirror.Gives.{Gives, IsWide, bits_in, HasExtension, HasSwapWidth};
 ghost use Rattle.bpf_text.specs.Judged.{target_of};
 
@@ -129,12 +129,6 @@ pub fn swap_width(token: &[u8]) -> Result<SwapWidth, LineFault>
     SwapWidth::new(numeral(token)?).ok_or(LineFault::Range)
 }
 
-fn is_first_octet(octet: u8) -> bool
-    ensures { IsTrue result ↔ IsFirst octet }
-{
-    is_word_octet(octet) && !octet.is_ascii_digit()
-}
-
 fn all_word(octets: &[u8]) -> bool
     ensures { IsTrue result ↔ AllWord octets.now }
 {
@@ -146,7 +140,7 @@ pub fn is_name(token: &[u8]) -> bool
     ensures { IsTrue result ↔ IsName token.now }
 {
     match token {
-        [] => false,
-        [first, rest @ ..] => is_first_octet(*first) && rest.len() < 32 && all_word(rest),
+        [] | [b'0'..=b'9', ..] => false,
+        [first, rest @ ..] => is_word_octet(*first) && rest.len() < 32 && all_word(rest),
     }
 }
