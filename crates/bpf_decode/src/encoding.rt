@@ -2,6 +2,7 @@
 ghost use Rattle.std.specs.Prelude.{◌≡◌, ◌*◌, ◌+◌, ◌%◌, ◌^◌, ◌≤◌, ℕ, List, length, take};
 ghost use Rattle.std.specs.Int.{w32, cast_signed};
 ghost use Rattle.bpf_types.specs.Line.{first_slot, second_slot, spelling, Spells, slot_octets};
+ghost use Rattle.bpf_decode.specs.Mirror.Codes.{slot_with};
 
 use crate::codes::{
     CALL, EXIT, JA, JA32, LDDW, NEG, class_of_arithmetic, class_of_jumps, code_of_comparison,
@@ -48,13 +49,7 @@ fn octets_of(fields: Fields) -> [u8; 8]
 /// The fields of a slot, in their order.
 #[inline(always)]
 fn row(opcode: u8, dst: Reg, src: Reg, offset: i16, imm: i32) -> Fields
-    ensures { result ≡ record {
-      opcode = opcode;
-      dst = dst;
-      src = src;
-      offset = offset;
-      imm = imm;
-    } }
+    ensures { result ≡ slot_with opcode dst src offset imm }
 {
     Fields {
         opcode,

@@ -159,9 +159,7 @@ macro_rules! word {
 macro_rules! parts {
     ($value:expr, $([$($meaning:tt)*] $word:literal),*) => {
         match $value {
-            Mnemonic::Arithmetic(width, operation) => {
-                (word_of(Stem::Arithmetic(operation)), Some(width))
-            }
+            Mnemonic::Arithmetic(width, by) => (word_of(Stem::Arithmetic(by)), Some(width)),
             Mnemonic::Negate(width) => (word_of(Stem::Negate), Some(width)),
             Mnemonic::MoveExtended(width) => (word_of(Stem::MoveExtended), Some(width)),
             Mnemonic::Jump(Jump::If(width, test)) => (word_of(Stem::JumpIf(test)), Some(width)),

@@ -2,12 +2,18 @@
 use Rattle.std.specs.Prelude.{ℕ, ◌/◌, ◌%◌, ℤ, pos, List, [], ◌∷◌, Bool, ◌&&◌, ◌||◌, ◌==◌, if◌then◌else◌, Option, Some, None}
 use Rattle.std.specs.Option.{is_some}
 use Rattle.std.specs.Ordering.{int_eq}
+use Rattle.bpf_types.specs.declared.line.Fields.{Fields}
 use Rattle.bpf_types.specs.declared.line.Operation.{Operation}
 use Rattle.bpf_types.specs.declared.line.Comparison.{Comparison}
 use Rattle.bpf_types.specs.declared.line.Order.{Order}
 use Rattle.bpf_types.specs.declared.line.Size.{Size}
 use Rattle.bpf_types.specs.declared.line.SignedSize.{SignedSize}
 use Rattle.bpf_types.specs.Line.{operations, code_of, offset_of, comparisons, comparison_code, orders, order_opcode, sizes, size_code, signed_sizes, signed_size_code}
+
+-- the fields of a slot, in their order
+abbrev pub slot_with : ℕ → ℕ → ℕ → ℤ → ℤ → Fields
+slot_with opcode dst src offset imm =
+    record { opcode = opcode; dst = dst; src = src; offset = offset; imm = imm }
 
 -- the first element that passes a test
 abbrev pub first : {A : Type 0} → (A → Bool) → List A → Option A
