@@ -1,7 +1,6 @@
 //! The first pass: the lines, their labels and their instructions.
 
 ghost use Rattle.std.specs.Prelude.{◌≡◌, ◌<◌, ◌≤◌, ◌+◌, ◌*◌, ◌++◌, ◌^◌, List, [], map, OnOk, IfOk, IfErr};
-ghost use Rattle.bpf_types.specs.Line.{slots_in};
 ghost use Rattle.bpf_text.specs.Lines.{TextLine};
 ghost use Rattle.bpf_text.specs.Judged.{text_of, statement_of};
 ghost use Rattle.bpf_assembler.specs.Text.{end_of, slots, entry_of};
@@ -44,19 +43,17 @@ fn put_row<'a, A: Allocator>(
         (λ next. (next ≡ place + slots (statement_of body.now)) × (next ≤ place + 2)) }
     ensures err { IfErr result (λ e. e ≡ AsmFault.Memory) }
 {
-    match body {
-        None => Ok(place),
-        Some(source) => {
-            let row = Row {
-                number,
-                place,
-                line: source.line,
-                name: source.name,
-            };
-            rows.extend_from_slice(&[row])?;
-            Ok(place + u64::from(source.line.slots()))
-        }
-    }
+    let Some(source) = body else {
+        return Ok(place);
+    };
+    let row = Row {
+        number,
+        place,
+        line: source.line,
+        name: source.name,
+    };
+    rows.extend_from_slice(&[row])?;
+    Ok(place + u64::from(source.line.slots()))
 }
 
 /// Takes one more line.

@@ -1,8 +1,7 @@
 //! The second pass: the octets of the instructions, with the distances of the labels that they
 //! name.
 
-ghost use Rattle.std.specs.Prelude.{◌≡◌, List, map, MatchOption, FitsSigned};
-ghost use Rattle.std.specs.Int.{w16, w32};
+ghost use Rattle.std.specs.Prelude.{◌≡◌, List, map, MatchOption};
 ghost use Rattle.bpf_types.specs.Line.{IsLine};
 ghost use Rattle.bpf_text.specs.Lines.{TextLine};
 ghost use Rattle.bpf_assembler.specs.Text.{with_distance};

@@ -1,7 +1,7 @@
 //! The octets of an instruction.
 ghost use Rattle.std.specs.Prelude.{◌≡◌, ◌*◌, ◌+◌, ◌%◌, ◌^◌, ◌≤◌, ℕ, List, length, take};
 ghost use Rattle.std.specs.Int.{w32, cast_signed};
-ghost use Rattle.bpf_types.specs.Line.{first_slot, second_slot, spelling, Spells, slot_octets};
+ghost use Rattle.bpf_types.specs.Line.{first_slot, spelling, Spells, slot_octets};
 ghost use Rattle.bpf_decode.specs.Mirror.Codes.{slot_with};
 
 use crate::codes::{
@@ -146,8 +146,7 @@ pub fn first_fields(line: &Line) -> Fields
     }
 }
 
-/// The octets that spell an instruction: 16 of a wide load, and 8 of any other (RFC 9669, section
-/// 3).
+/// The octets that spell an instruction (RFC 9669, section 3): 16 of a wide load, 8 of any other.
 pub fn encode(line: Line) -> Slots
     ensures spelling { result ≡ spelling line }
     ensures spelled { Spells result line }

@@ -1,6 +1,6 @@
 //! The rows of the instruction table: the one instruction that the fields of a slot spell.
 ghost use Rattle.std.specs.Prelude.{◌≡◌};
-ghost use Rattle.bpf_decode.specs.Mirror.Rows.{operand_at, binary_at, arithmetic_at, jump_at, load_at, is_same_at, spelled_at, spelled_of, short_at};
+ghost use Rattle.bpf_decode.specs.Mirror.Rows.{operand_at, binary_at, arithmetic_at, jump_at, load_at, is_same_at, spelled_line, spelled_line_of, short_at};
 
 use crate::codes::{
     CALL, END, EXIT, JA, JA32, MOV, NEG, comparison_of, operation_of, order_of, signed_size_of,
@@ -23,8 +23,8 @@ fn is_same(a: &Fields, b: &Fields) -> bool
 
 /// The instruction, where these fields spell it: each field that it does not name is zero.
 #[inline(always)]
-fn spelled(fields: &Fields, line: Line) -> Option<Line>
-    ensures { result ≡ spelled_at fields.now line }
+fn spelled_line(fields: &Fields, line: Line) -> Option<Line>
+    ensures { result ≡ spelled_line fields.now line }
 {
     if is_same(&first_fields(&line), fields) {
         Some(line)
@@ -48,9 +48,9 @@ fn operand_of(fields: &Fields) -> Operand
 /// Arithmetic with two operands.
 #[inline(always)]
 fn binary_of(width: Width, fields: &Fields) -> Option<Line>
-    ensures { result ≡ spelled_of fields.now (binary_at width fields.now) }
+    ensures { result ≡ spelled_line_of fields.now (binary_at width fields.now) }
 {
-    spelled(
+    spelled_line(
         fields,
         Line::Arithmetic {
             width,
@@ -64,12 +64,12 @@ fn binary_of(width: Width, fields: &Fields) -> Option<Line>
 /// The rows of the classes ALU and ALU64.
 #[inline(always)]
 fn arithmetic_of(width: Width, fields: &Fields) -> Option<Line>
-    ensures { result ≡ spelled_of fields.now (arithmetic_at width fields.now) }
+    ensures { result ≡ spelled_line_of fields.now (arithmetic_at width fields.now) }
 {
     let dst = fields.dst;
     match fields.opcode / 16 {
-        NEG => spelled(fields, Line::Negate { width, dst }),
-        MOV if fields.offset != 0 => spelled(
+        NEG => spelled_line(fields, Line::Negate { width, dst }),
+        MOV if fields.offset != 0 => spelled_line(
             fields,
             Line::MoveExtended {
                 extension: Extension::new(width, u64::try_from(fields.offset).ok()?)?,
@@ -80,7 +80,7 @@ fn arithmetic_of(width: Width, fields: &Fields) -> Option<Line>
         END => {
             let order = order_of(fields.opcode)?;
             let width = SwapWidth::new(u64::try_from(fields.imm).ok()?)?;
-            spelled(fields, Line::ByteOrder { order, width, dst })
+            spelled_line(fields, Line::ByteOrder { order, width, dst })
         }
         _ => binary_of(width, fields),
     }
@@ -89,16 +89,16 @@ fn arithmetic_of(width: Width, fields: &Fields) -> Option<Line>
 /// The rows of the classes JMP and JMP32.
 #[inline(always)]
 fn jump_of(width: Width, fields: &Fields) -> Option<Line>
-    ensures { result ≡ spelled_of fields.now (jump_at width fields.now) }
+    ensures { result ≡ spelled_line_of fields.now (jump_at width fields.now) }
 {
     let Fields { offset, imm, .. } = *fields;
     match fields.opcode {
-        JA => spelled(fields, Line::Jump { distance: offset }),
-        JA32 => spelled(fields, Line::LongJump { distance: imm }),
-        CALL if fields.src.number() == 0 => spelled(fields, Line::Call { number: imm }),
-        CALL => spelled(fields, Line::CallLocal { distance: imm }),
-        EXIT => spelled(fields, Line::Exit),
-        opcode => spelled(
+        JA => spelled_line(fields, Line::Jump { distance: offset }),
+        JA32 => spelled_line(fields, Line::LongJump { distance: imm }),
+        CALL if fields.src.number() == 0 => spelled_line(fields, Line::Call { number: imm }),
+        CALL => spelled_line(fields, Line::CallLocal { distance: imm }),
+        EXIT => spelled_line(fields, Line::Exit),
+        opcode => spelled_line(
             fields,
             Line::JumpIf {
                 width,
@@ -114,11 +114,11 @@ fn jump_of(width: Width, fields: &Fields) -> Option<Line>
 /// The rows of the class LDX.
 #[inline(always)]
 fn load_of(fields: &Fields) -> Option<Line>
-    ensures { result ≡ spelled_of fields.now (load_at fields.now) }
+    ensures { result ≡ spelled_line_of fields.now (load_at fields.now) }
 {
     let size = fields.opcode / 8 % 4;
     if fields.opcode / 32 == 3 {
-        spelled(
+        spelled_line(
             fields,
             Line::Load {
                 size: size_of(size)?,
@@ -128,7 +128,7 @@ fn load_of(fields: &Fields) -> Option<Line>
             },
         )
     } else {
-        spelled(
+        spelled_line(
             fields,
             Line::LoadExtended {
                 size: signed_size_of(size)?,
@@ -146,7 +146,7 @@ pub fn short_of(fields: &Fields) -> Option<Line>
 {
     match fields.opcode % 8 {
         1 => load_of(fields),
-        2 => spelled(
+        2 => spelled_line(
             fields,
             Line::StoreImmediate {
                 size: size_of(fields.opcode / 8 % 4)?,
@@ -155,7 +155,7 @@ pub fn short_of(fields: &Fields) -> Option<Line>
                 value: fields.imm,
             },
         ),
-        3 => spelled(
+        3 => spelled_line(
             fields,
             Line::Store {
                 size: size_of(fields.opcode / 8 % 4)?,

@@ -1,11 +1,11 @@
 //! Instructions among the octets of an image.
-ghost use Rattle.std.specs.Prelude.{◌≡◌, ◌≢◌, ◌≤◌, ◌<◌, ◌+◌, ◌*◌, ◌/◌, ◌%◌, ◌⊎◌, length, drop, take, IfOk, IfErr, IfSome, IfNone, Ok, Err, IsTrue, true, None, slice_index};
+ghost use Rattle.std.specs.Prelude.{◌≡◌, ◌≤◌, ◌<◌, ◌+◌, ◌*◌, ◌/◌, ◌%◌, length, drop, IfOk, IfErr, IfSome, Ok, Err, true, None, slice_index};
 ghost use Rattle.bpf_decode.specs.declared.fault.DecodeFault.{DecodeFault};
 ghost use Rattle.bpf_decode.specs.Mirror.Codes.{is_opcode};
 ghost use Rattle.bpf_types.specs.declared.line.Line.{Line};
-ghost use Rattle.bpf_types.specs.Line.{first_slot, second_slot, spelling, WritesFramePointer};
-ghost use Rattle.bpf_decode.specs.Mirror.Decoding.{raw_fields, high_in, wide_at, line_at, line_found, fields_in, permitted_line, spelling_in, decode_result};
-ghost use Rattle.bpf_decode.specs.Decoding.{BeginsWith, HasBadRegister};
+ghost use Rattle.bpf_types.specs.Line.{WritesFramePointer};
+ghost use Rattle.bpf_decode.specs.Mirror.Decoding.{high_in, wide_at, line_found, fields_in, decode_result};
+ghost use Rattle.bpf_decode.specs.Decoding.{BeginsWith};
 ghost use Rattle.bpf_decode.specs.Faults.{IsFirst};
 
 use crate::codes::{LDDW, is_known};

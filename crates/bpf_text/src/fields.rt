@@ -1,8 +1,8 @@
 //! Registers, numbers and names in an instruction's text, each from its token.
 
-ghost use Rattle.std.specs.Prelude.{◌≡◌, ◌<◌, ◌^◌, ◌-ℤ◌, ◌<ℤ◌, ◌↔◌, ℕ, pos, IfSome, IfNone, FitsSigned, IsTrue};
+ghost use Rattle.std.specs.Prelude.{◌≡◌, ◌<◌, ◌↔◌, ℕ, IfSome, IfNone, FitsSigned, IsTrue};
 ghost use Rattle.std.specs.Int.{w16, w32};
-ghost use Rattle.bpf_types.specs.Line.{IsReg, IsOperand, swap_width_bits};
+ghost use Rattle.bpf_types.specs.Line.{IsOperand, swap_width_bits};
 ghost use Rattle.bpf_text.specs.Number.{IsNumeral};
 ghost use Rattle.bpf_text.specs.Tokens.{AllWord};
 ghost use Rattle.bpf_text.specs.Fields.{IsRegister, IsInteger, IsImmediate, IsSecond, IsDistance, IsName, IsTarget, as_signed};

@@ -1,7 +1,7 @@
 //! Numbers in assembly text.
 
-ghost use Rattle.std.specs.Prelude.{◌≡◌, ◌<◌, ◌≤◌, ◌^◌, ℕ, IfSome, IfNone, min};
-ghost use Rattle.bpf_text.specs.Number.{digit, number_in, Spells, IsNumeral};
+ghost use Rattle.std.specs.Prelude.{◌<◌, ◌≤◌, ◌^◌, min};
+ghost use Rattle.bpf_text.specs.Number.{digit, Spells, IsNumeral};
 ghost use Rattle.bpf_text.specs.Mirror.Gives.{Gives};
 
 use crate::line::LineFault;

@@ -1,6 +1,6 @@
 //! The octets and words that a request carries, in their ranges.
 
-ghost use Rattle.std.specs.Prelude.{◌≡◌, ◌≤◌, ◌↔◌, [], length, IfSome, IsSome};
+ghost use Rattle.std.specs.Prelude.{◌≡◌, ◌≤◌, ◌↔◌, length, IfSome, IsSome};
 
 use arrayvec::ArrayVec;
 use std::marker::Model;

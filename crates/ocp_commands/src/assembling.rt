@@ -6,8 +6,7 @@ ghost use Rattle.bpf_assembler.specs.Faults.{IsFault};
 ghost use Rattle.bpf_assembler.specs.Assembling.{IsImageOfText};
 ghost use Rattle.ocp_ports.specs.Reading.{max_input, IsShort, ReadsWhile};
 ghost use Rattle.ocp_commands.specs.Commands.{Writes, IsMachineFault};
-ghost use Rattle.ocp_ports.specs.Printing.{error_line};
-ghost use Rattle.ocp_commands.specs.Assembly.{image_line, why_name, IsTooLong, HasImageLine, HasFaultLine, Assembles};
+ghost use Rattle.ocp_commands.specs.Assembly.{image_line, why_name, Assembles};
 
 use crate::output::{Output, write_output};
 use bpf_assembler::{AsmFault, Why, assemble};

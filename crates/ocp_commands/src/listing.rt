@@ -1,7 +1,7 @@
 //! The command `list`.
 
-ghost use Rattle.std.specs.Prelude.{◌≡◌, List, ℕ, ◌<◌, ◌-◌, ◌^◌, ◌↔◌, length, IfOk, IfErr, IfSome, IsErrOf, string_bytes};
-ghost use Rattle.ocp_ports.specs.Reading.{max_input, IsShort, ReadsWhile};
+ghost use Rattle.std.specs.Prelude.{◌≡◌, List, ℕ, ◌<◌, ◌-◌, ◌^◌, ◌↔◌, IfOk, IfErr, IfSome, IsErrOf, string_bytes};
+ghost use Rattle.ocp_ports.specs.Reading.{IsShort, ReadsWhile};
 ghost use Rattle.ocp_commands.specs.Commands.{Writes, IsMachineFault};
 ghost use Rattle.ocp_commands.specs.Listings.{is_blank, digits_of, decode_number, list_fault_line, HasImage, HasListFault, Lists};
 

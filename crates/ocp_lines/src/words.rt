@@ -1,10 +1,10 @@
 //! The words of a line, and what they say.
 
-ghost use Rattle.std.specs.Prelude.{◌≡◌, ◌<◌, ◌≤◌, ◌^◌, ◌-◌, ◌∷◌, [], length, true, false, take, drop, slice_index, IfOk, OnErr, IfSome, IfNone, MatchOption, IsTrue, ◌↔◌, ◌≢◌, ◌⊎◌};
+ghost use Rattle.std.specs.Prelude.{◌≡◌, ◌<◌, ◌≤◌, ◌-◌, ◌/◌, ◌∷◌, [], length, vec_capacity, true, take, slice_index, IfOk, OnErr, IfSome, IfNone, MatchOption, IsTrue, ◌↔◌, ◌≢◌, ◌⊎◌};
 ghost use Rattle.std.specs.List.{list_all};
 ghost use Rattle.std.specs.Option.{option_map};
 ghost use Rattle.hex.specs.Hex.{hex_digit_value};
-ghost use Rattle.ocp_lines.specs.Words.{words_of, is_solid, number_up_to, octets_up_to, value_of, hexadecimal, address_in};
+ghost use Rattle.ocp_lines.specs.Words.{words_of, is_solid, number_up_to, octets_up_to, hexadecimal, address_in};
 ghost use Rattle.ocp_lines.specs.Grammar.{short, long, id_in, two_shorts, word_or_none};
 
 use memchr::memchr;
@@ -222,7 +222,7 @@ fn octets<'a, A: Allocator>(
 ) -> Result<Option<&'a [u8]>, AllocError>
     ensures octets { IfOk result
         (λ octets. option_map (λ octets. octets.now) octets ≡ octets_up_to most word.now) }
-    ensures memory { OnErr result (word.now ≢ []) }
+    ensures memory { OnErr result (vec_capacity scratch.old < length word.now / 2) }
 {
     if word.len() / 2 > most {
         return Ok(None);

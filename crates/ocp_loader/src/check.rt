@@ -1,5 +1,5 @@
 //! Where the lines of an image lead to.
-ghost use Rattle.std.specs.Prelude.{◌≡◌, ◌≤◌, ◌<◌, ◌-◌, length, pos, ◌+ℤ◌, Some, None};
+ghost use Rattle.std.specs.Prelude.{◌≡◌, ◌≤◌, ◌<◌, ◌-◌, length, Some, None};
 ghost use Rattle.ocp_loader.specs.Image.{line_in, target_of, is_last};
 ghost use Rattle.ocp_loader.specs.Mirror.Checks.{is_place, has_valid_target, first_bad_target, end_fault, lines_fault};
 

@@ -1,6 +1,6 @@
 //! Readers and writers of std, with a count of the calls that failed.
 
-ghost use Rattle.std.specs.Prelude.{◌≡◌, ◌<◌, ◌^◌, ◌-◌};
+ghost use Rattle.std.specs.Prelude.{◌<◌, ◌-◌};
 
 use crate::ports::{Sink, Source};
 use std::io::{Read, Write};

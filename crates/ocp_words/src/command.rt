@@ -1,6 +1,6 @@
 //! The commands that there are.
 
-ghost use Rattle.std.specs.Prelude.{◌≡◌, ℕ, IfOk, codes, pos, false};
+ghost use Rattle.std.specs.Prelude.{◌≡◌, ℕ, IfOk, pos, false};
 ghost use Rattle.clap.specs.Words.{app_of, rule_of, new_app};
 ghost use Rattle.clap.specs.declared.builder.command.Command.TheViews.{out-Command};
 ghost use Rattle.clap.specs.declared.builder.value_parser.ValueParser.TheVariants.{Signed};

@@ -1,6 +1,6 @@
 //! The error control: the remainder of a division of polynomials.
 
-ghost use Rattle.std.specs.Prelude.{◌≡◌, ◌<◌, ◌+◌, ◌*◌, ◌^◌, ℕ, [], ◌∷◌, ◌++◌, List, Bool, true, false};
+ghost use Rattle.std.specs.Prelude.{◌≡◌, ◌<◌, ◌+◌, ◌*◌, ◌^◌, ℕ, [], ◌++◌, List, Bool};
 ghost use Rattle.pus_fields.specs.ErrorControl.{IsErrorControl, IsRemainder, error_control, bits, octet_bits, zeros as no_bits};
 ghost use Rattle.pus_fields.specs.Mirror.Register.{dividend, shifted_bits, shifts};
 

@@ -1,6 +1,6 @@
 //! Why a packet is rejected.
 
-ghost use Rattle.std.specs.Prelude.{◌≡◌, ◌≤◌, ◌↔◌, ◌==◌, IsTrue, MatchOption, length, true};
+ghost use Rattle.std.specs.Prelude.{◌≡◌, ◌≤◌, ◌↔◌, ◌==◌, IsTrue, MatchOption, length};
 ghost use Rattle.pus_fields.specs.ErrorControl.{error_control};
 ghost use Rattle.pus_fields.specs.Rejections.{HasErrorControl, IsRejected, IsSound, covered_octets, last_two, rejection_of};
 

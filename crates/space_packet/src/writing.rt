@@ -1,6 +1,6 @@
 //! Writing a packet.
 
-ghost use Rattle.std.specs.Prelude.{◌≡◌, ◌<◌, ◌≤◌, ◌+◌, ◌*◌, ◌^◌, ◌↔◌, ℕ, List, [], ◌++◌, length, OnOk, OnErr, IsErrOf, vec_len, vec_capacity};
+ghost use Rattle.std.specs.Prelude.{◌≡◌, ◌<◌, ◌≤◌, ◌+◌, ◌*◌, ◌↔◌, ℕ, List, [], ◌++◌, length, OnOk, OnErr, IsErrOf, vec_len, vec_capacity};
 ghost use Rattle.space_packet.specs.Packet.{IsPacket, packet_octets};
 
 use crate::fault::WriteFault;

@@ -1,6 +1,6 @@
 //! Pairs of hexadecimal digits, as octets.
 
-ghost use Rattle.std.specs.Prelude.{◌≡◌, ◌≢◌, ◌*◌, [], Ok, Some, length, IfOk, OnErr, true};
+ghost use Rattle.std.specs.Prelude.{◌≡◌, ◌<◌, ◌*◌, ◌/◌, Ok, Some, length, IfOk, OnErr, true, vec_capacity};
 ghost use Rattle.std.specs.List.{AllPass, list_all};
 ghost use Rattle.std.specs.Option.{option_map};
 ghost use Rattle.std.specs.Result.{result_ok};
@@ -51,14 +51,15 @@ fn write_octets(digits: &[u8], octets: &mut [u8])
 }
 
 /// The octets that pairs of digits of both cases say, or none where the text has an odd number of
-/// octets or one that is no digit. They stand in the given vector, in place of what it has.
+/// octets or one that is no digit. They stand in the given vector, in place of what it has. Memory
+/// is refused only where they do not fit into the capacity that it has.
 pub fn octets_of<'a, A: Allocator>(
     place: &'a mut Vec<u8, A>,
     digits: &[u8],
 ) -> Result<Option<&'a [u8]>, AllocError>
     ensures octets { IfOk result
         (λ octets. option_map (λ octets. octets.now) octets ≡ result_ok (decode_of digits.now)) }
-    ensures memory { OnErr result (digits.now ≢ []) }
+    ensures memory { OnErr result (vec_capacity place.old < length digits.now / 2) }
 {
     if digits.len() % 2 != 0 || !are_digits(digits) {
         return Ok(None);

@@ -90,13 +90,13 @@ is_same_at f g = (f.opcode == g.opcode) && (f.dst == g.dst) && (f.src == g.src)
     && int_eq f.offset g.offset && int_eq f.imm g.imm
 
 -- the instruction, where these fields spell it
-abbrev pub spelled_at : Fields → Line → Option Line
-spelled_at f l = if is_same_at (first_slot l) f then Some l else None
+abbrev pub spelled_line : Fields → Line → Option Line
+spelled_line f l = if is_same_at (first_slot l) f then Some l else None
 
 -- the same of an instruction that may not be there
-abbrev pub spelled_of : Fields → Option Line → Option Line
-spelled_of f o = o >>= spelled_at f
+abbrev pub spelled_line_of : Fields → Option Line → Option Line
+spelled_line_of f o = o >>= spelled_line f
 
 -- the instruction of one slot that these fields spell
 abbrev pub short_at : Fields → Option Line
-short_at f = spelled_of f (row_at f)
+short_at f = spelled_line_of f (row_at f)
