@@ -1,5 +1,4 @@
 pub mod Machine
-pub mod Access
 pub mod Calls
 pub mod Step
 pub mod Runs

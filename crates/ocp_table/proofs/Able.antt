@@ -12,9 +12,9 @@ use Rattle.bpf_step.specs.declared.answer.Local.TheVariants as local
 use Rattle.bpf_step.specs.declared.answer.Need.{Need}
 use Rattle.bpf_step.specs.declared.answer.Need.TheVariants as need
 use Rattle.bpf_step.specs.Machine.{State, Outcome, Next, Needs, NoInstruction, read}
-use Rattle.bpf_step.specs.Access.{loads, stores}
+use Rattle.bpf_moves.specs.Moves.{loads, stores}
 use Rattle.bpf_step.specs.Calls.{calls, exits}
-use Rattle.bpf_step.specs.Step.{step, step_of, one_step, Gives}
+use Rattle.bpf_step.specs.Step.{outcome_by, step, step_of, one_step, Gives}
 use Rattle.ocp_pool.specs.Call.{engine_call}
 use Rattle.ocp_table.specs.declared.answers.InstructionOutcome.{InstructionOutcome}
 use Rattle.ocp_table.specs.declared.answers.InstructionOutcome.TheVariants.{Broke, Faulted}
@@ -25,11 +25,11 @@ use Rattle.bpf_step.specs.Runs.{breaks_at}
 use Rattle.ocp_table.specs.Deciding.{outcome_of, outcome_of_call, outcome_in}
 
 module _ (m : State) (pool mailbox : List ℕ) where
-  able_loads : (s : State) (dst : ℕ) (f : ℕ → ℕ) (r : Result ℕ AccessFault) → IsSome (outcome_of (loads s dst f r) m pool mailbox)
+  able_loads : (s : State) (dst : ℕ) (f : ℕ → ℕ) (r : Result ℕ AccessFault) → IsSome (outcome_of (outcome_by s (loads s.registers s.memory dst f r) NoInstruction) m pool mailbox)
   able_loads s dst f (Ok v) = refl
   able_loads s dst f (Err e) = refl
 
-  able_stores : (s : State) (r : Result Octets AccessFault) → IsSome (outcome_of (stores s r) m pool mailbox)
+  able_stores : (s : State) (r : Result Octets AccessFault) → IsSome (outcome_of (outcome_by s (stores s.registers r) NoInstruction) m pool mailbox)
   able_stores s (Ok memory) = refl
   able_stores s (Err e) = refl
 
