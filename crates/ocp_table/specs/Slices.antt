@@ -12,7 +12,7 @@ use Rattle.ocp_table.specs.declared.answers.Slice.{Slice}
 use Rattle.ocp_table.specs.declared.answers.StepOutcome.{StepOutcome}
 use Rattle.ocp_table.specs.declared.answers.StepOutcome.TheVariants as S
 use Rattle.ocp_table.specs.Budgets.{less, IsWithin}
-use Rattle.ocp_table.specs.Records.{Rec, Records}
+use Rattle.ocp_table.specs.Records.{Rec, Records, Procedures}
 use Rattle.ocp_table.specs.Effects.{Effect, without_pass, records_by, outbox_by, pool_by, step_outcome}
 use Rattle.ocp_table.specs.RequestTable.{Step}
 use Rattle.ocp_table.specs.Deciding.{effect_in}
@@ -24,6 +24,9 @@ pub record Store : Type 0 where
   pub records : Records
   pub outbox : List Due
   pub pool : List ℕ
+
+abbrev pub store_of : Procedures → List ℕ → Store
+store_of t pool = record { records = t.records; outbox = t.outbox; pool = pool }
 
 abbrev pub effect_of_event : ℕ → Store → Effect
 effect_of_event id s = effect_in (Step s.pool) id s.records

@@ -1,5 +1,5 @@
 //! The completions that wait to be reported.
-ghost use Rattle.std.specs.Prelude.{◌≡◌, ◌≤◌, ◌<◌, ◌+◌, [], ◌∷◌, ◌++◌, length};
+ghost use Rattle.std.specs.Prelude.{◌≡◌, ◌≤◌, ◌<◌, ◌+◌, [], ◌++◌, length};
 ghost use Rattle.ocp_table.specs.Outbox.{places_of};
 ghost use Rattle.ocp_table.specs.Effects.{failed_completion, due_completion, dues_at_step_end, dues_by_outcome};
 
@@ -46,26 +46,11 @@ impl Outbox {
         self.dues.as_slice()
     }
 
-    /// How many wait.
-    pub(crate) fn len(&self) -> usize
-        ensures { result ≡ length self.now }
-    {
-        self.dues.len()
-    }
-
     /// Drops all of them.
     pub(crate) fn clear(&mut self)
         ensures { self.new ≡ [] }
     {
         self.dues.clear();
-    }
-
-    // One more waits.
-    fn push(&mut self, due: Due)
-        requires { length self.old < OUTBOX_PLACES }
-        ensures { self.new ≡ self.old ++ due ∷ [] }
-    {
-        self.dues.push(due);
     }
 
     /// What was pending is overtaken. That is reported whatever the flags of its request are.
@@ -78,7 +63,7 @@ impl Outbox {
             Pending::Stop(_, origin) => origin,
             Pending::Suspend(_, origin) => origin,
         };
-        self.push(Due {
+        self.dues.push(Due {
             origin,
             failure: Some(CompletionFailure::Overtaken),
         });
@@ -90,7 +75,7 @@ impl Outbox {
         ensures { self.new ≡ self.old ++ due_completion origin }
     {
         if is_completion_asked(origin.ack) {
-            self.push(Due {
+            self.dues.push(Due {
                 origin,
                 failure: None,
             });
