@@ -1,6 +1,6 @@
 //! What the engine keeps of its world.
 
-ghost use Rattle.std.specs.Prelude.{◌≡◌, ◌≤◌, ◌<◌, ℕ, List, [], ◌∷◌, ◌++◌, true, false, length, vec_capacity, None, Ok, Err, IfOk, OnOk, OnErr, slice_get};
+ghost use Rattle.std.specs.Prelude.{◌≡◌, ◌≤◌, ◌<◌, ℕ, List, ◌++◌, true, false, length, vec_capacity, None, Ok, Err, IfOk, OnOk, OnErr, slice_get};
 ghost use Rattle.std.specs.List.{flat_map};
 ghost use Rattle.std.specs.Option.{option_to_list};
 ghost use Rattle.std.specs.FinMap.{get};
@@ -16,14 +16,14 @@ ghost use Rattle.ocp_reports.specs.Reports.{reports_of};
 ghost use Rattle.ocp_world.specs.World.{World, opening, Step, Debug, Request as Asked};
 ghost use Rattle.ocp_world.specs.declared.answers.EngineFault.TheVariants as engine;
 ghost use Rattle.ocp_world.specs.Effect.{Sends};
-ghost use Rattle.ocp_world.specs.Requests.{refusal_effect, start_effect, directive_effect, command_effect, request_effect, status_report, outcome_by, has_no_place};
+ghost use Rattle.ocp_world.specs.Requests.{directive_effect, command_effect, status_report, outcome_by, has_no_place};
 ghost use Rattle.ocp_world.specs.After.{Stepped, Commanded, after, effect_of};
 ghost use Rattle.ocp_world.specs.Loading.{FindsPlace, IsLoadInto, TakesRecord};
 
 use crate::convert::{pending_origin, status_report};
 use crate::{EngineFault, Heap};
 use obcp_messages::{Report, Request, read_request};
-use obcp_types::{AcceptanceFailure, StartFailure};
+use obcp_types::AcceptanceFailure;
 use ocp_debug::{Command, DebugFault, TraceRing};
 use ocp_pool::{MAX_POOL_WORDS, Pool};
 use ocp_profile::Profile;
@@ -58,11 +58,14 @@ impl<A: Allocator> State<A> {
         requires few { words ≤ MAX_POOL_WORDS }
         ensures { IfOk result (IsWorld (opening profile apid words)) }
     {
+        let Some(count) = SequenceCount::new(0) else {
+            unreachable!()
+        };
         Ok(State {
             apid,
             table: Table::new(alloc, profile)?,
             pool: Pool::new(alloc, words)?,
-            count: first_count(),
+            count,
             ring: TraceRing::new(alloc)?,
         })
     }
@@ -177,22 +180,6 @@ impl<A: Allocator> State<A> {
         Ok(reports)
     }
 
-    // Sends the reports of a failed start.
-    fn fail(
-        &mut self,
-        heap: &mut Heap<A>,
-        origin: Origin,
-        failure: StartFailure,
-    ) -> Result<CopiedReports<A>, EngineFault>
-    where
-        A: Copy,
-        ensures does { Does self.old self.new result
-            (λ w. start_effect origin [] (Kept (Failed failure))) }
-        ensures memory { result ≡ Err engine.Memory → heap.new ≡ true }
-    {
-        self.reply(heap, origin, Outcome::NotStarted(failure), &None)
-    }
-
     // Loads a procedure.
     fn load(
         &mut self,
@@ -214,7 +201,9 @@ impl<A: Allocator> State<A> {
                 self.table.insert(loading);
                 Ok(reports)
             }
-            Err(LoadFailure::Failed(failure)) => self.fail(heap, origin, failure),
+            Err(LoadFailure::Failed(failure)) => {
+                self.reply(heap, origin, Outcome::NotStarted(failure), &None)
+            }
             Err(LoadFailure::Memory) => Err(EngineFault::Memory),
         }
     }
@@ -239,7 +228,7 @@ impl<A: Allocator> State<A> {
                 self.table.remove(id, place);
                 Ok(reports)
             }
-            Err(failure) => self.fail(heap, origin, failure),
+            Err(failure) => self.reply(heap, origin, Outcome::NotStarted(failure), &None),
         }
     }
 
@@ -265,7 +254,7 @@ impl<A: Allocator> State<A> {
                 self.table.enact(id, decided);
                 Ok(reports)
             }
-            Err(failure) => self.fail(heap, origin, failure),
+            Err(failure) => self.reply(heap, origin, Outcome::NotStarted(failure), &None),
         }
     }
 
@@ -365,15 +354,5 @@ fn outcome_of(change: Change<'_>) -> Outcome
         Change::Started { .. } | Change::Sent(_) | Change::Quit(_) | Change::Resumed => {
             Outcome::Done
         }
-    }
-}
-
-// The sequence count of the first report.
-fn first_count() -> SequenceCount
-    ensures { result ≡ 0 }
-{
-    match SequenceCount::new(0) {
-        Some(count) => count,
-        None => unreachable!(),
     }
 }
