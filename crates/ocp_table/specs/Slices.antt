@@ -58,25 +58,16 @@ is_traced (Some r) = r.traced
 
 -- whether a slice goes on after this outcome, as long as the procedure runs
 abbrev pub is_on : StepOutcome → Bool
-is_on S.Broke = false
 is_on S.Ran = true
 is_on S.Called = true
-is_on S.Ended = false
-is_on (S.Faulted number) = false
-is_on S.NotLoaded = false
-is_on S.NotRunning = false
-is_on S.JournalFull = false
+is_on other = false
 
 -- whether an instruction event is done: a refused one is not
 abbrev pub is_done : StepOutcome → Bool
-is_done S.Broke = true
-is_done S.Ran = true
-is_done S.Called = true
-is_done S.Ended = true
-is_done (S.Faulted number) = true
 is_done S.NotLoaded = false
 is_done S.NotRunning = false
 is_done S.JournalFull = false
+is_done other = true
 
 -- whether it goes on after the next event
 abbrev pub goes_on : ℕ → Store → Bool

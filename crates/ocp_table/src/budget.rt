@@ -1,13 +1,6 @@
 //! What is left of a procedure's budget.
 ghost use Rattle.std.specs.Prelude.{◌≡◌};
-ghost use Rattle.ocp_table.specs.Budgets.{budget_of, less, within};
-
-/// The budget that an activation sets: 0 sets none.
-pub(crate) fn budget_of(budget: u32) -> Option<u32>
-    ensures { result ≡ budget_of budget }
-{
-    if budget == 0 { None } else { Some(budget) }
-}
+ghost use Rattle.ocp_table.specs.Budgets.{less, within};
 
 /// What is left after so many more instructions.
 #[inline(always)]

@@ -6,7 +6,6 @@ ghost use Rattle.ocp_table.specs.Effects.{record_by, dues_by_change};
 ghost use Rattle.ocp_table.specs.Deciding.{decision_on};
 ghost use Rattle.ocp_table.specs.Shown.{record_of, directive_of, change_of, decision_of, HasFewArguments, FitsIn, HasPlaceFor};
 
-use crate::budget::budget_of;
 use crate::outbox::Outbox;
 use crate::{Cause, Control, Directive, OUTBOX_PLACES, Pending, Place, Record};
 use obcp_types::{StartFailure, Status};
@@ -106,10 +105,10 @@ impl<A: Allocator> Record<A> {
         match change {
             Change::Started { budget, arguments } => {
                 outbox.overtake(self.control.pending);
-                self.remaining = budget_of(budget);
                 self.execution.start(arguments);
                 self.mailbox.clear();
                 self.control = Control::running();
+                self.remaining = if budget == 0 { None } else { Some(budget) };
             }
             Change::Sent(words) => self.mailbox.append(words),
             Change::Pended(pending) => {

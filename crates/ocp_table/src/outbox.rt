@@ -1,7 +1,7 @@
 //! The completions that wait to be reported.
 ghost use Rattle.std.specs.Prelude.{◌≡◌, ◌≤◌, ◌<◌, ◌+◌, [], ◌++◌, length};
 ghost use Rattle.ocp_table.specs.Outbox.{places_of};
-ghost use Rattle.ocp_table.specs.Effects.{failed_completion, due_completion, dues_at_step_end, dues_by_outcome};
+ghost use Rattle.ocp_table.specs.Effects.{failed_completion, dues_at_step_end, dues_by_outcome};
 
 use crate::control::matches;
 use crate::{
@@ -69,28 +69,21 @@ impl Outbox {
         });
     }
 
-    // What was pending is completed. That is reported where the flag of its request is set.
-    fn complete(&mut self, origin: PendingOrigin)
-        requires { length self.old < OUTBOX_PLACES }
-        ensures { self.new ≡ self.old ++ due_completion origin }
-    {
-        if is_completion_asked(origin.ack) {
-            self.dues.push(Due {
-                origin,
-                failure: None,
-            });
-        }
-    }
-
-    // A step ends: what is pending for it is completed.
+    // A step ends: what is pending for it is completed. That is reported where the flag of its request is set.
     fn end_step(&mut self, pending: Pending, step: u16)
         requires { length self.old + places_of pending ≤ OUTBOX_PLACES }
         ensures { self.new ≡ self.old ++ dues_at_step_end pending step }
     {
-        match pending {
-            Pending::Stop(wanted, origin) if matches(wanted, step) => self.complete(origin),
-            Pending::Suspend(wanted, origin) if matches(wanted, step) => self.complete(origin),
-            _ => {}
+        let (wanted, origin) = match pending {
+            Pending::Nothing => return,
+            Pending::Stop(wanted, origin) => (wanted, origin),
+            Pending::Suspend(wanted, origin) => (wanted, origin),
+        };
+        if matches(wanted, step) && is_completion_asked(origin.ack) {
+            self.dues.push(Due {
+                origin,
+                failure: None,
+            });
         }
     }
 
