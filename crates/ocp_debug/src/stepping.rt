@@ -50,7 +50,7 @@ fn note<A: Allocator>(
     ensures { ring.new ≡ last_traces (ring.old
         ++ option_to_list (trace_after id place outcome (get table.now.records id))) }
 {
-    ring.has_few();
+    let _few = ring.len();
     let Some(place) = place else {
         return;
     };
