@@ -6,8 +6,8 @@ ghost use Rattle.std.specs.Option.{option_to_list};
 ghost use Rattle.std.specs.FinMap.{get};
 ghost use Rattle.pus_fields.specs.TelecommandFaults.{telecommand_of};
 ghost use Rattle.ocp_table.specs.RequestTable as directive;
-ghost use Rattle.ocp_table.specs.Effects.{Changed, Kept, Unasked, Failed};
-ghost use Rattle.ocp_table.specs.Shown.{view_at, change_of, directive_of, HasFewArguments};
+ghost use Rattle.ocp_table.specs.Effects.{Kept, Unasked, Failed};
+ghost use Rattle.ocp_table.specs.Shown.{view_at, directive_of, HasFewArguments};
 ghost use Rattle.ocp_debug.specs.declared.command.DebugFault.{DebugFault as Fault};
 ghost use Rattle.ocp_debug.specs.Memory.{memory_at};
 ghost use Rattle.ocp_debug.specs.Traces.{last_traces};
@@ -16,7 +16,7 @@ ghost use Rattle.ocp_reports.specs.Reports.{reports_of};
 ghost use Rattle.ocp_world.specs.World.{World, opening, Step, Debug, Request as Asked};
 ghost use Rattle.ocp_world.specs.declared.answers.EngineFault.TheVariants as engine;
 ghost use Rattle.ocp_world.specs.Effect.{Sends};
-ghost use Rattle.ocp_world.specs.Requests.{directive_effect, command_effect, status_report, outcome_by, has_no_place};
+ghost use Rattle.ocp_world.specs.Requests.{directive_effect, command_effect, status_report, has_no_place};
 ghost use Rattle.ocp_world.specs.After.{Stepped, Commanded, after, effect_of};
 ghost use Rattle.ocp_world.specs.Loading.{FindsPlace, IsLoadInto, TakesRecord};
 
@@ -250,7 +250,13 @@ impl<A: Allocator> State<A> {
     {
         match self.table.decide(id, directive) {
             Ok(decided) => {
-                let reports = self.reply(heap, origin, outcome_of(decided.change), &None)?;
+                let outcome = match decided.change {
+                    Change::Pended(_) => Outcome::Started,
+                    Change::Started { .. } | Change::Sent(_) | Change::Quit(_) | Change::Resumed => {
+                        Outcome::Done
+                    }
+                };
+                let reports = self.reply(heap, origin, outcome, &None)?;
                 self.table.enact(id, decided);
                 Ok(reports)
             }
@@ -341,18 +347,6 @@ impl<A: Allocator> State<A> {
                 self.reply(heap, origin, outcome, &None)
             }
             Err(TcFault::Discarded(cause)) => Err(EngineFault::Discarded(cause)),
-        }
-    }
-}
-
-// What becomes of a request that does not fail: its stop or suspend waits, or it is done.
-fn outcome_of(change: Change<'_>) -> Outcome
-    ensures { (id : ℕ) → result ≡ outcome_by (Changed id (change_of change.entry)) }
-{
-    match change {
-        Change::Pended(_) => Outcome::Started,
-        Change::Started { .. } | Change::Sent(_) | Change::Quit(_) | Change::Resumed => {
-            Outcome::Done
         }
     }
 }
