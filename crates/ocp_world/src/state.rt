@@ -16,13 +16,13 @@ ghost use Rattle.ocp_reports.specs.Reports.{reports_of};
 ghost use Rattle.ocp_world.specs.World.{World, opening, Step, Debug, Request as Asked};
 ghost use Rattle.ocp_world.specs.declared.answers.EngineFault.TheVariants as engine;
 ghost use Rattle.ocp_world.specs.Effect.{Sends};
-ghost use Rattle.ocp_world.specs.Requests.{directive_effect, command_effect, status_report, has_no_place};
+ghost use Rattle.ocp_world.specs.Requests.{directive_effect, command_effect, has_no_place};
 ghost use Rattle.ocp_world.specs.After.{Stepped, Commanded, after, effect_of};
 ghost use Rattle.ocp_world.specs.Loading.{FindsPlace, IsLoadInto, TakesRecord};
 
-use crate::convert::{pending_origin, status_report};
+use crate::convert::pending_origin;
 use crate::{EngineFault, Heap};
-use obcp_messages::{Report, Request, read_request};
+use obcp_messages::{Report, Request, StatusRows, read_request};
 use obcp_types::AcceptanceFailure;
 use ocp_debug::{Command, DebugFault, TraceRing};
 use ocp_pool::{MAX_POOL_WORDS, Pool};
@@ -252,9 +252,8 @@ impl<A: Allocator> State<A> {
             Ok(decided) => {
                 let outcome = match decided.change {
                     Change::Pended(_) => Outcome::Started,
-                    Change::Started { .. } | Change::Sent(_) | Change::Quit(_) | Change::Resumed => {
-                        Outcome::Done
-                    }
+                    Change::Started { .. } | Change::Sent(_) | Change::Quit(_) | Change::Resumed =>
+                        { Outcome::Done }
                 };
                 let reports = self.reply(heap, origin, outcome, &None)?;
                 self.table.enact(id, decided);
@@ -303,8 +302,10 @@ impl<A: Allocator> State<A> {
                 self.direct(heap, origin, id, Directive::Communicate(words.as_slice()))
             }
             Request::Status => {
-                let report = status_report(&self.table);
-                self.reply(heap, origin, Outcome::Done, &Some(report))
+                let Some(rows) = StatusRows::new(self.table.statuses()) else {
+                    unreachable!()
+                };
+                self.reply(heap, origin, Outcome::Done, &Some(Report::Status { rows }))
             }
             Request::Abort { id } => self.direct(heap, origin, id, Directive::Abort),
         }
