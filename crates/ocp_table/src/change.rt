@@ -107,7 +107,12 @@ impl<A: Allocator> Record<A> {
                 outbox.overtake(self.control.pending);
                 self.execution.start(arguments);
                 self.mailbox.clear();
-                self.control = Control::running();
+                self.control = Control {
+                    status: Status::Running,
+                    pending: Pending::Nothing,
+                    pass: false,
+                    cause: Cause::Nothing,
+                };
                 self.remaining = if budget == 0 { None } else { Some(budget) };
             }
             Change::Sent(words) => self.mailbox.append(words),
