@@ -1,6 +1,6 @@
 //! What is printed of procedures and of trace records.
 ghost use Rattle.std.specs.Prelude.{◌≡◌, ◌≤◌, ◌<◌, ◌+◌, ◌*◌, ◌++◌, length, vec_capacity, OnOk, OnErr, Some, None};
-ghost use Rattle.ocp_debug.specs.Texts.{view_line, register_line, register_lines, view_lines, words_text, trace_line, debug_fault_name};
+ghost use Rattle.ocp_debug.specs.Texts.{view_line, register_line, view_lines, words_text, trace_line, debug_fault_name};
 
 use crate::text::Text;
 use crate::{DebugFault, Trace, View};
