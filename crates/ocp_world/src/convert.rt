@@ -1,14 +1,11 @@
-//! What is read of octets, and where a completion goes.
+//! Why octets are discarded.
 
 ghost use Rattle.std.specs.Prelude.{◌≡◌, ℕ, List};
 ghost use Rattle.pus_fields.specs.TelecommandFaults.{telecommand_of};
 ghost use Rattle.ocp_world.specs.World.{World, Request as Asked};
-ghost use Rattle.ocp_world.specs.Requests.{pending_origin};
 ghost use Rattle.ocp_world.specs.After.{after};
 ghost use Rattle.ocp_world.specs.Mirror.Answering.{discard_of, IsDiscard};
 
-use obcp_types::PendingOrigin;
-use ocp_reports::Origin;
 use pus_fields::{Discard, Tc, TcFault};
 
 /// Why octets are discarded, as they were read, where they are: then the request is refused so in
@@ -23,19 +20,5 @@ pub fn discard_of(read: &Result<Tc<'_>, TcFault>) -> Option<Discard>
     match read {
         Err(TcFault::Discarded(cause)) => Some(*cause),
         Err(TcFault::Rejected(_, _)) | Ok(_) => None,
-    }
-}
-
-/// Where the completion of a pending stop or suspend goes, by the origin of its request and the
-/// number of its event.
-pub fn pending_origin(origin: Origin, event: u64) -> PendingOrigin
-    ensures { result ≡ pending_origin origin event }
-{
-    let request = origin.request;
-    PendingOrigin {
-        event,
-        request,
-        source: origin.destination,
-        ack: origin.ack,
     }
 }

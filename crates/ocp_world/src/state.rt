@@ -20,10 +20,9 @@ ghost use Rattle.ocp_world.specs.Requests.{directive_effect, command_effect, has
 ghost use Rattle.ocp_world.specs.After.{Stepped, Commanded, after, effect_of};
 ghost use Rattle.ocp_world.specs.Loading.{FindsPlace, IsLoadInto, TakesRecord};
 
-use crate::convert::pending_origin;
 use crate::{EngineFault, Heap};
 use obcp_messages::{Report, Request, StatusRows, read_request};
-use obcp_types::AcceptanceFailure;
+use obcp_types::{AcceptanceFailure, PendingOrigin};
 use ocp_debug::{Command, DebugFault, TraceRing};
 use ocp_pool::{MAX_POOL_WORDS, Pool};
 use ocp_profile::Profile;
@@ -278,6 +277,13 @@ impl<A: Allocator> State<A> {
         ensures memory { result ≡ Err engine.Memory → heap.new ≡ false →
             IsLoadInto self.old.table.records request.entry }
     {
+        let packet = origin.request;
+        let from = PendingOrigin {
+            event,
+            request: packet,
+            source: origin.destination,
+            ack: origin.ack,
+        };
         match request {
             Request::Load { id, code } => self.load(heap, origin, id, code.octets()),
             Request::Unload { id } => self.unload(heap, origin, id),
@@ -290,11 +296,9 @@ impl<A: Allocator> State<A> {
                 self.direct(heap, origin, id, Directive::Activate { budget, arguments })
             }
             Request::Stop { id, step } => {
-                let from = pending_origin(origin, event);
                 self.direct(heap, origin, id, Directive::Stop(step, from))
             }
             Request::Suspend { id, step } => {
-                let from = pending_origin(origin, event);
                 self.direct(heap, origin, id, Directive::Suspend(step, from))
             }
             Request::Resume { id } => self.direct(heap, origin, id, Directive::Resume),
