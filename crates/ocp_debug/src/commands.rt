@@ -1,56 +1,32 @@
 //! A debugger's commands: which are refused, and what the others change.
 ghost use Rattle.std.specs.Prelude.{◌≡◌, None, Some, Ok, Err};
 ghost use Rattle.std.specs.FinMap.{get};
-ghost use Rattle.ocp_table.specs.Effects.{Changed};
-ghost use Rattle.ocp_table.specs.Shown.{record_of};
-ghost use Rattle.ocp_debug.specs.Commands.{set_fault, fault_in, fault_on, change_of, command_result, table_by_command, with_effect};
+ghost use Rattle.ocp_debug.specs.Commands.{fault_on, command_result, table_by_command};
 
 use crate::breakpoints::{is_set, with_breakpoint, without_breakpoint};
 use crate::{Command, DebugFault, MAX_BREAKPOINTS};
-use ocp_table::{Record, Table};
+use ocp_table::Table;
 use std::alloc::Allocator;
-
-/// Why a breakpoint cannot be set.
-fn set_fault<A: Allocator>(procedure: &Record<A>, place: u16) -> Option<DebugFault>
-    ensures { result ≡ set_fault (record_of procedure.now) place }
-{
-    let breakpoints = procedure.breakpoints.as_slice();
-    if procedure.execution.line_at(place).is_none() {
-        Some(DebugFault::NotAnInstruction)
-    } else if is_set(place, breakpoints) {
-        Some(DebugFault::AlreadySet)
-    } else if breakpoints.len() >= MAX_BREAKPOINTS {
-        Some(DebugFault::BreaksFull)
-    } else {
-        None
-    }
-}
-
-/// Why a command is refused of a procedure.
-fn fault_in<A: Allocator>(procedure: &Record<A>, command: Command) -> Option<DebugFault>
-    ensures { result ≡ fault_in command (record_of procedure.now) }
-{
-    match command {
-        Command::SetBreak(place) => set_fault(procedure, place),
-        Command::ClearBreak(place) => {
-            if is_set(place, procedure.breakpoints.as_slice()) {
-                None
-            } else {
-                Some(DebugFault::NotSet)
-            }
-        }
-        Command::SetTrace(_) => None,
-    }
-}
 
 /// Decides: why a command is refused. No procedure has the id: NotLoaded. A breakpoint is refused
 /// as NotAnInstruction, AlreadySet and BreaksFull, and a clearing as NotSet.
 pub fn fault_of<A: Allocator>(table: &Table<A>, id: u16, command: Command) -> Option<DebugFault>
     ensures { result ≡ fault_on command (get table.now.records id) }
 {
-    match table.record(id) {
-        Some(record) => fault_in(record, command),
-        None => Some(DebugFault::NotLoaded),
+    let Some(record) = table.record(id) else {
+        return Some(DebugFault::NotLoaded);
+    };
+    let breakpoints = record.breakpoints.as_slice();
+    match command {
+        Command::SetBreak(place) if record.execution.line_at(place).is_none() => {
+            Some(DebugFault::NotAnInstruction)
+        }
+        Command::SetBreak(place) if is_set(place, breakpoints) => Some(DebugFault::AlreadySet),
+        Command::SetBreak(_) if breakpoints.len() >= MAX_BREAKPOINTS => {
+            Some(DebugFault::BreaksFull)
+        }
+        Command::ClearBreak(place) if !is_set(place, breakpoints) => Some(DebugFault::NotSet),
+        Command::SetBreak(_) | Command::ClearBreak(_) | Command::SetTrace(_) => None,
     }
 }
 
@@ -66,17 +42,8 @@ pub fn apply<A: Allocator>(
     if let Some(fault) = fault_of(table, id, command) {
         return Err(fault);
     }
-    enact(table, id, command);
-    Ok(())
-}
-
-/// Enacts a command that is not refused.
-fn enact<A: Allocator>(table: &mut Table<A>, id: u16, command: Command)
-    requires { fault_on command (get table.old.records id) ≡ None }
-    ensures { table.new ≡ with_effect (Changed id (change_of command)) table.old }
-{
     let Some(record) = table.record(id) else {
-        return;
+        return Err(DebugFault::NotLoaded);
     };
     let breakpoints = record.breakpoints.as_slice();
     match command {
@@ -90,6 +57,7 @@ fn enact<A: Allocator>(table: &mut Table<A>, id: u16, command: Command)
         }
         Command::SetTrace(on) => table.set_traced(id, on),
     }
+    Ok(())
 }
 
 /// Sets a breakpoint at the slot of an instruction. Refused as NotLoaded, NotAnInstruction,

@@ -53,13 +53,6 @@ impl<A: Allocator> TraceRing<A> {
         self.records.push_back(trace);
     }
 
-    /// There are no more records than are kept. The function does nothing when it runs.
-    pub(crate) fn has_few(&self)
-        ensures { length self.now ≤ TRACE_RECORDS }
-    {
-        let _records = &self.records;
-    }
-
     /// How many octets the lines have.
     fn lines_len(&self) -> usize
         ensures { result ≡ length (flat_map trace_line self.now) }

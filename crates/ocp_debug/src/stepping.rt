@@ -26,15 +26,10 @@ fn traced_place<A: Allocator>(table: &Table<A>, id: u16, at: Place) -> Option<u1
 fn leaves_trace(outcome: StepOutcome) -> bool
     ensures { result ≡ leaves_trace outcome }
 {
-    match outcome {
-        StepOutcome::Ran | StepOutcome::Called | StepOutcome::Ended | StepOutcome::Faulted(_) => {
-            true
-        }
-        StepOutcome::Broke
-        | StepOutcome::NotLoaded
-        | StepOutcome::NotRunning
-        | StepOutcome::JournalFull => false,
-    }
+    matches!(
+        outcome,
+        StepOutcome::Ran | StepOutcome::Called | StepOutcome::Ended | StepOutcome::Faulted(_)
+    )
 }
 
 /// Notes the instruction at this place, where it was done and is traced, by its outcome and the
@@ -50,7 +45,7 @@ fn note<A: Allocator>(
     ensures { ring.new ≡ last_traces (ring.old
         ++ option_to_list (trace_after id place outcome (get table.now.records id))) }
 {
-    ring.has_few();
+    let _few = ring.len();
     let Some(place) = place else {
         return;
     };

@@ -73,9 +73,7 @@ impl Text {
     {
         let _has_room = output.extend_from_slice(self.octets.as_slice());
     }
-}
 
-impl Text {
     /// Appends a number in decimal digits.
     pub(crate) fn push_number<I: Integer>(&mut self, number: I)
         requires { length self.old + I.MAX_STR_LEN ≤ 384 }

@@ -1,6 +1,6 @@
 //! What is printed of procedures and of trace records.
 ghost use Rattle.std.specs.Prelude.{◌≡◌, ◌≤◌, ◌<◌, ◌+◌, ◌*◌, ◌++◌, length, vec_capacity, OnOk, OnErr, Some, None};
-ghost use Rattle.ocp_debug.specs.Texts.{view_line, register_line, register_lines, view_lines, words_text, trace_line, debug_fault_name};
+ghost use Rattle.ocp_debug.specs.Texts.{view_line, register_line, view_lines, words_text, trace_line, debug_fault_name};
 
 use crate::text::Text;
 use crate::{DebugFault, Trace, View};
@@ -54,17 +54,6 @@ fn lines_of(id: u16, view: &View) -> Text
     text
 }
 
-/// The line of a procedure that is not loaded.
-fn absent_line(id: u16) -> Text
-    ensures { result ≡ view_lines id None }
-{
-    let mut text = Text::new();
-    text.push_all(b"view ");
-    text.push_number(id);
-    text.push_all(b" NotLoaded\n");
-    text
-}
-
 /// Appends the lines of a view: the status and the eleven registers, or that the procedure is not
 /// loaded.
 ///
@@ -84,7 +73,13 @@ pub fn view_text<B: Allocator>(
 {
     let text = match &view {
         Some(view) => lines_of(id, view),
-        None => absent_line(id),
+        None => {
+            let mut text = Text::new();
+            text.push_all(b"view ");
+            text.push_number(id);
+            text.push_all(b" NotLoaded\n");
+            text
+        }
     };
     text.append_to(output)
 }

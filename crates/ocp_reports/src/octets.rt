@@ -47,12 +47,6 @@ impl<A: Allocator> Octets<A> {
     {
         self.as_slice() == other.as_slice()
     }
-
-    pub fn copy(&self, alloc: A) -> Result<Self, AllocError>
-        ensures { IfOk result (λ copy. copy ≡ self.now) }
-    {
-        Octets::copy_of(alloc, self.as_slice())
-    }
 }
 
 /// The reports of one request, each a whole telemetry packet, in the order in which they are sent.
@@ -139,7 +133,7 @@ impl<A: Allocator> Reports<A> {
     {
         let mut copy = Reports::new(alloc);
         for packet in self.packets() {
-            copy.push(packet.copy(alloc)?)?;
+            copy.push(Octets::copy_of(alloc, packet.as_slice())?)?;
         }
         Ok(copy)
     }

@@ -3,11 +3,10 @@
 ghost use Rattle.std.specs.Prelude.{◌≡◌, ◌+◌, ◌%◌, ◌++◌, ◌∷◌, [], List, length, IfOk, OnOk, MatchOption};
 ghost use Rattle.std.specs.Option.{option_to_list};
 ghost use Rattle.obcp_messages.specs.declared.report.Report.{Report as Sent};
-ghost use Rattle.pus_fields.specs.Telemetry.{telemetry_octets};
 ghost use Rattle.ocp_reports.specs.Origin.{dispatch_of};
 ghost use Rattle.ocp_reports.specs.Reports.{report_of, dispatch_of_notice, reports_of};
 ghost use Rattle.ocp_reports.specs.Due.{due_dispatches, drain_dispatches};
-ghost use Rattle.ocp_reports.specs.Packets.{packets, telemetry_of, IsTelemetryPacket};
+ghost use Rattle.ocp_reports.specs.Packets.{packets};
 
 use crate::{CopiedReports, Octets, Origin, Reports};
 use obcp_messages::{Report, StartFault, write_report};
@@ -62,39 +61,6 @@ fn verification_report(request: [u8; 4], notice: Notice) -> Option<Report>
 }
 
 impl Sender {
-    // The packet of a report that so many others stand before.
-    fn packet<A: Allocator + Copy>(
-        &self,
-        alloc: A,
-        origin: Origin,
-        before: usize,
-        report: &Report,
-    ) -> Result<Octets<A>, AllocError>
-        ensures octets { let count = self.now.count + before in
-            IfOk result (λ p. p ≡
-            telemetry_octets (telemetry_of self.now.apid count (dispatch_of origin report.now))) }
-        ensures telemetry { IfOk result IsTelemetryPacket }
-    {
-        telemetry_octets_are_read_back();
-        let mut data = Vec::new(alloc);
-        write_report(report, &mut data)?;
-        let telemetry = Tm::new(
-            self.apid,
-            count_after(self.count, before),
-            report.service(),
-            report.subtype(),
-            origin.destination,
-            origin.time,
-            data.as_slice(),
-        );
-        let mut octets = Vec::new(alloc);
-        match write_tm(&telemetry, &mut octets) {
-            Ok(()) => Ok(Octets::new(octets)),
-            Err(WriteFault::Memory) => Err(AllocError),
-            Err(WriteFault::TooLong) => unreachable!(),
-        }
-    }
-
     // Adds the packet of a report.
     fn add<A: Allocator + Copy>(
         &self,
@@ -107,8 +73,24 @@ impl Sender {
             OnOk result (reports.new ≡
             reports.old ++ packets self.now.apid count (dispatch_of origin report.now ∷ [])) }
     {
-        let packet = self.packet(alloc, origin, reports.len(), report)?;
-        reports.push(packet)
+        telemetry_octets_are_read_back();
+        let mut data = Vec::new(alloc);
+        write_report(report, &mut data)?;
+        let telemetry = Tm::new(
+            self.apid,
+            count_after(self.count, reports.len()),
+            report.service(),
+            report.subtype(),
+            origin.destination,
+            origin.time,
+            data.as_slice(),
+        );
+        let mut octets = Vec::new(alloc);
+        match write_tm(&telemetry, &mut octets) {
+            Ok(()) => reports.push(Octets::new(octets)),
+            Err(WriteFault::Memory) => Err(AllocError),
+            Err(WriteFault::TooLong) => unreachable!(),
+        }
     }
 
     // Adds the packet of a notice, if it has one.
@@ -133,27 +115,7 @@ impl Sender {
         }
     }
 
-    /// The packets of the reports of a request.
-    pub fn reports<A: Allocator + Copy>(
-        &self,
-        alloc: A,
-        origin: Origin,
-        outcome: Outcome,
-        answer: &Option<Report>,
-    ) -> Result<Reports<A>, AllocError>
-        ensures { let all = reports_of origin outcome (option_to_list answer.now) in
-            IfOk result (λ r. r ≡ packets self.now.apid self.now.count all) }
-    {
-        let mut reports = Reports::new(alloc);
-        let list = notices(origin.ack, &outcome);
-        let all = list.as_slice();
-        for notice in all {
-            self.send(alloc, origin, *notice, answer, &mut reports)?;
-        }
-        Ok(reports)
-    }
-
-    /// `reports`, with copies of them.
+    /// The packets of the reports of a request, with copies of them.
     pub fn copied_reports<A: Allocator + Copy>(
         &self,
         alloc: A,
@@ -164,7 +126,12 @@ impl Sender {
         ensures { let all = reports_of origin outcome (option_to_list answer.now) in
             IfOk result (λ r. r ≡ packets self.now.apid self.now.count all) }
     {
-        let reports = self.reports(alloc, origin, outcome, answer)?;
+        let mut reports = Reports::new(alloc);
+        let list = notices(origin.ack, &outcome);
+        let all = list.as_slice();
+        for notice in all {
+            self.send(alloc, origin, *notice, answer, &mut reports)?;
+        }
         CopiedReports::of(alloc, reports)
     }
 

@@ -221,6 +221,11 @@ local_count_within image breakpoints pass s (suc n) =
 
 -- ---- a slice of a record
 
+pub running_is : (s : Status) → is_running_status s ≡ true → s ≡ Running
+running_is Inactive h = absurd (cc)
+running_is Running h = refl
+running_is Held h = absurd (cc)
+
 pub ran_some : (n : ℕ) (last : StepOutcome) → 1 ≤ n → last_ran n last ≡ S.Ran
 ran_some zero last h = absurd (omega (arith, h))
 ran_some (suc n) last h = refl
@@ -283,11 +288,6 @@ module _ {A : Type 0} where
     runs_on : (b r : Bool) → cond b r false ≡ true → r ≡ true
     runs_on true r h = h
     runs_on false r h = absurd (cc)
-
-    running_is : (s : Status) → is_running_status s ≡ true → s ≡ Running
-    running_is Inactive h = absurd (cc)
-    running_is Running h = refl
-    running_is Held h = absurd (cc)
 
     -- after which the slice goes on
     pub sliced-event : cond (is_on o) (is_running_status next.control.status) false ≡ true → IsSliced old next outbox filed pool left (n + 1) o

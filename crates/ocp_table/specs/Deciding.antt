@@ -25,7 +25,7 @@ use Rattle.ocp_table.specs.declared.answers.InstructionOutcome.{InstructionOutco
 use Rattle.ocp_table.specs.declared.answers.InstructionOutcome.TheVariants.{Broke, Ran, Called, Ended, Faulted}
 use Rattle.ocp_table.specs.Records.{Rec, Records, Procedures}
 use Rattle.ocp_table.specs.Budgets.{is_spent}
-use Rattle.ocp_table.specs.Effects.{Effect, Loaded, Unloaded, Changed, Kept, Stepped, Failed, table_by}
+use Rattle.ocp_table.specs.Effects.{Effect, Loaded, Unloaded, Changed, Kept, Stepped, Failed, start_result, table_by}
 use Rattle.ocp_table.specs.RequestTable.{Directive, Decision, Loads, Unloads, Changes, Steps, Fails, transition}
 
 -- ---- an image is loaded
@@ -120,3 +120,7 @@ effect_in directive id m = effect_on directive id (get m id) (is_full m)
 -- what it leaves of a table
 abbrev pub table_after : Directive → ℕ → Procedures → Procedures
 table_after directive id t = table_by (effect_in directive id t.records) t
+
+-- and what it is answered
+abbrev pub answer_in : Directive → ℕ → Procedures → Result (Unit {0}) StartFailure
+answer_in directive id t = start_result (effect_in directive id t.records)

@@ -7,7 +7,7 @@ use Rattle.obcp_types.specs.declared.pending.Due.{Due}
 use Rattle.ocp_table.specs.declared.table.TheConstants.{OUTBOX_PLACES}
 use Rattle.ocp_table.specs.declared.control.Pending.{Pending}
 use Rattle.ocp_table.specs.declared.control.Pending.TheVariants as pending
-use Rattle.ocp_table.specs.Records.{Rec, Records}
+use Rattle.ocp_table.specs.Records.{Rec, Records, Procedures}
 
 -- what is pending takes one place
 abbrev pub places_of : Pending → ℕ
@@ -25,6 +25,9 @@ pendings m = sum_by places_in (values m)
 -- no place is free
 abbrev pub is_outbox_full : Records → List Due → Bool
 is_outbox_full m outbox = nat_le OUTBOX_PLACES (length outbox + pendings m)
+
+abbrev pub is_without_place : Procedures → Bool
+is_without_place t = is_outbox_full t.records t.outbox
 
 -- there is a place for each of them
 abbrev pub HasPlaces : Records → List Due → Type 0

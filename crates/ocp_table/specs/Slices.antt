@@ -12,7 +12,7 @@ use Rattle.ocp_table.specs.declared.answers.Slice.{Slice}
 use Rattle.ocp_table.specs.declared.answers.StepOutcome.{StepOutcome}
 use Rattle.ocp_table.specs.declared.answers.StepOutcome.TheVariants as S
 use Rattle.ocp_table.specs.Budgets.{less, IsWithin}
-use Rattle.ocp_table.specs.Records.{Rec, Records}
+use Rattle.ocp_table.specs.Records.{Rec, Records, Procedures}
 use Rattle.ocp_table.specs.Effects.{Effect, without_pass, records_by, outbox_by, pool_by, step_outcome}
 use Rattle.ocp_table.specs.RequestTable.{Step}
 use Rattle.ocp_table.specs.Deciding.{effect_in}
@@ -24,6 +24,9 @@ pub record Store : Type 0 where
   pub records : Records
   pub outbox : List Due
   pub pool : List ℕ
+
+abbrev pub store_of : Procedures → List ℕ → Store
+store_of t pool = record { records = t.records; outbox = t.outbox; pool = pool }
 
 abbrev pub effect_of_event : ℕ → Store → Effect
 effect_of_event id s = effect_in (Step s.pool) id s.records
@@ -55,25 +58,16 @@ is_traced (Some r) = r.traced
 
 -- whether a slice goes on after this outcome, as long as the procedure runs
 abbrev pub is_on : StepOutcome → Bool
-is_on S.Broke = false
 is_on S.Ran = true
 is_on S.Called = true
-is_on S.Ended = false
-is_on (S.Faulted number) = false
-is_on S.NotLoaded = false
-is_on S.NotRunning = false
-is_on S.JournalFull = false
+is_on other = false
 
 -- whether an instruction event is done: a refused one is not
 abbrev pub is_done : StepOutcome → Bool
-is_done S.Broke = true
-is_done S.Ran = true
-is_done S.Called = true
-is_done S.Ended = true
-is_done (S.Faulted number) = true
 is_done S.NotLoaded = false
 is_done S.NotRunning = false
 is_done S.JournalFull = false
+is_done other = true
 
 -- whether it goes on after the next event
 abbrev pub goes_on : ℕ → Store → Bool

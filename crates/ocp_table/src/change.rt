@@ -1,18 +1,14 @@
 //! The request table: what a request does to the record of its procedure, or why it fails; and how
 //! that is enacted.
-ghost use Rattle.std.specs.Prelude.{◌≡◌, ◌≤◌, ◌+◌, ◌++◌, Bool, false, Option, Some, IfOk, length};
-ghost use Rattle.ocp_table.specs.Records.{Rec};
+ghost use Rattle.std.specs.Prelude.{◌≡◌, ◌≤◌, ◌+◌, ◌++◌, false, Some, IfOk, length};
 ghost use Rattle.ocp_table.specs.Outbox.{places_of};
 ghost use Rattle.ocp_table.specs.Effects.{record_by, dues_by_change};
-ghost use Rattle.ocp_table.specs.RequestTable.{postponement, communication};
 ghost use Rattle.ocp_table.specs.Deciding.{decision_on};
 ghost use Rattle.ocp_table.specs.Shown.{record_of, directive_of, change_of, decision_of, HasFewArguments, FitsIn, HasPlaceFor};
 
-use crate::budget::budget_of;
 use crate::outbox::Outbox;
 use crate::{Cause, Control, Directive, OUTBOX_PLACES, Pending, Place, Record};
 use obcp_types::{StartFailure, Status};
-use ocp_pool::Mailbox;
 use std::alloc::Allocator;
 
 /// What a request does to the record of its procedure.
@@ -61,16 +57,19 @@ impl<A: Allocator> Record<A> {
             (Directive::Activate { .. }, Status::Held) => Err(StartFailure::NotInactive),
 
             (Directive::Stop(_, _), Status::Inactive) => Err(StartFailure::NotActive),
+            (Directive::Stop(_, _), Status::Running) if full => Err(StartFailure::OutboxFull),
             (Directive::Stop(step, origin), Status::Running) => {
-                pend(full, Pending::Stop(step, origin))
+                Ok(Change::Pended(Pending::Stop(step, origin)))
             }
             (Directive::Stop(_, _), Status::Held) => Ok(Change::Quit(Cause::Stopped)),
 
             (Directive::Suspend(_, _), Status::Inactive) => Err(StartFailure::NotRunning),
             (Directive::Suspend(step, origin), Status::Running) => match self.control.pending {
                 Pending::Stop(_, _) => Err(StartFailure::StopPending),
-                Pending::Suspend(_, _) => pend(full, Pending::Suspend(step, origin)),
-                Pending::Nothing => pend(full, Pending::Suspend(step, origin)),
+                Pending::Nothing | Pending::Suspend(_, _) if full => Err(StartFailure::OutboxFull),
+                Pending::Nothing | Pending::Suspend(_, _) => {
+                    Ok(Change::Pended(Pending::Suspend(step, origin)))
+                }
             },
             (Directive::Suspend(_, _), Status::Held) => Err(StartFailure::NotRunning),
 
@@ -83,8 +82,13 @@ impl<A: Allocator> Record<A> {
             (Directive::Abort, Status::Held) => Ok(Change::Quit(Cause::Aborted)),
 
             (Directive::Communicate(_), Status::Inactive) => Err(StartFailure::NotActive),
-            (Directive::Communicate(words), Status::Running) => send(&self.mailbox, words),
-            (Directive::Communicate(words), Status::Held) => send(&self.mailbox, words),
+            (Directive::Communicate(words), Status::Running | Status::Held) => {
+                if self.mailbox.has_room(words.len()) {
+                    Ok(Change::Sent(words))
+                } else {
+                    Err(StartFailure::MailboxFull)
+                }
+            }
         }
     }
 
@@ -101,10 +105,15 @@ impl<A: Allocator> Record<A> {
         match change {
             Change::Started { budget, arguments } => {
                 outbox.overtake(self.control.pending);
-                self.remaining = budget_of(budget);
                 self.execution.start(arguments);
                 self.mailbox.clear();
-                self.control = Control::running();
+                self.control = Control {
+                    status: Status::Running,
+                    pending: Pending::Nothing,
+                    pass: false,
+                    cause: Cause::Nothing,
+                };
+                self.remaining = if budget == 0 { None } else { Some(budget) };
             }
             Change::Sent(words) => self.mailbox.append(words),
             Change::Pended(pending) => {
@@ -121,29 +130,4 @@ impl<A: Allocator> Record<A> {
             }
         }
     }
-}
-
-// A stop or suspend becomes pending, or no place is free for its completion.
-fn pend<'a>(full: bool, pending: Pending) -> Result<Change<'a>, StartFailure>
-    ensures decision { decision_of result ≡ postponement full pending }
-    ensures place { IfOk result (λ change. HasPlaceFor full (change_of change)) }
-    ensures fits { (o : Option Rec) → IfOk result (λ change. FitsIn (change_of change) o) }
-{
-    if full {
-        return Err(StartFailure::OutboxFull);
-    }
-    Ok(Change::Pended(pending))
-}
-
-// Words are taken, or there is no room for all of them.
-fn send<'a>(mailbox: &Mailbox, words: &'a [u64]) -> Result<Change<'a>, StartFailure>
-    ensures decision { decision_of result ≡ communication words.now (length mailbox.now) }
-    ensures fits { (r : Rec) → r.mailbox ≡ mailbox.now →
-        IfOk result (λ change. FitsIn (change_of change) (Some r)) }
-    ensures place { (full : Bool) → IfOk result (λ change. HasPlaceFor full (change_of change)) }
-{
-    if mailbox.has_room(words.len()) {
-        return Ok(Change::Sent(words));
-    }
-    Err(StartFailure::MailboxFull)
 }

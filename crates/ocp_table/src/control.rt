@@ -44,19 +44,7 @@ ghost use Rattle.std.specs.Prelude.{◌≡◌};
 ghost use Rattle.ocp_table.specs.Effects.{matches};
 
 impl Control {
-    ghost use Rattle.ocp_table.specs.Effects.{running, inactive, control_on_hold, control_at_step_end, control_by_outcome};
-
-    /// That of a procedure that was started.
-    pub(crate) fn running() -> Control
-        ensures { result ≡ running }
-    {
-        Control {
-            status: Status::Running,
-            pending: Pending::Nothing,
-            pass: false,
-            cause: Cause::Nothing,
-        }
-    }
+    ghost use Rattle.ocp_table.specs.Effects.{inactive, control_on_hold, control_at_step_end, control_by_outcome};
 
     /// That of a procedure that became inactive: nothing is pending.
     pub(crate) fn inactive(cause: Cause) -> Control

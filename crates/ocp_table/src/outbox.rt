@@ -1,7 +1,7 @@
 //! The completions that wait to be reported.
-ghost use Rattle.std.specs.Prelude.{◌≡◌, ◌≤◌, ◌<◌, ◌+◌, [], ◌∷◌, ◌++◌, length};
+ghost use Rattle.std.specs.Prelude.{◌≡◌, ◌≤◌, ◌<◌, ◌+◌, [], ◌++◌, length};
 ghost use Rattle.ocp_table.specs.Outbox.{places_of};
-ghost use Rattle.ocp_table.specs.Effects.{failed_completion, due_completion, dues_at_step_end, dues_by_outcome};
+ghost use Rattle.ocp_table.specs.Effects.{failed_completion, dues_at_step_end, dues_by_outcome};
 
 use crate::control::matches;
 use crate::{
@@ -46,26 +46,11 @@ impl Outbox {
         self.dues.as_slice()
     }
 
-    /// How many wait.
-    pub(crate) fn len(&self) -> usize
-        ensures { result ≡ length self.now }
-    {
-        self.dues.len()
-    }
-
     /// Drops all of them.
     pub(crate) fn clear(&mut self)
         ensures { self.new ≡ [] }
     {
         self.dues.clear();
-    }
-
-    // One more waits.
-    fn push(&mut self, due: Due)
-        requires { length self.old < OUTBOX_PLACES }
-        ensures { self.new ≡ self.old ++ due ∷ [] }
-    {
-        self.dues.push(due);
     }
 
     /// What was pending is overtaken. That is reported whatever the flags of its request are.
@@ -78,34 +63,27 @@ impl Outbox {
             Pending::Stop(_, origin) => origin,
             Pending::Suspend(_, origin) => origin,
         };
-        self.push(Due {
+        self.dues.push(Due {
             origin,
             failure: Some(CompletionFailure::Overtaken),
         });
     }
 
-    // What was pending is completed. That is reported where the flag of its request is set.
-    fn complete(&mut self, origin: PendingOrigin)
-        requires { length self.old < OUTBOX_PLACES }
-        ensures { self.new ≡ self.old ++ due_completion origin }
-    {
-        if is_completion_asked(origin.ack) {
-            self.push(Due {
-                origin,
-                failure: None,
-            });
-        }
-    }
-
-    // A step ends: what is pending for it is completed.
+    // A step ends: what is pending for it is completed. That is reported where the flag of its request is set.
     fn end_step(&mut self, pending: Pending, step: u16)
         requires { length self.old + places_of pending ≤ OUTBOX_PLACES }
         ensures { self.new ≡ self.old ++ dues_at_step_end pending step }
     {
-        match pending {
-            Pending::Stop(wanted, origin) if matches(wanted, step) => self.complete(origin),
-            Pending::Suspend(wanted, origin) if matches(wanted, step) => self.complete(origin),
-            _ => {}
+        let (wanted, origin) = match pending {
+            Pending::Nothing => return,
+            Pending::Stop(wanted, origin) => (wanted, origin),
+            Pending::Suspend(wanted, origin) => (wanted, origin),
+        };
+        if matches(wanted, step) && is_completion_asked(origin.ack) {
+            self.dues.push(Due {
+                origin,
+                failure: None,
+            });
         }
     }
 

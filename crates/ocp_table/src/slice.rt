@@ -83,18 +83,26 @@ impl<A: Allocator> Record<A> {
         last.is_on() && self.is_running()
     }
 
-    // A slice of a running procedure: what needs no engine is done in stretches, and what does as an event.
-    fn run_slice(&mut self, pool: &mut Pool<A>, outbox: &mut Outbox, budget: u32) -> Slice
-        requires running { self.old.control.status ≡ Running }
+    /// Does instructions until the budget is used or the procedure no longer goes on: what needs no
+    /// engine is done in stretches, and what does as an event.
+    pub(crate) fn slice(&mut self, pool: &mut Pool<A>, outbox: &mut Outbox, budget: u32) -> Slice
+        requires budget { 1 ≤ budget }
         requires place { length outbox.old + places_of self.old.control.pending ≤ OUTBOX_PLACES }
         ensures slice { (m : Records) → get m self.old.id ≡ Some (record_of self.old) →
             IsSlice self.old.id
             (record { records = m; outbox = outbox.old; pool = pool.old })
             budget result (record_of self.new) outbox.new pool.new }
-        ensures done { is_done result.last ≡ true }
+        ensures done { is_running_status self.old.control.status ≡ true →
+            is_done result.last ≡ true }
         ensures place { length outbox.new + places_of self.new.control.pending ≤ OUTBOX_PLACES }
         ensures id { self.new.id ≡ self.old.id }
     {
+        if !self.is_running() {
+            return Slice {
+                count: 1,
+                last: StepOutcome::NotRunning,
+            };
+        }
         let mut count = 0;
         let mut last = StepOutcome::Ran;
         while count < budget {
@@ -112,27 +120,5 @@ impl<A: Allocator> Record<A> {
             }
         }
         Slice { count, last }
-    }
-
-    /// Does instructions until the budget is used or the procedure no longer goes on.
-    pub(crate) fn slice(&mut self, pool: &mut Pool<A>, outbox: &mut Outbox, budget: u32) -> Slice
-        requires budget { 1 ≤ budget }
-        requires place { length outbox.old + places_of self.old.control.pending ≤ OUTBOX_PLACES }
-        ensures slice { (m : Records) → get m self.old.id ≡ Some (record_of self.old) →
-            IsSlice self.old.id
-            (record { records = m; outbox = outbox.old; pool = pool.old })
-            budget result (record_of self.new) outbox.new pool.new }
-        ensures done { is_running_status self.old.control.status ≡ true →
-            is_done result.last ≡ true }
-        ensures place { length outbox.new + places_of self.new.control.pending ≤ OUTBOX_PLACES }
-        ensures id { self.new.id ≡ self.old.id }
-    {
-        if self.is_running() {
-            return self.run_slice(pool, outbox, budget);
-        }
-        Slice {
-            count: 1,
-            last: StepOutcome::NotRunning,
-        }
     }
 }

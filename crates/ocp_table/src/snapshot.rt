@@ -44,22 +44,7 @@ impl<A: Allocator> Snapshot<A> {
     ghost use Rattle.bpf_step.specs.Step.{StandsIn};
     ghost use Rattle.ocp_table.specs.Budgets.{IsWithin};
     ghost use Rattle.ocp_table.specs.Shown.{record_of};
-    ghost use Rattle.ocp_table.specs.Snapshots.{snapshot_of, snapshot_at, run_of, count_of};
-
-    /// That of a procedure.
-    fn of(alloc: A, procedure: &Record<A>) -> Result<Self, AllocError>
-    where
-        A: Copy,
-        ensures { IfOk result (λ s. s ≡ snapshot_of (record_of procedure.now)) }
-    {
-        Ok(Snapshot {
-            execution: procedure.execution.share(alloc)?,
-            breakpoints: procedure.breakpoints.clone()?,
-            pass: procedure.control.pass,
-            traced: procedure.traced,
-            remaining: procedure.remaining,
-        })
-    }
+    ghost use Rattle.ocp_table.specs.Snapshots.{snapshot_at, run_of, count_of};
 
     /// That of a procedure, where it runs.
     pub(crate) fn take(alloc: A, procedure: &Record<A>) -> Result<Option<Self>, AllocError>
@@ -68,10 +53,13 @@ impl<A: Allocator> Snapshot<A> {
         ensures { IfOk result (λ s. s ≡ snapshot_at (Some (record_of procedure.now))) }
     {
         match procedure.control.status {
-            Status::Running => {
-                let snapshot = Snapshot::of(alloc, procedure)?;
-                Ok(Some(snapshot))
-            }
+            Status::Running => Ok(Some(Snapshot {
+                execution: procedure.execution.share(alloc)?,
+                breakpoints: procedure.breakpoints.clone()?,
+                pass: procedure.control.pass,
+                traced: procedure.traced,
+                remaining: procedure.remaining,
+            })),
             Status::Inactive | Status::Held => Ok(None),
         }
     }
@@ -84,17 +72,9 @@ impl<A: Allocator> Snapshot<A> {
         ensures kept { (result ≡ false) → self.new ≡ self.old }
     {
         match procedure.control.status {
-            Status::Running => self.retake_running(procedure),
-            Status::Inactive | Status::Held => false,
+            Status::Running => {}
+            Status::Inactive | Status::Held => return false,
         }
-    }
-
-    /// Becomes that of a procedure.
-    fn retake_running(&mut self, procedure: &Record<A>) -> bool
-        ensures taken { IsTrue result → snapshot_of (record_of procedure.now) ≡ self.new }
-        ensures addresses { HasAddressesOf self.old.machine self.new.machine }
-        ensures kept { (result ≡ false) → self.new ≡ self.old }
-    {
         let Ok(breakpoints) = procedure.breakpoints.clone() else {
             return false;
         };
@@ -108,23 +88,18 @@ impl<A: Allocator> Snapshot<A> {
         true
     }
 
-    /// Whether the procedure's parts are still the same.
-    fn is_of(&self, procedure: &Record<A>) -> bool
-        ensures { IsTrue result ↔ (snapshot_of (record_of procedure.now) ≡ self.now) }
-    {
-        self.pass == procedure.control.pass
-            && self.traced == procedure.traced
-            && self.remaining == procedure.remaining
-            && self.breakpoints.as_slice() == procedure.breakpoints.as_slice()
-            && self.execution.is_same(&procedure.execution)
-    }
-
     /// Whether the procedure still runs, and its parts are the same.
     pub(crate) fn is_at(&self, procedure: &Record<A>) -> bool
         ensures { IsTrue result ↔ (snapshot_at (Some (record_of procedure.now)) ≡ Some self.now) }
     {
         match procedure.control.status {
-            Status::Running => self.is_of(procedure),
+            Status::Running => {
+                self.pass == procedure.control.pass
+                    && self.traced == procedure.traced
+                    && self.remaining == procedure.remaining
+                    && self.breakpoints.as_slice() == procedure.breakpoints.as_slice()
+                    && self.execution.is_same(&procedure.execution)
+            }
             Status::Inactive | Status::Held => false,
         }
     }

@@ -57,14 +57,18 @@ untouched w i = record w { outbox = append-nil w.outbox i; traces = append-nil w
 
 -- ---- a request
 
-module _ (origin : Origin) (w : World) where
-  accepted_request : (request : Command) → is_accepted (answer_by (command_effect request origin w).reply w) ≡ true
-  accepted_request (command.Load id code) = refl
-  accepted_request other = refl
+-- what holds of each answer with reports holds of that to a request
+module _ (test : Answer → Bool) (b : Bool) (told : (reports : List (List ℕ)) → test (Requested (Ok reports)) ≡ b) (origin : Origin) (w : World) where
+  told_request : (request : Command) → test (answer_by (command_effect request origin w).reply w) ≡ b
+  told_request (command.Load id code) = told _
+  told_request other = told _
 
-  accepted_service : (r : Result Command RequestFault) → is_accepted (answer_by (service_effect r origin w).reply w) ≡ true
-  accepted_service (Ok request) = accepted_request request
-  accepted_service (Err fault) = refl
+  told_service : (r : Result Command RequestFault) → test (answer_by (service_effect r origin w).reply w) ≡ b
+  told_service (Ok request) = told_request request
+  told_service (Err fault) = told _
+
+accepted_service : (origin : Origin) (w : World) (r : Result Command RequestFault) → is_accepted (answer_by (service_effect r origin w).reply w) ≡ true
+accepted_service = told_service is_accepted true (λ reports. refl)
 
 -- octets that are read are discarded, or an accepted request
 discard_read : (r : Result Telecommand TcFault) (time : ℕ) (w : World) → IsDiscard (answer_by (request_effect r time w).reply w) (discard_of r)
@@ -221,39 +225,13 @@ module _ (m : Records) (by id : ℕ) (w : World) (same : m ≡ w.records) (o : O
 -- ---- no answer is that of a full journal
 
 abbrev is_full : Answer → Bool
-is_full (Requested (Ok reports)) = false
 is_full (Requested (Err engine.JournalFull)) = true
-is_full (Requested (Err (engine.Discarded cause))) = false
-is_full (Requested (Err engine.Memory)) = false
-is_full (Requested (Err engine.NothingDue)) = false
 is_full (Stepped S.JournalFull) = true
-is_full (Stepped S.Broke) = false
-is_full (Stepped S.Ran) = false
-is_full (Stepped S.Called) = false
-is_full (Stepped S.Ended) = false
-is_full (Stepped (S.Faulted number)) = false
-is_full (Stepped S.NotLoaded) = false
-is_full (Stepped S.NotRunning) = false
-is_full (Commanded (Ok done)) = false
 is_full (Commanded (Err debug.JournalFull)) = true
-is_full (Commanded (Err debug.NotLoaded)) = false
-is_full (Commanded (Err debug.NotAnInstruction)) = false
-is_full (Commanded (Err debug.AlreadySet)) = false
-is_full (Commanded (Err debug.BreaksFull)) = false
-is_full (Commanded (Err debug.NotSet)) = false
-is_full (Commanded (Err debug.OutsideMemory)) = false
-
-module _ (origin : Origin) (w : World) where
-  roomy_request : (request : Command) → is_full (answer_by (command_effect request origin w).reply w) ≡ false
-  roomy_request (command.Load id code) = refl
-  roomy_request other = refl
-
-  roomy_service : (r : Result Command RequestFault) → is_full (answer_by (service_effect r origin w).reply w) ≡ false
-  roomy_service (Ok request) = roomy_request request
-  roomy_service (Err fault) = refl
+is_full answer = false
 
 roomy_octets : (r : Result Telecommand TcFault) (time : ℕ) (w : World) → is_full (answer_by (request_effect r time w).reply w) ≡ false
-roomy_octets (Ok telecommand) time w = roomy_service (origin_of telecommand time) w (command_of w.profile telecommand)
+roomy_octets (Ok telecommand) time w = told_service is_full false (λ reports. refl) (origin_of telecommand time) w (command_of w.profile telecommand)
 roomy_octets (Err (Rejected rejection request)) time w = refl
 roomy_octets (Err (Discarded cause)) time w = refl
 

@@ -1,37 +1,26 @@
 -- A slice: instructions of one procedure, up to a budget, until it no longer runs.
-use Rattle.std.specs.Prelude.{ℕ, zero, suc, Bool, true, false, Option, Some, None, if◌then◌else◌}
+use Rattle.std.specs.Prelude.{ℕ, zero, suc, Bool, false, Option, if◌then◌else◌}
 use Rattle.std.specs.FinMap.{get}
 use Rattle.obcp_types.specs.declared.status.Status.{Status}
-use Rattle.obcp_types.specs.declared.status.Status.TheVariants.{Inactive, Running, Held}
 use Rattle.ocp_table.specs.Records.{Rec}
 use Rattle.ocp_table.specs.Effects.{step_outcome}
 use Rattle.ocp_table.specs.RequestTable as directive
 use Rattle.ocp_table.specs.Deciding.{effect_in}
 use Rattle.ocp_table.specs.declared.answers.StepOutcome.{StepOutcome}
-use Rattle.ocp_table.specs.declared.answers.StepOutcome.TheVariants as S
+use Rattle.ocp_table.specs.Slices as table
 use Rattle.ocp_world.specs.World.{World, Step}
 use Rattle.ocp_world.specs.After.{after}
 
 abbrev pub is_running_status : Status → Bool
-is_running_status Inactive = false
-is_running_status Running = true
-is_running_status Held = false
+is_running_status = table.is_running_status
 
 -- whether the procedure of a record, where there is one, runs
 abbrev pub is_running : Option Rec → Bool
-is_running None = false
-is_running (Some r) = is_running_status r.control.status
+is_running = table.is_running
 
 -- whether a slice goes on after this outcome, as long as the procedure runs
 abbrev pub is_on : StepOutcome → Bool
-is_on S.Broke = false
-is_on S.Ran = true
-is_on S.Called = true
-is_on S.Ended = false
-is_on (S.Faulted number) = false
-is_on S.NotLoaded = false
-is_on S.NotRunning = false
-is_on S.JournalFull = false
+is_on = table.is_on
 
 -- the outcome of an instruction event of this procedure
 abbrev pub next_outcome : World → ℕ → StepOutcome

@@ -1,18 +1,12 @@
-//! What is read of octets, and the status report.
+//! Why octets are discarded.
 
 ghost use Rattle.std.specs.Prelude.{◌≡◌, ℕ, List};
 ghost use Rattle.pus_fields.specs.TelecommandFaults.{telecommand_of};
 ghost use Rattle.ocp_world.specs.World.{World, Request as Asked};
-ghost use Rattle.ocp_world.specs.Requests.{status_report, pending_origin};
 ghost use Rattle.ocp_world.specs.After.{after};
 ghost use Rattle.ocp_world.specs.Mirror.Answering.{discard_of, IsDiscard};
 
-use obcp_messages::{Report, StatusRows};
-use obcp_types::PendingOrigin;
-use ocp_reports::Origin;
-use ocp_table::Table;
 use pus_fields::{Discard, Tc, TcFault};
-use std::alloc::Allocator;
 
 /// Why octets are discarded, as they were read, where they are: then the request is refused so in
 /// every world of this application process, and else it is accepted.
@@ -26,29 +20,5 @@ pub fn discard_of(read: &Result<Tc<'_>, TcFault>) -> Option<Discard>
     match read {
         Err(TcFault::Discarded(cause)) => Some(*cause),
         Err(TcFault::Rejected(_, _)) | Ok(_) => None,
-    }
-}
-
-/// Where the completion of a pending stop or suspend goes, by the origin of its request and the
-/// number of its event.
-pub fn pending_origin(origin: Origin, event: u64) -> PendingOrigin
-    ensures { result ≡ pending_origin origin event }
-{
-    let request = origin.request;
-    PendingOrigin {
-        event,
-        request,
-        source: origin.destination,
-        ack: origin.ack,
-    }
-}
-
-/// The status report.
-pub fn status_report<A: Allocator>(table: &Table<A>) -> Report
-    ensures { result ≡ status_report table.now.records }
-{
-    match StatusRows::new(table.statuses()) {
-        Some(rows) => Report::Status { rows },
-        None => unreachable!(),
     }
 }

@@ -46,18 +46,6 @@ impl<A: Allocator> Heap<A> {
         self.alloc
     }
 
-    // Notes whether memory was refused.
-    fn note<T>(&mut self, given: Result<T, AllocError>) -> Result<T, AllocError>
-        ensures given { result ≡ given }
-        ensures refused { OnErr result (self.new ≡ true) }
-        ensures kept { OnOk result (self.new ≡ self.old) }
-    {
-        if given.is_err() {
-            self.refused = true;
-        }
-        given
-    }
-
     /// A copy of borrowed octets.
     pub fn copy_of(&mut self, octets: &[u8]) -> Result<Octets<A>, AllocError>
     where
@@ -67,7 +55,8 @@ impl<A: Allocator> Heap<A> {
         ensures kept { OnOk result (self.new ≡ self.old) }
     {
         let copy = Octets::copy_of(self.alloc, octets);
-        self.note(copy)
+        self.refused |= copy.is_err();
+        copy
     }
 
     /// The packets of the reports of a request, with copies of them.
@@ -86,6 +75,7 @@ impl<A: Allocator> Heap<A> {
         ensures kept { OnOk result (self.new ≡ self.old) }
     {
         let reports = sender.copied_reports(self.alloc, origin, outcome, answer);
-        self.note(reports)
+        self.refused |= reports.is_err();
+        reports
     }
 }

@@ -7,7 +7,6 @@ mod convert;
 mod drain;
 mod heap;
 pub mod laws;
-mod machine;
 mod settle;
 mod slice;
 mod state;

@@ -4,6 +4,7 @@ ghost use Rattle.std.specs.Prelude.{◌≡◌, ◌↔◌, ℕ, IfOk, IsTrue, Som
 ghost use Rattle.std.specs.FinMap.{get};
 ghost use Rattle.ocp_table.specs.Snapshots.{snapshot_at, machine_for, StandsAt};
 ghost use Rattle.bpf_step.specs.Machine.{State as Machined, HasAddressesOf};
+ghost use Rattle.ocp_table.specs.Laws.{machine_of};
 ghost use Rattle.ocp_table.specs.Records.{Rec};
 ghost use Rattle.ocp_table.specs.declared.answers.StepOutcome.TheVariants as outcome;
 ghost use Rattle.ocp_world.specs.World.{World, Step};
@@ -59,6 +60,20 @@ impl<A: Allocator> State<A> {
             machine.new ≡ machine_for (get w.records id) machine.old }
     {
         self.table.settle(id, count, machine);
+    }
+
+    /// A machine like that of a procedure, where it is loaded.
+    pub fn machine(&self, alloc: A, id: u16) -> Result<Option<Machine<A>>, AllocError>
+    where
+        A: Copy,
+        ensures { (w : World) → IsWorld w self.now →
+            IfOk result (λ machine. machine ≡ machine_of (get w.records id)) }
+    {
+        let Some(procedure) = self.table.record(id) else {
+            return Ok(None);
+        };
+        let machine = procedure.execution.machine(alloc)?;
+        Ok(Some(machine))
     }
 }
 

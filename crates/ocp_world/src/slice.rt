@@ -41,36 +41,6 @@ impl<A: Allocator> State<A> {
         }
     }
 
-    // The slice of a traced procedure: each instruction makes a trace record.
-    fn slice_by_steps(&mut self, id: u16, budget: u32) -> Slice
-        requires { 1 ≤ budget }
-        ensures world { (w : World) (by : ℕ) → IsWorld w self.old →
-            IsWorld (replay_from w (replicate result.count (Step by id))) self.new }
-        ensures events { (w : World) (by : ℕ) → IsWorld w self.old →
-            is_accepted (after w (Step by id)).answer ≡ true →
-            (replay_from w (replicate result.count (Step by id))).events ≡
-            w.events + result.count }
-        ensures count { (w : World) (by : ℕ) → IsWorld w self.old →
-            result.count ≡ slice_count w by id budget }
-        ensures last { (w : World) (by : ℕ) → IsWorld w self.old →
-            result.last ≡ slice_last w by id StepOutcome.Ran budget }
-    {
-        let mut last = StepOutcome::Ran;
-        for count in 0..budget {
-            last = self.step(id);
-            if !self.goes_on(id, last) {
-                return Slice {
-                    count: count + 1,
-                    last,
-                };
-            }
-        }
-        Slice {
-            count: budget,
-            last,
-        }
-    }
-
     /// Does instructions of one procedure until the budget is used or it no longer goes on. Each of
     /// them is an accepted event, where the first is.
     pub fn slice(&mut self, id: u16, budget: u32) -> Slice
@@ -86,9 +56,23 @@ impl<A: Allocator> State<A> {
         ensures last { (w : World) (by : ℕ) → IsWorld w self.old →
             result.last ≡ slice_last w by id StepOutcome.Ran budget }
     {
-        match self.table.slice(id, &mut self.pool, budget) {
-            Some(slice) => slice,
-            None => self.slice_by_steps(id, budget),
+        if let Some(slice) = self.table.slice(id, &mut self.pool, budget) {
+            return slice;
+        }
+        // each instruction of a traced procedure makes a trace record
+        let mut last = StepOutcome::Ran;
+        for count in 0..budget {
+            last = self.step(id);
+            if !self.goes_on(id, last) {
+                return Slice {
+                    count: count + 1,
+                    last,
+                };
+            }
+        }
+        Slice {
+            count: budget,
+            last,
         }
     }
 }

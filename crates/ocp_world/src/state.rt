@@ -1,13 +1,13 @@
 //! What the engine keeps of its world.
 
-ghost use Rattle.std.specs.Prelude.{◌≡◌, ◌≤◌, ◌<◌, ℕ, List, [], ◌∷◌, ◌++◌, true, false, length, vec_capacity, None, Ok, Err, IfOk, OnOk, OnErr, slice_get};
+ghost use Rattle.std.specs.Prelude.{◌≡◌, ◌≤◌, ◌<◌, ℕ, List, ◌++◌, true, false, length, vec_capacity, None, Ok, Err, IfOk, OnOk, OnErr, slice_get};
 ghost use Rattle.std.specs.List.{flat_map};
 ghost use Rattle.std.specs.Option.{option_to_list};
 ghost use Rattle.std.specs.FinMap.{get};
 ghost use Rattle.pus_fields.specs.TelecommandFaults.{telecommand_of};
 ghost use Rattle.ocp_table.specs.RequestTable as directive;
-ghost use Rattle.ocp_table.specs.Effects.{Changed, Kept, Unasked, Failed};
-ghost use Rattle.ocp_table.specs.Shown.{view_at, change_of, directive_of, HasFewArguments};
+ghost use Rattle.ocp_table.specs.Effects.{Kept, Unasked, Failed};
+ghost use Rattle.ocp_table.specs.Shown.{view_at, directive_of, HasFewArguments};
 ghost use Rattle.ocp_debug.specs.declared.command.DebugFault.{DebugFault as Fault};
 ghost use Rattle.ocp_debug.specs.Memory.{memory_at};
 ghost use Rattle.ocp_debug.specs.Traces.{last_traces};
@@ -16,14 +16,13 @@ ghost use Rattle.ocp_reports.specs.Reports.{reports_of};
 ghost use Rattle.ocp_world.specs.World.{World, opening, Step, Debug, Request as Asked};
 ghost use Rattle.ocp_world.specs.declared.answers.EngineFault.TheVariants as engine;
 ghost use Rattle.ocp_world.specs.Effect.{Sends};
-ghost use Rattle.ocp_world.specs.Requests.{refusal_effect, start_effect, directive_effect, command_effect, request_effect, status_report, outcome_by, has_no_place};
+ghost use Rattle.ocp_world.specs.Requests.{directive_effect, command_effect, has_no_place};
 ghost use Rattle.ocp_world.specs.After.{Stepped, Commanded, after, effect_of};
 ghost use Rattle.ocp_world.specs.Loading.{FindsPlace, IsLoadInto, TakesRecord};
 
-use crate::convert::{pending_origin, status_report};
 use crate::{EngineFault, Heap};
-use obcp_messages::{Report, Request, read_request};
-use obcp_types::{AcceptanceFailure, StartFailure};
+use obcp_messages::{Report, Request, StatusRows, read_request};
+use obcp_types::{AcceptanceFailure, PendingOrigin};
 use ocp_debug::{Command, DebugFault, TraceRing};
 use ocp_pool::{MAX_POOL_WORDS, Pool};
 use ocp_profile::Profile;
@@ -58,11 +57,14 @@ impl<A: Allocator> State<A> {
         requires few { words ≤ MAX_POOL_WORDS }
         ensures { IfOk result (IsWorld (opening profile apid words)) }
     {
+        let Some(count) = SequenceCount::new(0) else {
+            unreachable!()
+        };
         Ok(State {
             apid,
             table: Table::new(alloc, profile)?,
             pool: Pool::new(alloc, words)?,
-            count: first_count(),
+            count,
             ring: TraceRing::new(alloc)?,
         })
     }
@@ -177,22 +179,6 @@ impl<A: Allocator> State<A> {
         Ok(reports)
     }
 
-    // Sends the reports of a failed start.
-    fn fail(
-        &mut self,
-        heap: &mut Heap<A>,
-        origin: Origin,
-        failure: StartFailure,
-    ) -> Result<CopiedReports<A>, EngineFault>
-    where
-        A: Copy,
-        ensures does { Does self.old self.new result
-            (λ w. start_effect origin [] (Kept (Failed failure))) }
-        ensures memory { result ≡ Err engine.Memory → heap.new ≡ true }
-    {
-        self.reply(heap, origin, Outcome::NotStarted(failure), &None)
-    }
-
     // Loads a procedure.
     fn load(
         &mut self,
@@ -214,7 +200,9 @@ impl<A: Allocator> State<A> {
                 self.table.insert(loading);
                 Ok(reports)
             }
-            Err(LoadFailure::Failed(failure)) => self.fail(heap, origin, failure),
+            Err(LoadFailure::Failed(failure)) => {
+                self.reply(heap, origin, Outcome::NotStarted(failure), &None)
+            }
             Err(LoadFailure::Memory) => Err(EngineFault::Memory),
         }
     }
@@ -239,7 +227,7 @@ impl<A: Allocator> State<A> {
                 self.table.remove(id, place);
                 Ok(reports)
             }
-            Err(failure) => self.fail(heap, origin, failure),
+            Err(failure) => self.reply(heap, origin, Outcome::NotStarted(failure), &None),
         }
     }
 
@@ -261,11 +249,16 @@ impl<A: Allocator> State<A> {
     {
         match self.table.decide(id, directive) {
             Ok(decided) => {
-                let reports = self.reply(heap, origin, outcome_of(decided.change), &None)?;
+                let outcome = match decided.change {
+                    Change::Pended(_) => Outcome::Started,
+                    Change::Started { .. } | Change::Sent(_) | Change::Quit(_) | Change::Resumed =>
+                        { Outcome::Done }
+                };
+                let reports = self.reply(heap, origin, outcome, &None)?;
                 self.table.enact(id, decided);
                 Ok(reports)
             }
-            Err(failure) => self.fail(heap, origin, failure),
+            Err(failure) => self.reply(heap, origin, Outcome::NotStarted(failure), &None),
         }
     }
 
@@ -284,6 +277,13 @@ impl<A: Allocator> State<A> {
         ensures memory { result ≡ Err engine.Memory → heap.new ≡ false →
             IsLoadInto self.old.table.records request.entry }
     {
+        let packet = origin.request;
+        let from = PendingOrigin {
+            event,
+            request: packet,
+            source: origin.destination,
+            ack: origin.ack,
+        };
         match request {
             Request::Load { id, code } => self.load(heap, origin, id, code.octets()),
             Request::Unload { id } => self.unload(heap, origin, id),
@@ -296,11 +296,9 @@ impl<A: Allocator> State<A> {
                 self.direct(heap, origin, id, Directive::Activate { budget, arguments })
             }
             Request::Stop { id, step } => {
-                let from = pending_origin(origin, event);
                 self.direct(heap, origin, id, Directive::Stop(step, from))
             }
             Request::Suspend { id, step } => {
-                let from = pending_origin(origin, event);
                 self.direct(heap, origin, id, Directive::Suspend(step, from))
             }
             Request::Resume { id } => self.direct(heap, origin, id, Directive::Resume),
@@ -308,8 +306,10 @@ impl<A: Allocator> State<A> {
                 self.direct(heap, origin, id, Directive::Communicate(words.as_slice()))
             }
             Request::Status => {
-                let report = status_report(&self.table);
-                self.reply(heap, origin, Outcome::Done, &Some(report))
+                let Some(rows) = StatusRows::new(self.table.statuses()) else {
+                    unreachable!()
+                };
+                self.reply(heap, origin, Outcome::Done, &Some(Report::Status { rows }))
             }
             Request::Abort { id } => self.direct(heap, origin, id, Directive::Abort),
         }
@@ -353,27 +353,5 @@ impl<A: Allocator> State<A> {
             }
             Err(TcFault::Discarded(cause)) => Err(EngineFault::Discarded(cause)),
         }
-    }
-}
-
-// What becomes of a request that does not fail: its stop or suspend waits, or it is done.
-fn outcome_of(change: Change<'_>) -> Outcome
-    ensures { (id : ℕ) → result ≡ outcome_by (Changed id (change_of change.entry)) }
-{
-    match change {
-        Change::Pended(_) => Outcome::Started,
-        Change::Started { .. } | Change::Sent(_) | Change::Quit(_) | Change::Resumed => {
-            Outcome::Done
-        }
-    }
-}
-
-// The sequence count of the first report.
-fn first_count() -> SequenceCount
-    ensures { result ≡ 0 }
-{
-    match SequenceCount::new(0) {
-        Some(count) => count,
-        None => unreachable!(),
     }
 }

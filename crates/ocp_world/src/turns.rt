@@ -3,7 +3,7 @@
 ghost use Rattle.std.specs.Prelude.{◌≡◌, ◌↔◌, ℕ, None, IfSome};
 ghost use Rattle.ocp_world.specs.World.{World};
 ghost use Rattle.ocp_world.specs.NextRunning.{IsNextRunning, Runs};
-ghost use Rattle.ocp_world.specs.Mirror.Turns.{runs_from, first_from, bound_after, next_in};
+ghost use Rattle.ocp_world.specs.Mirror.Turns.{runs_from, first_from, next_in};
 
 use crate::State;
 use ocp_table::{Status, StatusRow};
@@ -31,21 +31,15 @@ fn first_running(rows: &[StatusRow], from: u32) -> Option<u16>
     None
 }
 
-// The least id above the one before.
-fn bound_after(before: Option<u16>) -> u32
-    ensures { result ≡ bound_after before }
-{
-    match before {
-        Some(id) => u32::from(id) + 1,
-        None => 0,
-    }
-}
-
 // The running procedure of rows whose turn is next.
 fn next_of(rows: &[StatusRow], before: Option<u16>) -> Option<u16>
     ensures { result ≡ next_in before rows.now }
 {
-    match first_running(rows, bound_after(before)) {
+    let from = match before {
+        Some(id) => u32::from(id) + 1,
+        None => 0,
+    };
+    match first_running(rows, from) {
         Some(id) => Some(id),
         None => first_running(rows, 0),
     }

@@ -1,5 +1,6 @@
 -- Which worlds a state stands for, and what a request or a drain makes of it.
 use Rattle.std.specs.Prelude.{◌≡◌, ◌%◌, ℕ, List, Result, Ok, Err}
+use Rattle.space_packet.specs.declared.range.TheConstants.{SEQUENCE_COUNTS}
 use Rattle.ocp_debug.specs.Traces.{last_traces}
 use Rattle.ocp_world.specs.declared.answers.EngineFault.{EngineFault}
 use Rattle.ocp_world.specs.World.{World}
@@ -15,7 +16,7 @@ module _ {A : Type 0} where
     pub records : s.table.records ≡ w.records
     pub outbox : s.table.outbox ≡ w.outbox
     pub pool : s.pool ≡ w.pool
-    pub count : s.count ≡ w.reports % 16384
+    pub count : s.count ≡ w.reports % SEQUENCE_COUNTS
     pub ring : s.ring ≡ last_traces w.traces
 
   -- the state stands for the next world, or where there are no reports for the old one

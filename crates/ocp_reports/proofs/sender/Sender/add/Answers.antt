@@ -1,7 +1,7 @@
 use Rattle.std.proofs.Common.{◌≡◌, ◌++◌, Err, length, ap, ◌∙◌, arith}
 use Rattle.obcp_messages.specs.Report.{report_data}
 use Rattle.ocp_reports.proofs.Packets.{short}
-use Rattle.ocp_reports.proofs.sender.Sender.packet.Goals as goal
+use Rattle.ocp_reports.proofs.sender.Sender.add.Goals as goal
 
 pub unreachable-requires : goal.unreachable-requires
 unreachable-requires g c =

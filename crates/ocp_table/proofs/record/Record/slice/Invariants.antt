@@ -3,7 +3,7 @@ use Rattle.ocp_table.specs.declared.table.TheConstants.{OUTBOX_PLACES}
 use Rattle.ocp_table.specs.Outbox.{places_of}
 use Rattle.ocp_table.specs.Slices.{is_done}
 use Rattle.ocp_table.proofs.Slicing.{IsSliced}
-use Rattle.ocp_table.proofs.record.Record.run_slice.Given as goal
+use Rattle.ocp_table.proofs.record.Record.slice.Given as goal
 
 -- the events so far
 abbrev pub invariant-loop-count : goal.invariant-loop-count
