@@ -3,7 +3,6 @@
 ghost use Rattle.std.specs.Prelude.{◌≡◌, ◌≤◌, ◌+◌, ◌∷◌, ◌++◌, length, drop, slice_get};
 ghost use Rattle.byteorder.specs.Endian.{big_bytes};
 ghost use Rattle.ocp_core.specs.Journal.{entry_of};
-ghost use Rattle.ocp_c.specs.Statuses.{number_of};
 ghost use Rattle.ocp_c.specs.Calls.{answers, writes};
 ghost use Rattle.ocp_c.specs.Entries.{entry_octets, entry_status, entry_or, entry_length_or};
 

@@ -1,7 +1,7 @@
 //! What is printed of the debugger's commands.
 
 ghost use Rattle.std.specs.Prelude.{◌≡◌, ◌≤◌, length, Ok, Err, OnOk};
-ghost use Rattle.ocp_console.specs.Texts.{ending_text, place_line, break_line, unbreak_line, switch_name, switch_line, memory_line};
+ghost use Rattle.ocp_console.specs.Texts.{ending_text, place_line, break_line, unbreak_line, switch_line, memory_line};
 
 use crate::text::Text;
 use ocp_debug::{DebugFault, fault_name};

@@ -1,6 +1,6 @@
 //! The telecommands that a console sends.
 
-ghost use Rattle.std.specs.Prelude.{◌≡◌, ◌<◌, ◌≤◌, length, IfOk};
+ghost use Rattle.std.specs.Prelude.{◌≡◌, ◌<◌, IfOk};
 ghost use Rattle.space_packet.specs.declared.range.TheConstants.{IDLE_APID};
 ghost use Rattle.ocp_lines.specs.Grammar.{IsCarried};
 ghost use Rattle.ocp_console.specs.Answering.{telecommand};

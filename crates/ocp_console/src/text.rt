@@ -1,6 +1,6 @@
 //! A line on the stack, and the parts that it takes.
 
-ghost use Rattle.std.specs.Prelude.{◌≡◌, ◌≤◌, ◌+◌, ◌++◌, [], List, ℕ, length, OnOk, string_bytes};
+ghost use Rattle.std.specs.Prelude.{◌≡◌, ◌≤◌, ◌+◌, ◌++◌, [], List, ℕ, length, OnOk};
 ghost use Rattle.ocp_debug.specs.Texts.{word_text, outcome_text};
 
 use arrayvec::ArrayVec;

@@ -1,6 +1,5 @@
 //! A text on the stack, and the parts of lines that it takes.
 ghost use Rattle.std.specs.Prelude.{◌≡◌, ◌≤◌, ◌<◌, ◌+◌, ◌++◌, [], List, ℕ, length, vec_capacity, OnOk, OnErr};
-ghost use Rattle.std.specs.Fmt.{decimal};
 ghost use Rattle.ocp_debug.specs.Texts.{word_text, status_name, cause_text, pending_text, outcome_text};
 
 use crate::StepOutcome;
