@@ -74,23 +74,18 @@ impl<'a, A: Allocator + Copy> Input<A> for Request<'a, A> {
         engine: &mut Engine<A>,
         by: u16,
     ) -> (Result<Reports<A>, EngineFault>, Option<Entry<A>>) {
-        let Request {
-            alloc,
-            time,
-            octets,
-        } = self;
-        let read = match engine.admit(octets) {
+        let read = match engine.admit(self.octets) {
             Ok(read) => read,
             Err(fault) => return (Err(fault), None),
         };
-        let Ok(own) = Octets::copy_of(alloc, octets) else {
+        let Ok(own) = Octets::copy_of(self.alloc, self.octets) else {
             return (Err(EngineFault::Memory), None);
         };
-        match engine.accept(&mut Heap::new(alloc), by, time, octets, read) {
+        match engine.accept(&mut Heap::new(self.alloc), by, self.time, self.octets, read) {
             Ok((reports, mark)) => {
                 let receipt = Entry::Request {
                     by,
-                    time,
+                    time: self.time,
                     octets: own,
                     mark,
                 };
