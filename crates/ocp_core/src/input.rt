@@ -65,15 +65,11 @@ impl<'a, A: Allocator + Copy> Input<A> for Request<'a, A> {
 
     ghost answer = { after.Requested };
 
-    fn full(self) -> Result<Reports<A>, EngineFault> {
+    fn full(self) -> Self::Answer {
         Err(EngineFault::JournalFull)
     }
 
-    fn enter(
-        self,
-        engine: &mut Engine<A>,
-        by: u16,
-    ) -> (Result<Reports<A>, EngineFault>, Option<Entry<A>>) {
+    fn enter(self, engine: &mut Engine<A>, by: u16) -> (Self::Answer, Option<Entry<A>>) {
         let read = match engine.admit(self.octets) {
             Ok(read) => read,
             Err(fault) => return (Err(fault), None),
@@ -154,15 +150,11 @@ impl<A: Allocator + Copy> Input<A> for Drain<A> {
 
     ghost answer = { after.Requested };
 
-    fn full(self) -> Result<Reports<A>, EngineFault> {
+    fn full(self) -> Self::Answer {
         Err(EngineFault::JournalFull)
     }
 
-    fn enter(
-        self,
-        engine: &mut Engine<A>,
-        by: u16,
-    ) -> (Result<Reports<A>, EngineFault>, Option<Entry<A>>) {
+    fn enter(self, engine: &mut Engine<A>, by: u16) -> (Self::Answer, Option<Entry<A>>) {
         let Drain { alloc, time } = self;
         match engine.drain_with_copy(alloc, by, time) {
             Ok((reports, mark)) => (Ok(reports), Some(Entry::Drain { by, time, mark })),
