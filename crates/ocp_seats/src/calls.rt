@@ -22,7 +22,7 @@ impl<L: Naming, A: Allocator> Book<L, A> {
     /// journal gained.
     #[tactic(auto, using(crate::proofs::Going::goes_on_further))]
     pub fn apply<I: Input<A>>(&mut self, seat: &mut Seat<L, A>, input: I) -> I::Answer
-        ensures { Serves self.old self.new seat.old seat.new
+        ensures served { Serves self.old self.new seat.old seat.new
             (I.event seat.old.number input) (I.answer result) }
     {
         let (answer, entry) = apply(&mut self.engine, seat.number, input);
@@ -43,7 +43,7 @@ impl<L: Naming, A: Allocator> Book<L, A> {
     ) -> Result<Reports<A>, EngineFault>
     where
         A: Copy,
-        ensures { Serves self.old self.new seat.old seat.new
+        ensures served { Serves self.old self.new seat.old seat.new
             (world.Request seat.old.number time octets.now) (Requested result) }
     {
         let request = Request {
@@ -64,7 +64,7 @@ impl<L: Naming, A: Allocator> Book<L, A> {
     ) -> Result<Reports<A>, EngineFault>
     where
         A: Copy,
-        ensures { Serves self.old self.new seat.old seat.new
+        ensures served { Serves self.old self.new seat.old seat.new
             (world.Drain seat.old.number time) (Requested result) }
     {
         self.apply(seat, Drain { alloc, time })
@@ -72,7 +72,7 @@ impl<L: Naming, A: Allocator> Book<L, A> {
 
     /// `Engine::step` with the seat's number.
     pub fn step(&mut self, seat: &mut Seat<L, A>, id: u16) -> StepOutcome
-        ensures { Serves self.old self.new seat.old seat.new
+        ensures served { Serves self.old self.new seat.old seat.new
             (world.Step seat.old.number id) (Stepped result) }
     {
         self.apply(seat, Step { id })
@@ -145,7 +145,7 @@ impl<L: Naming, A: Allocator> Book<L, A> {
         id: u16,
         place: u16,
     ) -> Result<(), DebugFault>
-        ensures { Serves self.old self.new seat.old seat.new
+        ensures served { Serves self.old self.new seat.old seat.new
             (world.Debug seat.old.number id (command.SetBreak place)) (Commanded result) }
     {
         let command = Command::SetBreak(place);
@@ -159,7 +159,7 @@ impl<L: Naming, A: Allocator> Book<L, A> {
         id: u16,
         place: u16,
     ) -> Result<(), DebugFault>
-        ensures { Serves self.old self.new seat.old seat.new
+        ensures served { Serves self.old self.new seat.old seat.new
             (world.Debug seat.old.number id (command.ClearBreak place)) (Commanded result) }
     {
         let command = Command::ClearBreak(place);
@@ -168,7 +168,7 @@ impl<L: Naming, A: Allocator> Book<L, A> {
 
     /// `Engine::trace` with the seat's number.
     pub fn trace(&mut self, seat: &mut Seat<L, A>, id: u16, on: bool) -> Result<(), DebugFault>
-        ensures { Serves self.old self.new seat.old seat.new
+        ensures served { Serves self.old self.new seat.old seat.new
             (world.Debug seat.old.number id (command.SetTrace on)) (Commanded result) }
     {
         let command = Command::SetTrace(on);

@@ -126,7 +126,7 @@ impl<L: Naming, B: Board<L>> SharedEngine<L, B> {
     /// where the procedure is not what the work began with, and where the journal is full; the work
     /// is dropped then.
     pub fn commit<R: Wait>(&self, rt: &R, seat: &mut Seat<L>, work: Work) -> CommitOutcome
-        ensures { IsHandedIn B.answers seat.old seat.new work result }
+        ensures seat { IsHandedIn B.answers seat.old seat.new work result }
     {
         self.lock(rt).commit(seat, work)
     }
@@ -141,7 +141,7 @@ impl<L: Naming, B: Board<L>> SharedEngine<L, B> {
         time: u32,
         octets: &[u8],
     ) -> Result<Reports, EngineFault>
-        ensures { IsServed B.answers seat.old seat.new
+        ensures served { IsServed B.answers seat.old seat.new
             (world.Request seat.old.number time octets.now) (Requested result) }
     {
         let request = Request {
@@ -162,7 +162,7 @@ impl<L: Naming, B: Board<L>> SharedEngine<L, B> {
         seat: &mut Seat<L>,
         time: u32,
     ) -> Result<Reports, EngineFault>
-        ensures { IsServed B.answers seat.old seat.new
+        ensures served { IsServed B.answers seat.old seat.new
             (world.Drain seat.old.number time) (Requested result) }
     {
         self.lock(rt).apply(seat, Drain { alloc, time })
@@ -170,7 +170,7 @@ impl<L: Naming, B: Board<L>> SharedEngine<L, B> {
 
     /// Does one instruction of a procedure, as the engine's call with the seat's number.
     pub fn step<R: Wait>(&self, rt: &R, seat: &mut Seat<L>, id: u16) -> StepOutcome
-        ensures { IsServed B.answers seat.old seat.new
+        ensures served { IsServed B.answers seat.old seat.new
             (world.Step seat.old.number id) (Stepped result) }
     {
         self.lock(rt).apply(seat, Step { id })
@@ -195,7 +195,7 @@ impl<L: Naming, B: Board<L>> SharedEngine<L, B> {
         id: u16,
         place: u16,
     ) -> Result<(), DebugFault>
-        ensures { IsServed B.answers seat.old seat.new
+        ensures served { IsServed B.answers seat.old seat.new
             (world.Debug seat.old.number id (command.SetBreak place)) (Commanded result) }
     {
         let command = Command::SetBreak(place);
@@ -210,7 +210,7 @@ impl<L: Naming, B: Board<L>> SharedEngine<L, B> {
         id: u16,
         place: u16,
     ) -> Result<(), DebugFault>
-        ensures { IsServed B.answers seat.old seat.new
+        ensures served { IsServed B.answers seat.old seat.new
             (world.Debug seat.old.number id (command.ClearBreak place)) (Commanded result) }
     {
         let command = Command::ClearBreak(place);
@@ -226,7 +226,7 @@ impl<L: Naming, B: Board<L>> SharedEngine<L, B> {
         id: u16,
         on: bool,
     ) -> Result<(), DebugFault>
-        ensures { IsServed B.answers seat.old seat.new
+        ensures served { IsServed B.answers seat.old seat.new
             (world.Debug seat.old.number id (command.SetTrace on)) (Commanded result) }
     {
         let command = Command::SetTrace(on);
