@@ -6,6 +6,7 @@ ghost use Rattle.ocp_core.specs.Log.{world_of};
 ghost use Rattle.ocp_core.specs.Tickets.{ticket_at};
 ghost use Rattle.ocp_core.specs.Commits.{Commits, work_after};
 
+use crate::ticket::Parts;
 use crate::{CommitOutcome, Engine, Entry, StepOutcome, Ticket, Work};
 use ocp_world::instructions_done_alone_are_events;
 use std::alloc::{AllocError, Allocator};
@@ -18,13 +19,12 @@ impl<A: Allocator> Engine<A> {
         ensures { IfOk result (λ ticket.
             ticket ≡ ticket_at id (get (world_of self.now).records id)) }
     {
-        match self.state.snapshot(alloc, id)? {
-            Some(base) => {
-                let ticket = Ticket::new(alloc, id, base)?;
-                Ok(Some(ticket))
-            }
-            None => Ok(None),
-        }
+        let Some(base) = self.state.snapshot(alloc, id)? else {
+            return Ok(None);
+        };
+        let machine = base.machine(alloc)?;
+        let parts = Box::new(alloc, Parts { base, machine })?;
+        Ok(Some(Ticket { id, parts }))
     }
 
     /// Makes a ticket that of a procedure, in the same memory: none is asked for. It is refused
@@ -35,7 +35,11 @@ impl<A: Allocator> Engine<A> {
             ticket_at id (get (world_of self.now).records id) ≡ Some ticket.new }
         ensures kept { (result ≡ false) → ticket.new ≡ ticket.old }
     {
-        ticket.retake(&self.state, id)
+        if !self.state.snapshot_into(id, &mut ticket.parts.base) {
+            return false;
+        }
+        ticket.id = id;
+        true
     }
 
     /// Puts a work's instructions into its procedure, as events that happen here. Refused, in this

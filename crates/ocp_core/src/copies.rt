@@ -6,16 +6,6 @@ use crate::Reports;
 use ocp_reports::CopiedReports;
 use std::alloc::Allocator;
 
-/// The reports of a request or of a drain, with a copy for each who keeps them.
-#[derive(Drop)]
-pub struct Copies<A: Allocator> {
-    pub answer: Reports<A>,
-    /// That of the journal.
-    pub mark: Reports<A>,
-    /// That of a seat.
-    pub receipt: Reports<A>,
-}
-
 // One of copies that are all the same.
 fn next_copy<A: Allocator>(copies: &mut Vec<Reports<A>, A>) -> Reports<A>
     requires { 1 ≤ length copies.old.items }
@@ -32,19 +22,15 @@ fn next_copy<A: Allocator>(copies: &mut Vec<Reports<A>, A>) -> Reports<A>
     }
 }
 
-/// Reports and their copies, each by itself.
-pub fn copies_of<A: Allocator>(copied: CopiedReports<A>) -> Copies<A>
-    ensures answer { result.answer ≡ copied }
-    ensures mark { result.mark ≡ copied }
-    ensures receipt { result.receipt ≡ copied }
+/// Reports, the copy of the journal and that of a seat, each by itself.
+pub fn copies_of<A: Allocator>(copied: CopiedReports<A>) -> (Reports<A>, Reports<A>, Reports<A>)
+    ensures answer { result.0 ≡ copied }
+    ensures mark { result.1 ≡ copied }
+    ensures receipt { result.2 ≡ copied }
 {
     let mut copies = copied.into_vec();
     let mark = next_copy(&mut copies);
     let receipt = next_copy(&mut copies);
     let answer = next_copy(&mut copies);
-    Copies {
-        answer,
-        mark,
-        receipt,
-    }
+    (answer, mark, receipt)
 }

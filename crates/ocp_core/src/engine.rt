@@ -14,7 +14,7 @@ ghost use Rattle.ocp_core.specs.Slice.{slice_in, slice_log};
 ghost use Rattle.ocp_core.specs.Receipts.{reports_in, entries_in, event_entries, Enters};
 ghost use Rattle.ocp_core.specs.Mirror.Admitted.{IsAdmitted, IsTaken};
 
-use crate::copies::{Copies, copies_of};
+use crate::copies::copies_of;
 use crate::{EngineFault, Entry, Input, Journal, Reports, Slice, StepOutcome};
 use ocp_profile::Profile;
 use ocp_table::View;
@@ -167,11 +167,7 @@ impl<A: Allocator> Engine<A> {
     {
         let kept = heap.copy_of(octets)?;
         let sent = self.state.receive(heap, self.journal.events(), time, read)?;
-        let Copies {
-            answer,
-            mark,
-            receipt,
-        } = copies_of(sent);
+        let (answer, mark, receipt) = copies_of(sent);
         self.journal.push(Entry::Request {
             by,
             time,
@@ -179,21 +175,6 @@ impl<A: Allocator> Engine<A> {
             mark,
         });
         Ok((answer, receipt))
-    }
-
-    // Why a drain is refused before memory is taken, where it is: nothing waits, or the journal is full.
-    fn drain_fault(&self) -> Option<EngineFault>
-        ensures some { (by time : ℕ) → IfSome result (λ fault.
-            Answers (Err fault) (answer_in self.now (world.Drain by time))) }
-        ensures none { (by time : ℕ) → result ≡ None → IsTaken self.now (world.Drain by time) }
-    {
-        if !self.state.is_due() {
-            return Some(EngineFault::NothingDue);
-        }
-        if self.journal.is_full() {
-            return Some(EngineFault::JournalFull);
-        }
-        None
     }
 
     /// Reports the completions that wait, the oldest first, at a time in whole seconds, each to the
@@ -225,15 +206,14 @@ impl<A: Allocator> Engine<A> {
         ensures copy { IfOk result (λ r. r.1 ≡ r.0) }
         ensures err { OnErr result (self.new ≡ self.old) }
     {
-        if let Some(fault) = self.drain_fault() {
-            return Err(fault);
+        if !self.state.is_due() {
+            return Err(EngineFault::NothingDue);
+        }
+        if self.journal.is_full() {
+            return Err(EngineFault::JournalFull);
         }
         let sent = self.state.drain(alloc, time)?;
-        let Copies {
-            answer,
-            mark,
-            receipt,
-        } = copies_of(sent);
+        let (answer, mark, receipt) = copies_of(sent);
         self.journal.push(Entry::Drain { by, time, mark });
         Ok((answer, receipt))
     }

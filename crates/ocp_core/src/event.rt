@@ -124,11 +124,7 @@ impl<A: Allocator> Entry<A> {
     {
         match self {
             Entry::Steps { count, .. } => u64::from(*count),
-            Entry::Request { .. } => 1,
-            Entry::SetBreak { .. } => 1,
-            Entry::ClearBreak { .. } => 1,
-            Entry::Trace { .. } => 1,
-            Entry::Drain { .. } => 1,
+            _ => 1,
         }
     }
 

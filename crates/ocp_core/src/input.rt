@@ -65,32 +65,23 @@ impl<'a, A: Allocator + Copy> Input<A> for Request<'a, A> {
 
     ghost answer = { after.Requested };
 
-    fn full(self) -> Result<Reports<A>, EngineFault> {
+    fn full(self) -> Self::Answer {
         Err(EngineFault::JournalFull)
     }
 
-    fn enter(
-        self,
-        engine: &mut Engine<A>,
-        by: u16,
-    ) -> (Result<Reports<A>, EngineFault>, Option<Entry<A>>) {
-        let Request {
-            alloc,
-            time,
-            octets,
-        } = self;
-        let read = match engine.admit(octets) {
+    fn enter(self, engine: &mut Engine<A>, by: u16) -> (Self::Answer, Option<Entry<A>>) {
+        let read = match engine.admit(self.octets) {
             Ok(read) => read,
             Err(fault) => return (Err(fault), None),
         };
-        let Ok(own) = Octets::copy_of(alloc, octets) else {
+        let Ok(own) = Octets::copy_of(self.alloc, self.octets) else {
             return (Err(EngineFault::Memory), None);
         };
-        match engine.accept(&mut Heap::new(alloc), by, time, octets, read) {
+        match engine.accept(&mut Heap::new(self.alloc), by, self.time, self.octets, read) {
             Ok((reports, mark)) => {
                 let receipt = Entry::Request {
                     by,
-                    time,
+                    time: self.time,
                     octets: own,
                     mark,
                 };
@@ -159,15 +150,11 @@ impl<A: Allocator + Copy> Input<A> for Drain<A> {
 
     ghost answer = { after.Requested };
 
-    fn full(self) -> Result<Reports<A>, EngineFault> {
+    fn full(self) -> Self::Answer {
         Err(EngineFault::JournalFull)
     }
 
-    fn enter(
-        self,
-        engine: &mut Engine<A>,
-        by: u16,
-    ) -> (Result<Reports<A>, EngineFault>, Option<Entry<A>>) {
+    fn enter(self, engine: &mut Engine<A>, by: u16) -> (Self::Answer, Option<Entry<A>>) {
         let Drain { alloc, time } = self;
         match engine.drain_with_copy(alloc, by, time) {
             Ok((reports, mark)) => (Ok(reports), Some(Entry::Drain { by, time, mark })),

@@ -1,12 +1,11 @@
 //! One procedure of a journal, by itself.
 
-ghost use Rattle.std.specs.Prelude.{◌≡◌, ◌≤◌, ◌<◌, ℕ, IfOk, OnOk, map, length, replicate};
+ghost use Rattle.std.specs.Prelude.{◌≡◌, ◌≤◌, ◌<◌, ℕ, IfOk, OnOk, replicate};
 ghost use Rattle.std.specs.FinMap.{get};
-ghost use Rattle.ocp_profile.specs.declared.limits.TheConstants.{MAX_APID, MAX_POOL_WORDS, MAX_CAPACITY};
+ghost use Rattle.ocp_profile.specs.declared.limits.TheConstants.{MAX_APID};
 ghost use Rattle.ocp_table.specs.Laws.{machine_of};
-ghost use Rattle.ocp_world.specs.World.{World, Request as Asked, Step, Drain};
-ghost use Rattle.ocp_world.specs.After.{after};
-ghost use Rattle.ocp_world.specs.Replay.{replay, replay_from};
+ghost use Rattle.ocp_world.specs.World.{World, Step};
+ghost use Rattle.ocp_world.specs.Replay.{replay_from};
 ghost use Rattle.ocp_world.specs.Mirror.State.{IsWorld};
 ghost use Rattle.ocp_core.specs.Log.{events_of, expand, world_of};
 ghost use Rattle.ocp_core.specs.Journal.{entry_of};
@@ -16,7 +15,6 @@ ghost use Rattle.ocp_core.specs.Mirror.Admitted.{HasMemory};
 use crate::laws::{machines_follow_from_their_own_events, refused_events_change_nothing};
 use crate::{Command, EngineFault, Entry, Journal};
 use bpf_step::Machine;
-use ocp_profile::Profile;
 use ocp_reports::CopiedReports;
 use ocp_world::{Heap, State};
 use pus_fields::read_tc;
@@ -31,33 +29,6 @@ fn memory_of<A: Allocator>(given: Result<CopiedReports<A>, EngineFault>) -> Resu
         Err(EngineFault::Memory) => Err(AllocError),
         _ => Ok(()),
     }
-}
-
-// Does a request, which is the event of this number.
-fn request<A: Allocator + Copy>(
-    state: &mut State<A>,
-    alloc: A,
-    apid: Apid,
-    event: u64,
-    time: u32,
-    octets: &[u8],
-) -> Result<(), AllocError>
-    requires { apid ≤ MAX_APID }
-    ensures { (w : World) (by : ℕ) → IsWorld w state.old → w.apid ≡ apid → event ≡ w.events →
-        OnOk result (IsWorld (after w (Asked by time octets.now)).world state.new) }
-{
-    refused_events_change_nothing();
-    let read = read_tc(apid, octets);
-    memory_of(state.receive(&mut Heap::new(alloc), event, time, read))
-}
-
-// Does a drain.
-fn drain<A: Allocator + Copy>(state: &mut State<A>, alloc: A, time: u32) -> Result<(), AllocError>
-    ensures { (w : World) (by : ℕ) → IsWorld w state.old →
-        OnOk result (IsWorld (after w (Drain by time)).world state.new) }
-{
-    refused_events_change_nothing();
-    memory_of(state.drain(alloc, time))
 }
 
 // Does so many instructions of a procedure.
@@ -82,9 +53,11 @@ fn enter<A: Allocator + Copy, B: Allocator>(
     ensures { (w : World) → IsWorld w state.old → w.apid ≡ apid → event ≡ w.events →
         OnOk result (IsWorld (replay_from w (events_of (entry_of entry.now))) state.new) }
 {
+    refused_events_change_nothing();
     match entry {
         Entry::Request { time, octets, .. } => {
-            request(state, alloc, apid, event, *time, octets.as_slice())?;
+            let read = read_tc(apid, octets.as_slice());
+            memory_of(state.receive(&mut Heap::new(alloc), event, *time, read))?;
         }
         Entry::Steps { id, count, .. } => steps(state, *id, *count),
         Entry::SetBreak { id, place, .. } => {
@@ -96,35 +69,9 @@ fn enter<A: Allocator + Copy, B: Allocator>(
         Entry::Trace { id, on, .. } => {
             let _result = state.command(*id, Command::SetTrace(*on));
         }
-        Entry::Drain { time, .. } => drain(state, alloc, *time)?,
+        Entry::Drain { time, .. } => memory_of(state.drain(alloc, *time))?,
     }
     Ok(())
-}
-
-// The state after entries of an engine of a profile with this application process and so many pool words.
-fn state_after<A: Allocator + Copy, B: Allocator>(
-    alloc: A,
-    profile: Profile,
-    apid: Apid,
-    words: u16,
-    entries: &[Entry<B>],
-) -> Result<State<A>, AllocError>
-    requires apid { apid ≤ MAX_APID }
-    requires words_from { 1 ≤ words }
-    requires words_to { words ≤ MAX_POOL_WORDS }
-    requires few { length entries.now ≤ MAX_CAPACITY }
-    requires accepted { let events = expand (map entry_of entries.now) in
-        (replay profile apid words events).events ≡ length events }
-    ensures { IfOk result (λ state.
-        IsWorld (replay profile apid words (expand (map entry_of entries.now))) state) }
-{
-    let mut state = State::new(alloc, profile, apid, words)?;
-    let mut event: u64 = 0;
-    for entry in entries {
-        enter(&mut state, alloc, apid, event, entry)?;
-        event += entry.events();
-    }
-    Ok(state)
 }
 
 /// The machine of a procedure at the end of a journal, where it is loaded there. It is the machine
@@ -142,12 +89,13 @@ pub fn replay_one<A: Allocator + Copy, B: Allocator>(
         (expand journal.now.entries) id) }
 {
     machines_follow_from_their_own_events();
-    let state = state_after(
-        alloc,
-        journal.profile(),
-        journal.apid(),
-        journal.words(),
-        journal.entries(),
-    )?;
+    let apid = journal.apid();
+    let entries = journal.entries();
+    let mut state = State::new(alloc, journal.profile(), apid, journal.words())?;
+    let mut event: u64 = 0;
+    for entry in entries {
+        enter(&mut state, alloc, apid, event, entry)?;
+        event += entry.events();
+    }
     state.machine(alloc, id)
 }

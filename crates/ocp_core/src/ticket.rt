@@ -3,8 +3,7 @@
 use bpf_step::Machine;
 use bpf_step::laws::runs_keep_the_addresses;
 use ocp_table::Snapshot;
-use ocp_world::State;
-use std::alloc::{AllocError, Allocator, Global};
+use std::alloc::{Allocator, Global};
 use std::marker::Model;
 
 /// What a ticket and its work have of a procedure. It stands on the heap, so that a ticket becomes
@@ -20,8 +19,8 @@ pub(crate) struct Parts<A: Allocator> {
 /// pass flag, the trace flag and what remains of the budget.
 #[derive(Drop)]
 pub struct Ticket<A: Allocator = Global> {
-    id: u16,
-    parts: Box<Parts<A>, A>,
+    pub(crate) id: u16,
+    pub(crate) parts: Box<Parts<A>, A>,
 }
 
 impl<A: Allocator> Model for Ticket<A> {
@@ -73,71 +72,10 @@ impl<A: Allocator> Model for Work<A> {
         }) };
 }
 
-impl<A: Allocator> Parts<A> {
-    ghost use Rattle.std.specs.Prelude.{◌≡◌, IsTrue, Some, false};
-    ghost use Rattle.std.specs.FinMap.{get};
-    ghost use Rattle.bpf_step.specs.Machine.{HasAddressesOf};
-    ghost use Rattle.bpf_step.specs.Step.{StandsIn};
-    ghost use Rattle.ocp_table.specs.Budgets.{IsWithin};
-    ghost use Rattle.ocp_table.specs.Snapshots.{snapshot_at, run_of, count_of};
-    ghost use Rattle.ocp_world.specs.World.{World};
-    ghost use Rattle.ocp_world.specs.Mirror.State.{IsWorld};
-
-    /// Become those of a procedure, but for the machine that is to run, or stay as they were.
-    fn retake(&mut self, state: &State<A>, id: u16) -> bool
-        ensures taken { (w : World) → IsWorld w state.now → IsTrue result →
-            snapshot_at (get w.records id) ≡ Some self.new.base }
-        ensures kept { (result ≡ false) → self.new ≡ self.old }
-        ensures machine { self.new.machine ≡ self.old.machine }
-        ensures addresses { HasAddressesOf self.old.base.machine self.new.base.machine }
-    {
-        state.snapshot_into(id, &mut self.base)
-    }
-
-    /// Lets the other machine become like the one that stood, and run.
-    fn run(&mut self, budget: u32) -> u32
-        requires { HasAddressesOf self.old.machine self.old.base.machine }
-        ensures base { self.new.base ≡ self.old.base }
-        ensures ran { run_of self.new.base result ≡ Some self.new.machine }
-        ensures count { result ≡ count_of self.new.base budget }
-        ensures within { IsWithin self.new.base.remaining result }
-        ensures stands { StandsIn self.new.base.image self.new.machine }
-    {
-        self.base.run(&mut self.machine, budget)
-    }
-}
-
 impl<A: Allocator> Ticket<A> {
-    ghost use Rattle.std.specs.Prelude.{◌≡◌, IfOk, IsTrue, Some, false};
-    ghost use Rattle.std.specs.FinMap.{get};
+    ghost use Rattle.std.specs.Prelude.{◌≡◌};
     ghost use Rattle.ocp_table.specs.Snapshots.{count_of};
-    ghost use Rattle.ocp_world.specs.World.{World};
-    ghost use Rattle.ocp_world.specs.Mirror.State.{IsWorld};
-    ghost use Rattle.ocp_core.specs.Tickets.{ticket_at, IsRun};
-
-    /// That of a procedure that was taken.
-    pub(crate) fn new(alloc: A, id: u16, base: Snapshot<A>) -> Result<Self, AllocError>
-    where
-        A: Copy,
-        ensures { IfOk result (λ ticket. ticket ≡ record { id = id; base = base }) }
-    {
-        let machine = base.machine(alloc)?;
-        let parts = Box::new(alloc, Parts { base, machine })?;
-        Ok(Ticket { id, parts })
-    }
-
-    /// Becomes that of a procedure, in the same memory, or stays as it was.
-    pub(crate) fn retake(&mut self, state: &State<A>, id: u16) -> bool
-        ensures taken { (w : World) → IsWorld w state.now →
-            IsTrue result → ticket_at id (get w.records id) ≡ Some self.new }
-        ensures kept { (result ≡ false) → self.new ≡ self.old }
-    {
-        if !self.parts.retake(state, id) {
-            return false;
-        }
-        self.id = id;
-        true
-    }
+    ghost use Rattle.ocp_core.specs.Tickets.{IsRun};
 
     /// The procedure's id.
     pub fn id(&self) -> u16
@@ -157,7 +95,8 @@ impl<A: Allocator> Ticket<A> {
         ensures ran { IsRun result }
     {
         let Ticket { id, mut parts } = self;
-        let count = parts.run(budget);
+        let run = &mut *parts;
+        let count = run.base.run(&mut run.machine, budget);
         Work { id, parts, count }
     }
 }

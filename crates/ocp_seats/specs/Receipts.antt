@@ -1,16 +1,13 @@
 -- What an answer adds to the journal: the entry with its mark where the answer accepts, and nothing
 -- where it refuses.
-use Rattle.std.specs.Prelude.{ℕ, ◌==◌, if◌then◌else◌, List, [], ◌∷◌, Result}
+use Rattle.std.specs.Prelude.{ℕ, ◌==◌, if◌then◌else◌, List, [], ◌∷◌}
 use Rattle.ocp_table.specs.declared.answers.StepOutcome.{StepOutcome}
 use Rattle.ocp_table.specs.declared.answers.StepOutcome.TheVariants as S
 use Rattle.ocp_table.specs.declared.answers.Slice.{Slice}
-use Rattle.ocp_debug.specs.declared.command.Command.{Command}
-use Rattle.ocp_debug.specs.declared.command.DebugFault.{DebugFault}
-use Rattle.ocp_world.specs.declared.answers.EngineFault.{EngineFault}
-use Rattle.ocp_world.specs.After.{Requested, Stepped, Commanded}
+use Rattle.ocp_world.specs.After.{Stepped}
 use Rattle.ocp_core.specs.declared.answers.CommitOutcome.{CommitOutcome}
 use Rattle.ocp_core.specs.declared.answers.CommitOutcome.TheVariants as C
-use Rattle.ocp_world.specs.World.{Request, Step, Debug, Drain}
+use Rattle.ocp_world.specs.World.{Step}
 use Rattle.ocp_core.specs.Log.{Steps}
 use Rattle.ocp_core.specs.Marks.{MarkedEntry}
 use Rattle.ocp_core.specs.Receipts.{event_entries}
@@ -34,16 +31,3 @@ commit_entries by id C.Empty = []
 commit_entries by id C.Stale = []
 commit_entries by id C.JournalFull = []
 commit_entries by id (C.Committed count) = count_entries by id count S.Ran
-
--- a request, and its reports
-abbrev pub request_entries : ℕ → ℕ → List ℕ → Result (List (List ℕ)) EngineFault → List MarkedEntry
-request_entries by time octets result =
-    event_entries (Request by time octets) (Requested result)
-
--- a drain, and its reports
-abbrev pub drain_entries : ℕ → ℕ → Result (List (List ℕ)) EngineFault → List MarkedEntry
-drain_entries by time result = event_entries (Drain by time) (Requested result)
-
--- a debugger's command
-abbrev pub command_entries : ℕ → ℕ → Command → Result (Unit {0}) DebugFault → List MarkedEntry
-command_entries by id command result = event_entries (Debug by id command) (Commanded result)

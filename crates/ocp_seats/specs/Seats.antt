@@ -1,6 +1,9 @@
 -- What contracts see of a book and of a seat.
-use Rattle.std.specs.Prelude.{◌≡◌, ◌<◌, ◌+◌, ℕ, List, [], ◌++◌, length, map, Option}
+use Rattle.std.specs.Prelude.{◌≡◌, ◌<◌, ◌+◌, ℕ, false, List, [], ◌++◌, length, map, Option}
+use Rattle.ocp_world.specs.World.{Event}
+use Rattle.ocp_world.specs.After.{Answer, is_accepted}
 use Rattle.ocp_core.specs.Log.{Log}
+use Rattle.ocp_core.specs.Receipts.{Enters, event_entries}
 use Rattle.ocp_seats.specs.declared.seat.SeatFault.{SeatFault}
 use Rattle.ocp_seats.specs.declared.seat.SeatFault.TheVariants as seat
 use Rattle.ocp_core.specs.Marks.{MarkedEntry, entries_with_marks}
@@ -39,6 +42,15 @@ pub record GrowsBy (old new : BookContents) (entries : List MarkedEntry) : Type 
   pub seats : new.seats ≡ old.seats
   pub taken : new.taken ≡ old.taken
   pub count : new.count ≡ old.count + length entries
+
+-- An event that a seat asked for was answered so. The engine did it; its journal and the seat's
+-- receipts gained the entry of an accepted answer, and a refused event changed neither.
+pub record Serves (old new : BookContents) (seat after : SeatContents) (e : Event)
+    (answer : Answer) : Type 0 where
+  pub enters : Enters old.engine new.engine e answer
+  pub book : GrowsBy old new (event_entries e answer)
+  pub gains : Gains seat after (event_entries e answer)
+  pub refused : is_accepted answer ≡ false → (new ≡ old) × (after ≡ seat)
 
 -- the book handed out its next seat
 pub record HandsOut (old new : BookContents) (seat : SeatContents) : Type 0 where

@@ -1,8 +1,6 @@
 //! The book of a shared engine.
 
-ghost use Rattle.std.specs.Prelude.{◌≡◌, ◌≤◌, ◌+◌, ◌↔◌, ℕ, None, IfOk, IfErr, IfSome, OnOk, drop, length, map};
-ghost use Rattle.ocp_world.specs.NextRunning.{IsNextRunning, Runs};
-ghost use Rattle.ocp_core.specs.Log.{world_of};
+ghost use Rattle.std.specs.Prelude.{◌≡◌, ◌≤◌, ◌+◌, None, IfOk, IfErr, OnOk, drop, length, map};
 ghost use Rattle.ocp_core.specs.Marks.{entries_with_marks};
 ghost use Rattle.ocp_core.specs.Journal.{entry_with_mark};
 ghost use Rattle.ocp_seats.specs.Seats.{HandsOut, RefusesSeat};
@@ -99,16 +97,6 @@ impl<L: Naming, A: Allocator> Book<L, A> {
         })
     }
 
-    /// The next running procedure after the one that was taken last.
-    fn next(&self) -> Option<u16>
-        ensures pick { IsNextRunning (world_of self.now.engine).records self.now.taken result }
-        ensures runs { IfSome result (Runs (world_of self.now.engine).records) }
-        ensures none { result ≡ None ↔
-            ((id : ℕ) → Runs (world_of self.now.engine).records id → ⊥) }
-    {
-        self.engine.next_running(self.taken)
-    }
-
     /// The next running procedure after the one that was taken last, which becomes the one taken.
     /// Refused, in this order, where none runs and where there is no memory for its ticket; then
     /// nothing is changed.
@@ -118,7 +106,7 @@ impl<L: Naming, A: Allocator> Book<L, A> {
         ensures ok { IfOk result (λ ticket. Takes self.old self.new ticket) }
         ensures err { IfErr result (λ why. (self.new ≡ self.old) × RefusesTake self.old why) }
     {
-        let Some(id) = self.next() else {
+        let Some(id) = self.engine.next_running(self.taken) else {
             return Err(TakeFault::NoneRunning);
         };
         let Some(ticket) = self.engine.ticket(alloc, id)? else {
@@ -136,11 +124,11 @@ impl<L: Naming, A: Allocator> Book<L, A> {
         ensures ok { OnOk result (Takes self.old self.new ticket.new) }
         ensures err { IfErr result (λ why. (self.new ≡ self.old) × RefusesTake self.old why) }
     {
-        let Some(id) = self.next() else {
+        let Some(next) = self.engine.next_running(self.taken) else {
             return Err(TakeFault::NoneRunning);
         };
-        if !self.engine.ticket_into(id, ticket) {
-            let Some(other) = self.engine.ticket(alloc, id)? else {
+        if !self.engine.ticket_into(next, ticket) {
+            let Some(other) = self.engine.ticket(alloc, next)? else {
                 unreachable!()
             };
             *ticket = other;

@@ -1,16 +1,13 @@
 //! The calls of a seat that change the engine.
 
-ghost use Rattle.std.specs.Prelude.{◌≡◌, ◌≤◌, false, OnOk, OnErr};
+ghost use Rattle.std.specs.Prelude.{◌≡◌, ◌≤◌};
 ghost use Rattle.ocp_debug.specs.declared.command.Command.TheVariants as command;
 ghost use Rattle.ocp_world.specs.World as world;
-ghost use Rattle.ocp_world.specs.After.{Stepped, Commanded, is_accepted};
-ghost use Rattle.ocp_world.specs.Answers.{Answers};
-ghost use Rattle.ocp_core.specs.Log.{answer_in, log_after};
+ghost use Rattle.ocp_world.specs.After.{Requested, Stepped, Commanded};
 ghost use Rattle.ocp_core.specs.Slice.{slice_in, slice_log};
 ghost use Rattle.ocp_core.specs.Commits.{Commits, work_after};
-ghost use Rattle.ocp_core.specs.Receipts.{Enters, event_entries};
-ghost use Rattle.ocp_seats.specs.Receipts.{step_entries, slice_entries, commit_entries, request_entries, drain_entries, command_entries};
-ghost use Rattle.ocp_seats.specs.Seats.{GrowsBy, Gains};
+ghost use Rattle.ocp_seats.specs.Receipts.{slice_entries, commit_entries};
+ghost use Rattle.ocp_seats.specs.Seats.{GrowsBy, Gains, Serves};
 
 use crate::gains::{apply, commit, slice};
 use crate::input::{DebuggerCommand, Drain, Request, Step};
@@ -25,14 +22,8 @@ impl<L: Naming, A: Allocator> Book<L, A> {
     /// journal gained.
     #[tactic(auto, using(crate::proofs::Going::goes_on_further))]
     pub fn apply<I: Input<A>>(&mut self, seat: &mut Seat<L, A>, input: I) -> I::Answer
-        ensures enters { Enters self.old.engine self.new.engine
+        ensures served { Serves self.old self.new seat.old seat.new
             (I.event seat.old.number input) (I.answer result) }
-        ensures book { GrowsBy self.old self.new
-            (event_entries (I.event seat.old.number input) (I.answer result)) }
-        ensures seat { Gains seat.old seat.new
-            (event_entries (I.event seat.old.number input) (I.answer result)) }
-        ensures refused { is_accepted (I.answer result) ≡ false →
-            (self.new ≡ self.old) × (seat.new ≡ seat.old) }
     {
         let (answer, entry) = apply(&mut self.engine, seat.number, input);
         if let Some(entry) = entry {
@@ -52,15 +43,8 @@ impl<L: Naming, A: Allocator> Book<L, A> {
     ) -> Result<Reports<A>, EngineFault>
     where
         A: Copy,
-        ensures answer { Answers result
-            (answer_in self.old.engine (world.Request seat.old.number time octets.now)) }
-        ensures journal { OnOk result (self.new.engine ≡
-            log_after self.old.engine (world.Request seat.old.number time octets.now)) }
-        ensures book { GrowsBy self.old self.new
-            (request_entries seat.old.number time octets.now result) }
-        ensures seat { Gains seat.old seat.new
-            (request_entries seat.old.number time octets.now result) }
-        ensures err { OnErr result ((self.new ≡ self.old) × (seat.new ≡ seat.old)) }
+        ensures served { Serves self.old self.new seat.old seat.new
+            (world.Request seat.old.number time octets.now) (Requested result) }
     {
         let request = Request {
             alloc,
@@ -80,27 +64,16 @@ impl<L: Naming, A: Allocator> Book<L, A> {
     ) -> Result<Reports<A>, EngineFault>
     where
         A: Copy,
-        ensures answer { Answers result
-            (answer_in self.old.engine (world.Drain seat.old.number time)) }
-        ensures journal { OnOk result (self.new.engine ≡
-            log_after self.old.engine (world.Drain seat.old.number time)) }
-        ensures book { GrowsBy self.old self.new
-            (drain_entries seat.old.number time result) }
-        ensures seat { Gains seat.old seat.new
-            (drain_entries seat.old.number time result) }
-        ensures err { OnErr result ((self.new ≡ self.old) × (seat.new ≡ seat.old)) }
+        ensures served { Serves self.old self.new seat.old seat.new
+            (world.Drain seat.old.number time) (Requested result) }
     {
         self.apply(seat, Drain { alloc, time })
     }
 
     /// `Engine::step` with the seat's number.
     pub fn step(&mut self, seat: &mut Seat<L, A>, id: u16) -> StepOutcome
-        ensures answer { Stepped result ≡
-            answer_in self.old.engine (world.Step seat.old.number id) }
-        ensures journal { self.new.engine ≡
-            log_after self.old.engine (world.Step seat.old.number id) }
-        ensures book { GrowsBy self.old self.new (step_entries seat.old.number id result) }
-        ensures seat { Gains seat.old seat.new (step_entries seat.old.number id result) }
+        ensures served { Serves self.old self.new seat.old seat.new
+            (world.Step seat.old.number id) (Stepped result) }
     {
         self.apply(seat, Step { id })
     }
@@ -172,14 +145,8 @@ impl<L: Naming, A: Allocator> Book<L, A> {
         id: u16,
         place: u16,
     ) -> Result<(), DebugFault>
-        ensures answer { Commanded result ≡ answer_in self.old.engine
-            (world.Debug seat.old.number id (command.SetBreak place)) }
-        ensures journal { self.new.engine ≡ log_after self.old.engine
-            (world.Debug seat.old.number id (command.SetBreak place)) }
-        ensures book { GrowsBy self.old self.new
-            (command_entries seat.old.number id (command.SetBreak place) result) }
-        ensures seat { Gains seat.old seat.new
-            (command_entries seat.old.number id (command.SetBreak place) result) }
+        ensures served { Serves self.old self.new seat.old seat.new
+            (world.Debug seat.old.number id (command.SetBreak place)) (Commanded result) }
     {
         let command = Command::SetBreak(place);
         self.apply(seat, DebuggerCommand { id, command })
@@ -192,14 +159,8 @@ impl<L: Naming, A: Allocator> Book<L, A> {
         id: u16,
         place: u16,
     ) -> Result<(), DebugFault>
-        ensures answer { Commanded result ≡ answer_in self.old.engine
-            (world.Debug seat.old.number id (command.ClearBreak place)) }
-        ensures journal { self.new.engine ≡ log_after self.old.engine
-            (world.Debug seat.old.number id (command.ClearBreak place)) }
-        ensures book { GrowsBy self.old self.new
-            (command_entries seat.old.number id (command.ClearBreak place) result) }
-        ensures seat { Gains seat.old seat.new
-            (command_entries seat.old.number id (command.ClearBreak place) result) }
+        ensures served { Serves self.old self.new seat.old seat.new
+            (world.Debug seat.old.number id (command.ClearBreak place)) (Commanded result) }
     {
         let command = Command::ClearBreak(place);
         self.apply(seat, DebuggerCommand { id, command })
@@ -207,14 +168,8 @@ impl<L: Naming, A: Allocator> Book<L, A> {
 
     /// `Engine::trace` with the seat's number.
     pub fn trace(&mut self, seat: &mut Seat<L, A>, id: u16, on: bool) -> Result<(), DebugFault>
-        ensures answer { Commanded result ≡ answer_in self.old.engine
-            (world.Debug seat.old.number id (command.SetTrace on)) }
-        ensures journal { self.new.engine ≡ log_after self.old.engine
-            (world.Debug seat.old.number id (command.SetTrace on)) }
-        ensures book { GrowsBy self.old self.new
-            (command_entries seat.old.number id (command.SetTrace on) result) }
-        ensures seat { Gains seat.old seat.new
-            (command_entries seat.old.number id (command.SetTrace on) result) }
+        ensures served { Serves self.old self.new seat.old seat.new
+            (world.Debug seat.old.number id (command.SetTrace on)) (Commanded result) }
     {
         let command = Command::SetTrace(on);
         self.apply(seat, DebuggerCommand { id, command })

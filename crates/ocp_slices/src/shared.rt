@@ -1,12 +1,13 @@
 //! The engine behind a lock.
 
-ghost use Rattle.std.specs.Prelude.{◌≡◌, ◌≤◌, ◌+◌, ◌↔◌, ℕ, [], Ok, Err, length, IfOk, IfErr, OnOk};
+ghost use Rattle.std.specs.Prelude.{◌≡◌, ◌≤◌, ◌+◌, [], Ok, Err, length, IfOk, IfErr, OnOk};
 ghost use Rattle.ocp_debug.specs.declared.command.Command.TheVariants as command;
-ghost use Rattle.ocp_core.specs.declared.answers.CommitOutcome.TheVariants.{Empty, Committed};
+ghost use Rattle.ocp_world.specs.World as world;
+ghost use Rattle.ocp_world.specs.After.{Requested, Stepped, Commanded};
 ghost use Rattle.ocp_core.specs.Commits.{work_after};
-ghost use Rattle.ocp_seats.specs.Receipts.{step_entries, slice_entries, commit_entries, request_entries, drain_entries, command_entries};
+ghost use Rattle.ocp_seats.specs.Receipts.{slice_entries};
 ghost use Rattle.ocp_seats.specs.Seats.{Gains};
-ghost use Rattle.ocp_slices.specs.Replies.{SeatReply, TakeReply, CommitReply, RequestReply, DrainReply, StepReply, SliceReply, CommandReply};
+ghost use Rattle.ocp_slices.specs.Replies.{SeatReply, TakeReply, SliceReply, IsServed, IsHandedIn};
 
 use crate::input::{DebuggerCommand, Drain, Request, Step};
 use crate::{
@@ -115,12 +116,8 @@ impl<L: Naming, B: Board<L>> SharedEngine<L, B> {
     /// As `commit`, with a work that stays, so that no memory is given back under the lock, and no
     /// machine is copied.
     pub fn hand_in<R: Wait>(&self, rt: &R, seat: &mut Seat<L>, work: &mut Work) -> CommitOutcome
-        ensures given { B.answers (CommitReply seat.old.number work.old result) }
         ensures work { work.new ≡ work_after work.old result }
-        ensures seat { Gains seat.old seat.new
-            (commit_entries seat.old.number work.old.id result) }
-        ensures empty { result ≡ Empty ↔ work.old.count ≡ 0 }
-        ensures count { (n : ℕ) → result ≡ Committed n → n ≡ work.old.count }
+        ensures seat { IsHandedIn B.answers seat.old seat.new work.old result }
     {
         self.lock(rt).hand_in(seat, work)
     }
@@ -129,10 +126,7 @@ impl<L: Naming, B: Board<L>> SharedEngine<L, B> {
     /// where the procedure is not what the work began with, and where the journal is full; the work
     /// is dropped then.
     pub fn commit<R: Wait>(&self, rt: &R, seat: &mut Seat<L>, work: Work) -> CommitOutcome
-        ensures given { B.answers (CommitReply seat.old.number work result) }
-        ensures seat { Gains seat.old seat.new (commit_entries seat.old.number work.id result) }
-        ensures empty { result ≡ Empty ↔ work.count ≡ 0 }
-        ensures count { (n : ℕ) → result ≡ Committed n → n ≡ work.count }
+        ensures seat { IsHandedIn B.answers seat.old seat.new work result }
     {
         self.lock(rt).commit(seat, work)
     }
@@ -147,9 +141,8 @@ impl<L: Naming, B: Board<L>> SharedEngine<L, B> {
         time: u32,
         octets: &[u8],
     ) -> Result<Reports, EngineFault>
-        ensures given { B.answers (RequestReply seat.old.number time octets.now result) }
-        ensures seat { Gains seat.old seat.new
-            (request_entries seat.old.number time octets.now result) }
+        ensures served { IsServed B.answers seat.old seat.new
+            (world.Request seat.old.number time octets.now) (Requested result) }
     {
         let request = Request {
             alloc,
@@ -169,17 +162,16 @@ impl<L: Naming, B: Board<L>> SharedEngine<L, B> {
         seat: &mut Seat<L>,
         time: u32,
     ) -> Result<Reports, EngineFault>
-        ensures given { B.answers (DrainReply seat.old.number time result) }
-        ensures seat { Gains seat.old seat.new
-            (drain_entries seat.old.number time result) }
+        ensures served { IsServed B.answers seat.old seat.new
+            (world.Drain seat.old.number time) (Requested result) }
     {
         self.lock(rt).apply(seat, Drain { alloc, time })
     }
 
     /// Does one instruction of a procedure, as the engine's call with the seat's number.
     pub fn step<R: Wait>(&self, rt: &R, seat: &mut Seat<L>, id: u16) -> StepOutcome
-        ensures given { B.answers (StepReply seat.old.number id result) }
-        ensures seat { Gains seat.old seat.new (step_entries seat.old.number id result) }
+        ensures served { IsServed B.answers seat.old seat.new
+            (world.Step seat.old.number id) (Stepped result) }
     {
         self.lock(rt).apply(seat, Step { id })
     }
@@ -203,10 +195,8 @@ impl<L: Naming, B: Board<L>> SharedEngine<L, B> {
         id: u16,
         place: u16,
     ) -> Result<(), DebugFault>
-        ensures given { B.answers
-            (CommandReply seat.old.number id (command.SetBreak place) result) }
-        ensures seat { Gains seat.old seat.new
-            (command_entries seat.old.number id (command.SetBreak place) result) }
+        ensures served { IsServed B.answers seat.old seat.new
+            (world.Debug seat.old.number id (command.SetBreak place)) (Commanded result) }
     {
         let command = Command::SetBreak(place);
         self.lock(rt).apply(seat, DebuggerCommand { id, command })
@@ -220,10 +210,8 @@ impl<L: Naming, B: Board<L>> SharedEngine<L, B> {
         id: u16,
         place: u16,
     ) -> Result<(), DebugFault>
-        ensures given { B.answers
-            (CommandReply seat.old.number id (command.ClearBreak place) result) }
-        ensures seat { Gains seat.old seat.new
-            (command_entries seat.old.number id (command.ClearBreak place) result) }
+        ensures served { IsServed B.answers seat.old seat.new
+            (world.Debug seat.old.number id (command.ClearBreak place)) (Commanded result) }
     {
         let command = Command::ClearBreak(place);
         self.lock(rt).apply(seat, DebuggerCommand { id, command })
@@ -238,10 +226,8 @@ impl<L: Naming, B: Board<L>> SharedEngine<L, B> {
         id: u16,
         on: bool,
     ) -> Result<(), DebugFault>
-        ensures given { B.answers
-            (CommandReply seat.old.number id (command.SetTrace on) result) }
-        ensures seat { Gains seat.old seat.new
-            (command_entries seat.old.number id (command.SetTrace on) result) }
+        ensures served { IsServed B.answers seat.old seat.new
+            (world.Debug seat.old.number id (command.SetTrace on)) (Commanded result) }
     {
         let command = Command::SetTrace(on);
         self.lock(rt).apply(seat, DebuggerCommand { id, command })

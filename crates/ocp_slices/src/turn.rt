@@ -1,12 +1,8 @@
 //! Turns: take a procedure, run it off the lock, and put its work back.
 
 ghost use Rattle.std.specs.Prelude.{◌≡◌, ℕ};
-ghost use Rattle.ocp_table.specs.Snapshots.{count_of};
-ghost use Rattle.ocp_core.specs.Tickets.{IsRun};
 ghost use Rattle.ocp_slices.specs.Continuing.{Continues};
-ghost use Rattle.ocp_seats.specs.Receipts.{step_entries};
-ghost use Rattle.ocp_seats.specs.Seats.{Gains};
-ghost use Rattle.ocp_slices.specs.Replies.{TakeReply, StepReply};
+ghost use Rattle.ocp_slices.specs.Replies.{TakeReply};
 ghost use Rattle.ocp_slices.specs.Turns.{IsWorkOf, IsTurn, turn_without};
 
 use crate::input::Step;
@@ -53,16 +49,6 @@ pub enum Turn {
     NoMemory,
 }
 
-/// What a ticket does off the lock: at most so many instructions.
-fn run_within(ticket: Ticket, budget: u32) -> Work
-    ensures id { result.id ≡ ticket.id }
-    ensures base { result.base ≡ ticket.base }
-    ensures count { result.count ≡ count_of ticket.base budget }
-    ensures ran { IsRun result }
-{
-    ticket.run(budget)
-}
-
 /// What a turn begins with: a ticket, or why there is none; and the memory of one, where there is.
 #[derive(Drop)]
 struct Next {
@@ -103,14 +89,6 @@ fn turn_without(fault: TakeFault) -> Turn
     }
 }
 
-/// One instruction of a procedure.
-fn step_by<L: Naming, B: Board<L>>(board: &mut B, seat: &mut Seat<L>, id: u16) -> StepOutcome
-    ensures given { B.answers (StepReply seat.old.number id result) }
-    ensures seat { Gains seat.old seat.new (step_entries seat.old.number id result) }
-{
-    board.apply(seat, Step { id })
-}
-
 /// Hands in the work of a turn, and does one instruction of its procedure where it could do none by
 /// itself: the work's outcome, and what the turn answers.
 fn put_back<L: Naming, B: Board<L>>(
@@ -127,39 +105,10 @@ fn put_back<L: Naming, B: Board<L>>(
         CommitOutcome::Committed(count) => (outcome, Turn::Committed(count)),
         CommitOutcome::Stale => (outcome, Turn::Stale),
         CommitOutcome::JournalFull => (outcome, Turn::Full),
-        CommitOutcome::Empty => match step_by(board, seat, id) {
+        CommitOutcome::Empty => match board.apply(seat, Step { id }) {
             StepOutcome::JournalFull => (outcome, Turn::Full),
             answer => (outcome, Turn::Stepped(answer)),
         },
-    }
-}
-
-/// A work's outcome, what its turn answers, and what the next one begins with.
-#[derive(Drop)]
-struct PutBack {
-    outcome: CommitOutcome,
-    turn: Turn,
-    next: Next,
-}
-
-/// Puts a work back, and takes the next ticket into its memory.
-fn put_back_and_take<L: Naming, B: Board<L>>(
-    board: &mut B,
-    alloc: Global,
-    seat: &mut Seat<L>,
-    work: Work,
-) -> PutBack
-    ensures turned { (budget : ℕ) → IsWorkOf B.answers budget work →
-        IsTurn B.answers budget seat.old seat.new result.turn }
-    ensures given { B.answers (TakeReply result.next.taken) }
-{
-    let mut work = work;
-    let (outcome, turn) = put_back(board, seat, &mut work);
-    let next = take_next(board, alloc, Some(work.into_ticket()));
-    PutBack {
-        outcome,
-        turn,
-        next,
     }
 }
 
@@ -206,7 +155,7 @@ impl<L: Naming, B: Board<L>> SharedEngine<L, B> {
             Ok(ticket) => ticket,
             Err(fault) => return turn_without(fault),
         };
-        let mut work = run_within(ticket, budget);
+        let mut work = ticket.run(budget);
         let number = seat.number();
         let id = work.id();
         gate.before(number, id, work.count());
@@ -240,15 +189,14 @@ impl<L: Naming, B: Board<L>> SharedEngine<L, B> {
                 };
             }
         };
-        let work = run_within(ticket, budget);
+        let mut work = ticket.run(budget);
         let number = seat.number();
         let id = work.id();
         gate.before(number, id, work.count());
-        let PutBack {
-            outcome,
-            turn,
-            next,
-        } = put_back_and_take(&mut *self.lock(rt), alloc, seat, work);
+        let mut board = self.lock(rt);
+        let (outcome, turn) = put_back(&mut *board, seat, &mut work);
+        let next = take_next(&mut *board, alloc, Some(work.into_ticket()));
+        drop(board);
         gate.after(number, id, outcome);
         Turned { turn, next }
     }

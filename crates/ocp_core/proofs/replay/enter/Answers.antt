@@ -1,17 +1,21 @@
-use Rattle.std.proofs.Common.{sym, subst}
-use Rattle.ocp_world.specs.World.{Request as Asked}
+use Rattle.std.proofs.Common.{sym, ap, subst, ◌∙◌}
+use Rattle.pus_fields.specs.TelecommandFaults.{telecommand_of}
+use Rattle.ocp_world.specs.World.{Request as Asked, Drain}
 use Rattle.ocp_world.specs.After.{after}
 use Rattle.ocp_world.specs.Replay.{replay_from}
 use Rattle.ocp_world.specs.Mirror.State.{IsWorld}
 use Rattle.ocp_core.specs.Log.{events_of}
 use Rattle.ocp_core.specs.Journal.{entry_of}
+use Rattle.ocp_core.proofs.Replaying.{stands_after}
 use Rattle.ocp_core.proofs.replay.enter.Goals as goal
 
-pub returns-in_ok-request-in-Request : goal.returns-in_ok-request-in-Request
-returns-in_ok-request-in-Request g c w stands same numbered =
-    subst (λ e. IsWorld (replay_from w (events_of (entry_of e))) c.request.new.state) (sym c.in-Request.is)
-    (subst (λ octets. IsWorld (after w (Asked c.in-Request.by c.in-Request.time octets)).world c.request.new.state) c.as_slice.ensures
-    (c.in_ok-request-in-Request.ensures w c.in-Request.by stands same numbered))
+pub returns-in_ok-memory_of-in-Request : goal.returns-in_ok-memory_of-in-Request
+returns-in_ok-memory_of-in-Request g c w stands same numbered =
+    let read = c.read_tc-read.ensures.value ∙ ap (λ apid. telecommand_of apid c.as_slice.result.now) (sym same) in
+    let does = c.receive.ensures.does w c.in-Request.by c.as_slice.result.now stands numbered read in
+    subst (λ e. IsWorld (replay_from w (events_of (entry_of e))) c.receive.new.self) (sym c.in-Request.is)
+    (subst (λ octets. IsWorld (after w (Asked c.in-Request.by c.in-Request.time octets)).world c.receive.new.self) c.as_slice.ensures
+    (stands_after c.refused_events_change_nothing.ensures w (Asked c.in-Request.by c.in-Request.time c.as_slice.result.now) c.receive.new.self c.receive.result c.in_ok-memory_of-in-Request.ensures does))
 
 pub returns-in-SetBreak : goal.returns-in-SetBreak
 returns-in-SetBreak g c w stands same numbered =
@@ -28,7 +32,7 @@ returns-in-Trace g c w stands same numbered =
     subst (λ e. IsWorld (replay_from w (events_of (entry_of e))) c.command-result-in-Trace.new.self) (sym c.in-Trace.is)
     (c.command-result-in-Trace.ensures.world w c.in-Trace.by stands)
 
-pub returns-in_ok-drain-in-Drain : goal.returns-in_ok-drain-in-Drain
-returns-in_ok-drain-in-Drain g c w stands same numbered =
-    subst (λ e. IsWorld (replay_from w (events_of (entry_of e))) c.drain.new.state) (sym c.in-Drain.is)
-    (c.in_ok-drain-in-Drain.ensures w c.in-Drain.by stands)
+pub returns-in_ok-memory_of-in-Drain : goal.returns-in_ok-memory_of-in-Drain
+returns-in_ok-memory_of-in-Drain g c w stands same numbered =
+    subst (λ e. IsWorld (replay_from w (events_of (entry_of e))) c.drain.new.self) (sym c.in-Drain.is)
+    (stands_after c.refused_events_change_nothing.ensures w (Drain c.in-Drain.by c.in-Drain.time) c.drain.new.self c.drain.result c.in_ok-memory_of-in-Drain.ensures (c.drain.ensures w c.in-Drain.by stands))

@@ -16,12 +16,12 @@ returns-in-JournalFull g c = record {
   turned = λ budget did. full g.B.Board.answers budget c.args.seat.now c.args.work.now did c.hand_in-outcome.new.seat c.in-JournalFull.ensures.given c.in-JournalFull.ensures.seat;
 }
 
-pub returns-in-JournalFull-step_by : goal.returns-in-JournalFull-step_by
-returns-in-JournalFull-step_by g c = record {
-  turned = λ budget did. full_step g.B.Board.answers budget c.args.seat.now c.args.work.now did c.in-Empty.ensures.given c.hand_in-outcome.new.seat c.in-Empty.ensures.seat c.id-id.result c.id-id.ensures c.step_by.new.seat c.in-JournalFull-step_by.ensures.given c.in-JournalFull-step_by.ensures.seat;
+pub returns-in-JournalFull-apply : goal.returns-in-JournalFull-apply
+returns-in-JournalFull-apply g c = record {
+  turned = λ budget did. full_step g.B.Board.answers budget c.args.seat.now c.args.work.now did c.in-Empty.ensures.given c.hand_in-outcome.new.seat c.in-Empty.ensures.seat c.id-id.result c.id-id.ensures c.apply.new.seat c.in-JournalFull-apply.ensures.given c.in-JournalFull-apply.ensures.seat;
 }
 
 pub returns-in_default : goal.returns-in_default
 returns-in_default g c = record {
-  turned = λ budget did. stepped g.B.Board.answers budget c.args.seat.now c.args.work.now did c.in-Empty.ensures.given c.hand_in-outcome.new.seat c.in-Empty.ensures.seat c.id-id.result c.id-id.ensures c.step_by.new.seat c.step_by.result c.in_default.not-JournalFull c.step_by.ensures.given c.step_by.ensures.seat;
+  turned = λ budget did. stepped g.B.Board.answers budget c.args.seat.now c.args.work.now did c.in-Empty.ensures.given c.hand_in-outcome.new.seat c.in-Empty.ensures.seat c.id-id.result c.id-id.ensures c.apply.new.seat c.apply.result c.in_default.not-JournalFull c.apply.ensures.given c.apply.ensures.seat;
 }

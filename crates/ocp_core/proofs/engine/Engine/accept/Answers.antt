@@ -21,7 +21,7 @@ push-requires-clause-mark g c =
     let log = c.self.inside.journal in
     let read = admitted log c.args.self.now c.self.view_is c.args.by c.args.time c.args.octets.now c.args.read c.requires in
     let does = c.in_ok-sent.ensures.does (world_of log) c.args.by c.args.octets.now c.self.invariant c.events.ensures.number read.is in
-    marked_so log c.args.self.now c.self.view_is c.args.by c.args.time c.args.octets.now c.args.read c.requires c.receive.new.self c.in_ok-sent.sent c.in_ok-kept.kept does c.in_ok-kept.ensures.ok c.copies_of-answer.result.mark c.copies_of-answer.ensures.mark
+    marked_so log c.args.self.now c.self.view_is c.args.by c.args.time c.args.octets.now c.args.read c.requires c.receive.new.self c.in_ok-sent.sent c.in_ok-kept.kept does c.in_ok-kept.ensures.ok c.copies_of-answer.result.1 c.copies_of-answer.ensures.mark
 
 pub invariant_of-self-2 : goal.invariant_of-self-2
 invariant_of-self-2 g c =
@@ -35,4 +35,4 @@ returns-clause-answer g c =
     let log = c.self.inside.journal in
     let read = admitted log c.args.self.now c.self.view_is c.args.by c.args.time c.args.octets.now c.args.read c.requires in
     let does = c.in_ok-sent.ensures.does (world_of log) c.args.by c.args.octets.now c.self.invariant c.events.ensures.number read.is in
-    answered log c.args.self.now c.self.view_is c.args.by c.args.time c.args.octets.now c.args.read c.requires c.receive.new.self c.in_ok-sent.sent c.in_ok-kept.kept does c.in_ok-kept.ensures.ok c.copies_of-answer.result.answer c.copies_of-answer.ensures.answer
+    answered log c.args.self.now c.self.view_is c.args.by c.args.time c.args.octets.now c.args.read c.requires c.receive.new.self c.in_ok-sent.sent c.in_ok-kept.kept does c.in_ok-kept.ensures.ok c.copies_of-answer.result.0 c.copies_of-answer.ensures.answer

@@ -1,4 +1,4 @@
-use Rattle.std.proofs.Common.{sym, ap, ◌∙◌}
+use Rattle.std.proofs.Common.{sym, ◌∙◌}
 use Rattle.ocp_world.specs.World.{Step}
 use Rattle.ocp_core.specs.Log.{world_of}
 use Rattle.ocp_core.proofs.Keeping.{IsWorld-with_entry}
