@@ -12,7 +12,7 @@ ghost use Rattle.ocp_world.specs.NextRunning.{IsNextRunning, Runs};
 ghost use Rattle.ocp_core.specs.Log.{empty_log, expand, world_of, answer_in, log_after};
 ghost use Rattle.ocp_core.specs.Slice.{slice_in, slice_log};
 ghost use Rattle.ocp_core.specs.Receipts.{reports_in, entries_in, event_entries, Enters};
-ghost use Rattle.ocp_core.specs.Mirror.Admitted.{IsAdmitted, IsTaken};
+ghost use Rattle.ocp_core.specs.Mirror.Admitted.{IsAdmitted};
 
 use crate::copies::copies_of;
 use crate::{EngineFault, Entry, Input, Journal, Reports, Slice, StepOutcome};
