@@ -5,7 +5,7 @@ ghost use Rattle.bpf_types.specs.Line.{first_slot, spelling, Spells, slot_octets
 ghost use Rattle.bpf_decode.specs.Mirror.Codes.{slot_with};
 
 use crate::codes::{
-    CALL, EXIT, JA, JA32, LDDW, NEG, class_of_arithmetic, class_of_jumps, code_of_comparison,
+    CALL, EXIT, JA, JA32, LDDW, MOV, NEG, class_of_arithmetic, class_of_jumps, code_of_comparison,
     code_of_signed_size, code_of_size, opcode_of_order, operation_code,
 };
 use bpf_types::{Fields, Line, Operand, Reg, Width};
@@ -93,7 +93,7 @@ pub fn first_fields(line: &Line) -> Fields
             dst,
             src,
         } => {
-            let opcode = 0xb8 + class_of_arithmetic(extension.width());
+            let opcode = MOV * 16 + 8 + class_of_arithmetic(extension.width());
             row(opcode, dst, src, i16::from(extension.bits()), 0)
         }
         Line::ByteOrder { order, width, dst } => {

@@ -4,7 +4,7 @@ ghost use Rattle.bpf_decode.specs.declared.fault.DecodeFault.{DecodeFault};
 ghost use Rattle.bpf_decode.specs.Mirror.Codes.{is_opcode};
 ghost use Rattle.bpf_types.specs.declared.line.Line.{Line};
 ghost use Rattle.bpf_types.specs.Line.{WritesFramePointer};
-ghost use Rattle.bpf_decode.specs.Mirror.Decoding.{high_in, wide_at, line_found, fields_in, decode_result};
+ghost use Rattle.bpf_decode.specs.Mirror.Decoding.{high_in, wide_at, line_in, fields_in, decode_result};
 ghost use Rattle.bpf_decode.specs.Decoding.{BeginsWith};
 ghost use Rattle.bpf_decode.specs.Faults.{IsFirst};
 
@@ -63,7 +63,7 @@ fn wide_of(fields: Fields, octets: &[u8]) -> Option<Line>
 fn line_in(octets: &[u8]) -> Option<Line>
     requires short { 8 ≤ length octets.now }
     requires long { slice_index octets.now 0 ≡ 0x18 → 16 ≤ length octets.now }
-    ensures exact { result ≡ line_found octets.now }
+    ensures exact { result ≡ line_in octets.now }
     ensures known { IfSome result (λ line. is_opcode (slice_index octets.now 0) ≡ true) }
 {
     let fields = fields_at(octets)?;
@@ -81,7 +81,7 @@ fn line_in(octets: &[u8]) -> Option<Line>
 fn fault_in(octets: &[u8]) -> DecodeFault
     requires short { 8 ≤ length octets.now }
     requires long { slice_index octets.now 0 ≡ 0x18 → 16 ≤ length octets.now }
-    requires none { line_found octets.now ≡ None }
+    requires none { line_in octets.now ≡ None }
     ensures { decode_result octets.now ≡ Err result }
 {
     if !is_known(octets[0]) {

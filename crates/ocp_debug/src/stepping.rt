@@ -45,6 +45,7 @@ fn note<A: Allocator>(
     ensures { ring.new ≡ last_traces (ring.old
         ++ option_to_list (trace_after id place outcome (get table.now.records id))) }
 {
+    // There are no more records than are kept: its own clause says so.
     let _few = ring.len();
     let Some(place) = place else {
         return;

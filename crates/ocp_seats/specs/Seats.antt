@@ -43,8 +43,8 @@ pub record GrowsBy (old new : BookContents) (entries : List MarkedEntry) : Type 
   pub taken : new.taken ≡ old.taken
   pub count : new.count ≡ old.count + length entries
 
--- An event that a seat asked for was answered so. The engine did it; its journal and the seat's
--- receipts gained the entry of an accepted answer, and a refused event changed neither.
+-- An event that a seat asked for was answered so, as the engine's journal says. The journal and the
+-- seat's receipts gained the entry of an accepted answer, and a refused event changed neither.
 pub record Serves (old new : BookContents) (seat after : SeatContents) (e : Event)
     (answer : Answer) : Type 0 where
   pub enters : Enters old.engine new.engine e answer

@@ -33,7 +33,8 @@ pub record IsServed (answers : Reply → Type 0) (old new : SeatContents) (e : E
   pub gains : Gains old new (event_entries e answer)
 
 -- The board answered a seat that handed in a work so, and the seat gained the entry of a committed
--- one. It is empty just where it has no instructions, and all of them are committed.
+-- one. The outcome is Empty just where the work has no instructions; where it is Committed, all of
+-- them are.
 pub record IsHandedIn (answers : Reply → Type 0) (old new : SeatContents) (work : WorkContents)
     (outcome : CommitOutcome) : Type 0 where
   pub given : answers (CommitReply old.number work outcome)

@@ -121,6 +121,6 @@ effect_in directive id m = effect_on directive id (get m id) (is_full m)
 abbrev pub table_after : Directive → ℕ → Procedures → Procedures
 table_after directive id t = table_by (effect_in directive id t.records) t
 
--- and what it is answered
-abbrev pub answer_in : Directive → ℕ → Procedures → Result (Unit {0}) StartFailure
-answer_in directive id t = start_result (effect_in directive id t.records)
+-- what it is answered by a table
+abbrev pub answer_after : Directive → ℕ → Procedures → Result (Unit {0}) StartFailure
+answer_after directive id t = start_result (effect_in directive id t.records)

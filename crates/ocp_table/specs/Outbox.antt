@@ -26,8 +26,9 @@ pendings m = sum_by places_in (values m)
 abbrev pub is_outbox_full : Records → List Due → Bool
 is_outbox_full m outbox = nat_le OUTBOX_PLACES (length outbox + pendings m)
 
-abbrev pub is_without_place : Procedures → Bool
-is_without_place t = is_outbox_full t.records t.outbox
+-- the same of a table
+abbrev pub has_no_place : Procedures → Bool
+has_no_place t = is_outbox_full t.records t.outbox
 
 -- there is a place for each of them
 abbrev pub HasPlaces : Records → List Due → Type 0

@@ -25,12 +25,15 @@ pub record Store : Type 0 where
   pub outbox : List Due
   pub pool : List ℕ
 
+-- that of a table and a pool
 abbrev pub store_of : Procedures → List ℕ → Store
 store_of t pool = record { records = t.records; outbox = t.outbox; pool = pool }
 
+-- what an instruction event does to it
 abbrev pub effect_of_event : ℕ → Store → Effect
 effect_of_event id s = effect_in (Step s.pool) id s.records
 
+-- what it leaves of it
 abbrev pub store_after : ℕ → Store → Store
 store_after id s = record {
   records = records_by (effect_of_event id s) s.records;
@@ -38,20 +41,24 @@ store_after id s = record {
   pool = pool_by (effect_of_event id s) s.pool;
 }
 
+-- what it is answered
 abbrev pub answer_to : ℕ → Store → StepOutcome
 answer_to id s = step_outcome (effect_of_event id s)
 
 -- ---- whether a slice goes on
 
+-- the status is that of a running procedure
 abbrev pub is_running_status : Status → Bool
 is_running_status Inactive = false
 is_running_status Running = true
 is_running_status Held = false
 
+-- a procedure that is there runs
 abbrev pub is_running : Option Rec → Bool
 is_running None = false
 is_running (Some r) = is_running_status r.control.status
 
+-- a procedure that is there is traced
 abbrev pub is_traced : Option Rec → Bool
 is_traced None = false
 is_traced (Some r) = r.traced
@@ -76,6 +83,7 @@ goes_on id s =
 
 -- ---- a slice
 
+-- what so many events leave of it
 abbrev pub store_after_events : ℕ → ℕ → Store → Store
 store_after_events id zero s = s
 store_after_events id (suc n) s = store_after_events id n (store_after id s)

@@ -59,7 +59,7 @@ impl<A: Allocator> State<A> {
         if let Some(slice) = self.table.slice(id, &mut self.pool, budget) {
             return slice;
         }
-        // each instruction of a traced procedure makes a trace record
+        // Each instruction of a traced procedure makes a trace record.
         let mut last = StepOutcome::Ran;
         for count in 0..budget {
             last = self.step(id);
