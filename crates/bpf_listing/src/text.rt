@@ -8,7 +8,7 @@ use hex::encode_to_slice;
 use itoa::Buffer;
 use std::marker::Model;
 
-/// The most octets of an instruction's text, without a newline.
+/// No instruction's text is longer, without a newline.
 pub const MAX_TEXT_LENGTH: usize = 48;
 
 /// The room of a text: that of an instruction, and what is appended to it.
