@@ -69,7 +69,6 @@ impl Text {
     }
 
     /// Appends the canonical text of an instruction to the empty text.
-    #[inline(always)]
     pub(crate) fn push_line(&mut self, line: &Line)
         requires { self.old ≡ [] }
         ensures items { self.new ≡ canonical line.now }
