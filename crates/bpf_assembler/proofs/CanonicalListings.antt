@@ -7,9 +7,10 @@ use Rattle.std.proofs.lemmas.Bool.Decides.{nat_tests}
 use Rattle.ocp_profile.specs.declared.profile.Profile.{Profile}
 use Rattle.bpf_types.specs.declared.line.Line.{Line}
 use Rattle.bpf_types.specs.Line.{IsLine, slots_in}
-use Rattle.bpf_listing.specs.Canonical.{canonical}
-use Rattle.bpf_listing.specs.Listing.{listing, IsImageOf}
-use Rattle.bpf_listing.specs.Octets.{is_text_octet}
+use Rattle.bpf_canonical.specs.Canonical.{canonical}
+use Rattle.bpf_decode.specs.Images.{IsImageOf}
+use Rattle.bpf_canonical.specs.Canonical.{listing}
+use Rattle.bpf_canonical.specs.Octets.{is_text_octet}
 use Rattle.bpf_text.specs.Lines.{TextLine, Writes}
 use Rattle.bpf_text.specs.Listings.{alone}
 use Rattle.text_lines.specs.Lines.{Ended, onto, lines_of, text_of, line_texts}
@@ -24,7 +25,7 @@ first_of l ls h = h 0 l (omega arith)
 rest_of : (l : Line) (ls : List Line) → All IsLine (l ∷ ls) → All IsLine ls
 rest_of l ls h = λ k d lt. h (suc k) d (omega arith)
 
--- what the law of bpf_listing says of canonical texts
+-- what the law of bpf_canonical says of canonical texts
 abbrev pub AreTexts : Type 0
 AreTexts = (l : Line) → IsLine l → IsTrue (list_all is_text_octet (canonical l))
 

@@ -3,7 +3,7 @@ use Rattle.std.proofs.Common.{◌≡◌, ◌⊎◌, inl, inr, ℕ, List, Result,
 use Rattle.std.specs.Prelude.{IfOk, IfErr}
 use Rattle.ocp_profile.specs.declared.profile.Profile.{Profile}
 use Rattle.bpf_types.specs.declared.line.Line.{Line}
-use Rattle.bpf_listing.specs.Listing.{image_of}
+use Rattle.bpf_decode.specs.Images.{image_of}
 use Rattle.ocp_loader.specs.Admitted.{IsAdmitted, IsAdmittedAs}
 use Rattle.bpf_assembler.specs.Text.{Means}
 use Rattle.bpf_assembler.specs.Faults.{IsFault}

@@ -7,7 +7,7 @@ use Rattle.std.proofs.lemmas.Grind.{flat_map-append}
 use Rattle.std.specs.List.{All}
 use Rattle.bpf_types.specs.declared.line.Line.{Line}
 use Rattle.bpf_types.specs.Line.{spelling, IsLine}
-use Rattle.bpf_listing.specs.Listing.{image_of}
+use Rattle.bpf_decode.specs.Images.{image_of}
 use Rattle.bpf_text.specs.Lines.{TextLine}
 use Rattle.bpf_assembler.specs.Text.{Entry, IsInstruction, AreInstructions}
 use Rattle.bpf_assembler.specs.Mirror.Passes.{Resolves, ResolvesAll, AreResolved, entry}

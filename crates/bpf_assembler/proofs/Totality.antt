@@ -8,7 +8,7 @@ use Rattle.ocp_profile.specs.declared.profile.Profile.{Profile}
 use Rattle.bpf_types.specs.declared.line.Line.{Line}
 use Rattle.bpf_types.specs.declared.line.Line.TheVariants as line
 use Rattle.bpf_types.specs.Line.{IsLine}
-use Rattle.bpf_listing.specs.Listing.{image_of}
+use Rattle.bpf_decode.specs.Images.{image_of}
 use Rattle.ocp_loader.specs.declared.fault.LoadFault.{LoadFault}
 use Rattle.ocp_loader.specs.declared.fault.LoadFault.TheVariants.{EmptyCode}
 use Rattle.ocp_loader.specs.FaultNumbers.{number_of, slot_of}
@@ -109,9 +109,9 @@ line_judged text rest line after (Ok p) t e j = by (new_or_not (written_line p).
       },
     )
 
-pub line_read : (text rest line after : List ℕ) (r : Result Parsed LineFault) → Progress text rest ⊎ SomeLineFault text → line_texts rest ≡ line ∷ line_texts after → JudgesLine line r → Progress text after ⊎ SomeLineFault text
-line_read text rest line after r (inl t) e j = line_judged text rest line after r t e j
-line_read text rest line after r (inr f) e j = inr f
+pub line_or_fault : (text rest line after : List ℕ) (r : Result Parsed LineFault) → Progress text rest ⊎ SomeLineFault text → line_texts rest ≡ line ∷ line_texts after → JudgesLine line r → Progress text after ⊎ SomeLineFault text
+line_or_fault text rest line after r (inl t) e j = line_judged text rest line after r t e j
+line_or_fault text rest line after r (inr f) e j = inr f
 
 -- ---- ranges of distances
 

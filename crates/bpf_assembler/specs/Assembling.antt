@@ -2,7 +2,7 @@
 use Rattle.std.specs.Prelude.{ℕ, List, IsOk}
 use Rattle.ocp_profile.specs.declared.profile.Profile.{Profile}
 use Rattle.bpf_types.specs.declared.line.Line.{Line}
-use Rattle.bpf_listing.specs.Listing.{image_of}
+use Rattle.bpf_decode.specs.Images.{image_of}
 use Rattle.ocp_loader.specs.LoadResult.{load_result}
 use Rattle.ocp_loader.specs.Admitted.{IsAdmittedAs}
 use Rattle.bpf_assembler.specs.Text.{Means}

@@ -2,7 +2,7 @@
 
 ghost use Rattle.std.specs.Prelude.{◌≡◌, ◌⊎◌, ℕ, List, Ok, Err, map, IfOk, IfErr};
 ghost use Rattle.bpf_types.specs.declared.line.Line.{Line};
-ghost use Rattle.bpf_listing.specs.Listing.{listing};
+ghost use Rattle.bpf_canonical.specs.Canonical.{listing};
 ghost use Rattle.ocp_loader.specs.Admitted.{MayBeRun, IsAdmittedAs};
 ghost use Rattle.bpf_assembler.specs.Text.{Means};
 ghost use Rattle.bpf_assembler.specs.Faults.{IsFault};
@@ -17,7 +17,7 @@ use crate::laws::{faults_are_unique, meanings_are_unique, meanings_exclude_fault
 use crate::listings::admitted_images_are_meant_by_their_listings;
 use crate::resolving::{line_up_to, resolve_all};
 use crate::table::{Row, Table};
-use bpf_listing::images_are_unique;
+use bpf_decode::images_are_unique;
 use ocp_loader::{LoadFault, Program, approve, load};
 use ocp_profile::Profile;
 use std::alloc::{Allocator, Global};

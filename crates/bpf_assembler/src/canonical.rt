@@ -2,7 +2,7 @@
 
 ghost use Rattle.std.specs.Prelude.{◌≡◌, ◌⊎◌, ◌++◌, ℕ, List, Ok, Err, OnOk, OnErr, IfErr, ◌≤◌, vec_capacity};
 ghost use Rattle.bpf_types.specs.declared.line.Line.{Line};
-ghost use Rattle.bpf_listing.specs.Listing.{listing};
+ghost use Rattle.bpf_canonical.specs.Canonical.{listing};
 ghost use Rattle.bpf_assembler.specs.Text.{Means};
 ghost use Rattle.bpf_assembler.specs.Assembling.{IsImageOfText, IsFaultOf};
 ghost use Rattle.bpf_assembler.specs.declared.fault.AsmFault.TheVariants.{Memory};

@@ -4,7 +4,7 @@ ghost use Rattle.std.specs.Prelude.{◌≡◌};
 ghost use Rattle.bpf_assembler.specs.declared.fault.AsmFault.TheVariants.{Memory, At};
 
 use ocp_loader::LoadFault;
-use std::alloc::{AllocError, AllocFailed};
+use std::alloc::AllocError;
 
 /// What a line of a text has that is no image, in the order in which faults are looked for: line by
 /// line the first three; then in line order UnknownLabel, and Range of the distance of a label;
@@ -44,14 +44,6 @@ impl From<AllocError> for AsmFault {
     ghost from_gives = { λ _ e. e ≡ Memory };
 
     fn from(_: AllocError) -> AsmFault {
-        AsmFault::Memory
-    }
-}
-
-impl<T: Drop> From<AllocFailed<T>> for AsmFault {
-    ghost from_gives = { λ _ e. e ≡ Memory };
-
-    fn from(_: AllocFailed<T>) -> AsmFault {
         AsmFault::Memory
     }
 }

@@ -3,7 +3,7 @@
 ghost use Rattle.std.specs.Prelude.{◌≡◌, ◌↔◌, ◌⊎◌, ◌∷◌, ◌++◌, List, ℕ, Some, Err, length};
 ghost use Rattle.ocp_profile.specs.declared.profile.Profile.{Profile};
 ghost use Rattle.bpf_types.specs.declared.line.Line.{Line};
-ghost use Rattle.bpf_listing.specs.Listing.{image_of};
+ghost use Rattle.bpf_decode.specs.Images.{image_of};
 ghost use Rattle.ocp_loader.specs.declared.fault.LoadFault.{LoadFault};
 ghost use Rattle.ocp_loader.specs.Admitted.{IsAdmitted};
 ghost use Rattle.ocp_loader.specs.LoadResult.{load_result};

@@ -6,12 +6,14 @@ ghost use Rattle.std.specs.List.{All};
 ghost use Rattle.ocp_profile.specs.declared.profile.Profile.{Profile};
 ghost use Rattle.bpf_types.specs.declared.line.Line.{Line};
 ghost use Rattle.bpf_types.specs.Line.{IsLine};
-ghost use Rattle.bpf_listing.specs.Listing.{listing, IsImageOf};
+ghost use Rattle.bpf_decode.specs.Images.{IsImageOf};
+ghost use Rattle.bpf_canonical.specs.Canonical.{listing};
 ghost use Rattle.ocp_loader.specs.Admitted.{IsAdmitted, IsAdmittedAs};
 ghost use Rattle.bpf_assembler.specs.Text.{Means};
 
 use crate::laws::meanings_are_unique;
-use bpf_listing::{images_are_unique, listings_have_a_line_for_each_instruction};
+use bpf_canonical::listings_have_a_line_for_each_instruction;
+use bpf_decode::images_are_unique;
 use bpf_text::laws::canonical_texts_are_read_back;
 
 /// A listing means the instructions that it lists.

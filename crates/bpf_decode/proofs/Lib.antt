@@ -8,3 +8,4 @@ mod FirstFault
 pub mod Decoded
 mod Sound
 mod Total
+mod Images

@@ -1,14 +1,14 @@
 //! The octets of an instruction.
-ghost use Rattle.std.specs.Prelude.{◌≡◌, ◌*◌, ◌+◌, ◌%◌, ◌^◌, ◌≤◌, ℕ, List, length, take};
-ghost use Rattle.std.specs.Int.{w32, cast_signed};
+ghost use Rattle.std.specs.Prelude.{◌≡◌, ◌≤◌, ℕ, List, take};
 ghost use Rattle.bpf_types.specs.Line.{first_slot, spelling, Spells, slot_octets};
 ghost use Rattle.bpf_decode.specs.Mirror.Codes.{slot_with};
 
 use crate::codes::{
-    CALL, EXIT, JA, JA32, LDDW, MOV, NEG, class_of_arithmetic, class_of_jumps, code_of_comparison,
-    code_of_signed_size, code_of_size, opcode_of_order, operation_code,
+    CALL, EXIT, JA, JA32, LDDW, LDX, MEM, MEMSX, MOV, NEG, ST, STX, X, class_of_arithmetic,
+    class_of_jumps, code_of_comparison, code_of_signed_size, code_of_size, opcode_of_order,
+    operation_code,
 };
-use bpf_types::{Fields, Line, Operand, Reg, Width};
+use bpf_types::{Fields, Line, Operand, Reg, Width, high_half, low_half};
 use std::marker::Model;
 
 /// The octets of one instruction, 8 or 16. A contract sees the list of them.
@@ -60,13 +60,6 @@ fn row(opcode: u8, dst: Reg, src: Reg, offset: i16, imm: i32) -> Fields
     }
 }
 
-/// The low 32 bits of a number, as an imm field.
-fn low_half(value: u64) -> i32
-    ensures { result ≡ cast_signed w32 (value % 2 ^ 32) }
-{
-    ((value % 0x1_0000_0000) as u32).cast_signed()
-}
-
 /// The fields of the first slot: the instruction table (RFC 9669, sections 3 to 5).
 #[inline(always)]
 pub fn first_fields(line: &Line) -> Fields
@@ -84,7 +77,7 @@ pub fn first_fields(line: &Line) -> Fields
             let opcode = code * 16 + class_of_arithmetic(width);
             match operand {
                 Operand::Immediate(imm) => row(opcode, dst, none, offset, imm),
-                Operand::Register(src) => row(opcode + 8, dst, src, offset, 0),
+                Operand::Register(src) => row(opcode + X, dst, src, offset, 0),
             }
         }
         Line::Negate { width, dst } => row(NEG * 16 + class_of_arithmetic(width), dst, none, 0, 0),
@@ -93,7 +86,7 @@ pub fn first_fields(line: &Line) -> Fields
             dst,
             src,
         } => {
-            let opcode = MOV * 16 + 8 + class_of_arithmetic(extension.width());
+            let opcode = MOV * 16 + X + class_of_arithmetic(extension.width());
             row(opcode, dst, src, i16::from(extension.bits()), 0)
         }
         Line::ByteOrder { order, width, dst } => {
@@ -112,37 +105,61 @@ pub fn first_fields(line: &Line) -> Fields
             let opcode = code_of_comparison(comparison) * 16 + class_of_jumps(width);
             match operand {
                 Operand::Immediate(imm) => row(opcode, dst, none, distance, imm),
-                Operand::Register(src) => row(opcode + 8, dst, src, distance, 0),
+                Operand::Register(src) => row(opcode + X, dst, src, distance, 0),
             }
         }
         Line::Call { number } => row(CALL, none, none, 0, number),
         Line::CallLocal { distance } => row(CALL, none, Reg::one(), 0, distance),
         Line::Exit => row(EXIT, none, none, 0, 0),
-        Line::LoadWide { dst, value } => row(LDDW, dst, none, 0, low_half(value)),
+        Line::LoadWide { dst, value } => row(LDDW, dst, none, 0, low_half(value).cast_signed()),
         Line::Load {
             size,
             dst,
             base,
             offset,
-        } => row(0x61 + 8 * code_of_size(size), dst, base, offset, 0),
+        } => row(
+            MEM * 32 + LDX + 8 * code_of_size(size),
+            dst,
+            base,
+            offset,
+            0,
+        ),
         Line::LoadExtended {
             size,
             dst,
             base,
             offset,
-        } => row(0x81 + 8 * code_of_signed_size(size), dst, base, offset, 0),
+        } => row(
+            MEMSX * 32 + LDX + 8 * code_of_signed_size(size),
+            dst,
+            base,
+            offset,
+            0,
+        ),
         Line::StoreImmediate {
             size,
             base,
             offset,
             value,
-        } => row(0x62 + 8 * code_of_size(size), base, none, offset, value),
+        } => row(
+            MEM * 32 + ST + 8 * code_of_size(size),
+            base,
+            none,
+            offset,
+            value,
+        ),
         Line::Store {
             size,
             base,
             offset,
             src,
-        } => row(0x63 + 8 * code_of_size(size), base, src, offset, 0),
+        } => row(
+            MEM * 32 + STX + 8 * code_of_size(size),
+            base,
+            src,
+            offset,
+            0,
+        ),
     }
 }
 
@@ -155,8 +172,8 @@ pub fn encode(line: Line) -> Slots
     octets[..8].copy_from_slice(&octets_of(first_fields(&line)));
     match line {
         Line::LoadWide { value, .. } => {
-            let (none, high) = (Reg::zero(), low_half(value / 0x1_0000_0000));
-            let second = row(0, none, none, 0, high);
+            let none = Reg::zero();
+            let second = row(0, none, none, 0, high_half(value).cast_signed());
             octets[8..].copy_from_slice(&octets_of(second));
             Slots { octets, length: 16 }
         }

@@ -1,4 +1,5 @@
 //! Why octets are no instruction that may be loaded.
+
 /// Why the octets at a slot are no instruction that may be loaded, in the order in which they are
 /// asked.
 #[derive(Clone, Copy, PartialEq, Eq, Debug)]

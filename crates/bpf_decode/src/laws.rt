@@ -1,12 +1,12 @@
 //! Laws on spellings and faults. The functions do nothing when they run.
-// What holds of all instructions and all octets.
-ghost use Rattle.std.specs.Prelude.{◌≡◌, ◌⊎◌, ℕ, List, Ok, Err};
+ghost use Rattle.std.specs.Prelude.{◌≡◌, ◌⊎◌, ◌%◌, ℕ, List, length, Ok, Err};
 ghost use Rattle.bpf_types.specs.declared.line.Line.{Line};
 ghost use Rattle.bpf_types.specs.Line.{Spells, WritesFramePointer};
 ghost use Rattle.bpf_decode.specs.declared.fault.DecodeFault.{DecodeFault};
 ghost use Rattle.bpf_decode.specs.Mirror.Decoding.{decode_result};
 ghost use Rattle.bpf_decode.specs.Decoding.{BeginsWith};
 ghost use Rattle.bpf_decode.specs.Faults.{IsFirst, AreOctets, IsDecodable, IsFaulty};
+ghost use Rattle.bpf_decode.specs.Images.{IsImageOf, HasFaultAt, NoneWritesFramePointer};
 
 /// A spelling determines its line, and a line its spelling.
 pub fn spellings_are_unique()
@@ -43,4 +43,23 @@ pub fn octets_have_an_instruction_or_a_fault()
 /// Octets have one first fault at most.
 pub fn faults_are_unique()
     ensures { (octets : List ℕ) (a b : DecodeFault) → IsFirst a octets → IsFirst b octets → a ≡ b }
+{}
+
+/// An image is that of one list of instructions at most.
+pub fn images_are_unique()
+    ensures { (image : List ℕ) (a b : List Line) → IsImageOf image a → IsImageOf image b → a ≡ b }
+{}
+
+/// An image is of whole slots.
+pub fn images_are_whole_slots()
+    ensures { (image : List ℕ) (lines : List Line) → IsImageOf image lines → length image % 8 ≡ 0 }
+{}
+
+/// An image of instructions that may be loaded has no fault, and any octets have one first fault
+/// at one slot at most.
+pub fn faults_of_images_are_unique()
+    ensures none { (image : List ℕ) (lines : List Line) (slot : ℕ) (fault : DecodeFault) →
+        IsImageOf image lines → NoneWritesFramePointer lines → ¬ HasFaultAt image slot fault }
+    ensures one { (image : List ℕ) (s t : ℕ) (a b : DecodeFault) → HasFaultAt image s a →
+        HasFaultAt image t b → (a ≡ b) × (s ≡ t) }
 {}

@@ -3,8 +3,8 @@ ghost use Rattle.std.specs.Prelude.{◌≡◌};
 ghost use Rattle.bpf_decode.specs.Mirror.Rows.{operand_at, binary_at, arithmetic_at, jump_at, load_at, is_same_at, spelled_line, spelled_line_of, short_at};
 
 use crate::codes::{
-    CALL, END, EXIT, JA, JA32, MOV, NEG, comparison_of, operation_of, order_of, signed_size_of,
-    size_of,
+    ALU, ALU64, CALL, END, EXIT, JA, JA32, JMP, JMP32, LDX, MEM, MOV, NEG, ST, STX, X,
+    comparison_of, operation_of, order_of, signed_size_of, size_of,
 };
 use crate::encoding::first_fields;
 use bpf_types::{Extension, Fields, Line, Operand, SwapWidth, Width};
@@ -38,7 +38,7 @@ fn spelled_line(fields: &Fields, line: Line) -> Option<Line>
 fn operand_of(fields: &Fields) -> Operand
     ensures { result ≡ operand_at fields.now }
 {
-    if fields.opcode % 16 < 8 {
+    if fields.opcode % 16 < X {
         Operand::Immediate(fields.imm)
     } else {
         Operand::Register(fields.src)
@@ -117,7 +117,7 @@ fn load_of(fields: &Fields) -> Option<Line>
     ensures { result ≡ spelled_line_of fields.now (load_at fields.now) }
 {
     let size = fields.opcode / 8 % 4;
-    if fields.opcode / 32 == 3 {
+    if fields.opcode / 32 == MEM {
         spelled_line(
             fields,
             Line::Load {
@@ -145,8 +145,8 @@ pub fn short_of(fields: &Fields) -> Option<Line>
     ensures { result ≡ short_at fields.now }
 {
     match fields.opcode % 8 {
-        1 => load_of(fields),
-        2 => spelled_line(
+        LDX => load_of(fields),
+        ST => spelled_line(
             fields,
             Line::StoreImmediate {
                 size: size_of(fields.opcode / 8 % 4)?,
@@ -155,7 +155,7 @@ pub fn short_of(fields: &Fields) -> Option<Line>
                 value: fields.imm,
             },
         ),
-        3 => spelled_line(
+        STX => spelled_line(
             fields,
             Line::Store {
                 size: size_of(fields.opcode / 8 % 4)?,
@@ -164,10 +164,10 @@ pub fn short_of(fields: &Fields) -> Option<Line>
                 src: fields.src,
             },
         ),
-        4 => arithmetic_of(Width::W32, fields),
-        5 => jump_of(Width::W64, fields),
-        6 => jump_of(Width::W32, fields),
-        7 => arithmetic_of(Width::W64, fields),
+        ALU => arithmetic_of(Width::W32, fields),
+        JMP => jump_of(Width::W64, fields),
+        JMP32 => jump_of(Width::W32, fields),
+        ALU64 => arithmetic_of(Width::W64, fields),
         _ => None,
     }
 }

@@ -11,7 +11,7 @@ ghost use Rattle.bpf_decode.specs.Faults.{IsFirst};
 use crate::codes::{LDDW, is_known};
 use crate::fault::DecodeFault;
 use crate::rows::short_of;
-use bpf_types::{Fields, Line, Reg};
+use bpf_types::{Fields, Line, Reg, from_halves};
 
 /// The fields of the first slot, unless a register is not there.
 fn fields_at(octets: &[u8]) -> Option<Fields>
@@ -51,11 +51,9 @@ fn wide_of(fields: Fields, octets: &[u8]) -> Option<Line>
         return None;
     }
     let high = high_at(octets)?;
-    let value = u64::from(fields.imm.cast_unsigned())
-        + u64::from(high.cast_unsigned()) * 0x1_0000_0000;
     Some(Line::LoadWide {
         dst: fields.dst,
-        value,
+        value: from_halves(fields.imm.cast_unsigned(), high.cast_unsigned()),
     })
 }
 

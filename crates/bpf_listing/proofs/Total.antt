@@ -1,24 +1,19 @@
 -- Octets have a listing, or a first fault at a slot.
-use Rattle.std.proofs.Common.{◌≡◌, ◌+◌, ◌*◌, ◌<◌, ◌≤◌, ◌⊎◌, inl, inr, ℕ, zero, suc, List, [], ◌∷◌, ◌++◌, refl, ap, subst, arith, length, take, drop}
+use Rattle.std.proofs.Common.{◌≡◌, ◌+◌, ◌*◌, ◌<◌, ◌≤◌, ◌⊎◌, inl, inr, ℕ, zero, suc, List, [], ◌++◌, refl, subst, arith, length, take, drop}
 use Rattle.std.specs.Prelude.{codes}
 use Rattle.std.proofs.lemmas.List.Elements.{All-drop}
 use Rattle.bpf_types.specs.declared.line.Line.{Line}
 use Rattle.bpf_types.specs.declared.line.Line.TheVariants as line
 use Rattle.bpf_types.specs.Line.{spelling, slots_in}
 use Rattle.bpf_decode.specs.Faults.{AreOctets, IsDecodable, IsFaulty}
-use Rattle.bpf_listing.specs.Canonical.{canonical}
+use Rattle.bpf_canonical.specs.Canonical.{canonical}
 use Rattle.bpf_listing.specs.Listing.{IsListed, HasListing, HasFault}
 use Rattle.bpf_listing.proofs.Listings.{listed_none, listed_more}
+use Rattle.bpf_listing.proofs.Written.{all_taken}
 
 -- what the law of bpf_decode says
 abbrev pub IsEither : Type 0
 IsEither = (octets : List ℕ) → AreOctets octets → IsDecodable octets ⊎ IsFaulty octets
-
-all_taken : (n : ℕ) (octets : List ℕ) → length octets ≤ n → take n octets ≡ octets
-all_taken zero [] h = refl
-all_taken zero (o ∷ octets) h = absurd (omega arith)
-all_taken (suc n) [] h = refl
-all_taken (suc n) (o ∷ octets) h = ap (λ (t : List ℕ). o ∷ t) (all_taken n octets (omega arith))
 
 octets_of : (l : Line) → 8 * slots_in l ≡ length (spelling l)
 octets_of (line.LoadWide dst value) = omega arith

@@ -1,12 +1,16 @@
 //! The listing of an image.
-ghost use Rattle.std.specs.Prelude.{◌≡◌, ◌≢◌, ◌≤◌, ◌<◌, ◌+◌, ◌%◌, ◌++◌, ◌↔◌, length, IfOk, IfErr, OnOk, OnErr, vec_capacity, List, IsTrue, IsFalse, MatchResult};
+ghost use Rattle.std.specs.Prelude.{◌≡◌, ◌≢◌, ◌≤◌, ◌<◌, ◌+◌, ◌%◌, ◌++◌, ◌↔◌, length, [], IfOk, IfErr, OnOk, OnErr, vec_capacity, List, IsTrue, IsFalse, MatchResult};
 ghost use Rattle.std.specs.Result.{IsErrOf};
 ghost use Rattle.bpf_types.specs.declared.line.Line.{Line};
-ghost use Rattle.bpf_listing.specs.Listing.{IsListed, IsImageOf, NoneWritesFramePointer, IsFaultOf, LacksRoom, listing};
-ghost use Rattle.bpf_listing.specs.Mirror.Written.{Continues, IsWritten};
+ghost use Rattle.bpf_decode.specs.Images.{IsImageOf, NoneWritesFramePointer};
+ghost use Rattle.bpf_canonical.specs.Canonical.{listing};
+ghost use Rattle.bpf_listing.specs.Listing.{IsListed, IsFaultOf, LacksRoom};
+ghost use Rattle.bpf_listing.specs.Mirror.Written.{Continues, IsWritten, IsFlushed};
 
-use crate::text::Text;
-use bpf_decode::{DecodeFault, decode_at, instructions_are_unique};
+use bpf_canonical::{MAX_TEXT_LENGTH, Text};
+use bpf_decode::{
+    DecodeFault, decode_at, faults_of_images_are_unique, images_are_unique, images_are_whole_slots,
+};
 use std::alloc::Allocator;
 
 /// Why an image has no listing, in the order in which the refusals are asked.
@@ -21,7 +25,14 @@ pub enum DisassembleFault {
     Memory,
 }
 
-/// Appends a text where there is room for it, and else nothing. Four octets are taken at a time.
+/// The most octets of lines that are held back before they are appended.
+const BUFFER_LENGTH: usize = 1024;
+
+/// The most octets of a line, with its newline.
+const MAX_LINE_LENGTH: usize = MAX_TEXT_LENGTH + 1;
+
+/// Appends a text where there is room for it; the octets that were there stay in front. Eight
+/// octets are taken at a time, which takes fewer machine instructions than one by one.
 fn push_within<A: Allocator>(out: &mut Vec<u8, A>, text: &[u8])
     ensures fits { length out.old.items + length text.now ≤ vec_capacity out.old →
         out.new.items ≡ out.old.items ++ text.now }
@@ -32,11 +43,15 @@ fn push_within<A: Allocator>(out: &mut Vec<u8, A>, text: &[u8])
         return;
     }
     let mut rest = text;
-    while let [a, b, c, d, after @ ..] = rest {
+    while let [a, b, c, d, e, f, g, h, after @ ..] = rest {
         out.push_reserved(*a);
         out.push_reserved(*b);
         out.push_reserved(*c);
         out.push_reserved(*d);
+        out.push_reserved(*e);
+        out.push_reserved(*f);
+        out.push_reserved(*g);
+        out.push_reserved(*h);
         rest = after;
     }
     for octet in rest {
@@ -44,8 +59,35 @@ fn push_within<A: Allocator>(out: &mut Vec<u8, A>, text: &[u8])
     }
 }
 
-/// Appends the lines of an image as far as there is room for them, and gives how many octets they
-/// have.
+/// Appends the lines of the buffer where there is room for all of them, and gives how many
+/// octets they have.
+fn flush<A: Allocator>(buffer: &mut Text<BUFFER_LENGTH>, out: &mut Vec<u8, A>) -> usize
+    ensures empty { buffer.new ≡ [] }
+    ensures flushed { IsFlushed (vec_capacity out.old) out.old.items buffer.old
+        out.new.items buffer.new result }
+    ensures capacity { vec_capacity out.new ≡ vec_capacity out.old }
+{
+    let len = buffer.as_slice().len();
+    push_within(out, buffer.as_slice());
+    buffer.clear();
+    len
+}
+
+/// Sees that one more line fits into the buffer, and gives how many octets were flushed for it.
+fn make_room<A: Allocator>(buffer: &mut Text<BUFFER_LENGTH>, out: &mut Vec<u8, A>) -> usize
+    ensures room { length buffer.new + MAX_LINE_LENGTH ≤ BUFFER_LENGTH }
+    ensures flushed { IsFlushed (vec_capacity out.old) out.old.items buffer.old
+        out.new.items buffer.new result }
+    ensures capacity { vec_capacity out.new ≡ vec_capacity out.old }
+{
+    if buffer.as_slice().len() + MAX_LINE_LENGTH <= BUFFER_LENGTH {
+        return 0;
+    }
+    flush(buffer, out)
+}
+
+/// Appends the lines of an image where there is room for all of them, and gives how many octets
+/// they have. Where there is none, the octets that were there stay in front.
 fn write_lines<A: Allocator>(code: &[u8], out: &mut Vec<u8, A>) -> Result<u128, DisassembleFault>
     requires { length code.now % 8 ≡ 0 }
     ensures ok { IfOk result
@@ -56,32 +98,32 @@ fn write_lines<A: Allocator>(code: &[u8], out: &mut Vec<u8, A>) -> Result<u128, 
     ensures capacity { vec_capacity out.new ≡ vec_capacity out.old }
 {
     let slots = code.len() / 8;
+    let mut buffer = Text::new();
     let mut slot = 0;
     let mut len = 0;
     while slot < slots {
         match decode_at(code, slot) {
             Ok(line) => {
-                let mut text = Text::new();
-                text.push_line(&line);
-                text.push_all(b"\n");
-                push_within(out, text.as_slice());
-                len += text.as_slice().len() as u128;
+                len += make_room(&mut buffer, out) as u128;
+                buffer.push_line(&line);
+                buffer.push_all(b"\n");
                 slot += usize::from(line.slots());
             }
             Err(fault) => return Err(DisassembleFault::Decode(fault, slot)),
         }
     }
-    Ok(len)
+    Ok(len + flush(&mut buffer, out) as u128)
 }
 
 /// Whether there is room for so many octets more, which is made where memory for it is given.
-fn has_room<A: Allocator>(out: &mut Vec<u8, A>, len: u128) -> bool
+fn reserve_room<A: Allocator>(out: &mut Vec<u8, A>, len: u128) -> bool
     ensures items { out.new.items ≡ out.old.items }
     ensures room { IsTrue result → length out.new.items + len ≤ vec_capacity out.new }
     ensures full { IsFalse result → vec_capacity out.old < length out.old.items + len }
     ensures same_capacity { IsFalse result → vec_capacity out.new ≡ vec_capacity out.old }
     ensures capacity { vec_capacity out.old ≤ vec_capacity out.new }
 {
+    // A capacity that is read is known to be in its range.
     let _capacity = out.capacity();
     match usize::try_from(len) {
         Ok(len) => out.reserve(len).is_ok(),
@@ -113,7 +155,9 @@ pub fn disassemble<A: Allocator>(code: &[u8], out: &mut Vec<u8, A>) -> Result<()
     ensures same_capacity { OnErr result (vec_capacity out.new ≡ vec_capacity out.old) }
     ensures capacity { vec_capacity out.old ≤ vec_capacity out.new }
 {
-    instructions_are_unique();
+    images_are_unique();
+    images_are_whole_slots();
+    faults_of_images_are_unique();
     if code.len() % 8 != 0 {
         return Err(DisassembleFault::Ragged);
     }
@@ -124,7 +168,7 @@ pub fn disassemble<A: Allocator>(code: &[u8], out: &mut Vec<u8, A>) -> Result<()
         return Ok(());
     }
     out.truncate(before);
-    if !has_room(out, written?) {
+    if !reserve_room(out, written?) {
         return Err(DisassembleFault::Memory);
     }
     match write_lines(code, out) {

@@ -1,44 +1,25 @@
-//! Laws of canonical texts and listings.
-ghost use Rattle.std.specs.Prelude.{◌≡◌, ◌⊎◌, IsTrue, ◌==◌, ◌%◌, List, [], ℕ, length};
-ghost use Rattle.std.specs.List.{All, list_all, count_by};
+//! Laws of canonical texts and listings. The functions do nothing when they run.
+ghost use Rattle.std.specs.Prelude.{◌≡◌, ◌⊎◌, ◌%◌, List, [], ℕ, length};
 ghost use Rattle.bpf_types.specs.declared.line.Line.{Line};
 ghost use Rattle.bpf_types.specs.Line.{IsLine};
 ghost use Rattle.bpf_decode.specs.declared.fault.DecodeFault.{DecodeFault};
 ghost use Rattle.bpf_decode.specs.Faults.{AreOctets};
-ghost use Rattle.bpf_listing.specs.Canonical.{canonical};
-ghost use Rattle.bpf_listing.specs.declared.mnemonic.Mnemonic.{Mnemonic};
-ghost use Rattle.bpf_listing.specs.Listing.{IsImageOf, IsListed, HasFaultAt, HasListing, HasFault, listing};
-ghost use Rattle.bpf_listing.specs.Mnemonics.{mnemonic_name};
-ghost use Rattle.bpf_listing.specs.Octets.{is_text_octet};
+ghost use Rattle.bpf_decode.specs.Images.{HasFaultAt};
+ghost use Rattle.bpf_canonical.specs.Canonical.{canonical};
+ghost use Rattle.bpf_listing.specs.Listing.{IsListed, HasListing, HasFault};
 
 use bpf_decode::{
-    faults_are_unique, instructions_are_unique, octets_have_an_instruction_or_a_fault,
+    faults_of_images_are_unique, images_are_unique, images_are_whole_slots,
+    octets_have_an_instruction_or_a_fault,
 };
-
-/// A word is the name of one mnemonic at most.
-pub fn mnemonics_are_unique()
-    ensures { (a b : Mnemonic) → mnemonic_name a ≡ mnemonic_name b → a ≡ b }
-{}
+use bpf_text::laws::{canonical_texts_are_read_back, readings_are_unique};
 
 /// A text is the canonical one of one instruction at most.
 pub fn canonical_texts_are_unique()
     ensures { (a b : Line) → IsLine a → IsLine b → canonical a ≡ canonical b → a ≡ b }
-{}
-
-/// A canonical text is of digits, lower-case letters, spaces and the signs `+ , - [ ]`; so it has
-/// no newline, and a listing has one for each instruction.
-pub fn listings_have_a_line_for_each_instruction()
-    ensures octets { (line : Line) → IsLine line →
-        IsTrue (list_all is_text_octet (canonical line)) }
-    ensures newlines { (lines : List Line) → All IsLine lines →
-        count_by (λ octet. octet == 10) (listing lines) ≡ length lines }
-{}
-
-/// An image is that of one list of instructions at most.
-pub fn images_are_unique()
-    ensures { (image : List ℕ) (a b : List Line) → IsImageOf image a → IsImageOf image b → a ≡ b }
 {
-    instructions_are_unique();
+    canonical_texts_are_read_back();
+    readings_are_unique();
 }
 
 /// Octets have a listing, or a first fault at a slot.
@@ -58,6 +39,7 @@ pub fn listings_and_faults_are_unique()
     ensures fault { (image : List ℕ) (s t : ℕ) (f g : DecodeFault) → HasFaultAt image s f →
         HasFaultAt image t g → (f ≡ g) × (s ≡ t) }
 {
-    instructions_are_unique();
-    faults_are_unique();
+    images_are_unique();
+    images_are_whole_slots();
+    faults_of_images_are_unique();
 }

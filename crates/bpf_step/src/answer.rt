@@ -38,14 +38,19 @@ impl From<AccessFault> for MachineFault {
 /// What only the engine can do.
 #[derive(Clone, Copy, PartialEq, Eq, Debug)]
 pub enum Need {
+    /// An engine call, by its number.
     Call(i32),
+    /// The end of the procedure.
     LastExit,
+    /// A fault.
     Fault(MachineFault),
 }
 
 /// What became of an instruction.
 #[derive(Clone, Copy, PartialEq, Eq, Debug)]
 pub enum Local {
+    /// It is done.
     Stepped,
+    /// The machine is as before.
     NeedsEngine(Need),
 }

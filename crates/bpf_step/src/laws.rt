@@ -1,6 +1,7 @@
 //! Laws on machines. The functions do nothing when they run: their contracts are the laws.
 ghost use Rattle.std.specs.Prelude.{◌≡◌, ◌≤◌, ℕ, Bool, List, [], length, Option, Some};
 ghost use Rattle.ocp_profile.specs.declared.profile.Profile.{Profile};
+ghost use Rattle.ocp_regions.specs.declared.regions.TheConstants.{ARGUMENT_OCTETS};
 ghost use Rattle.bpf_types.specs.declared.line.Line.{Line};
 ghost use Rattle.ocp_loader.specs.Admitted.{IsAdmitted, IsAdmittedAs};
 ghost use Rattle.ocp_loader.specs.Places.{IsAt};
@@ -47,7 +48,7 @@ pub fn r10_is_the_frame_pointer_of_the_depth()
 /// A machine of a profile that is started anew is as a new one of that profile: nothing is left of
 /// what it did.
 pub fn machines_started_anew_are_as_new()
-    ensures new { (profile : Profile) (before : List ℕ) → length before ≤ 256 →
+    ensures new { (profile : Profile) (before : List ℕ) → length before ≤ ARGUMENT_OCTETS →
         HasMemoryOf profile (machine_at_start profile before) }
     ensures again { (profile : Profile) (arguments : List ℕ) (s : State) → HasMemoryOf profile s →
         machine_at_restart arguments s ≡ machine_at_start profile arguments }

@@ -1,5 +1,5 @@
 -- The canonical text of an instruction is written as that instruction.
-use Rattle.std.proofs.Common.{◌≡◌, ◌<◌, ◌^◌, ℕ, ℤ, pos, negsuc, List, [], ◌∷◌, ◌++◌, Some, None, refl, sym, ◌∙◌, subst, arith, append_assoc, w16, w32, rules}
+use Rattle.std.proofs.Common.{◌≡◌, ◌<◌, ◌^◌, ℕ, ℤ, pos, negsuc, List, [], ◌∷◌, ◌++◌, Some, None, refl, sym, ◌∙◌, ap, subst, arith, append_assoc, w16, w32, rules}
 use Rattle.std.specs.Prelude.{codes, FitsSigned}
 use Rattle.std.specs.Fmt.{decimal, signed_decimal}
 use Rattle.std.proofs.lemmas.Int.{ints}
@@ -10,10 +10,10 @@ use Rattle.bpf_types.specs.declared.line.Extension.TheVariants as extension
 use Rattle.bpf_types.specs.declared.line.SwapWidth.{SwapWidth}
 use Rattle.bpf_types.specs.declared.line.SwapWidth.TheVariants as swap
 use Rattle.bpf_types.specs.Line.{IsLine, swap_width_bits, extension_bits}
-use Rattle.bpf_listing.specs.Canonical.{canonical, register, with_sign, operand_text, hex_digits}
-use Rattle.bpf_listing.specs.Mnemonics.{mnemonic_name}
+use Rattle.bpf_canonical.specs.Canonical.{canonical, register, with_sign, operand_text, hex_digits}
+use Rattle.bpf_canonical.specs.Mnemonics.{mnemonic_name, mnemonic_of}
 use Rattle.bpf_text.specs.Tokens.{NoWord, HasTokens}
-use Rattle.bpf_text.specs.Lines.{mnemonic_of, IsForm, Writes}
+use Rattle.bpf_text.specs.Lines.{IsForm, Writes}
 use Rattle.bpf_text.proofs.CanonicalNumbers.{IsRun, decimal_run, numeral_read, register_run, register_read, integer_run, immediate_read, operand_run, operand_read, distance_run, distance_read, value_run, value_read}
 use Rattle.bpf_text.proofs.CanonicalWords.{mnemonic_run, local_run}
 use Rattle.bpf_text.proofs.CanonicalTokens.{run_then, blank_then, run_last, word_and_one, word_and_two, word_and_three, word_and_load, word_and_store}
@@ -118,7 +118,7 @@ canonical_form line.Exit h =
 canonical_form (line.LoadWide dst value) h =
     let a = register dst in let b = codes "0x" ++ hex_digits 16 value in (
       codes "lddw" ∷ a ∷ codes "," ∷ b ∷ [],
-      subst (λ (t : List ℕ). HasTokens t (codes "lddw" ∷ a ∷ codes "," ∷ b ∷ [])) (with_prefix (codes "lddw " ++ a) (hex_digits 16 value))
+      subst (λ (t : List ℕ). HasTokens t (codes "lddw" ∷ a ∷ codes "," ∷ b ∷ [])) (ap (λ (t : List ℕ). codes "lddw" ++ t) (with_prefix (codes " " ++ a) (hex_digits 16 value)))
           (word_and_two (codes "lddw") a b (word_of (line.LoadWide dst value)) (register_run dst h.0) (value_run value)),
       (a ∷ codes "," ∷ b ∷ [], refl, (refl, refl, (a, b, refl, register_read dst h.0, value_read value h.1))),
     )

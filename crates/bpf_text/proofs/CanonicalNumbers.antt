@@ -1,20 +1,19 @@
 -- The numbers of a canonical text are spelled as the assembler reads them.
 use Rattle.std.proofs.Common.{◌≡◌, ◌≢◌, ◌+◌, ◌*◌, ◌/◌, ◌%◌, ◌^◌, ◌<◌, ◌≤◌, ℕ, zero, suc, ℤ, pos, negsuc, ◌-ℤ◌, List, [], ◌∷◌, ◌++◌, true, false, refl, sym, ap, ◌∙◌, subst, arith, inl, inr, ◌⊎◌, length, length-append, w32}
 use native.Mathlib.Numerals.{unary_clauses}
-use Rattle.std.specs.Prelude.{codes, FitsSigned, slice_index, nat_le}
+use Rattle.std.specs.Prelude.{codes, FitsSigned, nat_le}
 use Rattle.std.specs.Fmt.{decimal, signed_decimal, digit_glyph}
 use Rattle.std.proofs.lemmas.Fmt.{decimal_by_steps}
 use Rattle.std.proofs.lemmas.Bool.{cases_lt, lt-ltb, le-ltb}
 use Rattle.std.proofs.lemmas.Bool.Decides.{nat_tests}
 use Rattle.std.proofs.lemmas.Int.{ints}
-use Rattle.std.proofs.lemmas.Grind.{fold-append}
-use Rattle.std.proofs.Math.ListN.{get_or-append}
-use Rattle.std.proofs.Math.Seq.{get_or-append_seam}
 use Rattle.bpf_types.specs.declared.line.Operand.{Operand}
 use Rattle.bpf_types.specs.declared.line.Operand.TheVariants.{Immediate, Register}
 use Rattle.bpf_types.specs.Line.{IsOperand}
-use Rattle.bpf_listing.specs.Canonical.{hex_digits, register, with_sign, operand_text}
-use Rattle.bpf_text.specs.Number.{digit, AllDigits, Spells, IsNumeral}
+use Rattle.bpf_canonical.specs.Canonical.{hex_digits, register, with_sign, operand_text}
+use Rattle.std.specs.Char.{digit_value}
+use Rattle.std.proofs.lemmas.Int.Digits.{digits_push, digits_value_push}
+use Rattle.bpf_text.specs.Number.{Spells, IsNumeral}
 use Rattle.bpf_text.specs.Tokens.{is_word, is_sign, AllWord}
 use Rattle.bpf_text.specs.Fields.{IsRegister, IsInteger, IsImmediate, IsSecond, IsDistance, as_signed}
 
@@ -31,26 +30,13 @@ pub run_of_word : (w : List ℕ) → w ≢ [] → AllWord w → IsRun w
 run_of_word [] some all = absurd (some refl)
 run_of_word (o ∷ os) some all = inl all
 
-pub not_empty : (ds : List ℕ) (o : ℕ) → ds ++ o ∷ [] ≢ []
-not_empty ds o = λ e. absurd (omega (arith, ap length e, length-append ds (o ∷ [])))
+pub spells_more : (base : ℕ) (ds : List ℕ) (n o : ℕ) → Spells base ds n → digit_value o < base → Spells base (ds ++ o ∷ []) (n * base + digit_value o)
+spells_more base ds n o h lt = ((omega (arith, length-append ds (o ∷ [])), digits_push base ds o h.0.1 lt), rw h.1 (sym (digits_value_push base ds o)))
 
-digits_more : (base : ℕ) (ds : List ℕ) (o : ℕ) → AllDigits base ds → digit o < base → AllDigits base (ds ++ o ∷ [])
-digits_more base ds o all lt = λ k less. elim (cases_lt k (length ds)) [
-  | inl l ↦ rw (get_or-append ds (o ∷ []) 0 k l) (all k l)
-  | inr ge ↦ let e : k ≡ length ds = omega (arith, length-append ds (o ∷ []), less) in rw e (rw (get_or-append_seam ds o [] 0) lt)
-]
+spells_one : (base d o : ℕ) → digit_value o ≡ d → d < base → Spells base (o ∷ []) d
+spells_one base d o e lt = ((omega arith, (rw e lt, tt)), omega (arith, e))
 
-pub spells_more : (base : ℕ) (ds : List ℕ) (n o : ℕ) → Spells base ds n → digit o < base → Spells base (ds ++ o ∷ []) (n * base + digit o)
-spells_more base ds n o h lt = (not_empty ds o, digits_more base ds o h.1 lt, rw h.2 (sym (fold-append (λ (m octet : ℕ). m * base + digit octet) 0 ds (o ∷ []))))
-
-spells_one : (base d o : ℕ) → digit o ≡ d → d < base → Spells base (o ∷ []) d
-spells_one base d o e lt = (λ bad. absurd cc, λ k less. by k less, omega (arith, e))
-  where
-    by : (k : ℕ) → k < 1 → digit (slice_index (o ∷ []) k) < base
-    by zero less = rw e lt
-    by (suc k) less = absurd (omega arith)
-
-digit_of : (d : ℕ) → d < 10 → digit (48 + d) ≡ d
+digit_of : (d : ℕ) → d < 10 → digit_value (48 + d) ≡ d
 digit_of d lt = grind (arith, nat_tests)
 
 word_of : (d : ℕ) → d < 10 → is_word (48 + d) ≡ true
@@ -60,8 +46,8 @@ pub decimal_spells : (n : ℕ) → n < 2 ^ 64 → Spells 10 (decimal n) n
 decimal_spells = decimal_by_steps (λ n ds. Spells 10 ds n)
     (λ n lt. spells_one 10 n (48 + n) (digit_of n lt) lt)
     (λ n ds ge h.
-    let d : digit (48 + n % 10) ≡ n % 10 = digit_of (n % 10) (omega arith) in
-    let e : n / 10 * 10 + digit (48 + n % 10) ≡ n = omega arith in
+    let d : digit_value (48 + n % 10) ≡ n % 10 = digit_of (n % 10) (omega arith) in
+    let e : n / 10 * 10 + digit_value (48 + n % 10) ≡ n = omega arith in
     subst (Spells 10 (ds ++ (48 + n % 10) ∷ [])) e (spells_more 10 ds (n / 10) (48 + n % 10) h (omega arith)))
 
 pub decimal_word : (n : ℕ) → n < 2 ^ 64 → AllWord (decimal n)
@@ -69,10 +55,14 @@ decimal_word = decimal_by_steps (λ n ds. AllWord ds)
     (λ n lt. (word_of n lt, tt))
     (λ n ds ge h. word_join ds ((48 + n % 10) ∷ []) h (word_of (n % 10) (omega arith), tt))
 
-pub decimal_run : (n : ℕ) → n < 2 ^ 64 → IsRun (decimal n)
-decimal_run n fits = run_of_word (decimal n) (decimal_spells n fits).0 (decimal_word n fits)
+-- a numeral has octets
+some_octets : (w : List ℕ) (n : ℕ) → Spells 10 w n → w ≢ []
+some_octets w n h = λ e. absurd (omega (arith, h.0.0, ap length e))
 
-glyph_digit : (d : ℕ) → d < 16 → digit (digit_glyph false d) ≡ d
+pub decimal_run : (n : ℕ) → n < 2 ^ 64 → IsRun (decimal n)
+decimal_run n fits = run_of_word (decimal n) (some_octets (decimal n) n (decimal_spells n fits)) (decimal_word n fits)
+
+glyph_digit : (d : ℕ) → d < 16 → digit_value (digit_glyph false d) ≡ d
 glyph_digit d lt = elim (cases_lt d 10) [
   | inl small ↦ rw (lt-ltb d 10 small) (digit_of d small)
   | inr large ↦ rw (le-ltb d 10 large) (grind (arith, nat_tests))
@@ -91,8 +81,8 @@ hex_spells zero n lt =
     spells_one 16 n (digit_glyph false (n % 16)) (glyph_digit (n % 16) (omega arith) ∙ e) bound
 hex_spells (suc count) n lt =
     let bound = simp unary_clauses at lt in
-    let d : digit (digit_glyph false (n % 16)) ≡ n % 16 = glyph_digit (n % 16) (omega arith) in
-    let e : n / 16 * 16 + digit (digit_glyph false (n % 16)) ≡ n = omega arith in
+    let d : digit_value (digit_glyph false (n % 16)) ≡ n % 16 = glyph_digit (n % 16) (omega arith) in
+    let e : n / 16 * 16 + digit_value (digit_glyph false (n % 16)) ≡ n = omega arith in
     subst (Spells 16 (hex_digits (suc count) (n / 16) ++ digit_glyph false (n % 16) ∷ [])) e
     (spells_more 16 (hex_digits (suc count) (n / 16)) (n / 16) (digit_glyph false (n % 16)) (hex_spells count (n / 16) (omega arith)) (omega arith))
 
@@ -127,7 +117,7 @@ numeral_read n fits = inl (decimal_spells n fits)
 
 pub integer_run : (z : ℤ) → FitsSigned w32 z → IsRun (signed_decimal z)
 integer_run (pos n) h = decimal_run n (omega (arith, ints))
-integer_run (negsuc n) h = inr (refl, (decimal_spells (suc n) (omega (arith, ints))).0, decimal_word (suc n) (omega (arith, ints)))
+integer_run (negsuc n) h = inr (refl, some_octets (decimal (suc n)) (suc n) (decimal_spells (suc n) (omega (arith, ints))), decimal_word (suc n) (omega (arith, ints)))
 
 minus_is : (n : ℕ) → negsuc n ≡ pos 0 -ℤ pos (suc n)
 minus_is n = omega (arith, ints)
@@ -155,8 +145,8 @@ operand_run (Immediate z) h = integer_run z h
 operand_run (Register n) h = register_run n h
 
 pub distance_run : (z : ℤ) → FitsSigned w32 z → IsRun (with_sign z)
-distance_run (pos n) h = inr (refl, (decimal_spells n (omega (arith, ints))).0, decimal_word n (omega (arith, ints)))
-distance_run (negsuc n) h = inr (refl, (decimal_spells (suc n) (omega (arith, ints))).0, decimal_word (suc n) (omega (arith, ints)))
+distance_run (pos n) h = inr (refl, some_octets (decimal n) n (decimal_spells n (omega (arith, ints))), decimal_word n (omega (arith, ints)))
+distance_run (negsuc n) h = inr (refl, some_octets (decimal (suc n)) (suc n) (decimal_spells (suc n) (omega (arith, ints))), decimal_word (suc n) (omega (arith, ints)))
 
 pub distance_read : (z : ℤ) → FitsSigned w32 z → IsDistance (with_sign z) z
 distance_read (pos n) h = (decimal n, n, numeral_read n (omega (arith, ints)), inl (refl, refl))

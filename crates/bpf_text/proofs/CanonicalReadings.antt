@@ -3,7 +3,7 @@ use Rattle.std.proofs.Common.{◌≡◌, refl, subst, Result, Ok, Err}
 use Rattle.std.specs.Prelude.{MatchResult}
 use Rattle.bpf_types.specs.declared.line.Line.{Line}
 use Rattle.bpf_types.specs.Line.{IsLine}
-use Rattle.bpf_listing.specs.Canonical.{canonical}
+use Rattle.bpf_canonical.specs.Canonical.{canonical}
 use Rattle.bpf_text.specs.Lines.{TextLine, InRange}
 use Rattle.bpf_text.specs.Listings.{alone}
 use Rattle.bpf_text.specs.Judged.{JudgesLine, written_line}

@@ -41,24 +41,23 @@ pub closing_then : (rest : List ℕ) (ts : List (List ℕ)) → HasTokens rest t
 closing_then rest ts h = (rest, (refl, inl (refl, refl)), h)
 
 -- a word and one operand
-pub word_and_one : (m a : List ℕ) → IsRun m → IsRun a → HasTokens (m ++ codes " " ++ a) (m ∷ a ∷ [])
-word_and_one m a hm ha = subst (λ (t : List ℕ). HasTokens t (m ∷ a ∷ [])) (sym (append_assoc m (codes " ") a))
-    (run_then m (32 ∷ a) (a ∷ []) hm refl (blank_then a (a ∷ []) (run_last a ha)))
+pub word_and_one : (m a : List ℕ) → IsRun m → IsRun a → HasTokens (m ++ (codes " " ++ a)) (m ∷ a ∷ [])
+word_and_one m a hm ha = run_then m (32 ∷ a) (a ∷ []) hm refl (blank_then a (a ∷ []) (run_last a ha))
 
-regroup_two : (m s a c b : List ℕ) → m ++ s ++ a ++ c ++ b ≡ m ⧺ s ⧺ a ⧺ c ⧺ b
+regroup_two : (m s a c b : List ℕ) → m ++ (s ++ a ++ c ++ b) ≡ m ⧺ s ⧺ a ⧺ c ⧺ b
 regroup_two m s a c b = simp append_assoc
 
-regroup_three : (m s a c b d e : List ℕ) → m ++ s ++ a ++ c ++ b ++ d ++ e ≡ m ⧺ s ⧺ a ⧺ c ⧺ b ⧺ d ⧺ e
+regroup_three : (m s a c b d e : List ℕ) → m ++ (s ++ a ++ c ++ b ++ d ++ e) ≡ m ⧺ s ⧺ a ⧺ c ⧺ b ⧺ d ⧺ e
 regroup_three m s a c b d e = simp append_assoc
 
-regroup_load : (m s a c p b o q : List ℕ) → m ++ s ++ a ++ c ++ (p ++ b ++ o ++ q) ≡ m ⧺ s ⧺ a ⧺ c ⧺ p ⧺ b ⧺ o ⧺ q
+regroup_load : (m s a c p b o q : List ℕ) → m ++ (s ++ a ++ c ++ (p ++ b ++ o ++ q)) ≡ m ⧺ s ⧺ a ⧺ c ⧺ p ⧺ b ⧺ o ⧺ q
 regroup_load m s a c p b o q = simp append_assoc
 
-regroup_store : (m s p b o q c a : List ℕ) → m ++ s ++ (p ++ b ++ o ++ q) ++ c ++ a ≡ m ⧺ s ⧺ p ⧺ b ⧺ o ⧺ q ⧺ c ⧺ a
+regroup_store : (m s p b o q c a : List ℕ) → m ++ (s ++ (p ++ b ++ o ++ q) ++ c ++ a) ≡ m ⧺ s ⧺ p ⧺ b ⧺ o ⧺ q ⧺ c ⧺ a
 regroup_store m s p b o q c a = simp append_assoc
 
 -- a word and two operands
-pub word_and_two : (m a b : List ℕ) → IsRun m → IsRun a → IsRun b → HasTokens (m ++ codes " " ++ a ++ codes ", " ++ b) (m ∷ a ∷ codes "," ∷ b ∷ [])
+pub word_and_two : (m a b : List ℕ) → IsRun m → IsRun a → IsRun b → HasTokens (m ++ (codes " " ++ a ++ codes ", " ++ b)) (m ∷ a ∷ codes "," ∷ b ∷ [])
 word_and_two m a b hm ha hb = subst (λ (t : List ℕ). HasTokens t (m ∷ a ∷ codes "," ∷ b ∷ [])) (sym (regroup_two m (codes " ") a (codes ", ") b))
     (run_then m (32 ∷ a ⧺ codes ", " ⧺ b) (a ∷ codes "," ∷ b ∷ []) hm refl
     (blank_then (a ⧺ codes ", " ⧺ b) (a ∷ codes "," ∷ b ∷ [])
@@ -66,7 +65,7 @@ word_and_two m a b hm ha hb = subst (λ (t : List ℕ). HasTokens t (m ∷ a ∷
     (comma_then b (b ∷ []) (run_last b hb)))))
 
 -- a word and three operands
-pub word_and_three : (m a b c : List ℕ) → IsRun m → IsRun a → IsRun b → IsRun c → HasTokens (m ++ codes " " ++ a ++ codes ", " ++ b ++ codes ", " ++ c) (m ∷ a ∷ codes "," ∷ b ∷ codes "," ∷ c ∷ [])
+pub word_and_three : (m a b c : List ℕ) → IsRun m → IsRun a → IsRun b → IsRun c → HasTokens (m ++ (codes " " ++ a ++ codes ", " ++ b ++ codes ", " ++ c)) (m ∷ a ∷ codes "," ∷ b ∷ codes "," ∷ c ∷ [])
 word_and_three m a b c hm ha hb hc = subst (λ (t : List ℕ). HasTokens t (m ∷ a ∷ codes "," ∷ b ∷ codes "," ∷ c ∷ [])) (sym (regroup_three m (codes " ") a (codes ", ") b (codes ", ") c))
     (run_then m (32 ∷ a ⧺ codes ", " ⧺ b ⧺ codes ", " ⧺ c) (a ∷ codes "," ∷ b ∷ codes "," ∷ c ∷ []) hm refl
     (blank_then (a ⧺ codes ", " ⧺ b ⧺ codes ", " ⧺ c) (a ∷ codes "," ∷ b ∷ codes "," ∷ c ∷ [])
@@ -77,7 +76,7 @@ word_and_three m a b c hm ha hb hc = subst (λ (t : List ℕ). HasTokens t (m �
 
 -- a word, a register and a place in memory
 pub word_and_load : (m a b o : List ℕ) → IsRun m → IsRun a → IsRun b → IsRun o → ((rest : List ℕ) → NoWord (o ++ rest))
-    → HasTokens (m ++ codes " " ++ a ++ codes ", " ++ (codes "[" ++ b ++ o ++ codes "]")) (m ∷ a ∷ codes "," ∷ codes "[" ∷ b ∷ o ∷ codes "]" ∷ [])
+    → HasTokens (m ++ (codes " " ++ a ++ codes ", " ++ (codes "[" ++ b ++ o ++ codes "]"))) (m ∷ a ∷ codes "," ∷ codes "[" ∷ b ∷ o ∷ codes "]" ∷ [])
 word_and_load m a b o hm ha hb ho sign = subst (λ (t : List ℕ). HasTokens t (m ∷ a ∷ codes "," ∷ codes "[" ∷ b ∷ o ∷ codes "]" ∷ [])) (sym (regroup_load m (codes " ") a (codes ", ") (codes "[") b o (codes "]")))
     (run_then m (32 ∷ a ⧺ codes ", " ⧺ codes "[" ⧺ b ⧺ o ⧺ codes "]") (a ∷ codes "," ∷ codes "[" ∷ b ∷ o ∷ codes "]" ∷ []) hm refl
     (blank_then (a ⧺ codes ", " ⧺ codes "[" ⧺ b ⧺ o ⧺ codes "]") (a ∷ codes "," ∷ codes "[" ∷ b ∷ o ∷ codes "]" ∷ [])
@@ -90,7 +89,7 @@ word_and_load m a b o hm ha hb ho sign = subst (λ (t : List ℕ). HasTokens t (
 
 -- a word, a place in memory and one operand
 pub word_and_store : (m b o a : List ℕ) → IsRun m → IsRun b → IsRun o → IsRun a → ((rest : List ℕ) → NoWord (o ++ rest))
-    → HasTokens (m ++ codes " " ++ (codes "[" ++ b ++ o ++ codes "]") ++ codes ", " ++ a) (m ∷ codes "[" ∷ b ∷ o ∷ codes "]" ∷ codes "," ∷ a ∷ [])
+    → HasTokens (m ++ (codes " " ++ (codes "[" ++ b ++ o ++ codes "]") ++ codes ", " ++ a)) (m ∷ codes "[" ∷ b ∷ o ∷ codes "]" ∷ codes "," ∷ a ∷ [])
 word_and_store m b o a hm hb ho ha sign = subst (λ (t : List ℕ). HasTokens t (m ∷ codes "[" ∷ b ∷ o ∷ codes "]" ∷ codes "," ∷ a ∷ [])) (sym (regroup_store m (codes " ") (codes "[") b o (codes "]") (codes ", ") a))
     (run_then m (32 ∷ codes "[" ⧺ b ⧺ o ⧺ codes "]" ⧺ codes ", " ⧺ a) (codes "[" ∷ b ∷ o ∷ codes "]" ∷ codes "," ∷ a ∷ []) hm refl
     (blank_then (codes "[" ⧺ b ⧺ o ⧺ codes "]" ⧺ codes ", " ⧺ a) (codes "[" ∷ b ∷ o ∷ codes "]" ∷ codes "," ∷ a ∷ [])

@@ -13,14 +13,14 @@ use Rattle.bpf_types.specs.declared.line.SignedSize.{SignedSize}
 use Rattle.bpf_types.specs.declared.line.SignedSize.TheVariants as signed_size
 use Rattle.bpf_types.specs.declared.line.Width.{Width}
 use Rattle.bpf_types.specs.declared.line.Width.TheVariants.{W32, W64}
-use Rattle.bpf_listing.specs.declared.mnemonic.Mnemonic.{Mnemonic}
-use Rattle.bpf_listing.specs.declared.mnemonic.Mnemonic.TheVariants as word
-use Rattle.bpf_listing.specs.declared.mnemonic.Jump.{Jump}
-use Rattle.bpf_listing.specs.declared.mnemonic.Jump.TheVariants as leap
-use Rattle.bpf_listing.specs.declared.mnemonic.Access.{Access}
-use Rattle.bpf_listing.specs.declared.mnemonic.Access.TheVariants as access
-use Rattle.bpf_listing.specs.Canonical.{operation_name, comparison_name, order_name, size_name, signed_size_name, width_name}
-use Rattle.bpf_listing.specs.Mnemonics.{mnemonic_name, jump_name, access_name}
+use Rattle.bpf_canonical.specs.declared.mnemonic.Mnemonic.{Mnemonic}
+use Rattle.bpf_canonical.specs.declared.mnemonic.Mnemonic.TheVariants as word
+use Rattle.bpf_canonical.specs.declared.mnemonic.Jump.{Jump}
+use Rattle.bpf_canonical.specs.declared.mnemonic.Jump.TheVariants as leap
+use Rattle.bpf_canonical.specs.declared.mnemonic.Access.{Access}
+use Rattle.bpf_canonical.specs.declared.mnemonic.Access.TheVariants as access
+use Rattle.bpf_canonical.specs.Mnemonics.{operation_name, comparison_name, order_name, size_name, signed_size_name, width_name}
+use Rattle.bpf_canonical.specs.Mnemonics.{mnemonic_name, jump_name, access_name}
 use Rattle.bpf_text.specs.Tokens.{is_word, AllWord}
 use Rattle.bpf_text.proofs.CanonicalNumbers.{IsRun, word_join}
 

@@ -2,7 +2,8 @@
 use Rattle.std.proofs.Common.{◌≡◌, ◌<◌, ◌≤◌, ◌+◌, ◌-◌, ℕ, List, [], ◌∷◌, length, get_or, take, drop, ◌^◌, Option, Some, None, Ok, Err, FitsSigned, refl, sym, ap, ◌∙◌, subst, arith, inl, inr, ◌⊎◌, ℤ, pos, negsuc, ◌-ℤ◌}
 use Rattle.std.proofs.lemmas.Int.{ints}
 use Rattle.bpf_text.proofs.Scanning.{whole_drop}
-use Rattle.bpf_text.specs.Number.{digit, IsNumeral}
+use Rattle.std.specs.Char.{digit_value}
+use Rattle.bpf_text.specs.Number.{IsNumeral}
 use Rattle.std.specs.Int.{w32}
 use Rattle.bpf_types.specs.declared.line.Operand.{Operand}
 use Rattle.bpf_types.specs.declared.line.Operand.TheVariants.{Immediate, Register}
@@ -32,13 +33,13 @@ front_octet [] a le e = absurd (omega arith)
 front_octet (x ∷ t) a le e = ap (λ (o : ℕ). o ∷ t) e
 
 -- a letter begins no numeral, and neither does a sign
-pub letter_no_numeral : (o : ℕ) (digits : List ℕ) (n : ℕ) → 10 ≤ digit o → IsNumeral (o ∷ digits) n → ⊥
-letter_no_numeral o digits n le (inl h) = omega (arith, h.1 0 (omega arith))
-letter_no_numeral o digits n le (inr h) = let same : o ≡ 48 = cc in let d : digit o ≡ 0 = ap digit same in omega arith
+pub letter_no_numeral : (o : ℕ) (digits : List ℕ) (n : ℕ) → 10 ≤ digit_value o → IsNumeral (o ∷ digits) n → ⊥
+letter_no_numeral o digits n le (inl h) = omega (arith, h.0.1.0)
+letter_no_numeral o digits n le (inr h) = let same : o ≡ 48 = cc in let d : digit_value o ≡ 0 = ap digit_value same in omega arith
 
-pub sign_no_numeral : (o : ℕ) (digits : List ℕ) (n : ℕ) → 36 ≤ digit o → IsNumeral (o ∷ digits) n → ⊥
-sign_no_numeral o digits n le (inl h) = omega (arith, h.1 0 (omega arith))
-sign_no_numeral o digits n le (inr h) = let same : o ≡ 48 = cc in let d : digit o ≡ 0 = ap digit same in omega arith
+pub sign_no_numeral : (o : ℕ) (digits : List ℕ) (n : ℕ) → 36 ≤ digit_value o → IsNumeral (o ∷ digits) n → ⊥
+sign_no_numeral o digits n le (inl h) = omega (arith, h.0.1.0)
+sign_no_numeral o digits n le (inr h) = let same : o ≡ 48 = cc in let d : digit_value o ≡ 0 = ap digit_value same in omega arith
 
 pub minus_integer : (token digits : List ℕ) (z : ℤ) → token ≡ 45 ∷ digits → IsInteger token z → (n : ℕ) × IsNumeral digits n × (z ≡ pos 0 -ℤ pos n)
 minus_integer token digits z e (inl h) = absurd (sign_no_numeral 45 digits h.0 (omega arith) (subst (λ (t : List ℕ). IsNumeral t h.0) e h.1))
@@ -74,7 +75,7 @@ no_distance token digits o e none z h = none h.1 (subst (λ (t : List ℕ). IsNu
     same (inr p) = let q = p.0 in cc
 
 pub no_integer : (t : List ℕ) → length t < 1 → (z : ℤ) → IsInteger t z → ⊥
-no_integer [] lt z (inl h) = elim h.1 [ inl k ↦ k.0 refl | inr k ↦ let q = k.1 in absurd cc ]
+no_integer [] lt z (inl h) = elim h.1 [ inl k ↦ absurd (omega (arith, k.0.0)) | inr k ↦ let q = k.1 in absurd cc ]
 no_integer [] lt z (inr h) = let q = h.2 in absurd cc
 no_integer (x ∷ t) lt z h = absurd (omega arith)
 

@@ -16,16 +16,16 @@ use Rattle.bpf_types.specs.declared.line.Extension.{Extension}
 use Rattle.bpf_types.specs.declared.line.Extension.TheVariants as extension
 use Rattle.bpf_types.specs.declared.line.SwapWidth.{SwapWidth}
 use Rattle.bpf_types.specs.declared.line.SwapWidth.TheVariants as swap
-use Rattle.bpf_listing.specs.declared.mnemonic.Mnemonic.{Mnemonic}
-use Rattle.bpf_listing.specs.declared.mnemonic.Mnemonic.TheVariants as word
-use Rattle.bpf_listing.specs.declared.mnemonic.Jump.TheVariants as leap
-use Rattle.bpf_listing.specs.declared.mnemonic.Access.TheVariants as access
-use Rattle.bpf_listing.specs.Mnemonics.{mnemonic_name}
+use Rattle.bpf_canonical.specs.declared.mnemonic.Mnemonic.{Mnemonic}
+use Rattle.bpf_canonical.specs.declared.mnemonic.Mnemonic.TheVariants as word
+use Rattle.bpf_canonical.specs.declared.mnemonic.Jump.TheVariants as leap
+use Rattle.bpf_canonical.specs.declared.mnemonic.Access.TheVariants as access
+use Rattle.bpf_canonical.specs.Mnemonics.{mnemonic_name, mnemonic_of}
 use Rattle.bpf_text.specs.Number.{IsNumeral}
 use Rattle.bpf_text.specs.Fields.{IsRegister, IsImmediate, IsSecond, IsTarget}
 use Rattle.bpf_text.specs.Mirror.Gives.{Gives, bits_in, HasExtension, HasSwapWidth}
 use Rattle.bpf_text.specs.Mirror.Reads.{State, Token, Behind, Then, Memory, Reads, Answers, verdict}
-use Rattle.bpf_text.specs.Lines.{IsOperands, mnemonic_of, AreOne, AreTwo, AreThree, AreLoad, AreStore}
+use Rattle.bpf_text.specs.Lines.{IsOperands, AreOne, AreTwo, AreThree, AreLoad, AreStore}
 use Rattle.bpf_text.specs.Judged.{Judges, JudgesForm, text_of, target_of}
 use Rattle.bpf_text.specs.declared.line.Source.{Source}
 use Rattle.bpf_text.specs.declared.line.LineFault.{LineFault}

@@ -2,7 +2,8 @@
 use Rattle.std.proofs.Common.{◌≡◌, ◌<◌, ◌+◌, ℕ, ℤ, pos, ◌-ℤ◌, List, [], ◌∷◌, length, get_or, Option, Some, None, true, false, sym, ap, ◌∙◌, subst, arith, inl, inr, ◌⊎◌}
 use Rattle.bpf_types.specs.declared.line.Operand.{Operand}
 use Rattle.bpf_types.specs.declared.line.Operand.TheVariants.{Immediate, Register}
-use Rattle.bpf_text.specs.Number.{digit, Spells, IsNumeral}
+use Rattle.std.specs.Str.Parse.{AllDigits}
+use Rattle.bpf_text.specs.Number.{Spells, IsNumeral}
 use Rattle.bpf_text.specs.Tokens.{is_word}
 use Rattle.bpf_text.specs.Fields.{IsRegister, IsInteger, IsImmediate, IsSecond, IsDistance, IsOffset, IsTarget, IsName, as_signed}
 use Rattle.bpf_text.proofs.FieldLemmas.{register_text, letter_no_numeral, sign_no_numeral}
@@ -10,16 +11,14 @@ use Rattle.bpf_text.proofs.FieldLemmas.{register_text, letter_no_numeral, sign_n
 -- no decimal numeral begins with 0x
 no_x : (octets digits : List ℕ) (n : ℕ) → Spells 10 octets n → octets ≡ 48 ∷ 120 ∷ digits → ⊥
 no_x octets digits n h e =
-    let long : 1 < length octets = omega (arith, ap length e) in
-    let x : get_or octets 1 0 ≡ 120 = ap (λ (t : List ℕ). get_or t 1 0) e in
-    let d : digit (get_or octets 1 0) ≡ 33 = ap digit x in
-    omega (arith, h.1 1 long, d)
+    let all = subst (AllDigits 10) e h.0.1 in
+    omega (arith, all.1.0)
 
 pub one_numeral : (t : List ℕ) (m n : ℕ) → IsNumeral t m → IsNumeral t n → m ≡ n
-one_numeral t m n (inl h) (inl k) = h.2 ∙ sym k.2
+one_numeral t m n (inl h) (inl k) = h.1 ∙ sym k.1
 one_numeral t m n (inl h) (inr k) = absurd (no_x t k.0 m h k.1)
 one_numeral t m n (inr h) (inl k) = absurd (no_x t h.0 n k h.1)
-one_numeral t m n (inr (a, e, h)) (inr (b, f, k)) = let same : b ≡ a = cc in let q = subst (λ (u : List ℕ). Spells 16 u n) same k in h.2 ∙ sym q.2
+one_numeral t m n (inr (a, e, h)) (inr (b, f, k)) = let same : b ≡ a = cc in let q = subst (λ (u : List ℕ). Spells 16 u n) same k in h.1 ∙ sym q.1
 
 pub one_register : (t : List ℕ) (m n : ℕ) → IsRegister t m → IsRegister t n → m ≡ n
 one_register t m n h k = by (register_text t m h) (register_text t n k)

@@ -16,18 +16,18 @@ use Rattle.bpf_types.specs.declared.line.Extension.{Extension}
 use Rattle.bpf_types.specs.declared.line.Extension.TheVariants as extension
 use Rattle.bpf_types.specs.declared.line.SwapWidth.{SwapWidth}
 use Rattle.bpf_types.specs.declared.line.SwapWidth.TheVariants as swap
-use Rattle.bpf_listing.specs.Mnemonics.{mnemonic_name}
-use Rattle.bpf_listing.specs.declared.mnemonic.Mnemonic.{Mnemonic}
+use Rattle.bpf_canonical.specs.Mnemonics.{mnemonic_name, mnemonic_of}
+use Rattle.bpf_canonical.specs.declared.mnemonic.Mnemonic.{Mnemonic}
 use Rattle.bpf_text.specs.Number.{IsNumeral}
 use Rattle.bpf_text.specs.Fields.{IsRegister, IsImmediate, IsSecond, IsTarget}
-use Rattle.bpf_text.specs.Lines.{IsOperands, IsForm, IsExtended, IsSwapWidth, IsBody, HasLabel, Statement, TextLine, Writes, InRange, mnemonic_of, AreOne}
+use Rattle.bpf_text.specs.Lines.{IsOperands, IsForm, IsExtended, IsSwapWidth, IsBody, HasLabel, Statement, TextLine, Writes, InRange, AreOne}
 use Rattle.bpf_text.proofs.Scanning.{one_tokens}
 use Rattle.bpf_text.proofs.JudgeLemmas.{no_local}
 use Rattle.bpf_text.proofs.ReadingLemmas.{no_colon}
 use Rattle.bpf_text.proofs.UniqueFields.{one_numeral, one_register, one_immediate, one_second, one_target}
 use Rattle.bpf_text.proofs.UniqueForms.{one_alone, one_pair, one_triple, one_load, one_store}
 
--- what the law of bpf_listing says of mnemonics
+-- what the law of bpf_canonical says of mnemonics
 abbrev pub AreNamed : Type 0
 AreNamed = (m n : Mnemonic) → mnemonic_name m ≡ mnemonic_name n → m ≡ n
 

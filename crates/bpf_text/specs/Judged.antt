@@ -3,8 +3,9 @@ use Rattle.std.specs.Prelude.{◌≡◌, ℕ, ℤ, List, Option, Some, None, Res
 use denote.Ref.{Bor}
 use Rattle.bpf_types.specs.declared.line.Line.{Line}
 use Rattle.bpf_types.specs.Line.{IsLine}
-use Rattle.bpf_listing.specs.declared.mnemonic.Mnemonic.{Mnemonic}
-use Rattle.bpf_text.specs.Lines.{IsOperands, IsForm, mnemonic_of, Statement, TextLine, Writes, InRange, IsBody, HasLabel}
+use Rattle.bpf_canonical.specs.declared.mnemonic.Mnemonic.{Mnemonic}
+use Rattle.bpf_canonical.specs.Mnemonics.{mnemonic_of}
+use Rattle.bpf_text.specs.Lines.{IsOperands, IsForm, Statement, TextLine, Writes, InRange, IsBody, HasLabel}
 use Rattle.bpf_text.specs.declared.line.Source.{Source}
 use Rattle.bpf_text.specs.declared.line.Parsed.{Parsed}
 use Rattle.bpf_text.specs.declared.line.LineFault.{LineFault}

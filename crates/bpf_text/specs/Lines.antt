@@ -5,33 +5,10 @@ use Rattle.bpf_types.specs.declared.line.Line.TheVariants as line
 use Rattle.bpf_types.specs.declared.line.Extension.{Extension}
 use Rattle.bpf_types.specs.declared.line.SwapWidth.{SwapWidth}
 use Rattle.bpf_types.specs.Line.{IsLine, swap_width_bits, extension_width, extension_bits}
-use Rattle.bpf_listing.specs.declared.mnemonic.Mnemonic.{Mnemonic}
-use Rattle.bpf_listing.specs.declared.mnemonic.Mnemonic.TheVariants as word
-use Rattle.bpf_listing.specs.declared.mnemonic.Jump.TheVariants as jump
-use Rattle.bpf_listing.specs.declared.mnemonic.Access.TheVariants as access
-use Rattle.bpf_listing.specs.Mnemonics.{mnemonic_name}
+use Rattle.bpf_canonical.specs.Mnemonics.{mnemonic_name, mnemonic_of}
 use Rattle.bpf_text.specs.Number.{IsNumeral}
 use Rattle.bpf_text.specs.Tokens.{HasTokens}
 use Rattle.bpf_text.specs.Fields.{IsRegister, IsImmediate, IsSecond, IsOffset, IsTarget, IsName}
-
--- the word that a line begins with
-abbrev pub mnemonic_of : Line → Mnemonic
-mnemonic_of (line.Arithmetic width operation dst operand) = word.Arithmetic width operation
-mnemonic_of (line.Negate width dst) = word.Negate width
-mnemonic_of (line.MoveExtended extension dst src) = word.MoveExtended (extension_width extension)
-mnemonic_of (line.ByteOrder order width dst) = word.ByteOrder order
-mnemonic_of (line.Jump distance) = word.Jump jump.Short
-mnemonic_of (line.LongJump distance) = word.Jump jump.Long
-mnemonic_of (line.JumpIf width comparison dst operand distance) =
-    word.Jump (jump.If width comparison)
-mnemonic_of (line.Call number) = word.Jump jump.Call
-mnemonic_of (line.CallLocal distance) = word.Jump jump.Call
-mnemonic_of line.Exit = word.Jump jump.Exit
-mnemonic_of (line.LoadWide dst value) = word.LoadWide
-mnemonic_of (line.Load size dst base offset) = word.Access (access.Load size)
-mnemonic_of (line.LoadExtended size dst base offset) = word.Access (access.LoadExtended size)
-mnemonic_of (line.StoreImmediate size base offset value) = word.Access (access.StoreImmediate size)
-mnemonic_of (line.Store size base offset src) = word.Access (access.Store size)
 
 -- one token
 abbrev pub AreOne : {V : Type 0} → (List ℕ → V → Type 0) → List (List ℕ) → V → Type 0

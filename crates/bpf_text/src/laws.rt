@@ -4,14 +4,14 @@
 ghost use Rattle.std.specs.Prelude.{◌≡◌, ℕ, List, Result, MatchResult};
 ghost use Rattle.bpf_types.specs.declared.line.Line.{Line};
 ghost use Rattle.bpf_types.specs.Line.{IsLine};
-ghost use Rattle.bpf_listing.specs.Canonical.{canonical};
+ghost use Rattle.bpf_canonical.specs.Canonical.{canonical};
 ghost use Rattle.bpf_text.specs.Lines.{TextLine, Writes, InRange};
 ghost use Rattle.bpf_text.specs.Listings.{alone};
 ghost use Rattle.bpf_text.specs.Judged.{JudgesLine, written_line};
 ghost use Rattle.bpf_text.specs.declared.line.Parsed.{Parsed};
 ghost use Rattle.bpf_text.specs.declared.line.LineFault.{LineFault};
 
-use bpf_listing::mnemonics_are_unique;
+use bpf_canonical::mnemonics_are_unique;
 
 /// A line of text whose numbers are in their ranges is read in one way: it says one label and one
 /// instruction.

@@ -1,15 +1,15 @@
 //! Instructions, from their tokens: the grammar of each mnemonic's operands.
 
 ghost use Rattle.std.specs.Prelude.{◌≡◌, false};
-ghost use Rattle.bpf_listing.specs.declared.mnemonic.Mnemonic.TheVariants as word;
-ghost use Rattle.bpf_listing.specs.declared.mnemonic.Jump.TheVariants as leap;
-ghost use Rattle.bpf_listing.specs.declared.mnemonic.Access.TheVariants as access;
+ghost use Rattle.bpf_canonical.specs.declared.mnemonic.Mnemonic.TheVariants as word;
+ghost use Rattle.bpf_canonical.specs.declared.mnemonic.Jump.TheVariants as leap;
+ghost use Rattle.bpf_canonical.specs.declared.mnemonic.Access.TheVariants as access;
 ghost use Rattle.bpf_text.specs.Judged.{texts, Judges, JudgesForm};
 ghost use Rattle.bpf_text.specs.Mirror.Reads.{state, Answers};
 
 use crate::line::{LineFault, Source};
 use crate::operands::Operands;
-use bpf_listing::{Access, Jump, Mnemonic, mnemonic_of};
+use bpf_canonical::{Access, Jump, Mnemonic, read_mnemonic};
 use bpf_types::{Comparison, Line, Operation, Order, SignedSize, Size, Width};
 
 /// An instruction with no label's name.
@@ -248,7 +248,7 @@ pub fn statement<'a>(tokens: &[&'a [u8]]) -> Result<Source<'a>, LineFault>
     let Some(word) = operands.token() else {
         return Err(LineFault::Syntax);
     };
-    match mnemonic_of(word) {
+    match read_mnemonic(word) {
         Some(mnemonic) => complete(&mut operands, mnemonic),
         None => Err(LineFault::Syntax),
     }

@@ -2,9 +2,11 @@
 //! its fields in their ranges.
 #![tactic(auto)]
 
+pub mod halves;
 pub mod line;
 pub mod reg;
 
+pub use halves::{from_halves, high_half, low_half};
 pub use line::{
     Comparison, Extension, Fields, Line, Operand, Operation, Order, SignedSize, Size, SwapWidth,
     Width, lines_are_in_range,

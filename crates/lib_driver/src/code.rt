@@ -1,9 +1,10 @@
-//! Calls of bpf_decode, bpf_listing and bpf_text.
+//! Calls of bpf_canonical, bpf_decode, bpf_listing and bpf_text.
 
 ghost use Rattle.std.specs.Prelude.{◌+◌, ◌*◌, ◌≤◌, length, IsTrue};
 
+use bpf_canonical::{Jump, Mnemonic, read_mnemonic};
 use bpf_decode::{Slots, decode_at, encode};
-use bpf_listing::{Jump, Mnemonic, disassemble, line_text, mnemonic_of};
+use bpf_listing::{disassemble, line_text};
 use bpf_text::{LineFault, Parsed};
 use bpf_types::Line;
 use call_lines::{Fault, Octets, Text, octets};
@@ -24,7 +25,7 @@ pub(crate) fn answer(alloc: Global, words: &[&str]) -> Result<String, Fault> {
             list(alloc, &octets(alloc, code)?, out)
         }
         ["bpf_listing.read_line", text] => read_canonical(alloc, &octets(alloc, text)?),
-        ["bpf_listing.mnemonic_of", text] => mnemonic(alloc, &octets(alloc, text)?),
+        ["bpf_canonical.read_mnemonic", text] => mnemonic(alloc, &octets(alloc, text)?),
         ["bpf_text.read_line", text] => read_line(alloc, &octets(alloc, text)?),
         _ => Err(Fault::Syntax),
     }
@@ -84,7 +85,7 @@ fn write_canonical(alloc: Global, line: Line) -> Result<String, Fault> {
 }
 
 fn mnemonic(alloc: Global, text: &[u8]) -> Result<String, Fault> {
-    let name = match mnemonic_of(text) {
+    let name = match read_mnemonic(text) {
         None => "None",
         Some(Mnemonic::Arithmetic(_, _)) => "Arithmetic",
         Some(Mnemonic::Negate(_)) => "Negate",

@@ -35,7 +35,7 @@ fn answer(made: &mut Made, alloc: Global, words: &[&str]) -> Result<String, Faul
         "obcp_types" | "verification" => failures::answer(alloc, words),
         "obcp_messages" if name.ends_with("report") => reports::answer(alloc, words),
         "obcp_messages" => requests::answer(alloc, words),
-        "bpf_decode" | "bpf_listing" | "bpf_text" => code::answer(alloc, words),
+        "bpf_canonical" | "bpf_decode" | "bpf_listing" | "bpf_text" => code::answer(alloc, words),
         "bpf_assembler" | "ocp_loader" => images::answer(alloc, words),
         "ocp_regions" | "bpf_step" => machines::answer(made, alloc, words),
         "ocp_pool" => pools::answer(made, alloc, words),

@@ -2,7 +2,7 @@
 use Rattle.std.proofs.Common.{◌≡◌, ℕ, Bool, true, false, List, refl, sym, ap, ap₂, ◌∙◌, subst, arith, inl, inr}
 use Rattle.ocp_profile.specs.declared.profile.Profile.{Profile}
 use Rattle.bpf_types.specs.declared.line.Line.{Line}
-use Rattle.bpf_listing.specs.Listing.{image_of}
+use Rattle.bpf_decode.specs.Images.{image_of}
 use Rattle.ocp_loader.specs.Admitted.{IsAdmitted, IsAdmittedAs}
 use Rattle.bpf_assembler.specs.declared.fault.Why.{Why}
 use Rattle.bpf_assembler.specs.Text.{Means}

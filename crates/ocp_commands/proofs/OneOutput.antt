@@ -1,7 +1,8 @@
 -- An input has one output.
 use Rattle.std.proofs.Common.{◌≡◌, ◌%◌, ℕ, Bool, true, false, List, [], None, refl, sym, ap, ap₂, ◌∙◌, subst, arith, length}
 use Rattle.bpf_decode.specs.declared.fault.DecodeFault.{DecodeFault}
-use Rattle.bpf_listing.specs.Listing.{IsListed, HasFaultAt}
+use Rattle.bpf_decode.specs.Images.{HasFaultAt}
+use Rattle.bpf_listing.specs.Listing.{IsListed}
 use Rattle.ocp_commands.specs.declared.listing.ListFault.{ListFault}
 use Rattle.ocp_commands.specs.declared.listing.ListFault.TheVariants as fault
 use Rattle.ocp_commands.specs.Listings.{image_in, HasImage, HasListFault, Lists, list_fault_line}

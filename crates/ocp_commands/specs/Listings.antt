@@ -5,7 +5,8 @@ use Rattle.std.specs.Result.{result_ok}
 use Rattle.hex.specs.Hex.{decode_of}
 use Rattle.bpf_decode.specs.declared.fault.DecodeFault.{DecodeFault}
 use Rattle.bpf_decode.specs.declared.fault.DecodeFault.TheVariants as decode
-use Rattle.bpf_listing.specs.Listing.{IsListed, HasFaultAt}
+use Rattle.bpf_decode.specs.Images.{HasFaultAt}
+use Rattle.bpf_listing.specs.Listing.{IsListed}
 use Rattle.ocp_commands.specs.declared.listing.ListFault.{ListFault}
 use Rattle.ocp_commands.specs.declared.listing.ListFault.TheVariants as fault
 use Rattle.ocp_ports.specs.Printing.{error_line}

@@ -6,8 +6,9 @@ ghost use Rattle.ocp_commands.specs.Commands.{Writes, IsMachineFault};
 ghost use Rattle.ocp_commands.specs.Listings.{is_blank, digits_of, decode_number, list_fault_line, HasImage, HasListFault, Lists};
 
 use crate::output::{Output, write_output};
+use bpf_canonical::MAX_TEXT_LENGTH;
 use bpf_decode::DecodeFault;
-use bpf_listing::{DisassembleFault, MAX_TEXT_LENGTH, disassemble};
+use bpf_listing::{DisassembleFault, disassemble};
 use ocp_ports::{ConsoleFault, Sink, Source, error_text, read_whole};
 use std::alloc::{AllocError, Allocator};
 use text_lines::octets_of;

@@ -54,6 +54,10 @@ at_least_one : (n : ℕ) → (n ≡ 0 → ⊥) → 1 ≤ n
 at_least_one zero some = absurd (some refl)
 at_least_one (suc n) some = omega arith
 
+-- what the state's procedure is, the world's is
+pub fresh_at : {A : Type 0} (s : State A) (log : Log) (id : ℕ) (base : Snapshot) → IsWorld (world_of log) s → snapshot_at (get s.table.records id) ≡ Some base → snapshot_at (get (world_of log).records id) ≡ Some base
+fresh_at s log id base stands is = ap (λ m. snapshot_at (get m id)) (sym stands.records) ∙ is
+
 -- ---- its instructions are events
 
 alone : (log : Log) (w : WorkContents) → (some : w.count ≡ 0 → ⊥) (fresh : IsFresh log w) (run : IsRun w) (found : IsOf (get (world_of log).records w.id) w.base) → RunsAlone (world_of log) w.id found.r w.count w.end

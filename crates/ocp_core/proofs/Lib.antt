@@ -17,6 +17,7 @@ pub mod Budgets
 pub mod Exchanges
 pub mod Committing
 pub mod Marking
+pub mod Growing
 pub mod Replaying
 pub mod Requesting
 pub mod Draining

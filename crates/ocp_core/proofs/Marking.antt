@@ -8,8 +8,7 @@ use Rattle.ocp_table.specs.Records.{Rec}
 use Rattle.ocp_debug.specs.declared.command.DebugFault.{DebugFault}
 use Rattle.ocp_world.specs.Settled.{RunsAlone}
 use Rattle.ocp_core.specs.Tickets.{WorkContents, IsRun}
-use Rattle.ocp_core.specs.Commits.{IsFresh, Commits}
-use Rattle.ocp_core.specs.declared.answers.CommitOutcome.TheVariants.{Committed}
+use Rattle.ocp_core.specs.Commits.{IsFresh}
 use Rattle.ocp_core.proofs.Committing.{last_of_run, runs_answered}
 use Rattle.ocp_table.specs.declared.answers.StepOutcome.{StepOutcome}
 use Rattle.ocp_table.specs.declared.answers.StepOutcome.TheVariants as S
@@ -18,39 +17,21 @@ use Rattle.ocp_world.specs.World.{World, Event, Request, Step, Debug, Drain, ope
 use Rattle.ocp_world.specs.After.{Answer, Stepped, Commanded, After, after, is_accepted}
 use Rattle.ocp_world.specs.Replay.{replay_from, answers}
 use Rattle.ocp_world.specs.Slice.{next_outcome, goes_on, slice_count, slice_last}
-use Rattle.ocp_core.specs.Log.{Log, Entry, Steps, events_of, expand, with_entry, entry_for, world_of, is_full, answer_in, log_after}
-use Rattle.ocp_core.specs.Slice.{slice_in, slice_log}
-use Rattle.ocp_core.specs.Marks.{last_outcome, mark_in, marks_from, marks, MarkedEntry, entries_with_marks_from, entries_with_marks}
+use Rattle.ocp_core.specs.Log.{Log, Entry, events_of, expand, with_entry, entry_for, world_of}
+use Rattle.ocp_core.specs.Marks.{last_outcome, mark_in, MarkedEntry, entries_with_marks_from, entries_with_marks}
 use Rattle.ocp_core.specs.Journal.{entry_of, mark_of, entry_with_mark}
 use Rattle.ocp_core.specs.declared.event.Entry as N
 use Rattle.ocp_core.proofs.Replays.{replay_from-append}
-use Rattle.ocp_core.proofs.Journaling.{done_log, done_answer, done_slice, done_slice_log}
 
 abbrev with_mark : World → Entry → MarkedEntry
 with_mark w e = record { entry = e; mark = mark_in w e }
 
-marks_from-append : (w : World) (xs ys : List Entry) → marks_from w (xs ++ ys) ≡ marks_from w xs ++ marks_from (replay_from w (expand xs)) ys
-marks_from-append w [] ys = refl
-marks_from-append w (x ∷ xs) ys =
-    ap (λ rest. mark_in w x ∷ rest) (marks_from-append (replay_from w (events_of x)) xs ys
-    ∙ ap (λ v. marks_from (replay_from w (events_of x)) xs ++ marks_from v ys) (sym (replay_from-append w (events_of x) (expand xs))))
-
-marks-with_entry : (log : Log) (e : Entry) → marks (with_entry log e) ≡ marks log ++ mark_in (world_of log) e ∷ []
-unfolding world_of marks
-marks-with_entry log e = marks_from-append (opening log.profile log.apid log.words) log.entries (e ∷ [])
-
 -- the mark of an event's entry is its answer
-event_mark : (w : World) (e : Event) → mark_in w (entry_for e) ≡ (after w e).answer
+pub event_mark : (w : World) (e : Event) → mark_in w (entry_for e) ≡ (after w e).answer
 event_mark w (Request by time octets) = refl
 event_mark w (Step by id) = refl
 event_mark w (Debug by id command) = refl
 event_mark w (Drain by time) = refl
-
-pub marks-event : (log : Log) (e : Event) → is_accepted (after (world_of log) e).answer ≡ true → is_full log ≡ false → marks (log_after log e) ≡ marks log ++ answer_in log e ∷ []
-marks-event log e taken free =
-    ap marks (sym (done_log log log refl e (with_entry log (entry_for e)) taken free refl))
-    ∙ marks-with_entry log (entry_for e)
-    ∙ ap (λ a. marks log ++ a ∷ []) (event_mark (world_of log) e ∙ done_answer log log refl e (after (world_of log) e).answer taken free refl)
 
 -- the mark of a slice is its last outcome
 pub slice_mark : (w : World) (by id : ℕ) (last : StepOutcome) (budget : ℕ) → last_outcome w by id last (slice_count w by id budget) ≡ slice_last w by id last budget
@@ -61,16 +42,6 @@ slice_mark w by id last (suc budget) =
       | true ↦ slice_mark step.world by id (next_outcome w id) budget
       | false ↦ refl
     ]
-
-pub marks-slice : (log : Log) (by id budget : ℕ) → is_accepted (after (world_of log) (Step by id)).answer ≡ true → is_full log ≡ false → marks (slice_log log by id budget) ≡ marks log ++ Stepped (slice_in log by id budget).last ∷ []
-marks-slice log by id budget taken free =
-    let n = slice_count (world_of log) by id budget in
-    ap marks (sym (done_slice_log log log refl by id budget (with_entry log (Steps by id n)) n taken free refl refl))
-    ∙ marks-with_entry log (Steps by id n)
-    ∙ ap (λ o. marks log ++ Stepped o ∷ []) (slice_mark (world_of log) by id S.Ran budget
-    ∙ ap (λ s. s.last) (done_slice log log refl by id budget (record { count = n; last = slice_last (world_of log) by id S.Ran budget }) taken free refl refl))
-
--- ---- the entries with their marks
 
 marked_from-append : (w : World) (xs ys : List Entry) → entries_with_marks_from w (xs ++ ys) ≡ entries_with_marks_from w xs ++ entries_with_marks_from (replay_from w (expand xs)) ys
 marked_from-append w [] ys = refl
@@ -86,39 +57,12 @@ pub marked-none : (log : Log) → log.entries ≡ [] → entries_with_marks log 
 unfolding entries_with_marks
 marked-none log none = ap (entries_with_marks_from (opening log.profile log.apid log.words)) none
 
-pub marked-event : (log : Log) (e : Event) → is_accepted (after (world_of log) e).answer ≡ true → is_full log ≡ false → entries_with_marks (log_after log e) ≡ entries_with_marks log ++ record { entry = entry_for e; mark = answer_in log e } ∷ []
-marked-event log e taken free =
-    ap entries_with_marks (sym (done_log log log refl e (with_entry log (entry_for e)) taken free refl))
-    ∙ marked-with_entry log (entry_for e)
-    ∙ ap (λ a. entries_with_marks log ++ record { entry = entry_for e; mark = a } ∷ []) (event_mark (world_of log) e ∙ done_answer log log refl e (after (world_of log) e).answer taken free refl)
-
-pub marked-slice : (log : Log) (by id budget : ℕ) → is_accepted (after (world_of log) (Step by id)).answer ≡ true → is_full log ≡ false → entries_with_marks (slice_log log by id budget) ≡ entries_with_marks log ++ record { entry = Steps by id (slice_in log by id budget).count; mark = Stepped (slice_in log by id budget).last } ∷ []
-marked-slice log by id budget taken free =
-    let n = slice_count (world_of log) by id budget in
-    let whole = done_slice log log refl by id budget (record { count = n; last = slice_last (world_of log) by id S.Ran budget }) taken free refl refl in
-    ap entries_with_marks (sym (done_slice_log log log refl by id budget (with_entry log (Steps by id n)) n taken free refl refl))
-    ∙ marked-with_entry log (Steps by id n)
-    ∙ ap (λ o. entries_with_marks log ++ record { entry = Steps by id n; mark = Stepped o } ∷ []) (slice_mark (world_of log) by id S.Ran budget)
-    ∙ ap (λ s. entries_with_marks log ++ record { entry = Steps by id s.count; mark = Stepped s.last } ∷ []) whole
-
 -- the instructions of a commit were all answered that they ran
 abbrev pub AreAnswered : Type 0
 AreAnswered = (v : World) (by id n : ℕ) (r : Rec) (machine : Machined) → RunsAlone v id r n machine → answers v (replicate n (Step by id)) ≡ replicate n (Stepped S.Ran)
 
 pub commit_mark : AreAnswered → (log : Log) (by : ℕ) (w : WorkContents) → (w.count ≡ 0 → ⊥) → IsFresh log w → IsRun w → last_outcome (world_of log) by w.id S.Ran w.count ≡ S.Ran
 commit_mark law log by w some fresh run = last_of_run (world_of log) by w.id w.count (runs_answered law log by w some fresh run)
-
-module _ (law : AreAnswered) (old new : Log) (by : ℕ) (w : WorkContents) (run : IsRun w) (count : ℕ) (is : Commits old new by w (Committed count)) where
-  pub marks-commit : marks new ≡ marks old ++ Stepped S.Ran ∷ []
-  marks-commit =
-      ap marks is.4.journal ∙ marks-with_entry old (Steps by w.id w.count)
-      ∙ ap (λ o. marks old ++ Stepped o ∷ []) (commit_mark law old by w is.0 is.1 run)
-
-  pub marked-commit : entries_with_marks new ≡ entries_with_marks old ++ record { entry = Steps by w.id count; mark = Stepped S.Ran } ∷ []
-  marked-commit =
-      ap entries_with_marks is.4.journal ∙ marked-with_entry old (Steps by w.id w.count)
-      ∙ ap (λ o. entries_with_marks old ++ record { entry = Steps by w.id w.count; mark = Stepped o } ∷ []) (commit_mark law old by w is.0 is.1 run)
-      ∙ ap (λ n. entries_with_marks old ++ record { entry = Steps by w.id n; mark = Stepped S.Ran } ∷ []) (sym is.3)
 
 -- ---- a stored journal that gains an entry
 

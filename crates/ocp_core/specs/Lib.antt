@@ -14,4 +14,5 @@ pub mod Exchange
 pub mod Budget
 pub mod Tickets
 pub mod Commits
+pub mod Clauses
 pub mod Mirror

@@ -22,14 +22,6 @@ mark_in w (Steps by id count) = Stepped (last_outcome w by id S.Ran count)
 mark_in w (Debugged by id command) = (after w (Debug by id command)).answer
 mark_in w (Drained by time) = (after w (Drain by time)).answer
 
-abbrev pub marks_from : World → List Entry → List Answer
-marks_from w [] = []
-marks_from w (entry ∷ entries) =
-    mark_in w entry ∷ marks_from (replay_from w (events_of entry)) entries
-
-unfoldable pub marks : Log → List Answer
-marks log = marks_from (opening log.profile log.apid log.words) log.entries
-
 -- an entry with its mark: the answer that was given with it
 pub record MarkedEntry : Type 0 where
   pub entry : Entry

@@ -1,12 +1,17 @@
 -- What is asked of an engine: what it answers, and what its journal gains.
-use Rattle.std.specs.Prelude.{◌≡◌, ℕ, if◌then◌else◌, List, [], ◌∷◌, Option, Some, None, Result, Ok, Err, OnOk, OnErr}
+use Rattle.std.specs.Prelude.{◌≡◌, ℕ, ◌==◌, if◌then◌else◌, List, [], ◌∷◌, ◌++◌, map, Option, Some, None, Result, Ok, Err, OnOk, OnErr}
+use Rattle.ocp_table.specs.declared.answers.StepOutcome.{StepOutcome}
+use Rattle.ocp_table.specs.declared.answers.StepOutcome.TheVariants as S
+use Rattle.ocp_table.specs.declared.answers.Slice.{Slice}
 use Rattle.ocp_world.specs.declared.answers.EngineFault.{EngineFault}
-use Rattle.ocp_world.specs.World.{Event}
+use Rattle.ocp_world.specs.World.{Event, Step}
 use Rattle.ocp_world.specs.After.{Answer, Requested, Stepped, Commanded, is_accepted}
 use Rattle.ocp_world.specs.Answers.{Answers}
+use Rattle.ocp_core.specs.declared.answers.CommitOutcome.{CommitOutcome}
+use Rattle.ocp_core.specs.declared.answers.CommitOutcome.TheVariants as C
 use Rattle.ocp_core.specs.declared.event.Entry as N
-use Rattle.ocp_core.specs.Log.{Log, entry_for, answer_in, log_after}
-use Rattle.ocp_core.specs.Marks.{MarkedEntry}
+use Rattle.ocp_core.specs.Log.{Log, Steps, entry_for, answer_in, log_after}
+use Rattle.ocp_core.specs.Marks.{MarkedEntry, entries_with_marks}
 use Rattle.ocp_core.specs.Journal.{entry_with_mark}
 
 -- the reports without what comes beside them
@@ -35,3 +40,29 @@ event_entries e answer =
 abbrev pub entries_in : {A : Type 0} → Option (N.Entry A) → List MarkedEntry
 entries_in None = []
 entries_in (Some entry) = entry_with_mark entry ∷ []
+
+-- so many instructions of one procedure, and the outcome of the last
+abbrev pub count_entries : ℕ → ℕ → ℕ → StepOutcome → List MarkedEntry
+count_entries by id count last = record { entry = Steps by id count; mark = Stepped last } ∷ []
+
+-- an instruction
+abbrev pub step_entries : ℕ → ℕ → StepOutcome → List MarkedEntry
+step_entries by id outcome = event_entries (Step by id) (Stepped outcome)
+
+-- a slice, which is refused where it did no instruction
+abbrev pub slice_entries : ℕ → ℕ → Slice → List MarkedEntry
+slice_entries by id slice =
+    if slice.count == 0 then [] else count_entries by id slice.count slice.last
+
+-- a work, whose instructions all ran
+abbrev pub commit_entries : ℕ → ℕ → CommitOutcome → List MarkedEntry
+commit_entries by id C.Empty = []
+commit_entries by id C.Stale = []
+commit_entries by id C.JournalFull = []
+commit_entries by id (C.Committed count) = count_entries by id count S.Ran
+
+-- the journal is the old one followed by these entries, and their marks are those of its replay
+pub record Grows (old new : Log) (entries : List MarkedEntry) : Type 0 where
+  pub journal :
+      new ≡ record old { entries = old.entries ++ map (λ (m : MarkedEntry). m.entry) entries }
+  pub marks : entries_with_marks new ≡ entries_with_marks old ++ entries

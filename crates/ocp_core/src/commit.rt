@@ -1,10 +1,7 @@
 //! Tickets of the engine, and how their works come back.
 
 ghost use Rattle.std.specs.Prelude.{◌≡◌, IfOk, IsTrue, Some, false};
-ghost use Rattle.std.specs.FinMap.{get};
-ghost use Rattle.ocp_core.specs.Log.{world_of};
-ghost use Rattle.ocp_core.specs.Tickets.{ticket_at};
-ghost use Rattle.ocp_core.specs.Commits.{Commits, work_after};
+ghost use Rattle.ocp_core.specs.Clauses.{Commits, Grows, commit_entries, get, ticket_at, work_after, world_of};
 
 use crate::ticket::Parts;
 use crate::{CommitOutcome, Engine, Entry, StepOutcome, Ticket, Work};
@@ -19,7 +16,7 @@ impl<A: Allocator> Engine<A> {
         ensures { IfOk result (λ ticket.
             ticket ≡ ticket_at id (get (world_of self.now).records id)) }
     {
-        let Some(base) = self.state.snapshot(alloc, id)? else {
+        let Some(base) = self.state.table.snapshot(alloc, id)? else {
             return Ok(None);
         };
         let machine = base.machine(alloc)?;
@@ -35,7 +32,7 @@ impl<A: Allocator> Engine<A> {
             ticket_at id (get (world_of self.now).records id) ≡ Some ticket.new }
         ensures kept { (result ≡ false) → ticket.new ≡ ticket.old }
     {
-        if !self.state.snapshot_into(id, &mut ticket.parts.base) {
+        if !self.state.table.snapshot_into(id, &mut ticket.parts.base) {
             return false;
         }
         ticket.id = id;
@@ -45,10 +42,9 @@ impl<A: Allocator> Engine<A> {
     /// Puts a work's instructions into its procedure, as events that happen here. Refused, in this
     /// order, where there are none, where the procedure is not what the work began with, and where
     /// the journal is full; then nothing is changed. The work is dropped.
-    pub fn commit(&mut self, by: u16, work: Work<A>) -> CommitOutcome
+    pub fn commit(&mut self, by: u16, mut work: Work<A>) -> CommitOutcome
         ensures commits { Commits self.old self.new by work result }
     {
-        let mut work = work;
         self.hand_in(by, &mut work)
     }
 
@@ -57,6 +53,7 @@ impl<A: Allocator> Engine<A> {
     /// which is as it began, after no instructions.
     pub fn hand_in(&mut self, by: u16, work: &mut Work<A>) -> CommitOutcome
         ensures commits { Commits self.old self.new by work.old result }
+        ensures gain { Grows self.old self.new (commit_entries by work.old.id result) }
         ensures work { work.new ≡ work_after work.old result }
     {
         instructions_done_alone_are_events();
@@ -64,13 +61,12 @@ impl<A: Allocator> Engine<A> {
         if count == 0 {
             return CommitOutcome::Empty;
         }
-        if !self.state.is_at(work.id, &work.parts.base) {
+        if !self.state.table.is_at(work.id, &work.parts.base) {
             return CommitOutcome::Stale;
         }
         if self.journal.is_full() {
             return CommitOutcome::JournalFull;
         }
-        work.parts.base.stands();
         self.state.settle(work.id, count, &mut work.parts.machine);
         work.count = 0;
         self.journal.push(Entry::Steps {

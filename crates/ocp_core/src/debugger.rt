@@ -1,15 +1,9 @@
 //! The debugger's calls of the engine.
 
-ghost use Rattle.std.specs.Prelude.{◌≡◌, ◌≤◌, ◌<◌, ◌++◌, OnOk, OnErr, Ok, Err, length, vec_capacity};
-ghost use Rattle.std.specs.List.{flat_map};
-ghost use Rattle.std.specs.FinMap.{get};
-ghost use Rattle.ocp_debug.specs.declared.command.DebugFault.{DebugFault as Fault};
-ghost use Rattle.ocp_debug.specs.Memory.{memory_at};
-ghost use Rattle.ocp_debug.specs.Traces.{last_traces};
-ghost use Rattle.ocp_debug.specs.Texts.{trace_line};
-ghost use Rattle.ocp_world.specs.World.{Debug};
-ghost use Rattle.ocp_world.specs.After.{Commanded};
-ghost use Rattle.ocp_core.specs.Log.{world_of, answer_in, log_after};
+ghost use Rattle.std.specs.Prelude.{◌≡◌, ◌<◌, Err};
+ghost use Rattle.ocp_debug.specs.Memory.{Reads};
+ghost use Rattle.ocp_debug.specs.Appending.{Appends};
+ghost use Rattle.ocp_core.specs.Clauses.{Commanded, Debug, answer_in, flat_map, get, last_traces, log_after, trace_line, world_of};
 
 use crate::{Command, DebugFault, Engine, Entry};
 use std::alloc::{AllocError, Allocator};
@@ -66,28 +60,18 @@ impl<A: Allocator> Engine<A> {
     /// Refused, in this order, where the procedure is not loaded, and where one of them is not
     /// there; the slice then keeps its octets.
     pub fn memory(&self, id: u16, address: u64, octets: &mut [u8]) -> Result<(), DebugFault>
-        ensures ok { OnOk result (memory_at (get (world_of self.now).records id) address
-            (length octets.old) ≡ Ok octets.new) }
-        ensures fault { (fault : Fault) → result ≡ Err fault →
-            memory_at (get (world_of self.now).records id) address (length octets.old) ≡ Err fault }
-        ensures err { OnErr result (octets.new ≡ octets.old) }
-        ensures length { length octets.new ≡ length octets.old }
+        ensures { Reads (get (world_of self.now).records id) address octets.old octets.new result }
     {
-        self.state.memory(id, address, octets)
+        ocp_debug::memory(&self.state.table, id, address, octets)
     }
 
     /// Appends the lines of the last 256 trace records, the oldest first. The only refusal is that
     /// of memory, and comes only where the lines do not fit into the capacity that the output has;
     /// the output then stays as it was.
     pub fn trace_lines<B: Allocator>(&self, output: &mut Vec<u8, B>) -> Result<(), AllocError>
-        ensures ok { OnOk result (output.new.items ≡
-            output.old.items ++ flat_map trace_line (last_traces (world_of self.now).traces)) }
-        ensures err { OnErr result (output.new.items ≡ output.old.items) }
-        ensures memory { OnErr result (vec_capacity output.old < length
-            (output.old.items ++ flat_map trace_line (last_traces (world_of self.now).traces))) }
-        ensures same_capacity { OnErr result (vec_capacity output.new ≡ vec_capacity output.old) }
-        ensures capacity { vec_capacity output.old ≤ vec_capacity output.new }
+        ensures { Appends (flat_map trace_line (last_traces (world_of self.now).traces))
+            output.old output.new result }
     {
-        self.state.write_traces(output)
+        self.state.ring.write_lines(output)
     }
 }

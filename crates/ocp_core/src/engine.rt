@@ -1,21 +1,13 @@
 //! The engine.
 
 ghost use Rattle.std.specs.Prelude.{◌≡◌, ◌≢◌, ◌↔◌, ◌≤◌, ◌<◌, ◌-◌, ◌^◌, ℕ, false, Ok, Err, None, IfOk, IfErr, IfSome, OnOk, OnErr, length, slice_get};
-ghost use Rattle.std.specs.FinMap.{get};
-ghost use Rattle.ocp_profile.specs.declared.limits.TheConstants.{MAX_APID, MAX_POOL_WORDS, MAX_CAPACITY};
-ghost use Rattle.ocp_table.specs.Shown.{view_at};
 ghost use Rattle.ocp_world.specs.World as world;
-ghost use Rattle.ocp_world.specs.After.{Stepped};
-ghost use Rattle.ocp_world.specs.Answers.{Answers};
-ghost use Rattle.ocp_world.specs.Loading.{TakesRecordIn};
-ghost use Rattle.ocp_world.specs.NextRunning.{IsNextRunning, Runs};
-ghost use Rattle.ocp_core.specs.Log.{empty_log, expand, world_of, answer_in, log_after};
-ghost use Rattle.ocp_core.specs.Slice.{slice_in, slice_log};
-ghost use Rattle.ocp_core.specs.Receipts.{reports_in, entries_in, event_entries, Enters};
+ghost use Rattle.ocp_core.specs.Clauses.{MAX_APID, MAX_POOL_WORDS, MAX_CAPACITY, Answers, Enters, Grows, IsNextRunning, Log, Runs, Stepped, TakesRecordIn, answer_in, empty_log, entries_in, event_entries, expand, get, is_accepted, log_after, reports_in, slice_entries, slice_in, slice_log, view_at, world_of};
 ghost use Rattle.ocp_core.specs.Mirror.Admitted.{IsAdmitted};
+ghost use Rattle.ocp_core.specs.Mirror.Codes.{log_code};
+ghost use Rattle.ocp_world.specs.Mirror.State.{IsWorld};
 
-use crate::copies::copies_of;
-use crate::{EngineFault, Entry, Input, Journal, Reports, Slice, StepOutcome};
+use crate::{EngineFault, Entry, Input, Journal, Octets, Reports, Slice, StepOutcome};
 use ocp_profile::Profile;
 use ocp_table::View;
 use ocp_world::{Heap, State, discard_of};
@@ -32,15 +24,9 @@ pub struct Engine<A: Allocator = Global> {
 }
 
 impl<A: Allocator> Model for Engine<A> {
-    ghost use Rattle.ocp_core.specs.Log.{Log, world_of};
-
     ghost Value = { Log };
 
-    ghost use Rattle.ocp_core.specs.Mirror.Codes.{log_code};
-
     ghost coded = { log_code };
-
-    ghost use Rattle.ocp_world.specs.Mirror.State.{IsWorld};
 
     ghost view = { λ e. e.journal };
 
@@ -78,6 +64,9 @@ impl<A: Allocator> Engine<A> {
         ensures enters { Enters self.old self.new (I.event by input) (I.answer result.0) }
         ensures receipt { entries_in result.1 ≡
             event_entries (I.event by input) (I.answer result.0) }
+        ensures gain { Grows self.old self.new (entries_in result.1) }
+        ensures refused { is_accepted (I.answer result.0) ≡ false →
+            (result.1 ≡ None) × (self.new ≡ self.old) }
     {
         input.enter(self, by)
     }
@@ -165,9 +154,10 @@ impl<A: Allocator> Engine<A> {
         ensures memory { result ≡ Err EngineFault.Memory → heap.new ≡ false →
             TakesRecordIn (world_of self.old) octets.now }
     {
-        let kept = heap.copy_of(octets)?;
+        let copy = Octets::copy_of(heap.alloc(), octets);
+        let kept = heap.note(copy)?;
         let sent = self.state.receive(heap, self.journal.events(), time, read)?;
-        let (answer, mark, receipt) = copies_of(sent);
+        let (answer, mark, receipt) = sent.into_parts();
         self.journal.push(Entry::Request {
             by,
             time,
@@ -213,7 +203,7 @@ impl<A: Allocator> Engine<A> {
             return Err(EngineFault::JournalFull);
         }
         let sent = self.state.drain(alloc, time)?;
-        let (answer, mark, receipt) = copies_of(sent);
+        let (answer, mark, receipt) = sent.into_parts();
         self.journal.push(Entry::Drain { by, time, mark });
         Ok((answer, receipt))
     }
@@ -245,8 +235,10 @@ impl<A: Allocator> Engine<A> {
     /// none where none was done.
     pub fn slice(&mut self, by: u16, id: u16, budget: u32) -> Slice
         requires { 1 ≤ budget }
+        ensures within { result.count ≤ budget }
         ensures slice { result ≡ slice_in self.old by id budget }
         ensures journal { self.new ≡ slice_log self.old by id budget }
+        ensures gain { Grows self.old self.new (slice_entries by id result) }
     {
         if let Some(refused) = self.state.refusal(id) {
             return Slice {
@@ -284,14 +276,14 @@ impl<A: Allocator> Engine<A> {
     pub fn view(&self, id: u16) -> Option<View>
         ensures { result ≡ view_at (get (world_of self.now).records id) }
     {
-        self.state.view(id)
+        self.state.table.view(id)
     }
 
     /// The pool word at an index, where there is one.
     pub fn pool_word(&self, index: u64) -> Option<u64>
         ensures { result ≡ slice_get (world_of self.now).pool index }
     {
-        self.state.pool_word(index)
+        self.state.pool.get(index)
     }
 
     /// The journal.

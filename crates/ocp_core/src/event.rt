@@ -86,10 +86,7 @@ pub enum Entry<A: Allocator = Global> {
 
 impl<A: Allocator> Entry<A> {
     ghost use Rattle.std.specs.Prelude.{◌≡◌, ◌↔◌, ◌<◌, ◌^◌, IsTrue, Ok, length};
-    ghost use Rattle.ocp_world.specs.After.{Commanded};
-    ghost use Rattle.ocp_core.specs.Log.{events_of, Debugged};
-    ghost use Rattle.ocp_core.specs.Marks.{by_of};
-    ghost use Rattle.ocp_core.specs.Journal.{entry_of, mark_of, entry_with_mark};
+    ghost use Rattle.ocp_core.specs.Clauses.{Commanded, Debugged, by_of, entry_of, entry_with_mark, events_of, mark_of};
 
     /// That of a debugger's command, which a seat hands in.
     pub(crate) fn of_command(by: u16, id: u16, command: Command) -> Self

@@ -3,8 +3,7 @@
 ghost use Rattle.std.specs.Prelude.{◌≡◌, ℕ};
 ghost use Rattle.ocp_world.specs.World as world;
 ghost use Rattle.ocp_world.specs.After as after;
-ghost use Rattle.ocp_core.specs.Log.{full_answer};
-ghost use Rattle.ocp_core.specs.Receipts.{entries_in, event_entries, Enters};
+ghost use Rattle.ocp_core.specs.Clauses.{Enters, entries_in, event_entries, full_answer};
 
 use crate::{Command, DebugFault, Engine, EngineFault, Entry, Octets, Reports, StepOutcome};
 use ocp_world::Heap;

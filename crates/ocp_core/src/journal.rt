@@ -1,8 +1,10 @@
 //! The journal.
 
 ghost use Rattle.std.specs.Prelude.{◌≡◌, ◌≤◌, ◌<◌, ◌^◌, map, length, IfOk, false};
-ghost use Rattle.ocp_profile.specs.declared.limits.TheConstants.{MAX_APID, MAX_POOL_WORDS, MAX_CAPACITY};
-ghost use Rattle.ocp_core.specs.Log.{empty_log, is_full, with_entry, expand};
+ghost use Rattle.ocp_core.specs.Clauses.{Log, MAX_APID, MAX_CAPACITY, MAX_POOL_WORDS, empty_log, entries_with_marks, entry_of, entry_with_mark, events_of, expand, is_full, mark_in, mark_of, with_entry, world_of};
+ghost use Rattle.ocp_core.specs.Mirror.Codes.{log_code};
+ghost use Rattle.ocp_core.specs.Mirror.Kept.{log_of, IsKept};
+ghost use Rattle.ocp_core.specs.Mirror.Counted.{AreCounted};
 
 use crate::Entry;
 use ocp_profile::Profile;
@@ -24,15 +26,9 @@ pub struct Journal<A: Allocator = Global> {
 }
 
 impl<A: Allocator> Model for Journal<A> {
-    ghost use Rattle.ocp_core.specs.Log.{Log};
-
     ghost Value = { Log };
 
-    ghost use Rattle.ocp_core.specs.Mirror.Codes.{log_code};
-
     ghost coded = { log_code };
-
-    ghost use Rattle.ocp_core.specs.Mirror.Kept.{log_of, IsKept};
 
     ghost view = { log_of };
 
@@ -40,11 +36,6 @@ impl<A: Allocator> Model for Journal<A> {
 }
 
 impl<A: Allocator> Journal<A> {
-    ghost use Rattle.ocp_core.specs.Log.{events_of, world_of};
-    ghost use Rattle.ocp_core.specs.Marks.{mark_in, entries_with_marks};
-    ghost use Rattle.ocp_core.specs.Journal.{entry_of, mark_of, entry_with_mark};
-    ghost use Rattle.ocp_core.specs.Mirror.Counted.{AreCounted};
-
     /// A journal without entries, with room for so many, of an engine of a profile with 1 to 256
     /// pool words.
     #[tactic(auto, unfolding(crate::specs::Marks::entries_with_marks, crate::specs::Log::world_of))]

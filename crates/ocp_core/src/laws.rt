@@ -1,15 +1,7 @@
 //! Laws on worlds, events and journals. The functions do nothing when they run: their contracts are
 //! the laws.
-ghost use Rattle.std.specs.Prelude.{◌≡◌, ◌++◌, ◌∷◌, [], ℕ, true, false};
-ghost use Rattle.ocp_world.specs.World.{Event, Step};
-ghost use Rattle.ocp_world.specs.After.{Stepped, after, is_accepted};
-ghost use Rattle.ocp_table.specs.declared.answers.StepOutcome.TheVariants.{Ran};
-ghost use Rattle.ocp_core.specs.Log.{Log, Steps, world_of, is_full, entry_for, answer_in, log_after};
-ghost use Rattle.ocp_core.specs.Slice.{slice_in, slice_log};
-ghost use Rattle.ocp_core.specs.Marks.{marks, entries_with_marks};
-ghost use Rattle.ocp_core.specs.Tickets.{WorkContents, IsRun};
-ghost use Rattle.ocp_core.specs.Commits.{Commits};
-ghost use Rattle.ocp_core.specs.declared.answers.CommitOutcome.TheVariants.{Committed};
+ghost use Rattle.std.specs.Prelude.{◌≡◌, ◌≤◌, ℕ, true, false};
+ghost use Rattle.ocp_core.specs.Clauses.{Answer, CommitOutcome, Commits, Enters, Event, Grows, IsRun, Log, Step, WorkContents, after, commit_entries, count_entries, event_entries, is_accepted, is_full, slice_entries, slice_in, slice_log, world_of};
 
 use ocp_world::instructions_done_alone_are_events;
 
@@ -33,29 +25,19 @@ pub use procedures::{
 };
 
 /// The mark of each new entry of a journal is the answer that was given with it, and the older
-/// entries and marks stay.
+/// entries and marks stay. What is refused adds none.
 pub fn entries_are_marked_by_their_answers()
-    ensures event { (log : Log) (e : Event) →
-        is_accepted (after (world_of log) e).answer ≡ true → is_full log ≡ false →
-        marks (log_after log e) ≡ marks log ++ answer_in log e ∷ [] }
-    ensures slice { (log : Log) (by id budget : ℕ) →
-        is_accepted (after (world_of log) (Step by id)).answer ≡ true → is_full log ≡ false →
-        marks (slice_log log by id budget) ≡
-        marks log ++ Stepped (slice_in log by id budget).last ∷ [] }
-    ensures commit { (old new : Log) (by : ℕ) (w : WorkContents) (count : ℕ) → IsRun w →
-        Commits old new by w (Committed count) → marks new ≡ marks old ++ Stepped Ran ∷ [] }
-    ensures marked_event { (log : Log) (e : Event) →
-        is_accepted (after (world_of log) e).answer ≡ true → is_full log ≡ false →
-        entries_with_marks (log_after log e) ≡
-        entries_with_marks log ++ record { entry = entry_for e; mark = answer_in log e } ∷ [] }
-    ensures marked_slice { (log : Log) (by id budget : ℕ) →
+    ensures event { (old new : Log) (e : Event) (answer : Answer) → Enters old new e answer →
+        Grows old new (event_entries e answer) }
+    ensures slice { (log : Log) (by id budget : ℕ) → 1 ≤ budget →
+        Grows log (slice_log log by id budget) (slice_entries by id (slice_in log by id budget)) }
+    ensures accepted_slice { (log : Log) (by id budget : ℕ) →
         is_accepted (after (world_of log) (Step by id)).answer ≡ true → is_full log ≡ false →
         let slice = slice_in log by id budget in
-        entries_with_marks (slice_log log by id budget) ≡ entries_with_marks log ++
-        record { entry = Steps by id slice.count; mark = Stepped slice.last } ∷ [] }
-    ensures marked_commit { (old new : Log) (by : ℕ) (w : WorkContents) (count : ℕ) → IsRun w →
-        Commits old new by w (Committed count) → entries_with_marks new ≡
-        entries_with_marks old ++ record { entry = Steps by w.id count; mark = Stepped Ran } ∷ [] }
+        Grows log (slice_log log by id budget) (count_entries by id slice.count slice.last) }
+    ensures commit { (old new : Log) (by : ℕ) (work : WorkContents) (outcome : CommitOutcome) →
+        IsRun work → Commits old new by work outcome →
+        Grows old new (commit_entries by work.id outcome) }
 {
     instructions_done_alone_are_events();
 }

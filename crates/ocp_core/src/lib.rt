@@ -5,7 +5,6 @@
 
 mod answers;
 mod commit;
-mod copies;
 mod debugger;
 mod engine;
 mod event;

@@ -1,15 +1,8 @@
 //! One procedure of a journal, by itself.
 
 ghost use Rattle.std.specs.Prelude.{◌≡◌, ◌≤◌, ◌<◌, ℕ, IfOk, OnOk, replicate};
-ghost use Rattle.std.specs.FinMap.{get};
-ghost use Rattle.ocp_profile.specs.declared.limits.TheConstants.{MAX_APID};
-ghost use Rattle.ocp_table.specs.Laws.{machine_of};
-ghost use Rattle.ocp_world.specs.World.{World, Step};
-ghost use Rattle.ocp_world.specs.Replay.{replay_from};
 ghost use Rattle.ocp_world.specs.Mirror.State.{IsWorld};
-ghost use Rattle.ocp_core.specs.Log.{events_of, expand, world_of};
-ghost use Rattle.ocp_core.specs.Journal.{entry_of};
-ghost use Rattle.ocp_core.specs.Alone.{alone_after};
+ghost use Rattle.ocp_core.specs.Clauses.{MAX_APID, Step, World, alone_after, entry_of, events_of, expand, get, machine_of, replay_from, world_of};
 ghost use Rattle.ocp_core.specs.Mirror.Admitted.{HasMemory};
 
 use crate::laws::{machines_follow_from_their_own_events, refused_events_change_nothing};

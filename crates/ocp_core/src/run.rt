@@ -1,11 +1,7 @@
 //! Lists of events.
 
 ghost use Rattle.std.specs.Prelude.{◌≡◌, IfOk, IfErr, OnOk, map, take, slice_get};
-ghost use Rattle.ocp_world.specs.World.{Debug};
-ghost use Rattle.ocp_world.specs.Replay.{answers, replay_from};
-ghost use Rattle.ocp_core.specs.Log.{world_of};
-ghost use Rattle.ocp_core.specs.Journal.{event_of, answer_of};
-ghost use Rattle.ocp_core.specs.Running.{Applies, HasRoom, StopsAt, log_after_all, reply_of};
+ghost use Rattle.ocp_core.specs.Clauses.{Applies, Debug, HasRoom, StopsAt, answer_of, answers, event_of, log_after_all, replay_from, reply_of, world_of};
 
 use crate::laws::{refused_events_change_nothing, worlds_have_no_full_journal};
 use crate::{

@@ -1,5 +1,10 @@
 //! Procedures that run apart from the engine.
 
+ghost use Rattle.std.specs.Prelude.{◌≡◌};
+ghost use Rattle.ocp_core.specs.Clauses.{IsRun, TicketContents, WorkContents, count_of};
+ghost use Rattle.bpf_step.specs.Machine.{HasAddressesOf};
+ghost use Rattle.ocp_core.specs.Mirror.Tickets.{ticket_code, work_code, work_of};
+
 use bpf_step::Machine;
 use bpf_step::laws::runs_keep_the_addresses;
 use ocp_table::Snapshot;
@@ -24,12 +29,7 @@ pub struct Ticket<A: Allocator = Global> {
 }
 
 impl<A: Allocator> Model for Ticket<A> {
-    ghost use Rattle.bpf_step.specs.Machine.{HasAddressesOf};
-    ghost use Rattle.ocp_core.specs.Tickets.{TicketContents};
-
     ghost Value = { TicketContents };
-
-    ghost use Rattle.ocp_core.specs.Mirror.Tickets.{ticket_code};
 
     ghost coded = { ticket_code };
 
@@ -48,35 +48,16 @@ pub struct Work<A: Allocator = Global> {
 }
 
 impl<A: Allocator> Model for Work<A> {
-    ghost use Rattle.ocp_core.specs.Tickets.{WorkContents, IsRun};
-
     ghost Value = { WorkContents };
-
-    ghost use Rattle.ocp_core.specs.Mirror.Tickets.{work_code};
 
     ghost coded = { work_code };
 
-    ghost view = { λ w. record {
-      id = w.id;
-      base = w.parts.value.base;
-      end = w.parts.value.machine;
-      count = w.count;
-    } };
+    ghost view = { work_of };
 
-    ghost invariant = { λ w. IsRun
-        (record {
-          id = w.id;
-          base = w.parts.value.base;
-          end = w.parts.value.machine;
-          count = w.count;
-        }) };
+    ghost invariant = { λ w. IsRun (work_of w) };
 }
 
 impl<A: Allocator> Ticket<A> {
-    ghost use Rattle.std.specs.Prelude.{◌≡◌};
-    ghost use Rattle.ocp_table.specs.Snapshots.{count_of};
-    ghost use Rattle.ocp_core.specs.Tickets.{IsRun};
-
     /// The procedure's id.
     pub fn id(&self) -> u16
         ensures { result ≡ self.now.id }
@@ -102,9 +83,6 @@ impl<A: Allocator> Ticket<A> {
 }
 
 impl<A: Allocator> Work<A> {
-    ghost use Rattle.std.specs.Prelude.{◌≡◌};
-    ghost use Rattle.ocp_core.specs.Tickets.{IsRun};
-
     /// The procedure's id.
     pub fn id(&self) -> u16
         ensures { result ≡ self.now.id }
@@ -117,11 +95,7 @@ impl<A: Allocator> Work<A> {
         ensures { result ≡ record { id = self.id; base = self.base } }
     {
         runs_keep_the_addresses();
-        let Work {
-            id,
-            parts,
-            count: _,
-        } = self;
+        let Work { id, parts, .. } = self;
         Ticket { id, parts }
     }
 

@@ -2,4 +2,5 @@ pub mod Commands
 pub mod Memory
 pub mod Traces
 pub mod Texts
+pub mod Appending
 pub mod Mirror

@@ -1,5 +1,5 @@
 -- What a debugger reads of a procedure's memory.
-use Rattle.std.specs.Prelude.{ℕ, List, Option, Some, None, Result, Ok, Err}
+use Rattle.std.specs.Prelude.{◌≡◌, ℕ, List, length, Option, Some, None, Result, Ok, Err, OnOk, OnErr}
 use Rattle.ocp_regions.specs.Memory.{octets_at}
 use Rattle.ocp_table.specs.Records.{Rec}
 use Rattle.ocp_debug.specs.declared.command.DebugFault.{DebugFault}
@@ -14,3 +14,12 @@ read_octets None = Err OutsideMemory
 abbrev pub memory_at : Option Rec → ℕ → ℕ → Result (List ℕ) DebugFault
 memory_at None address count = Err NotLoaded
 memory_at (Some r) address count = read_octets (octets_at r.machine.memory address count)
+
+-- octets are read into these from an address on, each of them, or they stay
+pub record Reads (o : Option Rec) (address : ℕ) (old new : List ℕ)
+    (result : Result (Unit {0}) DebugFault) : Type 0 where
+  pub ok : OnOk result (memory_at o address (length old) ≡ Ok new)
+  pub fault : (fault : DebugFault) → result ≡ Err fault →
+      memory_at o address (length old) ≡ Err fault
+  pub err : OnErr result (new ≡ old)
+  pub many : length new ≡ length old

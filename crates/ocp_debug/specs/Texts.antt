@@ -5,7 +5,7 @@ use Rattle.std.specs.Int.{w64, to_be_bytes}
 use Rattle.hex.specs.Hex.{encode_lower}
 use Rattle.obcp_types.specs.declared.status.Status.{Status}
 use Rattle.obcp_types.specs.declared.status.Status.TheVariants as status
-use Rattle.bpf_listing.specs.Canonical.{canonical}
+use Rattle.bpf_canonical.specs.Canonical.{canonical}
 use Rattle.ocp_table.specs.declared.control.Cause.{Cause}
 use Rattle.ocp_table.specs.declared.control.Cause.TheVariants as cause
 use Rattle.ocp_table.specs.declared.control.Pending.{Pending}

@@ -1,9 +1,8 @@
 //! What a debugger reads of a procedure.
-ghost use Rattle.std.specs.Prelude.{◌≡◌, Ok, Err, OnOk, OnErr, length};
+ghost use Rattle.std.specs.Prelude.{◌≡◌, Ok, Err};
 ghost use Rattle.std.specs.FinMap.{get};
 ghost use Rattle.ocp_table.specs.Shown.{view_at};
-ghost use Rattle.ocp_debug.specs.Memory.{memory_at};
-ghost use Rattle.ocp_debug.specs.declared.command.DebugFault.{DebugFault as Fault};
+ghost use Rattle.ocp_debug.specs.Memory.{Reads};
 
 use crate::{DebugFault, View};
 use ocp_table::Table;
@@ -25,12 +24,7 @@ pub fn memory<A: Allocator>(
     address: u64,
     octets: &mut [u8],
 ) -> Result<(), DebugFault>
-    ensures ok { OnOk result
-        (memory_at (get table.now.records id) address (length octets.old) ≡ Ok octets.new) }
-    ensures fault { (fault : Fault) → result ≡ Err fault →
-        memory_at (get table.now.records id) address (length octets.old) ≡ Err fault }
-    ensures err { OnErr result (octets.new ≡ octets.old) }
-    ensures length { length octets.new ≡ length octets.old }
+    ensures { Reads (get table.now.records id) address octets.old octets.new result }
 {
     let Some(record) = table.record(id) else {
         return Err(DebugFault::NotLoaded);

@@ -1,7 +1,8 @@
 //! The trace records that are kept.
-ghost use Rattle.std.specs.Prelude.{◌≡◌, ◌≤◌, ◌<◌, ◌++◌, ◌∷◌, [], IfOk, OnOk, OnErr, length, vec_capacity};
+ghost use Rattle.std.specs.Prelude.{◌≡◌, ◌≤◌, ◌<◌, ◌++◌, ◌∷◌, [], IfOk, length};
 ghost use Rattle.std.specs.List.{flat_map};
 ghost use Rattle.ocp_debug.specs.Traces.{last_traces};
+ghost use Rattle.ocp_debug.specs.Appending.{Appends};
 ghost use Rattle.ocp_debug.specs.Texts.{trace_line};
 
 use crate::texts::line_of;
@@ -69,13 +70,7 @@ impl<A: Allocator> TraceRing<A> {
     /// The only refusal is that of memory, and comes only where the lines do not fit into the
     /// capacity that `output` has. It leaves `output` as it was.
     pub fn write_lines<B: Allocator>(&self, output: &mut Vec<u8, B>) -> Result<(), AllocError>
-        ensures ok { OnOk result
-            (output.new.items ≡ output.old.items ++ flat_map trace_line self.now) }
-        ensures err { OnErr result (output.new.items ≡ output.old.items) }
-        ensures memory { OnErr result
-            (vec_capacity output.old < length (output.old.items ++ flat_map trace_line self.now)) }
-        ensures same_capacity { OnErr result (vec_capacity output.new ≡ vec_capacity output.old) }
-        ensures capacity { vec_capacity output.old ≤ vec_capacity output.new }
+        ensures { Appends (flat_map trace_line self.now) output.old output.new result }
     {
         output.reserve(self.lines_len())?;
         for trace in &self.records {

@@ -1,9 +1,8 @@
 //! The instruction event, and the trace record that it makes.
 ghost use Rattle.std.specs.Prelude.{◌≡◌, ◌++◌, option_to_list};
 ghost use Rattle.std.specs.FinMap.{get};
-ghost use Rattle.ocp_table.specs.Effects.{pool_by, step_outcome};
 ghost use Rattle.ocp_table.specs.RequestTable.{Step};
-ghost use Rattle.ocp_table.specs.Deciding.{effect_in, table_after};
+ghost use Rattle.ocp_table.specs.Deciding.{effect_in, ExecutesStep};
 ghost use Rattle.ocp_debug.specs.Traces.{last_traces, traces_by};
 ghost use Rattle.ocp_debug.specs.Mirror.Tracing.{traced_place, leaves_trace, trace_after};
 
@@ -78,9 +77,7 @@ pub fn instruction<A: Allocator>(
     pool: &mut Pool<A>,
     ring: &mut TraceRing<A>,
 ) -> StepOutcome
-    ensures answer { result ≡ step_outcome (effect_in (Step pool.old) id table.old.records) }
-    ensures table { table.new ≡ table_after (Step pool.old) id table.old }
-    ensures pool { pool.new ≡ pool_by (effect_in (Step pool.old) id table.old.records) pool.old }
+    ensures step { ExecutesStep id table.old table.new pool.old pool.new result }
     ensures ring { ring.new ≡
         last_traces (ring.old
         ++ traces_by (effect_in (Step pool.old) id table.old.records) table.old.records) }

@@ -1,5 +1,6 @@
 //! A text on the stack, and the parts of lines that it takes.
-ghost use Rattle.std.specs.Prelude.{◌≡◌, ◌≤◌, ◌<◌, ◌+◌, ◌++◌, [], List, ℕ, length, vec_capacity, OnOk, OnErr};
+ghost use Rattle.std.specs.Prelude.{◌≡◌, ◌≤◌, ◌<◌, ◌+◌, ◌++◌, [], List, ℕ, length, vec_capacity};
+ghost use Rattle.ocp_debug.specs.Appending.{Appends};
 ghost use Rattle.ocp_debug.specs.Texts.{word_text, status_name, cause_text, pending_text, outcome_text};
 
 use crate::StepOutcome;
@@ -10,7 +11,7 @@ use std::alloc::{AllocError, Allocator};
 use std::marker::Model;
 
 /// The most octets of a view or of a trace record's line.
-const TEXT_OCTETS: usize = 384;
+pub(crate) const TEXT_OCTETS: usize = 384;
 
 /// The text of a view, or of a trace record.
 #[derive(Drop)]
@@ -43,7 +44,7 @@ impl Text {
 
     /// Appends a piece of text.
     pub(crate) fn push_all(&mut self, piece: &[u8])
-        requires { length self.old + length piece.now ≤ 384 }
+        requires { length self.old + length piece.now ≤ TEXT_OCTETS }
         ensures items { self.new ≡ self.old ++ piece.now }
         ensures len { length self.new ≡ length self.old + length piece.now }
     {
@@ -52,12 +53,7 @@ impl Text {
 
     /// Appends the octets to a vector, or leaves it as it is.
     pub(crate) fn append_to<B: Allocator>(&self, output: &mut Vec<u8, B>) -> Result<(), AllocError>
-        ensures ok { OnOk result (output.new.items ≡ output.old.items ++ self.now) }
-        ensures err { OnErr result (output.new.items ≡ output.old.items) }
-        ensures memory { OnErr result
-            (vec_capacity output.old < length (output.old.items ++ self.now)) }
-        ensures same_capacity { OnErr result (vec_capacity output.new ≡ vec_capacity output.old) }
-        ensures capacity { vec_capacity output.old ≤ vec_capacity output.new }
+        ensures { Appends self.now output.old output.new result }
     {
         output.reserve(self.len())?;
         self.append_within(output);
@@ -75,7 +71,7 @@ impl Text {
 
     /// Appends a number in decimal digits.
     pub(crate) fn push_number<I: Integer>(&mut self, number: I)
-        requires { length self.old + I.MAX_STR_LEN ≤ 384 }
+        requires { length self.old + I.MAX_STR_LEN ≤ TEXT_OCTETS }
         ensures items { self.new ≡ self.old ++ I.text number }
         ensures len { length self.new ≤ length self.old + I.MAX_STR_LEN }
     {
@@ -85,7 +81,7 @@ impl Text {
 
     /// Appends a word in 16 hexadecimal digits.
     pub(crate) fn push_word(&mut self, word: u64)
-        requires { length self.old + 16 ≤ 384 }
+        requires { length self.old + 16 ≤ TEXT_OCTETS }
         ensures items { self.new ≡ self.old ++ word_text word }
         ensures len { length self.new ≤ length self.old + 16 }
     {
@@ -96,7 +92,7 @@ impl Text {
 
     /// Appends the name of a status.
     pub(crate) fn push_status(&mut self, status: Status)
-        requires { length self.old + 8 ≤ 384 }
+        requires { length self.old + 8 ≤ TEXT_OCTETS }
         ensures items { self.new ≡ self.old ++ status_name status }
         ensures len { length self.new ≤ length self.old + 8 }
     {
@@ -109,7 +105,7 @@ impl Text {
 
     /// Appends how a procedure became inactive.
     pub(crate) fn push_cause(&mut self, cause: Cause)
-        requires { length self.old + 8 ≤ 384 }
+        requires { length self.old + 8 ≤ TEXT_OCTETS }
         ensures items { self.new ≡ self.old ++ cause_text cause }
         ensures len { length self.new ≤ length self.old + 8 }
     {
@@ -127,7 +123,7 @@ impl Text {
 
     /// Appends what is pending.
     pub(crate) fn push_pending(&mut self, pending: Pending)
-        requires { length self.old + 13 ≤ 384 }
+        requires { length self.old + 13 ≤ TEXT_OCTETS }
         ensures items { self.new ≡ self.old ++ pending_text pending }
         ensures len { length self.new ≤ length self.old + 13 }
     {
@@ -146,7 +142,7 @@ impl Text {
 
     /// Appends the outcome of an instruction event.
     pub(crate) fn push_outcome(&mut self, outcome: StepOutcome)
-        requires { length self.old + 11 ≤ 384 }
+        requires { length self.old + 11 ≤ TEXT_OCTETS }
         ensures items { self.new ≡ self.old ++ outcome_text outcome }
         ensures len { length self.new ≤ length self.old + 11 }
     {

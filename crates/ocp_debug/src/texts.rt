@@ -1,8 +1,9 @@
 //! What is printed of procedures and of trace records.
-ghost use Rattle.std.specs.Prelude.{◌≡◌, ◌≤◌, ◌<◌, ◌+◌, ◌*◌, ◌++◌, length, vec_capacity, OnOk, OnErr, Some, None};
+ghost use Rattle.std.specs.Prelude.{◌≡◌, ◌≤◌, ◌<◌, ◌+◌, ◌*◌, ◌++◌, length, Some, None};
+ghost use Rattle.ocp_debug.specs.Appending.{Appends};
 ghost use Rattle.ocp_debug.specs.Texts.{view_line, register_line, view_lines, words_text, trace_line, debug_fault_name};
 
-use crate::text::Text;
+use crate::text::{TEXT_OCTETS, Text};
 use crate::{DebugFault, Trace, View};
 use std::alloc::{AllocError, Allocator};
 
@@ -30,7 +31,7 @@ fn head_of(id: u16, view: &View) -> Text
 
 /// Appends the line of a register.
 fn push_register(text: &mut Text, index: u8, register: u64)
-    requires { length text.old + 22 ≤ 384 }
+    requires { length text.old + 22 ≤ TEXT_OCTETS }
     ensures items { text.new ≡ text.old ++ register_line index register }
     ensures len { length text.new ≤ length text.old + 22 }
 {
@@ -64,12 +65,7 @@ pub fn view_text<B: Allocator>(
     view: Option<View>,
     output: &mut Vec<u8, B>,
 ) -> Result<(), AllocError>
-    ensures ok { OnOk result (output.new.items ≡ output.old.items ++ view_lines id view) }
-    ensures err { OnErr result (output.new.items ≡ output.old.items) }
-    ensures memory { OnErr result
-        (vec_capacity output.old < length (output.old.items ++ view_lines id view)) }
-    ensures same_capacity { OnErr result (vec_capacity output.new ≡ vec_capacity output.old) }
-    ensures capacity { vec_capacity output.old ≤ vec_capacity output.new }
+    ensures { Appends (view_lines id view) output.old output.new result }
 {
     let text = match &view {
         Some(view) => lines_of(id, view),
@@ -98,14 +94,14 @@ pub(crate) fn line_of(trace: &Trace) -> Text
     text.push_outcome(trace.outcome);
     push_words(&mut text, &trace.registers);
     text.push_all(b" ");
-    text.push_all(bpf_listing::text_of(trace.line).as_slice());
+    text.push_all(bpf_canonical::text_of(&trace.line).as_slice());
     text.push_all(b"\n");
     text
 }
 
 /// Appends words, each with a space in front.
 fn push_words(text: &mut Text, words: &[u64])
-    requires { length text.old + 17 * length words.now ≤ 384 }
+    requires { length text.old + 17 * length words.now ≤ TEXT_OCTETS }
     ensures items { text.new ≡ text.old ++ words_text words.now }
     ensures len { length text.new ≤ length text.old + 17 * length words.now }
 {
@@ -120,12 +116,7 @@ fn push_words(text: &mut Text, words: &[u64])
 /// The only refusal is that of memory, and comes only where the text does not fit into the capacity
 /// that `output` has. It leaves `output` as it was.
 pub fn trace_text<B: Allocator>(trace: &Trace, output: &mut Vec<u8, B>) -> Result<(), AllocError>
-    ensures ok { OnOk result (output.new.items ≡ output.old.items ++ trace_line trace.now) }
-    ensures err { OnErr result (output.new.items ≡ output.old.items) }
-    ensures memory { OnErr result
-        (vec_capacity output.old < length (output.old.items ++ trace_line trace.now)) }
-    ensures same_capacity { OnErr result (vec_capacity output.new ≡ vec_capacity output.old) }
-    ensures capacity { vec_capacity output.old ≤ vec_capacity output.new }
+    ensures { Appends (trace_line trace.now) output.old output.new result }
 {
     line_of(trace).append_to(output)
 }

@@ -12,7 +12,7 @@ use crate::operand::Operand::{
 use crate::operand::{Fit, Operand, is_name};
 use crate::tokens::Tokens;
 use arrayvec::ArrayVec;
-use bpf_listing::{Access, Jump, Mnemonic, mnemonic_of};
+use bpf_canonical::{Access, Jump, Mnemonic, read_mnemonic};
 use bpf_types::Width;
 
 const TARGET: &str = "<distance with its sign, or label>";
@@ -82,7 +82,7 @@ fn is_without_width(word: &[u8]) -> bool {
     let mut with_width: ArrayVec<u8, 8> = ArrayVec::new();
     with_width.try_extend_from_slice(word).is_ok()
         && with_width.try_extend_from_slice(b"64").is_ok()
-        && mnemonic_of(&with_width).is_some()
+        && read_mnemonic(&with_width).is_some()
 }
 
 /// What to write in place of a word that is no mnemonic.
@@ -226,7 +226,7 @@ fn statement_of<'a>(mnemonic: &'a [u8], behind: Tokens<'a>) -> Option<Statement>
 {
     let (word, behind_word) = behind.next_token();
     let is_local = word.text == b"local".as_slice();
-    let shape = shape_of(mnemonic_of(mnemonic)?, is_local);
+    let shape = shape_of(read_mnemonic(mnemonic)?, is_local);
     let operands = if is_local && mnemonic == b"call".as_slice() {
         behind_word
     } else {

@@ -134,7 +134,8 @@ fn refused<L: Naming, A: Allocator + Copy>(
 }
 
 /// A second seat, then the requests of the first, which keeps a receipt for each, and between its
-/// activation and its suspension procedure 4.
+/// activation and its suspension procedure 4. A request takes a copy of its octets, and of each of
+/// its reports three: the answer's, the journal's and the seat's.
 fn requests_refused<L: Naming, A: Allocator + Copy>(
     heap: &Refusing<Global>,
     refusing: A,
@@ -147,7 +148,8 @@ fn requests_refused<L: Naming, A: Allocator + Copy>(
     }
     for (index, (octets, wanted)) in REQUESTED.iter().zip(ANSWERED.iter()).enumerate() {
         let asked = Asked::Request(octets, wanted);
-        if refused(heap, refusing, alloc, book, seat, asked)? < 3 {
+        let copies = 3u64.saturating_mul(wanted.len() as u64);
+        if refused(heap, refusing, alloc, book, seat, asked)? <= copies {
             return Err("a request without copies".into());
         }
         if index == 1 && refused(heap, refusing, alloc, book, seat, Asked::Take)? == 0 {

@@ -11,9 +11,9 @@ use Rattle.bpf_decode.specs.Decoding.{BeginsWith}
 use Rattle.bpf_decode.specs.Mirror.Decoding.{decode_result}
 use Rattle.ocp_loader.specs.declared.fault.LoadFault.{LoadFault}
 use Rattle.ocp_loader.specs.declared.fault.LoadFault.TheVariants.{EmptyCode, RaggedCode, TooLong, BadCall, FallsOffEnd, Memory}
-use Rattle.bpf_listing.specs.Listing.{image_of}
+use Rattle.bpf_decode.specs.Images.{image_of}
 use Rattle.ocp_loader.specs.Image.{line_in, second_of, slots_of, by_slot, target_of, calls_well}
-use Rattle.ocp_loader.specs.Mirror.Reading.{line_read, reading_with_line, slot_read, slots_read}
+use Rattle.ocp_loader.specs.Mirror.Reading.{line_or_fault, reading_with_line, read_slot, read_slots}
 use Rattle.ocp_loader.specs.LoadResult.{load_result}
 use Rattle.ocp_loader.specs.Mirror.Checks.{lines_result, unless, lines_fault, end_fault, first_bad_target, has_valid_target, is_target}
 use Rattle.ocp_loader.specs.Mirror.Reading.{IsPlain}
@@ -32,23 +32,23 @@ AreDecoded = (octets : List ℕ) (l : Line) → BeginsWith octets l → ¬ Write
 abbrev pub AreJudged : Profile → Type 0
 AreJudged profile = (image : List ℕ) (lines : List Line) → IsAdmittedAs profile image lines → load_result profile image ≡ Ok (by_slot lines)
 
-line_step : (profile : Profile) (image : List ℕ) (n : ℕ) (lines : List (Option Line)) (l : Line) (b : Bool) → is_wide l ≡ b → slots_read profile image n ≡ Ok (record { lines = lines; second = false }) →
-    decode_result (drop (8 * n) image) ≡ Ok l → calls_well profile l ≡ true → slots_read profile image (suc n) ≡ Ok (record { lines = lines ++ Some l ∷ []; second = b })
+line_step : (profile : Profile) (image : List ℕ) (n : ℕ) (lines : List (Option Line)) (l : Line) (b : Bool) → is_wide l ≡ b → read_slots profile image n ≡ Ok (record { lines = lines; second = false }) →
+    decode_result (drop (8 * n) image) ≡ Ok l → calls_well profile l ≡ true → read_slots profile image (suc n) ≡ Ok (record { lines = lines ++ Some l ∷ []; second = b })
 line_step profile image n lines l b w so_far d c =
-    ap (slot_read profile image n) so_far ∙ ap (λ x. reading_with_line lines (line_read profile n x)) d
+    ap (read_slot profile image n) so_far ∙ ap (λ x. reading_with_line lines (line_or_fault profile n x)) d
     ∙ ap (λ x. reading_with_line lines (if x then Ok l else Err (BadCall n))) c ∙ ap (λ x. Ok (record { lines = lines ++ Some l ∷ []; second = x })) w
 
-slots_step : (profile : Profile) (image : List ℕ) (n : ℕ) (lines : List (Option Line)) (l : Line) (b : Bool) → is_wide l ≡ b → slots_read profile image n ≡ Ok (record { lines = lines; second = false }) →
-    decode_result (drop (8 * n) image) ≡ Ok l → calls_well profile l ≡ true → slots_read profile image (n + length (Some l ∷ second_of b)) ≡ Ok (record { lines = lines ++ Some l ∷ second_of b; second = false })
+slots_step : (profile : Profile) (image : List ℕ) (n : ℕ) (lines : List (Option Line)) (l : Line) (b : Bool) → is_wide l ≡ b → read_slots profile image n ≡ Ok (record { lines = lines; second = false }) →
+    decode_result (drop (8 * n) image) ≡ Ok l → calls_well profile l ≡ true → read_slots profile image (n + length (Some l ∷ second_of b)) ≡ Ok (record { lines = lines ++ Some l ∷ second_of b; second = false })
 slots_step profile image n lines l false w so_far d c = let e : n + 1 ≡ suc n = omega arith in rw e (line_step profile image n lines l false w so_far d c)
 slots_step profile image n lines l true w so_far d c =
     let e : n + 2 ≡ suc (suc n) = omega arith in
-    rw e (ap (slot_read profile image (suc n)) (line_step profile image n lines l true w so_far d c)
+    rw e (ap (read_slot profile image (suc n)) (line_step profile image n lines l true w so_far d c)
     ∙ ap (λ x. Ok (record { lines = x; second = false })) (append_assoc lines (Some l ∷ []) (None ∷ [])))
 
 -- the slots of these lines were read
 abbrev pub HasRead : Profile → List ℕ → List Line → Type 0
-HasRead profile image ls = slots_read profile image (length (by_slot ls)) ≡ Ok (record { lines = by_slot ls; second = false })
+HasRead profile image ls = read_slots profile image (length (by_slot ls)) ≡ Ok (record { lines = by_slot ls; second = false })
 
 -- one line more
 pub line_reads : (profile : Profile) → AreDecoded → (image : List ℕ) (before : List Line) (l : Line) (after : List Line) → image ≡ image_of (before ++ l ∷ after) → IsPlain profile l → HasRead profile image before → HasRead profile image (before ++ l ∷ [])
@@ -60,7 +60,7 @@ line_reads profile decodes image before l after e p so_far =
     let next = slots_step profile image n (by_slot before) l (is_wide l) refl so_far read p.2 in
     let slots : by_slot (before ++ l ∷ []) ≡ by_slot before ++ slots_of l = by_slot-append before (l ∷ []) ∙ ap (λ xs. by_slot before ++ xs) (append_nil (slots_of l)) in
     let count : length (by_slot (before ++ l ∷ [])) ≡ n + length (slots_of l) = ap length slots ∙ length-append (by_slot before) (slots_of l) in
-    ap (slots_read profile image) count ∙ next ∙ ap (λ x. Ok (record { lines = x; second = false })) (sym slots)
+    ap (read_slots profile image) count ∙ next ∙ ap (λ x. Ok (record { lines = x; second = false })) (sym slots)
 
 pub reads : (profile : Profile) → AreDecoded → (image : List ℕ) (before after : List Line) → image ≡ image_of (before ++ after) → All (IsPlain profile) after → HasRead profile image before → HasRead profile image (before ++ after)
 reads profile decodes image before [] e plain so_far = subst (HasRead profile image) (sym (append_nil before)) so_far
@@ -96,10 +96,10 @@ complete_by_slot profile decodes image lines a =
     let shape : by_slot ends.0 ++ Some ends.1 ∷ [] ≡ by_slot lines = sym (ap by_slot ends.2 ∙ by_slot-append ends.0 (ends.1 ∷ []) ∙ ap (λ b. by_slot ends.0 ++ ((Some ends.1 ∷ second_of b) ++ [])) wide) in
     let some : 0 < n = omega (arith, sym (ap length shape) ∙ length-append (by_slot ends.0) (Some ends.1 ∷ [])) in
     let t = tests (length image) n (ap length a.whole.1 ∙ length_image lines) some a.short in
-    let read : slots_read profile image (length image / 8) ≡ Ok (record { lines = by_slot lines; second = false }) = ap (slots_read profile image) t.3 ∙ reads profile decodes image [] lines a.whole.1 a.whole.0 refl in
+    let read : read_slots profile image (length image / 8) ≡ Ok (record { lines = by_slot lines; second = false }) = ap (read_slots profile image) t.3 ∙ reads profile decodes image [] lines a.whole.1 a.whole.0 refl in
     let bad_target : first_bad_target (by_slot lines) n ≡ None = none_astray (by_slot lines) n (λ p. aimed_by (by_slot lines) p (line_in (by_slot lines) p) refl (a.aimed p)) in
     let end : end_fault n (line_in (by_slot lines) (n - 1)) ≡ None = ap (end_fault n) (last_at (by_slot ends.0) (Some ends.1) (by_slot lines) shape) ∙ ap (λ b. if b then None else Some (FallsOffEnd (n - 1))) ends.3 in
-    by_tests _ _ _ (lines_result (slots_read profile image (length image / 8))) (by_slot lines) t.0 t.1 t.2
+    by_tests _ _ _ (lines_result (read_slots profile image (length image / 8))) (by_slot lines) t.0 t.1 t.2
     (ap lines_result read ∙ ap (λ o. unless (lines_fault (by_slot lines) o) (by_slot lines)) bad_target ∙ ap (λ f. unless f (by_slot lines)) end)
 
 pub complete : (profile : Profile) → AreDecoded → AreJudged profile

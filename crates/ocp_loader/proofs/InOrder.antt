@@ -5,7 +5,7 @@ use Rattle.std.proofs.lemmas.List.Elements.{All-head, All-tail}
 use Rattle.bpf_types.specs.declared.line.Line.{Line}
 use Rattle.bpf_types.specs.Line.{is_wide, spelling, IsLine, WritesFramePointer}
 use Rattle.bpf_decode.specs.Mirror.Decoding.{decode_result}
-use Rattle.bpf_listing.specs.Listing.{image_of, NoneWritesFramePointer}
+use Rattle.bpf_decode.specs.Images.{image_of, NoneWritesFramePointer}
 use Rattle.ocp_loader.specs.Image.{line_in, second_of, slots_of, by_slot}
 use Rattle.ocp_loader.specs.LineAt.{line_of}
 use Rattle.ocp_loader.proofs.Octets.{append_nil, image_of-append, drop_front, length_image, spelled}

@@ -10,7 +10,7 @@ use Rattle.bpf_decode.specs.declared.fault.DecodeFault.{DecodeFault}
 use Rattle.ocp_loader.specs.declared.fault.LoadFault.TheVariants.{BadCall}
 use Rattle.ocp_loader.specs.declared.fault.LoadFault.{LoadFault}
 use Rattle.ocp_loader.specs.Image.{line_in, second_of, slots_of, by_slot, calls_well}
-use Rattle.ocp_loader.specs.Mirror.Reading.{Reading, line_read, reading_with_line, slot_read, slots_read}
+use Rattle.ocp_loader.specs.Mirror.Reading.{Reading, line_or_fault, reading_with_line, read_slot, read_slots}
 use Rattle.ocp_loader.specs.Mirror.Checks.{first_bad_target, or_at, has_valid_target}
 
 -- what lies behind a line
@@ -82,17 +82,17 @@ laid_added n lines (Ok l) h laid = (count lines (Some l) n h, laid_line lines l 
 laid_added n lines (Err fault) h laid = tt
 
 laid_step : (profile : Profile) (image : List ℕ) (n : ℕ) (lines : List (Option Line)) (second : Bool) → length lines ≡ n → IsLaid lines second →
-    IfOk (slot_read profile image n (Ok (record { lines = lines; second = second }))) (IsLaidOut (suc n))
+    IfOk (read_slot profile image n (Ok (record { lines = lines; second = second }))) (IsLaidOut (suc n))
 laid_step profile image n lines true h laid = (count lines None n h, laid_second lines laid)
-laid_step profile image n lines false h laid = laid_added n lines (line_read profile n (decode_result (drop (8 * n) image))) h laid
+laid_step profile image n lines false h laid = laid_added n lines (line_or_fault profile n (decode_result (drop (8 * n) image))) h laid
 
-laid_next : (profile : Profile) (image : List ℕ) (n : ℕ) (q : Result Reading LoadFault) → IfOk q (IsLaidOut n) → IfOk (slot_read profile image n q) (IsLaidOut (suc n))
+laid_next : (profile : Profile) (image : List ℕ) (n : ℕ) (q : Result Reading LoadFault) → IfOk q (IsLaidOut n) → IfOk (read_slot profile image n q) (IsLaidOut (suc n))
 laid_next profile image n (Ok r) h = laid_step profile image n r.lines r.second h.0 h.1
 laid_next profile image n (Err fault) h = tt
 
-pub laid_out : (profile : Profile) (image : List ℕ) (n : ℕ) → IfOk (slots_read profile image n) (IsLaidOut n)
+pub laid_out : (profile : Profile) (image : List ℕ) (n : ℕ) → IfOk (read_slots profile image n) (IsLaidOut n)
 laid_out profile image zero = (refl, ([], refl))
-laid_out profile image (suc n) = laid_next profile image n (slots_read profile image n) (laid_out profile image n)
+laid_out profile image (suc n) = laid_next profile image n (read_slots profile image n) (laid_out profile image n)
 
 -- where no slot leads to no line, each has a valid target
 aimed_or : (o : Option ℕ) (fine : Bool) (n : ℕ) → or_at o fine n ≡ None → (o ≡ None) × (fine ≡ true)
@@ -142,18 +142,18 @@ called_line : (profile : Profile) (lines : List (Option Line)) (slot : ℕ) (m :
 called_line profile lines slot m true w a = called_pushed profile lines m w a
 called_line profile lines slot m false w a = tt
 
-called_added : (profile : Profile) (lines : List (Option Line)) (slot : ℕ) (x : Result Line DecodeFault) → AllCalled profile lines → IfOk (reading_with_line lines (line_read profile slot x)) (λ r. AllCalled profile r.lines)
+called_added : (profile : Profile) (lines : List (Option Line)) (slot : ℕ) (x : Result Line DecodeFault) → AllCalled profile lines → IfOk (reading_with_line lines (line_or_fault profile slot x)) (λ r. AllCalled profile r.lines)
 called_added profile lines slot (Ok m) a = called_line profile lines slot m (calls_well profile m) refl a
 called_added profile lines slot (Err f) a = tt
 
-called_step : (profile : Profile) (image : List ℕ) (n : ℕ) (lines : List (Option Line)) (second : Bool) → AllCalled profile lines → IfOk (slot_read profile image n (Ok (record { lines = lines; second = second }))) (λ r. AllCalled profile r.lines)
+called_step : (profile : Profile) (image : List ℕ) (n : ℕ) (lines : List (Option Line)) (second : Bool) → AllCalled profile lines → IfOk (read_slot profile image n (Ok (record { lines = lines; second = second }))) (λ r. AllCalled profile r.lines)
 called_step profile image n lines true a = called_none profile lines a
 called_step profile image n lines false a = called_added profile lines n (decode_result (drop (8 * n) image)) a
 
-called_next : (profile : Profile) (image : List ℕ) (n : ℕ) (q : Result Reading LoadFault) → IfOk q (λ r. AllCalled profile r.lines) → IfOk (slot_read profile image n q) (λ r. AllCalled profile r.lines)
+called_next : (profile : Profile) (image : List ℕ) (n : ℕ) (q : Result Reading LoadFault) → IfOk q (λ r. AllCalled profile r.lines) → IfOk (read_slot profile image n q) (λ r. AllCalled profile r.lines)
 called_next profile image n (Ok r) a = called_step profile image n r.lines r.second a
 called_next profile image n (Err f) a = tt
 
-pub all_called : (profile : Profile) (image : List ℕ) (n : ℕ) → IfOk (slots_read profile image n) (λ r. AllCalled profile r.lines)
+pub all_called : (profile : Profile) (image : List ℕ) (n : ℕ) → IfOk (read_slots profile image n) (λ r. AllCalled profile r.lines)
 all_called profile image zero = λ p l h. absurd cc
-all_called profile image (suc n) = called_next profile image n (slots_read profile image n) (all_called profile image n)
+all_called profile image (suc n) = called_next profile image n (read_slots profile image n) (all_called profile image n)

@@ -4,7 +4,7 @@ use Rattle.bpf_types.specs.declared.line.Line.{Line}
 use Rattle.bpf_types.specs.declared.line.Line.TheVariants as line
 use Rattle.bpf_types.specs.declared.line.Operand.TheVariants.{Immediate, Register}
 use Rattle.bpf_types.specs.Line.{is_wide, spelling}
-use Rattle.bpf_listing.specs.Listing.{image_of}
+use Rattle.bpf_decode.specs.Images.{image_of}
 use Rattle.ocp_loader.specs.Image.{second_of, slots_of, by_slot}
 use Rattle.ocp_loader.specs.Places.{place_of}
 

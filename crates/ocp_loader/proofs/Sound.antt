@@ -7,7 +7,7 @@ use Rattle.ocp_profile.specs.declared.profile.Profile.{Profile}
 use Rattle.ocp_profile.specs.declared.profile.Profile.TheVariants.{Two}
 use Rattle.bpf_types.specs.declared.line.Line.{Line}
 use Rattle.bpf_types.specs.Line.{is_wide, IsLine}
-use Rattle.bpf_listing.specs.Listing.{image_of}
+use Rattle.bpf_decode.specs.Images.{image_of}
 use Rattle.ocp_loader.specs.Image.{line_in, second_of, slots_of, by_slot, is_last, target_of}
 use Rattle.ocp_loader.specs.Places.{place_of, IsAt, IsPlaceOf, HasValidTarget}
 use Rattle.ocp_loader.specs.Mirror.Reading.{IsPlain}

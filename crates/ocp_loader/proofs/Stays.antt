@@ -4,22 +4,22 @@ use Rattle.ocp_profile.specs.declared.profile.Profile.{Profile}
 use Rattle.bpf_types.specs.declared.line.Line.{Line}
 use Rattle.ocp_loader.specs.declared.fault.LoadFault.{LoadFault}
 use Rattle.ocp_loader.specs.Image.{line_in}
-use Rattle.ocp_loader.specs.Mirror.Reading.{slot_read, slots_read}
+use Rattle.ocp_loader.specs.Mirror.Reading.{read_slot, read_slots}
 use Rattle.ocp_loader.specs.Mirror.Checks.{first_bad_target, or_at, has_valid_target, lines_result}
 
-more : (profile : Profile) (image : List ℕ) (k d : ℕ) (fault : LoadFault) → slots_read profile image k ≡ Err fault → slots_read profile image (k + d) ≡ Err fault
+more : (profile : Profile) (image : List ℕ) (k d : ℕ) (fault : LoadFault) → read_slots profile image k ≡ Err fault → read_slots profile image (k + d) ≡ Err fault
 more profile image k zero fault h = let e : k + zero ≡ k = omega arith in rw e h
-more profile image k (suc d) fault h = let e : k + suc d ≡ suc (k + d) = omega arith in rw e (ap (slot_read profile image (k + d)) (more profile image k d fault h))
+more profile image k (suc d) fault h = let e : k + suc d ≡ suc (k + d) = omega arith in rw e (ap (read_slot profile image (k + d)) (more profile image k d fault h))
 
-pub stays : (profile : Profile) (image : List ℕ) (k n : ℕ) (fault : LoadFault) → slots_read profile image k ≡ Err fault → k ≤ n → slots_read profile image n ≡ Err fault
+pub stays : (profile : Profile) (image : List ℕ) (k n : ℕ) (fault : LoadFault) → read_slots profile image k ≡ Err fault → k ≤ n → read_slots profile image n ≡ Err fault
 stays profile image k n fault h l = let e : n ≡ k + (n - k) = omega arith in rw e (more profile image k (n - k) fault h)
 
 -- the loop's return with a fault of the slot k
 pub judged_err : (profile : Profile) (image : List ℕ) (k n : ℕ) (lines : List (Option Line)) (second : Bool) (fault : LoadFault) →
-    slots_read profile image k ≡ Ok (record { lines = lines; second = second }) → slot_read profile image k (Ok (record { lines = lines; second = second })) ≡ Err fault → k < n → lines_result (slots_read profile image n) ≡ Err fault
+    read_slots profile image k ≡ Ok (record { lines = lines; second = second }) → read_slot profile image k (Ok (record { lines = lines; second = second })) ≡ Err fault → k < n → lines_result (read_slots profile image n) ≡ Err fault
 judged_err profile image k n lines second fault so_far h l =
-    let now : slots_read profile image (suc k) ≡ Err fault = ap (slot_read profile image k) so_far ∙ h in
-    let later : slots_read profile image n ≡ Err fault = stays profile image (suc k) n fault now (omega arith) in
+    let now : read_slots profile image (suc k) ≡ Err fault = ap (read_slot profile image k) so_far ∙ h in
+    let later : read_slots profile image n ≡ Err fault = stays profile image (suc k) n fault now (omega arith) in
     ap lines_result later
 
 astray_more : (lines : List (Option Line)) (k d s : ℕ) → first_bad_target lines k ≡ Some s → first_bad_target lines (k + d) ≡ Some s

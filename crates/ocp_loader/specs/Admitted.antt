@@ -5,7 +5,7 @@ use Rattle.std.specs.List.{All}
 use Rattle.ocp_profile.specs.declared.profile.Profile.{Profile}
 use Rattle.bpf_types.specs.declared.line.Line.{Line}
 use Rattle.bpf_types.specs.Line.{WritesFramePointer}
-use Rattle.bpf_listing.specs.Listing.{IsImageOf}
+use Rattle.bpf_decode.specs.Images.{IsImageOf}
 use Rattle.ocp_loader.specs.Image.{max_slots, calls_well, is_last}
 use Rattle.ocp_loader.specs.Places.{IsLast, AllHaveValidTargets}
 

@@ -4,7 +4,7 @@ use Rattle.bpf_decode.specs.declared.fault.DecodeFault.TheVariants.{CutWide, Unk
 use Rattle.ocp_loader.specs.declared.fault.LoadFault.{LoadFault}
 use Rattle.ocp_loader.specs.declared.fault.LoadFault.TheVariants.{EmptyCode, RaggedCode, TooLong, Decode, BadCall, BadTarget, FallsOffEnd, Memory}
 
--- 1 to 11 in the order in which faults are looked for; out of memory has none
+-- 1 to 11 in the order in which faults are looked for; out of memory is 0
 abbrev pub number_of : LoadFault → ℕ
 number_of EmptyCode = 1
 number_of RaggedCode = 2

@@ -8,7 +8,7 @@ use Rattle.bpf_decode.specs.Decoding.{BeginsWith}
 use Rattle.bpf_decode.specs.Faults.{IsFirst}
 use Rattle.ocp_loader.specs.declared.fault.LoadFault.{LoadFault}
 use Rattle.ocp_loader.specs.declared.fault.LoadFault.TheVariants.{EmptyCode, RaggedCode, TooLong, Decode, BadCall, BadTarget, FallsOffEnd, Memory}
-use Rattle.bpf_listing.specs.Listing.{IsImageOf}
+use Rattle.bpf_decode.specs.Images.{IsImageOf}
 use Rattle.ocp_loader.specs.Image.{max_slots, is_engine_call, is_last}
 use Rattle.ocp_loader.specs.Places.{IsAt, IsLast, HasValidTarget, AllHaveValidTargets}
 use Rattle.ocp_loader.specs.Admitted.{IsLawful, HasSlots}

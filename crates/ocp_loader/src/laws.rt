@@ -6,7 +6,7 @@ ghost use Rattle.ocp_profile.specs.declared.profile.Profile.TheVariants.{Two};
 ghost use Rattle.bpf_types.specs.declared.line.Line.{Line};
 ghost use Rattle.std.specs.List.{All};
 ghost use Rattle.bpf_types.specs.Line.{IsLine};
-ghost use Rattle.bpf_listing.specs.Listing.{image_of, IsImageOf, NoneWritesFramePointer};
+ghost use Rattle.bpf_decode.specs.Images.{image_of, IsImageOf, NoneWritesFramePointer};
 ghost use Rattle.ocp_loader.specs.declared.fault.LoadFault.{LoadFault};
 ghost use Rattle.ocp_loader.specs.Image.{by_slot, line_in, is_engine_call};
 ghost use Rattle.ocp_loader.specs.Places.{IsAt, Continues, place_of};

@@ -9,7 +9,6 @@ mod ops;
 mod program;
 mod read;
 
-pub use bpf_listing::images_are_unique;
 pub use fault::LoadFault;
 pub use laws::{
     faults_are_of_images_that_may_not_be_run, images_begin_with_an_instruction,

@@ -1,11 +1,11 @@
 //! The listing of operations, slot by slot.
 ghost use Rattle.std.specs.Prelude.{◌≡◌, ◌≤◌, ◌+◌, ◌++◌, Some, length, vec_capacity};
-ghost use Rattle.bpf_listing.specs.Canonical.{canonical};
+ghost use Rattle.bpf_canonical.specs.Canonical.{canonical};
 ghost use Rattle.ocp_loader.specs.Mirror.Listed.{text_at, text_below};
 
 use crate::ops::line_in_ops;
 use crate::program::MAX_SLOTS;
-use bpf_listing::text_of;
+use bpf_canonical::text_of;
 use bpf_ops::Op;
 use bpf_types::Line;
 use std::alloc::Allocator;
@@ -18,7 +18,7 @@ pub fn listing_len(ops: &[Op], slots: u16) -> usize
     let mut len = 0;
     for slot in 0..slots {
         if let Some(line) = line_in_ops(ops, slot) {
-            len += text_of(line).as_slice().len() + 1;
+            len += text_of(&line).as_slice().len() + 1;
         }
     }
     len
@@ -30,7 +30,7 @@ fn push_line<A: Allocator>(line: Line, out: &mut Vec<u8, A>)
     ensures items { out.new.items ≡ out.old.items ++ text_at (Some line) }
     ensures capacity { vec_capacity out.old ≤ vec_capacity out.new }
 {
-    out.extend_from_slice(text_of(line).as_slice()).unwrap();
+    out.extend_from_slice(text_of(&line).as_slice()).unwrap();
     out.extend_from_slice(b"\n").unwrap();
 }
 

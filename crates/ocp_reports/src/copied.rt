@@ -1,31 +1,27 @@
 //! Reports with copies of them.
 
-ghost use Rattle.std.specs.Prelude.{◌≡◌, IfOk, All, length};
+ghost use Rattle.std.specs.Prelude.{◌≡◌, IfOk, length};
 
 use crate::Reports;
 use std::alloc::{AllocError, Allocator, Global};
 use std::marker::Model;
 
-// One for the journal, and one for the receipt.
-const COPIES: usize = 2;
-
-/// The reports of a request, seen as their list, with two copies of them for those who keep them:
-/// the journal, and a seat as its receipt.
+/// The reports of a request, seen as their list, once for each of those who keep them.
 #[derive(Drop)]
 pub struct CopiedReports<A: Allocator = Global> {
-    // The copies and the reports themselves.
-    all: Vec<Reports<A>, A>,
+    answer: Reports<A>,
+    journal: Reports<A>,
+    receipt: Reports<A>,
 }
 
 impl<A: Allocator> Model for CopiedReports<A> {
-    ghost use Rattle.std.specs.Prelude.{◌≡◌, ℕ, List, [], All, length, slice_index_or};
+    ghost use Rattle.std.specs.Prelude.{◌≡◌, ℕ, List};
 
     ghost Value = { List (List ℕ) };
 
-    ghost view = { λ r. slice_index_or r.all.items 0 [] };
+    ghost view = { λ r. r.answer };
 
-    ghost invariant = { λ r. (length r.all.items ≡ 3)
-        × All (λ copy. copy ≡ slice_index_or r.all.items 0 []) r.all.items };
+    ghost invariant = { λ r. (r.journal ≡ r.answer) × (r.receipt ≡ r.answer) };
 }
 
 impl<A: Allocator> CopiedReports<A> {
@@ -35,27 +31,31 @@ impl<A: Allocator> CopiedReports<A> {
         A: Copy,
         ensures { IfOk result (λ copied. copied ≡ reports) }
     {
-        let mut all = Vec::new(alloc);
-        for _count in 0..COPIES {
-            all.push(reports.copy(alloc)?)?;
-        }
-        all.push(reports)?;
-        Ok(CopiedReports { all })
+        Ok(CopiedReports {
+            journal: reports.copy(alloc)?,
+            receipt: reports.copy(alloc)?,
+            answer: reports,
+        })
     }
 
     /// How many packets there are.
     pub fn len(&self) -> usize
         ensures { result ≡ length self.now }
     {
-        self.all[0].len()
+        self.answer.len()
     }
 
-    /// The reports and their copies, each by itself.
-    pub fn into_vec(self) -> Vec<Reports<A>, A>
-        ensures count { length result.items ≡ 3 }
-        ensures same { All (λ copy. copy ≡ self) result.items }
+    /// The answer, the copy for the journal, and that for the seat's receipt.
+    pub fn into_parts(self) -> (Reports<A>, Reports<A>, Reports<A>)
+        ensures answer { result.0 ≡ self }
+        ensures journal { result.1 ≡ self }
+        ensures receipt { result.2 ≡ self }
     {
-        let CopiedReports { all } = self;
-        all
+        let CopiedReports {
+            answer,
+            journal,
+            receipt,
+        } = self;
+        (answer, journal, receipt)
     }
 }

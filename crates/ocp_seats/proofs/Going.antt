@@ -3,7 +3,7 @@ use Rattle.std.proofs.Common.{◌≡◌, List, [], ◌∷◌, ◌++◌, length, 
 use Rattle.std.proofs.lemmas.List.{append-nil}
 use Rattle.ocp_core.specs.Log.{Log, Entry}
 use Rattle.ocp_core.specs.Marks.{MarkedEntry}
-use Rattle.ocp_seats.specs.Seats.{Grows}
+use Rattle.ocp_core.specs.Receipts.{Grows}
 use Rattle.ocp_seats.specs.Going.{GoesOn}
 
 drop_all : {A : Type 0} (xs : List A) → drop (length xs) xs ≡ []

@@ -1,4 +1,3 @@
-pub mod Receipts
 pub mod Seats
 pub mod Going
 pub mod Taking

@@ -1,12 +1,17 @@
 -- What contracts see of a book and of a seat.
-use Rattle.std.specs.Prelude.{◌≡◌, ◌<◌, ◌+◌, ℕ, false, List, [], ◌++◌, length, map, Option}
+use Rattle.std.specs.Prelude.{◌≡◌, ◌<◌, ◌≤◌, ◌+◌, ℕ, false, List, [], ◌++◌, length, Option}
+use Rattle.ocp_table.specs.declared.answers.Slice.{Slice}
 use Rattle.ocp_world.specs.World.{Event}
 use Rattle.ocp_world.specs.After.{Answer, is_accepted}
+use Rattle.ocp_core.specs.declared.answers.CommitOutcome.{CommitOutcome}
 use Rattle.ocp_core.specs.Log.{Log}
-use Rattle.ocp_core.specs.Receipts.{Enters, event_entries}
+use Rattle.ocp_core.specs.Marks.{MarkedEntry}
+use Rattle.ocp_core.specs.Receipts.{Enters, Grows, event_entries, slice_entries, commit_entries}
+use Rattle.ocp_core.specs.Slice.{slice_in, slice_log}
+use Rattle.ocp_core.specs.Tickets.{WorkContents}
+use Rattle.ocp_core.specs.Commits.{Commits}
 use Rattle.ocp_seats.specs.declared.seat.SeatFault.{SeatFault}
 use Rattle.ocp_seats.specs.declared.seat.SeatFault.TheVariants as seat
-use Rattle.ocp_core.specs.Marks.{MarkedEntry, entries_with_marks}
 
 -- the engine, the number of its entries at the start, the number of seats handed out, the procedure
 -- taken last by any seat, and how many entries came since the start
@@ -29,12 +34,6 @@ pub record Gains (old new : SeatContents) (entries : List MarkedEntry) : Type 0 
   pub receipts : new.receipts ≡ old.receipts ++ entries
   pub share : new.share ≡ old.share + length entries
 
--- the journal is the old one followed by these entries, and their marks are those of its replay
-pub record Grows (old new : Log) (entries : List MarkedEntry) : Type 0 where
-  pub journal :
-      new ≡ record old { entries = old.entries ++ map (λ (m : MarkedEntry). m.entry) entries }
-  pub marks : entries_with_marks new ≡ entries_with_marks old ++ entries
-
 -- the engine's journal gained these entries, and what else the book keeps stays
 pub record GrowsBy (old new : BookContents) (entries : List MarkedEntry) : Type 0 where
   pub engine : Grows old.engine new.engine entries
@@ -51,6 +50,24 @@ pub record Serves (old new : BookContents) (seat after : SeatContents) (e : Even
   pub book : GrowsBy old new (event_entries e answer)
   pub gains : Gains seat after (event_entries e answer)
   pub refused : is_accepted answer ≡ false → (new ≡ old) × (after ≡ seat)
+
+-- A slice of a procedure that a seat asked for was answered so, within its budget and as the engine
+-- does it. The journal and the seat's receipts gained its entry, or none where it did nothing.
+pub record ServesSlice (old new : BookContents) (seat after : SeatContents) (id budget : ℕ)
+    (slice : Slice) : Type 0 where
+  pub within : slice.count ≤ budget
+  pub answer : slice ≡ slice_in old.engine seat.number id budget
+  pub journal : new.engine ≡ slice_log old.engine seat.number id budget
+  pub book : GrowsBy old new (slice_entries seat.number id slice)
+  pub gains : Gains seat after (slice_entries seat.number id slice)
+
+-- A work that a seat handed in came to this outcome, as the engine commits it. The journal and the
+-- seat's receipts gained the entry of a committed one.
+pub record ServesWork (old new : BookContents) (seat after : SeatContents) (work : WorkContents)
+    (outcome : CommitOutcome) : Type 0 where
+  pub engine : Commits old.engine new.engine seat.number work outcome
+  pub book : GrowsBy old new (commit_entries seat.number work.id outcome)
+  pub gains : Gains seat after (commit_entries seat.number work.id outcome)
 
 -- the book handed out its next seat
 pub record HandsOut (old new : BookContents) (seat : SeatContents) : Type 0 where

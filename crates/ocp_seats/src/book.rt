@@ -1,13 +1,14 @@
 //! The book of a shared engine.
 
 ghost use Rattle.std.specs.Prelude.{◌≡◌, ◌≤◌, ◌+◌, None, IfOk, IfErr, OnOk, drop, length, map};
-ghost use Rattle.ocp_core.specs.Marks.{entries_with_marks};
-ghost use Rattle.ocp_core.specs.Journal.{entry_with_mark};
-ghost use Rattle.ocp_seats.specs.Seats.{HandsOut, RefusesSeat};
+ghost use Rattle.ocp_core.specs.Clauses.{entries_with_marks, entry_with_mark};
+ghost use Rattle.ocp_seats.specs.Going.{GoesOn};
+ghost use Rattle.ocp_seats.specs.Seats.{BookContents, HandsOut, RefusesSeat};
 ghost use Rattle.ocp_seats.specs.Taking.{Takes, RefusesTake};
+ghost use Rattle.ocp_seats.specs.Mirror.Codes.{book_code};
 
 use crate::{Engine, Entry, MAX_SEATS, Naming, Seat, SeatFault, Ticket};
-use std::alloc::{AllocError, Allocator, Global};
+use std::alloc::{Allocator, Global};
 use std::marker::Model;
 use std::sync::ledger;
 use std::sync::ledger::{Blank, Share};
@@ -26,13 +27,7 @@ pub struct Book<L: Naming, A: Allocator = Global> {
 }
 
 impl<L: Naming, A: Allocator> Model for Book<L, A> {
-    ghost use Rattle.std.specs.Prelude.{◌≡◌, ◌≤◌, ◌+◌, length};
-    ghost use Rattle.ocp_seats.specs.Seats.{BookContents};
-    ghost use Rattle.ocp_seats.specs.Going.{GoesOn};
-
     ghost Value = { BookContents };
-
-    ghost use Rattle.ocp_seats.specs.Mirror.Codes.{book_code};
 
     ghost coded = { book_code };
 
@@ -87,7 +82,9 @@ impl<L: Naming, A: Allocator> Book<L, A> {
             return Err(SeatFault::SeatsFull);
         }
         let room = self.engine.journal().capacity() as usize - self.start;
-        let receipts = Vec::with_capacity(alloc, room)?;
+        let Ok(receipts) = Vec::with_capacity(alloc, room) else {
+            return Err(SeatFault::Memory);
+        };
         self.seats += 1;
         let share = self.rest.split_off(1, 0);
         Ok(Seat {
@@ -109,8 +106,10 @@ impl<L: Naming, A: Allocator> Book<L, A> {
         let Some(id) = self.engine.next_running(self.taken) else {
             return Err(TakeFault::NoneRunning);
         };
-        let Some(ticket) = self.engine.ticket(alloc, id)? else {
-            unreachable!()
+        let ticket = match self.engine.ticket(alloc, id) {
+            Ok(Some(ticket)) => ticket,
+            Ok(None) => unreachable!(),
+            Err(_) => return Err(TakeFault::Memory),
         };
         self.taken = Some(id);
         Ok(ticket)
@@ -128,12 +127,10 @@ impl<L: Naming, A: Allocator> Book<L, A> {
             return Err(TakeFault::NoneRunning);
         };
         if !self.engine.ticket_into(next, ticket) {
-            let Some(other) = self.engine.ticket(alloc, next)? else {
-                unreachable!()
-            };
-            *ticket = other;
+            *ticket = self.take(alloc)?;
+            return Ok(());
         }
-        self.taken = Some(ticket.id());
+        self.taken = Some(next);
         Ok(())
     }
 
@@ -164,15 +161,7 @@ impl<L: Naming, A: Allocator> Book<L, A> {
     pub fn into_engine(self) -> Engine<A>
         ensures { result ≡ self.engine }
     {
-        let Book {
-            engine,
-            start: _,
-            seats: _,
-            taken: _,
-            tally: _,
-            rest: _,
-        } = self;
-        engine
+        self.engine
     }
 }
 
@@ -181,14 +170,4 @@ impl<L: Naming, A: Allocator> Book<L, A> {
 pub enum TakeFault {
     NoneRunning,
     Memory,
-}
-
-impl From<AllocError> for TakeFault {
-    ghost use Rattle.ocp_seats.specs.declared.book.TakeFault.TheVariants.{Memory};
-
-    ghost from_gives = { λ _ r. r ≡ Memory };
-
-    fn from(_error: AllocError) -> Self {
-        TakeFault::Memory
-    }
 }

@@ -3,13 +3,9 @@
 ghost use Rattle.std.specs.Prelude.{◌≡◌, ◌≤◌};
 ghost use Rattle.ocp_debug.specs.declared.command.Command.TheVariants as command;
 ghost use Rattle.ocp_world.specs.World as world;
-ghost use Rattle.ocp_world.specs.After.{Requested, Stepped, Commanded};
-ghost use Rattle.ocp_core.specs.Slice.{slice_in, slice_log};
-ghost use Rattle.ocp_core.specs.Commits.{Commits, work_after};
-ghost use Rattle.ocp_seats.specs.Receipts.{slice_entries, commit_entries};
-ghost use Rattle.ocp_seats.specs.Seats.{GrowsBy, Gains, Serves};
+ghost use Rattle.ocp_core.specs.Clauses.{Commanded, Requested, Stepped, work_after};
+ghost use Rattle.ocp_seats.specs.Seats.{Serves, ServesSlice, ServesWork};
 
-use crate::gains::{apply, commit, slice};
 use crate::input::{DebuggerCommand, Drain, Request, Step};
 use crate::{
     Book, Command, CommitOutcome, DebugFault, EngineFault, Entry, Input, Naming, Reports, Seat,
@@ -25,7 +21,7 @@ impl<L: Naming, A: Allocator> Book<L, A> {
         ensures served { Serves self.old self.new seat.old seat.new
             (I.event seat.old.number input) (I.answer result) }
     {
-        let (answer, entry) = apply(&mut self.engine, seat.number, input);
+        let (answer, entry) = self.engine.apply(seat.number, input);
         if let Some(entry) = entry {
             seat.gain(&mut self.tally, &self.engine, entry);
         }
@@ -82,15 +78,10 @@ impl<L: Naming, A: Allocator> Book<L, A> {
     #[tactic(auto, using(crate::proofs::Going::goes_on_further))]
     pub fn slice(&mut self, seat: &mut Seat<L, A>, id: u16, budget: u32) -> Slice
         requires { 1 ≤ budget }
-        ensures within { result.count ≤ budget }
-        ensures slice { result ≡ slice_in self.old.engine seat.old.number id budget }
-        ensures journal { self.new.engine ≡
-            slice_log self.old.engine seat.old.number id budget }
-        ensures book { GrowsBy self.old self.new (slice_entries seat.old.number id result) }
-        ensures seat { Gains seat.old seat.new (slice_entries seat.old.number id result) }
+        ensures served { ServesSlice self.old self.new seat.old seat.new id budget result }
     {
         let by = seat.number;
-        let slice = slice(&mut self.engine, by, id, budget);
+        let slice = self.engine.slice(by, id, budget);
         if slice.count != 0 {
             let entry = Entry::Steps {
                 by,
@@ -104,28 +95,21 @@ impl<L: Naming, A: Allocator> Book<L, A> {
     }
 
     /// `Engine::commit` with the seat's number.
-    pub fn commit(&mut self, seat: &mut Seat<L, A>, work: Work<A>) -> CommitOutcome
-        ensures engine { Commits self.old.engine self.new.engine seat.old.number work result }
-        ensures book { GrowsBy self.old self.new (commit_entries seat.old.number work.id result) }
-        ensures seat { Gains seat.old seat.new (commit_entries seat.old.number work.id result) }
+    pub fn commit(&mut self, seat: &mut Seat<L, A>, mut work: Work<A>) -> CommitOutcome
+        ensures served { ServesWork self.old self.new seat.old seat.new work result }
     {
-        let mut work = work;
         self.hand_in(seat, &mut work)
     }
 
     /// `Engine::hand_in` with the seat's number.
     #[tactic(auto, using(crate::proofs::Going::goes_on_further))]
     pub fn hand_in(&mut self, seat: &mut Seat<L, A>, work: &mut Work<A>) -> CommitOutcome
-        ensures engine { Commits self.old.engine self.new.engine seat.old.number work.old result }
+        ensures served { ServesWork self.old self.new seat.old seat.new work.old result }
         ensures work { work.new ≡ work_after work.old result }
-        ensures book { GrowsBy self.old self.new
-            (commit_entries seat.old.number work.old.id result) }
-        ensures seat { Gains seat.old seat.new
-            (commit_entries seat.old.number work.old.id result) }
     {
         let by = seat.number;
         let id = work.id();
-        let outcome = commit(&mut self.engine, by, work);
+        let outcome = self.engine.hand_in(by, work);
         if let CommitOutcome::Committed(count) = outcome {
             let entry = Entry::Steps {
                 by,

@@ -1,8 +1,7 @@
 //! The end of a book: whether all seats are back, and their receipts are the journal.
 
 ghost use Rattle.std.specs.Prelude.{◌≡◌, ◌≢◌, ◌≤◌, ◌<◌, ◌==◌, ◌↔◌, ℕ, All, IfErr, IfNone, IfOk, IfSome, IsTrue, MatchOption, count_by, drop, length, map, slice_index, slice_index_or};
-ghost use Rattle.ocp_core.specs.Marks.{entries_with_marks};
-ghost use Rattle.ocp_core.specs.Journal.{entry_with_mark};
+ghost use Rattle.ocp_core.specs.Clauses.{entries_with_marks, entry_with_mark};
 ghost use Rattle.ocp_seats.specs.Going.{GoesOn};
 ghost use Rattle.ocp_seats.specs.Closing.{IsWhole, IsReceipted, RefusesClose};
 ghost use Rattle.ocp_seats.specs.History.{IsHistory};

@@ -5,7 +5,6 @@
 mod book;
 mod calls;
 mod close;
-mod gains;
 mod seat;
 
 pub use book::{Book, TakeFault};

@@ -1,10 +1,13 @@
 //! Seats.
 
-ghost use Rattle.std.specs.Prelude.{◌≡◌, ◌↔◌, ◌<◌, ◌+◌, ◌^◌, [], ◌∷◌, ℕ, IsTrue, Some, length, map, slice_get};
-ghost use Rattle.ocp_seats.specs.Seats.{Gains};
+ghost use Rattle.std.specs.Prelude.{◌≡◌, ◌↔◌, ◌<◌, ◌≤◌, ◌+◌, ◌^◌, [], ◌∷◌, ℕ, IsTrue, Some, length, map, slice_get, vec_capacity, vec_len};
+ghost use Rattle.ocp_core.specs.Clauses.{Log, empty_log, entry_with_mark};
+ghost use Rattle.ocp_seats.specs.Seats.{Gains, SeatContents};
+ghost use Rattle.ocp_profile.specs.declared.profile.Profile.TheVariants.{One};
+ghost use Rattle.ocp_seats.specs.Mirror.Codes.{seat_code};
 
 use ocp_core::{Engine, Entry};
-use std::alloc::{AllocError, Allocator, Global};
+use std::alloc::{Allocator, Global};
 use std::marker::{Brand, Model};
 use std::sync::ledger::{Book, Ledger, Share};
 
@@ -14,17 +17,12 @@ pub const MAX_SEATS: u16 = 64;
 /// Which shared engine it is: how many entries it has room for after its start, and its journal at
 /// the start.
 pub trait Naming: Ledger {
-    ghost use Rattle.ocp_core.specs.Log.{Log};
-
     ghost room: { ℕ };
 
     ghost log: { Log };
 }
 
 impl Naming for Brand {
-    ghost use Rattle.ocp_profile.specs.declared.profile.Profile.TheVariants.{One};
-    ghost use Rattle.ocp_core.specs.Log.{empty_log};
-
     ghost room = { 0 };
 
     ghost log = { empty_log One 0 0 0 };
@@ -40,13 +38,7 @@ pub struct Seat<L: Naming, A: Allocator = Global> {
 }
 
 impl<L: Naming, A: Allocator> Model for Seat<L, A> {
-    ghost use Rattle.std.specs.Prelude.{◌≡◌, ◌≤◌, length, map, vec_len, vec_capacity};
-    ghost use Rattle.ocp_core.specs.Journal.{entry_with_mark};
-    ghost use Rattle.ocp_seats.specs.Seats.{SeatContents};
-
     ghost Value = { SeatContents };
-
-    ghost use Rattle.ocp_seats.specs.Mirror.Codes.{seat_code};
 
     ghost coded = { seat_code };
 
@@ -61,8 +53,6 @@ impl<L: Naming, A: Allocator> Model for Seat<L, A> {
 }
 
 impl<L: Naming, A: Allocator> Seat<L, A> {
-    ghost use Rattle.ocp_core.specs.Journal.{entry_with_mark};
-
     /// 1, 2 and so on, in the order in which seats are handed out.
     pub fn number(&self) -> u16
         ensures { result ≡ self.now.number }
@@ -112,14 +102,4 @@ pub enum SeatFault {
     /// All are handed out.
     SeatsFull,
     Memory,
-}
-
-impl From<AllocError> for SeatFault {
-    ghost use Rattle.ocp_seats.specs.declared.seat.SeatFault.TheVariants.{Memory};
-
-    ghost from_gives = { λ _ r. r ≡ Memory };
-
-    fn from(_error: AllocError) -> Self {
-        SeatFault::Memory
-    }
 }

@@ -7,7 +7,7 @@ use Rattle.ocp_table.specs.declared.answers.StepOutcome.TheVariants as S
 use Rattle.ocp_world.specs.After.{is_accepted, is_done}
 use Rattle.ocp_core.specs.Marks.{MarkedEntry}
 use Rattle.ocp_seats.specs.Seats.{SeatContents, Gains}
-use Rattle.ocp_seats.specs.Receipts.{count_entries, step_entries}
+use Rattle.ocp_core.specs.Receipts.{count_entries, step_entries}
 use Rattle.ocp_slices.specs.declared.turn.Turn.{Turn}
 use Rattle.ocp_slices.specs.declared.turn.Turn.TheVariants.{Idle, Committed, Stepped, Stale, Full, NoMemory}
 use Rattle.ocp_slices.specs.Continuing.{IsShift, Continues}

@@ -4,4 +4,3 @@ pub mod Instructing
 pub mod Outcomes
 pub mod Turning
 pub mod Working
-pub mod Refusing

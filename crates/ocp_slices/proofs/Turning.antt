@@ -12,7 +12,7 @@ use Rattle.ocp_table.specs.Snapshots.{count_of}
 use Rattle.ocp_seats.specs.declared.book.TakeFault.{TakeFault}
 use Rattle.ocp_seats.specs.declared.book.TakeFault.TheVariants as T
 use Rattle.ocp_seats.specs.Seats.{SeatContents, Gains}
-use Rattle.ocp_seats.specs.Receipts.{step_entries, commit_entries}
+use Rattle.ocp_core.specs.Receipts.{step_entries, commit_entries}
 use Rattle.ocp_slices.specs.declared.turn.Turn.{Turn}
 use Rattle.ocp_slices.specs.declared.turn.Turn.TheVariants.{Committed, Stepped, Stale, Full}
 use Rattle.ocp_slices.specs.Replies.{Reply, TakeReply, CommitReply, StepReply}

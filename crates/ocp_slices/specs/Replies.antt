@@ -1,16 +1,15 @@
 -- What is asked of a board, with its answer.
-use Rattle.std.specs.Prelude.{◌≡◌, ◌↔◌, ℕ, Result}
+use Rattle.std.specs.Prelude.{◌≡◌, ◌≤◌, ◌↔◌, ℕ, Result}
 use Rattle.ocp_table.specs.declared.answers.StepOutcome.{StepOutcome}
 use Rattle.ocp_table.specs.declared.answers.Slice.{Slice}
 use Rattle.ocp_world.specs.World.{Event, Step}
 use Rattle.ocp_world.specs.After.{Answer, Stepped}
 use Rattle.ocp_core.specs.declared.answers.CommitOutcome.{CommitOutcome}
 use Rattle.ocp_core.specs.declared.answers.CommitOutcome.TheVariants.{Empty, Committed}
-use Rattle.ocp_core.specs.Receipts.{event_entries}
+use Rattle.ocp_core.specs.Receipts.{event_entries, slice_entries, commit_entries}
 use Rattle.ocp_core.specs.Tickets.{TicketContents, WorkContents}
 use Rattle.ocp_seats.specs.declared.book.TakeFault.{TakeFault}
 use Rattle.ocp_seats.specs.declared.seat.SeatFault.{SeatFault}
-use Rattle.ocp_seats.specs.Receipts.{commit_entries}
 use Rattle.ocp_seats.specs.Seats.{SeatContents, Gains}
 
 -- a seat, or why none; a ticket, or why none; and, each with the number of the seat that asked: the
@@ -31,6 +30,14 @@ pub record IsServed (answers : Reply → Type 0) (old new : SeatContents) (e : E
     (answer : Answer) : Type 0 where
   pub given : answers (EventReply e answer)
   pub gains : Gains old new (event_entries e answer)
+
+-- The board answered a seat's slice of a procedure so, within its budget, and the seat gained its
+-- entry, or none where it did nothing.
+pub record IsSliced (answers : Reply → Type 0) (old new : SeatContents) (id budget : ℕ)
+    (slice : Slice) : Type 0 where
+  pub given : answers (SliceReply old.number id budget slice)
+  pub within : slice.count ≤ budget
+  pub gains : Gains old new (slice_entries old.number id slice)
 
 -- The board answered a seat that handed in a work so, and the seat gained the entry of a committed
 -- one. The outcome is Empty just where the work has no instructions; where it is Committed, all of

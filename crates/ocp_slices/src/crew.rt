@@ -4,6 +4,8 @@ ghost use Rattle.std.specs.Prelude.{◌≡◌, ◌≤◌, ◌+◌, [], All, leng
 ghost use Rattle.ocp_slices.specs.Closed.{HasWorked};
 ghost use Rattle.ocp_slices.specs.Continuing.{AllContinue};
 ghost use Rattle.ocp_slices.specs.Instructing.{IsInstructed};
+ghost use Rattle.ocp_slices.specs.declared.crew.WorkFault.TheVariants.{Memory};
+ghost use Rattle.ocp_slices.specs.WorkFaults.{fault_of_seat};
 
 use crate::laws::workers_do_instructions_of_running_procedures;
 use crate::{Board, Engine, Gate, MAX_SEATS, Naming, Seat, SeatFault, SharedEngine};
@@ -136,9 +138,6 @@ pub enum WorkFault {
 }
 
 impl From<AllocError> for WorkFault {
-    ghost use Rattle.std.specs.Prelude.{◌≡◌};
-    ghost use Rattle.ocp_slices.specs.declared.crew.WorkFault.TheVariants.{Memory};
-
     ghost from_gives = { λ _ r. r ≡ Memory };
 
     fn from(_error: AllocError) -> Self {
@@ -147,9 +146,6 @@ impl From<AllocError> for WorkFault {
 }
 
 impl From<SeatFault> for WorkFault {
-    ghost use Rattle.std.specs.Prelude.{◌≡◌};
-    ghost use Rattle.ocp_slices.specs.WorkFaults.{fault_of_seat};
-
     ghost from_gives = { λ fault r. r ≡ fault_of_seat fault };
 
     fn from(fault: SeatFault) -> Self {

@@ -3,11 +3,8 @@
 ghost use Rattle.std.specs.Prelude.{◌≡◌, ◌≤◌, ◌+◌, [], Ok, Err, length, IfOk, IfErr, OnOk};
 ghost use Rattle.ocp_debug.specs.declared.command.Command.TheVariants as command;
 ghost use Rattle.ocp_world.specs.World as world;
-ghost use Rattle.ocp_world.specs.After.{Requested, Stepped, Commanded};
-ghost use Rattle.ocp_core.specs.Commits.{work_after};
-ghost use Rattle.ocp_seats.specs.Receipts.{slice_entries};
-ghost use Rattle.ocp_seats.specs.Seats.{Gains};
-ghost use Rattle.ocp_slices.specs.Replies.{SeatReply, TakeReply, SliceReply, IsServed, IsHandedIn};
+ghost use Rattle.ocp_core.specs.Clauses.{Commanded, Requested, Stepped, work_after};
+ghost use Rattle.ocp_slices.specs.Replies.{SeatReply, TakeReply, IsServed, IsSliced, IsHandedIn};
 
 use crate::input::{DebuggerCommand, Drain, Request, Step};
 use crate::{
@@ -75,8 +72,7 @@ impl<L: Naming, B: Board<L>> SharedEngine<L, B> {
 
     /// The board, once no thread shares it.
     pub fn into_inner(self) -> B {
-        let SharedEngine { board, of: _ } = self;
-        board.into_inner()
+        self.board.into_inner()
     }
 
     /// The next seat, with a number of 1 to 64 and no receipts. Refused, in this order, where 64
@@ -116,8 +112,8 @@ impl<L: Naming, B: Board<L>> SharedEngine<L, B> {
     /// As `commit`, with a work that stays, so that no memory is given back under the lock, and no
     /// machine is copied.
     pub fn hand_in<R: Wait>(&self, rt: &R, seat: &mut Seat<L>, work: &mut Work) -> CommitOutcome
+        ensures handed_in { IsHandedIn B.answers seat.old seat.new work.old result }
         ensures work { work.new ≡ work_after work.old result }
-        ensures seat { IsHandedIn B.answers seat.old seat.new work.old result }
     {
         self.lock(rt).hand_in(seat, work)
     }
@@ -126,7 +122,7 @@ impl<L: Naming, B: Board<L>> SharedEngine<L, B> {
     /// where the procedure is not what the work began with, and where the journal is full; the work
     /// is dropped then.
     pub fn commit<R: Wait>(&self, rt: &R, seat: &mut Seat<L>, work: Work) -> CommitOutcome
-        ensures seat { IsHandedIn B.answers seat.old seat.new work result }
+        ensures handed_in { IsHandedIn B.answers seat.old seat.new work result }
     {
         self.lock(rt).commit(seat, work)
     }
@@ -180,9 +176,7 @@ impl<L: Naming, B: Board<L>> SharedEngine<L, B> {
     /// number.
     pub fn slice<R: Wait>(&self, rt: &R, seat: &mut Seat<L>, id: u16, budget: u32) -> Slice
         requires { 1 ≤ budget }
-        ensures given { B.answers (SliceReply seat.old.number id budget result) }
-        ensures within { result.count ≤ budget }
-        ensures seat { Gains seat.old seat.new (slice_entries seat.old.number id result) }
+        ensures sliced { IsSliced B.answers seat.old seat.new id budget result }
     {
         self.lock(rt).slice(seat, id, budget)
     }

@@ -70,12 +70,12 @@ leads-on id n k s t u a b c first more = record {
 
 -- ---- one instruction that the machine does by itself
 
-get-put : (m : Records) (id : ℕ) (r : Rec) → map.get (map.insert m id r) id ≡ Some r
+pub get-put : (m : Records) (id : ℕ) (r : Rec) → map.get (map.insert m id r) id ≡ Some r
 get-put m id r =
     let same : eq_by_cmp nat_cmp id id ≡ true = unsigned_tied id id ∙ grind (arith, nat_tests) in
     map.get-insert nat_cmp_total m id r id ∙ ap (λ b. cond b (Some r) (map.get m id)) same
 
-put-put : (m : Records) (id : ℕ) (r t : Rec) → map.insert (map.insert m id r) id t ≡ map.insert m id t
+pub put-put : (m : Records) (id : ℕ) (r t : Rec) → map.insert (map.insert m id r) id t ≡ map.insert m id t
 put-put m id r t = map.same_map nat_cmp_total map.nat_cmp-IsAntisymmetric _ _ (λ q.
     map.get-insert nat_cmp_total (map.insert m id r) id t q
     ∙ ap (λ o. cond (eq_by_cmp nat_cmp q id) (Some t) o) (map.get-insert nat_cmp_total m id r q)

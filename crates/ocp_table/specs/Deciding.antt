@@ -1,6 +1,6 @@
 -- What effect a directive has, by the request table, the record of its procedure, and whether the
 -- table is full.
-use Rattle.std.specs.Prelude.{ℕ, Bool, true, false, if◌then◌else◌, List, length, Option, Some, None, Result, Ok, Err, nat_le}
+use Rattle.std.specs.Prelude.{◌≡◌, ℕ, Bool, true, false, if◌then◌else◌, List, length, Option, Some, None, Result, Ok, Err, nat_le}
 use Rattle.std.specs.FinMap.{get, len}
 use Rattle.bpf_types.specs.declared.line.Line.{Line}
 use Rattle.obcp_types.specs.declared.status.Status.{Status}
@@ -23,10 +23,11 @@ use Rattle.ocp_table.specs.declared.control.Pending.{Pending}
 use Rattle.ocp_table.specs.declared.control.Pending.TheVariants as pending
 use Rattle.ocp_table.specs.declared.answers.InstructionOutcome.{InstructionOutcome}
 use Rattle.ocp_table.specs.declared.answers.InstructionOutcome.TheVariants.{Broke, Ran, Called, Ended, Faulted}
+use Rattle.ocp_table.specs.declared.answers.StepOutcome.{StepOutcome}
 use Rattle.ocp_table.specs.Records.{Rec, Records, Procedures}
 use Rattle.ocp_table.specs.Budgets.{is_spent}
-use Rattle.ocp_table.specs.Effects.{Effect, Loaded, Unloaded, Changed, Kept, Stepped, Failed, start_result, table_by}
-use Rattle.ocp_table.specs.RequestTable.{Directive, Decision, Loads, Unloads, Changes, Steps, Fails, transition}
+use Rattle.ocp_table.specs.Effects.{Effect, Loaded, Unloaded, Changed, Kept, Stepped, Failed, start_result, step_outcome, table_by, pool_by}
+use Rattle.ocp_table.specs.RequestTable.{Directive, Step, Decision, Loads, Unloads, Changes, Steps, Fails, transition}
 
 -- ---- an image is loaded
 
@@ -124,3 +125,16 @@ table_after directive id t = table_by (effect_in directive id t.records) t
 -- what it is answered by a table
 abbrev pub answer_after : Directive → ℕ → Procedures → Result (Unit {0}) StartFailure
 answer_after directive id t = start_result (effect_in directive id t.records)
+
+-- it is done to a table, or it fails
+pub record Executes (directive : Directive) (id : ℕ) (old new : Procedures)
+    (result : Result (Unit {0}) StartFailure) : Type 0 where
+  pub answer : result ≡ answer_after directive id old
+  pub table : new ≡ table_after directive id old
+
+-- an instruction event is done in a table and with this pool, or it fails
+pub record ExecutesStep (id : ℕ) (old new : Procedures) (pool left : List ℕ)
+    (outcome : StepOutcome) : Type 0 where
+  pub answer : outcome ≡ step_outcome (effect_in (Step pool) id old.records)
+  pub table : new ≡ table_after (Step pool) id old
+  pub pool_after : left ≡ pool_by (effect_in (Step pool) id old.records) pool

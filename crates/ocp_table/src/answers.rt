@@ -73,7 +73,7 @@ impl StepOutcome {
 
     /// Whether a slice goes on after it, as long as the procedure runs.
     #[inline(always)]
-    pub(crate) fn is_on(self) -> bool
+    pub fn is_on(self) -> bool
         ensures { result ≡ is_on self }
     {
         matches!(self, StepOutcome::Ran | StepOutcome::Called)

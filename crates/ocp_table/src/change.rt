@@ -1,13 +1,13 @@
 //! The request table: what a request does to the record of its procedure, or why it fails; and how
 //! that is enacted.
-ghost use Rattle.std.specs.Prelude.{◌≡◌, ◌≤◌, ◌+◌, ◌++◌, false, Some, IfOk, length};
-ghost use Rattle.ocp_table.specs.Outbox.{places_of};
+ghost use Rattle.std.specs.Prelude.{◌≡◌, ◌++◌, false, Some, IfOk};
+ghost use Rattle.ocp_table.specs.Outbox.{HasPlaceBeside};
 ghost use Rattle.ocp_table.specs.Effects.{record_by, dues_by_change};
 ghost use Rattle.ocp_table.specs.Deciding.{decision_on};
 ghost use Rattle.ocp_table.specs.Shown.{record_of, directive_of, change_of, decision_of, HasFewArguments, FitsIn, HasPlaceFor};
 
-use crate::outbox::Outbox;
-use crate::{Cause, Control, Directive, OUTBOX_PLACES, Pending, Place, Record};
+use crate::outbox::{Outbox, overtake};
+use crate::{Cause, Control, Directive, Pending, Place, Record};
 use obcp_types::{StartFailure, Status};
 use std::alloc::Allocator;
 
@@ -95,16 +95,16 @@ impl<A: Allocator> Record<A> {
     /// Enacts what was decided. What it overtakes goes to the outbox.
     pub(crate) fn enact(&mut self, change: Change<'_>, outbox: &mut Outbox)
         requires fits { FitsIn (change_of change) (Some (record_of self.old)) }
-        requires place { length outbox.old + places_of self.old.control.pending ≤ OUTBOX_PLACES }
+        requires place { HasPlaceBeside outbox.old.items self.old.control.pending }
         ensures record { record_of self.new
             ≡ record_by (change_of change.entry) (record_of self.old) }
-        ensures outbox { outbox.new ≡ outbox.old
+        ensures outbox { outbox.new.items ≡ outbox.old.items
             ++ dues_by_change (change_of change.entry) self.old.control.pending }
         ensures id { self.new.id ≡ self.old.id }
     {
         match change {
             Change::Started { budget, arguments } => {
-                outbox.overtake(self.control.pending);
+                overtake(outbox, self.control.pending);
                 self.execution.start(arguments);
                 self.mailbox.clear();
                 self.control = Control {
@@ -117,11 +117,11 @@ impl<A: Allocator> Record<A> {
             }
             Change::Sent(words) => self.mailbox.append(words),
             Change::Pended(pending) => {
-                outbox.overtake(self.control.pending);
+                overtake(outbox, self.control.pending);
                 self.control.pending = pending;
             }
             Change::Quit(cause) => {
-                outbox.overtake(self.control.pending);
+                overtake(outbox, self.control.pending);
                 self.control = Control::inactive(cause);
             }
             Change::Resumed => {

@@ -108,7 +108,8 @@ impl<A: Allocator> Execution<A> {
 
     /// Whether the images and the machines are the same.
     pub(crate) fn is_same(&self, other: &Execution<A>) -> bool
-        ensures { IsTrue result ↔ (self.now ≡ other.now) }
+        ensures same { IsTrue result ↔ (self.now ≡ other.now) }
+        ensures stands { StandsIn self.now.image self.now.machine }
     {
         self.machine.is_same(&other.machine) && self.program.is_same(&other.program)
     }
@@ -150,15 +151,6 @@ impl<A: Allocator> Execution<A> {
         ensures machine { self.new.machine ≡ machine_at_restart arguments.now self.old.machine }
     {
         self.machine.start(arguments);
-    }
-
-    /// The machine and its saved places stand at instructions of the program. The function does
-    /// nothing when it runs.
-    #[inline(always)]
-    pub(crate) fn stands(&self)
-        ensures { StandsIn self.now.image self.now.machine }
-    {
-        let _machine = &self.machine;
     }
 
     /// There is an instruction to do. The function does nothing when it runs.

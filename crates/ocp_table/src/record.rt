@@ -1,12 +1,9 @@
 //! A procedure under its identifier.
 use crate::budget::less;
-use crate::outbox::Outbox;
-use crate::{
-    Cause, Control, Directive, Execution, InstructionOutcome, OUTBOX_PLACES, Pending,
-    ProcedureFault, View,
-};
+use crate::outbox::{Outbox, file};
+use crate::{Control, Execution, InstructionOutcome, ProcedureFault};
 use arrayvec::ArrayVec;
-use bpf_step::{Machine, breaks_at};
+use bpf_step::breaks_at;
 use ocp_pool::{Mailbox, Pool};
 use std::alloc::Allocator;
 
@@ -27,11 +24,12 @@ pub struct Record<A: Allocator> {
 }
 
 impl<A: Allocator> Record<A> {
-    ghost use Rattle.std.specs.Prelude.{◌≡◌, ◌≤◌, ◌+◌, ◌++◌, Some, length, false};
+    ghost use Rattle.std.specs.Prelude.{◌≡◌, ◌++◌, Some};
+    ghost use Rattle.bpf_step.specs.Runs.{breaks_at};
     ghost use Rattle.ocp_table.specs.Effects.{Stepped, record_by, dues_by_outcome, pool_by_outcome, machine_by_outcome, mailbox_by_outcome, remaining_by_outcome};
     ghost use Rattle.ocp_table.specs.Deciding.{outcome_in, outcome_unheld};
     ghost use Rattle.ocp_table.specs.Shown.{record_of};
-    ghost use Rattle.ocp_table.specs.Outbox.{places_of};
+    ghost use Rattle.ocp_table.specs.Outbox.{HasPlaceBeside};
 
     /// The instruction event of a running procedure. What it completes or overtakes goes to the
     /// outbox.
@@ -41,10 +39,10 @@ impl<A: Allocator> Record<A> {
         pool: &mut Pool<A>,
         outbox: &mut Outbox,
     ) -> InstructionOutcome
-        requires { length outbox.old + places_of self.old.control.pending ≤ OUTBOX_PLACES }
+        requires { HasPlaceBeside outbox.old.items self.old.control.pending }
         ensures outcome { outcome_in (record_of self.old) pool.old ≡ Some result }
         ensures record { record_of self.new ≡ record_by (Stepped result) (record_of self.old) }
-        ensures outbox { outbox.new ≡ outbox.old
+        ensures outbox { outbox.new.items ≡ outbox.old.items
             ++ dues_by_outcome result self.old.control.pending }
         ensures pool { pool.new ≡ pool_by_outcome result pool.old }
         ensures id { self.new.id ≡ self.old.id }
@@ -55,7 +53,7 @@ impl<A: Allocator> Record<A> {
         } else {
             self.execute(pool)
         };
-        outbox.file(&self.control.pending, outcome);
+        file(outbox, &self.control.pending, outcome);
         self.control.follow(outcome);
         outcome
     }
@@ -87,23 +85,4 @@ impl<A: Allocator> Record<A> {
         }
         outcome
     }
-
-    /// Takes a machine that did so many instructions apart and gives its own for it: the pass flag
-    /// goes off, and they are taken from the budget.
-    pub(crate) fn settle(&mut self, count: u32, machine: &mut Machine<A>)
-        requires stands { StandsIn self.old.execution.image machine.old }
-        ensures record { record_of self.new ≡
-            record_after_work count machine.old (record_of self.old) }
-        ensures given { machine.new ≡ self.old.execution.machine }
-        ensures id { self.new.id ≡ self.old.id }
-    {
-        self.execution.settle(machine);
-        self.control.pass = false;
-        self.remaining = less(count, self.remaining);
-    }
 }
-
-ghost use Rattle.std.specs.Prelude.{◌≡◌};
-ghost use Rattle.bpf_step.specs.Runs.{breaks_at};
-ghost use Rattle.ocp_table.specs.Snapshots.{record_after_work};
-ghost use Rattle.bpf_step.specs.Step.{StandsIn};

@@ -1,5 +1,5 @@
 //! A slice of a procedure that is found once.
-ghost use Rattle.std.specs.Prelude.{◌≡◌, ◌≤◌, ◌+◌, ◌++◌, length, Some, if◌then◌else◌, true, false};
+ghost use Rattle.std.specs.Prelude.{◌≡◌, ◌≤◌, ◌+◌, ◌++◌, Some, if◌then◌else◌, true, false};
 ghost use Rattle.std.specs.FinMap.{get};
 ghost use Rattle.obcp_types.specs.declared.status.Status.TheVariants.{Running};
 ghost use Rattle.bpf_step.specs.Runs.{local_run};
@@ -7,13 +7,13 @@ ghost use Rattle.ocp_table.specs.Budgets.{IsWithin};
 ghost use Rattle.ocp_table.specs.Records.{Records};
 ghost use Rattle.ocp_table.specs.Effects.{record_after, pool_by, step_outcome};
 ghost use Rattle.ocp_table.specs.RequestTable.{Step};
-ghost use Rattle.ocp_table.specs.Outbox.{places_of};
+ghost use Rattle.ocp_table.specs.Outbox.{HasPlaceBeside};
 ghost use Rattle.ocp_table.specs.Shown.{record_of, effect_of_record, dues_of_effect};
 ghost use Rattle.ocp_table.specs.Slices.{is_on, is_done, is_running_status, with_machine, IsSlice};
 
 use crate::budget::{less, within};
 use crate::outbox::Outbox;
-use crate::{OUTBOX_PLACES, Pool, Record, Slice, Status, StepOutcome};
+use crate::{Pool, Record, Slice, Status, StepOutcome};
 use std::alloc::Allocator;
 
 impl<A: Allocator> Record<A> {
@@ -56,15 +56,15 @@ impl<A: Allocator> Record<A> {
     /// One instruction event.
     #[inline(never)]
     pub(crate) fn event(&mut self, pool: &mut Pool<A>, outbox: &mut Outbox) -> StepOutcome
-        requires { length outbox.old + places_of self.old.control.pending ≤ OUTBOX_PLACES }
+        requires { HasPlaceBeside outbox.old.items self.old.control.pending }
         ensures answer { result ≡ step_outcome (effect_of_record (Step pool.old) self.old) }
         ensures done { self.old.control.status ≡ Running → is_done result ≡ true }
         ensures record { record_of self.new ≡
             record_after (effect_of_record (Step pool.old) self.old) (record_of self.old) }
-        ensures outbox { outbox.new ≡ outbox.old
+        ensures outbox { outbox.new.items ≡ outbox.old.items
             ++ dues_of_effect (effect_of_record (Step pool.old) self.old)
             self.old.control.pending }
-        ensures place { length outbox.new + places_of self.new.control.pending ≤ OUTBOX_PLACES }
+        ensures place { HasPlaceBeside outbox.new.items self.new.control.pending }
         ensures pool { pool.new ≡ pool_by (effect_of_record (Step pool.old) self.old) pool.old }
         ensures id { self.new.id ≡ self.old.id }
     {
@@ -87,14 +87,14 @@ impl<A: Allocator> Record<A> {
     /// engine is done in stretches, and what does as an event.
     pub(crate) fn slice(&mut self, pool: &mut Pool<A>, outbox: &mut Outbox, budget: u32) -> Slice
         requires budget { 1 ≤ budget }
-        requires place { length outbox.old + places_of self.old.control.pending ≤ OUTBOX_PLACES }
+        requires place { HasPlaceBeside outbox.old.items self.old.control.pending }
         ensures slice { (m : Records) → get m self.old.id ≡ Some (record_of self.old) →
             IsSlice self.old.id
-            (record { records = m; outbox = outbox.old; pool = pool.old })
-            budget result (record_of self.new) outbox.new pool.new }
+            (record { records = m; outbox = outbox.old.items; pool = pool.old })
+            budget result (record_of self.new) outbox.new.items pool.new }
         ensures done { is_running_status self.old.control.status ≡ true →
             is_done result.last ≡ true }
-        ensures place { length outbox.new + places_of self.new.control.pending ≤ OUTBOX_PLACES }
+        ensures place { HasPlaceBeside outbox.new.items self.new.control.pending }
         ensures id { self.new.id ≡ self.old.id }
     {
         if !self.is_running() {

@@ -90,7 +90,9 @@ impl<A: Allocator> Snapshot<A> {
 
     /// Whether the procedure still runs, and its parts are the same.
     pub(crate) fn is_at(&self, procedure: &Record<A>) -> bool
-        ensures { IsTrue result ↔ (snapshot_at (Some (record_of procedure.now)) ≡ Some self.now) }
+        ensures same { IsTrue result ↔
+            (snapshot_at (Some (record_of procedure.now)) ≡ Some self.now) }
+        ensures stands { IsTrue result → StandsIn self.now.image self.now.machine }
     {
         match procedure.control.status {
             Status::Running => {
@@ -111,14 +113,6 @@ impl<A: Allocator> Snapshot<A> {
         ensures { IfOk result (λ machine. machine ≡ self.now.machine) }
     {
         self.execution.machine(alloc)
-    }
-
-    /// The machine and its saved places stood at instructions of the program. The function does
-    /// nothing when it runs.
-    pub fn stands(&self)
-        ensures { StandsIn self.now.image self.now.machine }
-    {
-        self.execution.stands();
     }
 
     /// Makes a machine like the one that stood, and lets it do instructions that need no engine, at

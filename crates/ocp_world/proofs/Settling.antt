@@ -3,8 +3,6 @@ use Rattle.std.proofs.Common.{◌≡◌, ◌+◌, ◌-◌, ◌≤◌, length, �
 use Rattle.std.specs.Prelude.{◌==◌, ◌&&◌, option_and_then}
 use Rattle.std.proofs.lemmas.Bool.Decides.{nat_tests}
 use Rattle.std.proofs.lemmas.List.{append-nil}
-use Rattle.std.specs.Ordering.{nat_cmp, eq_by_cmp}
-use Rattle.std.specs.Cmp.{nat_cmp_total, unsigned_tied}
 use Rattle.std.specs.FinMap as map
 use Rattle.obcp_types.specs.declared.status.Status.{Status}
 use Rattle.obcp_types.specs.declared.status.Status.TheVariants.{Running}
@@ -14,7 +12,7 @@ use Rattle.bpf_step.specs.Runs.{next_of, breaks_at, local_next, local_run}
 use Rattle.ocp_table.specs.declared.answers.InstructionOutcome.TheVariants.{Broke, Ran, Faulted}
 use Rattle.ocp_table.specs.declared.fault.ProcedureFault.TheVariants.{BudgetSpent}
 use Rattle.ocp_table.specs.declared.answers.StepOutcome.TheVariants as S
-use Rattle.ocp_table.specs.Records.{Rec, Records}
+use Rattle.ocp_table.specs.Records.{Rec}
 use Rattle.ocp_table.specs.Effects.{Changed, Stepped, dues_of, without_pass, record_by, with_change, machine_after, records_with}
 use Rattle.ocp_table.specs.RequestTable as directive
 use Rattle.ocp_table.specs.Deciding.{outcome_of, outcome_unheld, outcome_in, effect_on, effect_in, effect_by, effect_of_step, is_full}
@@ -26,30 +24,11 @@ use Rattle.ocp_world.specs.Instructions.{instruction_effect}
 use Rattle.ocp_world.specs.Replay.{replay_from, answers}
 use Rattle.ocp_debug.specs.Traces.{traces_by_change, traces_if}
 use Rattle.ocp_world.specs.Settled.{world_after_work, RunsAlone}
+use Rattle.ocp_table.proofs.Budgets.{less-one, within-fewer}
+use Rattle.ocp_table.proofs.Slicing.{get-put, put-put}
 use Rattle.ocp_world.proofs.Replays.{steps-suc}
 
--- ---- maps
-
-get-put : (m : Records) (id : ℕ) (r : Rec) → map.get (map.insert m id r) id ≡ Some r
-get-put m id r =
-    let same : (id == id) ≡ true = grind (arith, nat_tests) in
-    map.get-insert nat_cmp_total m id r id ∙ ap (λ b. cond b (Some r) (map.get m id)) (unsigned_tied id id ∙ same)
-
-put-put : (m : Records) (id : ℕ) (r t : Rec) → map.insert (map.insert m id r) id t ≡ map.insert m id t
-put-put m id r t = map.same_map nat_cmp_total map.nat_cmp-IsAntisymmetric _ _ (λ q.
-    map.get-insert nat_cmp_total (map.insert m id r) id t q
-    ∙ ap (λ o. cond (eq_by_cmp nat_cmp q id) (Some t) o) (map.get-insert nat_cmp_total m id r q)
-    ∙ elim (eq_by_cmp nat_cmp q id) as (λ b. cond b (Some t) (cond b (Some r) (map.get m q)) ≡ cond b (Some t) (map.get m q)) [
-      | true ↦ refl
-      | false ↦ refl
-    ]
-    ∙ sym (map.get-insert nat_cmp_total m id t q))
-
 -- ---- the budget
-
-less-one : (o : Option ℕ) → one_less o ≡ less 1 o
-less-one None = refl
-less-one (Some left) = refl
 
 less-more : (n : ℕ) (o : Option ℕ) → less 1 (less (suc n) o) ≡ less (suc (suc n)) o
 less-more n None = refl
@@ -67,10 +46,6 @@ unspent_later n None within = refl
 unspent_later n (Some left) within =
     let rest : 1 ≤ left - suc n = omega (arith, within) in
     grind (arith, nat_tests, rest)
-
-within_before : (n : ℕ) (o : Option ℕ) → IsWithin o (suc n) → IsWithin o n
-within_before n None within = tt
-within_before n (Some left) within = omega (arith, within)
 
 -- ---- one instruction
 
@@ -122,7 +97,7 @@ stepped r next is = ap (λ o. record {
   breakpoints = r.breakpoints;
   traced = r.traced;
   remaining = one_less r.remaining;
-}) is ∙ (λ i. record (record_after_work 1 next r) { remaining = less-one r.remaining i })
+}) is ∙ (λ i. record (record_after_work 1 next r) { remaining = sym (less-one r.remaining) i })
 
 -- the procedure runs untraced, and its machine goes on by itself
 record GoesOn (w : World) (id : ℕ) (r : Rec) (next : State) : Type 0 where
@@ -211,7 +186,7 @@ module _ (w : World) (by id : ℕ) (r : Rec) (held : map.get w.records id ≡ So
   world_after_run (suc n) machine within is =
       let (before, so_far, last) = and_then (local_next r.image r.breakpoints (r.control.pass && (n == 0))) (run n) machine is in
       steps-suc w by id n
-      ∙ ap (λ v. (after v (Step by id)).world) (world_after_run n before (within_before n r.remaining within) so_far)
+      ∙ ap (λ v. (after v (Step by id)).world) (world_after_run n before (within-fewer r.remaining n (suc n) (omega arith) within) so_far)
       ∙ one_more (world_at n before) by id (record_at n before) machine (goes_on_at n before machine within so_far last)
       ∙ settled_at n before machine
 
@@ -228,9 +203,9 @@ module _ (w : World) (by id : ℕ) (r : Rec) (held : map.get w.records id ≡ So
   answers_of_run (suc n) machine within is =
       let (before, so_far, last) = and_then (local_next r.image r.breakpoints (r.control.pass && (n == 0))) (run n) machine is in
       answers-suc w (Step by id) n
-      ∙ ap (λ xs. xs ++ (after (replay_from w (replicate n (Step by id))) (Step by id)).answer ∷ []) (answers_of_run n before (within_before n r.remaining within) so_far)
+      ∙ ap (λ xs. xs ++ (after (replay_from w (replicate n (Step by id))) (Step by id)).answer ∷ []) (answers_of_run n before (within-fewer r.remaining n (suc n) (omega arith) within) so_far)
       ∙ ap (λ a. replicate n (Answered S.Ran) ++ a ∷ [])
-      (ap (λ v. (after v (Step by id)).answer) (world_after_run n before (within_before n r.remaining within) so_far)
+      (ap (λ v. (after v (Step by id)).answer) (world_after_run n before (within-fewer r.remaining n (suc n) (omega arith) within) so_far)
       ∙ one_answer (world_at n before) by id (record_at n before) machine (goes_on_at n before machine within so_far last))
       ∙ replicate-suc (Answered S.Ran) n
 

@@ -1,7 +1,6 @@
 -- The one request that takes memory for what it does, beside that of its octets and its reports: a
 -- load that adds a record.
-use Rattle.std.specs.Prelude.{◌≡◌, ℕ, List, None, false, Result, Ok, Err}
-use Rattle.std.specs.FinMap.{get}
+use Rattle.std.specs.Prelude.{ℕ, List, Result, Ok, Err}
 use Rattle.ocp_profile.specs.declared.profile.Profile.{Profile}
 use Rattle.pus_fields.specs.declared.fault.TcFault.{TcFault}
 use Rattle.pus_fields.specs.Telecommand.{Telecommand}
@@ -9,17 +8,10 @@ use Rattle.pus_fields.specs.TelecommandFaults.{telecommand_of}
 use Rattle.obcp_types.specs.declared.failure.RequestFault.{RequestFault}
 use Rattle.obcp_messages.specs.declared.request.Request.{Request as Command}
 use Rattle.obcp_messages.specs.declared.request.Request.TheVariants as command
-use Rattle.ocp_loader.specs.Admitted.{HasSlots}
 use Rattle.ocp_table.specs.Records.{Records}
-use Rattle.ocp_table.specs.Deciding.{is_full}
+use Rattle.ocp_table.specs.Loading.{FindsPlace}
 use Rattle.ocp_world.specs.World.{World}
 use Rattle.ocp_world.specs.Requests.{command_of}
-
--- the id is free, the table has room, and the code is 1 to 2,048 whole slots
-pub record FindsPlace (m : Records) (id : ℕ) (code : List ℕ) : Type 0 where
-  pub free : get m id ≡ None
-  pub room : is_full m ≡ false
-  pub slots : HasSlots code
 
 abbrev pub IsLoadInto : Records → Command → Type 0
 IsLoadInto m (command.Load id code) = FindsPlace m id code

@@ -1,9 +1,9 @@
 //! A procedure that runs apart.
 
-ghost use Rattle.std.specs.Prelude.{◌≡◌, ◌↔◌, ℕ, IfOk, IsTrue, Some, false, replicate};
+ghost use Rattle.std.specs.Prelude.{◌≡◌, ℕ, IfOk, Some, replicate};
 ghost use Rattle.std.specs.FinMap.{get};
-ghost use Rattle.ocp_table.specs.Snapshots.{snapshot_at, machine_for, StandsAt};
-ghost use Rattle.bpf_step.specs.Machine.{State as Machined, HasAddressesOf};
+ghost use Rattle.ocp_table.specs.Snapshots.{machine_for, StandsAt};
+ghost use Rattle.bpf_step.specs.Machine.{State as Machined};
 ghost use Rattle.ocp_table.specs.Laws.{machine_of};
 ghost use Rattle.ocp_table.specs.Records.{Rec};
 ghost use Rattle.ocp_table.specs.declared.answers.StepOutcome.TheVariants as outcome;
@@ -14,42 +14,10 @@ ghost use Rattle.ocp_world.specs.Settled.{world_after_work, RunsAlone};
 
 use crate::State;
 use bpf_step::Machine;
-use ocp_table::Snapshot;
 use std::alloc::{AllocError, Allocator};
 
 impl<A: Allocator> State<A> {
     ghost use Rattle.ocp_world.specs.Mirror.State.{IsWorld};
-
-    /// What is taken of a procedure to run it apart, where it is loaded and runs.
-    pub fn snapshot(&self, alloc: A, id: u16) -> Result<Option<Snapshot<A>>, AllocError>
-    where
-        A: Copy,
-        ensures { (w : World) → IsWorld w self.now →
-            IfOk result (λ s. s ≡ snapshot_at (get w.records id)) }
-    {
-        self.table.snapshot(alloc, id)
-    }
-
-    /// The same in the memory of what was taken before: none is asked for. It is refused where the
-    /// procedure is not loaded or does not run, where its machine's memory has other addresses, and
-    /// where its program can't be shared once more; then nothing is changed.
-    pub fn snapshot_into(&self, id: u16, snapshot: &mut Snapshot<A>) -> bool
-        ensures taken { (w : World) → IsWorld w self.now →
-            IsTrue result → snapshot_at (get w.records id) ≡ Some snapshot.new }
-        ensures addresses { HasAddressesOf snapshot.old.machine snapshot.new.machine }
-        ensures kept { (result ≡ false) → snapshot.new ≡ snapshot.old }
-    {
-        self.table.snapshot_into(id, snapshot)
-    }
-
-    /// Whether a procedure is loaded and runs, and its parts are the same by value as when they
-    /// were taken.
-    pub fn is_at(&self, id: u16, snapshot: &Snapshot<A>) -> bool
-        ensures { (w : World) → IsWorld w self.now →
-            IsTrue result ↔ (snapshot_at (get w.records id) ≡ Some snapshot.now) }
-    {
-        self.table.is_at(id, snapshot)
-    }
 
     /// Gives a procedure a machine that did so many instructions apart, in exchange for its own.
     pub fn settle(&mut self, id: u16, count: u32, machine: &mut Machine<A>)

@@ -15,18 +15,6 @@ impl<A: Allocator> State<A> {
     ghost use Rattle.ocp_world.specs.Replay.{replay_from};
     ghost use Rattle.ocp_world.specs.Slice.{is_on, is_running, slice_count, slice_last};
 
-    // Whether a procedure runs: then its next instruction event is accepted.
-    fn is_running(&self, id: u16) -> bool
-        ensures runs { (w : World) → IsWorld w self.now → result ≡ is_running (get w.records id) }
-        ensures accepted { (w : World) (by : ℕ) → IsWorld w self.now → result ≡ true →
-            is_accepted (after w (Step by id)).answer ≡ true }
-    {
-        match self.table.step_failure(id) {
-            Some(_) => false,
-            None => true,
-        }
-    }
-
     // Whether a slice goes on after this outcome.
     fn goes_on(&self, id: u16, outcome: StepOutcome) -> bool
         ensures goes { (w : World) → IsWorld w self.now →
@@ -34,11 +22,7 @@ impl<A: Allocator> State<A> {
         ensures accepted { (w : World) (by : ℕ) → IsWorld w self.now → result ≡ true →
             is_accepted (after w (Step by id)).answer ≡ true }
     {
-        match outcome {
-            StepOutcome::Ran => self.is_running(id),
-            StepOutcome::Called => self.is_running(id),
-            _ => false,
-        }
+        outcome.is_on() && self.table.step_failure(id).is_none()
     }
 
     /// Does instructions of one procedure until the budget is used or it no longer goes on. Each of

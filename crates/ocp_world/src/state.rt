@@ -1,24 +1,19 @@
 //! What the engine keeps of its world.
 
-ghost use Rattle.std.specs.Prelude.{◌≡◌, ◌≤◌, ◌<◌, ℕ, List, ◌++◌, true, false, length, vec_capacity, None, Ok, Err, IfOk, OnOk, OnErr, slice_get};
-ghost use Rattle.std.specs.List.{flat_map};
+ghost use Rattle.std.specs.Prelude.{◌≡◌, ◌≤◌, ◌<◌, ℕ, List, true, false, None, Ok, Err, IfOk};
 ghost use Rattle.std.specs.Option.{option_to_list};
-ghost use Rattle.std.specs.FinMap.{get};
 ghost use Rattle.pus_fields.specs.TelecommandFaults.{telecommand_of};
 ghost use Rattle.ocp_table.specs.RequestTable as directive;
 ghost use Rattle.ocp_table.specs.Effects.{Kept, Unasked, Failed};
-ghost use Rattle.ocp_table.specs.Shown.{view_at, directive_of, HasFewArguments};
-ghost use Rattle.ocp_debug.specs.declared.command.DebugFault.{DebugFault as Fault};
-ghost use Rattle.ocp_debug.specs.Memory.{memory_at};
-ghost use Rattle.ocp_debug.specs.Traces.{last_traces};
-ghost use Rattle.ocp_debug.specs.Texts.{trace_line};
+ghost use Rattle.ocp_table.specs.Loading.{FindsPlace};
+ghost use Rattle.ocp_table.specs.Shown.{directive_of, HasFewArguments};
 ghost use Rattle.ocp_reports.specs.Reports.{reports_of};
 ghost use Rattle.ocp_world.specs.World.{World, opening, Step, Debug, Request as Asked};
 ghost use Rattle.ocp_world.specs.declared.answers.EngineFault.TheVariants as engine;
 ghost use Rattle.ocp_world.specs.Effect.{Sends};
 ghost use Rattle.ocp_world.specs.Requests.{directive_effect, command_effect, has_no_place};
 ghost use Rattle.ocp_world.specs.After.{Stepped, Commanded, after, effect_of};
-ghost use Rattle.ocp_world.specs.Loading.{FindsPlace, IsLoadInto, TakesRecord};
+ghost use Rattle.ocp_world.specs.Loading.{IsLoadInto, TakesRecord};
 
 use crate::{EngineFault, Heap};
 use obcp_messages::{Report, Request, StatusRows, read_request};
@@ -27,7 +22,7 @@ use ocp_debug::{Command, DebugFault, TraceRing};
 use ocp_pool::{MAX_POOL_WORDS, Pool};
 use ocp_profile::Profile;
 use ocp_reports::{CopiedReports, Origin, Sender, count_after};
-use ocp_table::{Change, Directive, LoadFailure, StepOutcome, Table, View};
+use ocp_table::{Change, Directive, LoadFailure, StepOutcome, Table};
 use pus_fields::{Tc, TcFault};
 use space_packet::{Apid, SequenceCount};
 use std::alloc::{AllocError, Allocator};
@@ -37,11 +32,11 @@ use verification::Outcome;
 /// count of the next report, and the last trace records.
 #[derive(Drop)]
 pub struct State<A: Allocator> {
-    pub(crate) apid: Apid,
-    pub(crate) table: Table<A>,
-    pub(crate) pool: Pool<A>,
-    pub(crate) count: SequenceCount,
-    pub(crate) ring: TraceRing<A>,
+    pub apid: Apid,
+    pub table: Table<A>,
+    pub pool: Pool<A>,
+    pub count: SequenceCount,
+    pub ring: TraceRing<A>,
 }
 
 impl<A: Allocator> State<A> {
@@ -67,13 +62,6 @@ impl<A: Allocator> State<A> {
             count,
             ring: TraceRing::new(alloc)?,
         })
-    }
-
-    /// What is shown of a procedure.
-    pub fn view(&self, id: u16) -> Option<View>
-        ensures { (w : World) → IsWorld w self.now → result ≡ view_at (get w.records id) }
-    {
-        self.table.view(id)
     }
 
     /// Why an instruction event is refused, where it is.
@@ -116,41 +104,6 @@ impl<A: Allocator> State<A> {
         ocp_debug::apply(&mut self.table, id, command)
     }
 
-    /// Reads octets of a procedure's memory from an address on. Where they do not all lie in it, or
-    /// no procedure has this id, the octets handed in stay.
-    pub fn memory(&self, id: u16, address: u64, octets: &mut [u8]) -> Result<(), DebugFault>
-        ensures ok { (w : World) → IsWorld w self.now → OnOk result
-            (memory_at (get w.records id) address (length octets.old) ≡ Ok octets.new) }
-        ensures fault { (w : World) (fault : Fault) → IsWorld w self.now → result ≡ Err fault →
-            memory_at (get w.records id) address (length octets.old) ≡ Err fault }
-        ensures err { OnErr result (octets.new ≡ octets.old) }
-        ensures length { length octets.new ≡ length octets.old }
-    {
-        ocp_debug::memory(&self.table, id, address, octets)
-    }
-
-    /// Appends the lines of the last 256 trace records. The only refusal is that of memory, and
-    /// comes only where the lines do not fit into the capacity that the output has; the output then
-    /// stays as it was.
-    pub fn write_traces<B: Allocator>(&self, output: &mut Vec<u8, B>) -> Result<(), AllocError>
-        ensures ok { (w : World) → IsWorld w self.now → OnOk result
-            (output.new.items ≡ output.old.items ++ flat_map trace_line (last_traces w.traces)) }
-        ensures err { OnErr result (output.new.items ≡ output.old.items) }
-        ensures memory { (w : World) → IsWorld w self.now → OnErr result (vec_capacity output.old <
-            length (output.old.items ++ flat_map trace_line (last_traces w.traces))) }
-        ensures same_capacity { OnErr result (vec_capacity output.new ≡ vec_capacity output.old) }
-        ensures capacity { vec_capacity output.old ≤ vec_capacity output.new }
-    {
-        self.ring.write_lines(output)
-    }
-
-    /// The pool word at an index, where there is one.
-    pub fn pool_word(&self, index: u64) -> Option<u64>
-        ensures { (w : World) → IsWorld w self.now → result ≡ slice_get w.pool index }
-    {
-        self.pool.get(index)
-    }
-
     // Sends the reports of a request that changes no procedure.
     fn reply(
         &mut self,
@@ -174,7 +127,8 @@ impl<A: Allocator> State<A> {
             apid: self.apid,
             count: self.count,
         };
-        let reports = heap.copied_reports(sender, origin, outcome, answer)?;
+        let made = sender.copied_reports(heap.alloc(), origin, outcome, answer);
+        let reports = heap.note(made)?;
         self.count = count_after(self.count, reports.len());
         Ok(reports)
     }

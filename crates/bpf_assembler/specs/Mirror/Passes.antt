@@ -4,7 +4,7 @@ use Rattle.std.specs.List.{All}
 use Rattle.std.specs.BTreeMap.{BTreeMap}
 use denote.Ref.{Bor}
 use Rattle.bpf_types.specs.declared.line.Line.{Line}
-use Rattle.bpf_listing.specs.Listing.{IsImageOf}
+use Rattle.bpf_decode.specs.Images.{IsImageOf}
 use Rattle.ocp_loader.specs.declared.fault.LoadFault.{LoadFault}
 use Rattle.ocp_loader.specs.declared.fault.LoadFault.TheVariants as load
 use Rattle.ocp_loader.specs.FaultNumbers.{slot_of}

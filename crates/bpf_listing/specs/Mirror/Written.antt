@@ -13,3 +13,10 @@ pub record IsWritten (code : List ℕ) (capacity : ℕ) (old new : List ℕ) (le
   pub listed : IsListed code [] text
   pub counts : len ≡ length text
   pub fits : length old + len ≤ capacity → new ≡ old ++ text
+
+-- lines that were gathered stand behind `old` where there is room for all of them: the octets
+-- `new`, and those that are still gathered; so many octets were appended
+pub record IsFlushed (capacity : ℕ) (old gathered new more : List ℕ) (count : ℕ) : Type 0 where
+  pub prefix : Continues old new
+  pub counts : count + length more ≡ length gathered
+  pub fits : length old + length gathered ≤ capacity → new ++ more ≡ old ++ gathered

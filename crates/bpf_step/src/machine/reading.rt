@@ -5,12 +5,13 @@ ghost use Rattle.ocp_regions.specs.declared.fault.AccessFault.TheVariants.{Acces
 
 use crate::frame::MAX_LOCAL_CALLS;
 use crate::machine::Machine;
+use bpf_moves::Registers;
 use ocp_regions::AccessFault;
 use std::alloc::Allocator;
 
 impl<A: Allocator> Machine<A> {
     /// R0 to R10.
-    pub fn registers(&self) -> [u64; 11]
+    pub fn registers(&self) -> Registers
         ensures { result ≡ self.now.registers }
     {
         self.registers

@@ -1,7 +1,7 @@
 -- What the cursor over an instruction's operands reads.
 use Rattle.std.specs.Prelude.{◌≡◌, ◌∷◌, [], ℕ, ℤ, pos, List, Bool, true, false, Option, Some, None, Result, Ok, Err, codes, ◌⊎◌}
 use denote.Ref.{Bor}
-use Rattle.bpf_listing.specs.declared.mnemonic.Mnemonic.{Mnemonic}
+use Rattle.bpf_canonical.specs.declared.mnemonic.Mnemonic.{Mnemonic}
 use Rattle.bpf_text.specs.Fields.{IsRegister, IsDistance}
 use Rattle.bpf_text.specs.Judged.{texts, Judges}
 use Rattle.bpf_text.specs.declared.line.Source.{Source}

@@ -1,8 +1,8 @@
 use Rattle.std.proofs.Common.{◌≡◌, ◌≢◌, ℕ, ℤ, List, [], ◌∷◌, Some, None, ap, sym, ◌∙◌, subst, SFits, to_z-of_z, rules}
 use Rattle.std.specs.Int.{w32}
 use Rattle.bpf_types.specs.declared.line.Line.TheVariants as line
-use Rattle.bpf_listing.specs.declared.mnemonic.Mnemonic.TheVariants as word
-use Rattle.bpf_listing.specs.declared.mnemonic.Jump.TheVariants as leap
+use Rattle.bpf_canonical.specs.declared.mnemonic.Mnemonic.TheVariants as word
+use Rattle.bpf_canonical.specs.declared.mnemonic.Jump.TheVariants as leap
 use Rattle.bpf_text.specs.Mirror.Reads.{State, state, Answers}
 use Rattle.bpf_text.proofs.ReadLemmas.{if_some, if_none}
 use Rattle.bpf_text.proofs.JudgeLemmas.{call, call_local, plain}

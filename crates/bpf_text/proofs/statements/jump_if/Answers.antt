@@ -2,8 +2,8 @@ use Rattle.std.proofs.Common.{ℕ, ℤ, List, [], ◌∷◌, Option, Some, None,
 use Rattle.std.specs.Int.{w16}
 use Rattle.bpf_types.specs.Line.{IsOperand}
 use Rattle.bpf_types.specs.declared.line.Line.TheVariants as line
-use Rattle.bpf_listing.specs.declared.mnemonic.Mnemonic.TheVariants as word
-use Rattle.bpf_listing.specs.declared.mnemonic.Jump.TheVariants as leap
+use Rattle.bpf_canonical.specs.declared.mnemonic.Mnemonic.TheVariants as word
+use Rattle.bpf_canonical.specs.declared.mnemonic.Jump.TheVariants as leap
 use Rattle.bpf_types.specs.declared.line.Operand.{Operand}
 use Rattle.bpf_text.specs.Fields.{IsSecond, IsTarget}
 use Rattle.bpf_text.specs.Judged.{target_of}

@@ -1,8 +1,8 @@
 use Rattle.std.proofs.Common.{ℤ, Some, None, SFits, to_z-of_z, rules, sym, subst}
 use Rattle.std.specs.Int.{w32}
 use Rattle.bpf_types.specs.declared.line.Line.TheVariants as line
-use Rattle.bpf_listing.specs.declared.mnemonic.Mnemonic.TheVariants as word
-use Rattle.bpf_listing.specs.declared.mnemonic.Jump.TheVariants as leap
+use Rattle.bpf_canonical.specs.declared.mnemonic.Mnemonic.TheVariants as word
+use Rattle.bpf_canonical.specs.declared.mnemonic.Jump.TheVariants as leap
 use Rattle.bpf_text.specs.Mirror.Reads.{state, Answers}
 use Rattle.bpf_text.proofs.JudgeLemmas.{long_jump}
 use Rattle.bpf_text.proofs.statements.long_jump.Goals as goal

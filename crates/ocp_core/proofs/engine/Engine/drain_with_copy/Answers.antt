@@ -27,7 +27,7 @@ push-requires-clause-mark g c =
     let log = c.self.inside.journal in
     let told = taken log c.args.self.now c.self.view_is c.args.by c.args.time c.is_due.result (c.is_due.ensures (world_of log) c.args.by c.args.time c.self.invariant) c.if-not-is_due.false (sym c.is_full.ensures ∙ c.if-is_full.false) in
     let does = c.in_ok-sent.ensures (world_of log) c.args.by c.self.invariant in
-    marked_so log c.args.self.now c.self.view_is c.args.by c.args.time told c.drain.new.self c.in_ok-sent.sent does c.copies_of-answer.result.1 c.copies_of-answer.ensures.mark
+    marked_so log c.args.self.now c.self.view_is c.args.by c.args.time told c.drain.new.self c.in_ok-sent.sent does c.into_parts-answer.result.1 c.into_parts-answer.ensures.journal
 
 pub invariant_of-self : goal.invariant_of-self
 invariant_of-self g c = (c.in_err-sent.ensures (world_of c.self.inside.journal) c.args.by c.self.invariant).1
@@ -44,7 +44,7 @@ returns-clause-answer g c =
     let log = c.self.inside.journal in
     let told = taken log c.args.self.now c.self.view_is c.args.by c.args.time c.is_due.result (c.is_due.ensures (world_of log) c.args.by c.args.time c.self.invariant) c.if-not-is_due.false (sym c.is_full.ensures ∙ c.if-is_full.false) in
     let does = c.in_ok-sent.ensures (world_of log) c.args.by c.self.invariant in
-    answered log c.args.self.now c.self.view_is c.args.by c.args.time told c.drain.new.self c.in_ok-sent.sent does c.copies_of-answer.result.0 c.copies_of-answer.ensures.answer
+    answered log c.args.self.now c.self.view_is c.args.by c.args.time told c.drain.new.self c.in_ok-sent.sent does c.into_parts-answer.result.0 c.into_parts-answer.ensures.answer
 
 pub returns-clause-journal : goal.returns-clause-journal
 returns-clause-journal g c =

@@ -1,4 +1,4 @@
-use Rattle.std.proofs.Common.{sym, ap, ◌∙◌}
+use Rattle.std.proofs.Common.{refl, sym, ap, ◌∙◌}
 use Rattle.ocp_table.specs.declared.answers.StepOutcome.TheVariants.{Ran}
 use Rattle.ocp_world.specs.After.{Stepped}
 use Rattle.ocp_core.specs.Log.{world_of}
@@ -6,6 +6,7 @@ use Rattle.ocp_core.specs.Marks.{last_outcome}
 use Rattle.ocp_core.proofs.Marking.{slice_mark}
 use Rattle.ocp_core.proofs.Keeping.{IsWorld-with_entry}
 use Rattle.ocp_core.proofs.Counting.{counted_steps}
+use Rattle.ocp_core.proofs.Growing.{grows_none, grows_sliced, slice_within}
 use Rattle.ocp_core.proofs.Journaling.{refused_slice, refused_slice_log, full_slice, done_slice, done_slice_log}
 use Rattle.ocp_core.proofs.engine.Engine.slice.Goals as goal
 
@@ -39,3 +40,15 @@ push-requires-clause-mark g c =
     let count = c.slice-slice.ensures.count w c.args.by c.self.invariant in
     let last = c.slice-slice.ensures.last w c.args.by c.self.invariant in
     ap Stepped (last ∙ sym (slice_mark w c.args.by c.args.id Ran c.args.budget) ∙ ap (last_outcome w c.args.by c.args.id Ran) (sym count))
+
+pub returns-in-Some-clause-gain : goal.returns-in-Some-clause-gain
+returns-in-Some-clause-gain g c = grows_none _ _ _ refl refl
+
+pub returns-then-is_full-clause-gain : goal.returns-then-is_full-clause-gain
+returns-then-is_full-clause-gain g c = grows_none _ _ _ refl refl
+
+pub returns-clause-gain : goal.returns-clause-gain
+returns-clause-gain g c = grows_sliced c.args.self.now c.push.new.self c.args.by c.args.id c.args.budget _ c.requires (returns-clause-slice g c) (returns-clause-journal g c)
+
+pub returns-clause-within : goal.returns-clause-within
+returns-clause-within g c = slice_within c.args.self.now c.args.by c.args.id c.args.budget _ (returns-clause-slice g c)

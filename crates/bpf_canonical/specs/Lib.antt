@@ -1,0 +1,4 @@
+pub mod Mnemonics
+pub mod Canonical
+pub mod Octets
+pub mod Mirror

@@ -1,0 +1,104 @@
+//! A text on the stack, and the parts of a line that it takes.
+ghost use Rattle.std.specs.Prelude.{◌≡◌, ◌≤◌, ◌+◌, ◌<◌, ◌++◌, [], List, ℕ, length};
+ghost use Rattle.std.specs.Fmt.{decimal, signed_decimal};
+ghost use Rattle.bpf_canonical.specs.Canonical.{hex_digits, with_sign};
+
+use arrayvec::ArrayVec;
+use hex::encode_to_slice;
+use itoa::Buffer;
+use std::marker::Model;
+
+/// No instruction's text is longer, without a newline.
+pub const MAX_TEXT_LENGTH: usize = 48;
+
+/// A text of at most `ROOM` octets, on the stack.
+#[derive(Drop)]
+pub struct Text<const ROOM: usize> {
+    octets: ArrayVec<u8, ROOM>,
+}
+
+impl<const ROOM: usize> Model for Text<ROOM> {
+    ghost Value = { List ℕ };
+
+    ghost view = { λ t. t.octets.items };
+}
+
+impl<const ROOM: usize> Text<ROOM> {
+    /// The empty text.
+    pub fn new() -> Self
+        ensures { result ≡ [] }
+    {
+        Text {
+            octets: ArrayVec::new(),
+        }
+    }
+
+    /// The text's octets.
+    pub fn as_slice(&self) -> &[u8]
+        ensures { result.now ≡ self.now }
+    {
+        self.octets.as_slice()
+    }
+
+    /// Takes all octets away.
+    pub fn clear(&mut self)
+        ensures { self.new ≡ [] }
+    {
+        self.octets.clear();
+    }
+
+    /// Appends a piece of text.
+    pub fn push_all(&mut self, piece: &[u8])
+        requires { length self.old + length piece.now ≤ ROOM }
+        ensures items { self.new ≡ self.old ++ piece.now }
+        ensures len { length self.new ≡ length self.old + length piece.now }
+    {
+        let _fits = self.octets.try_extend_from_slice(piece);
+    }
+
+    /// Appends a number in decimal digits.
+    pub(crate) fn push_number(&mut self, number: u32)
+        requires { length self.old + 10 ≤ ROOM }
+        ensures items { self.new ≡ self.old ++ decimal number }
+        ensures len { length self.new ≤ length self.old + 10 }
+    {
+        if number < 10 {
+            return self.push_all(&[b'0' + number as u8]);
+        }
+        let mut buffer = Buffer::new();
+        self.push_all(buffer.format(number).as_bytes());
+    }
+
+    /// Appends a number in decimal digits, with a sign where it is negative.
+    pub(crate) fn push_signed(&mut self, number: i32)
+        requires { length self.old + 11 ≤ ROOM }
+        ensures items { self.new ≡ self.old ++ signed_decimal number }
+        ensures len { length self.new ≤ length self.old + 11 }
+    {
+        if number < 0 {
+            self.push_all(b"-");
+        }
+        self.push_number(number.unsigned_abs());
+    }
+
+    /// Appends a number in decimal digits, always with its sign.
+    pub(crate) fn push_with_sign(&mut self, number: i32)
+        requires { length self.old + 11 ≤ ROOM }
+        ensures items { self.new ≡ self.old ++ with_sign number }
+        ensures len { length self.new ≤ length self.old + 11 }
+    {
+        self.push_all(if number < 0 { b"-" } else { b"+" });
+        self.push_number(number.unsigned_abs());
+    }
+
+    /// Appends a number in 16 hexadecimal digits, in lower case.
+    pub(crate) fn push_hex(&mut self, number: u64)
+        requires { length self.old + 16 ≤ ROOM }
+        ensures items { self.new ≡ self.old ++ hex_digits 16 number }
+        ensures len { length self.new ≡ length self.old + 16 }
+    {
+        let mut digits = [0; 16];
+        let _fits = encode_to_slice(number.to_be_bytes(), &mut digits);
+        self.push_all(&digits);
+    }
+}

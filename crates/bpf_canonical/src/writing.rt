@@ -1,0 +1,196 @@
+//! Instructions as text: their one spelling.
+ghost use Rattle.std.specs.Prelude.{◌≡◌, ◌++◌, ◌≤◌, ◌<◌, ◌+◌, length, OnOk, OnErr, vec_capacity};
+ghost use Rattle.bpf_canonical.specs.Canonical.{canonical, operands_text, operand_text, place_text, register};
+
+use crate::mnemonic::mnemonic_of;
+use crate::text::{MAX_TEXT_LENGTH, Text};
+use bpf_types::{Line, Operand, Reg};
+use std::alloc::{AllocError, Allocator};
+
+impl<const ROOM: usize> Text<ROOM> {
+    /// Appends a register.
+    fn push_register(&mut self, reg: Reg)
+        requires { length self.old + 11 ≤ ROOM }
+        ensures items { self.new ≡ self.old ++ register reg }
+        ensures len { length self.new ≤ length self.old + 11 }
+    {
+        self.push_all(b"r");
+        self.push_number(u32::from(reg.number()));
+    }
+
+    /// Appends the second operand.
+    fn push_operand(&mut self, operand: Operand)
+        requires { length self.old + 11 ≤ ROOM }
+        ensures items { self.new ≡ self.old ++ operand_text operand }
+        ensures len { length self.new ≤ length self.old + 11 }
+    {
+        match operand {
+            Operand::Immediate(imm) => self.push_signed(imm),
+            Operand::Register(src) => self.push_register(src),
+        }
+    }
+
+    /// Appends a place in memory.
+    fn push_place(&mut self, base: Reg, offset: i16)
+        requires { length self.old + 24 ≤ ROOM }
+        ensures items { self.new ≡ self.old ++ place_text base offset }
+        ensures len { length self.new ≤ length self.old + 24 }
+    {
+        self.push_all(b"[");
+        self.push_register(base);
+        self.push_with_sign(i32::from(offset));
+        self.push_all(b"]");
+    }
+
+    /// Appends the operands of an instruction, behind a space.
+    fn push_operands(&mut self, line: &Line)
+        requires { length self.old + 41 ≤ ROOM }
+        ensures items { self.new ≡ self.old ++ operands_text line.now }
+        ensures len { length self.new ≤ length self.old + 41 }
+    {
+        match *line {
+            Line::Arithmetic { dst, operand, .. } => {
+                self.push_all(b" ");
+                self.push_register(dst);
+                self.push_all(b", ");
+                self.push_operand(operand);
+            }
+            Line::Negate { dst, .. } => {
+                self.push_all(b" ");
+                self.push_register(dst);
+            }
+            Line::MoveExtended {
+                extension,
+                dst,
+                src,
+            } => {
+                self.push_all(b" ");
+                self.push_register(dst);
+                self.push_all(b", ");
+                self.push_register(src);
+                self.push_all(b", ");
+                self.push_number(u32::from(extension.bits()));
+            }
+            Line::ByteOrder { width, dst, .. } => {
+                self.push_all(b" ");
+                self.push_register(dst);
+                self.push_all(b", ");
+                self.push_number(u32::from(width.bits()));
+            }
+            Line::LoadWide { dst, value } => {
+                self.push_all(b" ");
+                self.push_register(dst);
+                self.push_all(b", 0x");
+                self.push_hex(value);
+            }
+            Line::Load {
+                dst,
+                base,
+                offset,
+                ..
+            }
+            | Line::LoadExtended {
+                dst,
+                base,
+                offset,
+                ..
+            } => {
+                self.push_all(b" ");
+                self.push_register(dst);
+                self.push_all(b", ");
+                self.push_place(base, offset);
+            }
+            Line::StoreImmediate {
+                base,
+                offset,
+                value,
+                ..
+            } => {
+                self.push_all(b" ");
+                self.push_place(base, offset);
+                self.push_all(b", ");
+                self.push_signed(value);
+            }
+            Line::Store {
+                base,
+                offset,
+                src,
+                ..
+            } => {
+                self.push_all(b" ");
+                self.push_place(base, offset);
+                self.push_all(b", ");
+                self.push_register(src);
+            }
+            Line::JumpIf {
+                dst,
+                operand,
+                distance,
+                ..
+            } => {
+                self.push_all(b" ");
+                self.push_register(dst);
+                self.push_all(b", ");
+                self.push_operand(operand);
+                self.push_all(b", ");
+                self.push_with_sign(i32::from(distance));
+            }
+            Line::Jump { distance } => {
+                self.push_all(b" ");
+                self.push_with_sign(i32::from(distance));
+            }
+            Line::LongJump { distance } => {
+                self.push_all(b" ");
+                self.push_with_sign(distance);
+            }
+            Line::Call { number } => {
+                self.push_all(b" ");
+                self.push_signed(number);
+            }
+            Line::CallLocal { distance } => {
+                self.push_all(b" local ");
+                self.push_with_sign(distance);
+            }
+            Line::Exit => (),
+        }
+    }
+
+    /// Appends the canonical text of an instruction.
+    pub fn push_line(&mut self, line: &Line)
+        requires { length self.old + MAX_TEXT_LENGTH ≤ ROOM }
+        ensures items { self.new ≡ self.old ++ canonical line.now }
+        ensures len { length self.new ≤ length self.old + MAX_TEXT_LENGTH }
+    {
+        self.push_mnemonic(mnemonic_of(line));
+        self.push_operands(line);
+    }
+}
+
+/// The canonical text of an instruction.
+pub fn text_of(line: &Line) -> Text<MAX_TEXT_LENGTH>
+    ensures items { result ≡ canonical line.now }
+    ensures len { length result ≤ MAX_TEXT_LENGTH }
+{
+    let mut text = Text::new();
+    text.push_line(line);
+    text
+}
+
+/// Appends the canonical text of an instruction to `out`, without a newline.
+///
+/// The only refusal is that of memory, and comes only where the text does not fit into the capacity
+/// that `out` has. A refusal leaves `out` and its capacity as they were. The capacity never
+/// shrinks.
+pub fn line_text<A: Allocator>(line: Line, out: &mut Vec<u8, A>) -> Result<(), AllocError>
+    ensures ok { OnOk result (out.new.items ≡ out.old.items ++ canonical line) }
+    ensures err { OnErr result (out.new.items ≡ out.old.items) }
+    ensures memory { OnErr result
+        (vec_capacity out.old < length (out.old.items ++ canonical line)) }
+    ensures same_capacity { OnErr result (vec_capacity out.new ≡ vec_capacity out.old) }
+    ensures capacity { vec_capacity out.old ≤ vec_capacity out.new }
+{
+    let text = text_of(&line);
+    out.reserve(text.as_slice().len())?;
+    out.extend_from_slice(text.as_slice()).unwrap();
+    Ok(())
+}

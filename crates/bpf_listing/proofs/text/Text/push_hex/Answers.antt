@@ -1,6 +1,0 @@
-use Rattle.std.proofs.Common.{rules}
-use Rattle.bpf_listing.proofs.Digits.{encoded}
-use Rattle.bpf_listing.proofs.text.Text.push_hex.Goals as goal
-
-pub returns-clause-items : goal.returns-clause-items
-returns-clause-items c = let digits = encoded c.args.number in search (rules, digits)
