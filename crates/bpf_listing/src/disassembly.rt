@@ -11,6 +11,7 @@ use bpf_canonical::{MAX_TEXT_LENGTH, Text};
 use bpf_decode::{
     DecodeFault, decode_at, faults_of_images_are_unique, images_are_unique, images_are_whole_slots,
 };
+use core::mem::replace_with;
 use std::alloc::Allocator;
 
 /// Why an image has no listing, in the order in which the refusals are asked.
@@ -31,8 +32,20 @@ const BUFFER_LENGTH: usize = 1024;
 /// The most octets of a line, with its newline.
 const MAX_LINE_LENGTH: usize = MAX_TEXT_LENGTH + 1;
 
-/// Appends a text where there is room for it; the octets that were there stay in front. Eight
-/// octets are taken at a time, which takes fewer machine instructions than one by one.
+/// The vector with a text behind its octets, for which there is room. Since it is taken by value,
+/// its length stays in a register, and many octets are copied at a time.
+fn with_text<A: Allocator>(mut out: Vec<u8, A>, text: &[u8]) -> (Vec<u8, A>, ())
+    requires { length out.items + length text.now ≤ vec_capacity out }
+    ensures items { result.0.items ≡ out.items ++ text.now }
+    ensures capacity { vec_capacity result.0 ≡ vec_capacity out }
+{
+    for octet in text {
+        out.push_reserved(*octet);
+    }
+    (out, ())
+}
+
+/// Appends a text where there is room for it; the octets that were there stay in front.
 fn push_within<A: Allocator>(out: &mut Vec<u8, A>, text: &[u8])
     ensures fits { length out.old.items + length text.now ≤ vec_capacity out.old →
         out.new.items ≡ out.old.items ++ text.now }
@@ -42,21 +55,7 @@ fn push_within<A: Allocator>(out: &mut Vec<u8, A>, text: &[u8])
     if out.capacity() - out.len() < text.len() {
         return;
     }
-    let mut rest = text;
-    while let [a, b, c, d, e, f, g, h, after @ ..] = rest {
-        out.push_reserved(*a);
-        out.push_reserved(*b);
-        out.push_reserved(*c);
-        out.push_reserved(*d);
-        out.push_reserved(*e);
-        out.push_reserved(*f);
-        out.push_reserved(*g);
-        out.push_reserved(*h);
-        rest = after;
-    }
-    for octet in rest {
-        out.push_reserved(*octet);
-    }
+    replace_with(out, text, with_text);
 }
 
 /// Appends the lines of the buffer where there is room for all of them, and gives how many

@@ -86,14 +86,19 @@ fn digits(text: &[u8]) -> &[u8]
 /// No line is longer, with its newline: so a listing is written in one pass.
 const LONGEST_LINE: usize = MAX_TEXT_LENGTH + 1;
 
-/// The output for an image.
-fn output_of_image<A: Allocator + Copy>(alloc: A, image: &[u8]) -> Result<Output<A>, AllocError>
+/// The output for an image. The listing is written into a vector that is no longer needed.
+fn output_of_image<A: Allocator + Copy>(
+    alloc: A,
+    image: &[u8],
+    mut place: Vec<u8, A>,
+) -> Result<Output<A>, AllocError>
     ensures { (input : List ℕ) → HasImage input image.now →
         IfOk result (λ output. Lists input output.text.items output.done) }
 {
-    let mut listing = Vec::with_capacity(alloc, (image.len() / 8).saturating_mul(LONGEST_LINE))?;
-    match disassemble(image, &mut listing) {
-        Ok(()) => Ok(Output::of_text(listing)),
+    place.clear();
+    place.reserve((image.len() / 8).saturating_mul(LONGEST_LINE))?;
+    match disassemble(image, &mut place) {
+        Ok(()) => Ok(Output::of_text(place)),
         Err(DisassembleFault::Ragged) => output_of_fault(alloc, ListFault::Ragged),
         Err(DisassembleFault::Decode(why, slot)) => output_of_fault(
             alloc,
@@ -104,13 +109,13 @@ fn output_of_image<A: Allocator + Copy>(alloc: A, image: &[u8]) -> Result<Output
 }
 
 /// The output for an input that is not too long.
-fn output_of<A: Allocator + Copy>(alloc: A, input: &[u8]) -> Result<Output<A>, AllocError>
-    requires { IsShort input.now }
-    ensures { IfOk result (λ output. Lists input.now output.text.items output.done) }
+fn output_of<A: Allocator + Copy>(alloc: A, input: Vec<u8, A>) -> Result<Output<A>, AllocError>
+    requires { IsShort input.items }
+    ensures { IfOk result (λ output. Lists input.items output.text.items output.done) }
 {
     let mut image = Vec::new(alloc);
-    match octets_of(&mut image, digits(input))? {
-        Some(image) => output_of_image(alloc, image),
+    match octets_of(&mut image, digits(&input))? {
+        Some(image) => output_of_image(alloc, image, input),
         None => output_of_fault(alloc, ListFault::Hex),
     }
 }
@@ -141,7 +146,7 @@ pub fn list<R: Source, W: Sink, A: Allocator + Copy>(
         (W.failed_writes writer.old < W.failed_writes writer.new) }
 {
     let output = match read_whole(alloc, reader)? {
-        Some(input) => output_of(alloc, &input)?,
+        Some(input) => output_of(alloc, input)?,
         None => output_of_fault(alloc, ListFault::TooLong)?,
     };
     write_output(writer, &output)
