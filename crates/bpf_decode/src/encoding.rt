@@ -5,8 +5,8 @@ ghost use Rattle.bpf_decode.specs.Mirror.Codes.{slot_with};
 
 use crate::codes::{
     CALL, EXIT, JA, JA32, LDDW, LDX, MEM, MEMSX, MOV, NEG, ST, STX, X, class_of_arithmetic,
-    class_of_jumps, code_of_comparison, code_of_signed_size, code_of_size, opcode_of_order,
-    operation_code,
+    class_of_jumps, code_of_comparison, code_of_operation, code_of_signed_size, code_of_size,
+    opcode_of_order,
 };
 use bpf_types::{Fields, Line, Operand, Reg, Width, high_half, low_half};
 use std::marker::Model;
@@ -73,7 +73,7 @@ pub fn first_fields(line: &Line) -> Fields
             dst,
             operand,
         } => {
-            let (code, offset) = operation_code(operation);
+            let (code, offset) = code_of_operation(operation);
             let opcode = code * 16 + class_of_arithmetic(width);
             match operand {
                 Operand::Immediate(imm) => row(opcode, dst, none, offset, imm),

@@ -8,7 +8,7 @@ ghost use Rattle.bpf_decode.specs.Mirror.Decoding.{high_in, wide_at, line_in, fi
 ghost use Rattle.bpf_decode.specs.Decoding.{BeginsWith};
 ghost use Rattle.bpf_decode.specs.Faults.{IsFirst};
 
-use crate::codes::{LDDW, is_known};
+use crate::codes::{LDDW, is_opcode};
 use crate::fault::DecodeFault;
 use crate::rows::short_of;
 use bpf_types::{Fields, Line, Reg, from_halves};
@@ -82,7 +82,7 @@ fn fault_in(octets: &[u8]) -> DecodeFault
     requires none { line_in octets.now ≡ None }
     ensures { decode_result octets.now ≡ Err result }
 {
-    if !is_known(octets[0]) {
+    if !is_opcode(octets[0]) {
         DecodeFault::UnknownOpcode
     } else if fields_at(octets).is_none() {
         DecodeFault::BadRegister
