@@ -26,7 +26,8 @@ pub enum DisassembleFault {
     Memory,
 }
 
-/// The most octets of lines that are held back before they are appended.
+/// The most octets of lines that are held back before they are appended: some eighty lines, so that
+/// the vector is asked for its room seldom.
 const BUFFER_LENGTH: usize = 1024;
 
 /// The most octets of a line, with its newline.
@@ -45,7 +46,7 @@ fn with_text<A: Allocator>(mut out: Vec<u8, A>, text: &[u8]) -> (Vec<u8, A>, ())
     (out, ())
 }
 
-/// Appends a text where there is room for it; the octets that were there stay in front.
+/// Appends a text where there is room for it, and else does nothing.
 fn push_within<A: Allocator>(out: &mut Vec<u8, A>, text: &[u8])
     ensures fits { length out.old.items + length text.now ≤ vec_capacity out.old →
         out.new.items ≡ out.old.items ++ text.now }
@@ -86,7 +87,8 @@ fn make_room<A: Allocator>(buffer: &mut Text<BUFFER_LENGTH>, out: &mut Vec<u8, A
 }
 
 /// Appends the lines of an image where there is room for all of them, and gives how many octets
-/// they have. Where there is none, the octets that were there stay in front.
+/// they have. Where there is none, or there is a fault, some lines may stand behind the octets that
+/// were there, for the caller to cut off.
 fn write_lines<A: Allocator>(code: &[u8], out: &mut Vec<u8, A>) -> Result<u128, DisassembleFault>
     requires { length code.now % 8 ≡ 0 }
     ensures ok { IfOk result

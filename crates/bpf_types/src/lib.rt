@@ -2,9 +2,9 @@
 //! its fields in their ranges.
 #![tactic(auto)]
 
-pub mod halves;
-pub mod line;
-pub mod reg;
+mod halves;
+mod line;
+mod reg;
 
 pub use halves::{from_halves, high_half, low_half};
 pub use line::{

@@ -41,7 +41,7 @@ impl Reg {
         Reg { number: 0 }
     }
 
-    /// R1, which stands in the src field of a local call.
+    /// R1. Its number in the src field of a call says that the call is local.
     #[inline(always)]
     pub fn one() -> Self
         ensures { result ≡ 1 }

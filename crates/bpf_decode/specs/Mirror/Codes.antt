@@ -8,7 +8,7 @@ use Rattle.bpf_types.specs.declared.line.Comparison.{Comparison}
 use Rattle.bpf_types.specs.declared.line.Order.{Order}
 use Rattle.bpf_types.specs.declared.line.Size.{Size}
 use Rattle.bpf_types.specs.declared.line.SignedSize.{SignedSize}
-use Rattle.bpf_types.specs.Line.{operations, code_of, offset_of, comparisons, comparison_code, orders, order_opcode, sizes, size_code, signed_sizes, signed_size_code}
+use Rattle.bpf_types.specs.Line.{operations, operation_code, operation_offset, comparisons, comparison_code, orders, order_opcode, sizes, size_code, signed_sizes, signed_size_code}
 
 -- the fields of a slot, in their order
 abbrev pub slot_with : ℕ → ℕ → ℕ → ℤ → ℤ → Fields
@@ -22,7 +22,7 @@ first test (x ∷ xs) = if test x then Some x else first test xs
 
 -- the operation of a code, the high four bits of an arithmetic opcode, and an offset field
 abbrev pub operation_at : ℕ → ℤ → Option Operation
-operation_at n offset = first (λ o. (n == code_of o) && int_eq offset (offset_of o)) operations
+operation_at n offset = first (λ o. (n == operation_code o) && int_eq offset (operation_offset o)) operations
 
 -- the test of a code, the high four bits of a jump's opcode
 abbrev pub comparison_at : ℕ → Option Comparison
