@@ -201,8 +201,8 @@ pub enum SignedSize {
 }
 
 /// One typed instruction of RFC 9669, in the conformance groups base32, base64, divmul32 and
-/// divmul64, but for what speaks of a host: wide loads of maps and their like (src 1 to 6) and calls
-/// by BTF id. A distance counts slots from the instruction that follows.
+/// divmul64, but for what speaks of a host: wide loads of maps and their like (src 1 to 6), and
+/// calls by BTF id. A distance counts slots from the instruction that follows.
 #[derive(Clone, Copy, PartialEq, Eq, Debug)]
 pub enum Line {
     /// `dst = dst operation operand`.

@@ -22,7 +22,8 @@ first test (x ∷ xs) = if test x then Some x else first test xs
 
 -- the operation of a code, the high four bits of an arithmetic opcode, and an offset field
 abbrev pub operation_at : ℕ → ℤ → Option Operation
-operation_at n offset = first (λ o. (n == operation_code o) && int_eq offset (operation_offset o)) operations
+operation_at n offset =
+    first (λ o. (n == operation_code o) && int_eq offset (operation_offset o)) operations
 
 -- the test of a code, the high four bits of a jump's opcode
 abbrev pub comparison_at : ℕ → Option Comparison
