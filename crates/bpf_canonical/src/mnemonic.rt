@@ -13,7 +13,7 @@ use crate::text::Text;
 use bpf_types::{Comparison, Line, Operation, Order, SignedSize, Size, Width};
 
 /// What the first word of an instruction's text says: `canonical` begins with it.
-#[derive(Clone, Copy)]
+#[derive(Clone, Copy, PartialEq, Eq, Debug)]
 pub enum Mnemonic {
     /// `add32`, .. `arsh64`, of two operands.
     Arithmetic(Width, Operation),
@@ -30,7 +30,7 @@ pub enum Mnemonic {
 }
 
 /// The jumps, the calls and the exit.
-#[derive(Clone, Copy)]
+#[derive(Clone, Copy, PartialEq, Eq, Debug)]
 pub enum Jump {
     /// `jeq32`, .. `jsle64`.
     If(Width, Comparison),
@@ -45,7 +45,7 @@ pub enum Jump {
 }
 
 /// The loads and stores at a place in memory.
-#[derive(Clone, Copy)]
+#[derive(Clone, Copy, PartialEq, Eq, Debug)]
 pub enum Access {
     /// `ldxw`, `ldxh`, `ldxb`, `ldxdw`.
     Load(Size),

@@ -9,7 +9,7 @@ use itoa::Buffer;
 use std::marker::Model;
 
 /// No instruction's text is longer, without a newline.
-pub const MAX_TEXT_LENGTH: usize = 48;
+pub const MAX_TEXT_LENGTH: usize = 37;
 
 /// A text of at most `ROOM` octets, on the stack.
 #[derive(Drop)]

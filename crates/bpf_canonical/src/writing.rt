@@ -8,14 +8,18 @@ use bpf_types::{Line, Operand, Reg};
 use std::alloc::{AllocError, Allocator};
 
 impl<const ROOM: usize> Text<ROOM> {
-    /// Appends a register.
+    /// Appends a register: `r0` to `r10`.
     fn push_register(&mut self, reg: Reg)
-        requires { length self.old + 11 ≤ ROOM }
+        requires { length self.old + 3 ≤ ROOM }
         ensures items { self.new ≡ self.old ++ register reg }
-        ensures len { length self.new ≤ length self.old + 11 }
+        ensures len { length self.new ≤ length self.old + 3 }
     {
-        self.push_all(b"r");
-        self.push_number(u32::from(reg.number()));
+        let number = reg.number();
+        if number < 10 {
+            self.push_all(&[b'r', b'0' + number]);
+        } else {
+            self.push_all(b"r10");
+        }
     }
 
     /// Appends the second operand.
@@ -32,9 +36,9 @@ impl<const ROOM: usize> Text<ROOM> {
 
     /// Appends a place in memory.
     fn push_place(&mut self, base: Reg, offset: i16)
-        requires { length self.old + 24 ≤ ROOM }
+        requires { length self.old + 16 ≤ ROOM }
         ensures items { self.new ≡ self.old ++ place_text base offset }
-        ensures len { length self.new ≤ length self.old + 24 }
+        ensures len { length self.new ≤ length self.old + 16 }
     {
         self.push_all(b"[");
         self.push_register(base);
@@ -44,27 +48,25 @@ impl<const ROOM: usize> Text<ROOM> {
 
     /// Appends the operands of an instruction, behind a space.
     fn push_operands(&mut self, line: &Line)
-        requires { length self.old + 41 ≤ ROOM }
+        requires { length self.old + 30 ≤ ROOM }
         ensures items { self.new ≡ self.old ++ operands_text line.now }
-        ensures len { length self.new ≤ length self.old + 41 }
+        ensures len { length self.new ≤ length self.old + 30 }
     {
+        if !matches!(line, Line::Exit) {
+            self.push_all(b" ");
+        }
         match *line {
             Line::Arithmetic { dst, operand, .. } => {
-                self.push_all(b" ");
                 self.push_register(dst);
                 self.push_all(b", ");
                 self.push_operand(operand);
             }
-            Line::Negate { dst, .. } => {
-                self.push_all(b" ");
-                self.push_register(dst);
-            }
+            Line::Negate { dst, .. } => self.push_register(dst),
             Line::MoveExtended {
                 extension,
                 dst,
                 src,
             } => {
-                self.push_all(b" ");
                 self.push_register(dst);
                 self.push_all(b", ");
                 self.push_register(src);
@@ -72,13 +74,11 @@ impl<const ROOM: usize> Text<ROOM> {
                 self.push_number(u32::from(extension.bits()));
             }
             Line::ByteOrder { width, dst, .. } => {
-                self.push_all(b" ");
                 self.push_register(dst);
                 self.push_all(b", ");
                 self.push_number(u32::from(width.bits()));
             }
             Line::LoadWide { dst, value } => {
-                self.push_all(b" ");
                 self.push_register(dst);
                 self.push_all(b", 0x");
                 self.push_hex(value);
@@ -95,7 +95,6 @@ impl<const ROOM: usize> Text<ROOM> {
                 offset,
                 ..
             } => {
-                self.push_all(b" ");
                 self.push_register(dst);
                 self.push_all(b", ");
                 self.push_place(base, offset);
@@ -106,7 +105,6 @@ impl<const ROOM: usize> Text<ROOM> {
                 value,
                 ..
             } => {
-                self.push_all(b" ");
                 self.push_place(base, offset);
                 self.push_all(b", ");
                 self.push_signed(value);
@@ -117,7 +115,6 @@ impl<const ROOM: usize> Text<ROOM> {
                 src,
                 ..
             } => {
-                self.push_all(b" ");
                 self.push_place(base, offset);
                 self.push_all(b", ");
                 self.push_register(src);
@@ -128,27 +125,17 @@ impl<const ROOM: usize> Text<ROOM> {
                 distance,
                 ..
             } => {
-                self.push_all(b" ");
                 self.push_register(dst);
                 self.push_all(b", ");
                 self.push_operand(operand);
                 self.push_all(b", ");
                 self.push_with_sign(i32::from(distance));
             }
-            Line::Jump { distance } => {
-                self.push_all(b" ");
-                self.push_with_sign(i32::from(distance));
-            }
-            Line::LongJump { distance } => {
-                self.push_all(b" ");
-                self.push_with_sign(distance);
-            }
-            Line::Call { number } => {
-                self.push_all(b" ");
-                self.push_signed(number);
-            }
+            Line::Jump { distance } => self.push_with_sign(i32::from(distance)),
+            Line::LongJump { distance } => self.push_with_sign(distance),
+            Line::Call { number } => self.push_signed(number),
             Line::CallLocal { distance } => {
-                self.push_all(b" local ");
+                self.push_all(b"local ");
                 self.push_with_sign(distance);
             }
             Line::Exit => (),
