@@ -13,7 +13,8 @@ use Rattle.bpf_types.specs.declared.line.Width.TheVariants.{W32, W64}
 use Rattle.bpf_types.specs.declared.line.Extension.{Extension}
 use Rattle.bpf_types.specs.declared.line.Extension.TheVariants as extension
 use Rattle.bpf_text.specs.Fields.{IsRegister, IsInteger, IsImmediate, IsDistance, IsSecond, IsTarget, IsName, as_signed}
-use Rattle.bpf_text.specs.Mirror.Gives.{Gives, IsWide, bits_in, HasExtension}
+use Rattle.bpf_text.specs.Judged.{Gives}
+use Rattle.bpf_text.specs.Mirror.Gives.{IsWide, bits_in, HasExtension}
 use Rattle.bpf_text.specs.declared.line.LineFault.{LineFault}
 use Rattle.bpf_text.specs.declared.line.LineFault.TheVariants.{Syntax, Range}
 

@@ -23,10 +23,10 @@ use Rattle.bpf_canonical.specs.declared.mnemonic.Access.TheVariants as access
 use Rattle.bpf_canonical.specs.Mnemonics.{mnemonic_name, mnemonic_of}
 use Rattle.bpf_text.specs.Number.{IsNumeral}
 use Rattle.bpf_text.specs.Fields.{IsRegister, IsImmediate, IsSecond, IsTarget}
-use Rattle.bpf_text.specs.Mirror.Gives.{Gives, bits_in, HasExtension, HasSwapWidth}
+use Rattle.bpf_text.specs.Mirror.Gives.{bits_in, HasExtension, HasSwapWidth}
 use Rattle.bpf_text.specs.Mirror.Reads.{State, Token, Behind, Then, Memory, Reads, Answers, verdict}
 use Rattle.bpf_text.specs.Lines.{IsOperands, AreOne, AreTwo, AreThree, AreLoad, AreStore}
-use Rattle.bpf_text.specs.Judged.{Judges, JudgesForm, text_of, target_of}
+use Rattle.bpf_text.specs.Judged.{Gives, Judges, JudgesForm, text_of, target_of}
 use Rattle.bpf_text.specs.declared.line.Source.{Source}
 use Rattle.bpf_text.specs.declared.line.LineFault.{LineFault}
 use Rattle.bpf_text.specs.declared.line.LineFault.TheVariants.{Syntax, Range}
@@ -39,13 +39,13 @@ use Rattle.bpf_text.proofs.FormLemmas.{one_to, one_from, two_to, two_from, three
 pub record Fitting {V W : Type 0} (m : Mnemonic) (tokens : List (List ℕ)) (mk : V → Source) (view : V → W) (P F : W → Type 0) : Type 0 where
   pub ok : (v : V) → P (view v) → F (view v) → (mnemonic_of (mk v).line ≡ m) × IsOperands (mk v).line (text_of (mk v).name) None tokens × IsLine (mk v).line
   pub back : (l : Line) → (name : Option (List ℕ)) → (odd : Option ℕ) → mnemonic_of l ≡ m → IsOperands l name odd tokens → (w : W) × P w
-  pub out : (w : W) → P w → ¬ F w → Judges m tokens (Err Range)
+  pub out : (w : W) → P w → ¬ F w → (l : Line) × (name : Option (List ℕ)) × (odd : Option ℕ) × (mnemonic_of l ≡ m) × IsOperands l name odd tokens × ¬ (IsLine l × (odd ≡ None))
 
 judged : {V W : Type 0} {m : Mnemonic} {tokens : List (List ℕ)} {mk : V → Source} {view : V → W} {P F : W → Type 0} → Fitting m tokens mk view P F → (r : Option V) (u : State) → Gives view P F (verdict r u) → Judges m tokens (verdict (option_map mk r) u)
-judged f None u h = λ l name odd m k. let b = f.back l name odd m k in h b.0 b.1
-judged f (Some v) (x ∷ xs, out) h = λ l name odd m k. let b = f.back l name odd m k in h b.0 b.1
-judged f (Some v) ([], true) h = f.out h.0 h.1 h.2
-judged f (Some v) ([], false) h = f.ok v h.0 h.1
+judged f None u h = λ s k. let b = f.back s.line s.name s.odd k.0 k.1 in h b.0 b.1
+judged f (Some v) (x ∷ xs, out) h = λ s k. let b = f.back s.line s.name s.odd k.0 k.1 in h b.0 b.1
+judged f (Some v) ([], true) h = let o = f.out h.0 h.1 h.2 in (record { line = o.0; name = o.1; odd = o.2 }, (o.3, o.4), o.5)
+judged f (Some v) ([], false) h = let o = f.ok v h.0 h.1 in ((o.0, o.1), (o.2, refl))
 
 -- an instruction with no label's name
 abbrev pub plain : Line → Source
@@ -152,7 +152,7 @@ store_immediate z s r u h start = judged fits r u (gives_of (λ (v : (ℕ × ℤ
     fits = record { ok = λ v p f. (refl, (refl, refl, p), (f.0.0, f.0.1, f.1)); back = back; out = λ w p bad. (line.StoreImmediate z w.0.0 w.0.1 w.1, None, None, refl, (refl, refl, p), λ m. bad ((m.0.0, m.0.1), m.0.2)) }
 
 -- an extension and a byte order instruction have one of the widths that there are, or another one
-odd_extended : (w : Width) (tokens : List (List ℕ)) (dst src n : ℕ) → AreThree IsRegister IsRegister IsNumeral tokens ((dst, src), n) → ¬ HasExtension w n → Judges (word.MoveExtended w) tokens (Err Range)
+odd_extended : (w : Width) (tokens : List (List ℕ)) (dst src n : ℕ) → AreThree IsRegister IsRegister IsNumeral tokens ((dst, src), n) → ¬ HasExtension w n → (l : Line) × (name : Option (List ℕ)) × (odd : Option ℕ) × (mnemonic_of l ≡ word.MoveExtended w) × IsOperands l name odd tokens × ¬ (IsLine l × (odd ≡ None))
 odd_extended W32 tokens dst src n h none = (line.MoveExtended extension.From8To32 dst src, None, Some n, refl, (refl, n, (refl, λ e is same. none (e, is, same)), h), λ m. let e = m.1 in absurd cc)
 odd_extended W64 tokens dst src n h none = (line.MoveExtended extension.From8To64 dst src, None, Some n, refl, (refl, n, (refl, λ e is same. none (e, is, same)), h), λ m. let e = m.1 in absurd cc)
 
@@ -210,9 +210,9 @@ call s r u none h start = judged fits r u (gives_of (λ (z : ℤ). z) (Token IsI
     fits = record { ok = λ v p f. (refl, (refl, refl, p), f); back = back; out = λ w p bad. (line.Call w, None, None, refl, (refl, refl, p), λ m. bad m.0) }
 
 pub exit : (s : State) → Answers (word.Jump leap.Exit) s (Some (plain line.Exit)) s
-exit ([], false) start = (refl, (refl, refl, refl), tt)
+exit ([], false) start = ((refl, (refl, refl, refl)), (tt, refl))
 exit ([], true) start = absurd cc
-exit (x ∷ xs, out) start = by
+exit (x ∷ xs, out) start = λ s k. by s.line s.name s.odd k.0 k.1
   where
     by : (l : Line) → (name : Option (List ℕ)) → (odd : Option ℕ) → mnemonic_of l ≡ word.Jump leap.Exit → ¬ IsOperands l name odd (x ∷ xs)
     by line.Exit name odd m k = let e = k.2 in absurd cc
@@ -221,15 +221,15 @@ exit (x ∷ xs, out) start = by
 -- a word is of one mnemonic
 pub form_judged : (tokens : List (List ℕ)) (w : List ℕ) (operands : List (List ℕ)) (found : Mnemonic) (r : Result Source LineFault) → tokens ≡ w ∷ operands → w ≡ mnemonic_name found → ((m : Mnemonic) → w ≡ mnemonic_name m → Some found ≡ Some m)
     → Judges found operands r → JudgesForm tokens r
-form_judged tokens w operands found (Ok s) e is only h = ((operands, e ∙ ap (λ (t : List ℕ). t ∷ operands) (is ∙ ap mnemonic_name (sym h.0)), h.1), h.2)
-form_judged tokens w operands found (Err Syntax) e is only h = λ l name odd k.
+form_judged tokens w operands found (Ok s) e is only h = ((operands, e ∙ ap (λ (t : List ℕ). t ∷ operands) (is ∙ ap mnemonic_name (sym h.0.0)), h.0.1), h.1)
+form_judged tokens w operands found (Err Syntax) e is only h = λ s k.
     let e' = k.1 in
-    let same : w ≡ mnemonic_name (mnemonic_of l) = cc in
+    let same : w ≡ mnemonic_name (mnemonic_of s.line) = cc in
     let rest : k.0 ≡ operands = cc in
-    let one = only (mnemonic_of l) same in
-    let m : mnemonic_of l ≡ found = cc in
-    h l name odd m (subst (IsOperands l name odd) rest k.2)
-form_judged tokens w operands found (Err Range) e is only h = (h.0, h.1, h.2, (operands, e ∙ ap (λ (t : List ℕ). t ∷ operands) (is ∙ ap mnemonic_name (sym h.3)), h.4), h.5)
+    let one = only (mnemonic_of s.line) same in
+    let m : mnemonic_of s.line ≡ found = cc in
+    h s (m, subst (IsOperands s.line s.name s.odd) rest k.2)
+form_judged tokens w operands found (Err Range) e is only h = (h.0, (operands, e ∙ ap (λ (t : List ℕ). t ∷ operands) (is ∙ ap mnemonic_name (sym h.1.0)), h.1.1), h.2)
 
 pub no_form : (tokens : List (List ℕ)) (w : List ℕ) (operands : List (List ℕ)) → tokens ≡ w ∷ operands → ((m : Mnemonic) → w ≡ mnemonic_name m → ⊥) → JudgesForm tokens (Err Syntax)
-no_form tokens w operands e none = λ l name odd k. let e' = k.1 in let same : w ≡ mnemonic_name (mnemonic_of l) = cc in none (mnemonic_of l) same
+no_form tokens w operands e none = λ s k. let e' = k.1 in let same : w ≡ mnemonic_name (mnemonic_of s.line) = cc in none (mnemonic_of s.line) same

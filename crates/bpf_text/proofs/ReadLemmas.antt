@@ -3,12 +3,11 @@ use Rattle.std.proofs.Common.{◌≡◌, ◌≢◌, ℕ, ℤ, pos, List, [], ◌
 use Rattle.std.specs.Int.{w16}
 use Rattle.bpf_types.specs.Line.{IsReg}
 use Rattle.bpf_text.specs.Fields.{IsRegister, IsDistance}
-use Rattle.bpf_text.specs.Mirror.Gives.{Gives}
 use Rattle.bpf_text.specs.Mirror.Reads.{State, Token, Behind, Then, Bracket, Success, Reads, Notes, verdict}
 use Rattle.bpf_text.specs.declared.line.LineFault.{LineFault}
 use Rattle.bpf_text.specs.declared.line.LineFault.TheVariants.{Syntax, Range}
 use Rattle.bpf_text.proofs.FieldLemmas.{no_closing, register_in_range}
-use Rattle.bpf_text.specs.Judged.{texts}
+use Rattle.bpf_text.specs.Judged.{Gives, texts}
 use Rattle.std.proofs.lemmas.Grind.{common_steps}
 
 -- a value with what is read after it

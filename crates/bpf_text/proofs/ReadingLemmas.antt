@@ -18,8 +18,8 @@ body_err tokens Syntax some judge = λ s h. by s h
   where
     by : (s : Option Statement) → IsBody s tokens → ⊥
     by None h = some h
-    by (Some s) h = judge s.line s.name s.odd h
-body_err tokens Range some judge = (Some (record { line = judge.0; name = judge.1; odd = judge.2 }), judge.3, judge.4)
+    by (Some s) h = judge s h
+body_err tokens Range some judge = (Some judge.0, judge.1, judge.2)
 
 -- a colon is no operand
 no_register : (n : ℕ) → IsRegister (58 ∷ []) n → ⊥
@@ -98,25 +98,25 @@ no_name tokens rest name e bad None body h = no_colon body name rest tokens e h
 no_name tokens rest name e bad (Some n) body (others, e', is, b) = let same : n ≡ name = cc in bad (subst IsName same is)
 
 pub labelled_err : (tokens rest : List (List ℕ)) (name : List ℕ) (fault : LineFault) → tokens ≡ name ∷ (58 ∷ []) ∷ rest → IsName name → JudgesBody rest (Err fault) → JudgesTokens tokens (Err fault)
-labelled_err tokens rest name Syntax e is judge = λ label body h. by label body h
+labelled_err tokens rest name Syntax e is judge = λ w h. by w.label w.body h
   where
     by : (label : Option (List ℕ)) → (body : Option Statement) → HasLabel label body tokens → ⊥
     by None body h = no_colon body name rest tokens e h
     by (Some n) body (others, e', is', b) = let same : others ≡ rest = cc in judge body (subst (IsBody body) same b)
-labelled_err tokens rest name Range e is judge = (Some name, judge.0, (rest, e, is, judge.1), judge.2)
+labelled_err tokens rest name Range e is judge = (record { label = Some name; body = judge.0 }, (rest, e, is, judge.1), judge.2)
 
 pub plain_err : (tokens : List (List ℕ)) (fault : LineFault) → ((name : List ℕ) → (others : List (List ℕ)) → tokens ≢ name ∷ (58 ∷ []) ∷ others) → JudgesBody tokens (Err fault) → JudgesTokens tokens (Err fault)
-plain_err tokens Syntax none judge = λ label body h. by label body h
+plain_err tokens Syntax none judge = λ w h. by w.label w.body h
   where
     by : (label : Option (List ℕ)) → (body : Option Statement) → HasLabel label body tokens → ⊥
     by None body h = judge body h
     by (Some n) body (others, e', is', b) = none n others e'
-plain_err tokens Range none judge = (None, judge.0, judge.1, judge.2)
+plain_err tokens Range none judge = (record { label = None; body = judge.0 }, judge.1, judge.2)
 
 pub line_judged : (text : List ℕ) (tokens : List (List ℕ)) (r : Result Parsed LineFault) → HasTokens text tokens → JudgesTokens tokens r → JudgesLine text r
 line_judged text tokens (Ok p) has judge = ((tokens, has, judge.0), judge.1)
-line_judged text tokens (Err Syntax) has judge = λ w h. judge w.label w.body (subst (HasLabel w.label w.body) (one_tokens text h.0 tokens h.1 has) h.2)
-line_judged text tokens (Err Range) has judge = (record { label = judge.0; body = judge.1 }, (tokens, has, judge.2), judge.3)
+line_judged text tokens (Err Syntax) has judge = λ w h. judge w (subst (HasLabel w.label w.body) (one_tokens text h.0 tokens h.1 has) h.2)
+line_judged text tokens (Err Range) has judge = (judge.0, (tokens, has, judge.1), judge.2)
 
 pub some_texts : (ts : List (Bor (List ℕ))) (b : Bool) → b ≡ eqb (length ts) 0 → b ≡ false → texts ts ≡ [] → ⊥
 some_texts [] b e h k = absurd cc

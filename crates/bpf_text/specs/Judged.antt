@@ -1,11 +1,9 @@
 -- What the readers of a line say.
 use Rattle.std.specs.Prelude.{◌≡◌, ℕ, ℤ, List, Option, Some, None, Result, Ok, Err, map}
 use denote.Ref.{Bor}
-use Rattle.bpf_types.specs.declared.line.Line.{Line}
-use Rattle.bpf_types.specs.Line.{IsLine}
 use Rattle.bpf_canonical.specs.declared.mnemonic.Mnemonic.{Mnemonic}
 use Rattle.bpf_canonical.specs.Mnemonics.{mnemonic_of}
-use Rattle.bpf_text.specs.Lines.{IsOperands, IsForm, Statement, TextLine, Writes, InRange, IsBody, HasLabel}
+use Rattle.bpf_text.specs.Lines.{IsOperands, IsForm, Statement, TextLine, Writes, Fits, InRange, IsBody, HasLabel}
 use Rattle.bpf_text.specs.declared.line.Source.{Source}
 use Rattle.bpf_text.specs.declared.line.Parsed.{Parsed}
 use Rattle.bpf_text.specs.declared.line.LineFault.{LineFault}
@@ -23,50 +21,43 @@ text_of (Some name) = Some name.now
 abbrev pub target_of : ℤ × Option (Bor (List ℕ)) → ℤ × Option (List ℕ)
 target_of p = (p.0, text_of p.1)
 
--- of the operands of one mnemonic
-abbrev pub Judges : Mnemonic → List (List ℕ) → Result Source LineFault → Type 0
-Judges m tokens (Ok s) =
-    (mnemonic_of s.line ≡ m) × IsOperands s.line (text_of s.name) None tokens × IsLine s.line
-Judges m tokens (Err Syntax) =
-    (l : Line) → (name : Option (List ℕ)) → (odd : Option ℕ) → mnemonic_of l ≡ m →
-    ¬ IsOperands l name odd tokens
-Judges m tokens (Err Range) =
-    (l : Line) × (name : Option (List ℕ)) × (odd : Option ℕ) × (mnemonic_of l ≡ m)
-    × IsOperands l name odd tokens × ¬ (IsLine l × (odd ≡ None))
-
--- of an instruction
-abbrev pub JudgesForm : List (List ℕ) → Result Source LineFault → Type 0
-JudgesForm tokens (Ok s) = IsForm s.line (text_of s.name) None tokens × IsLine s.line
-JudgesForm tokens (Err Syntax) =
-    (l : Line) → (name : Option (List ℕ)) → (odd : Option ℕ) → ¬ IsForm l name odd tokens
-JudgesForm tokens (Err Range) =
-    (l : Line) × (name : Option (List ℕ)) × (odd : Option ℕ) × IsForm l name odd tokens
-    × ¬ (IsLine l × (odd ≡ None))
+abbrev pub written : Source → Statement
+written s = record { line = s.line; name = text_of s.name; odd = None }
 
 abbrev pub statement_of : Option Source → Option Statement
 statement_of None = None
-statement_of (Some s) = Some (record { line = s.line; name = text_of s.name; odd = None })
+statement_of (Some s) = Some (written s)
 
 abbrev pub written_line : Parsed → TextLine
 written_line p = record { label = text_of p.label; body = statement_of p.body }
 
--- of a whole line
+-- what was read is written so, and in its range; or nothing is written so; or something is, and out
+-- of its range
+abbrev pub Gives : {V : Type 0} → {W : Type 0} → (V → W) → (W → Type 0) → (W → Type 0) →
+    Result V LineFault → Type 0
+Gives {V} {W} view Is Fits (Ok v) = Is (view v) × Fits (view v)
+Gives {V} {W} view Is Fits (Err Syntax) = (w : W) → ¬ Is w
+Gives {V} {W} view Is Fits (Err Range) = (w : W) × Is w × ¬ Fits w
+
+-- a whole line
 abbrev pub JudgesLine : List ℕ → Result Parsed LineFault → Type 0
-JudgesLine text (Ok p) = Writes text (written_line p) × InRange (written_line p).body
-JudgesLine text (Err Syntax) = (w : TextLine) → ¬ Writes text w
-JudgesLine text (Err Range) = (w : TextLine) × Writes text w × ¬ InRange w.body
+JudgesLine text result = Gives written_line (Writes text) (λ w. InRange w.body) result
 
--- of a line's tokens
-abbrev pub JudgesBody : List (List ℕ) → Result (Option Source) LineFault → Type 0
-JudgesBody tokens (Ok s) = IsBody (statement_of s) tokens × InRange (statement_of s)
-JudgesBody tokens (Err Syntax) = (s : Option Statement) → ¬ IsBody s tokens
-JudgesBody tokens (Err Range) = (s : Option Statement) × IsBody s tokens × ¬ InRange s
-
+-- a line's tokens
 abbrev pub JudgesTokens : List (List ℕ) → Result Parsed LineFault → Type 0
-JudgesTokens tokens (Ok p) =
-    HasLabel (written_line p).label (written_line p).body tokens × InRange (written_line p).body
-JudgesTokens tokens (Err Syntax) =
-    (label : Option (List ℕ)) → (body : Option Statement) → ¬ HasLabel label body tokens
-JudgesTokens tokens (Err Range) =
-    (label : Option (List ℕ)) × (body : Option Statement) × HasLabel label body tokens
-    × ¬ InRange body
+JudgesTokens tokens result =
+    Gives written_line (λ w. HasLabel w.label w.body tokens) (λ w. InRange w.body) result
+
+-- the tokens behind a label
+abbrev pub JudgesBody : List (List ℕ) → Result (Option Source) LineFault → Type 0
+JudgesBody tokens result = Gives statement_of (λ s. IsBody s tokens) InRange result
+
+-- an instruction
+abbrev pub JudgesForm : List (List ℕ) → Result Source LineFault → Type 0
+JudgesForm tokens result = Gives written (λ s. IsForm s.line s.name s.odd tokens) Fits result
+
+-- the operands of one mnemonic
+abbrev pub Judges : Mnemonic → List (List ℕ) → Result Source LineFault → Type 0
+Judges m tokens result =
+    Gives written (λ s. (mnemonic_of s.line ≡ m) × IsOperands s.line s.name s.odd tokens) Fits
+    result

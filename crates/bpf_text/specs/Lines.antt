@@ -128,6 +128,9 @@ abbrev pub Writes : List ℕ → TextLine → Type 0
 Writes text w = (tokens : List (List ℕ)) × HasTokens text tokens × HasLabel w.label w.body tokens
 
 -- each number is in its range
+abbrev pub Fits : Statement → Type 0
+Fits s = IsLine s.line × (s.odd ≡ None)
+
 abbrev pub InRange : Option Statement → Type 0
 InRange None = Unit {0}
-InRange (Some s) = IsLine s.line × (s.odd ≡ None)
+InRange (Some s) = Fits s

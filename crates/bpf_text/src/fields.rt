@@ -6,8 +6,8 @@ ghost use Rattle.bpf_types.specs.Line.{IsOperand, swap_width_bits};
 ghost use Rattle.bpf_text.specs.Number.{IsNumeral};
 ghost use Rattle.bpf_text.specs.Tokens.{AllWord};
 ghost use Rattle.bpf_text.specs.Fields.{IsRegister, IsInteger, IsImmediate, IsSecond, IsDistance, IsName, IsTarget, as_signed};
-ghost use Rattle.bpf_text.specs.Mirror.Gives.{Gives, IsWide, bits_in, HasExtension, HasSwapWidth};
-ghost use Rattle.bpf_text.specs.Judged.{target_of};
+ghost use Rattle.bpf_text.specs.Mirror.Gives.{IsWide, bits_in, HasExtension, HasSwapWidth};
+ghost use Rattle.bpf_text.specs.Judged.{Gives, target_of};
 
 use crate::line::LineFault;
 use crate::number::numeral;

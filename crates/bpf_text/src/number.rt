@@ -3,7 +3,7 @@
 ghost use Rattle.std.specs.Prelude.{◌<◌, ◌≤◌, ◌^◌, ◌↔◌, IsTrue};
 ghost use Rattle.std.specs.Str.Parse.{AllDigits};
 ghost use Rattle.bpf_text.specs.Number.{Spells, IsNumeral};
-ghost use Rattle.bpf_text.specs.Mirror.Gives.{Gives};
+ghost use Rattle.bpf_text.specs.Judged.{Gives};
 
 use crate::line::LineFault;
 

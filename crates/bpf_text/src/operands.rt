@@ -20,7 +20,7 @@ use bpf_types::{Extension, Operand, Reg, SwapWidth, Width};
 #[derive(Drop)]
 pub struct Operands<'t, 'a> {
     pub rest: &'t [&'a [u8]],
-    pub is_out: bool,
+    pub out_of_range: bool,
 }
 
 impl<'a> Operands<'_, 'a> {
@@ -40,7 +40,7 @@ impl<'a> Operands<'_, 'a> {
     /// Passes over the mark where it is the next token.
     pub fn mark(&mut self, mark: u8) -> Option<()>
         ensures some { IfSome result (λ u. (texts self.old.rest.now
-            ≡ (mark ∷ []) ∷ texts self.new.rest.now) × (self.new.is_out ≡ self.old.is_out)) }
+            ≡ (mark ∷ []) ∷ texts self.new.rest.now) × (self.new.out_of_range ≡ self.old.out_of_range)) }
         ensures none { IfNone result ((rest : List (List ℕ)) →
             texts self.old.rest.now ≢ (mark ∷ []) ∷ rest) }
         ensures stays { IfNone result (state self.new ≡ state self.old) }
@@ -57,7 +57,7 @@ impl<'a> Operands<'_, 'a> {
     /// Passes over the word `local` where it is the next token.
     pub fn local(&mut self) -> Option<()>
         ensures some { IfSome result (λ u. (texts self.old.rest.now
-            ≡ codes "local" ∷ texts self.new.rest.now) × (self.new.is_out ≡ self.old.is_out)) }
+            ≡ codes "local" ∷ texts self.new.rest.now) × (self.new.out_of_range ≡ self.old.out_of_range)) }
         ensures none { IfNone result ((rest : List (List ℕ)) →
             texts self.old.rest.now ≢ codes "local" ∷ rest) }
         ensures stays { IfNone result (state self.new ≡ state self.old) }
@@ -73,14 +73,14 @@ impl<'a> Operands<'_, 'a> {
 
     /// What was read; or the other value where it is out of its range, which is noted.
     fn note<T: Copy>(&mut self, read: Result<T, LineFault>, other: T) -> Option<T>
-        ensures range { Notes self.old.is_out read result self.new.is_out }
+        ensures range { Notes self.old.out_of_range read result self.new.out_of_range }
         ensures rest { texts self.new.rest.now ≡ texts self.old.rest.now }
     {
         match read {
             Ok(value) => Some(value),
             Err(LineFault::Syntax) => None,
             Err(LineFault::Range) => {
-                self.is_out = true;
+                self.out_of_range = true;
                 Some(other)
             }
         }

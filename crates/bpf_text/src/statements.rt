@@ -226,11 +226,11 @@ fn complete<'a>(
     operands: &mut Operands<'_, 'a>,
     mnemonic: Mnemonic,
 ) -> Result<Source<'a>, LineFault>
-    requires { operands.old.is_out ≡ false }
+    requires { operands.old.out_of_range ≡ false }
     ensures { Judges mnemonic (texts operands.old.rest.now) result }
 {
     match instruction(operands, mnemonic) {
-        Some(_) if operands.is_out && operands.rest.is_empty() => Err(LineFault::Range),
+        Some(_) if operands.out_of_range && operands.rest.is_empty() => Err(LineFault::Range),
         Some(source) if operands.rest.is_empty() => Ok(source),
         _ => Err(LineFault::Syntax),
     }
@@ -243,7 +243,7 @@ pub fn statement<'a>(tokens: &[&'a [u8]]) -> Result<Source<'a>, LineFault>
 {
     let mut operands = Operands {
         rest: tokens,
-        is_out: false,
+        out_of_range: false,
     };
     let Some(word) = operands.token() else {
         return Err(LineFault::Syntax);

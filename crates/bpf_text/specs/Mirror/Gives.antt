@@ -1,4 +1,4 @@
--- What a reader says.
+-- The widths and the numbers that are read.
 use Rattle.std.specs.Prelude.{◌≡◌, ◌<◌, ◌^◌, ℕ, ℤ, pos, ◌-ℤ◌, ◌⊎◌, Result, Ok, Err}
 use Rattle.bpf_types.specs.declared.line.Width.{Width}
 use Rattle.bpf_types.specs.declared.line.Extension.{Extension}
@@ -8,14 +8,6 @@ use Rattle.bpf_types.specs.declared.line.SwapWidth.{SwapWidth}
 use Rattle.bpf_types.specs.Line.{swap_width_bits, extension_width, extension_bits}
 use Rattle.bpf_text.specs.declared.line.LineFault.{LineFault}
 use Rattle.bpf_text.specs.declared.line.LineFault.TheVariants.{Syntax, Range}
-
--- what was read is written so, and in its range; or nothing is written so; or something is, and out
--- of its range
-abbrev pub Gives : {V : Type 0} → {W : Type 0} → (V → W) → (W → Type 0) → (W → Type 0) →
-    Result V LineFault → Type 0
-Gives {V} {W} view Is Fits (Ok v) = Is (view v) × Fits (view v)
-Gives {V} {W} view Is Fits (Err Syntax) = (w : W) → ¬ Is w
-Gives {V} {W} view Is Fits (Err Range) = (w : W) × Is w × ¬ Fits w
 
 -- the width of an extension of the class, or 0 where it is of the other class
 abbrev pub bits_in : Width → Extension → ℕ

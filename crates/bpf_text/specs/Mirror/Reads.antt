@@ -14,7 +14,7 @@ abbrev pub State : Type 0
 State = List (List ℕ) × Bool
 
 abbrev pub state : Operands → State
-state operands = (texts operands.rest.now, operands.is_out)
+state operands = (texts operands.rest.now, operands.out_of_range)
 
 -- how a value is written in front of other tokens
 abbrev pub Form : Type 0 → Type 1
