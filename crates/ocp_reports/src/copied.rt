@@ -1,6 +1,6 @@
 //! Reports with copies of them.
 
-ghost use Rattle.std.specs.Prelude.{◌≡◌, IfOk, length};
+ghost use Rattle.std.specs.Prelude.{◌≡◌, ℕ, List, IfOk, length};
 
 use crate::Reports;
 use std::alloc::{AllocError, Allocator, Global};
@@ -15,8 +15,6 @@ pub struct CopiedReports<A: Allocator = Global> {
 }
 
 impl<A: Allocator> Model for CopiedReports<A> {
-    ghost use Rattle.std.specs.Prelude.{◌≡◌, ℕ, List};
-
     ghost Value = { List (List ℕ) };
 
     ghost view = { λ r. r.answer };
@@ -51,11 +49,6 @@ impl<A: Allocator> CopiedReports<A> {
         ensures journal { result.1 ≡ self }
         ensures receipt { result.2 ≡ self }
     {
-        let CopiedReports {
-            answer,
-            journal,
-            receipt,
-        } = self;
-        (answer, journal, receipt)
+        (self.answer, self.journal, self.receipt)
     }
 }

@@ -1,6 +1,7 @@
 //! Octets that are kept or handed out.
 
-ghost use Rattle.std.specs.Prelude.{◌≡◌, ◌↔◌, [], ◌∷◌, ◌++◌, ◌==◌, IsTrue, IfOk, OnOk, OnErr, length};
+ghost use Rattle.std.specs.Prelude.{◌≡◌, ◌↔◌, ℕ, List, [], ◌∷◌, ◌++◌, ◌==◌, All, IsTrue, IfOk, OnOk, OnErr, length};
+ghost use Rattle.ocp_reports.specs.Packets.{IsTelemetryPacket};
 
 use std::alloc::{AllocError, Allocator, Global};
 use std::marker::Model;
@@ -12,8 +13,6 @@ pub struct Octets<A: Allocator = Global> {
 }
 
 impl<A: Allocator> Model for Octets<A> {
-    ghost use Rattle.std.specs.Prelude.{ℕ, List};
-
     ghost Value = { List ℕ };
 
     ghost view = { λ o. o.octets.items };
@@ -56,22 +55,14 @@ pub struct Reports<A: Allocator = Global> {
 }
 
 impl<A: Allocator> Model for Reports<A> {
-    ghost use Rattle.std.specs.Prelude.{ℕ, List};
-
     ghost Value = { List (List ℕ) };
 
     ghost view = { λ r. r.packets.items };
-
-    ghost use Rattle.std.specs.Prelude.{All};
-    ghost use Rattle.ocp_reports.specs.Packets.{IsTelemetryPacket};
 
     ghost invariant = { λ r. All IsTelemetryPacket r.packets.items };
 }
 
 impl<A: Allocator> Reports<A> {
-    ghost use Rattle.std.specs.Prelude.{All};
-    ghost use Rattle.ocp_reports.specs.Packets.{IsTelemetryPacket};
-
     pub(crate) fn new(alloc: A) -> Self
         ensures { result ≡ [] }
     {

@@ -1,11 +1,10 @@
 //! The reports of a request as telemetry packets.
 
-ghost use Rattle.std.specs.Prelude.{◌≡◌, ◌+◌, ◌%◌, ◌++◌, ◌∷◌, [], List, length, IfOk, OnOk, MatchOption};
+ghost use Rattle.std.specs.Prelude.{◌≡◌, ◌+◌, ◌%◌, ◌++◌, ◌∷◌, [], length, IfOk, OnOk};
 ghost use Rattle.std.specs.Option.{option_to_list};
-ghost use Rattle.obcp_messages.specs.declared.report.Report.{Report as Sent};
 ghost use Rattle.ocp_reports.specs.Origin.{dispatch_of};
-ghost use Rattle.ocp_reports.specs.Reports.{report_of, dispatch_of_notice, reports_of};
-ghost use Rattle.ocp_reports.specs.Due.{due_dispatches, drain_dispatches};
+ghost use Rattle.ocp_reports.specs.Reports.{dispatch_of_notice, reports_of};
+ghost use Rattle.ocp_reports.specs.Due.{drain_dispatches};
 ghost use Rattle.ocp_reports.specs.Packets.{packets};
 
 use crate::{CopiedReports, Octets, Origin, Reports};
@@ -32,31 +31,6 @@ pub fn count_after(count: SequenceCount, packets: usize) -> SequenceCount
     match SequenceCount::new((count.number() + more) % SEQUENCE_COUNTS) {
         Some(count) => count,
         None => unreachable!(),
-    }
-}
-
-// The verification report of a notice, where it is not the place of the answer report.
-fn verification_report(request: [u8; 4], notice: Notice) -> Option<Report>
-    ensures { (answer : List Sent) → MatchOption result (notice ≡ Notice.Answer)
-        (λ r. report_of request answer notice ≡ r ∷ []) }
-{
-    match notice {
-        Notice::Accepted => Some(Report::Accepted { request }),
-        Notice::NotAccepted(failure) => Some(Report::NotAccepted {
-            request,
-            code: failure.code(),
-        }),
-        Notice::Started => Some(Report::Started { request }),
-        Notice::NotStarted(failure) => Some(Report::NotStarted {
-            request,
-            fault: StartFault::from(failure),
-        }),
-        Notice::Answer => None,
-        Notice::Completed => Some(Report::Completed { request }),
-        Notice::NotCompleted(failure) => Some(Report::NotCompleted {
-            request,
-            code: failure.code(),
-        }),
     }
 }
 
@@ -106,13 +80,29 @@ impl Sender {
             let more = dispatch_of_notice origin (option_to_list answer.now) notice in
             OnOk result (reports.new ≡ reports.old ++ packets self.now.apid count more) }
     {
-        if let Some(report) = verification_report(origin.request, notice) {
-            return self.add(alloc, origin, &report, reports);
-        }
-        match answer {
-            Some(report) => self.add(alloc, origin, report, reports),
-            None => Ok(()),
-        }
+        let request = origin.request;
+        let report = match notice {
+            Notice::Accepted => Report::Accepted { request },
+            Notice::NotAccepted(failure) => Report::NotAccepted {
+                request,
+                code: failure.code(),
+            },
+            Notice::Started => Report::Started { request },
+            Notice::NotStarted(failure) => Report::NotStarted {
+                request,
+                fault: StartFault::from(failure),
+            },
+            Notice::Answer => match answer {
+                Some(report) => return self.add(alloc, origin, report, reports),
+                None => return Ok(()),
+            },
+            Notice::Completed => Report::Completed { request },
+            Notice::NotCompleted(failure) => Report::NotCompleted {
+                request,
+                code: failure.code(),
+            },
+        };
+        self.add(alloc, origin, &report, reports)
     }
 
     /// The packets of the reports of a request, with copies of them.
@@ -135,24 +125,6 @@ impl Sender {
         CopiedReports::of(alloc, reports)
     }
 
-    // Adds the packet of a completion that waited, if it is to be reported.
-    fn complete<A: Allocator + Copy>(
-        &self,
-        alloc: A,
-        time: u32,
-        due: &Due,
-        reports: &mut Reports<A>,
-    ) -> Result<(), AllocError>
-        ensures { let count = self.now.count + length reports.old in
-            OnOk result (reports.new ≡
-            reports.old ++ packets self.now.apid count (due_dispatches time due.now)) }
-    {
-        match completion(due.origin.ack, due.failure) {
-            Some(notice) => self.send(alloc, Origin::of_due(due, time), notice, &None, reports),
-            None => Ok(()),
-        }
-    }
-
     /// The packets of the reports of completions that waited, the first one first, sent at this
     /// time to the sources of their requests; with copies of them.
     pub fn drained_reports<A: Allocator + Copy>(
@@ -166,7 +138,10 @@ impl Sender {
     {
         let mut reports = Reports::new(alloc);
         for one in due {
-            self.complete(alloc, time, one, &mut reports)?;
+            if let Some(notice) = completion(one.origin.ack, one.failure) {
+                let origin = Origin::of_due(one, time);
+                self.send(alloc, origin, notice, &None, &mut reports)?;
+            }
         }
         CopiedReports::of(alloc, reports)
     }
