@@ -19,12 +19,6 @@ impl<A: Allocator> Model for Octets<A> {
 }
 
 impl<A: Allocator> Octets<A> {
-    pub fn new(octets: Vec<u8, A>) -> Self
-        ensures { result ≡ octets.items }
-    {
-        Octets { octets }
-    }
-
     /// A copy of borrowed octets.
     pub fn copy_of(alloc: A, octets: &[u8]) -> Result<Self, AllocError>
         ensures { IfOk result (λ copy. copy ≡ octets.now) }
@@ -71,13 +65,13 @@ impl<A: Allocator> Reports<A> {
         }
     }
 
-    /// Adds a packet. Where there is no memory, nothing changes.
-    pub(crate) fn push(&mut self, packet: Octets<A>) -> Result<(), AllocError>
-        requires { IsTelemetryPacket packet }
-        ensures ok { OnOk result (self.new ≡ self.old ++ packet ∷ []) }
+    /// Adds the packet of these octets. Where there is no memory, nothing changes.
+    pub(crate) fn push(&mut self, octets: Vec<u8, A>) -> Result<(), AllocError>
+        requires { IsTelemetryPacket octets.items }
+        ensures ok { OnOk result (self.new ≡ self.old ++ octets.items ∷ []) }
         ensures err { OnErr result (self.new ≡ self.old) }
     {
-        self.packets.push(packet)?;
+        self.packets.push(Octets { octets })?;
         Ok(())
     }
 
@@ -124,7 +118,7 @@ impl<A: Allocator> Reports<A> {
     {
         let mut copy = Reports::new(alloc);
         for packet in self.packets() {
-            copy.push(Octets::copy_of(alloc, packet.as_slice())?)?;
+            copy.push(Vec::from_slice(alloc, packet.as_slice())?)?;
         }
         Ok(copy)
     }

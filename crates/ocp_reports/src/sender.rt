@@ -7,7 +7,7 @@ ghost use Rattle.ocp_reports.specs.Reports.{dispatch_of_notice, reports_of};
 ghost use Rattle.ocp_reports.specs.Due.{drain_dispatches};
 ghost use Rattle.ocp_reports.specs.Packets.{packets};
 
-use crate::{CopiedReports, Octets, Origin, Reports};
+use crate::{CopiedReports, Origin, Reports};
 use obcp_messages::{Report, StartFault, write_report};
 use obcp_types::Due;
 use pus_fields::{Tm, WriteFault, telemetry_octets_are_read_back, write_tm};
@@ -61,7 +61,7 @@ impl Sender {
         );
         let mut octets = Vec::new(alloc);
         match write_tm(&telemetry, &mut octets) {
-            Ok(()) => reports.push(Octets::new(octets)),
+            Ok(()) => reports.push(octets),
             Err(WriteFault::Memory) => Err(AllocError),
             Err(WriteFault::TooLong) => unreachable!(),
         }
