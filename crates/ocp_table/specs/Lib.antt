@@ -11,3 +11,4 @@ pub mod Snapshots
 pub mod Slices
 pub mod Laws
 pub mod Mirror
+pub mod Clauses

@@ -1,4 +1,7 @@
 //! What became of an event of a procedure.
+ghost use Rattle.std.specs.Prelude.{◌≡◌, true};
+ghost use Rattle.ocp_table.specs.Clauses.{Failed, Kept, is_done, is_on, step_outcome, step_outcome_of};
+
 use crate::ProcedureFault;
 use obcp_types::StartFailure;
 use ocp_pool::Called;
@@ -52,10 +55,6 @@ pub enum LoadFailure {
 }
 
 impl StepOutcome {
-    ghost use Rattle.std.specs.Prelude.{◌≡◌, true};
-    ghost use Rattle.ocp_table.specs.Effects.{Kept, Failed, step_outcome, step_outcome_of};
-    ghost use Rattle.ocp_table.specs.Slices.{is_on, is_done};
-
     /// That of an instruction event which did so.
     #[inline(always)]
     pub(crate) fn of(outcome: InstructionOutcome) -> StepOutcome

@@ -1,6 +1,6 @@
 //! What is left of a procedure's budget.
 ghost use Rattle.std.specs.Prelude.{◌≡◌};
-ghost use Rattle.ocp_table.specs.Budgets.{less, within};
+ghost use Rattle.ocp_table.specs.Clauses.{less, within};
 
 /// What is left after so many more instructions.
 #[inline(always)]

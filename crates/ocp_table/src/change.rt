@@ -1,10 +1,7 @@
 //! The request table: what a request does to the record of its procedure, or why it fails; and how
 //! that is enacted.
 ghost use Rattle.std.specs.Prelude.{◌≡◌, ◌++◌, false, Some, IfOk};
-ghost use Rattle.ocp_table.specs.Outbox.{HasPlaceBeside};
-ghost use Rattle.ocp_table.specs.Effects.{record_by, dues_by_change};
-ghost use Rattle.ocp_table.specs.Deciding.{decision_on};
-ghost use Rattle.ocp_table.specs.Shown.{record_of, directive_of, change_of, decision_of, HasFewArguments, FitsIn, HasPlaceFor};
+ghost use Rattle.ocp_table.specs.Clauses.{FitsIn, HasFewArguments, HasPlaceBeside, HasPlaceFor, change_of, decision_of, decision_on, directive_of, dues_by_change, record_by, record_of};
 
 use crate::outbox::{Outbox, overtake};
 use crate::{Cause, Control, Directive, Pending, Place, Record};

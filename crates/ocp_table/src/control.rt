@@ -41,11 +41,9 @@ pub(crate) fn matches(wanted: u16, step: u16) -> bool
 }
 
 ghost use Rattle.std.specs.Prelude.{◌≡◌};
-ghost use Rattle.ocp_table.specs.Effects.{matches};
+ghost use Rattle.ocp_table.specs.Clauses.{control_at_step_end, control_by_outcome, control_on_hold, inactive, matches};
 
 impl Control {
-    ghost use Rattle.ocp_table.specs.Effects.{inactive, control_on_hold, control_at_step_end, control_by_outcome};
-
     /// That of a procedure that became inactive: nothing is pending.
     pub(crate) fn inactive(cause: Cause) -> Control
         ensures { result ≡ inactive cause }

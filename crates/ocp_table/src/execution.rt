@@ -1,4 +1,7 @@
 //! A program and the machine that runs it.
+ghost use Rattle.std.specs.Prelude.{◌≡◌, ◌≤◌, ◌↔◌, ℕ, List, [], None, Some, false, IfOk, IsSome, IsOk, IsTrue, IfErr, OnOk, OnErr, length};
+ghost use Rattle.ocp_table.specs.Clauses.{AccessOutside, HasAddressesOf, IsPlace, Profile, StandsIn, line_of, load_result, local_count, local_run, machine_at_restart, machine_by_outcome, mailbox_by_outcome, octets_at, one_step, outcome_of, pool_by_outcome};
+
 use crate::InstructionOutcome;
 use bpf_step::{Local, Machine, Need};
 use bpf_types::Line;
@@ -36,18 +39,6 @@ impl<A: Allocator> Model for Execution<A> {
 }
 
 impl<A: Allocator> Execution<A> {
-    ghost use Rattle.std.specs.Prelude.{◌≡◌, ◌≤◌, ◌↔◌, ℕ, List, [], None, Some, false, IfOk, IsSome, IsOk, IsTrue, IfErr, OnOk, OnErr, length};
-    ghost use Rattle.ocp_profile.specs.declared.profile.Profile.{Profile};
-    ghost use Rattle.ocp_loader.specs.LoadResult.{load_result};
-    ghost use Rattle.ocp_loader.specs.LineAt.{IsPlace, line_of};
-    ghost use Rattle.ocp_regions.specs.Memory.{octets_at};
-    ghost use Rattle.ocp_regions.specs.declared.fault.AccessFault.TheVariants.{AccessOutside};
-    ghost use Rattle.bpf_step.specs.Machine.{machine_at_restart, HasAddressesOf};
-    ghost use Rattle.bpf_step.specs.Step.{one_step, StandsIn};
-    ghost use Rattle.bpf_step.specs.Runs.{local_run, local_count};
-    ghost use Rattle.ocp_table.specs.Effects.{machine_by_outcome, mailbox_by_outcome, pool_by_outcome};
-    ghost use Rattle.ocp_table.specs.Deciding.{outcome_of};
-
     /// A machine at a program's first instruction.
     pub(crate) fn new(
         alloc: A,

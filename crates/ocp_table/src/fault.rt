@@ -1,7 +1,7 @@
 //! Why a procedure ends in a fault.
 ghost use Rattle.std.specs.Prelude.{◌≡◌};
+ghost use Rattle.ocp_table.specs.Clauses.{fault_number};
 ghost use Rattle.ocp_table.specs.declared.fault.ProcedureFault.TheVariants as fault;
-ghost use Rattle.ocp_table.specs.Faults.{fault_number};
 
 use bpf_step::MachineFault;
 use ocp_pool::PoolFault;

@@ -1,22 +1,8 @@
 //! Laws on effects and records. The functions do nothing when they run: their contracts are the
 //! laws.
 ghost use Rattle.std.specs.Prelude.{◌≡◌, ◌≢◌, ℕ, List, [], ◌∷◌, map, true, Some, is_some};
-ghost use Rattle.std.specs.FinMap.{get, insert};
-ghost use Rattle.obcp_types.specs.declared.failure.StartFailure.{StartFailure as Failure};
-ghost use Rattle.obcp_types.specs.declared.status.Status.TheVariants.{Running};
-ghost use Rattle.ocp_regions.specs.declared.fault.AccessFault.TheVariants.{AccessOutside, WriteToArguments};
-ghost use Rattle.bpf_step.specs.declared.answer.MachineFault.TheVariants.{Access, CallDepth};
-ghost use Rattle.bpf_step.specs.Machine.{State};
-ghost use Rattle.ocp_pool.specs.declared.call.PoolFault.TheVariants.{BadPoolIndex};
-ghost use Rattle.ocp_table.specs.declared.answers.StepOutcome.{StepOutcome};
-ghost use Rattle.ocp_table.specs.declared.fault.ProcedureFault.TheVariants.{Machine, Pool, BudgetSpent};
-ghost use Rattle.ocp_table.specs.Faults.{fault_number};
-ghost use Rattle.ocp_table.specs.Records.{Rec, Records};
-ghost use Rattle.ocp_table.specs.Effects.{Effect, Change, Changed, records_by, failure_of};
-ghost use Rattle.ocp_table.specs.RequestTable.{Directive as Asked, Step};
-ghost use Rattle.ocp_table.specs.Deciding.{effect_in, status_of};
-ghost use Rattle.ocp_table.specs.Slices.{Store, RunsBy, Leads, with_machine, last_ran};
-ghost use Rattle.ocp_table.specs.Laws.{machine_of, run_of, IsRequest, IsKeptOrStarted, IsDebugging, LeavesMachines};
+ghost use Rattle.ocp_table.specs.Clauses.{Access, AccessOutside, BadPoolIndex, BudgetSpent, CallDepth, Change, Changed, Directive as Asked, Effect, IsDebugging, IsKeptOrStarted, IsRequest, Leads, LeavesMachines, Machine, Pool, Rec, Records, Running, RunsBy, StartFailure as Failure, State, Step, StepOutcome, Store, WriteToArguments, effect_in, failure_of, fault_number, get, insert, last_ran, machine_of, records_by, status_of, with_machine};
+ghost use Rattle.ocp_table.specs.Laws.{run_of};
 
 /// The faults of a procedure have the numbers 1 to 5, in this order.
 pub fn faults_are_numbered()

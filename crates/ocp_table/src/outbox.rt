@@ -1,7 +1,6 @@
 //! The completions that wait to be reported.
 ghost use Rattle.std.specs.Prelude.{◌≡◌, ◌++◌};
-ghost use Rattle.ocp_table.specs.Outbox.{HasPlaceBeside};
-ghost use Rattle.ocp_table.specs.Effects.{failed_completion, dues_at_step_end, dues_by_outcome};
+ghost use Rattle.ocp_table.specs.Clauses.{HasPlaceBeside, dues_at_step_end, dues_by_outcome, failed_completion};
 
 use crate::control::matches;
 use crate::{Called, CompletionFailure, Due, InstructionOutcome, OUTBOX_PLACES, Pending};
@@ -52,11 +51,8 @@ pub(crate) fn file(outbox: &mut Outbox, pending: &Pending, outcome: InstructionO
     ensures { outbox.new.items ≡ outbox.old.items ++ dues_by_outcome outcome pending.now }
 {
     match outcome {
-        InstructionOutcome::Broke => {}
-        InstructionOutcome::Ran => {}
         InstructionOutcome::Called(Called::StepEnd(step)) => end_step(outbox, *pending, step),
-        InstructionOutcome::Called(_) => {}
-        InstructionOutcome::Ended => overtake(outbox, *pending),
-        InstructionOutcome::Faulted(_) => overtake(outbox, *pending),
+        InstructionOutcome::Ended | InstructionOutcome::Faulted(_) => overtake(outbox, *pending),
+        InstructionOutcome::Broke | InstructionOutcome::Ran | InstructionOutcome::Called(_) => {}
     }
 }

@@ -1,15 +1,6 @@
 //! A slice of a procedure that is found once.
 ghost use Rattle.std.specs.Prelude.{◌≡◌, ◌≤◌, ◌+◌, ◌++◌, Some, if◌then◌else◌, true, false};
-ghost use Rattle.std.specs.FinMap.{get};
-ghost use Rattle.obcp_types.specs.declared.status.Status.TheVariants.{Running};
-ghost use Rattle.bpf_step.specs.Runs.{local_run};
-ghost use Rattle.ocp_table.specs.Budgets.{IsWithin};
-ghost use Rattle.ocp_table.specs.Records.{Records};
-ghost use Rattle.ocp_table.specs.Effects.{record_after, pool_by, step_outcome};
-ghost use Rattle.ocp_table.specs.RequestTable.{Step};
-ghost use Rattle.ocp_table.specs.Outbox.{HasPlaceBeside};
-ghost use Rattle.ocp_table.specs.Shown.{record_of, effect_of_record, dues_of_effect};
-ghost use Rattle.ocp_table.specs.Slices.{is_on, is_done, is_running_status, with_machine, IsSlice};
+ghost use Rattle.ocp_table.specs.Clauses.{HasPlaceBeside, IsSlice, IsWithin, Records, Running, Step, dues_of_effect, effect_of_record, get, is_done, is_on, is_running_status, local_run, pool_by, record_after, record_of, step_outcome, with_machine};
 
 use crate::budget::{less, within};
 use crate::outbox::Outbox;
@@ -17,9 +8,9 @@ use crate::{Pool, Record, Slice, Status, StepOutcome};
 use std::alloc::Allocator;
 
 impl<A: Allocator> Record<A> {
-    // Whether the procedure runs.
+    /// Whether the procedure runs.
     #[inline(always)]
-    fn is_running(&self) -> bool
+    pub(crate) fn is_running(&self) -> bool
         ensures { result ≡ is_running_status self.now.control.status }
     {
         match self.control.status {

@@ -1,5 +1,9 @@
 //! What is taken of a running procedure to run it apart.
 
+ghost use Rattle.std.specs.Prelude.{◌≡◌, ◌↔◌, IfOk, IsTrue, Some, None, false};
+ghost use Rattle.ocp_table.specs.Clauses.{HasAddressesOf, IsWithin, StandsIn, count_of, record_of, snapshot_at};
+ghost use Rattle.ocp_table.specs.Snapshots.{run_of};
+
 use crate::budget::within;
 use crate::{Execution, MAX_BREAKPOINTS, Record};
 use arrayvec::ArrayVec;
@@ -39,13 +43,6 @@ impl<A: Allocator> Model for Snapshot<A> {
 }
 
 impl<A: Allocator> Snapshot<A> {
-    ghost use Rattle.std.specs.Prelude.{◌≡◌, ◌↔◌, IfOk, IsTrue, Some, None, false};
-    ghost use Rattle.bpf_step.specs.Machine.{HasAddressesOf};
-    ghost use Rattle.bpf_step.specs.Step.{StandsIn};
-    ghost use Rattle.ocp_table.specs.Budgets.{IsWithin};
-    ghost use Rattle.ocp_table.specs.Shown.{record_of};
-    ghost use Rattle.ocp_table.specs.Snapshots.{snapshot_at, run_of, count_of};
-
     /// That of a procedure, where it runs.
     pub(crate) fn take(alloc: A, procedure: &Record<A>) -> Result<Option<Self>, AllocError>
     where
@@ -71,14 +68,10 @@ impl<A: Allocator> Snapshot<A> {
         ensures addresses { HasAddressesOf self.old.machine self.new.machine }
         ensures kept { (result ≡ false) → self.new ≡ self.old }
     {
-        match procedure.control.status {
-            Status::Running => {}
-            Status::Inactive | Status::Held => return false,
-        }
         let Ok(breakpoints) = procedure.breakpoints.clone() else {
             return false;
         };
-        if !self.execution.share_from(&procedure.execution) {
+        if !procedure.is_running() || !self.execution.share_from(&procedure.execution) {
             return false;
         }
         self.breakpoints = breakpoints;
@@ -94,16 +87,12 @@ impl<A: Allocator> Snapshot<A> {
             (snapshot_at (Some (record_of procedure.now)) ≡ Some self.now) }
         ensures stands { IsTrue result → StandsIn self.now.image self.now.machine }
     {
-        match procedure.control.status {
-            Status::Running => {
-                self.pass == procedure.control.pass
-                    && self.traced == procedure.traced
-                    && self.remaining == procedure.remaining
-                    && self.breakpoints.as_slice() == procedure.breakpoints.as_slice()
-                    && self.execution.is_same(&procedure.execution)
-            }
-            Status::Inactive | Status::Held => false,
-        }
+        procedure.is_running()
+            && self.pass == procedure.control.pass
+            && self.traced == procedure.traced
+            && self.remaining == procedure.remaining
+            && self.breakpoints.as_slice() == procedure.breakpoints.as_slice()
+            && self.execution.is_same(&procedure.execution)
     }
 
     /// A machine as it stood.
