@@ -21,7 +21,8 @@ fn is_same(a: &Fields, b: &Fields) -> bool
         && a.imm == b.imm
 }
 
-/// The instruction, where these fields spell it: each field that it does not name is zero.
+/// The instruction, where these fields spell it: each field that it does not name is zero. Each row
+/// asks this by itself, since its variant says there which fields are left to compare.
 #[inline(always)]
 fn spelled_line(fields: &Fields, line: Line) -> Option<Line>
     ensures { result ≡ spelled_line fields.now line }

@@ -1,5 +1,6 @@
 -- What the parts of an opcode stand for: the one whose code in the instruction table they are.
-use Rattle.std.specs.Prelude.{ℕ, ◌/◌, ◌%◌, ℤ, pos, List, [], ◌∷◌, Bool, ◌&&◌, ◌||◌, ◌==◌, if◌then◌else◌, Option, Some, None}
+use Rattle.std.specs.Prelude.{ℕ, ◌/◌, ◌%◌, ℤ, pos, Bool, ◌&&◌, ◌||◌, ◌==◌, if◌then◌else◌, Option}
+use Rattle.std.specs.List.{find}
 use Rattle.std.specs.Option.{is_some}
 use Rattle.std.specs.Ordering.{int_eq}
 use Rattle.bpf_types.specs.declared.line.Fields.{Fields}
@@ -15,31 +16,26 @@ abbrev pub slot_with : ℕ → ℕ → ℕ → ℤ → ℤ → Fields
 slot_with opcode dst src offset imm =
     record { opcode = opcode; dst = dst; src = src; offset = offset; imm = imm }
 
--- the first element that passes a test
-abbrev pub first : {A : Type 0} → (A → Bool) → List A → Option A
-first test [] = None
-first test (x ∷ xs) = if test x then Some x else first test xs
-
 -- the operation of a code, the high four bits of an arithmetic opcode, and an offset field
 abbrev pub operation_at : ℕ → ℤ → Option Operation
 operation_at n offset =
-    first (λ o. (n == operation_code o) && int_eq offset (operation_offset o)) operations
+    find (λ o. (n == operation_code o) && int_eq offset (operation_offset o)) operations
 
 -- the test of a code, the high four bits of a jump's opcode
 abbrev pub comparison_at : ℕ → Option Comparison
-comparison_at n = first (λ c. n == comparison_code c) comparisons
+comparison_at n = find (λ c. n == comparison_code c) comparisons
 
 -- the byte order instruction of an opcode
 abbrev pub order_at : ℕ → Option Order
-order_at n = first (λ o. n == order_opcode o) orders
+order_at n = find (λ o. n == order_opcode o) orders
 
 -- the size of a load or a store by its two bits
 abbrev pub size_at : ℕ → Option Size
-size_at n = first (λ s. n == size_code s) sizes
+size_at n = find (λ s. n == size_code s) sizes
 
 -- the size of a load that extends the sign by the same bits
 abbrev pub signed_size_at : ℕ → Option SignedSize
-signed_size_at n = first (λ s. n == signed_size_code s) signed_sizes
+signed_size_at n = find (λ s. n == signed_size_code s) signed_sizes
 
 -- some row of the classes ALU and ALU64 has this opcode (RFC 9669, sections 4.1 and 4.2)
 abbrev pub is_arithmetic : ℕ → Bool

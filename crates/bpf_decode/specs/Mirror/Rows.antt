@@ -1,5 +1,6 @@
 -- The rows of the instruction table: the one instruction that the fields of a slot can spell.
 use Rattle.std.specs.Prelude.{◌/◌, ◌%◌, Bool, ◌&&◌, not, nat_lt, ◌==◌, if◌then◌else◌, Option, Some, None, ℤ, pos, negsuc}
+use Rattle.std.specs.Option.{option_and_then}
 use Rattle.std.specs.Ordering.{int_eq}
 use Rattle.bpf_types.specs.declared.line.Fields.{Fields}
 use Rattle.bpf_types.specs.declared.line.Line.{Line}
@@ -16,8 +17,7 @@ use Rattle.bpf_decode.specs.Mirror.Codes.{operation_at, comparison_at, order_at,
 infixl 10 ◌>>=◌
 -- what follows from the value, where there is one
 abbrev pub ◌>>=◌ : {A B : Type 0} → Option A → (A → Option B) → Option B
-(Some x) >>= f = f x
-None >>= f = None
+value >>= f = option_and_then f value
 
 -- the operand of an opcode, by bit 3 (RFC 9669, section 4)
 abbrev pub operand_at : Fields → Operand
