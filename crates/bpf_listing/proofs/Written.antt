@@ -1,5 +1,5 @@
 -- A listing that is written as far as there is room for it.
-use Rattle.std.proofs.Common.{◌≡◌, ◌≢◌, ◌+◌, ◌*◌, ◌<◌, ◌≤◌, ℕ, zero, suc, List, [], ◌∷◌, ◌++◌, refl, sym, ap, ◌∙◌, subst, arith, length, take, drop, length-append, append_assoc}
+use Rattle.std.proofs.Common.{◌≡◌, ◌+◌, ◌*◌, ◌<◌, ◌≤◌, ℕ, zero, suc, List, [], ◌∷◌, ◌++◌, refl, sym, ap, ◌∙◌, subst, arith, length, take, drop, length-append, append_assoc}
 use Rattle.std.specs.Prelude.{codes}
 use Rattle.std.proofs.Math.Seq.{take-append_seam}
 use Rattle.std.proofs.lemmas.List.{append-nil}
@@ -11,8 +11,8 @@ use Rattle.bpf_listing.specs.declared.disassembly.DisassembleFault.TheVariants a
 use Rattle.bpf_decode.specs.declared.fault.DecodeFault.{DecodeFault}
 use Rattle.bpf_decode.specs.Images.{IsImageOf, NoneWritesFramePointer, HasFaultAt}
 use Rattle.bpf_canonical.specs.Canonical.{canonical, listing}
-use Rattle.bpf_listing.specs.Listing.{IsListed, IsFaultOf, LacksRoom}
-use Rattle.bpf_listing.specs.Mirror.Written.{Continues, IsWritten, IsFlushed}
+use Rattle.bpf_listing.specs.Listing.{IsListed, IsRefusal, LacksRoom}
+use Rattle.bpf_listing.specs.Mirror.Written.{Continues, IsFaultOf, IsWritten, IsFlushed}
 use Rattle.bpf_listing.proofs.Listings.{listed_none, listed_more}
 
 -- what the laws of bpf_decode say of images
@@ -97,10 +97,10 @@ all_written code capacity old new more slot len w none le =
     }
 
 -- an image that has a listing has no fault
-pub never : NoneFaulty → (code old new : List ℕ) (capacity len : ℕ) (e : DisassembleFault) → IsWritten code capacity old new len → (e ≢ fault.Ragged) × (e ≢ fault.Memory) × IsFaultOf code e → ⊥
-never none code old new capacity len fault.Ragged w f = f.0 refl
-never none code old new capacity len (fault.Decode d slot) w f = none code w.listed.lines slot d w.listed.whole w.listed.permitted f.2
-never none code old new capacity len fault.Memory w f = f.1 refl
+pub never : NoneFaulty → (code old new : List ℕ) (capacity len : ℕ) (e : DisassembleFault) → IsWritten code capacity old new len → IsFaultOf code e → ⊥
+never none code old new capacity len fault.Ragged w f = absurd f
+never none code old new capacity len (fault.Decode d slot) w f = none code w.listed.lines slot d w.listed.whole w.listed.permitted f
+never none code old new capacity len fault.Memory w f = absurd f
 
 -- what is written where there is room for it
 pub written : (code old new : List ℕ) (capacity len : ℕ) → IsWritten code capacity old new len → length old + len ≤ capacity → IsListed code old new
@@ -120,17 +120,18 @@ lacks code old new capacity len before w full = record {
   missing = omega (arith, full, w.counts, ap length w.listed.text);
 }
 
--- and the listing of the instructions that the image is does not fit
-pub full : OneImage → (code old new : List ℕ) (capacity len before : ℕ) → IsWritten code capacity old new len → before < length old + len → (lines : List Line) → IsImageOf code lines → before < length (old ++ listing lines)
-full one code old new capacity len before w h lines is =
-    omega (arith, h, w.counts, ap length w.listed.text, ap (λ (k : List Line). length (listing k)) (one code w.listed.lines lines w.listed.whole is), length-append old (listing lines))
+-- a fault of its instructions is why it is refused
+pub refused : (code : List ℕ) (capacity len : ℕ) (e : DisassembleFault) → IsFaultOf code e → IsRefusal code capacity len e
+refused code capacity len fault.Ragged h = absurd h
+refused code capacity len (fault.Decode d slot) h = h
+refused code capacity len fault.Memory h = absurd h
 
 -- what is refused for a fault leaves no list of instructions
-pub unlisted : NoneFaulty → (code : List ℕ) (e : DisassembleFault) → (e ≢ fault.Ragged) × (e ≢ fault.Memory) × IsFaultOf code e
+pub unlisted : NoneFaulty → (code : List ℕ) (e : DisassembleFault) → IsFaultOf code e
     → (lines : List Line) → IsImageOf code lines → NoneWritesFramePointer lines → ⊥
-unlisted none code fault.Ragged h lines is permitted = h.0 refl
-unlisted none code (fault.Decode d slot) h lines is permitted = none code lines slot d is permitted h.2
-unlisted none code fault.Memory h lines is permitted = h.1 refl
+unlisted none code fault.Ragged h lines is permitted = absurd h
+unlisted none code (fault.Decode d slot) h lines is permitted = none code lines slot d is permitted h
+unlisted none code fault.Memory h lines is permitted = absurd h
 
 -- a listing is that of the instructions that the image is
 pub listed_only : OneImage → (code old new : List ℕ) → IsListed code old new → (lines : List Line) → IsImageOf code lines → new ≡ old ++ listing lines

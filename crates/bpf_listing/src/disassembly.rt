@@ -4,8 +4,8 @@ ghost use Rattle.std.specs.Result.{IsErrOf};
 ghost use Rattle.bpf_types.specs.declared.line.Line.{Line};
 ghost use Rattle.bpf_decode.specs.Images.{IsImageOf, NoneWritesFramePointer};
 ghost use Rattle.bpf_canonical.specs.Canonical.{listing};
-ghost use Rattle.bpf_listing.specs.Listing.{IsListed, IsFaultOf, LacksRoom};
-ghost use Rattle.bpf_listing.specs.Mirror.Written.{Continues, IsWritten, IsFlushed};
+ghost use Rattle.bpf_listing.specs.Listing.{IsListed, IsRefusal};
+ghost use Rattle.bpf_listing.specs.Mirror.Written.{Continues, IsFaultOf, IsFlushed, IsWritten};
 
 use bpf_canonical::{MAX_TEXT_LENGTH, Text};
 use bpf_decode::{
@@ -94,8 +94,7 @@ fn write_lines<A: Allocator>(code: &[u8], out: &mut Vec<u8, A>) -> Result<u128, 
     ensures ok { IfOk result
         (IsWritten code.now (vec_capacity out.old) out.old.items out.new.items) }
     ensures prefix { Continues out.old.items out.new.items }
-    ensures fault { IfErr result (λ e. (e ≢ DisassembleFault.Ragged)
-        × (e ≢ DisassembleFault.Memory) × IsFaultOf code.now e) }
+    ensures fault { IfErr result (IsFaultOf code.now) }
     ensures capacity { vec_capacity out.new ≡ vec_capacity out.old }
 {
     let slots = code.len() / 8;
@@ -146,12 +145,8 @@ pub fn disassemble<A: Allocator>(code: &[u8], out: &mut Vec<u8, A>) -> Result<()
         MatchResult result (λ _. out.new.items ≡ out.old.items ++ listing lines)
         (λ e. e ≡ DisassembleFault.Memory) }
     ensures ragged { IsErrOf result DisassembleFault.Ragged ↔ (length code.now % 8 ≢ 0) }
-    ensures fault { IfErr result (IsFaultOf code.now) }
-    ensures memory { IsErrOf result DisassembleFault.Memory → (lines : List Line) →
-        IsImageOf code.now lines →
-        vec_capacity out.old < length (out.old.items ++ listing lines) }
-    ensures room { IsErrOf result DisassembleFault.Memory →
-        LacksRoom code.now (vec_capacity out.old) (length out.old.items) }
+    ensures refused { IfErr result
+        (IsRefusal code.now (vec_capacity out.old) (length out.old.items)) }
     ensures err { OnErr result (out.new.items ≡ out.old.items) }
     ensures same_capacity { OnErr result (vec_capacity out.new ≡ vec_capacity out.old) }
     ensures capacity { vec_capacity out.old ≤ vec_capacity out.new }

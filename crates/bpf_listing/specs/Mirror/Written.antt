@@ -1,6 +1,14 @@
 -- Listings that are written as far as there is room for them.
 use Rattle.std.specs.Prelude.{◌≡◌, ◌≤◌, ◌+◌, ◌++◌, ℕ, List, [], length}
+use Rattle.bpf_decode.specs.Images.{HasFaultAt}
+use Rattle.bpf_listing.specs.declared.disassembly.DisassembleFault.{DisassembleFault}
+use Rattle.bpf_listing.specs.declared.disassembly.DisassembleFault.TheVariants as fault
 use Rattle.bpf_listing.specs.Listing.{IsListed}
+
+-- the refusal is a fault of the image's instructions
+abbrev pub IsFaultOf : List ℕ → DisassembleFault → Type 0
+IsFaultOf image (fault.Decode f slot) = HasFaultAt image slot f
+IsFaultOf image _ = ⊥
 
 -- the octets `new` begin with `old`
 abbrev pub Continues : List ℕ → List ℕ → Type 0
