@@ -14,4 +14,4 @@ pub mod regions;
 
 pub use fault::AccessFault;
 pub use laws::{cleared_memory_is_the_first_one, stores_keep_the_addresses};
-pub use regions::{ARGUMENT_OCTETS, ARGUMENTS, Regions};
+pub use regions::{ARGUMENT_OCTETS, ARGUMENTS, Regions, STACK, STACK_OCTETS};
