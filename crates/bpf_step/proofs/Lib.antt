@@ -6,4 +6,4 @@ pub mod Marks
 pub mod Ops
 pub mod Runs
 pub mod Same
-pub mod Left
+pub mod Accesses

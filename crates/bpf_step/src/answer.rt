@@ -1,16 +1,16 @@
-//! What an instruction gives that is not done by the machine alone.
+//! What became of an instruction: done by the machine alone, or left to the engine.
 ghost use Rattle.std.specs.Prelude.{◌≡◌};
 ghost use Rattle.bpf_step.specs.declared.answer.MachineFault.TheVariants as fault;
 ghost use Rattle.bpf_step.specs.Machine.{fault_number};
 
 use ocp_regions::AccessFault;
 
-/// Why an instruction cannot be done. The machine is as before.
+/// Why an instruction cannot be done.
 #[derive(Clone, Copy, PartialEq, Eq, Debug)]
 pub enum MachineFault {
-    /// An access to memory is refused.
+    /// An access to memory is refused: outside of all regions, or a store to the arguments.
     Access(AccessFault),
-    /// The eighth local call within one another.
+    /// A local call where the most that can be are open.
     CallDepth,
 }
 
@@ -35,22 +35,22 @@ impl From<AccessFault> for MachineFault {
     }
 }
 
-/// What only the engine can do.
+/// What an instruction needs of the engine.
 #[derive(Clone, Copy, PartialEq, Eq, Debug)]
 pub enum Need {
     /// An engine call, by its number.
     Call(i32),
-    /// The end of the procedure.
+    /// The end of the procedure: EXIT where no local call is open.
     LastExit,
-    /// A fault.
+    /// The end of the procedure by a fault.
     Fault(MachineFault),
 }
 
 /// What became of an instruction.
 #[derive(Clone, Copy, PartialEq, Eq, Debug)]
 pub enum Local {
-    /// It is done.
+    /// The machine did it.
     Stepped,
-    /// The machine is as before.
+    /// The engine has to do it. The machine is as before.
     NeedsEngine(Need),
 }

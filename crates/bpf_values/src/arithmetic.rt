@@ -2,7 +2,7 @@
 ghost use Rattle.std.specs.Prelude.{◌≡◌, ◌%◌, ◌^◌};
 ghost use Rattle.std.specs.Int.{w8, w16, cast_signed};
 ghost use Rattle.bpf_types.specs.declared.line.Width.TheVariants.{W32, W64};
-ghost use Rattle.bpf_values.specs.Value.{alu_result, value, negation, sign_extension, byte_order_result};
+ghost use Rattle.bpf_values.specs.Value.{operate, arithmetic_result, negation, sign_extension, byte_order_result};
 
 use bpf_types::{Extension, Operation, Order, SwapWidth, Width, low_half};
 
@@ -34,7 +34,7 @@ macro_rules! operate {
 /// An operation on 64 bits.
 #[inline(always)]
 fn operate64(operation: Operation, dst: u64, src: u64) -> u64
-    ensures { result ≡ alu_result W64 operation dst src }
+    ensures { result ≡ operate W64 operation dst src }
 {
     operate!(operation, dst, src, 64)
 }
@@ -42,7 +42,7 @@ fn operate64(operation: Operation, dst: u64, src: u64) -> u64
 /// An operation on 32 bits.
 #[inline(always)]
 fn operate32(operation: Operation, dst: u32, src: u32) -> u32
-    ensures { result ≡ alu_result W32 operation dst src }
+    ensures { result ≡ operate W32 operation dst src }
 {
     operate!(operation, dst, src, 32)
 }
@@ -66,8 +66,8 @@ fn low8(register: u64) -> i8
 /// The result of an operation of this width. One of 32 bits works on the low halves, and its upper
 /// half is zero.
 #[inline(always)]
-pub fn value(width: Width, operation: Operation, dst: u64, src: u64) -> u64
-    ensures { result ≡ value width operation dst src }
+pub fn arithmetic_result(width: Width, operation: Operation, dst: u64, src: u64) -> u64
+    ensures { result ≡ arithmetic_result width operation dst src }
 {
     match width {
         Width::W64 => operate64(operation, dst, src),
@@ -77,7 +77,7 @@ pub fn value(width: Width, operation: Operation, dst: u64, src: u64) -> u64
 
 /// The negative of a number of this width.
 #[inline(always)]
-pub fn negate(width: Width, dst: u64) -> u64
+pub fn negation(width: Width, dst: u64) -> u64
     ensures { result ≡ negation width dst }
 {
     match width {
@@ -88,7 +88,7 @@ pub fn negate(width: Width, dst: u64) -> u64
 
 /// The low bits of a number with their sign extended to the width, and zeros above.
 #[inline(always)]
-pub fn extend(extension: Extension, src: u64) -> u64
+pub fn sign_extension(extension: Extension, src: u64) -> u64
     ensures { result ≡ sign_extension extension src }
 {
     match extension {
@@ -102,7 +102,7 @@ pub fn extend(extension: Extension, src: u64) -> u64
 
 /// The low bits of a number in a byte order, and zeros above.
 #[inline(always)]
-pub fn byte_swap(byte_order: Order, width: SwapWidth, dst: u64) -> u64
+pub fn byte_order_result(byte_order: Order, width: SwapWidth, dst: u64) -> u64
     ensures { result ≡ byte_order_result byte_order width dst }
 {
     match width {

@@ -6,6 +6,6 @@ pub mod jump;
 pub mod laws;
 pub mod sizes;
 
-pub use arithmetic::{byte_swap, extend, negate, value};
+pub use arithmetic::{arithmetic_result, byte_order_result, negation, sign_extension};
 pub use jump::is_taken;
 pub use sizes::{extension_of, size_of};

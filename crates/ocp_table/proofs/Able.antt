@@ -12,8 +12,8 @@ use Rattle.bpf_step.specs.declared.answer.Local.TheVariants as local
 use Rattle.bpf_step.specs.declared.answer.Need.{Need}
 use Rattle.bpf_step.specs.declared.answer.Need.TheVariants as need
 use Rattle.bpf_step.specs.Machine.{State, Outcome, Next, Needs, NoInstruction, read}
-use Rattle.bpf_moves.specs.Moves.{loads, stores}
-use Rattle.bpf_step.specs.Calls.{calls, exits}
+use Rattle.bpf_moves.specs.Moves.{load_register, store_memory}
+use Rattle.bpf_step.specs.Calls.{call_unless_full, exit_to}
 use Rattle.bpf_step.specs.Step.{outcome_by, step, step_of, one_step, Gives}
 use Rattle.ocp_pool.specs.Call.{engine_call}
 use Rattle.ocp_table.specs.declared.answers.InstructionOutcome.{InstructionOutcome}
@@ -25,19 +25,19 @@ use Rattle.bpf_step.specs.Runs.{breaks_at}
 use Rattle.ocp_table.specs.Deciding.{outcome_of, outcome_of_call, outcome_in}
 
 module _ (m : State) (pool mailbox : List ℕ) where
-  able_loads : (s : State) (dst : ℕ) (f : ℕ → ℕ) (r : Result ℕ AccessFault) → IsSome (outcome_of (outcome_by s (loads s.registers s.memory dst f r) NoInstruction) m pool mailbox)
+  able_loads : (s : State) (dst : ℕ) (f : ℕ → ℕ) (r : Result ℕ AccessFault) → IsSome (outcome_of (outcome_by s (load_register s.registers s.memory dst f r) NoInstruction) m pool mailbox)
   able_loads s dst f (Ok v) = refl
   able_loads s dst f (Err e) = refl
 
-  able_stores : (s : State) (r : Result Octets AccessFault) → IsSome (outcome_of (outcome_by s (stores s.registers r) NoInstruction) m pool mailbox)
+  able_stores : (s : State) (r : Result Octets AccessFault) → IsSome (outcome_of (outcome_by s (store_memory s.registers r) NoInstruction) m pool mailbox)
   able_stores s (Ok memory) = refl
   able_stores s (Err e) = refl
 
-  able_calls : (s : State) (distance : ℤ) (full : Bool) → IsSome (outcome_of (calls s distance full) m pool mailbox)
+  able_calls : (s : State) (distance : ℤ) (full : Bool) → IsSome (outcome_of (call_unless_full s distance full) m pool mailbox)
   able_calls s distance true = refl
   able_calls s distance false = refl
 
-  able_exits : (s : State) (o : Option Frame) → IsSome (outcome_of (exits s o) m pool mailbox)
+  able_exits : (s : State) (o : Option Frame) → IsSome (outcome_of (exit_to s o) m pool mailbox)
   able_exits s (Some f) = refl
   able_exits s None = refl
 
