@@ -1,5 +1,5 @@
 -- Both passes together.
-use Rattle.std.proofs.Common.{◌≡◌, ◌≢◌, ◌<◌, ◌≤◌, ◌+◌, ◌++◌, ◌/◌, ℕ, List, [], ◌∷◌, length, Option, Some, None, Err, nat_le, Bool, true, false, refl, sym, ap, ◌∙◌, subst, inl, inr, ◌⊎◌, arith, map}
+use Rattle.std.proofs.Common.{◌≡◌, ◌≢◌, ◌<◌, ◌≤◌, ◌+◌, ◌++◌, ◌/◌, ℕ, List, [], ◌∷◌, length, Option, Some, None, Result, Ok, Err, IfErr, IfOk, OnOk, nat_le, Bool, true, false, refl, sym, ap, ◌∙◌, subst, inl, inr, ◌⊎◌, arith, map}
 use Rattle.ocp_profile.specs.declared.profile.Profile.{Profile}
 use Rattle.bpf_types.specs.declared.line.Line.{Line}
 use Rattle.bpf_decode.specs.declared.fault.DecodeFault.TheVariants.{CutWide, UnknownOpcode, BadRegister, ReservedField, WritesFramePointer}
@@ -13,7 +13,7 @@ use Rattle.ocp_loader.specs.Admitted.{IsAdmitted, IsAdmittedAs, HasSlots}
 use Rattle.bpf_text.specs.Lines.{TextLine, Statement}
 use Rattle.bpf_assembler.specs.Text.{Entry, entries_of, entry_of, AreInstructions, slots}
 use Rattle.bpf_assembler.specs.Faults.{IsLineOfSlot, IsLineOf, IsFault}
-use Rattle.bpf_assembler.specs.Mirror.Passes.{AreResolved, ArePassed, IsLineUpTo, IsReported, entry}
+use Rattle.bpf_assembler.specs.Mirror.Passes.{AreResolved, ArePassed, IsLineUpTo, IsReported, Reports, entry}
 use Rattle.bpf_assembler.specs.Assembling.{IsImageOfText, IsFaultOf}
 use Rattle.bpf_assembler.specs.declared.fault.Why.TheVariants as why
 use Rattle.bpf_assembler.specs.declared.fault.AsmFault.{AsmFault}
@@ -91,6 +91,21 @@ reported_fault profile text rows octets (load.Decode WritesFramePointer slot) f 
 reported_fault profile text rows octets (load.BadCall slot) f t e first is = of_slot profile text rows octets (load.BadCall slot) f t refl (λ x. cc) first.0 (e, first) is
 reported_fault profile text rows octets (load.BadTarget slot) f t e first is = of_slot profile text rows octets (load.BadTarget slot) f t refl (λ x. cc) first.0 (e, first) is
 reported_fault profile text rows octets (load.FallsOffEnd slot) f t e first is = of_slot profile text rows octets (load.FallsOffEnd slot) f t refl (λ x. cc) first.0 (e, first) is
+
+-- what the loader said, as it is reported
+pub judged_fault : (profile : Profile) (text : List ℕ) (rows : List Row) (octets : List ℕ) {V : Type 0} (judged : Result V LoadFault) (result : Result V AsmFault) → ArePassed text rows octets
+    → IfErr judged (λ fault. (fault ≡ load.Memory) ⊎ (load_result profile octets ≡ Err fault)) → IfErr judged (IsFirstFault profile octets) → Reports (map entry rows) judged result → IfErr result (IsFaultOf profile text)
+judged_fault profile text rows octets {V} (Ok v) result t e first is = subst (λ (r : Result V AsmFault). IfErr r (IsFaultOf profile text)) (sym is) tt
+judged_fault profile text rows octets {V} (Err fault) result t e first (f, is, reported) = subst (λ (r : Result V AsmFault). IfErr r (IsFaultOf profile text)) (sym is) (reported_fault profile text rows octets fault f t e first reported)
+
+pub judged_ok : {V : Type 0} (es : List Entry) (judged : Result V LoadFault) (P : V → Type 0) (result : Result V AsmFault) → Reports es judged result → IfOk judged P → IfOk result P
+judged_ok {V} es (Ok v) P result is h = subst (λ (r : Result V AsmFault). IfOk r P) (sym is) h
+judged_ok {V} es (Err fault) P result (f, is, reported) h = subst (λ (r : Result V AsmFault). IfOk r P) (sym is) tt
+
+-- what was loaded are the octets
+pub loaded_octets : (octets : List ℕ) (Q R : Type 0) (P : List ℕ → Type 0) (loaded : Result (List ℕ) LoadFault) → (R → P octets) → IfOk loaded (λ p. (p ≡ octets) × Q) → OnOk loaded R → IfOk loaded P
+loaded_octets octets Q R P (Ok p) to same h = subst P (sym same.0) (to h)
+loaded_octets octets Q R P (Err fault) to same h = tt
 
 abbrev pub OneImage : Type 0
 OneImage = (image : List ℕ) (a b : List Line) → IsImageOf image a → IsImageOf image b → a ≡ b

@@ -6,7 +6,7 @@ ghost use Rattle.bpf_canonical.specs.Canonical.{listing};
 ghost use Rattle.ocp_loader.specs.Admitted.{MayBeRun, IsAdmittedAs};
 ghost use Rattle.bpf_assembler.specs.Text.{Means};
 ghost use Rattle.bpf_assembler.specs.Faults.{IsFault};
-ghost use Rattle.bpf_assembler.specs.Mirror.Passes.{ArePassed, IsReported, entry};
+ghost use Rattle.bpf_assembler.specs.Mirror.Passes.{ArePassed, IsReported, Reports, entry};
 ghost use Rattle.bpf_assembler.specs.Assembling.{IsImageOfText, IsFaultOf};
 ghost use Rattle.bpf_assembler.specs.declared.fault.Why.{Why};
 ghost use Rattle.bpf_assembler.specs.declared.fault.AsmFault.TheVariants.{Memory, At};
@@ -21,7 +21,6 @@ use bpf_decode::images_are_unique;
 use ocp_loader::{LoadFault, Program, approve, load};
 use ocp_profile::Profile;
 use std::alloc::{Allocator, Global};
-use std::collections::BTreeMap;
 use std::marker::Model;
 
 /// An image that may be run. Contracts see the list of its octets.
@@ -67,6 +66,16 @@ fn fault_with_line(rows: &[Row<'_>], fault: LoadFault) -> AsmFault
     AsmFault::at(line, Why::Load(fault))
 }
 
+/// What the loader says of the image, its fault at the line of the instruction at its slot.
+fn with_line<T>(rows: &[Row<'_>], judged: Result<T, LoadFault>) -> Result<T, AsmFault>
+    ensures { Reports (map entry rows.now) judged result }
+{
+    match judged {
+        Ok(value) => Ok(value),
+        Err(fault) => Err(fault_with_line(rows, fault)),
+    }
+}
+
 /// Both passes: the instructions of a text in its table, and their octets.
 fn both_passes<'a, A: Allocator + Copy>(
     alloc: A,
@@ -75,12 +84,7 @@ fn both_passes<'a, A: Allocator + Copy>(
     ensures ok { IfOk result (λ r. ArePassed text.now r.0.rows.items r.1.items) }
     ensures fault { (profile : Profile) → IfErr result (IsFaultOf profile text.now) }
 {
-    let mut table = Table {
-        labels: BTreeMap::new(alloc),
-        rows: Vec::new(alloc),
-        lines: 0,
-        place: 0,
-    };
+    let mut table = Table::new(alloc);
     collect(&mut table, text)?;
     let octets = resolve_all(alloc, &table.labels, &table.rows)?;
     Ok((table, octets))
@@ -97,10 +101,8 @@ fn image_of<A: Allocator + Copy>(
 {
     images_are_unique();
     let (table, octets) = both_passes(alloc, text)?;
-    match approve(alloc, profile, &octets) {
-        Ok(()) => Ok(Image { octets }),
-        Err(fault) => Err(fault_with_line(&table.rows, fault)),
-    }
+    with_line(&table.rows, approve(alloc, profile, &octets))?;
+    Ok(Image { octets })
 }
 
 /// The program of that image.
@@ -114,10 +116,7 @@ pub(crate) fn program_of<A: Allocator + Copy>(
 {
     images_are_unique();
     let (table, octets) = both_passes(alloc, text)?;
-    match load(alloc, profile, &octets) {
-        Ok(program) => Ok(program),
-        Err(fault) => Err(fault_with_line(&table.rows, fault)),
-    }
+    with_line(&table.rows, load(alloc, profile, &octets))
 }
 
 /// The image of the instructions that a text means, where it may be run under the profile.

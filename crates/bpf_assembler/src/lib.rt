@@ -2,7 +2,7 @@
 #![tactic(auto)]
 
 mod assembling;
-pub mod canonical;
+mod canonical;
 mod collecting;
 mod fault;
 pub mod laws;
@@ -11,4 +11,5 @@ mod resolving;
 mod table;
 
 pub use assembling::{Image, assemble};
+pub use canonical::write_canonical;
 pub use fault::{AsmFault, Why};

@@ -1,7 +1,9 @@
-//! The labels and the instructions of a text.
+//! The labels and the instructions of a text. What the map of labels says of references, these
+//! functions say of the names' octets.
 
-ghost use Rattle.std.specs.Prelude.{◌≡◌, ℕ, List, Some, if◌then◌else◌, OnOk, IfOk};
+ghost use Rattle.std.specs.Prelude.{◌≡◌, [], ℕ, List, Some, if◌then◌else◌, OnOk, IfOk};
 ghost use Rattle.std.specs.Str.{bytes_eq};
+ghost use Rattle.bpf_assembler.specs.Mirror.Passes.{Knows};
 ghost use Rattle.bpf_assembler.specs.Mirror.Tables.{label_at};
 
 use bpf_types::Line;
@@ -47,4 +49,18 @@ pub struct Table<'a, A: Allocator> {
     pub rows: Vec<Row<'a>, A>,
     pub lines: u64,
     pub place: u64,
+}
+
+impl<'a, A: Allocator + Copy> Table<'a, A> {
+    /// The table of no lines.
+    pub fn new(alloc: A) -> Self
+        ensures { Knows result.labels result.rows.items result.lines result.place [] }
+    {
+        Table {
+            labels: BTreeMap::new(alloc),
+            rows: Vec::new(alloc),
+            lines: 0,
+            place: 0,
+        }
+    }
 }

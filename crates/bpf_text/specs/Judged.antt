@@ -21,12 +21,12 @@ text_of (Some name) = Some name.now
 abbrev pub target_of : ℤ × Option (Bor (List ℕ)) → ℤ × Option (List ℕ)
 target_of p = (p.0, text_of p.1)
 
-abbrev pub written : Source → Statement
-written s = record { line = s.line; name = text_of s.name; odd = None }
+abbrev pub as_statement : Source → Statement
+as_statement s = record { line = s.line; name = text_of s.name; odd = None }
 
 abbrev pub statement_of : Option Source → Option Statement
 statement_of None = None
-statement_of (Some s) = Some (written s)
+statement_of (Some s) = Some (as_statement s)
 
 abbrev pub written_line : Parsed → TextLine
 written_line p = record { label = text_of p.label; body = statement_of p.body }
@@ -54,10 +54,10 @@ JudgesBody tokens result = Gives statement_of (λ s. IsBody s tokens) InRange re
 
 -- an instruction
 abbrev pub JudgesForm : List (List ℕ) → Result Source LineFault → Type 0
-JudgesForm tokens result = Gives written (λ s. IsForm s.line s.name s.odd tokens) Fits result
+JudgesForm tokens result = Gives as_statement (λ s. IsForm s.line s.name s.odd tokens) Fits result
 
 -- the operands of one mnemonic
 abbrev pub Judges : Mnemonic → List (List ℕ) → Result Source LineFault → Type 0
 Judges m tokens result =
-    Gives written (λ s. (mnemonic_of s.line ≡ m) × IsOperands s.line s.name s.odd tokens) Fits
+    Gives as_statement (λ s. (mnemonic_of s.line ≡ m) × IsOperands s.line s.name s.odd tokens) Fits
     result

@@ -40,7 +40,8 @@ impl<'a> Operands<'_, 'a> {
     /// Passes over the mark where it is the next token.
     pub fn mark(&mut self, mark: u8) -> Option<()>
         ensures some { IfSome result (λ u. (texts self.old.rest.now
-            ≡ (mark ∷ []) ∷ texts self.new.rest.now) × (self.new.out_of_range ≡ self.old.out_of_range)) }
+            ≡ (mark ∷ []) ∷ texts self.new.rest.now)
+            × (self.new.out_of_range ≡ self.old.out_of_range)) }
         ensures none { IfNone result ((rest : List (List ℕ)) →
             texts self.old.rest.now ≢ (mark ∷ []) ∷ rest) }
         ensures stays { IfNone result (state self.new ≡ state self.old) }
@@ -57,7 +58,8 @@ impl<'a> Operands<'_, 'a> {
     /// Passes over the word `local` where it is the next token.
     pub fn local(&mut self) -> Option<()>
         ensures some { IfSome result (λ u. (texts self.old.rest.now
-            ≡ codes "local" ∷ texts self.new.rest.now) × (self.new.out_of_range ≡ self.old.out_of_range)) }
+            ≡ codes "local" ∷ texts self.new.rest.now)
+            × (self.new.out_of_range ≡ self.old.out_of_range)) }
         ensures none { IfNone result ((rest : List (List ℕ)) →
             texts self.old.rest.now ≢ codes "local" ∷ rest) }
         ensures stays { IfNone result (state self.new ≡ state self.old) }

@@ -13,7 +13,8 @@ pub const MAX_TOKENS: usize = 9;
 pub fn tokens(line: &[u8]) -> Option<ArrayVec<&[u8], MAX_TOKENS>>
     ensures some { IfSome result
         (λ found. HasTokens line.now (map (λ token. token.now) found.items)) }
-    ensures none { IfNone result ((ts : List (List ℕ)) → HasTokens line.now ts → MAX_TOKENS < length ts) }
+    ensures none { IfNone result ((ts : List (List ℕ)) →
+        HasTokens line.now ts → MAX_TOKENS < length ts) }
 {
     let mut found: ArrayVec<&[u8], MAX_TOKENS> = ArrayVec::new();
     let mut rest = line;

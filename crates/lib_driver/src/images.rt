@@ -1,7 +1,6 @@
 //! Calls of bpf_assembler and ocp_loader.
 
-use bpf_assembler::canonical::write_canonical;
-use bpf_assembler::{AsmFault, Why, assemble};
+use bpf_assembler::{AsmFault, Why, assemble, write_canonical};
 use call_lines::{Fault, Octets, Text, octets, profile_of};
 use ocp_loader::{LoadFault, Program, load};
 use ocp_profile::Profile;

@@ -1,6 +1,6 @@
 //! Growths that calls ask for which append to a vector, refused one after another.
 use crate::heap::Refusing;
-use bpf_assembler::canonical::write_canonical;
+use bpf_assembler::write_canonical;
 use bpf_listing::{disassemble, line_text};
 use bpf_types::Line;
 use obcp_messages::{PlainCode, Report, Request, StartFault, write_report, write_request};

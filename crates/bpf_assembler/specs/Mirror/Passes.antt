@@ -120,3 +120,9 @@ IsReported entries load.RaggedCode f = f ≡ At 0 (why.Load load.RaggedCode)
 IsReported entries load.TooLong f = f ≡ At 0 (why.Load load.TooLong)
 IsReported entries fault f =
     (number : ℕ) × (f ≡ At number (why.Load fault)) × IsLineUpTo entries (slot_of fault) number
+
+-- what the loader says of the image, its fault as it is reported
+abbrev pub Reports : {V : Type 0} → List Entry → Result V LoadFault → Result V AsmFault → Type 0
+Reports entries (Ok v) result = result ≡ Ok v
+Reports entries (Err fault) result =
+    (f : AsmFault) × (result ≡ Err f) × IsReported entries fault f
