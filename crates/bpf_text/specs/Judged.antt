@@ -13,6 +13,7 @@ use Rattle.bpf_text.specs.declared.line.LineFault.TheVariants.{Syntax, Range}
 abbrev pub texts : List (Bor (List ℕ)) → List (List ℕ)
 texts tokens = map (λ token. token.now) tokens
 
+-- a name, if there is one
 abbrev pub text_of : Option (Bor (List ℕ)) → Option (List ℕ)
 text_of None = None
 text_of (Some name) = Some name.now
@@ -21,13 +22,16 @@ text_of (Some name) = Some name.now
 abbrev pub target_of : ℤ × Option (Bor (List ℕ)) → ℤ × Option (List ℕ)
 target_of p = (p.0, text_of p.1)
 
+-- an instruction, as it is written
 abbrev pub as_statement : Source → Statement
 as_statement s = record { line = s.line; name = text_of s.name; odd = None }
 
+-- the instruction of a line, if it has one
 abbrev pub statement_of : Option Source → Option Statement
 statement_of None = None
 statement_of (Some s) = Some (as_statement s)
 
+-- a line: its label and its instruction
 abbrev pub written_line : Parsed → TextLine
 written_line p = record { label = text_of p.label; body = statement_of p.body }
 
