@@ -4,3 +4,4 @@ pub mod Traces
 pub mod Texts
 pub mod Appending
 pub mod Mirror
+pub mod Clauses

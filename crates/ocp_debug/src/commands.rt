@@ -1,7 +1,6 @@
 //! A debugger's commands: which are refused, and what the others change.
 ghost use Rattle.std.specs.Prelude.{◌≡◌, None, Some, Ok, Err};
-ghost use Rattle.std.specs.FinMap.{get};
-ghost use Rattle.ocp_debug.specs.Commands.{fault_on, command_result, table_by_command};
+ghost use Rattle.ocp_debug.specs.Clauses.{command_result, fault_on, get, table_by_command};
 
 use crate::breakpoints::{is_set, with_breakpoint, without_breakpoint};
 use crate::{Command, DebugFault, MAX_BREAKPOINTS};

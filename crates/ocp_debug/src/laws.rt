@@ -1,14 +1,7 @@
 //! Laws on commands and traces. The functions do nothing when they run: their contracts are the
 //! laws.
 ghost use Rattle.std.specs.Prelude.{◌≡◌, ◌++◌, ℕ, List};
-ghost use Rattle.std.specs.FinMap.{get};
-ghost use Rattle.ocp_table.specs.Records.{Records};
-ghost use Rattle.ocp_table.specs.Effects.{records_by};
-ghost use Rattle.ocp_table.specs.Laws.{run_of};
-ghost use Rattle.ocp_debug.specs.Commands.{command_effect};
-ghost use Rattle.ocp_debug.specs.Traces.{last_traces};
-ghost use Rattle.ocp_debug.specs.declared.command.Command.{Command as Asked};
-ghost use Rattle.ocp_debug.specs.declared.trace.Trace.{Trace as Made};
+ghost use Rattle.ocp_debug.specs.Clauses.{Command as Asked, Records, Trace as Made, command_effect, get, last_traces, records_by, run_of};
 
 use ocp_table::laws::debugging_keeps_runs;
 

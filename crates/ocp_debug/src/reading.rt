@@ -1,8 +1,6 @@
 //! What a debugger reads of a procedure.
 ghost use Rattle.std.specs.Prelude.{◌≡◌, Ok, Err};
-ghost use Rattle.std.specs.FinMap.{get};
-ghost use Rattle.ocp_table.specs.Shown.{view_at};
-ghost use Rattle.ocp_debug.specs.Memory.{Reads};
+ghost use Rattle.ocp_debug.specs.Clauses.{Reads, get, view_at};
 
 use crate::{DebugFault, View};
 use ocp_table::Table;

@@ -1,10 +1,8 @@
 //! The trace records that are kept.
 ghost use Rattle.std.specs.Prelude.{◌≡◌, ◌≤◌, ◌<◌, ◌++◌, ◌∷◌, [], IfOk, length};
-ghost use Rattle.std.specs.List.{flat_map};
-ghost use Rattle.ocp_debug.specs.Traces.{last_traces};
-ghost use Rattle.ocp_debug.specs.Appending.{Appends};
-ghost use Rattle.ocp_debug.specs.Texts.{trace_line};
+ghost use Rattle.ocp_debug.specs.Clauses.{Appends, flat_map, last_traces, trace_line};
 
+use crate::text::append_within;
 use crate::texts::line_of;
 use crate::{TRACE_RECORDS, Trace};
 use circular_buffer::HeapCircularBuffer;
@@ -60,7 +58,7 @@ impl<A: Allocator> TraceRing<A> {
     {
         let mut len = 0;
         for trace in &self.records {
-            len += line_of(trace).len();
+            len += line_of(trace).as_slice().len();
         }
         len
     }
@@ -74,7 +72,7 @@ impl<A: Allocator> TraceRing<A> {
     {
         output.reserve(self.lines_len())?;
         for trace in &self.records {
-            line_of(trace).append_within(output);
+            append_within(&line_of(trace), output);
         }
         Ok(())
     }

@@ -1,10 +1,6 @@
 //! The instruction event, and the trace record that it makes.
 ghost use Rattle.std.specs.Prelude.{◌≡◌, ◌++◌, option_to_list};
-ghost use Rattle.std.specs.FinMap.{get};
-ghost use Rattle.ocp_table.specs.RequestTable.{Step};
-ghost use Rattle.ocp_table.specs.Deciding.{effect_in, ExecutesStep};
-ghost use Rattle.ocp_debug.specs.Traces.{last_traces, traces_by};
-ghost use Rattle.ocp_debug.specs.Mirror.Tracing.{traced_place, leaves_trace, trace_after};
+ghost use Rattle.ocp_debug.specs.Clauses.{ExecutesStep, Step, effect_in, get, last_traces, trace_after, traced_place, traces_by};
 
 use crate::{StepOutcome, Trace, TraceRing};
 use ocp_table::{Place, Pool, Table};
@@ -19,16 +15,6 @@ fn traced_place<A: Allocator>(table: &Table<A>, id: u16, at: Place) -> Option<u1
         return None;
     }
     Some(record.execution.place())
-}
-
-/// Whether an instruction was done.
-fn leaves_trace(outcome: StepOutcome) -> bool
-    ensures { result ≡ leaves_trace outcome }
-{
-    matches!(
-        outcome,
-        StepOutcome::Ran | StepOutcome::Called | StepOutcome::Ended | StepOutcome::Faulted(_)
-    )
 }
 
 /// Notes the instruction at this place, where it was done and is traced, by its outcome and the
@@ -49,8 +35,12 @@ fn note<A: Allocator>(
     let Some(place) = place else {
         return;
     };
-    if !leaves_trace(outcome) {
-        return;
+    match outcome {
+        StepOutcome::Ran | StepOutcome::Called | StepOutcome::Ended | StepOutcome::Faulted(_) => {}
+        StepOutcome::Broke
+        | StepOutcome::NotLoaded
+        | StepOutcome::NotRunning
+        | StepOutcome::JournalFull => return,
     }
     let Some(record) = table.record_at(id, at) else {
         return;

@@ -1,9 +1,11 @@
 //! What is printed of procedures and of trace records.
 ghost use Rattle.std.specs.Prelude.{◌≡◌, ◌≤◌, ◌<◌, ◌+◌, ◌*◌, ◌++◌, length, Some, None};
-ghost use Rattle.ocp_debug.specs.Appending.{Appends};
-ghost use Rattle.ocp_debug.specs.Texts.{view_line, register_line, view_lines, words_text, trace_line, debug_fault_name};
+ghost use Rattle.ocp_debug.specs.Clauses.{Appends, debug_fault_name, register_line, trace_line, view_line, view_lines, words_text};
 
-use crate::text::{TEXT_OCTETS, Text};
+use crate::text::{
+    TEXT_OCTETS, Text, append_to, push_cause, push_number, push_outcome, push_pending, push_status,
+    push_word,
+};
 use crate::{DebugFault, Trace, View};
 use std::alloc::{AllocError, Allocator};
 
@@ -14,17 +16,17 @@ fn head_of(id: u16, view: &View) -> Text
 {
     let mut text = Text::new();
     text.push_all(b"view ");
-    text.push_number(id);
+    push_number(&mut text, id);
     text.push_all(b" ");
-    text.push_status(view.status);
+    push_status(&mut text, view.status);
     text.push_all(b" ");
-    text.push_cause(view.cause);
+    push_cause(&mut text, view.cause);
     text.push_all(b" place ");
-    text.push_number(view.place);
+    push_number(&mut text, view.place);
     text.push_all(b" depth ");
-    text.push_number(view.depth);
+    push_number(&mut text, view.depth);
     text.push_all(b" pending ");
-    text.push_pending(view.pending);
+    push_pending(&mut text, view.pending);
     text.push_all(b"\n");
     text
 }
@@ -36,9 +38,9 @@ fn push_register(text: &mut Text, index: u8, register: u64)
     ensures len { length text.new ≤ length text.old + 22 }
 {
     text.push_all(b"r");
-    text.push_number(index);
+    push_number(text, index);
     text.push_all(b" ");
-    text.push_word(register);
+    push_word(text, register);
     text.push_all(b"\n");
 }
 
@@ -72,12 +74,12 @@ pub fn view_text<B: Allocator>(
         None => {
             let mut text = Text::new();
             text.push_all(b"view ");
-            text.push_number(id);
+            push_number(&mut text, id);
             text.push_all(b" NotLoaded\n");
             text
         }
     };
-    text.append_to(output)
+    append_to(&text, output)
 }
 
 /// The line of a trace record.
@@ -87,11 +89,11 @@ pub(crate) fn line_of(trace: &Trace) -> Text
 {
     let mut text = Text::new();
     text.push_all(b"trace ");
-    text.push_number(trace.id);
+    push_number(&mut text, trace.id);
     text.push_all(b" ");
-    text.push_number(trace.place);
+    push_number(&mut text, trace.place);
     text.push_all(b" ");
-    text.push_outcome(trace.outcome);
+    push_outcome(&mut text, trace.outcome);
     push_words(&mut text, &trace.registers);
     text.push_all(b" ");
     text.push_all(bpf_canonical::text_of(&trace.line).as_slice());
@@ -107,7 +109,7 @@ fn push_words(text: &mut Text, words: &[u64])
 {
     for word in words {
         text.push_all(b" ");
-        text.push_word(*word);
+        push_word(text, *word);
     }
 }
 
@@ -118,7 +120,7 @@ fn push_words(text: &mut Text, words: &[u64])
 pub fn trace_text<B: Allocator>(trace: &Trace, output: &mut Vec<u8, B>) -> Result<(), AllocError>
     ensures { Appends (trace_line trace.now) output.old output.new result }
 {
-    line_of(trace).append_to(output)
+    append_to(&line_of(trace), output)
 }
 
 /// The name of a refusal.
