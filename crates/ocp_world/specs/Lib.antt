@@ -12,3 +12,4 @@ pub mod NextRunning
 pub mod Settled
 pub mod Laws
 pub mod Mirror
+pub mod Clauses

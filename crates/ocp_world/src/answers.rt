@@ -1,7 +1,7 @@
 //! What calls answer.
 
 ghost use Rattle.std.specs.Prelude.{◌≡◌};
-ghost use Rattle.ocp_world.specs.declared.answers.EngineFault.TheVariants.{Memory};
+ghost use Rattle.ocp_world.specs.Clauses.{Memory};
 
 use pus_fields::Discard;
 use std::alloc::AllocError;

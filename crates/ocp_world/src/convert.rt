@@ -1,10 +1,7 @@
 //! Why octets are discarded.
 
 ghost use Rattle.std.specs.Prelude.{◌≡◌, ℕ, List};
-ghost use Rattle.pus_fields.specs.TelecommandFaults.{telecommand_of};
-ghost use Rattle.ocp_world.specs.World.{World, Request as Asked};
-ghost use Rattle.ocp_world.specs.After.{after};
-ghost use Rattle.ocp_world.specs.Mirror.Answering.{discard_of, IsDiscard};
+ghost use Rattle.ocp_world.specs.Clauses.{IsDiscard, Request as Asked, World, after, discard_of, telecommand_of};
 
 use pus_fields::{Discard, Tc, TcFault};
 

@@ -1,17 +1,13 @@
 //! The drain: the completions that wait are reported.
 
 ghost use Rattle.std.specs.Prelude.{ℕ};
-ghost use Rattle.ocp_world.specs.World.{World, Drain};
-ghost use Rattle.ocp_world.specs.After.{after, effect_of};
+ghost use Rattle.ocp_world.specs.Clauses.{DoesIn, Drain, IsUndue, IsWorld, World, after, effect_of};
 
 use crate::{EngineFault, State};
 use ocp_reports::{CopiedReports, Sender, count_after};
 use std::alloc::Allocator;
 
 impl<A: Allocator> State<A> {
-    ghost use Rattle.ocp_world.specs.Mirror.State.{IsWorld, DoesIn};
-    ghost use Rattle.ocp_world.specs.Mirror.Answering.{IsUndue};
-
     /// Whether a completion waits to be reported: else a drain is refused.
     pub fn is_due(&self) -> bool
         ensures { (w : World) (by time : ℕ) → IsWorld w self.now →

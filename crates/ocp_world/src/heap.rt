@@ -1,6 +1,6 @@
 //! Where an event takes the memory of octets and reports.
 
-ghost use Rattle.std.specs.Prelude.{◌≡◌, true, false, OnOk, OnErr};
+ghost use Rattle.std.specs.Prelude.{◌≡◌, Bool, true, false, OnOk, OnErr};
 
 use std::alloc::{AllocError, Allocator};
 use std::marker::Model;
@@ -14,8 +14,6 @@ pub struct Heap<A: Allocator> {
 }
 
 impl<A: Allocator> Model for Heap<A> {
-    ghost use Rattle.std.specs.Prelude.{Bool};
-
     ghost Value = { Bool };
 
     ghost view = { λ h. h.refused };

@@ -1,16 +1,8 @@
 //! Laws on worlds and events. The functions do nothing when they run: their contracts are the laws.
 ghost use Rattle.std.specs.Prelude.{◌≡◌, ◌≢◌, ◌+◌, ℕ, false, List, [], Err, if◌then◌else◌};
-ghost use Rattle.std.specs.FinMap.{get};
-ghost use Rattle.ocp_debug.specs.declared.command.Command.{Command as Asked};
+ghost use Rattle.ocp_world.specs.Clauses.{Command as Asked, Commanded, Debug, Drain, Event, IsAppended, IsKeptOrStarted, JournalFull, Request, Requested, Step, Stepped, World, after, get, is_accepted, is_running, machine_of, may_change_machine, next_outcome, replay_from, run_of};
 ghost use Rattle.ocp_debug.specs.declared.command.DebugFault.TheVariants as debug;
-ghost use Rattle.ocp_world.specs.World.{World, Event, Request, Step, Debug, Drain};
-ghost use Rattle.ocp_world.specs.After.{Requested, Stepped, Commanded, after, is_accepted};
-ghost use Rattle.ocp_world.specs.Replay.{replay_from};
-ghost use Rattle.ocp_world.specs.Laws.{may_change_machine, IsAppended};
-ghost use Rattle.ocp_world.specs.declared.answers.EngineFault.TheVariants.{JournalFull};
 ghost use Rattle.ocp_table.specs.declared.answers.StepOutcome.TheVariants as outcome;
-ghost use Rattle.ocp_world.specs.Slice.{is_running, next_outcome};
-ghost use Rattle.ocp_table.specs.Laws.{machine_of, run_of, IsKeptOrStarted};
 
 use ocp_table::laws::{
     a_directive_changes_its_own_procedure, debugging_keeps_runs, other_requests_keep_machines,

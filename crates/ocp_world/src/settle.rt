@@ -1,24 +1,14 @@
 //! A procedure that runs apart.
 
 ghost use Rattle.std.specs.Prelude.{◌≡◌, ℕ, IfOk, Some, replicate};
-ghost use Rattle.std.specs.FinMap.{get};
-ghost use Rattle.ocp_table.specs.Snapshots.{machine_for, StandsAt};
-ghost use Rattle.bpf_step.specs.Machine.{State as Machined};
-ghost use Rattle.ocp_table.specs.Laws.{machine_of};
-ghost use Rattle.ocp_table.specs.Records.{Rec};
+ghost use Rattle.ocp_world.specs.Clauses.{IsWorld, Rec, RunsAlone, StandsAt, State as Machined, Step, Stepped, World, answers, get, machine_for, machine_of, replay_from, world_after_work};
 ghost use Rattle.ocp_table.specs.declared.answers.StepOutcome.TheVariants as outcome;
-ghost use Rattle.ocp_world.specs.World.{World, Step};
-ghost use Rattle.ocp_world.specs.After.{Stepped};
-ghost use Rattle.ocp_world.specs.Replay.{replay_from, answers};
-ghost use Rattle.ocp_world.specs.Settled.{world_after_work, RunsAlone};
 
 use crate::State;
 use bpf_step::Machine;
 use std::alloc::{AllocError, Allocator};
 
 impl<A: Allocator> State<A> {
-    ghost use Rattle.ocp_world.specs.Mirror.State.{IsWorld};
-
     /// Gives a procedure a machine that did so many instructions apart, in exchange for its own.
     pub fn settle(&mut self, id: u16, count: u32, machine: &mut Machine<A>)
         requires stands { StandsAt (get self.old.table.records id) machine.old }

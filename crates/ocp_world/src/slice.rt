@@ -1,20 +1,13 @@
 //! Slices: instructions of one procedure, one after another.
 
-ghost use Rattle.std.specs.Prelude.{◌≡◌, ◌≤◌, ℕ};
-ghost use Rattle.std.specs.FinMap.{get};
-ghost use Rattle.ocp_world.specs.World.{World, Step};
+ghost use Rattle.std.specs.Prelude.{◌≡◌, ◌≤◌, ℕ, ◌+◌, if◌then◌else◌, true, false, replicate};
+ghost use Rattle.ocp_world.specs.Clauses.{IsWorld, Step, World, after, get, is_accepted, is_on, is_running, replay_from, slice_count, slice_last};
 
 use crate::{Slice, State};
 use ocp_table::StepOutcome;
 use std::alloc::Allocator;
 
 impl<A: Allocator> State<A> {
-    ghost use Rattle.std.specs.Prelude.{◌+◌, if◌then◌else◌, true, false, replicate};
-    ghost use Rattle.ocp_world.specs.Mirror.State.{IsWorld};
-    ghost use Rattle.ocp_world.specs.After.{after, is_accepted};
-    ghost use Rattle.ocp_world.specs.Replay.{replay_from};
-    ghost use Rattle.ocp_world.specs.Slice.{is_on, is_running, slice_count, slice_last};
-
     // Whether a slice goes on after this outcome.
     fn goes_on(&self, id: u16, outcome: StepOutcome) -> bool
         ensures goes { (w : World) → IsWorld w self.now →

@@ -1,19 +1,9 @@
 //! What the engine keeps of its world.
 
 ghost use Rattle.std.specs.Prelude.{◌≡◌, ◌≤◌, ◌<◌, ℕ, List, true, false, None, Ok, Err, IfOk};
-ghost use Rattle.std.specs.Option.{option_to_list};
-ghost use Rattle.pus_fields.specs.TelecommandFaults.{telecommand_of};
+ghost use Rattle.ocp_world.specs.Clauses.{Commanded, Debug, Does, DoesIn, Failed, FindsPlace, HasFewArguments, IsDebugFault, IsLoadInto, IsRefusal, IsWorld, Kept, Request as Asked, Sends, Step, Stepped, TakesRecord, Unasked, World, after, command_effect, directive_effect, directive_of, effect_of, has_no_place, opening, option_to_list, reports_of, telecommand_of};
 ghost use Rattle.ocp_table.specs.RequestTable as directive;
-ghost use Rattle.ocp_table.specs.Effects.{Kept, Unasked, Failed};
-ghost use Rattle.ocp_table.specs.Loading.{FindsPlace};
-ghost use Rattle.ocp_table.specs.Shown.{directive_of, HasFewArguments};
-ghost use Rattle.ocp_reports.specs.Reports.{reports_of};
-ghost use Rattle.ocp_world.specs.World.{World, opening, Step, Debug, Request as Asked};
 ghost use Rattle.ocp_world.specs.declared.answers.EngineFault.TheVariants as engine;
-ghost use Rattle.ocp_world.specs.Effect.{Sends};
-ghost use Rattle.ocp_world.specs.Requests.{directive_effect, command_effect, has_no_place};
-ghost use Rattle.ocp_world.specs.After.{Stepped, Commanded, after, effect_of};
-ghost use Rattle.ocp_world.specs.Loading.{IsLoadInto, TakesRecord};
 
 use crate::{EngineFault, Heap};
 use obcp_messages::{Report, Request, StatusRows, read_request};
@@ -40,9 +30,6 @@ pub struct State<A: Allocator> {
 }
 
 impl<A: Allocator> State<A> {
-    ghost use Rattle.ocp_world.specs.Mirror.State.{IsWorld, Does, DoesIn};
-    ghost use Rattle.ocp_world.specs.Mirror.Answering.{IsRefusal, IsDebugFault};
-
     /// The state of a profile in which no procedure is loaded, with so many pool words, all of them
     /// 0.
     pub fn new(alloc: A, profile: Profile, apid: Apid, words: u16) -> Result<Self, AllocError>
@@ -69,10 +56,8 @@ impl<A: Allocator> State<A> {
         ensures { (w : World) (by : ℕ) → IsWorld w self.now →
             IsRefusal (after w (Step by id)).answer result }
     {
-        match self.table.step_failure(id) {
-            Some(failure) => Some(StepOutcome::of_failure(failure)),
-            None => None,
-        }
+        let failure = self.table.step_failure(id)?;
+        Some(StepOutcome::of_failure(failure))
     }
 
     /// Does one instruction of a procedure.

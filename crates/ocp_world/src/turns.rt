@@ -1,9 +1,7 @@
 //! Whose turn is next.
 
 ghost use Rattle.std.specs.Prelude.{◌≡◌, ◌↔◌, ℕ, None, IfSome};
-ghost use Rattle.ocp_world.specs.World.{World};
-ghost use Rattle.ocp_world.specs.NextRunning.{IsNextRunning, Runs};
-ghost use Rattle.ocp_world.specs.Mirror.Turns.{runs_from, first_from, next_in};
+ghost use Rattle.ocp_world.specs.Clauses.{IsNextRunning, IsWorld, Runs, World, first_from, next_in, runs_from};
 
 use crate::State;
 use ocp_table::{Status, StatusRow};
@@ -46,8 +44,6 @@ fn next_of(rows: &[StatusRow], before: Option<u16>) -> Option<u16>
 }
 
 impl<A: Allocator> State<A> {
-    ghost use Rattle.ocp_world.specs.Mirror.State.{IsWorld};
-
     /// The least running procedure above the one before, or where there is none the least running
     /// one.
     pub fn next_running(&self, before: Option<u16>) -> Option<u16>
