@@ -377,3 +377,11 @@ absent-last id m outbox pool (suc budget) absent some =
 
 pub absent-store : (id : ℕ) (m : Records) (outbox : List Due) (pool : List ℕ) → map.get m id ≡ None → store_after_events id 1 (record { records = m; outbox = outbox; pool = pool }) ≡ record { records = m; outbox = outbox; pool = pool }
 absent-store id m outbox pool absent = ap (by_effect m outbox pool id) (absent-step pool id m absent) ∙ ap (λ kept. record { records = m; outbox = kept; pool = pool }) (append-nil outbox)
+
+-- whether a slice goes on after an outcome, where that lets it
+pub goes_then : (o : StepOutcome) (running : Bool) {on goes : Bool} → on ≡ is_on o → on ≡ true → goes ≡ running → goes ≡ cond (is_on o) running false
+goes_then o running is true_is goes_is = goes_is ∙ ap (λ b. cond b running false) (sym true_is ∙ is)
+
+-- and where it does not
+pub goes_else : (o : StepOutcome) (running : Bool) {on goes : Bool} → on ≡ is_on o → on ≡ false → goes ≡ false → goes ≡ cond (is_on o) running false
+goes_else o running is false_is goes_is = goes_is ∙ ap (λ b. cond b running false) (sym false_is ∙ is)

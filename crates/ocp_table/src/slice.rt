@@ -65,15 +65,6 @@ impl<A: Allocator> Record<A> {
         }
     }
 
-    // Whether a slice goes on after this outcome.
-    #[inline(always)]
-    fn goes_on(&self, last: StepOutcome) -> bool
-        ensures { result ≡
-            (if is_on last then is_running_status self.now.control.status else false) }
-    {
-        last.is_on() && self.is_running()
-    }
-
     /// Does instructions until the budget is used or the procedure no longer goes on: what needs no
     /// engine is done in stretches, and what does as an event.
     pub(crate) fn slice(&mut self, pool: &mut Pool<A>, outbox: &mut Outbox, budget: u32) -> Slice
@@ -106,7 +97,8 @@ impl<A: Allocator> Record<A> {
             }
             last = self.event(pool, outbox);
             count += 1;
-            if !self.goes_on(last) {
+            let goes_on = last.is_on() && self.is_running();
+            if !goes_on {
                 return Slice { count, last };
             }
         }

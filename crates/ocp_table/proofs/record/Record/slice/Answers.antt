@@ -1,9 +1,10 @@
 use Rattle.std.proofs.Common.{◌≡◌, ◌+◌, refl, subst, sym, ◌∙◌, arith}
 use Rattle.ocp_table.specs.declared.answers.StepOutcome.TheVariants as S
 use Rattle.ocp_table.specs.Shown.{record_of}
-use Rattle.ocp_table.specs.Slices.{last_ran, IsSlice}
-use Rattle.ocp_table.proofs.Slicing.{running_is, still-slice, sliced-none, sliced-run, sliced-event, sliced-end, sliced-whole, ran_some}
+use Rattle.ocp_table.specs.Slices.{last_ran, is_running_status, IsSlice}
+use Rattle.ocp_table.proofs.Slicing.{running_is, still-slice, sliced-none, sliced-run, sliced-event, sliced-end, sliced-whole, ran_some, goes_then, goes_else}
 use Rattle.ocp_table.proofs.record.Record.slice.Goals as goal
+use Rattle.ocp_table.proofs.record.Record.slice.Goals.{then-is_on, else-is_on}
 
 pub loop-count-init : goal.loop-count-init
 loop-count-init g c = record {
@@ -26,7 +27,10 @@ returns-then-not-goes_on-clause-slice g c m held =
     let ran = sliced-run c.args.self.now c.loop-count.self c.run-count.new.self c.args.outbox.now.items c.loop-count.outbox.items c.args.pool.now c.loop-count.pool c.loop-count.count c.run-count.result c.loop-count.last _ c.loop-count.invariant.sliced c.run-count.ensures.left c.run-count.ensures.ran c.run-count.ensures.record c.run-count.ensures.id in
     sliced-end c.args.self.now c.run-count.new.self c.event-last.new.self c.args.outbox.now.items c.loop-count.outbox.items c.event-last.new.outbox.items c.args.pool.now c.loop-count.pool c.event-last.new.pool (c.loop-count.count + c.run-count.result) _ c.event-last.result ran
     (record { answer = c.event-last.ensures.answer; made = c.event-last.ensures.record; filed_is = c.event-last.ensures.outbox; pooled = c.event-last.ensures.pool; same = c.event-last.ensures.id })
-    c.args.budget (omega arith) (sym c.goes_on.ensures ∙ c.if-not-goes_on.true) m held
+    c.args.budget (omega arith) (sym (elim c.if-is_on.branch [
+      | then-is_on w ↦ goes_then c.event-last.result (is_running_status c.event-last.new.self.control.status) c.is_on.ensures w.if-is_on.true (w.goes_on-is ∙ w.is_running-goes_on.ensures)
+      | else-is_on w ↦ goes_else c.event-last.result (is_running_status c.event-last.new.self.control.status) c.is_on.ensures w.if-is_on.false (w.goes_on-is ∙ w.if-is_on.false)
+    ]) ∙ c.if-not-goes_on.true) m held
 
 pub returns-then-not-goes_on-clause-done : goal.returns-then-not-goes_on-clause-done
 returns-then-not-goes_on-clause-done g c on =
@@ -42,7 +46,10 @@ loop-count-preserved g c =
       done = c.event-last.ensures.done ran.running;
       sliced = sliced-event c.args.self.now c.run-count.new.self c.event-last.new.self c.args.outbox.now.items c.loop-count.outbox.items c.event-last.new.outbox.items c.args.pool.now c.loop-count.pool c.event-last.new.pool (c.loop-count.count + c.run-count.result) _ c.event-last.result ran
           (record { answer = c.event-last.ensures.answer; made = c.event-last.ensures.record; filed_is = c.event-last.ensures.outbox; pooled = c.event-last.ensures.pool; same = c.event-last.ensures.id })
-          (sym c.goes_on.ensures ∙ c.if-not-goes_on.false);
+          (sym (elim c.if-is_on.branch [
+            | then-is_on w ↦ goes_then c.event-last.result (is_running_status c.event-last.new.self.control.status) c.is_on.ensures w.if-is_on.true (w.goes_on-is ∙ w.is_running-goes_on.ensures)
+            | else-is_on w ↦ goes_else c.event-last.result (is_running_status c.event-last.new.self.control.status) c.is_on.ensures w.if-is_on.false (w.goes_on-is ∙ w.if-is_on.false)
+          ]) ∙ c.if-not-goes_on.false);
     }
 
 pub returns-clause-slice : goal.returns-clause-slice
