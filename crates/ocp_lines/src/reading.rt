@@ -4,7 +4,7 @@ ghost use Rattle.std.specs.Prelude.{◌≡◌, length, IfOk, IfSome, OnErr, IsTr
 ghost use Rattle.std.specs.Option.{option_map};
 ghost use Rattle.ocp_profile.specs.declared.profile.Profile.{Profile};
 ghost use Rattle.ocp_lines.specs.Words.{words_of, number_up_to};
-ghost use Rattle.ocp_lines.specs.Grammar.{Fits, meaning_of, from_one, up_in, send_in, step_in, memory_in, work_in, switch, trace_in, debugger_command_in, plain_command_in, command_in, command_of, takes_octets, send_takes_octets, command_takes_octets};
+ghost use Rattle.ocp_lines.specs.Grammar.{Fits, meaning_of, from_one, up_in, send_in, step_in, memory_in, work_in, switch, trace_in, debugger_command_in, plain_command_in, command_of, takes_octets, send_takes_octets};
 
 use crate::command::{Command, Count, Flags, MAX_OCTETS_LENGTH, Shift};
 use crate::verbs::request;
@@ -182,28 +182,6 @@ fn plain_command<'a>(name: &[u8], arguments: &'a [u8]) -> Option<Command<'a>>
     }
 }
 
-/// The command of this name with these arguments. The scratch vector holds its octets.
-fn command<'a, A: Allocator>(
-    scratch: &'a mut Vec<u8, A>,
-    profile: Profile,
-    name: &[u8],
-    arguments: &'a [u8],
-) -> Result<Option<Command<'a>>, AllocError>
-    ensures command { IfOk result (λ command. option_map meaning_of command ≡
-        command_in profile name.now (words_of arguments.now)) }
-    ensures memory { OnErr result
-        (IsTrue (command_takes_octets profile name.now (words_of arguments.now))) }
-    ensures fits { IfOk result (λ command. IfSome command (Fits profile)) }
-{
-    if name == b"up".as_slice() {
-        up(scratch, arguments)
-    } else if name == b"send".as_slice() {
-        send(scratch, profile, arguments)
-    } else {
-        Ok(plain_command(name, arguments))
-    }
-}
-
 /// The command that a line says, without its newline, or none where it is no command. A line of
 /// spaces alone is blank, and one whose first octet is `#` a comment: both say nothing. Words are
 /// parted by spaces, numbers are decimal digits, and octets pairs of hexadecimal digits of both
@@ -225,8 +203,14 @@ pub fn read_command<'a, A: Allocator>(
     if line.starts_with(b"#") {
         return Ok(Some(Command::Nothing));
     }
-    match next_word(line) {
-        None => Ok(Some(Command::Nothing)),
-        Some((name, arguments)) => command(scratch, profile, name, arguments),
+    let Some((name, arguments)) = next_word(line) else {
+        return Ok(Some(Command::Nothing));
+    };
+    if name == b"up".as_slice() {
+        up(scratch, arguments)
+    } else if name == b"send".as_slice() {
+        send(scratch, profile, arguments)
+    } else {
+        Ok(plain_command(name, arguments))
     }
 }

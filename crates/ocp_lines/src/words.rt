@@ -17,33 +17,6 @@ const MAX_ADDRESS_DIGITS: usize = 16;
 /// The most octets of a text of which each is looked at by itself for a space.
 const SHORT_TEXT: usize = 64;
 
-/// How many octets of a short text stand before the first space.
-#[inline(always)]
-fn short_word_length(text: &[u8]) -> usize
-    ensures bound { result ≤ length text.now }
-    ensures word { list_all is_solid (take result text.now) ≡ true }
-    ensures space { result < length text.now → slice_index text.now result ≡ 32 }
-{
-    for (index, octet) in text.iter().enumerate() {
-        if *octet == b' ' {
-            return index;
-        }
-    }
-    text.len()
-}
-
-/// How many octets of a long text stand before the first space.
-fn long_word_length(text: &[u8]) -> usize
-    ensures bound { result ≤ length text.now }
-    ensures word { list_all is_solid (take result text.now) ≡ true }
-    ensures space { result < length text.now → slice_index text.now result ≡ 32 }
-{
-    match memchr(b' ', text) {
-        Some(length) => length,
-        None => text.len(),
-    }
-}
-
 /// How many octets stand before the first space.
 #[inline(always)]
 fn word_length(text: &[u8]) -> usize
@@ -51,11 +24,18 @@ fn word_length(text: &[u8]) -> usize
     ensures word { list_all is_solid (take result text.now) ≡ true }
     ensures space { result < length text.now → slice_index text.now result ≡ 32 }
 {
-    if text.len() <= SHORT_TEXT {
-        short_word_length(text)
-    } else {
-        long_word_length(text)
+    if text.len() > SHORT_TEXT {
+        return match memchr(b' ', text) {
+            Some(length) => length,
+            None => text.len(),
+        };
     }
+    for (index, octet) in text.iter().enumerate() {
+        if *octet == b' ' {
+            return index;
+        }
+    }
+    text.len()
 }
 
 /// The first word, and what stands behind it.
@@ -96,8 +76,12 @@ pub(crate) fn two_words(text: &[u8]) -> Option<(&[u8], &[u8])>
     ensures none { IfNone result (length (words_of text.now) ≢ 2) }
 {
     let (word, rest) = next_word(text)?;
-    let next = one_word(rest)?;
-    Some((word, next))
+    let (next, rest) = next_word(rest)?;
+    if no_word(rest) {
+        Some((word, next))
+    } else {
+        None
+    }
 }
 
 /// The three words of a text.

@@ -1,7 +1,7 @@
 use Rattle.std.proofs.Common.{subst}
 use Rattle.memchr.specs.Find.{IsFirstByte, is_byte}
 use Rattle.ocp_lines.proofs.WordLemmas.{first_space, no_space}
-use Rattle.ocp_lines.proofs.words.long_word_length.Goals as goal
+use Rattle.ocp_lines.proofs.words.word_length.Goals as goal
 
 pub returns-in-Some-clause-word : goal.returns-in-Some-clause-word
 returns-in-Some-clause-word c =
