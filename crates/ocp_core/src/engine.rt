@@ -240,17 +240,12 @@ impl<A: Allocator> Engine<A> {
         ensures journal { self.new ≡ slice_log self.old by id budget }
         ensures gain { Grows self.old self.new (slice_entries by id result) }
     {
-        if let Some(refused) = self.state.refusal(id) {
-            return Slice {
-                count: 0,
-                last: refused,
-            };
+        if let Some(last) = self.state.refusal(id) {
+            return Slice { count: 0, last };
         }
         if self.journal.is_full() {
-            return Slice {
-                count: 0,
-                last: StepOutcome::JournalFull,
-            };
+            let last = StepOutcome::JournalFull;
+            return Slice { count: 0, last };
         }
         let slice = self.state.slice(id, budget);
         self.journal.push(Entry::Steps {
