@@ -1,5 +1,4 @@
 //! Registers, numbers and names in an instruction's text, each from its token.
-
 ghost use Rattle.std.specs.Prelude.{◌≡◌, ◌<◌, ◌↔◌, ℕ, IfSome, IfNone, FitsSigned, IsTrue};
 ghost use Rattle.std.specs.Int.{w16, w32};
 ghost use Rattle.bpf_types.specs.Line.{IsOperand, swap_width_bits};

@@ -1,6 +1,5 @@
 //! Laws of the lines of assembly text. The functions do nothing when they run: their contracts are
 //! the laws.
-
 ghost use Rattle.std.specs.Prelude.{◌≡◌, ℕ, List, Result, MatchResult};
 ghost use Rattle.bpf_types.specs.declared.line.Line.{Line};
 ghost use Rattle.bpf_types.specs.Line.{IsLine};

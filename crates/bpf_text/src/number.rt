@@ -1,5 +1,4 @@
 //! Numbers in assembly text.
-
 ghost use Rattle.std.specs.Prelude.{◌<◌, ◌≤◌, ◌^◌, ◌↔◌, IsTrue};
 ghost use Rattle.std.specs.Str.Parse.{AllDigits};
 ghost use Rattle.bpf_text.specs.Number.{Spells, IsNumeral};

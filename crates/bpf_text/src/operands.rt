@@ -1,5 +1,4 @@
 //! A cursor over the operands of an instruction.
-
 ghost use Rattle.std.specs.Prelude.{◌≡◌, ◌≢◌, ◌<◌, ◌^◌, ◌∷◌, [], List, ℕ, codes, IfSome, IfNone, FitsSigned};
 ghost use Rattle.std.specs.Int.{w16, w32};
 ghost use Rattle.bpf_types.specs.Line.{IsReg, IsOperand, swap_width_bits};

@@ -1,5 +1,4 @@
 //! A line by itself.
-
 ghost use Rattle.std.specs.Prelude.{◌≡◌, ◌≢◌, ◌∷◌, List, ℕ, IfSome, IfNone, codes};
 ghost use Rattle.bpf_text.specs.Judged.{texts, JudgesBody, JudgesTokens, JudgesLine};
 

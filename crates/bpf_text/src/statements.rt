@@ -1,5 +1,4 @@
 //! Instructions, from their tokens: the grammar of each mnemonic's operands.
-
 ghost use Rattle.std.specs.Prelude.{◌≡◌, false};
 ghost use Rattle.bpf_canonical.specs.declared.mnemonic.Mnemonic.TheVariants as word;
 ghost use Rattle.bpf_canonical.specs.declared.mnemonic.Jump.TheVariants as leap;

@@ -1,5 +1,4 @@
 //! The tokens of a line.
-
 ghost use Rattle.std.specs.Prelude.{◌≡◌, ◌<◌, ◌≤◌, length, take, drop};
 ghost use Rattle.bpf_text.specs.Tokens.{is_word, is_sign, is_blank, AllWord, NoWord};
 ghost use Rattle.bpf_text.specs.Mirror.Scans.{Scans, AfterBlanks, NoBlank};

@@ -1,5 +1,4 @@
 //! All tokens of a line.
-
 ghost use Rattle.std.specs.Prelude.{◌<◌, List, length, map, ℕ, IfSome, IfNone};
 ghost use Rattle.bpf_text.specs.Tokens.{HasTokens};
 
