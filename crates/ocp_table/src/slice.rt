@@ -1,5 +1,5 @@
 //! A slice of a procedure that is found once.
-ghost use Rattle.std.specs.Prelude.{◌≡◌, ◌≤◌, ◌+◌, ◌++◌, Some, if◌then◌else◌, true, false};
+ghost use Rattle.std.specs.Prelude.{◌≡◌, ◌≤◌, ◌+◌, ◌++◌, Some, true, false};
 ghost use Rattle.ocp_table.specs.Clauses.{HasPlaceBeside, IsSlice, IsWithin, Records, Running, Step, dues_of_effect, effect_of_record, get, is_done, is_on, is_running_status, local_run, pool_by, record_after, record_of, step_outcome, with_machine};
 
 use crate::budget::{less, within};
