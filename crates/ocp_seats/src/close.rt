@@ -34,8 +34,6 @@ impl<L: Naming, A: Allocator> Book<L, A> {
     pub fn close(self, seats: Vec<Seat<L, A>, A>) -> Result<Engine<A>, NotClosed<L, A>>
         ensures ok { IfOk result (λ engine. engine ≡ self.engine) }
         ensures whole { IfOk result (λ _. IsWhole seats.items self.seats) }
-        ensures receipted { IfOk result (λ _.
-            IsReceipted (drop self.start (entries_with_marks self.engine)) seats.items) }
         ensures history { IfOk result (λ _. IsHistory self.engine self.start seats.items) }
         ensures goes_on { IfOk result (λ engine. GoesOn L.log engine) }
         ensures start { IfOk result (λ _. self.start ≡ length L.log.entries) }

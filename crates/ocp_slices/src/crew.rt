@@ -92,15 +92,8 @@ fn work_as<L: Naming + Send + Sync, R: Threads + Wait + Sync, G: Gate + Sync>(
 {
     let shared = SharedEngine::<L>::new(engine, blank);
     let mut seats = seats_of(rt, alloc, &shared, crew)?;
-    workers(
-        rt,
-        alloc,
-        &shared,
-        seats.as_mut_slice(),
-        budget,
-        turns,
-        gate,
-    );
+    let all = seats.as_mut_slice();
+    workers(rt, alloc, &shared, all, budget, turns, gate);
     match shared.close(seats) {
         Ok(engine) => Ok(engine),
         Err(_fault) => Err(WorkFault::NotClosed),

@@ -1,6 +1,6 @@
 //! The crew of threads that does the work of a console's `work` lines.
 
-ghost use Rattle.std.specs.Prelude.{◌≤◌, IfOk};
+ghost use Rattle.std.specs.Prelude.{IfOk};
 ghost use Rattle.std.specs.Thread.{IsSync};
 ghost use Rattle.ocp_slices.specs.Closed.{HasWorked};
 
@@ -32,12 +32,7 @@ impl<R: Threads + Wait + Sync> Crew<Engine> for Threaded<'_, R> {
         workers: u16,
         budget: u32,
         turns: u32,
-    ) -> Result<Engine, CrewFault>
-        requires ready { IsSync R.row }
-        requires some { 1 ≤ workers }
-        requires few { workers ≤ 16 }
-        ensures { IfOk result (λ after. HasWorked engine after workers budget turns) }
-    {
+    ) -> Result<Engine, CrewFault> {
         match work(self.rt, self.alloc, engine, workers, budget, turns, &Open) {
             Ok(engine) => Ok(engine),
             Err(WorkFault::Memory) => Err(CrewFault::Memory),

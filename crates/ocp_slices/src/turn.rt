@@ -62,10 +62,8 @@ fn take_next<L: Naming, B: Board<L>>(board: &mut B, alloc: Global, spare: Option
     ensures given { B.answers (TakeReply result.taken) }
 {
     let Some(mut ticket) = spare else {
-        return Next {
-            taken: board.take(alloc),
-            spare: None,
-        };
+        let taken = board.take(alloc);
+        return Next { taken, spare: None };
     };
     match board.take_into(alloc, &mut ticket) {
         Ok(()) => Next {
@@ -110,13 +108,6 @@ fn put_back<L: Naming, B: Board<L>>(
             answer => (outcome, Turn::Stepped(answer)),
         },
     }
-}
-
-/// What a turn answered, and what the next one begins with.
-#[derive(Drop)]
-struct Turned {
-    turn: Turn,
-    next: Next,
 }
 
 impl<L: Naming, B: Board<L>> SharedEngine<L, B> {
@@ -164,7 +155,7 @@ impl<L: Naming, B: Board<L>> SharedEngine<L, B> {
         turn
     }
 
-    /// The same, and then takes what the next turn begins with, under one lock.
+    /// The same, and what the next turn begins with, which is taken under one lock with it.
     #[tactic(auto, using(crate::proofs::Turning::did, crate::proofs::Turning::idle))]
     fn turn_and_take<R: Wait, G: Gate>(
         &self,
@@ -174,19 +165,17 @@ impl<L: Naming, B: Board<L>> SharedEngine<L, B> {
         budget: u32,
         gate: &G,
         next: Next,
-    ) -> Turned
+    ) -> (Turn, Next)
         requires given { B.answers (TakeReply next.taken) }
-        ensures turned { IsTurn B.answers budget seat.old seat.new result.turn }
-        ensures given { B.answers (TakeReply result.next.taken) }
+        ensures turned { IsTurn B.answers budget seat.old seat.new result.0 }
+        ensures given { B.answers (TakeReply result.1.taken) }
     {
         let Next { taken, spare } = next;
         let ticket = match taken {
             Ok(ticket) => ticket,
             Err(fault) => {
-                return Turned {
-                    turn: turn_without(fault),
-                    next: take_next(&mut *self.lock(rt), alloc, spare),
-                };
+                let next = take_next(&mut *self.lock(rt), alloc, spare);
+                return (turn_without(fault), next);
             }
         };
         let mut work = ticket.run(budget);
@@ -198,7 +187,7 @@ impl<L: Naming, B: Board<L>> SharedEngine<L, B> {
         let next = take_next(&mut *board, alloc, Some(work.into_ticket()));
         drop(board);
         gate.after(number, id, outcome);
-        Turned { turn, next }
+        (turn, next)
     }
 
     /// That many turns, one after the other. The lock is taken once between two of them. From the
@@ -223,8 +212,8 @@ impl<L: Naming, B: Board<L>> SharedEngine<L, B> {
             spare: None,
         };
         for _turn in 0..turns - 1 {
-            let turned = self.turn_and_take(rt, alloc, seat, budget, gate, next);
-            next = turned.next;
+            let (_turn, after) = self.turn_and_take(rt, alloc, seat, budget, gate, next);
+            next = after;
         }
         self.turn_with(rt, seat, budget, gate, next.taken);
     }

@@ -10,8 +10,8 @@ use Rattle.ocp_slices.proofs.crew.work_as.Goals as goal
 pub returns-in-Ok : goal.returns-in-Ok
 returns-in-Ok g c =
     let news : List SeatContents = c.workers.new.seats in
-    let goes : AllContinue c.args.turns c.args.budget c.in_ok-seats.seats.items news = subst (λ (olds : List SeatContents). AllContinue c.args.turns c.args.budget olds news) c.as_mut_slice.ensures.value c.workers.ensures in
-    let long : length news ≡ c.in_ok-seats.seats.len = c.workers.ensures.count ∙ c.as_mut_slice.ensures.len in
+    let goes : AllContinue c.args.turns c.args.budget c.in_ok-seats.seats.items news = subst (λ (olds : List SeatContents). AllContinue c.args.turns c.args.budget olds news) c.as_mut_slice-all.ensures.value c.workers.ensures in
+    let long : length news ≡ c.in_ok-seats.seats.len = c.workers.ensures.count ∙ c.as_mut_slice-all.ensures.len in
     let same : take c.in_ok-seats.seats.len (news ++ drop (length news) c.in_ok-seats.seats.items) ≡ news = take_at news (drop (length news) c.in_ok-seats.seats.items) c.in_ok-seats.seats.len long in
     let closed : IsClosed c.args.engine c.in-Ok.engine news =
     subst (λ (start : Log). IsClosed start c.in-Ok.engine news) c.requires.log
