@@ -44,7 +44,7 @@ pub(crate) enum Reply {
 
 impl<A: Allocator + Copy> Console<A> {
     ghost use Rattle.ocp_lines.specs.Grammar.{IsCarried, IsSayable, meaning_of};
-    ghost use Rattle.ocp_console.specs.Answering.{state_of, opening, on_octets, on_drain, on_request, trace_lines, view_text, memory_text, effect_of};
+    ghost use Rattle.ocp_console.specs.Answering.{state_of, opening, on_drain, on_request, trace_lines, view_text, memory_text, effect_of};
     ghost use Rattle.ocp_console.specs.Crew.{HasDone, HasRefused};
     ghost use Rattle.ocp_console.specs.Texts.{work_line};
     ghost use Rattle.ocp_console.specs.Mirror.Replies.{effect_by, works_of, IsKept};
@@ -70,15 +70,6 @@ impl<A: Allocator + Copy> Console<A> {
         })
     }
 
-    /// These octets reach the engine.
-    fn receive(&mut self, alloc: A, octets: &[u8]) -> Result<(), AllocError>
-        ensures { OnOk result ((state_of self.new, self.new.output.items) ≡
-            on_octets (state_of self.old) octets.now) }
-    {
-        let answer = self.engine.request(alloc, 0, self.time, octets);
-        answer_text(answer, &mut self.output)
-    }
-
     /// What a `drain` line does.
     fn drain(&mut self, alloc: A) -> Result<(), AllocError>
         ensures { OnOk result
@@ -96,7 +87,8 @@ impl<A: Allocator + Copy> Console<A> {
     {
         let packet = telecommand(alloc, self.profile, self.apid, self.count, flags, request)?;
         self.count = self.count.next();
-        self.receive(alloc, packet.as_slice())
+        let answer = self.engine.request(alloc, 0, self.time, packet.as_slice());
+        answer_text(answer, &mut self.output)
     }
 
     /// What a `trace` line prints.
@@ -148,7 +140,10 @@ impl<A: Allocator + Copy> Console<A> {
         match command {
             Command::Work(shift) => return Ok(Reply::Work(shift)),
             Command::Nothing => self.output.clear(),
-            Command::Up(octets) => self.receive(alloc, octets)?,
+            Command::Up(octets) => {
+                let answer = self.engine.request(alloc, 0, self.time, octets);
+                answer_text(answer, &mut self.output)?;
+            }
             Command::Send { flags, request } => self.send(alloc, flags, &request)?,
             Command::Time(time) => {
                 self.time = time;

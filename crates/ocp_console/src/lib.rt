@@ -2,7 +2,6 @@
 //! tools, and the words of the command line.
 #![tactic(auto)]
 
-mod answering;
 mod console;
 mod debugging;
 pub mod laws;

@@ -1,20 +1,19 @@
 //! The steps of a run.
 
-ghost use Rattle.std.specs.Prelude.{◌≡◌, ◌≢◌, ◌<◌, ◌≤◌, ◌+◌, ◌-◌, ◌^◌, ◌↔◌, ℕ, List, [], ◌∷◌, ◌++◌, ◌⊎◌, length, vec_len, true, Some, Ok, Err, IfOk, IsErrOf};
+ghost use Rattle.std.specs.Prelude.{◌≡◌, ◌≢◌, ◌<◌, ◌≤◌, ◌+◌, ◌-◌, ◌^◌, ◌↔◌, ℕ, List, [], ◌∷◌, ◌++◌, ◌⊎◌, length, vec_len, Some, Ok, Err, IfOk, IsErrOf};
 ghost use Rattle.ocp_console.specs.Answering.{state_of};
 ghost use Rattle.text_lines.specs.Lines.{Line, text_of, octets_of};
 ghost use Rattle.ocp_console.specs.declared.session.TheConstants.{MAX_LINES, MAX_LINE_OCTETS};
 ghost use Rattle.ocp_console.specs.Crew.{crew_fault};
 ghost use Rattle.ocp_console.specs.Script.{FaultLine, Writes, PrintsBy};
 ghost use Rattle.ocp_console.specs.Mirror.Session.{Answers, after_line, rest_of, rest_with, octets_so_far};
-ghost use Rattle.ocp_console.specs.Mirror.Lines.{HasTaken, TakesUpTo, CountsWrites, is_one_line};
+ghost use Rattle.ocp_console.specs.Mirror.Lines.{HasTaken, TakesUpTo, CountsWrites};
 
-use crate::answering::answer;
 use crate::console::{Console, Reply};
 use crate::session::{MAX_LINES, Session};
 use crate::texts::work_text;
 use ocp_core::Engine;
-use ocp_lines::Shift;
+use ocp_lines::{Shift, read_command};
 use ocp_ports::{ConsoleFault, Crew, CrewFault, Sink, error_text, write_whole};
 use std::alloc::Allocator;
 use text_lines::without_carriage_return;
@@ -74,19 +73,22 @@ fn line_answer<W: Sink, C: Crew<Engine<A>>, A: Allocator + Copy>(
     ensures count { CountsWrites (W.failed_writes writer.old) (W.failed_writes writer.new) result }
     ensures no_read { IsErrOf result ConsoleFault.Read → ⊥ }
 {
-    match answer(alloc, console, text)? {
-        None => Err(refuse(
+    let mut scratch = Vec::new(alloc);
+    let Some(command) = read_command(&mut scratch, console.profile, text)? else {
+        return Err(refuse(
             alloc,
             writer,
             before + 1,
             "Syntax",
             ConsoleFault::Syntax(before + 1),
-        )),
-        Some(Reply::Printed) => {
+        ));
+    };
+    match console.obey(alloc, command)? {
+        Reply::Printed => {
             write_whole(writer, console.output.as_slice())?;
             Ok(None)
         }
-        Some(Reply::Work(shift)) => Ok(Some(shift)),
+        Reply::Work(shift) => Ok(Some(shift)),
     }
 }
 
@@ -170,40 +172,6 @@ fn feed<W: Sink, C: Crew<Engine<A>>, A: Allocator + Copy>(
     Ok(asked)
 }
 
-/// Takes a whole line, which its newline ends.
-fn pass<W: Sink, C: Crew<Engine<A>>, A: Allocator + Copy>(
-    session: &mut Session<A>,
-    alloc: A,
-    crew: &C,
-    line: &[u8],
-    writer: &mut W,
-) -> Result<Option<Shift>, ConsoleFault>
-    requires device { W.failed_writes writer.old < 2 ^ 64 - 1 }
-    requires few { session.old.before < MAX_LINES }
-    requires empty { session.old.line.items ≡ [] }
-    requires line { is_one_line line.now ≡ true }
-    requires short { length line.now ≤ MAX_LINE_OCTETS }
-    ensures run { Answers (W.contents writer.old) (W.contents writer.new)
-        (λ more. rest_of (C.answers crew.now) session.old (line.now ++ 10 ∷ more))
-        (λ asked more. rest_with (C.answers crew.now) session.new asked more) result }
-    ensures line { session.new.line ≡ session.old.line }
-    ensures before { IfOk result (λ _. session.new.before ≡ session.old.before + 1) }
-    ensures count { CountsWrites (W.failed_writes writer.old) (W.failed_writes writer.new) result }
-    ensures no_read { IsErrOf result ConsoleFault.Read → ⊥ }
-{
-    let text = without_carriage_return(line);
-    let asked = line_answer(
-        alloc,
-        &mut session.console,
-        crew,
-        writer,
-        session.before,
-        text,
-    )?;
-    session.before += 1;
-    Ok(asked)
-}
-
 /// Takes octets up to the end of a line, or all of them where none ends: the octets that are left,
 /// and what the line asks of the crew.
 fn take_line<'a, W: Sink, C: Crew<Engine<A>>, A: Allocator + Copy>(
@@ -229,7 +197,16 @@ fn take_line<'a, W: Sink, C: Crew<Engine<A>>, A: Allocator + Copy>(
     ensures no_read { IsErrOf result ConsoleFault.Read → ⊥ }
 {
     if let Some((line, behind)) = session.whole_line(octets) {
-        let asked = pass(session, alloc, crew, line, writer)?;
+        let text = without_carriage_return(line);
+        let asked = line_answer(
+            alloc,
+            &mut session.console,
+            crew,
+            writer,
+            session.before,
+            text,
+        )?;
+        session.before += 1;
         return Ok((behind, asked));
     }
     let count = session.fill(octets)?;

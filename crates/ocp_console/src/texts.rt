@@ -1,7 +1,6 @@
 //! What is printed of reports, steps, the pool and the journal.
 
 ghost use Rattle.std.specs.Prelude.{◌≡◌, ◌≢◌, ◌≤◌, ◌++◌, Err, length, OnOk};
-ghost use Rattle.std.specs.List.{flat_map};
 ghost use Rattle.ocp_world.specs.After.{Requested};
 ghost use Rattle.ocp_console.specs.Answering.{answer_text};
 ghost use Rattle.ocp_console.specs.Mirror.Fronts.{front_line};
@@ -43,21 +42,6 @@ fn push_report<A: Allocator + Copy>(
     let payload = hex::encode(*output.allocator(), tm.payload())?;
     output.extend_from_slice(payload.as_bytes())?;
     output.push(b'\n')?;
-    Ok(())
-}
-
-/// Writes the lines of reports.
-fn reports_text<A: Allocator + Copy>(
-    reports: &Reports<A>,
-    output: &mut Vec<u8, A>,
-) -> Result<(), AllocError>
-    ensures { OnOk result (output.new.items ≡ flat_map report_line reports.now) }
-{
-    output.clear();
-    let packets = reports.packets();
-    for packet in packets {
-        push_report(packet.as_slice(), output)?;
-    }
     Ok(())
 }
 
@@ -105,7 +89,13 @@ pub(crate) fn answer_text<A: Allocator + Copy>(
     ensures memory { OnOk result (answer ≢ Err EngineFault.Memory) }
 {
     match answer {
-        Ok(reports) => reports_text(&reports, output),
+        Ok(reports) => {
+            output.clear();
+            for packet in reports.packets() {
+                push_report(packet.as_slice(), output)?;
+            }
+            Ok(())
+        }
         Err(EngineFault::Discarded(why)) => discard_text(why).write_to(output),
         Err(EngineFault::NothingDue) => refusal_text("NothingDue").write_to(output),
         Err(EngineFault::JournalFull) => refusal_text("JournalFull").write_to(output),

@@ -3,15 +3,15 @@ use Rattle.std.proofs.lemmas.Grind.{common_steps}
 use Rattle.std.proofs.lemmas.List.{nil_from_length}
 use Rattle.std.proofs.lemmas.Result.{err_from_is_err_and}
 use Rattle.std.proofs.KnownBytes.{Appends-nil}
-use Rattle.text_lines.specs.Lines.{lines_of}
+use Rattle.text_lines.specs.Lines.{Ended, lines_of}
 use Rattle.ocp_ports.specs.declared.fault.ConsoleFault.TheVariants as faults
 use Rattle.ocp_console.specs.declared.session.Session.{Session}
 use Rattle.ocp_console.specs.Answering.{state_of}
 use Rattle.ocp_console.specs.Crew.{CrewAnswers}
 use Rattle.ocp_console.specs.Script.{Writes}
-use Rattle.ocp_console.specs.Mirror.Session.{rest_of, rest_with}
+use Rattle.ocp_console.specs.Mirror.Session.{after_line, rest_of, rest_with}
 use Rattle.ocp_console.specs.Mirror.Lines.{HasTaken, TakesUpTo}
-use Rattle.ocp_console.proofs.Runs.{SoFar, cut, none_so_far, filled_on, more_answered, ended_at}
+use Rattle.ocp_console.proofs.Runs.{SoFar, cut, none_so_far, filled_on, more_answered, ended_at, line_failed, line_done}
 use Rattle.ocp_console.proofs.Taking.{none_taken, more_taken, piece_taken, line_taken}
 use Rattle.ocp_console.proofs.steps.take_line.Goals as goal
 
@@ -54,20 +54,16 @@ filled_up_to : {A : Type 0} (s t : Session A) (front octets left : List ℕ) (n 
 filled_up_to s t front octets left n is few before items taken =
     more_taken s.before t.before s.line.items t.line.items (front ++ octets) octets (take n octets) left (parts n octets ∙ ap (λ (l : List ℕ). take n octets ++ l) (sym is)) (λ f h. filled_taken s t f octets n few before items h) (none_taken s.before s.line.items front octets taken)
 
-passed_taken : {A : Type 0} (s t : Session A) (front line : List ℕ) → s.line.items ≡ [] → t.line ≡ s.line → t.before ≡ s.before + 1 → HasTaken (s.before + 1) s.line.items (front ++ (line ++ 10 ∷ [])) → HasTaken t.before t.line.items (front ++ (line ++ 10 ∷ []))
-passed_taken s t front line empty same before taken =
-    subst (λ b. HasTaken b t.line.items (front ++ (line ++ 10 ∷ []))) (sym before) (subst (λ l. HasTaken (s.before + 1) l.items (front ++ (line ++ 10 ∷ []))) (sym same) taken)
-
 pub returns-in-Some-clause-took : goal.returns-in-Some-clause-took
 returns-in-Some-clause-took g c front h =
     let s = c.args.session.now in
-    let t = c.pass.new.session in
+    let octets = c.args.octets.now in
     let line = c.in-Some.line.now in
     let behind = c.in-Some.behind.now in
     let w = c.in-Some.ensures in
-    more_taken s.before t.before s.line.items t.line.items (front ++ c.args.octets.now) c.args.octets.now (line ++ 10 ∷ []) behind (w.parts ∙ sym (append_assoc line (10 ∷ []) behind))
-    (λ f hf. passed_taken s t f line w.empty c.pass.ensures.line c.in_ok-asked.ensures.before (line_taken s.before s.line.items line f w.empty w.line w.short w.few hf))
-    (none_taken s.before s.line.items front c.args.octets.now h)
+    more_taken s.before (s.before + 1) s.line.items s.line.items (front ++ octets) octets (line ++ 10 ∷ []) behind (w.parts ∙ sym (append_assoc line (10 ∷ []) behind))
+    (λ f hf. line_taken s.before s.line.items line f w.empty w.line w.short w.few hf)
+    (none_taken s.before s.line.items front octets h)
 
 pub returns-in_err-asked-clause-run : goal.returns-in_err-asked-clause-run
 returns-in_err-asked-clause-run g c =
@@ -78,7 +74,26 @@ returns-in_err-asked-clause-run g c =
     let octets = c.args.octets.now in
     let line = c.in-Some.line.now in
     let behind = c.in-Some.behind.now in
-    rw (p.1, p.2) (ended_at a a _ (rest_of crew s) (rest_of crew s) octets octets behind (λ (b : List ℕ). line ++ 10 ∷ b) _ (λ more. ap (λ (o : List ℕ). o ++ more) c.in-Some.ensures.parts ∙ append_assoc line (10 ∷ behind) more) (none_so_far a (rest_of crew s) octets) c.in_err-asked.ensures.run)
+    let w = c.in-Some.ensures in
+    let h = c.in_err-asked.ensures.answers (Ended line) (sym c.without_carriage_return-text.ensures) w.short in
+    rw (p.1, p.2) (ended_at a a _ (rest_of crew s) (rest_of crew s) octets octets behind (λ (b : List ℕ). line ++ 10 ∷ b) _ (λ more. ap (λ (o : List ℕ). o ++ more) w.parts ∙ append_assoc line (10 ∷ behind) more) (none_so_far a (rest_of crew s) octets)
+    (line_failed a (g.W.Sink.contents c.line_answer.new.writer) crew (state_of s.console) s.before s.line.items line _ w.empty w.line h))
+
+pub returns-in-Some-clause-run : goal.returns-in-Some-clause-run
+returns-in-Some-clause-run g c =
+    let crew = g.C.Crew.answers c.args.crew.now in
+    let a = g.W.Sink.contents c.args.writer.now in
+    let s = c.args.session.now in
+    let octets = c.args.octets.now in
+    let line = c.in-Some.line.now in
+    let behind = c.in-Some.behind.now in
+    let w = c.in-Some.ensures in
+    let next = state_of c.line_answer.new.console in
+    let asked = c.in_ok-asked.asked in
+    let h = c.in_ok-asked.ensures.answers (Ended line) (sym c.without_carriage_return-text.ensures) w.short in
+    more_answered a a (g.W.Sink.contents c.line_answer.new.writer) (rest_of crew s) (rest_of crew s) (λ more. after_line crew next (s.before + 1) asked (lines_of (s.line.items ++ more))) octets octets behind (λ (b : List ℕ). line ++ 10 ∷ b)
+    (λ more. ap (λ (o : List ℕ). o ++ more) w.parts ∙ append_assoc line (10 ∷ behind) more) (none_so_far a (rest_of crew s) octets)
+    (line_done a (g.W.Sink.contents c.line_answer.new.writer) crew (state_of s.console) next s.before s.line.items line asked w.empty w.line h)
 
 pub returns-in_err-count-clause-run : goal.returns-in_err-count-clause-run
 returns-in_err-count-clause-run g c =
