@@ -1,12 +1,10 @@
 -- Octets have one first fault at most, and then no instruction that may be loaded.
-use Rattle.std.proofs.Common.{◌≡◌, ℕ, List, Result, Ok, Err, IfOk, IfErr, ap, refl}
+use Rattle.std.proofs.Common.{◌≡◌, ℕ, List, Result, Ok, Err, ap, refl}
 use Rattle.bpf_types.specs.declared.line.Line.{Line}
-use Rattle.bpf_types.specs.Line.{WritesFramePointer}
 use Rattle.bpf_decode.specs.declared.fault.DecodeFault.{DecodeFault}
 use Rattle.bpf_decode.specs.declared.fault.DecodeFault.TheVariants as fault
-use Rattle.bpf_decode.specs.Decoding.{BeginsWith}
-use Rattle.bpf_decode.specs.Faults.{IsFirst}
-use Rattle.bpf_decode.proofs.Only.{no_fault}
+use Rattle.bpf_decode.specs.Faults.{IsFirst, Decodes}
+use Rattle.bpf_decode.proofs.Only.{unique, no_fault}
 
 pub one_first : (octets : List ℕ) (a b : DecodeFault) → IsFirst a octets → IsFirst b octets → a ≡ b
 one_first octets fault.CutWide fault.CutWide p q = refl
@@ -35,8 +33,9 @@ one_first octets fault.WritesFramePointer fault.BadRegister p q = absurd (p.2 q.
 one_first octets fault.WritesFramePointer fault.ReservedField p q = absurd (p.3 q.3)
 one_first octets fault.WritesFramePointer fault.WritesFramePointer p q = refl
 
--- the answer that has an instruction or the first fault is the first fault, where there is one
-pub fault_from : (r : Result Line DecodeFault) (octets : List ℕ) → IfOk r (λ x. BeginsWith octets x × ¬ WritesFramePointer x) → IfErr r (λ e. IsFirst e octets) →
-    (f : DecodeFault) → IsFirst f octets → r ≡ Err f
-fault_from (Ok x) octets ok err f h = absurd (ok.1 (no_fault octets f x h ok.0))
-fault_from (Err e) octets ok err f h = ap Err (one_first octets e f err h)
+-- octets are decoded one way
+pub one_way : (octets : List ℕ) (a b : Result Line DecodeFault) → Decodes octets a → Decodes octets b → a ≡ b
+one_way octets (Ok x) (Ok y) p q = ap Ok (unique octets x y p.0 q.0)
+one_way octets (Ok x) (Err f) p q = absurd (p.1 (no_fault octets f x q p.0))
+one_way octets (Err f) (Ok x) p q = absurd (q.1 (no_fault octets f x p q.0))
+one_way octets (Err e) (Err f) p q = ap Err (one_first octets e f p q)

@@ -1,4 +1,5 @@
 mod RowLemmas
+mod Spelled
 mod Complete
 mod Bytes
 mod Known

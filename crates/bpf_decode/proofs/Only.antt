@@ -1,5 +1,5 @@
 -- Octets spell one instruction at most, and it is the one that is found.
-use Rattle.std.proofs.Common.{◌≡◌, ℕ, ◌+◌, ◌≤◌, List, length, Some, Result, Ok, Err, IfOk, IfErr, sym, ap, refl, ◌∙◌, subst, arith, length-append, true, false, ◌⊎◌, inl, inr}
+use Rattle.std.proofs.Common.{◌≡◌, ℕ, ◌+◌, ◌≤◌, List, length, Some, sym, ap, refl, ◌∙◌, subst, arith, length-append, true, false, ◌⊎◌, inl, inr}
 use Rattle.std.proofs.lemmas.Bool.{cases_eq}
 use Rattle.std.specs.Prelude.{◌==◌}
 use Rattle.std.proofs.lemmas.Option.{same_Some}
@@ -29,20 +29,19 @@ wide_length l e =
     let yes : ((first_slot l).opcode == 0x18) ≡ true = (Decides-eqb (first_slot l).opcode 0x18).1 e in
     absurd cc
 
-pub only_from : (r : Result Line DecodeFault) (octets : List ℕ) → IfOk r (λ x. BeginsWith octets x × ¬ WritesFramePointer x) → IfErr r (λ e. IsFirst e octets) →
-    (l : Line) → BeginsWith octets l → ¬ WritesFramePointer l → r ≡ Ok l
-only_from (Ok x) octets ok err l b n = ap Ok (unique octets x l ok.0 b)
-only_from (Err fault.CutWide) octets ok err l b n =
+-- octets with a first fault begin with no instruction that may be loaded
+no_line : (octets : List ℕ) (f : DecodeFault) (l : Line) → IsFirst f octets → BeginsWith octets l → ¬ WritesFramePointer l → ⊥
+no_line octets fault.CutWide l err b n =
     let opcode : (first_slot l).opcode ≡ 0x18 = sym (ap (λ (f : Fields). f.opcode) (fields_of octets l b)) ∙ err.0 in
     let long : 16 ≤ length (spelling l) = wide_length l opcode in
     let whole : length octets ≡ length (spelling l) + length b.1 = ap length b.2 ∙ length-append (spelling l) b.1 in
-    absurd (omega (arith, err.1))
-only_from (Err fault.UnknownOpcode) octets ok err l b n = absurd (err.1 l (sym (ap (λ (f : Fields). f.opcode) (fields_of octets l b))))
-only_from (Err fault.BadRegister) octets ok err l b n =
+    omega (arith, err.1)
+no_line octets fault.UnknownOpcode l err b n = err.1 l (sym (ap (λ (f : Fields). f.opcode) (fields_of octets l b)))
+no_line octets fault.BadRegister l err b n =
     let r = in_range l b.0 in
-    absurd (registers_there octets (first_slot l) (sym (fields_of octets l b)) r.dst r.src err.2)
-only_from (Err fault.ReservedField) octets ok err l b n = absurd (err.3 l b)
-only_from (Err fault.WritesFramePointer) octets ok err l b n = absurd (n (subst WritesFramePointer (unique octets err.4.0 l err.4.1 b) err.4.2))
+    registers_there octets (first_slot l) (sym (fields_of octets l b)) r.dst r.src err.2
+no_line octets fault.ReservedField l err b n = err.3 l b
+no_line octets fault.WritesFramePointer l err b n = n (subst WritesFramePointer (unique octets err.4.0 l err.4.1 b) err.4.2)
 
 -- whether R10 would be written
 pub decide : (l : Line) → (WritesFramePointer l) ⊎ (¬ WritesFramePointer l)
@@ -58,5 +57,5 @@ decide _ = inr (λ h. h)
 pub no_fault : (octets : List ℕ) (fault : DecodeFault) (l : Line) → IsFirst fault octets → BeginsWith octets l → WritesFramePointer l
 no_fault octets f l first b = elim (decide l) [
   | inl h ↦ h
-  | inr n ↦ let same : Err f ≡ Ok l = only_from (Err f) octets tt first l b n in absurd cc
+  | inr n ↦ absurd (no_line octets f l first b n)
 ]

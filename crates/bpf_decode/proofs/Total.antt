@@ -1,5 +1,5 @@
--- Octets begin with an instruction that may be loaded, or have a first fault.
-use Rattle.std.proofs.Common.{◌≡◌, ℕ, ◌%◌, ◌/◌, ◌<◌, ◌≤◌, ◌⊎◌, inl, inr, ℤ, List, [], ◌∷◌, ◌++◌, length, Option, Some, None, Bool, true, false, refl, sym, ap, ◌∙◌, subst, arith}
+-- Octets are decoded as an instruction that may be loaded, or as their first fault.
+use Rattle.std.proofs.Common.{◌≡◌, ℕ, ◌%◌, ◌/◌, ◌<◌, ◌≤◌, ◌⊎◌, inl, inr, ℤ, List, [], ◌∷◌, ◌++◌, length, Option, Some, None, Result, Ok, Err, Bool, true, false, refl, sym, ap, ◌∙◌, subst, arith}
 use Rattle.std.specs.Prelude.{slice_index, FitsSigned, ◌^◌}
 use mir.Val.{hbits}
 use Rattle.std.specs.Int.{Width, w16, w32}
@@ -11,11 +11,12 @@ use Rattle.bpf_types.specs.declared.line.Line.TheVariants as line
 use Rattle.bpf_types.specs.declared.line.Operand.{Operand}
 use Rattle.bpf_types.specs.declared.line.Operand.TheVariants.{Immediate, Register}
 use Rattle.bpf_types.specs.Line.{first_slot, spelling, IsLine, IsOperand}
+use Rattle.bpf_decode.specs.declared.fault.DecodeFault.{DecodeFault}
 use Rattle.bpf_decode.specs.declared.fault.DecodeFault.TheVariants as fault
 use Rattle.bpf_decode.specs.Mirror.Codes.{is_opcode}
 use Rattle.bpf_decode.specs.Mirror.Decoding.{raw_fields, line_at}
 use Rattle.bpf_decode.specs.Decoding.{BeginsWith}
-use Rattle.bpf_decode.specs.Faults.{AreOctets, IsDecodable, IsFaulty}
+use Rattle.bpf_decode.specs.Faults.{AreOctets, Decodes}
 use Rattle.bpf_decode.proofs.Decode.{none_found}
 use Rattle.bpf_decode.proofs.Known.{known}
 use Rattle.bpf_decode.proofs.Complete.{known_line}
@@ -112,18 +113,22 @@ known_by : (n : ℕ) (b : Bool) → is_opcode n ≡ b → n < 256 → Or ((l : L
 known_by n true e small = inr (λ h. known n small e h)
 known_by n false e small = inl (λ l same. let yes_known : is_opcode (first_slot l).opcode ≡ true = known_line l in let no_opcode : is_opcode (first_slot l).opcode ≡ false = ap is_opcode same ∙ e in absurd cc)
 
-pub total : (octets : List ℕ) → slice_index octets 0 < 256 → IsDecodable octets ⊎ IsFaulty octets
+-- what the octets are decoded as
+abbrev Decoding : List ℕ → Type 0
+Decoding octets = (result : Result Line DecodeFault) × Decodes octets result
+
+pub total : (octets : List ℕ) → slice_index octets 0 < 256 → Decoding octets
 total octets small = elim (both (cases_eq (slice_index octets 0) 0x18) (less (length octets) 16)) [
-  | inl cut ↦ inr (record { fault = fault.CutWide; first = cut })
+  | inl cut ↦ (Err fault.CutWide, cut)
   | inr whole ↦ elim (known_by (slice_index octets 0) (is_opcode (slice_index octets 0)) refl small) [
-    | inl unknown ↦ inr (record { fault = fault.UnknownOpcode; first = (whole, unknown) })
+    | inl unknown ↦ (Err fault.UnknownOpcode, (whole, unknown))
     | inr opcode ↦ elim (either (less 10 (slice_index octets 1 % 16)) (less 10 (slice_index octets 1 / 16))) [
-      | inl bad ↦ inr (record { fault = fault.BadRegister; first = (whole, opcode, bad) })
+      | inl bad ↦ (Err fault.BadRegister, (whole, opcode, bad))
       | inr registers ↦ elim (spelled_by octets (line_at (raw_fields octets) octets) refl) [
-        | inr none ↦ inr (record { fault = fault.ReservedField; first = (whole, opcode, registers, none) })
+        | inr none ↦ (Err fault.ReservedField, (whole, opcode, registers, none))
         | inl found ↦ elim (decide found.0) [
-          | inl writes ↦ inr (record { fault = fault.WritesFramePointer; first = (whole, opcode, registers, (λ none. none found.0 found.1), (found.0, found.1, writes)) })
-          | inr permitted ↦ inl (record { line = found.0; begins = found.1; permitted = permitted })
+          | inl writes ↦ (Err fault.WritesFramePointer, (whole, opcode, registers, (λ none. none found.0 found.1), (found.0, found.1, writes)))
+          | inr permitted ↦ (Ok found.0, (found.1, permitted))
         ]
       ]
     ]
@@ -134,5 +139,5 @@ small_first : (octets : List ℕ) → AreOctets octets → slice_index octets 0 
 small_first [] h = omega arith
 small_first (o ∷ octets) h = h 0 o (omega arith)
 
-pub of_octets : (octets : List ℕ) → AreOctets octets → IsDecodable octets ⊎ IsFaulty octets
+pub of_octets : (octets : List ℕ) → AreOctets octets → Decoding octets
 of_octets octets h = total octets (small_first octets h)

@@ -1,5 +1,5 @@
 -- The faults of octets that are no instruction that may be loaded, as facts about the octets.
-use Rattle.std.specs.Prelude.{◌≡◌, ◌≢◌, ℕ, ◌<◌, List, length, slice_index}
+use Rattle.std.specs.Prelude.{◌≡◌, ◌≢◌, ℕ, ◌<◌, List, Result, Ok, Err, length, slice_index}
 use Rattle.std.specs.List.{All}
 use Rattle.bpf_types.specs.declared.line.Line.{Line}
 use Rattle.bpf_types.specs.Line.{first_slot, WritesFramePointer}
@@ -33,13 +33,8 @@ IsFirst fault.WritesFramePointer octets =
 abbrev pub AreOctets : List ℕ → Type 0
 AreOctets octets = All (λ octet. octet < 256) octets
 
--- the octets begin with an instruction that may be loaded
-pub record IsDecodable (octets : List ℕ) : Type 0 where
-  pub line : Line
-  pub begins : BeginsWith octets line
-  pub permitted : ¬ WritesFramePointer line
-
--- the octets have a first fault
-pub record IsFaulty (octets : List ℕ) : Type 0 where
-  pub fault : DecodeFault
-  pub first : IsFirst fault octets
+-- what octets are decoded as: the instruction that they begin with, where it may be loaded, or
+-- their first fault
+abbrev pub Decodes : List ℕ → Result Line DecodeFault → Type 0
+Decodes octets (Ok line) = BeginsWith octets line × ¬ WritesFramePointer line
+Decodes octets (Err fault) = IsFirst fault octets

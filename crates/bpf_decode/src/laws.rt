@@ -1,11 +1,11 @@
 //! Laws on spellings and faults. The functions do nothing when they run.
-ghost use Rattle.std.specs.Prelude.{◌≡◌, ◌⊎◌, ◌%◌, ℕ, List, length, Ok, Err};
+ghost use Rattle.std.specs.Prelude.{◌≡◌, ◌%◌, ℕ, List, length, Result, Ok, Err};
 ghost use Rattle.bpf_types.specs.declared.line.Line.{Line};
 ghost use Rattle.bpf_types.specs.Line.{Spells, WritesFramePointer};
 ghost use Rattle.bpf_decode.specs.declared.fault.DecodeFault.{DecodeFault};
 ghost use Rattle.bpf_decode.specs.Mirror.Decoding.{decode_result};
 ghost use Rattle.bpf_decode.specs.Decoding.{BeginsWith};
-ghost use Rattle.bpf_decode.specs.Faults.{IsFirst, AreOctets, IsDecodable, IsFaulty};
+ghost use Rattle.bpf_decode.specs.Faults.{IsFirst, AreOctets, Decodes};
 ghost use Rattle.bpf_decode.specs.Images.{IsImageOf, HasFaultAt, NoneWritesFramePointer};
 
 /// A spelling determines its line, and a line its spelling.
@@ -35,14 +35,12 @@ pub fn writes_of_the_frame_pointer_are_refused()
         decode_result octets ≡ Err DecodeFault.WritesFramePointer }
 {}
 
-/// Octets begin with an instruction that may be loaded, or have a first fault.
-pub fn octets_have_an_instruction_or_a_fault()
-    ensures { (octets : List ℕ) → AreOctets octets → IsDecodable octets ⊎ IsFaulty octets }
-{}
-
-/// Octets have one first fault at most.
-pub fn faults_are_unique()
-    ensures { (octets : List ℕ) (a b : DecodeFault) → IsFirst a octets → IsFirst b octets → a ≡ b }
+/// Octets are decoded as one instruction, or as one fault, and not as another.
+pub fn octets_are_decoded_one_way()
+    ensures some { (octets : List ℕ) → AreOctets octets →
+        (result : Result Line DecodeFault) × Decodes octets result }
+    ensures one { (octets : List ℕ) (a b : Result Line DecodeFault) → Decodes octets a →
+        Decodes octets b → a ≡ b }
 {}
 
 /// An image is that of one list of instructions at most.

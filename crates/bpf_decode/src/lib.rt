@@ -11,8 +11,8 @@ mod slots;
 pub use encoding::{Slots, encode};
 pub use fault::DecodeFault;
 pub use laws::{
-    faults_are_unique, faults_of_images_are_unique, images_are_unique, images_are_whole_slots,
-    instructions_are_decoded, instructions_are_unique, octets_have_an_instruction_or_a_fault,
+    faults_of_images_are_unique, images_are_unique, images_are_whole_slots,
+    instructions_are_decoded, instructions_are_unique, octets_are_decoded_one_way,
     spellings_are_unique, writes_of_the_frame_pointer_are_refused,
 };
 pub use slots::decode_at;

@@ -1,12 +1,10 @@
 //! Instructions among the octets of an image.
-ghost use Rattle.std.specs.Prelude.{◌≡◌, ◌≤◌, ◌<◌, ◌+◌, ◌*◌, ◌/◌, ◌%◌, length, drop, IfOk, IfErr, IfSome, Ok, Err, true, None, slice_index};
+ghost use Rattle.std.specs.Prelude.{◌≡◌, ◌≤◌, ◌+◌, ◌*◌, length, drop, IfSome, Result, Err, true, None, slice_index};
 ghost use Rattle.bpf_decode.specs.declared.fault.DecodeFault.{DecodeFault};
 ghost use Rattle.bpf_decode.specs.Mirror.Codes.{is_opcode};
 ghost use Rattle.bpf_types.specs.declared.line.Line.{Line};
-ghost use Rattle.bpf_types.specs.Line.{WritesFramePointer};
 ghost use Rattle.bpf_decode.specs.Mirror.Decoding.{high_in, wide_at, line_in, fields_in, decode_result};
-ghost use Rattle.bpf_decode.specs.Decoding.{BeginsWith};
-ghost use Rattle.bpf_decode.specs.Faults.{IsFirst};
+ghost use Rattle.bpf_decode.specs.Faults.{Decodes};
 
 use crate::codes::{LDDW, is_opcode};
 use crate::fault::DecodeFault;
@@ -113,14 +111,10 @@ fn decode(octets: &[u8]) -> Result<Line, DecodeFault>
 /// `WritesFramePointer`.
 pub fn decode_at(code: &[u8], slot: usize) -> Result<Line, DecodeFault>
     requires { 8 * slot + 8 ≤ length code.now }
+    ensures decoded { Decodes (drop (8 * slot) code.now) result }
+    ensures only { (other : Result Line DecodeFault) → Decodes (drop (8 * slot) code.now) other →
+        other ≡ result }
     ensures exact { result ≡ decode_result (drop (8 * slot) code.now) }
-    ensures ok { IfOk result
-        (λ line. BeginsWith (drop (8 * slot) code.now) line × ¬ WritesFramePointer line) }
-    ensures only { (line : Line) → BeginsWith (drop (8 * slot) code.now) line →
-        ¬ WritesFramePointer line → result ≡ Ok line }
-    ensures err { IfErr result (λ fault. IsFirst fault (drop (8 * slot) code.now)) }
-    ensures first { (fault : DecodeFault) → IsFirst fault (drop (8 * slot) code.now) →
-        result ≡ Err fault }
 {
     decode(&code[8 * slot..])
 }

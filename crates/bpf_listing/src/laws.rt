@@ -10,7 +10,7 @@ ghost use Rattle.bpf_listing.specs.Listing.{IsListed, HasListing, HasFault};
 
 use bpf_decode::{
     faults_of_images_are_unique, images_are_unique, images_are_whole_slots,
-    octets_have_an_instruction_or_a_fault,
+    octets_are_decoded_one_way,
 };
 use bpf_text::laws::{canonical_texts_are_read_back, readings_are_unique};
 
@@ -26,7 +26,7 @@ pub fn canonical_texts_are_unique()
 pub fn images_have_a_listing_or_a_fault()
     ensures { (image : List ℕ) → AreOctets image → HasListing image ⊎ HasFault image }
 {
-    octets_have_an_instruction_or_a_fault();
+    octets_are_decoded_one_way();
 }
 
 /// Octets have one listing at most, and then they are whole slots and have no fault; or they have

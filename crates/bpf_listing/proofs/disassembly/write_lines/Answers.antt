@@ -6,7 +6,7 @@ use Rattle.bpf_listing.proofs.disassembly.write_lines.Goals as goal
 
 pub loop-slot-preserved : goal.loop-slot-preserved
 loop-slot-preserved g c =
-    let h = c.in-Ok.ensures.ok in
+    let h = c.in-Ok.ensures.decoded in
     let piece = canonical c.in-Ok.line ++ codes "\n" in
     let room : IsFlushed (vec_capacity c.args.out.now) c.loop-slot.out.items c.loop-slot.buffer c.make_room.new.out.items c.make_room.new.buffer c.make_room.result =
     subst (λ (n : ℕ). IsFlushed n c.loop-slot.out.items c.loop-slot.buffer c.make_room.new.out.items c.make_room.new.buffer c.make_room.result) c.loop-slot.invariant.1 c.make_room.ensures.flushed in
