@@ -36,7 +36,7 @@ no_line octets fault.CutWide l err b n =
     let long : 16 ≤ length (spelling l) = wide_length l opcode in
     let whole : length octets ≡ length (spelling l) + length b.1 = ap length b.2 ∙ length-append (spelling l) b.1 in
     omega (arith, err.1)
-no_line octets fault.UnknownOpcode l err b n = err.1 l (sym (ap (λ (f : Fields). f.opcode) (fields_of octets l b)))
+no_line octets fault.UnknownOpcode l err b n = err.1 (l, sym (ap (λ (f : Fields). f.opcode) (fields_of octets l b)))
 no_line octets fault.BadRegister l err b n =
     let r = in_range l b.0 in
     registers_there octets (first_slot l) (sym (fields_of octets l b)) r.dst r.src err.2

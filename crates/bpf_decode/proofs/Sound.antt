@@ -1,9 +1,8 @@
 -- What is decoded is there: the instruction that the octets begin with, or their first fault.
-use Rattle.std.proofs.Common.{◌≡◌, ◌<◌, ◌≤◌, ◌%◌, ◌/◌, ℕ, List, length, get_or, Bool, true, false, Option, Some, None, Ok, Err, refl, sym, ap, ◌∙◌, subst, arith, inl, inr}
+use Rattle.std.proofs.Common.{◌≡◌, ◌<◌, ◌≤◌, ◌%◌, ◌/◌, ℕ, List, length, get_or, Bool, true, false, Option, Some, None, Ok, Err, refl, sym, subst, arith, inl, inr}
 use Rattle.std.specs.Prelude.{◌==◌, ◌&&◌, if◌then◌else◌, nat_le, nat_lt}
 use Rattle.std.proofs.lemmas.Bool.Decides.{nat_tests}
 use Rattle.bpf_types.specs.declared.line.Line.{Line}
-use Rattle.bpf_types.specs.Line.{first_slot}
 use Rattle.bpf_decode.specs.declared.fault.DecodeFault.TheVariants as fault
 use Rattle.bpf_decode.specs.Mirror.Codes.{is_opcode}
 use Rattle.bpf_decode.specs.Mirror.Decoding.{raw_fields, line_at, fields_in, permitted_line, permitted_line_of, spelling_in, decode_result}
@@ -11,8 +10,7 @@ use Rattle.bpf_decode.specs.Decoding.{BeginsWith}
 use Rattle.bpf_decode.specs.Faults.{Has, Decodes}
 use Rattle.bpf_decode.proofs.Decode.{InRange, begins, none_found, raw_in_range, registers_there}
 use Rattle.bpf_decode.proofs.Decoded.{is_written, not_written}
-use Rattle.bpf_decode.proofs.Known.{known}
-use Rattle.bpf_decode.proofs.Complete.{known_line}
+use Rattle.bpf_decode.proofs.Known.{known, no_row}
 use Rattle.bpf_decode.proofs.Only.{decide}
 
 -- the octets have no fault that is asked before their registers
@@ -42,8 +40,8 @@ module _ (octets : List ℕ) (long : 8 ≤ length octets) (bytes : (i : ℕ) →
 
   opcodes : (b : Bool) → is_opcode (get_or octets 0 0) ≡ b → ¬ Has fault.CutWide octets → (get_or octets 0 0 ≡ 0x18 → 16 ≤ length octets) →
       Decodes octets (if b then spelling_in (fields_in octets) octets else Err fault.UnknownOpcode)
-  opcodes true e w l = registers _ _ refl refl (record { whole = w; longer = l; opcode = known (get_or octets 0 0) (bytes 0) e })
-  opcodes false e w l = (w, λ m same. let yes : is_opcode (first_slot m).opcode ≡ true = known_line m in let no : is_opcode (first_slot m).opcode ≡ false = ap is_opcode same ∙ e in absurd cc)
+  opcodes true e w l = registers _ _ refl refl (record { whole = w; longer = l; opcode = λ none. none (known (get_or octets 0 0) (bytes 0) e) })
+  opcodes false e w l = (w, no_row (get_or octets 0 0) e)
 
   whole : (a b : Bool) → (get_or octets 0 0 == 0x18) ≡ a → nat_lt (length octets) 16 ≡ b →
       Decodes octets (if a && b then Err fault.CutWide else if is_opcode (get_or octets 0 0) then spelling_in (fields_in octets) octets else Err fault.UnknownOpcode)

@@ -1,5 +1,5 @@
 -- Octets are decoded as an instruction that may be loaded, or as their first fault.
-use Rattle.std.proofs.Common.{◌≡◌, ℕ, ◌%◌, ◌/◌, ◌<◌, ◌≤◌, ◌⊎◌, inl, inr, ℤ, List, [], ◌∷◌, ◌++◌, length, Option, Some, None, Result, Ok, Err, Bool, true, false, refl, sym, ap, ◌∙◌, subst, arith}
+use Rattle.std.proofs.Common.{◌≡◌, ℕ, ◌%◌, ◌/◌, ◌<◌, ◌≤◌, ◌⊎◌, inl, inr, ℤ, List, [], ◌∷◌, ◌++◌, length, Option, Some, None, Result, Ok, Err, Bool, true, false, refl, sym, ◌∙◌, subst, arith}
 use Rattle.std.specs.Prelude.{slice_index, FitsSigned, ◌^◌}
 use mir.Val.{hbits}
 use Rattle.std.specs.Int.{Width, w16, w32}
@@ -10,16 +10,15 @@ use Rattle.bpf_types.specs.declared.line.Line.{Line}
 use Rattle.bpf_types.specs.declared.line.Line.TheVariants as line
 use Rattle.bpf_types.specs.declared.line.Operand.{Operand}
 use Rattle.bpf_types.specs.declared.line.Operand.TheVariants.{Immediate, Register}
-use Rattle.bpf_types.specs.Line.{first_slot, spelling, IsLine, IsOperand}
+use Rattle.bpf_types.specs.Line.{spelling, IsLine, IsOperand}
 use Rattle.bpf_decode.specs.declared.fault.DecodeFault.{DecodeFault}
 use Rattle.bpf_decode.specs.declared.fault.DecodeFault.TheVariants as fault
 use Rattle.bpf_decode.specs.Mirror.Codes.{is_opcode}
 use Rattle.bpf_decode.specs.Mirror.Decoding.{raw_fields, line_at}
-use Rattle.bpf_decode.specs.Decoding.{BeginsWith}
+use Rattle.bpf_decode.specs.Decoding.{BeginsWith, HasRow}
 use Rattle.bpf_decode.specs.Faults.{AreOctets, Decodes}
 use Rattle.bpf_decode.proofs.Decode.{none_found}
-use Rattle.bpf_decode.proofs.Known.{known}
-use Rattle.bpf_decode.proofs.Complete.{known_line}
+use Rattle.bpf_decode.proofs.Known.{known, no_row}
 use Rattle.bpf_decode.proofs.Only.{found_at, decide}
 
 -- a fact holds or not
@@ -109,9 +108,9 @@ spelled_by octets (Some l) e = elim (begins_or octets l) [
   | inr n ↦ inr (λ m b. n (subst (BeginsWith octets) (same_Some m l (sym (found_at octets m b) ∙ e)) b))
 ]
 
-known_by : (n : ℕ) (b : Bool) → is_opcode n ≡ b → n < 256 → Or ((l : Line) → (first_slot l).opcode ≡ n → ⊥)
-known_by n true e small = inr (λ h. known n small e h)
-known_by n false e small = inl (λ l same. let yes_known : is_opcode (first_slot l).opcode ≡ true = known_line l in let no_opcode : is_opcode (first_slot l).opcode ≡ false = ap is_opcode same ∙ e in absurd cc)
+known_by : (n : ℕ) (b : Bool) → is_opcode n ≡ b → n < 256 → Or (¬ HasRow n)
+known_by n true e small = inr (λ none. none (known n small e))
+known_by n false e small = inl (λ row. absurd (no_row n e row))
 
 -- what the octets are decoded as
 abbrev Decoding : List ℕ → Type 0

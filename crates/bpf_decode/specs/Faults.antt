@@ -1,17 +1,17 @@
 -- The faults of octets that are no instruction that may be loaded, as facts about the octets.
-use Rattle.std.specs.Prelude.{◌≡◌, ◌≢◌, ℕ, ◌<◌, List, Result, Ok, Err, length, slice_index}
+use Rattle.std.specs.Prelude.{◌≡◌, ℕ, ◌<◌, List, Result, Ok, Err, length, slice_index}
 use Rattle.std.specs.List.{All}
 use Rattle.bpf_types.specs.declared.line.Line.{Line}
-use Rattle.bpf_types.specs.Line.{first_slot, WritesFramePointer}
+use Rattle.bpf_types.specs.Line.{WritesFramePointer}
 use Rattle.bpf_decode.specs.declared.fault.DecodeFault.{DecodeFault}
 use Rattle.bpf_decode.specs.declared.fault.DecodeFault.TheVariants as fault
-use Rattle.bpf_decode.specs.Decoding.{BeginsWith, HasBadRegister}
+use Rattle.bpf_decode.specs.Decoding.{BeginsWith, HasBadRegister, HasRow}
 
 -- what each fault says, whatever else holds: a wide load with no second slot, an opcode of no row,
 -- a register over 10, octets that spell no instruction, an instruction that writes R10
 abbrev pub Has : DecodeFault → List ℕ → Type 0
 Has fault.CutWide octets = (slice_index octets 0 ≡ 0x18) × (length octets < 16)
-Has fault.UnknownOpcode octets = (l : Line) → (first_slot l).opcode ≢ slice_index octets 0
+Has fault.UnknownOpcode octets = ¬ HasRow (slice_index octets 0)
 Has fault.BadRegister octets = HasBadRegister octets
 Has fault.ReservedField octets = (l : Line) → ¬ BeginsWith octets l
 Has fault.WritesFramePointer octets = (l : Line) × BeginsWith octets l × WritesFramePointer l
