@@ -4,8 +4,8 @@ use Rattle.std.specs.Prelude.{◌==◌, nat_lt, nat_le, if◌then◌else◌, sli
 use Rattle.std.proofs.lemmas.Bool.Decides.{nat_tests}
 use Rattle.bpf_types.specs.declared.line.Fields.{Fields}
 use Rattle.bpf_types.specs.declared.line.Line.{Line}
-use Rattle.bpf_types.specs.declared.line.Line.TheVariants as line
-use Rattle.bpf_types.specs.Line.{first_slot, spelling, WritesFramePointer, writes_frame_pointer}
+use Rattle.bpf_types.specs.Line.{first_slot, spelling, WritesFramePointer, written_dst}
+use Rattle.bpf_types.specs.Mirror.{writes_frame_pointer, is_frame_pointer}
 use Rattle.bpf_decode.specs.declared.fault.DecodeFault.{DecodeFault}
 use Rattle.bpf_decode.specs.declared.fault.DecodeFault.TheVariants as fault
 use Rattle.bpf_decode.specs.Mirror.Codes.{is_opcode}
@@ -15,18 +15,15 @@ use Rattle.bpf_decode.proofs.Decode.{fields_of, in_range}
 use Rattle.bpf_decode.proofs.Complete.{known_line}
 use Rattle.bpf_decode.proofs.Only.{found_at, wide_length}
 
-not_ten : (n : ℕ) → n ≢ 10 → (n == 10) ≡ false
-not_ten n h = grind (arith, nat_tests)
+not_ten : (o : Option ℕ) → ¬ (o ≡ Some 10) → is_frame_pointer o ≡ false
+not_ten (Some n) h = not_equal n (λ e. h (ap Some e))
+  where
+    not_equal : (n : ℕ) → n ≢ 10 → (n == 10) ≡ false
+    not_equal n h = grind (arith, nat_tests)
+not_ten None h = refl
 
 pub not_written : (l : Line) → ¬ WritesFramePointer l → writes_frame_pointer l ≡ false
-not_written (line.Arithmetic width operation dst operand) h = not_ten dst h
-not_written (line.Negate width dst) h = not_ten dst h
-not_written (line.MoveExtended extension dst src) h = not_ten dst h
-not_written (line.ByteOrder order width dst) h = not_ten dst h
-not_written (line.LoadWide dst value) h = not_ten dst h
-not_written (line.Load size dst base offset) h = not_ten dst h
-not_written (line.LoadExtended size dst base offset) h = not_ten dst h
-not_written _ h = refl
+not_written l h = not_ten (written_dst l) h
 
 not_cut : (c d : Bool) → (c ≡ true → d ≡ false) → (c && d) ≡ false
 not_cut true d h = h refl
@@ -68,18 +65,8 @@ result_of octets l b c w =
 pub decoded_of : (octets : List ℕ) (l : Line) → BeginsWith octets l → ¬ WritesFramePointer l → decode_result octets ≡ Ok l
 decoded_of octets l b n = result_of octets l b false (not_written l n)
 
-is_ten : (n : ℕ) → n ≡ 10 → (n == 10) ≡ true
-is_ten n h = grind (arith, nat_tests)
-
 pub is_written : (l : Line) → WritesFramePointer l → writes_frame_pointer l ≡ true
-is_written (line.Arithmetic width operation dst operand) h = is_ten dst h
-is_written (line.Negate width dst) h = is_ten dst h
-is_written (line.MoveExtended extension dst src) h = is_ten dst h
-is_written (line.ByteOrder order width dst) h = is_ten dst h
-is_written (line.LoadWide dst value) h = is_ten dst h
-is_written (line.Load size dst base offset) h = is_ten dst h
-is_written (line.LoadExtended size dst base offset) h = is_ten dst h
-is_written _ h = absurd h
+is_written l h = ap is_frame_pointer h
 
 pub refused_of : (octets : List ℕ) (l : Line) → BeginsWith octets l → WritesFramePointer l → decode_result octets ≡ Err fault.WritesFramePointer
 refused_of octets l b w = result_of octets l b true (is_written l w)

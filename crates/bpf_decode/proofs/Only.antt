@@ -1,5 +1,5 @@
 -- Octets spell one instruction at most, and it is the one that is found.
-use Rattle.std.proofs.Common.{◌≡◌, ℕ, ◌+◌, ◌≤◌, List, length, Some, sym, ap, refl, ◌∙◌, subst, arith, length-append, true, false, ◌⊎◌, inl, inr}
+use Rattle.std.proofs.Common.{◌≡◌, ℕ, ◌+◌, ◌≤◌, List, length, Option, Some, None, sym, ap, refl, ◌∙◌, subst, arith, length-append, true, false, ◌⊎◌, inl, inr}
 use Rattle.std.proofs.lemmas.Bool.{cases_eq}
 use Rattle.std.specs.Prelude.{◌==◌}
 use Rattle.std.proofs.lemmas.Option.{same_Some}
@@ -7,7 +7,7 @@ use Rattle.std.proofs.lemmas.Bool.Decides.{Decides-eqb}
 use Rattle.bpf_types.specs.declared.line.Fields.{Fields}
 use Rattle.bpf_types.specs.declared.line.Line.{Line}
 use Rattle.bpf_types.specs.declared.line.Line.TheVariants as line
-use Rattle.bpf_types.specs.Line.{first_slot, spelling, WritesFramePointer}
+use Rattle.bpf_types.specs.Line.{first_slot, spelling, WritesFramePointer, written_dst}
 use Rattle.bpf_decode.specs.declared.fault.DecodeFault.{DecodeFault}
 use Rattle.bpf_decode.specs.declared.fault.DecodeFault.TheVariants as fault
 use Rattle.bpf_decode.specs.Mirror.Decoding.{raw_fields, line_at}
@@ -43,16 +43,13 @@ no_line octets fault.BadRegister l err b n =
 no_line octets fault.ReservedField l err b n = err.3 l b
 no_line octets fault.WritesFramePointer l err b n = n (subst WritesFramePointer (unique octets err.4.0 l err.4.1 b) err.4.2)
 
+ten_or : (o : Option ℕ) → (o ≡ Some 10) ⊎ (¬ (o ≡ Some 10))
+ten_or (Some n) = elim (cases_eq n 10) [ inl e ↦ inl (ap Some e) | inr d ↦ inr (λ h. d (same_Some n 10 h)) ]
+ten_or None = inr (λ h. cc)
+
 -- whether R10 would be written
 pub decide : (l : Line) → (WritesFramePointer l) ⊎ (¬ WritesFramePointer l)
-decide (line.Arithmetic w o dst x) = cases_eq dst 10
-decide (line.Negate w dst) = cases_eq dst 10
-decide (line.MoveExtended e dst src) = cases_eq dst 10
-decide (line.ByteOrder o s dst) = cases_eq dst 10
-decide (line.LoadWide dst value) = cases_eq dst 10
-decide (line.Load s dst b o) = cases_eq dst 10
-decide (line.LoadExtended s dst b o) = cases_eq dst 10
-decide _ = inr (λ h. h)
+decide l = ten_or (written_dst l)
 
 pub no_fault : (octets : List ℕ) (fault : DecodeFault) (l : Line) → IsFirst fault octets → BeginsWith octets l → WritesFramePointer l
 no_fault octets f l first b = elim (decide l) [

@@ -20,7 +20,8 @@ use Rattle.bpf_types.specs.declared.line.SwapWidth.TheVariants as swap
 use Rattle.bpf_types.specs.declared.line.Size.{Size}
 use Rattle.bpf_types.specs.declared.line.Width.{Width}
 use Rattle.bpf_types.specs.declared.line.Width.TheVariants.{W32, W64}
-use Rattle.bpf_types.specs.Line.{first_slot, operations, operation_code, operation_offset, comparisons, comparison_code, orders, order_opcode, sizes, size_code, signed_sizes, signed_size_code, arithmetic_class, jump_class, extension_width, extension_bits, extension_offset, extension_of, swap_width_bits}
+use Rattle.bpf_types.specs.Line.{first_slot, operations, operation_code, operation_offset, comparisons, comparison_code, orders, order_opcode, sizes, size_code, signed_sizes, signed_size_code, arithmetic_class, jump_class, extension_width, extension_bits, extension_offset, swap_width_bits}
+use Rattle.bpf_types.specs.Mirror.{extension_of}
 use Rattle.bpf_decode.specs.Mirror.Codes.{operation_at, comparison_at, order_at, size_at, signed_size_at}
 use Rattle.bpf_decode.specs.Mirror.Rows.{◌>>=◌, is_immediate, no_dst, no_src, no_offset, no_imm, operand_at, extension_at, swap_width_at, binary_at, extended_move_at, byte_order_at, arithmetic_at, jump_if_at, jump_at, load_at, store_with, store_at, short_at}
 use Rattle.bpf_decode.proofs.RowLemmas.{same_fields, bind_some}

@@ -65,7 +65,7 @@ fn row(opcode: u8, dst: Reg, src: Reg, offset: i16, imm: i32) -> Fields
 pub fn first_fields(line: &Line) -> Fields
     ensures { result ≡ first_slot line.now }
 {
-    let none = Reg::zero();
+    let r0 = Reg::zero();
     match *line {
         Line::Arithmetic {
             width,
@@ -76,11 +76,11 @@ pub fn first_fields(line: &Line) -> Fields
             let (code, offset) = code_of_operation(operation);
             let opcode = code * 16 + class_of_arithmetic(width);
             match operand {
-                Operand::Immediate(imm) => row(opcode, dst, none, offset, imm),
+                Operand::Immediate(imm) => row(opcode, dst, r0, offset, imm),
                 Operand::Register(src) => row(opcode + X, dst, src, offset, 0),
             }
         }
-        Line::Negate { width, dst } => row(NEG * 16 + class_of_arithmetic(width), dst, none, 0, 0),
+        Line::Negate { width, dst } => row(NEG * 16 + class_of_arithmetic(width), dst, r0, 0, 0),
         Line::MoveExtended {
             extension,
             dst,
@@ -91,10 +91,10 @@ pub fn first_fields(line: &Line) -> Fields
         }
         Line::ByteOrder { order, width, dst } => {
             let bits = i32::from(width.bits());
-            row(opcode_of_order(order), dst, none, 0, bits)
+            row(opcode_of_order(order), dst, r0, 0, bits)
         }
-        Line::Jump { distance } => row(JA, none, none, distance, 0),
-        Line::LongJump { distance } => row(JA32, none, none, 0, distance),
+        Line::Jump { distance } => row(JA, r0, r0, distance, 0),
+        Line::LongJump { distance } => row(JA32, r0, r0, 0, distance),
         Line::JumpIf {
             width,
             comparison,
@@ -104,14 +104,14 @@ pub fn first_fields(line: &Line) -> Fields
         } => {
             let opcode = code_of_comparison(comparison) * 16 + class_of_jumps(width);
             match operand {
-                Operand::Immediate(imm) => row(opcode, dst, none, distance, imm),
+                Operand::Immediate(imm) => row(opcode, dst, r0, distance, imm),
                 Operand::Register(src) => row(opcode + X, dst, src, distance, 0),
             }
         }
-        Line::Call { number } => row(CALL, none, none, 0, number),
-        Line::CallLocal { distance } => row(CALL, none, Reg::one(), 0, distance),
-        Line::Exit => row(EXIT, none, none, 0, 0),
-        Line::LoadWide { dst, value } => row(LDDW, dst, none, 0, low_half(value).cast_signed()),
+        Line::Call { number } => row(CALL, r0, r0, 0, number),
+        Line::CallLocal { distance } => row(CALL, r0, Reg::one(), 0, distance),
+        Line::Exit => row(EXIT, r0, r0, 0, 0),
+        Line::LoadWide { dst, value } => row(LDDW, dst, r0, 0, low_half(value).cast_signed()),
         Line::Load {
             size,
             dst,
@@ -144,7 +144,7 @@ pub fn first_fields(line: &Line) -> Fields
         } => row(
             MEM * 32 + ST + 8 * code_of_size(size),
             base,
-            none,
+            r0,
             offset,
             value,
         ),
@@ -172,8 +172,8 @@ pub fn encode(line: Line) -> Slots
     octets[..8].copy_from_slice(&octets_of(first_fields(&line)));
     match line {
         Line::LoadWide { value, .. } => {
-            let none = Reg::zero();
-            let second = row(0, none, none, 0, high_half(value).cast_signed());
+            let r0 = Reg::zero();
+            let second = row(0, r0, r0, 0, high_half(value).cast_signed());
             octets[8..].copy_from_slice(&octets_of(second));
             Slots { octets, length: 16 }
         }

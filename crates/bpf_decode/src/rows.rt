@@ -34,9 +34,9 @@ fn arithmetic_of(width: Width, fields: &Fields) -> Option<Line>
         imm,
     } = *fields;
     let is_immediate = opcode % 16 < X;
-    let none = Reg::zero();
+    let r0 = Reg::zero();
     match opcode / 16 {
-        NEG if is_immediate && src == none && offset == 0 && imm == 0 => {
+        NEG if is_immediate && src == r0 && offset == 0 && imm == 0 => {
             Some(Line::Negate { width, dst })
         }
         MOV if !is_immediate && offset != 0 && imm == 0 => Some(Line::MoveExtended {
@@ -44,7 +44,7 @@ fn arithmetic_of(width: Width, fields: &Fields) -> Option<Line>
             dst,
             src,
         }),
-        END if src == none && offset == 0 => Some(Line::ByteOrder {
+        END if src == r0 && offset == 0 => Some(Line::ByteOrder {
             order: order_of(opcode)?,
             width: SwapWidth::new(u64::try_from(imm).ok()?)?,
             dst,
@@ -70,17 +70,15 @@ fn jump_of(width: Width, fields: &Fields) -> Option<Line>
         offset,
         imm,
     } = *fields;
-    let none = Reg::zero();
+    let r0 = Reg::zero();
     match opcode {
-        JA if dst == none && src == none && imm == 0 => Some(Line::Jump { distance: offset }),
-        JA32 if dst == none && src == none && offset == 0 => {
-            Some(Line::LongJump { distance: imm })
-        }
-        CALL if dst == none && src == none && offset == 0 => Some(Line::Call { number: imm }),
-        CALL if dst == none && src == Reg::one() && offset == 0 => {
+        JA if dst == r0 && src == r0 && imm == 0 => Some(Line::Jump { distance: offset }),
+        JA32 if dst == r0 && src == r0 && offset == 0 => { Some(Line::LongJump { distance: imm }) }
+        CALL if dst == r0 && src == r0 && offset == 0 => Some(Line::Call { number: imm }),
+        CALL if dst == r0 && src == Reg::one() && offset == 0 => {
             Some(Line::CallLocal { distance: imm })
         }
-        EXIT if dst == none && src == none && offset == 0 && imm == 0 => Some(Line::Exit),
+        EXIT if dst == r0 && src == r0 && offset == 0 && imm == 0 => Some(Line::Exit),
         _ => Some(Line::JumpIf {
             width,
             comparison: comparison_of(opcode / 16)?,

@@ -45,7 +45,7 @@ fn wide_of(fields: Fields, octets: &[u8]) -> Option<Line>
     requires long { 16 ≤ length octets.now }
     ensures { result ≡ wide_at fields octets.now }
 {
-    if fields.src.number() != 0 || fields.offset != 0 {
+    if fields.src != Reg::zero() || fields.offset != 0 {
         return None;
     }
     let high = high_at(octets)?;
@@ -109,6 +109,8 @@ fn decode(octets: &[u8]) -> Result<Line, DecodeFault>
 ///
 /// Refused, in this order: `CutWide`, `UnknownOpcode`, `BadRegister`, `ReservedField`,
 /// `WritesFramePointer`.
+///
+/// The clauses `decoded` and `only` say what is answered; `exact` says the same as a function.
 pub fn decode_at(code: &[u8], slot: usize) -> Result<Line, DecodeFault>
     requires { 8 * slot + 8 ≤ length code.now }
     ensures decoded { Decodes (drop (8 * slot) code.now) result }

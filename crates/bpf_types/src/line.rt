@@ -54,7 +54,8 @@ pub enum Extension {
 impl Extension {
     ghost use Rattle.std.specs.Prelude.{◌≡◌, ◌≢◌, IfSome, IfNone, Some};
     ghost use Rattle.bpf_types.specs.declared.line.Extension.{Extension};
-    ghost use Rattle.bpf_types.specs.Line.{extension_width, extension_bits, extension_of};
+    ghost use Rattle.bpf_types.specs.Line.{extension_width, extension_bits};
+    ghost use Rattle.bpf_types.specs.Mirror.{extension_of};
 
     /// The extension of a class that reads so many bits: 8 or 16 in W32; 8, 16 or 32 in W64.
     pub fn new(width: Width, bits: u64) -> Option<Self>
@@ -118,7 +119,8 @@ pub enum SwapWidth {
 impl SwapWidth {
     ghost use Rattle.std.specs.Prelude.{◌≡◌, ◌≢◌, IfSome, IfNone, Some};
     ghost use Rattle.bpf_types.specs.declared.line.SwapWidth.{SwapWidth};
-    ghost use Rattle.bpf_types.specs.Line.{swap_width_bits, swap_width_of};
+    ghost use Rattle.bpf_types.specs.Line.{swap_width_bits};
+    ghost use Rattle.bpf_types.specs.Mirror.{swap_width_of};
 
     /// The width of so many bits: 16, 32 or 64.
     pub fn new(bits: u64) -> Option<Self>
@@ -302,12 +304,13 @@ pub struct Fields {
 
 impl Line {
     ghost use Rattle.std.specs.Prelude.{◌≡◌, ◌↔◌, ◌≤◌, ◌*◌, length, IsTrue};
-    ghost use Rattle.bpf_types.specs.Line.{WritesFramePointer, writes_frame_pointer, is_wide, slots_in, spelling};
+    ghost use Rattle.bpf_types.specs.Line.{WritesFramePointer, written_dst, is_wide, slots_in, spelling};
+    ghost use Rattle.bpf_types.specs.Mirror.{writes_frame_pointer};
 
-    /// The instruction would write R10. Such a line can be spelled, and is never decoded.
-    pub fn writes_frame_pointer(self) -> bool
-        ensures meaning { IsTrue result ↔ WritesFramePointer self }
-        ensures value { result ≡ writes_frame_pointer self }
+    /// The register of the dst field, where the instruction writes it.
+    #[inline(always)]
+    pub fn written_dst(self) -> Option<Reg>
+        ensures { result ≡ written_dst self }
     {
         match self {
             Line::Arithmetic { dst, .. }
@@ -316,8 +319,19 @@ impl Line {
             | Line::ByteOrder { dst, .. }
             | Line::LoadWide { dst, .. }
             | Line::Load { dst, .. }
-            | Line::LoadExtended { dst, .. } => dst.is_frame_pointer(),
-            _ => false,
+            | Line::LoadExtended { dst, .. } => Some(dst),
+            _ => None,
+        }
+    }
+
+    /// The instruction would write R10. Such a line can be spelled, and is never decoded.
+    pub fn writes_frame_pointer(self) -> bool
+        ensures meaning { IsTrue result ↔ WritesFramePointer self }
+        ensures value { result ≡ writes_frame_pointer self }
+    {
+        match self.written_dst() {
+            Some(dst) => dst.is_frame_pointer(),
+            None => false,
         }
     }
 

@@ -7,7 +7,7 @@ use Rattle.bpf_types.specs.declared.line.Line.{Line}
 use Rattle.bpf_types.specs.Line.{is_wide, spelling}
 use Rattle.bpf_decode.specs.Decoding.{BeginsWith}
 use Rattle.bpf_decode.specs.Images.{image_of}
-use Rattle.ocp_loader.specs.Image.{line_in, second_of, by_slot, is_last}
+use Rattle.ocp_loader.specs.Image.{line_in, second_of, by_slot, never_falls_through}
 use Rattle.ocp_loader.specs.LoadResult.{load_result}
 use Rattle.ocp_loader.specs.Mirror.Reading.{IsPlain, IsRead}
 use Rattle.ocp_loader.specs.Admitted.{IsAdmitted}
@@ -60,15 +60,15 @@ last_by before l m true w at =
     absurd cc
 
 Ends : List Line → Type 0
-Ends ls = (before : List Line) × (l : Line) × (ls ≡ before ++ l ∷ []) × (is_last l ≡ true)
+Ends ls = (before : List Line) × (l : Line) × (ls ≡ before ++ l ∷ []) × (never_falls_through l ≡ true)
 
-last_line : (ls : List Line) (m : Line) → line_in (by_slot ls) (length (by_slot ls) - 1) ≡ Some m → is_last m ≡ true → Ends ls
+last_line : (ls : List Line) (m : Line) → line_in (by_slot ls) (length (by_slot ls) - 1) ≡ Some m → never_falls_through m ≡ true → Ends ls
 unfolding Ends
 last_line ls m at last = elim (snoc ls) [
   | inl e ↦ let none : None ≡ Some m = sym (ap (λ xs. line_in (by_slot xs) (length (by_slot xs) - 1)) e) ∙ at in absurd cc
   | inr r ↦
       let same : m ≡ r.1 = last_by r.0 r.1 m (is_wide r.1) refl (subst (λ xs. line_in (by_slot xs) (length (by_slot xs) - 1) ≡ Some m) r.2 at) in
-      (r.0, r.1, r.2, sym (ap is_last same) ∙ last)
+      (r.0, r.1, r.2, sym (ap never_falls_through same) ∙ last)
 ]
 
 in_longer : (lines ys : List (Option Line)) (p : ℕ) (l : Line) → line_in lines p ≡ Some l → line_in (lines ++ ys) p ≡ Some l
@@ -76,9 +76,9 @@ in_longer [] ys p l h = absurd cc
 in_longer (x ∷ lines) ys zero l h = h
 in_longer (x ∷ lines) ys (suc p) l h = in_longer lines ys p l h
 
-pub narrow : (m : Line) (b : Bool) → is_wide m ≡ b → is_last m ≡ true → b ≡ false
+pub narrow : (m : Line) (b : Bool) → is_wide m ≡ b → never_falls_through m ≡ true → b ≡ false
 narrow m false w last = refl
-narrow m true w last = let no_last : is_last m ≡ false = wide_last m w in absurd cc
+narrow m true w last = let no_last : never_falls_through m ≡ false = wide_last m w in absurd cc
 
 -- no second slot is missing at the end
 no_more : (profile : Profile) (ls : List Line) (lines : List (Option Line)) → IsFine profile lines → by_slot ls ≡ lines ++ None ∷ [] → ⊥

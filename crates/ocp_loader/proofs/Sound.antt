@@ -8,7 +8,7 @@ use Rattle.ocp_profile.specs.declared.profile.Profile.TheVariants.{Two}
 use Rattle.bpf_types.specs.declared.line.Line.{Line}
 use Rattle.bpf_types.specs.Line.{is_wide, IsLine}
 use Rattle.bpf_decode.specs.Images.{image_of}
-use Rattle.ocp_loader.specs.Image.{line_in, second_of, slots_of, by_slot, is_last, target_of}
+use Rattle.ocp_loader.specs.Image.{line_in, second_of, slots_of, by_slot, never_falls_through, target_of}
 use Rattle.ocp_loader.specs.Places.{place_of, IsAt, IsPlaceOf, HasValidTarget}
 use Rattle.ocp_loader.specs.Mirror.Reading.{IsPlain}
 use Rattle.ocp_loader.specs.Mirror.Checks.{is_place, is_target}
@@ -84,7 +84,7 @@ pub record IsSound (profile : Profile) (image : List ℕ) (lines : List Line) : 
   pub whole : All (IsPlain profile) lines × (image ≡ image_of lines)
   pub short : length (by_slot lines) ≤ 2048
   pub aimed : (slot : ℕ) (l : Line) → line_in (by_slot lines) slot ≡ Some l → is_target (by_slot lines) (target_of slot l) ≡ true
-  pub ends : (before : List Line) × (l : Line) × (lines ≡ before ++ l ∷ []) × (is_last l ≡ true)
+  pub ends : (before : List Line) × (l : Line) × (lines ≡ before ++ l ∷ []) × (never_falls_through l ≡ true)
 
 pub ranges_of : (profile : Profile) (ls : List Line) → All (IsPlain profile) ls → All IsLine ls
 ranges_of profile ls a = λ k d lt. (a k d lt).0

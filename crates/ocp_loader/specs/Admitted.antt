@@ -6,7 +6,7 @@ use Rattle.ocp_profile.specs.declared.profile.Profile.{Profile}
 use Rattle.bpf_types.specs.declared.line.Line.{Line}
 use Rattle.bpf_types.specs.Line.{WritesFramePointer}
 use Rattle.bpf_decode.specs.Images.{IsImageOf}
-use Rattle.ocp_loader.specs.Image.{max_slots, calls_well, is_last}
+use Rattle.ocp_loader.specs.Image.{max_slots, calls_well, never_falls_through}
 use Rattle.ocp_loader.specs.Places.{IsLast, AllHaveValidTargets}
 
 -- a line that may stand in an image under the profile, wherever it leads
@@ -24,7 +24,7 @@ pub record EndsWell (lines : List Line) : Type 0 where
   pub slot : ℕ
   pub line : Line
   pub last : IsLast lines slot line
-  pub leaves : is_last line ≡ true
+  pub leaves : never_falls_through line ≡ true
 
 -- the image may be run under the profile, and these are its lines
 pub record IsAdmittedAs (profile : Profile) (image : List ℕ) (lines : List Line) : Type 0 where

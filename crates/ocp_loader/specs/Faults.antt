@@ -9,7 +9,7 @@ use Rattle.bpf_decode.specs.Faults.{IsFirst}
 use Rattle.ocp_loader.specs.declared.fault.LoadFault.{LoadFault}
 use Rattle.ocp_loader.specs.declared.fault.LoadFault.TheVariants.{EmptyCode, RaggedCode, TooLong, Decode, BadCall, BadTarget, FallsOffEnd, Memory}
 use Rattle.bpf_decode.specs.Images.{IsImageOf}
-use Rattle.ocp_loader.specs.Image.{max_slots, is_engine_call, is_last}
+use Rattle.ocp_loader.specs.Image.{max_slots, is_engine_call, never_falls_through}
 use Rattle.ocp_loader.specs.Places.{IsAt, IsLast, HasValidTarget, AllHaveValidTargets}
 use Rattle.ocp_loader.specs.Admitted.{IsLawful, HasSlots}
 
@@ -48,7 +48,7 @@ pub record FallsOff (profile : Profile) (image : List ℕ) (slot : ℕ) : Type 0
   pub aimed : AllHaveValidTargets lines
   pub line : Line
   pub last : IsLast lines slot line
-  pub falls : is_last line ≡ false
+  pub falls : never_falls_through line ≡ false
 
 -- the first fault that the image has under the profile
 abbrev pub IsFirstFault : Profile → List ℕ → LoadFault → Type 0

@@ -1,6 +1,6 @@
 //! Where the lines of an image lead to.
 ghost use Rattle.std.specs.Prelude.{◌≡◌, ◌≤◌, ◌<◌, ◌-◌, length, Some, None};
-ghost use Rattle.ocp_loader.specs.Image.{line_in, target_of, is_last};
+ghost use Rattle.ocp_loader.specs.Image.{line_in, target_of, never_falls_through};
 ghost use Rattle.ocp_loader.specs.Mirror.Checks.{is_place, has_valid_target, first_bad_target, end_fault, lines_fault};
 
 use crate::fault::LoadFault;
@@ -67,8 +67,8 @@ fn first_bad_target(lines: &[Option<Line>]) -> Option<u16>
 }
 
 /// Whether nothing falls through the line.
-fn is_last(line: Line) -> bool
-    ensures { result ≡ is_last line }
+fn never_falls_through(line: Line) -> bool
+    ensures { result ≡ never_falls_through line }
 {
     matches!(line, Line::Jump { .. } | Line::LongJump { .. } | Line::Exit)
 }
@@ -79,7 +79,7 @@ fn end_fault(slots: u16, line: Option<Line>) -> Option<LoadFault>
     ensures { result ≡ end_fault slots line }
 {
     match line {
-        Some(line) if is_last(line) => None,
+        Some(line) if never_falls_through(line) => None,
         Some(_) => Some(LoadFault::FallsOffEnd(slots.saturating_sub(1))),
         None => Some(LoadFault::FallsOffEnd(slots.saturating_sub(2))),
     }

@@ -5,7 +5,7 @@ pub use Rattle.std.specs.List.Sorted.{IsStrictlyIncreasing}
 pub use Rattle.ocp_profile.specs.declared.profile.Profile.{Profile}
 pub use Rattle.obcp_types.specs.declared.failure.StartFailure.{StartFailure}
 pub use Rattle.obcp_types.specs.declared.status.Status.TheVariants.{Running}
-pub use Rattle.ocp_loader.specs.LoadResult.{load_result}
+pub use Rattle.ocp_loader.specs.LoadResult.{Loads, load_result}
 pub use Rattle.ocp_loader.specs.LineAt.{IsPlace, line_of}
 pub use Rattle.ocp_regions.specs.Memory.{octets_at}
 pub use Rattle.ocp_regions.specs.declared.fault.AccessFault.TheVariants.{AccessOutside}

@@ -1,6 +1,6 @@
 //! A program and the machine that runs it.
-ghost use Rattle.std.specs.Prelude.{◌≡◌, ◌≤◌, ◌↔◌, ℕ, List, [], None, Some, false, IfOk, IsSome, IsOk, IsTrue, IfErr, OnOk, OnErr, length};
-ghost use Rattle.ocp_table.specs.Clauses.{AccessOutside, HasAddressesOf, IsPlace, Profile, StandsIn, line_of, load_result, local_count, local_run, machine_at_restart, machine_by_outcome, mailbox_by_outcome, octets_at, one_step, outcome_of, pool_by_outcome};
+ghost use Rattle.std.specs.Prelude.{◌≡◌, ◌≤◌, ◌↔◌, ℕ, List, [], None, Some, false, IfOk, IsSome, IsTrue, IfErr, OnOk, OnErr, length};
+ghost use Rattle.ocp_table.specs.Clauses.{AccessOutside, HasAddressesOf, IsPlace, Loads, StandsIn, line_of, local_count, local_run, machine_at_restart, machine_by_outcome, mailbox_by_outcome, octets_at, one_step, outcome_of, pool_by_outcome};
 
 use crate::InstructionOutcome;
 use bpf_step::{Local, Machine, Need};
@@ -45,7 +45,7 @@ impl<A: Allocator> Execution<A> {
         program: Program<A>,
         machine: Machine<A>,
     ) -> Result<Self, AllocError>
-        requires admitted { (profile : Profile) × IsOk (load_result profile program) }
+        requires admitted { Loads program }
         requires place { IsPlace program 0 }
         requires start { machine.place ≡ 0 }
         requires frames { machine.frames ≡ [] }

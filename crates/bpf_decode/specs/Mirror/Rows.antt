@@ -14,7 +14,7 @@ use Rattle.bpf_types.specs.declared.line.SwapWidth.{SwapWidth}
 use Rattle.bpf_types.specs.declared.line.Size.{Size}
 use Rattle.bpf_types.specs.declared.line.Width.{Width}
 use Rattle.bpf_types.specs.declared.line.Width.TheVariants.{W32, W64}
-use Rattle.bpf_types.specs.Line.{extension_of, swap_width_of}
+use Rattle.bpf_types.specs.Mirror.{extension_of, swap_width_of}
 use Rattle.bpf_decode.specs.Mirror.Codes.{operation_at, comparison_at, order_at, size_at, signed_size_at}
 
 infixl 10 ◌>>=◌

@@ -3,7 +3,7 @@ use Rattle.std.specs.Prelude.{ℕ, zero, suc, ℤ, pos, negsuc, ◌-◌, Bool, t
 use Rattle.bpf_types.specs.declared.line.Line.{Line}
 use Rattle.ocp_loader.specs.declared.fault.LoadFault.{LoadFault}
 use Rattle.ocp_loader.specs.declared.fault.LoadFault.TheVariants.{BadTarget, FallsOffEnd}
-use Rattle.ocp_loader.specs.Image.{line_in, target_of, is_last}
+use Rattle.ocp_loader.specs.Image.{line_in, target_of, never_falls_through}
 use Rattle.ocp_loader.specs.Mirror.Reading.{Reading}
 
 -- a line has its first slot there
@@ -33,7 +33,7 @@ first_bad_target lines (suc n) =
 
 -- the last line, in the last slot or the two last ones
 abbrev pub end_fault : ℕ → Option Line → Option LoadFault
-end_fault n (Some l) = if is_last l then None else Some (FallsOffEnd (n - 1))
+end_fault n (Some l) = if never_falls_through l then None else Some (FallsOffEnd (n - 1))
 end_fault n None = Some (FallsOffEnd (n - 2))
 
 abbrev pub lines_fault : List (Option Line) → Option ℕ → Option LoadFault
