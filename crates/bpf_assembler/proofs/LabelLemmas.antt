@@ -121,7 +121,7 @@ there_and_back : (slot to : ℕ) → pos (slot + 1) +ℤ (pos to -ℤ pos (slot 
 there_and_back slot to = +ℤ_comm (pos (slot + 1)) (pos to -ℤ pos (slot + 1)) ∙ -ℤ-+ℤ_cancel (pos to) (pos (slot + 1))
 
 -- an instruction that names a label is a jump or a local call
-named_target : (given : Line) (name : List ℕ) (odd : Option ℕ) (tokens : List (List ℕ)) (slot to : ℕ) → IsOperands given (Some name) odd tokens → target_of slot (with_target given slot to) ≡ Some (pos to)
+named_target : (given : Line) (name : List ℕ) (odd : Option ℕ) (tokens : List (List ℕ)) (slot to : ℕ) → IsOperands (record { line = given; name = Some name; unknown_width = odd }) tokens → target_of slot (with_target given slot to) ≡ Some (pos to)
 named_target (line.Jump z) name odd tokens slot to h = ap (λ (x : ℤ). Some x) (there_and_back slot to)
 named_target (line.LongJump z) name odd tokens slot to h = ap (λ (x : ℤ). Some x) (there_and_back slot to)
 named_target (line.JumpIf w t dst x z) name odd tokens slot to h = ap (λ (x : ℤ). Some x) (there_and_back slot to)
@@ -139,7 +139,7 @@ named_target (line.StoreImmediate s base z y) name odd tokens slot to h = let e 
 named_target (line.Store s base z src) name odd tokens slot to h = let e = h.0 in absurd cc
 
 abbrev IsFormed : Statement → Type 0
-IsFormed s = (tokens : List (List ℕ)) × IsForm s.line s.name s.odd tokens
+IsFormed s = (tokens : List (List ℕ)) × IsForm s tokens
 
 formed_body : (text : List ℕ) (w : TextLine) (s : Statement) → w.body ≡ Some s → Writes text w → IsFormed s
 formed_body text w s e h = by w.label (subst (λ (b : Option Statement). HasLabel w.label b h.0) e h.2)
@@ -167,6 +167,6 @@ meant_by counted text ws ls a b s c d l h is e f same =
     let form = formed_at (line_texts text) ws a b s h.each e in
     by s.name (subst (λ (p : ℕ). IsInstruction ws p s.line s.name l) (let none : 0 + length (by_slot c) ≡ length (by_slot c) = omega arith in none ∙ sym (counted c)) at) form.1.0 form.1.2
   where
-    by : (name : Option (List ℕ)) → IsInstruction ws (place_of c) s.line name l → (operands : List (List ℕ)) → IsOperands s.line name s.odd operands → IsMeantBy ws ls (place_of c) s.line name l
+    by : (name : Option (List ℕ)) → IsInstruction ws (place_of c) s.line name l → (operands : List (List ℕ)) → IsOperands (record { line = s.line; name = name; unknown_width = s.unknown_width }) operands → IsMeantBy ws ls (place_of c) s.line name l
     by None k operands o = k
-    by (Some name) k operands o = (k.0, (label_at counted text ws ls name k.0 h is).0 k.1, k.3, ap (target_of (place_of c)) k.3 ∙ named_target s.line name s.odd operands (place_of c) k.0 o)
+    by (Some name) k operands o = (k.0, (label_at counted text ws ls name k.0 h is).0 k.1, k.3, ap (target_of (place_of c)) k.3 ∙ named_target s.line name s.unknown_width operands (place_of c) k.0 o)

@@ -1,5 +1,5 @@
 -- The canonical text of an instruction is written as that instruction.
-use Rattle.std.proofs.Common.{◌≡◌, ◌<◌, ◌^◌, ℕ, ℤ, pos, negsuc, List, [], ◌∷◌, ◌++◌, Some, None, refl, sym, ◌∙◌, ap, subst, arith, append_assoc, w16, w32, rules}
+use Rattle.std.proofs.Common.{◌≡◌, ◌<◌, ◌^◌, ℕ, ℤ, pos, negsuc, List, [], ◌∷◌, ◌++◌, Some, None, refl, inr, sym, ◌∙◌, ap, subst, arith, append_assoc, w16, w32, rules}
 use Rattle.std.specs.Prelude.{codes, FitsSigned}
 use Rattle.std.specs.Fmt.{decimal, signed_decimal}
 use Rattle.std.proofs.lemmas.Int.{ints}
@@ -13,7 +13,11 @@ use Rattle.bpf_types.specs.Line.{IsLine, swap_width_bits, extension_bits}
 use Rattle.bpf_canonical.specs.Canonical.{canonical, register, with_sign, operand_text, hex_digits}
 use Rattle.bpf_canonical.specs.Mnemonics.{mnemonic_name, mnemonic_of}
 use Rattle.bpf_text.specs.Tokens.{NoWord, HasTokens}
-use Rattle.bpf_text.specs.Lines.{IsForm, Writes}
+use Rattle.bpf_text.specs.Number.{IsNumeral}
+use Rattle.bpf_text.specs.Fields.{IsRegister, IsImmediate, IsSecond, IsDistance, IsTarget}
+use Rattle.bpf_text.specs.Grammar.{Token, ◌⸴◌, Memory}
+use Rattle.bpf_text.specs.Lines.{Are, IsForm, Writes}
+use Rattle.bpf_text.proofs.ReadLemmas.{statement}
 use Rattle.bpf_text.proofs.CanonicalNumbers.{IsRun, decimal_run, numeral_read, register_run, register_read, integer_run, immediate_read, operand_run, operand_read, distance_run, distance_read, value_run, value_read}
 use Rattle.bpf_text.proofs.CanonicalWords.{mnemonic_run, local_run}
 use Rattle.bpf_text.proofs.CanonicalTokens.{run_then, blank_then, run_last, word_and_one, word_and_two, word_and_three, word_and_load, word_and_store}
@@ -35,7 +39,7 @@ few_kept _ = omega arith
 
 -- the tokens of the canonical text, as the table of forms wants them
 abbrev pub FormOf : Line → Type 0
-FormOf l = (tokens : List (List ℕ)) × HasTokens (canonical l) tokens × IsForm l None None tokens
+FormOf l = (tokens : List (List ℕ)) × HasTokens (canonical l) tokens × IsForm (statement l None None) tokens
 
 word_of : (l : Line) → IsRun (mnemonic_name (mnemonic_of l))
 word_of l = mnemonic_run (mnemonic_of l)
@@ -44,12 +48,27 @@ word_of l = mnemonic_run (mnemonic_of l)
 with_prefix : (front digits : List ℕ) → front ++ codes ", " ++ (codes "0x" ++ digits) ≡ front ++ codes ", 0x" ++ digits
 with_prefix front digits = append_assoc front (codes ", ") (codes "0x" ++ digits) ∙ sym (append_assoc front (codes ", 0x") digits)
 
+two_are : {V W : Type 0} (P : List ℕ → V → Type 0) (Q : List ℕ → W → Type 0) (a b : List ℕ) (v : V) (w : W) → P a v → Q b w → Are (Token P ⸴ Token Q) (v, w) (a ∷ (44 ∷ []) ∷ b ∷ [])
+two_are P Q a b v w p q = ((44 ∷ []) ∷ b ∷ [], (a, refl, p), (b ∷ [], refl, (b, refl, q)))
+
+three_are : {V W X : Type 0} (P : List ℕ → V → Type 0) (Q : List ℕ → W → Type 0) (R : List ℕ → X → Type 0) (a b c : List ℕ) (v : V) (w : W) (x : X) → P a v → Q b w → R c x → Are (Token P ⸴ Token Q ⸴ Token R) (v, (w, x)) (a ∷ (44 ∷ []) ∷ b ∷ (44 ∷ []) ∷ c ∷ [])
+three_are P Q R a b c v w x p q r = ((44 ∷ []) ∷ b ∷ (44 ∷ []) ∷ c ∷ [], (a, refl, p), (b ∷ (44 ∷ []) ∷ c ∷ [], refl, two_are Q R b c w x q r))
+
+memory_is : (b o : List ℕ) (base : ℕ) (offset : ℤ) (rest : List (List ℕ)) → IsRegister b base → IsDistance o offset → Memory ((91 ∷ []) ∷ b ∷ o ∷ (93 ∷ []) ∷ rest) (base, offset) rest
+memory_is b o base offset rest p q = (b ∷ o ∷ (93 ∷ []) ∷ rest, refl, (o ∷ (93 ∷ []) ∷ rest, (b, refl, p), inr (o, refl, q)))
+
+load_are : (a b o : List ℕ) (dst base : ℕ) (offset : ℤ) → IsRegister a dst → IsRegister b base → IsDistance o offset → Are (Token IsRegister ⸴ Memory) (dst, (base, offset)) (a ∷ (44 ∷ []) ∷ (91 ∷ []) ∷ b ∷ o ∷ (93 ∷ []) ∷ [])
+load_are a b o dst base offset p q r = ((44 ∷ []) ∷ (91 ∷ []) ∷ b ∷ o ∷ (93 ∷ []) ∷ [], (a, refl, p), ((91 ∷ []) ∷ b ∷ o ∷ (93 ∷ []) ∷ [], refl, memory_is b o base offset [] q r))
+
+store_are : {V : Type 0} (P : List ℕ → V → Type 0) (b o c : List ℕ) (base : ℕ) (offset : ℤ) (v : V) → IsRegister b base → IsDistance o offset → P c v → Are (Memory ⸴ Token P) ((base, offset), v) ((91 ∷ []) ∷ b ∷ o ∷ (93 ∷ []) ∷ (44 ∷ []) ∷ c ∷ [])
+store_are P b o c base offset v p q r = ((44 ∷ []) ∷ c ∷ [], memory_is b o base offset ((44 ∷ []) ∷ c ∷ []) p q, (c ∷ [], refl, (c, refl, r)))
+
 pub canonical_form : (l : Line) → IsLine l → FormOf l
 canonical_form (line.Arithmetic width operation dst operand) h =
     let a = register dst in let b = operand_text operand in let m = mnemonic_name (mnemonic_of (line.Arithmetic width operation dst operand)) in (
       m ∷ a ∷ codes "," ∷ b ∷ [],
       word_and_two m a b (word_of (line.Arithmetic width operation dst operand)) (register_run dst h.0) (operand_run operand h.1),
-      (a ∷ codes "," ∷ b ∷ [], refl, (refl, refl, (a, b, refl, register_read dst h.0, operand_read operand h.1))),
+      (a ∷ codes "," ∷ b ∷ [], refl, (refl, refl, two_are IsRegister IsSecond a b dst operand (register_read dst h.0) (operand_read operand h.1))),
     )
 canonical_form (line.Negate width dst) h =
     let a = register dst in let m = mnemonic_name (mnemonic_of (line.Negate width dst)) in (
@@ -64,7 +83,7 @@ canonical_form (line.MoveExtended extension dst src) h =
       (
         a ∷ codes "," ∷ b ∷ codes "," ∷ c ∷ [],
         refl,
-        (refl, extension_bits extension, refl, (a, b, c, refl, register_read dst h.0, register_read src h.1, numeral_read (extension_bits extension) (few_bits extension))),
+        (refl, extension_bits extension, refl, three_are IsRegister IsRegister IsNumeral a b c dst src (extension_bits extension) (register_read dst h.0) (register_read src h.1) (numeral_read (extension_bits extension) (few_bits extension))),
       ),
     )
 canonical_form (line.ByteOrder order width dst) h =
@@ -74,7 +93,7 @@ canonical_form (line.ByteOrder order width dst) h =
       (
         a ∷ codes "," ∷ b ∷ [],
         refl,
-        (refl, swap_width_bits width, refl, (a, b, refl, register_read dst h, numeral_read (swap_width_bits width) (few_kept width))),
+        (refl, swap_width_bits width, refl, two_are IsRegister IsNumeral a b dst (swap_width_bits width) (register_read dst h) (numeral_read (swap_width_bits width) (few_kept width))),
       ),
     )
 canonical_form (line.Jump distance) h =
@@ -96,7 +115,7 @@ canonical_form (line.JumpIf width comparison dst operand distance) h =
       (
         a ∷ codes "," ∷ b ∷ codes "," ∷ c ∷ [],
         refl,
-        (refl, (a, b, c, refl, register_read dst h.0, operand_read operand h.1, distance_read distance (wide_enough distance h.2))),
+        (refl, three_are IsRegister IsSecond IsTarget a b c dst operand (distance, None) (register_read dst h.0) (operand_read operand h.1) (distance_read distance (wide_enough distance h.2))),
       ),
     )
 canonical_form (line.Call number) h =
@@ -111,7 +130,7 @@ canonical_form (line.CallLocal distance) h =
       run_then (codes "call") (codes " local " ++ a) (codes "local" ∷ a ∷ []) (word_of (line.CallLocal distance)) refl
           (blank_then (codes "local " ++ a) (codes "local" ∷ a ∷ [])
           (word_and_one (codes "local") a local_run (distance_run distance h))),
-      (codes "local" ∷ a ∷ [], refl, (refl, a ∷ [], refl, (a, refl, distance_read distance h))),
+      (codes "local" ∷ a ∷ [], refl, (refl, (a ∷ [], refl, (a, refl, distance_read distance h)))),
     )
 canonical_form line.Exit h =
     (codes "exit" ∷ [], run_last (codes "exit") (word_of line.Exit), ([], refl, (refl, refl, refl)))
@@ -120,7 +139,7 @@ canonical_form (line.LoadWide dst value) h =
       codes "lddw" ∷ a ∷ codes "," ∷ b ∷ [],
       subst (λ (t : List ℕ). HasTokens t (codes "lddw" ∷ a ∷ codes "," ∷ b ∷ [])) (ap (λ (t : List ℕ). codes "lddw" ++ t) (with_prefix (codes " " ++ a) (hex_digits 16 value)))
           (word_and_two (codes "lddw") a b (word_of (line.LoadWide dst value)) (register_run dst h.0) (value_run value)),
-      (a ∷ codes "," ∷ b ∷ [], refl, (refl, refl, (a, b, refl, register_read dst h.0, value_read value h.1))),
+      (a ∷ codes "," ∷ b ∷ [], refl, (refl, refl, two_are IsRegister IsNumeral a b dst value (register_read dst h.0) (value_read value h.1))),
     )
 canonical_form (line.Load size dst base offset) h =
     let a = register dst in let b = register base in let o = with_sign offset in let m = mnemonic_name (mnemonic_of (line.Load size dst base offset)) in (
@@ -129,7 +148,7 @@ canonical_form (line.Load size dst base offset) h =
       (
         a ∷ codes "," ∷ codes "[" ∷ b ∷ o ∷ codes "]" ∷ [],
         refl,
-        (refl, refl, (a, b, Some o, refl, register_read dst h.0, register_read base h.1, distance_read offset (wide_enough offset h.2))),
+        (refl, refl, load_are a b o dst base offset (register_read dst h.0) (register_read base h.1) (distance_read offset (wide_enough offset h.2))),
       ),
     )
 canonical_form (line.LoadExtended size dst base offset) h =
@@ -139,7 +158,7 @@ canonical_form (line.LoadExtended size dst base offset) h =
       (
         a ∷ codes "," ∷ codes "[" ∷ b ∷ o ∷ codes "]" ∷ [],
         refl,
-        (refl, refl, (a, b, Some o, refl, register_read dst h.0, register_read base h.1, distance_read offset (wide_enough offset h.2))),
+        (refl, refl, load_are a b o dst base offset (register_read dst h.0) (register_read base h.1) (distance_read offset (wide_enough offset h.2))),
       ),
     )
 canonical_form (line.StoreImmediate size base offset value) h =
@@ -149,7 +168,7 @@ canonical_form (line.StoreImmediate size base offset value) h =
       (
         codes "[" ∷ b ∷ o ∷ codes "]" ∷ codes "," ∷ a ∷ [],
         refl,
-        (refl, refl, (b, Some o, a, refl, register_read base h.0, distance_read offset (wide_enough offset h.1), immediate_read value h.2)),
+        (refl, refl, store_are IsImmediate b o a base offset value (register_read base h.0) (distance_read offset (wide_enough offset h.1)) (immediate_read value h.2)),
       ),
     )
 canonical_form (line.Store size base offset src) h =
@@ -159,10 +178,10 @@ canonical_form (line.Store size base offset src) h =
       (
         codes "[" ∷ b ∷ o ∷ codes "]" ∷ codes "," ∷ a ∷ [],
         refl,
-        (refl, refl, (b, Some o, a, refl, register_read base h.0, distance_read offset (wide_enough offset h.1), register_read src h.2)),
+        (refl, refl, store_are IsRegister b o a base offset src (register_read base h.0) (distance_read offset (wide_enough offset h.1)) (register_read src h.2)),
       ),
     )
 
 -- a line with an instruction alone
-pub canonical_written : (l : Line) → IsLine l → Writes (canonical l) (record { label = None; body = Some (record { line = l; name = None; odd = None }) })
+pub canonical_written : (l : Line) → IsLine l → Writes (canonical l) (record { label = None; body = Some (record { line = l; name = None; unknown_width = None }) })
 canonical_written l h = canonical_form l h

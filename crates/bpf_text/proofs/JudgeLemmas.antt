@@ -24,27 +24,27 @@ use Rattle.bpf_canonical.specs.Mnemonics.{mnemonic_name, mnemonic_of}
 use Rattle.bpf_text.specs.Number.{IsNumeral}
 use Rattle.bpf_text.specs.Fields.{IsRegister, IsImmediate, IsSecond, IsTarget}
 use Rattle.bpf_text.specs.Mirror.Gives.{bits_in, HasExtension, HasSwapWidth}
-use Rattle.bpf_text.specs.Mirror.Reads.{State, Token, Behind, Then, Memory, Reads, Answers, verdict}
-use Rattle.bpf_text.specs.Lines.{IsOperands, AreOne, AreTwo, AreThree, AreLoad, AreStore}
-use Rattle.bpf_text.specs.Judged.{Gives, Judges, JudgesForm, text_of, target_of}
+use Rattle.bpf_text.specs.Grammar.{Form, Token, Behind, Then, Memory}
+use Rattle.bpf_text.specs.Mirror.Reads.{State, Reads, Answers, verdict}
+use Rattle.bpf_text.specs.Lines.{Statement, IsOperands, Fits}
+use Rattle.bpf_text.specs.Judged.{Gives, Judges, JudgesForm, as_statement, target_of}
 use Rattle.bpf_text.specs.declared.line.Source.{Source}
 use Rattle.bpf_text.specs.declared.line.LineFault.{LineFault}
 use Rattle.bpf_text.specs.declared.line.LineFault.TheVariants.{Syntax, Range}
 use Rattle.bpf_text.proofs.FieldLemmas.{register_in_range, letter_no_numeral, extension_class}
-use Rattle.bpf_text.proofs.ReadLemmas.{gives_of}
-use Rattle.bpf_text.proofs.FormLemmas.{one_to, one_from, two_to, two_from, three_to, three_from, load_to, load_from, store_to, store_from}
+use Rattle.bpf_text.proofs.ReadLemmas.{statement, behind_next, gives_of}
 
 -- What was read is an instruction of the mnemonic; an instruction of it is written so; and one
 -- that is out of its range is an instruction of it out of its range.
-pub record Fitting {V W : Type 0} (m : Mnemonic) (tokens : List (List ℕ)) (mk : V → Source) (view : V → W) (P F : W → Type 0) : Type 0 where
-  pub ok : (v : V) → P (view v) → F (view v) → (mnemonic_of (mk v).line ≡ m) × IsOperands (mk v).line (text_of (mk v).name) None tokens × IsLine (mk v).line
-  pub back : (l : Line) → (name : Option (List ℕ)) → (odd : Option ℕ) → mnemonic_of l ≡ m → IsOperands l name odd tokens → (w : W) × P w
-  pub out : (w : W) → P w → ¬ F w → (l : Line) × (name : Option (List ℕ)) × (odd : Option ℕ) × (mnemonic_of l ≡ m) × IsOperands l name odd tokens × ¬ (IsLine l × (odd ≡ None))
+pub record Fitting {V W : Type 0} (m : Mnemonic) (tokens : List (List ℕ)) (mk : V → Source) (view : V → W) (L : Form W) (F : W → Type 0) : Type 0 where
+  pub ok : (v : V) → L tokens (view v) [] → F (view v) → (mnemonic_of (mk v).line ≡ m) × IsOperands (as_statement (mk v)) tokens × IsLine (mk v).line
+  pub back : (l : Line) → (name : Option (List ℕ)) → (odd : Option ℕ) → mnemonic_of l ≡ m → IsOperands (statement l name odd) tokens → (w : W) × L tokens w []
+  pub out : (w : W) → L tokens w [] → ¬ F w → (s : Statement) × (mnemonic_of s.line ≡ m) × IsOperands s tokens × ¬ Fits s
 
-judged : {V W : Type 0} {m : Mnemonic} {tokens : List (List ℕ)} {mk : V → Source} {view : V → W} {P F : W → Type 0} → Fitting m tokens mk view P F → (r : Option V) (u : State) → Gives view P F (verdict r u) → Judges m tokens (verdict (option_map mk r) u)
-judged f None u h = λ s k. let b = f.back s.line s.name s.odd k.0 k.1 in h b.0 b.1
-judged f (Some v) (x ∷ xs, out) h = λ s k. let b = f.back s.line s.name s.odd k.0 k.1 in h b.0 b.1
-judged f (Some v) ([], true) h = let o = f.out h.0 h.1 h.2 in (record { line = o.0; name = o.1; odd = o.2 }, (o.3, o.4), o.5)
+judged : {V W : Type 0} {m : Mnemonic} {tokens : List (List ℕ)} {mk : V → Source} {view : V → W} {L : Form W} {F : W → Type 0} → Fitting m tokens mk view L F → (r : Option V) (u : State) → Gives view (λ (w : W). L tokens w []) F (verdict r u) → Judges m tokens (verdict (option_map mk r) u)
+judged f None u h = λ s k. let b = f.back s.line s.name s.unknown_width k.0 k.1 in h b.0 b.1
+judged f (Some v) (x ∷ xs, out) h = λ s k. let b = f.back s.line s.name s.unknown_width k.0 k.1 in h b.0 b.1
+judged f (Some v) ([], true) h = let o = f.out h.0 h.1 h.2 in (o.0, (o.1, o.2), o.3)
 judged f (Some v) ([], false) h = let o = f.ok v h.0 h.1 in ((o.0, o.1), (o.2, refl))
 
 -- an instruction with no label's name
@@ -52,169 +52,177 @@ abbrev pub plain : Line → Source
 plain l = record { line = l; name = None }
 
 pub arithmetic : (w : Width) (o : Operation) (s : State) (r : Option (ℕ × Operand)) (u : State) → Reads (λ (v : ℕ × Operand). (v.0, v.1)) (Then (Token IsRegister) (Behind (44 ∷ []) (Token IsSecond))) (λ (v : ℕ × Operand). IsReg v.0 × IsOperand v.1) s r u → Answers (word.Arithmetic w o) s (option_map (λ (v : ℕ × Operand). plain (line.Arithmetic w o v.0 v.1)) r) u
-arithmetic w o s r u h start = judged fits r u (gives_of (λ (v : ℕ × Operand). (v.0, v.1)) (Then (Token IsRegister) (Behind (44 ∷ []) (Token IsSecond))) (AreTwo IsRegister IsSecond s.0) (λ (v : ℕ × Operand). IsReg v.0 × IsOperand v.1) s r u (two_to IsRegister IsSecond s.0) (two_from IsRegister IsSecond s.0) start h)
+arithmetic w o s r u h start = judged fits r u (gives_of (λ (v : ℕ × Operand). (v.0, v.1)) (Then (Token IsRegister) (Behind (44 ∷ []) (Token IsSecond))) (λ (v : ℕ × Operand). IsReg v.0 × IsOperand v.1) s r u start h)
   where
-    back : (l : Line) → (name : Option (List ℕ)) → (odd : Option ℕ) → mnemonic_of l ≡ word.Arithmetic w o → IsOperands l name odd s.0 → (w : ℕ × Operand) × (AreTwo IsRegister IsSecond s.0) w
+    back : (l : Line) → (name : Option (List ℕ)) → (odd : Option ℕ) → mnemonic_of l ≡ word.Arithmetic w o → IsOperands (statement l name odd) s.0 → (w : ℕ × Operand) × (Then (Token IsRegister) (Behind (44 ∷ []) (Token IsSecond))) s.0 w []
     back (line.Arithmetic w' o' dst operand) name odd m k = ((dst, operand), k.2)
     back _ name odd m k = absurd cc
 
-    fits : Fitting (word.Arithmetic w o) s.0 (λ (v : ℕ × Operand). plain (line.Arithmetic w o v.0 v.1)) (λ (v : ℕ × Operand). (v.0, v.1)) (AreTwo IsRegister IsSecond s.0) (λ (v : ℕ × Operand). IsReg v.0 × IsOperand v.1)
-    fits = record { ok = λ v p f. (refl, (refl, refl, p), f); back = back; out = λ v p bad. (line.Arithmetic w o v.0 v.1, None, None, refl, (refl, refl, p), λ m. bad m.0) }
+    fits : Fitting (word.Arithmetic w o) s.0 (λ (v : ℕ × Operand). plain (line.Arithmetic w o v.0 v.1)) (λ (v : ℕ × Operand). (v.0, v.1)) (Then (Token IsRegister) (Behind (44 ∷ []) (Token IsSecond))) (λ (v : ℕ × Operand). IsReg v.0 × IsOperand v.1)
+    fits = record { ok = λ v p f. (refl, (refl, refl, p), f); back = back; out = λ v p bad. (statement (line.Arithmetic w o v.0 v.1) None None, refl, (refl, refl, p), λ m. bad m.0) }
 
 pub negate : (w : Width) (s : State) (r : Option (ℕ)) (u : State) → Reads (λ (v : ℕ). v) (Token IsRegister) IsReg s r u → Answers (word.Negate w) s (option_map (λ (v : ℕ). plain (line.Negate w v)) r) u
-negate w s r u h start = judged fits r u (gives_of (λ (v : ℕ). v) (Token IsRegister) (AreOne IsRegister s.0) IsReg s r u (one_to IsRegister s.0) (one_from IsRegister s.0) start h)
+negate w s r u h start = judged fits r u (gives_of (λ (v : ℕ). v) (Token IsRegister) IsReg s r u start h)
   where
-    back : (l : Line) → (name : Option (List ℕ)) → (odd : Option ℕ) → mnemonic_of l ≡ word.Negate w → IsOperands l name odd s.0 → (w : ℕ) × (AreOne IsRegister s.0) w
+    back : (l : Line) → (name : Option (List ℕ)) → (odd : Option ℕ) → mnemonic_of l ≡ word.Negate w → IsOperands (statement l name odd) s.0 → (w : ℕ) × (Token IsRegister) s.0 w []
     back (line.Negate w' dst) name odd m k = (dst, k.2)
     back _ name odd m k = absurd cc
 
-    fits : Fitting (word.Negate w) s.0 (λ (v : ℕ). plain (line.Negate w v)) (λ (v : ℕ). v) (AreOne IsRegister s.0) IsReg
-    fits = record { ok = λ v p f. (refl, (refl, refl, p), f); back = back; out = λ v p bad. (line.Negate w v, None, None, refl, (refl, refl, p), λ m. bad m.0) }
+    fits : Fitting (word.Negate w) s.0 (λ (v : ℕ). plain (line.Negate w v)) (λ (v : ℕ). v) (Token IsRegister) IsReg
+    fits = record { ok = λ v p f. (refl, (refl, refl, p), f); back = back; out = λ v p bad. (statement (line.Negate w v) None None, refl, (refl, refl, p), λ m. bad m.0) }
 
 pub load_wide : (s : State) (r : Option (ℕ × ℕ)) (u : State) → Reads (λ (v : ℕ × ℕ). (v.0, v.1)) (Then (Token IsRegister) (Behind (44 ∷ []) (Token IsNumeral))) (λ (v : ℕ × ℕ). IsReg v.0 × (v.1 < 2 ^ 64)) s r u → Answers (word.LoadWide) s (option_map (λ (v : ℕ × ℕ). plain (line.LoadWide v.0 v.1)) r) u
-load_wide s r u h start = judged fits r u (gives_of (λ (v : ℕ × ℕ). (v.0, v.1)) (Then (Token IsRegister) (Behind (44 ∷ []) (Token IsNumeral))) (AreTwo IsRegister IsNumeral s.0) (λ (v : ℕ × ℕ). IsReg v.0 × (v.1 < 2 ^ 64)) s r u (two_to IsRegister IsNumeral s.0) (two_from IsRegister IsNumeral s.0) start h)
+load_wide s r u h start = judged fits r u (gives_of (λ (v : ℕ × ℕ). (v.0, v.1)) (Then (Token IsRegister) (Behind (44 ∷ []) (Token IsNumeral))) (λ (v : ℕ × ℕ). IsReg v.0 × (v.1 < 2 ^ 64)) s r u start h)
   where
-    back : (l : Line) → (name : Option (List ℕ)) → (odd : Option ℕ) → mnemonic_of l ≡ word.LoadWide → IsOperands l name odd s.0 → (w : ℕ × ℕ) × (AreTwo IsRegister IsNumeral s.0) w
+    back : (l : Line) → (name : Option (List ℕ)) → (odd : Option ℕ) → mnemonic_of l ≡ word.LoadWide → IsOperands (statement l name odd) s.0 → (w : ℕ × ℕ) × (Then (Token IsRegister) (Behind (44 ∷ []) (Token IsNumeral))) s.0 w []
     back (line.LoadWide dst value) name odd m k = ((dst, value), k.2)
     back _ name odd m k = absurd cc
 
-    fits : Fitting (word.LoadWide) s.0 (λ (v : ℕ × ℕ). plain (line.LoadWide v.0 v.1)) (λ (v : ℕ × ℕ). (v.0, v.1)) (AreTwo IsRegister IsNumeral s.0) (λ (v : ℕ × ℕ). IsReg v.0 × (v.1 < 2 ^ 64))
-    fits = record { ok = λ v p f. (refl, (refl, refl, p), f); back = back; out = λ w p bad. (line.LoadWide w.0 w.1, None, None, refl, (refl, refl, p), λ m. bad m.0) }
+    fits : Fitting (word.LoadWide) s.0 (λ (v : ℕ × ℕ). plain (line.LoadWide v.0 v.1)) (λ (v : ℕ × ℕ). (v.0, v.1)) (Then (Token IsRegister) (Behind (44 ∷ []) (Token IsNumeral))) (λ (v : ℕ × ℕ). IsReg v.0 × (v.1 < 2 ^ 64))
+    fits = record { ok = λ v p f. (refl, (refl, refl, p), f); back = back; out = λ w p bad. (statement (line.LoadWide w.0 w.1) None None, refl, (refl, refl, p), λ m. bad m.0) }
 
 pub jump : (s : State) (r : Option (ℤ × Option (Bor (List ℕ)))) (u : State) → Reads target_of (Token IsTarget) (λ (v : ℤ × Option (List ℕ)). FitsSigned w16 v.0) s r u → Answers (word.Jump leap.Short) s (option_map (λ (v : ℤ × Option (Bor (List ℕ))). record { line = line.Jump v.0; name = v.1 }) r) u
-jump s r u h start = judged fits r u (gives_of target_of (Token IsTarget) (AreOne IsTarget s.0) (λ (v : ℤ × Option (List ℕ)). FitsSigned w16 v.0) s r u (one_to IsTarget s.0) (one_from IsTarget s.0) start h)
+jump s r u h start = judged fits r u (gives_of target_of (Token IsTarget) (λ (v : ℤ × Option (List ℕ)). FitsSigned w16 v.0) s r u start h)
   where
-    back : (l : Line) → (name : Option (List ℕ)) → (odd : Option ℕ) → mnemonic_of l ≡ word.Jump leap.Short → IsOperands l name odd s.0 → (w : ℤ × Option (List ℕ)) × (AreOne IsTarget s.0) w
+    back : (l : Line) → (name : Option (List ℕ)) → (odd : Option ℕ) → mnemonic_of l ≡ word.Jump leap.Short → IsOperands (statement l name odd) s.0 → (w : ℤ × Option (List ℕ)) × (Token IsTarget) s.0 w []
     back (line.Jump z) name odd m k = ((z, name), k.1)
     back _ name odd m k = absurd cc
 
-    fits : Fitting (word.Jump leap.Short) s.0 (λ (v : ℤ × Option (Bor (List ℕ))). record { line = line.Jump v.0; name = v.1 }) target_of (AreOne IsTarget s.0) (λ (v : ℤ × Option (List ℕ)). FitsSigned w16 v.0)
-    fits = record { ok = λ v p f. (refl, (refl, p), f); back = back; out = λ w p bad. (line.Jump w.0, w.1, None, refl, (refl, p), λ m. bad m.0) }
+    fits : Fitting (word.Jump leap.Short) s.0 (λ (v : ℤ × Option (Bor (List ℕ))). record { line = line.Jump v.0; name = v.1 }) target_of (Token IsTarget) (λ (v : ℤ × Option (List ℕ)). FitsSigned w16 v.0)
+    fits = record { ok = λ v p f. (refl, (refl, p), f); back = back; out = λ w p bad. (statement (line.Jump w.0) (w.1) None, refl, (refl, p), λ m. bad m.0) }
 
 pub long_jump : (s : State) (r : Option (ℤ × Option (Bor (List ℕ)))) (u : State) → Reads target_of (Token IsTarget) (λ (v : ℤ × Option (List ℕ)). FitsSigned w32 v.0) s r u → Answers (word.Jump leap.Long) s (option_map (λ (v : ℤ × Option (Bor (List ℕ))). record { line = line.LongJump v.0; name = v.1 }) r) u
-long_jump s r u h start = judged fits r u (gives_of target_of (Token IsTarget) (AreOne IsTarget s.0) (λ (v : ℤ × Option (List ℕ)). FitsSigned w32 v.0) s r u (one_to IsTarget s.0) (one_from IsTarget s.0) start h)
+long_jump s r u h start = judged fits r u (gives_of target_of (Token IsTarget) (λ (v : ℤ × Option (List ℕ)). FitsSigned w32 v.0) s r u start h)
   where
-    back : (l : Line) → (name : Option (List ℕ)) → (odd : Option ℕ) → mnemonic_of l ≡ word.Jump leap.Long → IsOperands l name odd s.0 → (w : ℤ × Option (List ℕ)) × (AreOne IsTarget s.0) w
+    back : (l : Line) → (name : Option (List ℕ)) → (odd : Option ℕ) → mnemonic_of l ≡ word.Jump leap.Long → IsOperands (statement l name odd) s.0 → (w : ℤ × Option (List ℕ)) × (Token IsTarget) s.0 w []
     back (line.LongJump z) name odd m k = ((z, name), k.1)
     back _ name odd m k = absurd cc
 
-    fits : Fitting (word.Jump leap.Long) s.0 (λ (v : ℤ × Option (Bor (List ℕ))). record { line = line.LongJump v.0; name = v.1 }) target_of (AreOne IsTarget s.0) (λ (v : ℤ × Option (List ℕ)). FitsSigned w32 v.0)
-    fits = record { ok = λ v p f. (refl, (refl, p), f); back = back; out = λ w p bad. (line.LongJump w.0, w.1, None, refl, (refl, p), λ m. bad m.0) }
+    fits : Fitting (word.Jump leap.Long) s.0 (λ (v : ℤ × Option (Bor (List ℕ))). record { line = line.LongJump v.0; name = v.1 }) target_of (Token IsTarget) (λ (v : ℤ × Option (List ℕ)). FitsSigned w32 v.0)
+    fits = record { ok = λ v p f. (refl, (refl, p), f); back = back; out = λ w p bad. (statement (line.LongJump w.0) (w.1) None, refl, (refl, p), λ m. bad m.0) }
 
 pub jump_if : (w : Width) (t : Comparison) (s : State) (r : Option (ℕ × (Operand × (ℤ × Option (Bor (List ℕ)))))) (u : State) → Reads (λ (v : ℕ × (Operand × (ℤ × Option (Bor (List ℕ))))). (v.0, (v.1.0, target_of v.1.1))) (Then (Token IsRegister) (Behind (44 ∷ []) (Then (Token IsSecond) (Behind (44 ∷ []) (Token IsTarget))))) (λ (v : ℕ × (Operand × (ℤ × Option (List ℕ)))). IsReg v.0 × (IsOperand v.1.0 × FitsSigned w16 v.1.1.0)) s r u → Answers (word.Jump (leap.If w t)) s (option_map (λ (v : ℕ × (Operand × (ℤ × Option (Bor (List ℕ))))). record { line = line.JumpIf w t v.0 v.1.0 v.1.1.0; name = v.1.1.1 }) r) u
-jump_if w t s r u h start = judged fits r u (gives_of (λ (v : ℕ × (Operand × (ℤ × Option (Bor (List ℕ))))). (v.0, (v.1.0, target_of v.1.1))) (Then (Token IsRegister) (Behind (44 ∷ []) (Then (Token IsSecond) (Behind (44 ∷ []) (Token IsTarget))))) (λ (v : ℕ × (Operand × (ℤ × Option (List ℕ)))). AreThree IsRegister IsSecond IsTarget s.0 ((v.0, v.1.0), v.1.1)) (λ (v : ℕ × (Operand × (ℤ × Option (List ℕ)))). IsReg v.0 × (IsOperand v.1.0 × FitsSigned w16 v.1.1.0)) s r u (three_to IsRegister IsSecond IsTarget s.0) (three_from IsRegister IsSecond IsTarget s.0) start h)
+jump_if w t s r u h start = judged fits r u (gives_of (λ (v : ℕ × (Operand × (ℤ × Option (Bor (List ℕ))))). (v.0, (v.1.0, target_of v.1.1))) (Then (Token IsRegister) (Behind (44 ∷ []) (Then (Token IsSecond) (Behind (44 ∷ []) (Token IsTarget))))) (λ (v : ℕ × (Operand × (ℤ × Option (List ℕ)))). IsReg v.0 × (IsOperand v.1.0 × FitsSigned w16 v.1.1.0)) s r u start h)
   where
-    back : (l : Line) → (name : Option (List ℕ)) → (odd : Option ℕ) → mnemonic_of l ≡ word.Jump (leap.If w t) → IsOperands l name odd s.0 → (w : ℕ × (Operand × (ℤ × Option (List ℕ)))) × (λ (v : ℕ × (Operand × (ℤ × Option (List ℕ)))). AreThree IsRegister IsSecond IsTarget s.0 ((v.0, v.1.0), v.1.1)) w
+    back : (l : Line) → (name : Option (List ℕ)) → (odd : Option ℕ) → mnemonic_of l ≡ word.Jump (leap.If w t) → IsOperands (statement l name odd) s.0 → (w : ℕ × (Operand × (ℤ × Option (List ℕ)))) × (Then (Token IsRegister) (Behind (44 ∷ []) (Then (Token IsSecond) (Behind (44 ∷ []) (Token IsTarget))))) s.0 w []
     back (line.JumpIf w' t' dst operand z) name odd m k = ((dst, (operand, (z, name))), k.1)
     back _ name odd m k = absurd cc
 
-    fits : Fitting (word.Jump (leap.If w t)) s.0 (λ (v : ℕ × (Operand × (ℤ × Option (Bor (List ℕ))))). record { line = line.JumpIf w t v.0 v.1.0 v.1.1.0; name = v.1.1.1 }) (λ (v : ℕ × (Operand × (ℤ × Option (Bor (List ℕ))))). (v.0, (v.1.0, target_of v.1.1))) (λ (v : ℕ × (Operand × (ℤ × Option (List ℕ)))). AreThree IsRegister IsSecond IsTarget s.0 ((v.0, v.1.0), v.1.1)) (λ (v : ℕ × (Operand × (ℤ × Option (List ℕ)))). IsReg v.0 × (IsOperand v.1.0 × FitsSigned w16 v.1.1.0))
-    fits = record { ok = λ v p f. (refl, (refl, p), (f.0, f.1.0, f.1.1)); back = back; out = λ v p bad. (line.JumpIf w t v.0 v.1.0 v.1.1.0, v.1.1.1, None, refl, (refl, p), λ m. bad (m.0.0, (m.0.1, m.0.2))) }
+    fits : Fitting (word.Jump (leap.If w t)) s.0 (λ (v : ℕ × (Operand × (ℤ × Option (Bor (List ℕ))))). record { line = line.JumpIf w t v.0 v.1.0 v.1.1.0; name = v.1.1.1 }) (λ (v : ℕ × (Operand × (ℤ × Option (Bor (List ℕ))))). (v.0, (v.1.0, target_of v.1.1))) (Then (Token IsRegister) (Behind (44 ∷ []) (Then (Token IsSecond) (Behind (44 ∷ []) (Token IsTarget))))) (λ (v : ℕ × (Operand × (ℤ × Option (List ℕ)))). IsReg v.0 × (IsOperand v.1.0 × FitsSigned w16 v.1.1.0))
+    fits = record { ok = λ v p f. (refl, (refl, p), (f.0, f.1.0, f.1.1)); back = back; out = λ v p bad. (statement (line.JumpIf w t v.0 v.1.0 v.1.1.0) (v.1.1.1) None, refl, (refl, p), λ m. bad (m.0.0, (m.0.1, m.0.2))) }
 
 pub load : (z : Size) (s : State) (r : Option (ℕ × (ℕ × ℤ))) (u : State) → Reads (λ (v : ℕ × (ℕ × ℤ)). (v.0, v.1)) (Then (Token IsRegister) (Behind (44 ∷ []) (Memory))) (λ (v : ℕ × (ℕ × ℤ)). IsReg v.0 × (IsReg v.1.0 × FitsSigned w16 v.1.1)) s r u → Answers (word.Access (access.Load z)) s (option_map (λ (v : ℕ × (ℕ × ℤ)). plain (line.Load z v.0 v.1.0 v.1.1)) r) u
-load z s r u h start = judged fits r u (gives_of (λ (v : ℕ × (ℕ × ℤ)). (v.0, v.1)) (Then (Token IsRegister) (Behind (44 ∷ []) (Memory))) (AreLoad s.0) (λ (v : ℕ × (ℕ × ℤ)). IsReg v.0 × (IsReg v.1.0 × FitsSigned w16 v.1.1)) s r u (load_to s.0) (load_from s.0) start h)
+load z s r u h start = judged fits r u (gives_of (λ (v : ℕ × (ℕ × ℤ)). (v.0, v.1)) (Then (Token IsRegister) (Behind (44 ∷ []) (Memory))) (λ (v : ℕ × (ℕ × ℤ)). IsReg v.0 × (IsReg v.1.0 × FitsSigned w16 v.1.1)) s r u start h)
   where
-    back : (l : Line) → (name : Option (List ℕ)) → (odd : Option ℕ) → mnemonic_of l ≡ word.Access (access.Load z) → IsOperands l name odd s.0 → (w : ℕ × (ℕ × ℤ)) × (AreLoad s.0) w
+    back : (l : Line) → (name : Option (List ℕ)) → (odd : Option ℕ) → mnemonic_of l ≡ word.Access (access.Load z) → IsOperands (statement l name odd) s.0 → (w : ℕ × (ℕ × ℤ)) × (Then (Token IsRegister) (Behind (44 ∷ []) (Memory))) s.0 w []
     back (line.Load z' dst base y) name odd m k = ((dst, (base, y)), k.2)
     back _ name odd m k = absurd cc
 
-    fits : Fitting (word.Access (access.Load z)) s.0 (λ (v : ℕ × (ℕ × ℤ)). plain (line.Load z v.0 v.1.0 v.1.1)) (λ (v : ℕ × (ℕ × ℤ)). (v.0, v.1)) (AreLoad s.0) (λ (v : ℕ × (ℕ × ℤ)). IsReg v.0 × (IsReg v.1.0 × FitsSigned w16 v.1.1))
-    fits = record { ok = λ v p f. (refl, (refl, refl, p), (f.0, f.1.0, f.1.1)); back = back; out = λ w p bad. (line.Load z w.0 w.1.0 w.1.1, None, None, refl, (refl, refl, p), λ m. bad (m.0.0, (m.0.1, m.0.2))) }
+    fits : Fitting (word.Access (access.Load z)) s.0 (λ (v : ℕ × (ℕ × ℤ)). plain (line.Load z v.0 v.1.0 v.1.1)) (λ (v : ℕ × (ℕ × ℤ)). (v.0, v.1)) (Then (Token IsRegister) (Behind (44 ∷ []) (Memory))) (λ (v : ℕ × (ℕ × ℤ)). IsReg v.0 × (IsReg v.1.0 × FitsSigned w16 v.1.1))
+    fits = record { ok = λ v p f. (refl, (refl, refl, p), (f.0, f.1.0, f.1.1)); back = back; out = λ w p bad. (statement (line.Load z w.0 w.1.0 w.1.1) None None, refl, (refl, refl, p), λ m. bad (m.0.0, (m.0.1, m.0.2))) }
 
 pub load_extended : (z : SignedSize) (s : State) (r : Option (ℕ × (ℕ × ℤ))) (u : State) → Reads (λ (v : ℕ × (ℕ × ℤ)). (v.0, v.1)) (Then (Token IsRegister) (Behind (44 ∷ []) (Memory))) (λ (v : ℕ × (ℕ × ℤ)). IsReg v.0 × (IsReg v.1.0 × FitsSigned w16 v.1.1)) s r u → Answers (word.Access (access.LoadExtended z)) s (option_map (λ (v : ℕ × (ℕ × ℤ)). plain (line.LoadExtended z v.0 v.1.0 v.1.1)) r) u
-load_extended z s r u h start = judged fits r u (gives_of (λ (v : ℕ × (ℕ × ℤ)). (v.0, v.1)) (Then (Token IsRegister) (Behind (44 ∷ []) (Memory))) (AreLoad s.0) (λ (v : ℕ × (ℕ × ℤ)). IsReg v.0 × (IsReg v.1.0 × FitsSigned w16 v.1.1)) s r u (load_to s.0) (load_from s.0) start h)
+load_extended z s r u h start = judged fits r u (gives_of (λ (v : ℕ × (ℕ × ℤ)). (v.0, v.1)) (Then (Token IsRegister) (Behind (44 ∷ []) (Memory))) (λ (v : ℕ × (ℕ × ℤ)). IsReg v.0 × (IsReg v.1.0 × FitsSigned w16 v.1.1)) s r u start h)
   where
-    back : (l : Line) → (name : Option (List ℕ)) → (odd : Option ℕ) → mnemonic_of l ≡ word.Access (access.LoadExtended z) → IsOperands l name odd s.0 → (w : ℕ × (ℕ × ℤ)) × (AreLoad s.0) w
+    back : (l : Line) → (name : Option (List ℕ)) → (odd : Option ℕ) → mnemonic_of l ≡ word.Access (access.LoadExtended z) → IsOperands (statement l name odd) s.0 → (w : ℕ × (ℕ × ℤ)) × (Then (Token IsRegister) (Behind (44 ∷ []) (Memory))) s.0 w []
     back (line.LoadExtended z' dst base y) name odd m k = ((dst, (base, y)), k.2)
     back _ name odd m k = absurd cc
 
-    fits : Fitting (word.Access (access.LoadExtended z)) s.0 (λ (v : ℕ × (ℕ × ℤ)). plain (line.LoadExtended z v.0 v.1.0 v.1.1)) (λ (v : ℕ × (ℕ × ℤ)). (v.0, v.1)) (AreLoad s.0) (λ (v : ℕ × (ℕ × ℤ)). IsReg v.0 × (IsReg v.1.0 × FitsSigned w16 v.1.1))
-    fits = record { ok = λ v p f. (refl, (refl, refl, p), (f.0, f.1.0, f.1.1)); back = back; out = λ w p bad. (line.LoadExtended z w.0 w.1.0 w.1.1, None, None, refl, (refl, refl, p), λ m. bad (m.0.0, (m.0.1, m.0.2))) }
+    fits : Fitting (word.Access (access.LoadExtended z)) s.0 (λ (v : ℕ × (ℕ × ℤ)). plain (line.LoadExtended z v.0 v.1.0 v.1.1)) (λ (v : ℕ × (ℕ × ℤ)). (v.0, v.1)) (Then (Token IsRegister) (Behind (44 ∷ []) (Memory))) (λ (v : ℕ × (ℕ × ℤ)). IsReg v.0 × (IsReg v.1.0 × FitsSigned w16 v.1.1))
+    fits = record { ok = λ v p f. (refl, (refl, refl, p), (f.0, f.1.0, f.1.1)); back = back; out = λ w p bad. (statement (line.LoadExtended z w.0 w.1.0 w.1.1) None None, refl, (refl, refl, p), λ m. bad (m.0.0, (m.0.1, m.0.2))) }
 
 pub store : (z : Size) (s : State) (r : Option ((ℕ × ℤ) × ℕ)) (u : State) → Reads (λ (v : (ℕ × ℤ) × ℕ). (v.0, v.1)) (Then (Memory) (Behind (44 ∷ []) (Token IsRegister))) (λ (v : (ℕ × ℤ) × ℕ). (IsReg v.0.0 × FitsSigned w16 v.0.1) × IsReg v.1) s r u → Answers (word.Access (access.Store z)) s (option_map (λ (v : (ℕ × ℤ) × ℕ). plain (line.Store z v.0.0 v.0.1 v.1)) r) u
-store z s r u h start = judged fits r u (gives_of (λ (v : (ℕ × ℤ) × ℕ). (v.0, v.1)) (Then (Memory) (Behind (44 ∷ []) (Token IsRegister))) (AreStore IsRegister s.0) (λ (v : (ℕ × ℤ) × ℕ). (IsReg v.0.0 × FitsSigned w16 v.0.1) × IsReg v.1) s r u (store_to IsRegister s.0) (store_from IsRegister s.0) start h)
+store z s r u h start = judged fits r u (gives_of (λ (v : (ℕ × ℤ) × ℕ). (v.0, v.1)) (Then (Memory) (Behind (44 ∷ []) (Token IsRegister))) (λ (v : (ℕ × ℤ) × ℕ). (IsReg v.0.0 × FitsSigned w16 v.0.1) × IsReg v.1) s r u start h)
   where
-    back : (l : Line) → (name : Option (List ℕ)) → (odd : Option ℕ) → mnemonic_of l ≡ word.Access (access.Store z) → IsOperands l name odd s.0 → (w : (ℕ × ℤ) × ℕ) × (AreStore IsRegister s.0) w
+    back : (l : Line) → (name : Option (List ℕ)) → (odd : Option ℕ) → mnemonic_of l ≡ word.Access (access.Store z) → IsOperands (statement l name odd) s.0 → (w : (ℕ × ℤ) × ℕ) × (Then (Memory) (Behind (44 ∷ []) (Token IsRegister))) s.0 w []
     back (line.Store z' base y value) name odd m k = (((base, y), value), k.2)
     back _ name odd m k = absurd cc
 
-    fits : Fitting (word.Access (access.Store z)) s.0 (λ (v : (ℕ × ℤ) × ℕ). plain (line.Store z v.0.0 v.0.1 v.1)) (λ (v : (ℕ × ℤ) × ℕ). (v.0, v.1)) (AreStore IsRegister s.0) (λ (v : (ℕ × ℤ) × ℕ). (IsReg v.0.0 × FitsSigned w16 v.0.1) × IsReg v.1)
-    fits = record { ok = λ v p f. (refl, (refl, refl, p), (f.0.0, f.0.1, f.1)); back = back; out = λ w p bad. (line.Store z w.0.0 w.0.1 w.1, None, None, refl, (refl, refl, p), λ m. bad ((m.0.0, m.0.1), m.0.2)) }
+    fits : Fitting (word.Access (access.Store z)) s.0 (λ (v : (ℕ × ℤ) × ℕ). plain (line.Store z v.0.0 v.0.1 v.1)) (λ (v : (ℕ × ℤ) × ℕ). (v.0, v.1)) (Then (Memory) (Behind (44 ∷ []) (Token IsRegister))) (λ (v : (ℕ × ℤ) × ℕ). (IsReg v.0.0 × FitsSigned w16 v.0.1) × IsReg v.1)
+    fits = record { ok = λ v p f. (refl, (refl, refl, p), (f.0.0, f.0.1, f.1)); back = back; out = λ w p bad. (statement (line.Store z w.0.0 w.0.1 w.1) None None, refl, (refl, refl, p), λ m. bad ((m.0.0, m.0.1), m.0.2)) }
 
 pub store_immediate : (z : Size) (s : State) (r : Option ((ℕ × ℤ) × ℤ)) (u : State) → Reads (λ (v : (ℕ × ℤ) × ℤ). (v.0, v.1)) (Then (Memory) (Behind (44 ∷ []) (Token IsImmediate))) (λ (v : (ℕ × ℤ) × ℤ). (IsReg v.0.0 × FitsSigned w16 v.0.1) × FitsSigned w32 v.1) s r u → Answers (word.Access (access.StoreImmediate z)) s (option_map (λ (v : (ℕ × ℤ) × ℤ). plain (line.StoreImmediate z v.0.0 v.0.1 v.1)) r) u
-store_immediate z s r u h start = judged fits r u (gives_of (λ (v : (ℕ × ℤ) × ℤ). (v.0, v.1)) (Then (Memory) (Behind (44 ∷ []) (Token IsImmediate))) (AreStore IsImmediate s.0) (λ (v : (ℕ × ℤ) × ℤ). (IsReg v.0.0 × FitsSigned w16 v.0.1) × FitsSigned w32 v.1) s r u (store_to IsImmediate s.0) (store_from IsImmediate s.0) start h)
+store_immediate z s r u h start = judged fits r u (gives_of (λ (v : (ℕ × ℤ) × ℤ). (v.0, v.1)) (Then (Memory) (Behind (44 ∷ []) (Token IsImmediate))) (λ (v : (ℕ × ℤ) × ℤ). (IsReg v.0.0 × FitsSigned w16 v.0.1) × FitsSigned w32 v.1) s r u start h)
   where
-    back : (l : Line) → (name : Option (List ℕ)) → (odd : Option ℕ) → mnemonic_of l ≡ word.Access (access.StoreImmediate z) → IsOperands l name odd s.0 → (w : (ℕ × ℤ) × ℤ) × (AreStore IsImmediate s.0) w
+    back : (l : Line) → (name : Option (List ℕ)) → (odd : Option ℕ) → mnemonic_of l ≡ word.Access (access.StoreImmediate z) → IsOperands (statement l name odd) s.0 → (w : (ℕ × ℤ) × ℤ) × (Then (Memory) (Behind (44 ∷ []) (Token IsImmediate))) s.0 w []
     back (line.StoreImmediate z' base y value) name odd m k = (((base, y), value), k.2)
     back _ name odd m k = absurd cc
 
-    fits : Fitting (word.Access (access.StoreImmediate z)) s.0 (λ (v : (ℕ × ℤ) × ℤ). plain (line.StoreImmediate z v.0.0 v.0.1 v.1)) (λ (v : (ℕ × ℤ) × ℤ). (v.0, v.1)) (AreStore IsImmediate s.0) (λ (v : (ℕ × ℤ) × ℤ). (IsReg v.0.0 × FitsSigned w16 v.0.1) × FitsSigned w32 v.1)
-    fits = record { ok = λ v p f. (refl, (refl, refl, p), (f.0.0, f.0.1, f.1)); back = back; out = λ w p bad. (line.StoreImmediate z w.0.0 w.0.1 w.1, None, None, refl, (refl, refl, p), λ m. bad ((m.0.0, m.0.1), m.0.2)) }
+    fits : Fitting (word.Access (access.StoreImmediate z)) s.0 (λ (v : (ℕ × ℤ) × ℤ). plain (line.StoreImmediate z v.0.0 v.0.1 v.1)) (λ (v : (ℕ × ℤ) × ℤ). (v.0, v.1)) (Then (Memory) (Behind (44 ∷ []) (Token IsImmediate))) (λ (v : (ℕ × ℤ) × ℤ). (IsReg v.0.0 × FitsSigned w16 v.0.1) × FitsSigned w32 v.1)
+    fits = record { ok = λ v p f. (refl, (refl, refl, p), (f.0.0, f.0.1, f.1)); back = back; out = λ w p bad. (statement (line.StoreImmediate z w.0.0 w.0.1 w.1) None None, refl, (refl, refl, p), λ m. bad ((m.0.0, m.0.1), m.0.2)) }
+
+-- two registers and a number
+abbrev Extended : Form (ℕ × (ℕ × ℕ))
+Extended = Then (Token IsRegister) (Behind (44 ∷ []) (Then (Token IsRegister) (Behind (44 ∷ []) (Token IsNumeral))))
 
 -- an extension and a byte order instruction have one of the widths that there are, or another one
-odd_extended : (w : Width) (tokens : List (List ℕ)) (dst src n : ℕ) → AreThree IsRegister IsRegister IsNumeral tokens ((dst, src), n) → ¬ HasExtension w n → (l : Line) × (name : Option (List ℕ)) × (odd : Option ℕ) × (mnemonic_of l ≡ word.MoveExtended w) × IsOperands l name odd tokens × ¬ (IsLine l × (odd ≡ None))
-odd_extended W32 tokens dst src n h none = (line.MoveExtended extension.From8To32 dst src, None, Some n, refl, (refl, n, (refl, λ e is same. none (e, is, same)), h), λ m. let e = m.1 in absurd cc)
-odd_extended W64 tokens dst src n h none = (line.MoveExtended extension.From8To64 dst src, None, Some n, refl, (refl, n, (refl, λ e is same. none (e, is, same)), h), λ m. let e = m.1 in absurd cc)
+odd_extended : (w : Width) (tokens : List (List ℕ)) (v : ℕ × (ℕ × ℕ)) → Extended tokens v [] → ¬ HasExtension w v.1.1 → (s : Statement) × (mnemonic_of s.line ≡ word.MoveExtended w) × IsOperands s tokens × ¬ Fits s
+odd_extended W32 tokens v h none = (statement (line.MoveExtended extension.From8To32 v.0 v.1.0) None (Some v.1.1), refl, (refl, v.1.1, (refl, λ e is same. none (e, is, same)), h), λ m. let e = m.1 in absurd cc)
+odd_extended W64 tokens v h none = (statement (line.MoveExtended extension.From8To64 v.0 v.1.0) None (Some v.1.1), refl, (refl, v.1.1, (refl, λ e is same. none (e, is, same)), h), λ m. let e = m.1 in absurd cc)
 
-extended_ok : (w : Width) (tokens : List (List ℕ)) (e : Extension) (dst src : ℕ) → AreThree IsRegister IsRegister IsNumeral tokens ((dst, src), bits_in w e) → IsReg dst × (IsReg src × HasExtension w (bits_in w e))
-    → (mnemonic_of (line.MoveExtended e dst src) ≡ word.MoveExtended w) × IsOperands (line.MoveExtended e dst src) None None tokens × IsLine (line.MoveExtended e dst src)
+extended_ok : (w : Width) (tokens : List (List ℕ)) (e : Extension) (dst src : ℕ) → Extended tokens (dst, (src, bits_in w e)) [] → IsReg dst × (IsReg src × HasExtension w (bits_in w e))
+    → (mnemonic_of (line.MoveExtended e dst src) ≡ word.MoveExtended w) × IsOperands (statement (line.MoveExtended e dst src) None None) tokens × IsLine (line.MoveExtended e dst src)
 extended_ok w tokens e dst src p f = let k = extension_class w e f.1.1 in (ap word.MoveExtended k.0, (refl, bits_in w e, k.1, p), (f.0, f.1.0))
 
 pub move_extended : (w : Width) (s : State) (r : Option (ℕ × (ℕ × Extension))) (u : State) → Reads (λ (v : ℕ × (ℕ × Extension)). (v.0, (v.1.0, bits_in w v.1.1))) (Then (Token IsRegister) (Behind (44 ∷ []) (Then (Token IsRegister) (Behind (44 ∷ []) (Token IsNumeral))))) (λ (v : ℕ × (ℕ × ℕ)). IsReg v.0 × (IsReg v.1.0 × HasExtension w v.1.1)) s r u → Answers (word.MoveExtended w) s (option_map (λ (v : ℕ × (ℕ × Extension)). plain (line.MoveExtended v.1.1 v.0 v.1.0)) r) u
-move_extended w s r u h start = judged fits r u (gives_of (λ (v : ℕ × (ℕ × Extension)). (v.0, (v.1.0, bits_in w v.1.1))) (Then (Token IsRegister) (Behind (44 ∷ []) (Then (Token IsRegister) (Behind (44 ∷ []) (Token IsNumeral))))) (λ (v : ℕ × (ℕ × ℕ)). AreThree IsRegister IsRegister IsNumeral s.0 ((v.0, v.1.0), v.1.1)) (λ (v : ℕ × (ℕ × ℕ)). IsReg v.0 × (IsReg v.1.0 × HasExtension w v.1.1)) s r u (three_to IsRegister IsRegister IsNumeral s.0) (three_from IsRegister IsRegister IsNumeral s.0) start h)
+move_extended w s r u h start = judged fits r u (gives_of (λ (v : ℕ × (ℕ × Extension)). (v.0, (v.1.0, bits_in w v.1.1))) (Then (Token IsRegister) (Behind (44 ∷ []) (Then (Token IsRegister) (Behind (44 ∷ []) (Token IsNumeral))))) (λ (v : ℕ × (ℕ × ℕ)). IsReg v.0 × (IsReg v.1.0 × HasExtension w v.1.1)) s r u start h)
   where
-    back : (l : Line) → (name : Option (List ℕ)) → (odd : Option ℕ) → mnemonic_of l ≡ word.MoveExtended w → IsOperands l name odd s.0 → (w : ℕ × (ℕ × ℕ)) × (λ (v : ℕ × (ℕ × ℕ)). AreThree IsRegister IsRegister IsNumeral s.0 ((v.0, v.1.0), v.1.1)) w
+    back : (l : Line) → (name : Option (List ℕ)) → (odd : Option ℕ) → mnemonic_of l ≡ word.MoveExtended w → IsOperands (statement l name odd) s.0 → (w : ℕ × (ℕ × ℕ)) × (Then (Token IsRegister) (Behind (44 ∷ []) (Then (Token IsRegister) (Behind (44 ∷ []) (Token IsNumeral))))) s.0 w []
     back (line.MoveExtended e dst src) name odd m k = ((dst, (src, k.1)), k.3)
     back _ name odd m k = absurd cc
 
-    fits : Fitting (word.MoveExtended w) s.0 (λ (v : ℕ × (ℕ × Extension)). plain (line.MoveExtended v.1.1 v.0 v.1.0)) (λ (v : ℕ × (ℕ × Extension)). (v.0, (v.1.0, bits_in w v.1.1))) (λ (v : ℕ × (ℕ × ℕ)). AreThree IsRegister IsRegister IsNumeral s.0 ((v.0, v.1.0), v.1.1)) (λ (v : ℕ × (ℕ × ℕ)). IsReg v.0 × (IsReg v.1.0 × HasExtension w v.1.1))
-    fits = record { ok = λ v p f. extended_ok w s.0 v.1.1 v.0 v.1.0 p f; back = back; out = λ v p bad. odd_extended w s.0 v.0 v.1.0 v.1.1 p (λ m. bad (register_in_range p.0 v.0 p.4, (register_in_range p.1 v.1.0 p.5, m))) }
+    fits : Fitting (word.MoveExtended w) s.0 (λ (v : ℕ × (ℕ × Extension)). plain (line.MoveExtended v.1.1 v.0 v.1.0)) (λ (v : ℕ × (ℕ × Extension)). (v.0, (v.1.0, bits_in w v.1.1))) (Then (Token IsRegister) (Behind (44 ∷ []) (Then (Token IsRegister) (Behind (44 ∷ []) (Token IsNumeral))))) (λ (v : ℕ × (ℕ × ℕ)). IsReg v.0 × (IsReg v.1.0 × HasExtension w v.1.1))
+    fits = record { ok = λ v p f. extended_ok w s.0 v.1.1 v.0 v.1.0 p f; back = back; out = λ v p bad. odd_extended w s.0 v p (λ m. bad (register_in_range p.1.0 v.0 p.1.2, (register_in_range p.2.2.1.0 v.1.0 p.2.2.1.2, m))) }
 
 pub byte_order : (o : Order) (s : State) (r : Option (ℕ × SwapWidth)) (u : State) → Reads (λ (v : ℕ × SwapWidth). (v.0, swap_width_bits v.1)) (Then (Token IsRegister) (Behind (44 ∷ []) (Token IsNumeral))) (λ (v : ℕ × ℕ). IsReg v.0 × HasSwapWidth v.1) s r u → Answers (word.ByteOrder o) s (option_map (λ (v : ℕ × SwapWidth). plain (line.ByteOrder o v.1 v.0)) r) u
-byte_order o s r u h start = judged fits r u (gives_of (λ (v : ℕ × SwapWidth). (v.0, swap_width_bits v.1)) (Then (Token IsRegister) (Behind (44 ∷ []) (Token IsNumeral))) (AreTwo IsRegister IsNumeral s.0) (λ (v : ℕ × ℕ). IsReg v.0 × HasSwapWidth v.1) s r u (two_to IsRegister IsNumeral s.0) (two_from IsRegister IsNumeral s.0) start h)
+byte_order o s r u h start = judged fits r u (gives_of (λ (v : ℕ × SwapWidth). (v.0, swap_width_bits v.1)) (Then (Token IsRegister) (Behind (44 ∷ []) (Token IsNumeral))) (λ (v : ℕ × ℕ). IsReg v.0 × HasSwapWidth v.1) s r u start h)
   where
-    back : (l : Line) → (name : Option (List ℕ)) → (odd : Option ℕ) → mnemonic_of l ≡ word.ByteOrder o → IsOperands l name odd s.0 → (w : ℕ × ℕ) × (AreTwo IsRegister IsNumeral s.0) w
+    back : (l : Line) → (name : Option (List ℕ)) → (odd : Option ℕ) → mnemonic_of l ≡ word.ByteOrder o → IsOperands (statement l name odd) s.0 → (w : ℕ × ℕ) × (Then (Token IsRegister) (Behind (44 ∷ []) (Token IsNumeral))) s.0 w []
     back (line.ByteOrder o' y dst) name odd m k = ((dst, k.1), k.3)
     back _ name odd m k = absurd cc
 
-    fits : Fitting (word.ByteOrder o) s.0 (λ (v : ℕ × SwapWidth). plain (line.ByteOrder o v.1 v.0)) (λ (v : ℕ × SwapWidth). (v.0, swap_width_bits v.1)) (AreTwo IsRegister IsNumeral s.0) (λ (v : ℕ × ℕ). IsReg v.0 × HasSwapWidth v.1)
-    fits = record { ok = λ v p f. (refl, (refl, swap_width_bits v.1, refl, p), f.0); back = back; out = λ w p bad. (line.ByteOrder o swap.Bits16 w.0, None, Some w.1, refl, (refl, w.1, (refl, λ y same. bad (register_in_range p.0 w.0 p.3, (y, same))), p), λ m. let e = m.1 in absurd cc) }
+    fits : Fitting (word.ByteOrder o) s.0 (λ (v : ℕ × SwapWidth). plain (line.ByteOrder o v.1 v.0)) (λ (v : ℕ × SwapWidth). (v.0, swap_width_bits v.1)) (Then (Token IsRegister) (Behind (44 ∷ []) (Token IsNumeral))) (λ (v : ℕ × ℕ). IsReg v.0 × HasSwapWidth v.1)
+    fits = record { ok = λ v p f. (refl, (refl, swap_width_bits v.1, refl, p), f.0); back = back; out = λ w p bad. (statement (line.ByteOrder o swap.Bits16 w.0) None (Some w.1), refl, (refl, w.1, (refl, λ y same. bad (register_in_range p.1.0 w.0 p.1.2, (y, same))), p), λ m. let e = m.1 in absurd cc) }
 
 -- the word local is no number
 pub no_local : (t : List ℕ) (z : ℤ) → t ≡ 108 ∷ 111 ∷ 99 ∷ 97 ∷ 108 ∷ [] → IsImmediate t z → ⊥
 no_local t z e (y, inl h, is) = letter_no_numeral 108 (111 ∷ 99 ∷ 97 ∷ 108 ∷ []) h.0 (omega arith) (subst (λ (u : List ℕ). IsNumeral u h.0) e h.1)
 no_local t z e (y, inr h, is) = let q = h.2 in absurd (omega (arith, ap (λ (u : List ℕ). get_or u 0 0) (sym e ∙ q)))
 
+-- a target behind the word local
+abbrev Local : Form (ℤ × Option (List ℕ))
+Local = Behind (108 ∷ 111 ∷ 99 ∷ 97 ∷ 108 ∷ []) (Token IsTarget)
+
 pub call_local : (s t : State) (r : Option (ℤ × Option (Bor (List ℕ)))) (u : State) → (s.0 ≡ (108 ∷ 111 ∷ 99 ∷ 97 ∷ 108 ∷ []) ∷ t.0) × (t.1 ≡ s.1) → Reads target_of (Token IsTarget) (λ (v : ℤ × Option (List ℕ)). FitsSigned w32 v.0) t r u
     → Answers (word.Jump leap.Call) s (option_map (λ (v : ℤ × Option (Bor (List ℕ))). record { line = line.CallLocal v.0; name = v.1 }) r) u
-call_local s t r u e h start = judged fits r u (gives_of target_of (Token IsTarget) (AreOne IsTarget t.0) (λ (v : ℤ × Option (List ℕ)). FitsSigned w32 v.0) t r u (one_to IsTarget t.0) (one_from IsTarget t.0) (e.1 ∙ start) h)
+call_local s t r u e h start = judged fits r u (gives_of target_of Local (λ (v : ℤ × Option (List ℕ)). FitsSigned w32 v.0) s r u start (behind_next (108 ∷ 111 ∷ 99 ∷ 97 ∷ 108 ∷ []) s t e target_of (Token IsTarget) (λ (v : ℤ × Option (List ℕ)). FitsSigned w32 v.0) r u h))
   where
-    back : (l : Line) → (name : Option (List ℕ)) → (odd : Option ℕ) → mnemonic_of l ≡ word.Jump leap.Call → IsOperands l name odd s.0 → (w : ℤ × Option (List ℕ)) × AreOne IsTarget t.0 w
-    back (line.CallLocal z) name odd m k = let p = k.2 in let q = e.0 in let same : k.1 ≡ t.0 = cc in ((z, name), subst (λ (x : List (List ℕ)). AreOne IsTarget x (z, name)) same k.3)
+    back : (l : Line) → (name : Option (List ℕ)) → (odd : Option ℕ) → mnemonic_of l ≡ word.Jump leap.Call → IsOperands (statement l name odd) s.0 → (w : ℤ × Option (List ℕ)) × Local s.0 w []
+    back (line.CallLocal z) name odd m k = ((z, name), k.1)
     back (line.Call z) name odd m k = let p = k.2.1 in let q = e.0 in let same : k.2.0 ≡ 108 ∷ 111 ∷ 99 ∷ 97 ∷ 108 ∷ [] = cc in absurd (no_local k.2.0 z same k.2.2)
     back _ name odd m k = absurd cc
 
-    fits : Fitting (word.Jump leap.Call) s.0 (λ (v : ℤ × Option (Bor (List ℕ))). record { line = line.CallLocal v.0; name = v.1 }) target_of (AreOne IsTarget t.0) (λ (v : ℤ × Option (List ℕ)). FitsSigned w32 v.0)
-    fits = record { ok = λ v p f. (refl, (refl, t.0, e.0, p), f); back = back; out = λ w p bad. (line.CallLocal w.0, w.1, None, refl, (refl, t.0, e.0, p), λ m. bad m.0) }
+    fits : Fitting (word.Jump leap.Call) s.0 (λ (v : ℤ × Option (Bor (List ℕ))). record { line = line.CallLocal v.0; name = v.1 }) target_of Local (λ (v : ℤ × Option (List ℕ)). FitsSigned w32 v.0)
+    fits = record { ok = λ v p f. (refl, (refl, p), f); back = back; out = λ w p bad. (statement (line.CallLocal w.0) w.1 None, refl, (refl, p), λ m. bad m.0) }
 
 pub call : (s : State) (r : Option ℤ) (u : State) → ((others : List (List ℕ)) → s.0 ≢ (108 ∷ 111 ∷ 99 ∷ 97 ∷ 108 ∷ []) ∷ others) → Reads (λ (z : ℤ). z) (Token IsImmediate) (FitsSigned w32) s r u
     → Answers (word.Jump leap.Call) s (option_map (λ (v : ℤ). plain (line.Call v)) r) u
-call s r u none h start = judged fits r u (gives_of (λ (z : ℤ). z) (Token IsImmediate) (AreOne IsImmediate s.0) (FitsSigned w32) s r u (one_to IsImmediate s.0) (one_from IsImmediate s.0) start h)
+call s r u none h start = judged fits r u (gives_of (λ (z : ℤ). z) (Token IsImmediate) (FitsSigned w32) s r u start h)
   where
-    back : (l : Line) → (name : Option (List ℕ)) → (odd : Option ℕ) → mnemonic_of l ≡ word.Jump leap.Call → IsOperands l name odd s.0 → (w : ℤ) × AreOne IsImmediate s.0 w
-    back (line.CallLocal z) name odd m k = absurd (none k.1 k.2)
+    back : (l : Line) → (name : Option (List ℕ)) → (odd : Option ℕ) → mnemonic_of l ≡ word.Jump leap.Call → IsOperands (statement l name odd) s.0 → (w : ℤ) × (Token IsImmediate) s.0 w []
+    back (line.CallLocal z) name odd m k = absurd (none k.1.0 k.1.1)
     back (line.Call z) name odd m k = (z, k.2)
     back _ name odd m k = absurd cc
 
-    fits : Fitting (word.Jump leap.Call) s.0 (λ (v : ℤ). plain (line.Call v)) (λ (z : ℤ). z) (AreOne IsImmediate s.0) (FitsSigned w32)
-    fits = record { ok = λ v p f. (refl, (refl, refl, p), f); back = back; out = λ w p bad. (line.Call w, None, None, refl, (refl, refl, p), λ m. bad m.0) }
+    fits : Fitting (word.Jump leap.Call) s.0 (λ (v : ℤ). plain (line.Call v)) (λ (z : ℤ). z) (Token IsImmediate) (FitsSigned w32)
+    fits = record { ok = λ v p f. (refl, (refl, refl, p), f); back = back; out = λ w p bad. (statement (line.Call w) None None, refl, (refl, refl, p), λ m. bad m.0) }
 
 pub exit : (s : State) → Answers (word.Jump leap.Exit) s (Some (plain line.Exit)) s
 exit ([], false) start = ((refl, (refl, refl, refl)), (tt, refl))
 exit ([], true) start = absurd cc
-exit (x ∷ xs, out) start = λ s k. by s.line s.name s.odd k.0 k.1
+exit (x ∷ xs, out) start = λ s k. by s.line s.name s.unknown_width k.0 k.1
   where
-    by : (l : Line) → (name : Option (List ℕ)) → (odd : Option ℕ) → mnemonic_of l ≡ word.Jump leap.Exit → ¬ IsOperands l name odd (x ∷ xs)
+    by : (l : Line) → (name : Option (List ℕ)) → (odd : Option ℕ) → mnemonic_of l ≡ word.Jump leap.Exit → ¬ IsOperands (statement l name odd) (x ∷ xs)
     by line.Exit name odd m k = let e = k.2 in absurd cc
     by _ name odd m k = absurd cc
 
@@ -228,7 +236,7 @@ form_judged tokens w operands found (Err Syntax) e is only h = λ s k.
     let rest : k.0 ≡ operands = cc in
     let one = only (mnemonic_of s.line) same in
     let m : mnemonic_of s.line ≡ found = cc in
-    h s (m, subst (IsOperands s.line s.name s.odd) rest k.2)
+    h s (m, subst (IsOperands s) rest k.2)
 form_judged tokens w operands found (Err Range) e is only h = (h.0, (operands, e ∙ ap (λ (t : List ℕ). t ∷ operands) (is ∙ ap mnemonic_name (sym h.1.0)), h.1.1), h.2)
 
 pub no_form : (tokens : List (List ℕ)) (w : List ℕ) (operands : List (List ℕ)) → tokens ≡ w ∷ operands → ((m : Mnemonic) → w ≡ mnemonic_name m → ⊥) → JudgesForm tokens (Err Syntax)

@@ -4,7 +4,6 @@ pub mod FieldLemmas
 pub mod TokenLists
 pub mod Runs
 pub mod ReadLemmas
-pub mod FormLemmas
 pub mod JudgeLemmas
 pub mod ReadingLemmas
 pub mod UniqueFields

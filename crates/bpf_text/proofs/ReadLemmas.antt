@@ -2,13 +2,20 @@
 use Rattle.std.proofs.Common.{◌≡◌, ◌≢◌, ℕ, ℤ, pos, List, [], ◌∷◌, Option, Some, None, Result, Ok, Err, IfSome, IfNone, Bor, length, ◌≤◌, ◌-◌, take, drop, arith, is_some, Bool, true, false, refl, sym, ap, ◌∙◌, subst, inl, inr, ◌⊎◌, FitsSigned}
 use Rattle.std.specs.Int.{w16}
 use Rattle.bpf_types.specs.Line.{IsReg}
+use Rattle.bpf_types.specs.declared.line.Line.{Line}
 use Rattle.bpf_text.specs.Fields.{IsRegister, IsDistance}
-use Rattle.bpf_text.specs.Mirror.Reads.{State, Token, Behind, Then, Bracket, Success, Reads, Notes, verdict}
+use Rattle.bpf_text.specs.Grammar.{Form, Token, Behind, Then, Bracket}
+use Rattle.bpf_text.specs.Mirror.Reads.{State, Success, Reads, Notes, verdict}
 use Rattle.bpf_text.specs.declared.line.LineFault.{LineFault}
 use Rattle.bpf_text.specs.declared.line.LineFault.TheVariants.{Syntax, Range}
 use Rattle.bpf_text.proofs.FieldLemmas.{no_closing, register_in_range}
+use Rattle.bpf_text.specs.Lines.{Statement}
 use Rattle.bpf_text.specs.Judged.{Gives, texts}
 use Rattle.std.proofs.lemmas.Grind.{common_steps}
+
+-- a statement of an instruction
+abbrev pub statement : Line → Option (List ℕ) → Option ℕ → Statement
+statement l name unknown = record { line = l; name = name; unknown_width = unknown }
 
 -- a value with what is read after it
 abbrev pub paired : {V W : Type 0} → V → Option W → Option (V × W)
@@ -99,18 +106,17 @@ no_closed s t token none h more w rest (inl m) = none rest m.0
 no_closed s t token none h more w rest (inr m) = let p = m.1 in let same : t.0 ≡ (93 ∷ []) ∷ rest = cc in more rest same
 
 -- what is read of all tokens
-pub gives_of : {V W : Type 0} (view : V → W) (L : List (List ℕ) → W → List (List ℕ) → Type 0) (P F : W → Type 0) (s : State) (r : Option V) (u : State) → ((w : W) → L s.0 w [] → P w) → ((w : W) → P w → L s.0 w []) → s.1 ≡ false
-    → Reads view L F s r u → Gives view P F (verdict r u)
-gives_of view L P F s None u to from start h = λ w p. h w [] (from w p)
-gives_of view L P F s (Some v) ([], false) to from start h = elim h.kept [
-  | inl k ↦ (subst P (sym k.1) (to h.written h.is), subst F (sym k.1) k.0)
+pub gives_of : {V W : Type 0} (view : V → W) (L : Form W) (F : W → Type 0) (s : State) (r : Option V) (u : State) → s.1 ≡ false → Reads view L F s r u → Gives view (λ (w : W). L s.0 w []) F (verdict r u)
+gives_of view L F s None u start h = λ w p. h w [] p
+gives_of view L F s (Some v) ([], false) start h = elim h.kept [
+  | inl k ↦ (subst (λ w. L s.0 w []) (sym k.1) h.is, subst F (sym k.1) k.0)
   | inr k ↦ let bad = k.1 in absurd cc
 ]
-gives_of view L P F s (Some v) ([], true) to from start h = elim h.kept [
+gives_of view L F s (Some v) ([], true) start h = elim h.kept [
   | inl k ↦ let bad = k.2 in absurd cc
-  | inr k ↦ (h.written, to h.written h.is, k.0)
+  | inr k ↦ (h.written, h.is, k.0)
 ]
-gives_of view L P F s (Some v) (x ∷ xs, out) to from start h = λ w p. let bad = h.only w [] (from w p) in absurd cc
+gives_of view L F s (Some v) (x ∷ xs, out) start h = λ w p. let bad = h.only w [] p in absurd cc
 
 -- the tokens behind the first one
 pub mark_front : (ts : List (Bor (List ℕ))) (mark : List ℕ) → 1 ≤ length ts → ((token : Bor (List ℕ)) (rest : List (Bor (List ℕ))) → ts ≡ token ∷ rest → token.now ≡ mark) → texts ts ≡ mark ∷ texts (take (length ts - 1) (drop 1 ts))

@@ -1,10 +1,11 @@
 -- A line from its tokens.
-use Rattle.std.proofs.Common.{◌≡◌, ◌≢◌, ℕ, ℤ, List, [], ◌∷◌, length, get_or, Option, Some, None, Result, Ok, Err, true, false, refl, sym, ap, ◌∙◌, subst, arith, inl, inr, Bor, Bool, eqb, pos, ◌-ℤ◌, ◌⊎◌}
+use Rattle.std.proofs.Common.{◌≡◌, ◌≢◌, ◌<◌, ℕ, ℤ, List, [], ◌∷◌, length, get_or, Option, Some, None, Result, Ok, Err, true, false, refl, sym, ap, ◌∙◌, subst, arith, inl, inr, Bor, Bool, eqb, pos, ◌-ℤ◌, ◌⊎◌}
 use Rattle.bpf_text.specs.Tokens.{HasTokens, is_word, is_sign}
 use Rattle.bpf_text.specs.Number.{IsNumeral}
 use Rattle.bpf_text.specs.Fields.{IsName, IsDistance, IsRegister, IsImmediate, IsSecond, IsTarget}
 use Rattle.bpf_text.proofs.FieldLemmas.{letter_no_numeral}
-use Rattle.bpf_text.specs.Lines.{IsOperands, AreOne, AreTwo, AreThree, AreLoad, AreStore, in_brackets, IsForm, IsBody, HasLabel, Statement}
+use Rattle.bpf_text.specs.Grammar.{Form, Token, Behind, Then, ◌⸴◌, Bracket, Memory}
+use Rattle.bpf_text.specs.Lines.{IsOperands, IsForm, IsBody, HasLabel, Statement}
 use Rattle.bpf_text.specs.Judged.{texts, JudgesForm, JudgesBody, JudgesTokens, JudgesLine}
 use Rattle.bpf_types.specs.declared.line.Line.{Line}
 use Rattle.bpf_types.specs.declared.line.Line.TheVariants as line
@@ -12,6 +13,7 @@ use Rattle.bpf_text.specs.declared.line.Parsed.{Parsed}
 use Rattle.bpf_text.specs.declared.line.LineFault.{LineFault}
 use Rattle.bpf_text.specs.declared.line.LineFault.TheVariants.{Syntax, Range}
 use Rattle.bpf_text.proofs.Scanning.{one_tokens}
+use Rattle.bpf_text.proofs.ReadLemmas.{statement}
 
 pub body_err : (tokens : List (List ℕ)) (fault : LineFault) → (tokens ≡ [] → ⊥) → JudgesForm tokens (Err fault) → JudgesBody tokens (Err fault)
 body_err tokens Syntax some judge = λ s h. by s h
@@ -41,57 +43,51 @@ no_number : (t : List ℕ) (z : ℤ) → t ≡ 58 ∷ [] → IsImmediate t z →
 no_number t z e (y, inl h, is) = letter_no_numeral 58 [] h.0 (omega arith) (subst (λ (u : List ℕ). IsNumeral u h.0) e h.1)
 no_number t z e (y, inr h, is) = let q = h.2 in absurd (omega (arith, ap (λ (u : List ℕ). get_or u 0 0) (sym e ∙ q)))
 
-no_one_register : (tokens rest : List (List ℕ)) (n : ℕ) → tokens ≡ (58 ∷ []) ∷ rest → AreOne IsRegister tokens n → ⊥
-no_one_register tokens rest n e m = let f = m.1 in let same : m.0 ≡ 58 ∷ [] = cc in no_register n (subst (λ (t : List ℕ). IsRegister t n) same m.2)
+-- no colon is in front of a form
+abbrev NoColon : {V : Type 0} → Form V → Type 0
+NoColon {V} F = (tokens rest : List (List ℕ)) (v : V) (after : List (List ℕ)) → tokens ≡ (58 ∷ []) ∷ rest → F tokens v after → ⊥
 
-no_one_number : (tokens rest : List (List ℕ)) (z : ℤ) → tokens ≡ (58 ∷ []) ∷ rest → AreOne IsImmediate tokens z → ⊥
-no_one_number tokens rest z e m = let f = m.1 in let same : m.0 ≡ 58 ∷ [] = cc in no_number m.0 z same m.2
+no_token : {V : Type 0} (P : List ℕ → V → Type 0) → ((v : V) → P (58 ∷ []) v → ⊥) → NoColon (Token P)
+no_token P never tokens rest v after e m = let f = m.1 in let same : m.0 ≡ 58 ∷ [] = cc in never v (subst (λ (t : List ℕ). P t v) same m.2)
 
-no_one_target : (tokens rest : List (List ℕ)) (w : ℤ × Option (List ℕ)) → tokens ≡ (58 ∷ []) ∷ rest → AreOne IsTarget tokens w → ⊥
-no_one_target tokens rest w e m = let f = m.1 in let same : m.0 ≡ 58 ∷ [] = cc in no_target 58 w refl refl (subst (λ (t : List ℕ). IsTarget t w) same m.2)
+no_behind : {V : Type 0} (octet : ℕ) (octets : List ℕ) (F : Form V) → 58 < octet → NoColon (Behind (octet ∷ octets) F)
+no_behind octet octets F lt tokens rest v after e m = absurd (omega (arith, ap (λ (u : List (List ℕ)). get_or (get_or u 0 []) 0 0) (sym e ∙ m.1)))
 
-no_two : {W : Type 0} (Q : List ℕ → W → Type 0) (tokens rest : List (List ℕ)) (v : ℕ × W) → tokens ≡ (58 ∷ []) ∷ rest → AreTwo IsRegister Q tokens v → ⊥
-no_two Q tokens rest v e m = let f = m.2 in let same : m.0 ≡ 58 ∷ [] = cc in no_register v.0 (subst (λ (t : List ℕ). IsRegister t v.0) same m.3)
+no_then : {V W : Type 0} (F : Form V) (G : Form W) → NoColon F → NoColon (Then F G)
+no_then F G never tokens rest v after e m = never tokens rest v.0 m.0 e m.1
 
-no_three : {W X : Type 0} (Q : List ℕ → W → Type 0) (R : List ℕ → X → Type 0) (tokens rest : List (List ℕ)) (v : (ℕ × W) × X) → tokens ≡ (58 ∷ []) ∷ rest → AreThree IsRegister Q R tokens v → ⊥
-no_three Q R tokens rest v e m = let f = m.3 in let same : m.0 ≡ 58 ∷ [] = cc in no_register v.0.0 (subst (λ (t : List ℕ). IsRegister t v.0.0) same m.4)
+no_register_then : {W : Type 0} (G : Form W) → NoColon (Then (Token IsRegister) G)
+no_register_then G = no_then (Token IsRegister) G (no_token IsRegister no_register)
 
-no_load : (tokens rest : List (List ℕ)) (v : ℕ × (ℕ × ℤ)) → tokens ≡ (58 ∷ []) ∷ rest → AreLoad tokens v → ⊥
-no_load tokens rest v e m = let f = m.3 in let same : m.0 ≡ 58 ∷ [] = cc in no_register v.0 (subst (λ (t : List ℕ). IsRegister t v.0) same m.4)
+no_memory_then : {W : Type 0} (G : Form W) → NoColon (Then Memory G)
+no_memory_then G = no_then Memory G (no_behind 91 [] (Then (Token IsRegister) Bracket) (omega arith))
 
-no_bracket : (base : List ℕ) (offset : Option (List ℕ)) (after rest : List (List ℕ)) → in_brackets base offset after ≡ (58 ∷ []) ∷ rest → ⊥
-no_bracket base None after rest e = absurd (omega (arith, ap (λ (u : List (List ℕ)). get_or (get_or u 0 []) 0 0) e))
-no_bracket base (Some offset) after rest e = absurd (omega (arith, ap (λ (u : List (List ℕ)). get_or (get_or u 0 []) 0 0) e))
+no_target_token : NoColon (Token IsTarget)
+no_target_token = no_token IsTarget (λ w h. no_target 58 w refl refl h)
 
-no_store : {V : Type 0} (P : List ℕ → V → Type 0) (tokens rest : List (List ℕ)) (v : (ℕ × ℤ) × V) → tokens ≡ (58 ∷ []) ∷ rest → AreStore P tokens v → ⊥
-no_store P tokens rest v e m = no_bracket m.0 m.1 ((44 ∷ []) ∷ m.2 ∷ []) rest (sym m.3 ∙ e)
-
-no_local : (tokens others rest : List (List ℕ)) → tokens ≡ (58 ∷ []) ∷ rest → tokens ≡ (108 ∷ 111 ∷ 99 ∷ 97 ∷ 108 ∷ []) ∷ others → ⊥
-no_local tokens others rest e f = absurd (omega (arith, ap (λ (u : List (List ℕ)). get_or (get_or u 0 []) 0 0) (sym e ∙ f)))
-
-no_colon_operands : (l : Line) (n : Option (List ℕ)) (odd : Option ℕ) (operands rest : List (List ℕ)) → operands ≡ (58 ∷ []) ∷ rest → IsOperands l n odd operands → ⊥
-no_colon_operands (line.Arithmetic w o dst operand) n odd operands rest e k = no_two IsSecond operands rest (dst, operand) e k.2
-no_colon_operands (line.Negate w dst) n odd operands rest e k = no_one_register operands rest dst e k.2
-no_colon_operands (line.MoveExtended x dst src) n odd operands rest e k = no_three IsRegister IsNumeral operands rest ((dst, src), k.1) e k.3
-no_colon_operands (line.ByteOrder o s dst) n odd operands rest e k = no_two IsNumeral operands rest (dst, k.1) e k.3
-no_colon_operands (line.Jump z) n odd operands rest e k = no_one_target operands rest (z, n) e k.1
-no_colon_operands (line.LongJump z) n odd operands rest e k = no_one_target operands rest (z, n) e k.1
-no_colon_operands (line.JumpIf w t dst operand z) n odd operands rest e k = no_three IsSecond IsTarget operands rest ((dst, operand), (z, n)) e k.1
-no_colon_operands (line.Call z) n odd operands rest e k = no_one_number operands rest z e k.2
-no_colon_operands (line.CallLocal z) n odd operands rest e k = no_local operands k.1 rest e k.2
+no_colon_operands : (l : Line) (n : Option (List ℕ)) (odd : Option ℕ) (operands rest : List (List ℕ)) → operands ≡ (58 ∷ []) ∷ rest → IsOperands (statement l n odd) operands → ⊥
+no_colon_operands (line.Arithmetic w o dst operand) n odd operands rest e k = no_register_then (Behind (44 ∷ []) (Token IsSecond)) operands rest (dst, operand) [] e k.2
+no_colon_operands (line.Negate w dst) n odd operands rest e k = no_token IsRegister no_register operands rest dst [] e k.2
+no_colon_operands (line.MoveExtended x dst src) n odd operands rest e k = no_register_then (Behind (44 ∷ []) (Token IsRegister ⸴ Token IsNumeral)) operands rest (dst, (src, k.1)) [] e k.3
+no_colon_operands (line.ByteOrder o s dst) n odd operands rest e k = no_register_then (Behind (44 ∷ []) (Token IsNumeral)) operands rest (dst, k.1) [] e k.3
+no_colon_operands (line.Jump z) n odd operands rest e k = no_target_token operands rest (z, n) [] e k.1
+no_colon_operands (line.LongJump z) n odd operands rest e k = no_target_token operands rest (z, n) [] e k.1
+no_colon_operands (line.JumpIf w t dst operand z) n odd operands rest e k = no_register_then (Behind (44 ∷ []) (Token IsSecond ⸴ Token IsTarget)) operands rest (dst, (operand, (z, n))) [] e k.1
+no_colon_operands (line.Call z) n odd operands rest e k = no_token IsImmediate (λ w h. no_number (58 ∷ []) w refl h) operands rest z [] e k.2
+no_colon_operands (line.CallLocal z) n odd operands rest e k = no_behind 108 (111 ∷ 99 ∷ 97 ∷ 108 ∷ []) (Token IsTarget) (omega arith) operands rest (z, n) [] e k.1
 no_colon_operands line.Exit n odd operands rest e k = let f = k.2 in absurd cc
-no_colon_operands (line.LoadWide dst value) n odd operands rest e k = no_two IsNumeral operands rest (dst, value) e k.2
-no_colon_operands (line.Load s dst base z) n odd operands rest e k = no_load operands rest (dst, (base, z)) e k.2
-no_colon_operands (line.LoadExtended s dst base z) n odd operands rest e k = no_load operands rest (dst, (base, z)) e k.2
-no_colon_operands (line.StoreImmediate s base z value) n odd operands rest e k = no_store IsImmediate operands rest ((base, z), value) e k.2
-no_colon_operands (line.Store s base z src) n odd operands rest e k = no_store IsRegister operands rest ((base, z), src) e k.2
+no_colon_operands (line.LoadWide dst value) n odd operands rest e k = no_register_then (Behind (44 ∷ []) (Token IsNumeral)) operands rest (dst, value) [] e k.2
+no_colon_operands (line.Load s dst base z) n odd operands rest e k = no_register_then (Behind (44 ∷ []) Memory) operands rest (dst, (base, z)) [] e k.2
+no_colon_operands (line.LoadExtended s dst base z) n odd operands rest e k = no_register_then (Behind (44 ∷ []) Memory) operands rest (dst, (base, z)) [] e k.2
+no_colon_operands (line.StoreImmediate s base z value) n odd operands rest e k = no_memory_then (Behind (44 ∷ []) (Token IsImmediate)) operands rest ((base, z), value) [] e k.2
+no_colon_operands (line.Store s base z src) n odd operands rest e k = no_memory_then (Behind (44 ∷ []) (Token IsRegister)) operands rest ((base, z), src) [] e k.2
 
-no_colon_form : (l : Line) (n : Option (List ℕ)) (odd : Option ℕ) (name : List ℕ) (rest tokens : List (List ℕ)) → tokens ≡ name ∷ (58 ∷ []) ∷ rest → IsForm l n odd tokens → ⊥
-no_colon_form l n odd name rest tokens e k = let f = k.1 in let same : k.0 ≡ (58 ∷ []) ∷ rest = cc in no_colon_operands l n odd k.0 rest same k.2
+no_colon_form : (s : Statement) (name : List ℕ) (rest tokens : List (List ℕ)) → tokens ≡ name ∷ (58 ∷ []) ∷ rest → IsForm s tokens → ⊥
+no_colon_form s name rest tokens e k = let f = k.1 in let same : k.0 ≡ (58 ∷ []) ∷ rest = cc in no_colon_operands s.line s.name s.unknown_width k.0 rest same k.2
 
 pub no_colon : (s : Option Statement) (name : List ℕ) (rest tokens : List (List ℕ)) → tokens ≡ name ∷ (58 ∷ []) ∷ rest → IsBody s tokens → ⊥
 no_colon None name rest tokens e h = absurd cc
-no_colon (Some s) name rest tokens e h = no_colon_form s.line s.name s.odd name rest tokens e h
+no_colon (Some s) name rest tokens e h = no_colon_form s name rest tokens e h
 
 pub no_name : (tokens rest : List (List ℕ)) (name : List ℕ) → tokens ≡ name ∷ (58 ∷ []) ∷ rest → ¬ IsName name → (label : Option (List ℕ)) → (body : Option Statement) → HasLabel label body tokens → ⊥
 no_name tokens rest name e bad None body h = no_colon body name rest tokens e h

@@ -5,7 +5,7 @@ use Rattle.bpf_types.specs.declared.line.Operand.TheVariants.{Immediate, Registe
 use Rattle.std.specs.Str.Parse.{AllDigits}
 use Rattle.bpf_text.specs.Number.{Spells, IsNumeral}
 use Rattle.bpf_text.specs.Tokens.{is_word}
-use Rattle.bpf_text.specs.Fields.{IsRegister, IsInteger, IsImmediate, IsSecond, IsDistance, IsOffset, IsTarget, IsName, as_signed}
+use Rattle.bpf_text.specs.Fields.{IsRegister, IsInteger, IsImmediate, IsSecond, IsDistance, IsTarget, IsName, as_signed}
 use Rattle.bpf_text.proofs.FieldLemmas.{register_text, letter_no_numeral, sign_no_numeral}
 
 -- no decimal numeral begins with 0x
@@ -62,10 +62,6 @@ one_distance t y z (ds, m, h, inl e) (es, n, k, inl f) = let a = e.0 in let b = 
 one_distance t y z (ds, m, h, inl e) (es, n, k, inr f) = absurd (omega (arith, ap (λ (u : List ℕ). get_or u 0 0) (sym e.0 ∙ f.0)))
 one_distance t y z (ds, m, h, inr e) (es, n, k, inl f) = absurd (omega (arith, ap (λ (u : List ℕ). get_or u 0 0) (sym e.0 ∙ f.0)))
 one_distance t y z (ds, m, h, inr e) (es, n, k, inr f) = let a = e.0 in let b = f.0 in let same : es ≡ ds = cc in e.1 ∙ ap (λ (x : ℕ). pos 0 -ℤ pos x) (one_numeral ds m n h (subst (λ (u : List ℕ). IsNumeral u n) same k)) ∙ sym f.1
-
-pub one_offset : (o : Option (List ℕ)) (y z : ℤ) → IsOffset o y → IsOffset o z → y ≡ z
-one_offset None y z h k = h ∙ sym k
-one_offset (Some t) y z h k = one_distance t y z h k
 
 -- a name has no sign in front
 pub name_or_distance : (t : List ℕ) (z : ℤ) → IsName t → IsDistance t z → ⊥

@@ -1,59 +1,74 @@
 -- The operands of an instruction are read in one way.
-use Rattle.std.proofs.Common.{◌≡◌, ◌≢◌, ℕ, ℤ, List, [], ◌∷◌, Option, Some, None, refl, subst}
-use Rattle.bpf_text.specs.Fields.{IsRegister, IsOffset}
-use Rattle.bpf_text.specs.Lines.{AreOne, AreTwo, AreThree, AreLoad, AreStore, in_brackets}
+use Rattle.std.proofs.Common.{◌≡◌, ℕ, List, [], ◌∷◌, sym, ◌∙◌, subst, inl, inr}
+use Rattle.bpf_text.specs.Number.{IsNumeral}
+use Rattle.bpf_text.specs.Fields.{IsRegister, IsImmediate, IsSecond, IsDistance, IsTarget}
+use Rattle.bpf_text.specs.Grammar.{Form, Token, Behind, Then, ◌⸴◌, Bracket, Memory}
 use Rattle.bpf_text.proofs.FieldLemmas.{no_closing}
-use Rattle.bpf_text.proofs.FormLemmas.{one_place}
-use Rattle.bpf_text.proofs.UniqueFields.{one_register, one_offset}
+use Rattle.bpf_text.proofs.UniqueFields.{one_numeral, one_register, one_immediate, one_second, one_distance, one_target}
 
 -- a token is read in one way
 abbrev pub One : {V : Type 0} → (List ℕ → V → Type 0) → Type 0
 One {V} P = (t : List ℕ) (v w : V) → P t v → P t w → v ≡ w
 
-pub one_alone : {V : Type 0} (P : List ℕ → V → Type 0) → One P → (tokens : List (List ℕ)) (v w : V) → AreOne P tokens v → AreOne P tokens w → v ≡ w
-one_alone P one tokens v w (a, e, p) (a', e', p') =
-    let same : a' ≡ a = cc in
-    one a v w p (subst (λ t. P t w) same p')
+-- a form is read in one way, and the same tokens are left
+abbrev pub OneForm : {V : Type 0} → Form V → Type 0
+OneForm {V} F = (tokens : List (List ℕ)) (v w : V) (rest others : List (List ℕ)) → F tokens v rest → F tokens w others → (v ≡ w) × (rest ≡ others)
 
-pub one_pair : {V W : Type 0} (P : List ℕ → V → Type 0) (Q : List ℕ → W → Type 0) → One P → One Q → (tokens : List (List ℕ)) (v w : V × W) → AreTwo P Q tokens v → AreTwo P Q tokens w → v ≡ w
-one_pair P Q one two tokens v w (a, b, e, p, q) (a', b', e', p', q') =
-    let same : a' ≡ a = cc in
-    let like : b' ≡ b = cc in
-    let x = one a v.0 w.0 p (subst (λ t. P t w.0) same p') in
-    let y = two b v.1 w.1 q (subst (λ t. Q t w.1) like q') in
-    λ i. (x i, y i)
+one_token : {V : Type 0} (P : List ℕ → V → Type 0) → One P → OneForm (Token P)
+one_token P one tokens v w rest others (a, e, p) (b, f, q) =
+    let same : b ≡ a = cc in
+    let left : rest ≡ others = cc in
+    (one a v w p (subst (λ t. P t w) same q), left)
 
-pub one_triple : {V W X : Type 0} (P : List ℕ → V → Type 0) (Q : List ℕ → W → Type 0) (R : List ℕ → X → Type 0) → One P → One Q → One R → (tokens : List (List ℕ)) (v w : (V × W) × X) → AreThree P Q R tokens v → AreThree P Q R tokens w → v ≡ w
-one_triple P Q R one two three tokens v w (a, b, c, e, p, q, r) (a', b', c', e', p', q', r') =
-    let same : a' ≡ a = cc in
-    let like : b' ≡ b = cc in
-    let equal : c' ≡ c = cc in
-    let x = one a v.0.0 w.0.0 p (subst (λ t. P t w.0.0) same p') in
-    let y = two b v.0.1 w.0.1 q (subst (λ t. Q t w.0.1) like q') in
-    let z = three c v.1 w.1 r (subst (λ t. R t w.1) equal r') in
-    λ i. ((x i, y i), z i)
+pub one_behind : {V : Type 0} (mark : List ℕ) (F : Form V) → OneForm F → OneForm (Behind mark F)
+one_behind mark F one tokens v w rest others (a, e, p) (b, f, q) =
+    let same : b ≡ a = cc in
+    one a v w rest others p (subst (λ t. F t w others) same q)
 
--- a bracket is no offset
-no_bracket : (offset : Option (List ℕ)) (z : ℤ) → IsOffset offset z → offset ≢ Some (93 ∷ [])
-no_bracket None z h e = absurd cc
-no_bracket (Some t) z h e = let same : t ≡ 93 ∷ [] = cc in no_closing t z same h
+one_then : {V W : Type 0} (F : Form V) (G : Form W) → OneForm F → OneForm G → OneForm (Then F G)
+one_then F G one two tokens v w rest others (a, p, q) (b, r, s) =
+    let x = one tokens v.0 w.0 a b p r in
+    let y = two a v.1 w.1 rest others q (subst (λ t. G t w.1 others) (sym x.1) s) in
+    (λ i. (x.0 i, y.0 i), y.1)
 
-pub one_load : (tokens : List (List ℕ)) (v w : ℕ × (ℕ × ℤ)) → AreLoad tokens v → AreLoad tokens w → v ≡ w
-one_load tokens v w (a, base, offset, e, p, q, r) (a', base', offset', e', p', q', r') =
-    let same : a' ≡ a = cc in
-    let like : in_brackets base' offset' [] ≡ in_brackets base offset [] = cc in
-    let o = one_place (in_brackets base' offset' []) base base' offset offset' [] [] w.1.1 like (no_bracket offset v.1.1 r) refl r' in
-    let x = one_register a v.0 w.0 p (subst (λ t. IsRegister t w.0) same p') in
-    let y = one_register base v.1.0 w.1.0 q (subst (λ t. IsRegister t w.1.0) o.0 q') in
-    let z = one_offset offset v.1.1 w.1.1 r (subst (λ t. IsOffset t w.1.1) o.1 r') in
-    λ i. (x i, (y i, z i))
+pub one_list : {V W : Type 0} (F : Form V) (G : Form W) → OneForm F → OneForm G → OneForm (F ⸴ G)
+one_list F G one two = one_then F (Behind (44 ∷ []) G) one (one_behind (44 ∷ []) G two)
 
-pub one_store : {V : Type 0} (P : List ℕ → V → Type 0) → One P → (tokens : List (List ℕ)) (v w : (ℕ × ℤ) × V) → AreStore P tokens v → AreStore P tokens w → v ≡ w
-one_store P one tokens v w (base, offset, c, e, p, q, r) (base', offset', c', e', p', q', r') =
-    let o = one_place tokens base base' offset offset' ((44 ∷ []) ∷ c ∷ []) ((44 ∷ []) ∷ c' ∷ []) w.0.1 e (no_bracket offset v.0.1 q) e' q' in
-    let rest = o.2 in
-    let same : c' ≡ c = cc in
-    let x = one_register base v.0.0 w.0.0 p (subst (λ t. IsRegister t w.0.0) o.0 p') in
-    let y = one_offset offset v.0.1 w.0.1 q (subst (λ t. IsOffset t w.0.1) o.1 q') in
-    let z = one c v.1 w.1 r (subst (λ t. P t w.1) same r') in
-    λ i. ((x i, y i), z i)
+one_bracket : OneForm Bracket
+one_bracket tokens v w rest others (inl h) (inl k) =
+    let e = h.0 in
+    let f = k.0 in
+    let left : rest ≡ others = cc in
+    (h.1 ∙ sym k.1, left)
+one_bracket tokens v w rest others (inl h) (inr k) =
+    let e = h.0 in
+    let f = k.1 in
+    let same : k.0 ≡ 93 ∷ [] = cc in
+    absurd (no_closing k.0 w same k.2)
+one_bracket tokens v w rest others (inr h) (inl k) =
+    let e = h.1 in
+    let f = k.0 in
+    let same : h.0 ≡ 93 ∷ [] = cc in
+    absurd (no_closing h.0 v same h.2)
+one_bracket tokens v w rest others (inr (a, e, p)) (inr (b, f, q)) =
+    let same : b ≡ a = cc in
+    let left : rest ≡ others = cc in
+    (one_distance a v w p (subst (λ t. IsDistance t w) same q), left)
+
+pub register_form : OneForm (Token IsRegister)
+register_form = one_token IsRegister one_register
+
+pub second_form : OneForm (Token IsSecond)
+second_form = one_token IsSecond one_second
+
+pub numeral_form : OneForm (Token IsNumeral)
+numeral_form = one_token IsNumeral one_numeral
+
+pub immediate_form : OneForm (Token IsImmediate)
+immediate_form = one_token IsImmediate one_immediate
+
+pub target_form : OneForm (Token IsTarget)
+target_form = one_token IsTarget one_target
+
+pub memory_form : OneForm Memory
+memory_form = one_behind (91 ∷ []) (Then (Token IsRegister) Bracket) (one_then (Token IsRegister) Bracket register_form one_bracket)

@@ -20,12 +20,13 @@ use Rattle.bpf_canonical.specs.Mnemonics.{mnemonic_name, mnemonic_of}
 use Rattle.bpf_canonical.specs.declared.mnemonic.Mnemonic.{Mnemonic}
 use Rattle.bpf_text.specs.Number.{IsNumeral}
 use Rattle.bpf_text.specs.Fields.{IsRegister, IsImmediate, IsSecond, IsTarget}
-use Rattle.bpf_text.specs.Lines.{IsOperands, IsForm, IsExtended, IsSwapWidth, IsBody, HasLabel, Statement, TextLine, Writes, InRange, AreOne}
+use Rattle.bpf_text.specs.Grammar.{Token, ◌⸴◌, Memory}
+use Rattle.bpf_text.specs.Lines.{IsOperands, IsForm, IsExtended, IsSwapWidth, IsBody, HasLabel, Statement, TextLine, Writes, InRange}
 use Rattle.bpf_text.proofs.Scanning.{one_tokens}
 use Rattle.bpf_text.proofs.JudgeLemmas.{no_local}
 use Rattle.bpf_text.proofs.ReadingLemmas.{no_colon}
-use Rattle.bpf_text.proofs.UniqueFields.{one_numeral, one_register, one_immediate, one_second, one_target}
-use Rattle.bpf_text.proofs.UniqueForms.{one_alone, one_pair, one_triple, one_load, one_store}
+use Rattle.bpf_text.proofs.ReadLemmas.{statement}
+use Rattle.bpf_text.proofs.UniqueForms.{one_list, one_behind, register_form, second_form, numeral_form, immediate_form, target_form, memory_form}
 
 -- what the law of bpf_canonical says of mnemonics
 abbrev pub AreNamed : Type 0
@@ -62,11 +63,11 @@ Same l a k b odd = (l ≡ k) × (a ≡ b) × (odd ≡ None)
 
 -- each other line that begins with the mnemonic of this one, and has its operands, is this one
 abbrev IsOne : Line → Type 0
-IsOne l = (k : Line) (a b : Option (List ℕ)) (odd : Option ℕ) (tokens : List (List ℕ)) → mnemonic_of l ≡ mnemonic_of k → IsOperands l a None tokens → IsOperands k b odd tokens → Same l a k b odd
+IsOne l = (k : Line) (a b : Option (List ℕ)) (odd : Option ℕ) (tokens : List (List ℕ)) → mnemonic_of l ≡ mnemonic_of k → IsOperands (statement l a None) tokens → IsOperands (statement k b odd) tokens → Same l a k b odd
 
 one_arithmetic : (w : Width) (o : Operation) (dst : ℕ) (x : Operand) → IsOne (line.Arithmetic w o dst x)
 one_arithmetic w o dst x (line.Arithmetic w' o' dst' x') a b odd tokens m h k =
-    let same = one_pair IsRegister IsSecond one_register one_second tokens (dst, x) (dst', x') h.2 k.2 in
+    let same = (one_list (Token IsRegister) (Token IsSecond) register_form second_form tokens (dst, x) (dst', x') [] [] h.2 k.2).0 in
     let p : dst ≡ dst' = λ i. (same i).0 in
     let q : x ≡ x' = λ i. (same i).1 in
     (cc, h.0 ∙ sym k.0, k.1)
@@ -74,13 +75,13 @@ one_arithmetic w o dst x _ a b odd tokens m h k = absurd cc
 
 one_negate : (w : Width) (dst : ℕ) → IsOne (line.Negate w dst)
 one_negate w dst (line.Negate w' dst') a b odd tokens m h k =
-    let p = one_alone IsRegister one_register tokens dst dst' h.2 k.2 in
+    let p = (register_form tokens dst dst' [] [] h.2 k.2).0 in
     (cc, h.0 ∙ sym k.0, k.1)
 one_negate w dst _ a b odd tokens m h k = absurd cc
 
 one_load_wide : (dst n : ℕ) → IsOne (line.LoadWide dst n)
 one_load_wide dst n (line.LoadWide dst' n') a b odd tokens m h k =
-    let same = one_pair IsRegister IsNumeral one_register one_numeral tokens (dst, n) (dst', n') h.2 k.2 in
+    let same = (one_list (Token IsRegister) (Token IsNumeral) register_form numeral_form tokens (dst, n) (dst', n') [] [] h.2 k.2).0 in
     let p : dst ≡ dst' = λ i. (same i).0 in
     let q : n ≡ n' = λ i. (same i).1 in
     (cc, h.0 ∙ sym k.0, k.1)
@@ -88,32 +89,32 @@ one_load_wide dst n _ a b odd tokens m h k = absurd cc
 
 one_jump : (z : ℤ) → IsOne (line.Jump z)
 one_jump z (line.Jump z') a b odd tokens m h k =
-    let same = one_alone IsTarget one_target tokens (z, a) (z', b) h.1 k.1 in
+    let same = (target_form tokens (z, a) (z', b) [] [] h.1 k.1).0 in
     (λ i. line.Jump (same i).0, λ i. (same i).1, k.0)
 one_jump z _ a b odd tokens m h k = absurd cc
 
 one_long_jump : (z : ℤ) → IsOne (line.LongJump z)
 one_long_jump z (line.LongJump z') a b odd tokens m h k =
-    let same = one_alone IsTarget one_target tokens (z, a) (z', b) h.1 k.1 in
+    let same = (target_form tokens (z, a) (z', b) [] [] h.1 k.1).0 in
     (λ i. line.LongJump (same i).0, λ i. (same i).1, k.0)
 one_long_jump z _ a b odd tokens m h k = absurd cc
 
 one_jump_if : (w : Width) (t : Comparison) (dst : ℕ) (x : Operand) (z : ℤ) → IsOne (line.JumpIf w t dst x z)
 one_jump_if w t dst x z (line.JumpIf w' t' dst' x' z') a b odd tokens m h k =
-    let same = one_triple IsRegister IsSecond IsTarget one_register one_second one_target tokens ((dst, x), (z, a)) ((dst', x'), (z', b)) h.1 k.1 in
-    let p : dst ≡ dst' = λ i. (same i).0.0 in
-    let q : x ≡ x' = λ i. (same i).0.1 in
-    let r : z ≡ z' = λ i. (same i).1.0 in
-    (cc, λ i. (same i).1.1, k.0)
+    let same = (one_list (Token IsRegister) (Token IsSecond ⸴ Token IsTarget) register_form (one_list (Token IsSecond) (Token IsTarget) second_form target_form) tokens (dst, (x, (z, a))) (dst', (x', (z', b))) [] [] h.1 k.1).0 in
+    let p : dst ≡ dst' = λ i. (same i).0 in
+    let q : x ≡ x' = λ i. (same i).1.0 in
+    let r : z ≡ z' = λ i. (same i).1.1.0 in
+    (cc, λ i. (same i).1.1.1, k.0)
 one_jump_if w t dst x z _ a b odd tokens m h k = absurd cc
 
 one_call : (z : ℤ) → IsOne (line.Call z)
 one_call z (line.Call z') a b odd tokens m h k =
-    let p = one_alone IsImmediate one_immediate tokens z z' h.2 k.2 in
+    let p = (immediate_form tokens z z' [] [] h.2 k.2).0 in
     (ap line.Call p, h.0 ∙ sym k.0, k.1)
 one_call z (line.CallLocal z') a b odd tokens m h k =
     let e = h.2.1 in
-    let f = k.2 in
+    let f = k.1.1 in
     let same : h.2.0 ≡ 108 ∷ 111 ∷ 99 ∷ 97 ∷ 108 ∷ [] = cc in
     absurd (no_local h.2.0 z same h.2.2)
 one_call z _ a b odd tokens m h k = absurd cc
@@ -121,14 +122,11 @@ one_call z _ a b odd tokens m h k = absurd cc
 one_call_local : (z : ℤ) → IsOne (line.CallLocal z)
 one_call_local z (line.Call z') a b odd tokens m h k =
     let e = k.2.1 in
-    let f = h.2 in
+    let f = h.1.1 in
     let same : k.2.0 ≡ 108 ∷ 111 ∷ 99 ∷ 97 ∷ 108 ∷ [] = cc in
     absurd (no_local k.2.0 z' same k.2.2)
 one_call_local z (line.CallLocal z') a b odd tokens m h k =
-    let e = h.2 in
-    let f = k.2 in
-    let others : k.1 ≡ h.1 = cc in
-    let same = one_alone IsTarget one_target h.1 (z, a) (z', b) h.3 (subst (λ (t : List (List ℕ)). AreOne IsTarget t (z', b)) others k.3) in
+    let same = (one_behind (108 ∷ 111 ∷ 99 ∷ 97 ∷ 108 ∷ []) (Token IsTarget) target_form tokens (z, a) (z', b) [] [] h.1 k.1).0 in
     (λ i. line.CallLocal (same i).0, λ i. (same i).1, k.0)
 one_call_local z _ a b odd tokens m h k = absurd cc
 
@@ -138,7 +136,7 @@ one_exit _ a b odd tokens m h k = absurd cc
 
 one_load_plain : (s : Size) (dst base : ℕ) (z : ℤ) → IsOne (line.Load s dst base z)
 one_load_plain s dst base z (line.Load s' dst' base' z') a b odd tokens m h k =
-    let same = one_load tokens (dst, (base, z)) (dst', (base', z')) h.2 k.2 in
+    let same = (one_list (Token IsRegister) Memory register_form memory_form tokens (dst, (base, z)) (dst', (base', z')) [] [] h.2 k.2).0 in
     let p : dst ≡ dst' = λ i. (same i).0 in
     let q : base ≡ base' = λ i. (same i).1.0 in
     let r : z ≡ z' = λ i. (same i).1.1 in
@@ -147,7 +145,7 @@ one_load_plain s dst base z _ a b odd tokens m h k = absurd cc
 
 one_load_extended : (s : SignedSize) (dst base : ℕ) (z : ℤ) → IsOne (line.LoadExtended s dst base z)
 one_load_extended s dst base z (line.LoadExtended s' dst' base' z') a b odd tokens m h k =
-    let same = one_load tokens (dst, (base, z)) (dst', (base', z')) h.2 k.2 in
+    let same = (one_list (Token IsRegister) Memory register_form memory_form tokens (dst, (base, z)) (dst', (base', z')) [] [] h.2 k.2).0 in
     let p : dst ≡ dst' = λ i. (same i).0 in
     let q : base ≡ base' = λ i. (same i).1.0 in
     let r : z ≡ z' = λ i. (same i).1.1 in
@@ -156,7 +154,7 @@ one_load_extended s dst base z _ a b odd tokens m h k = absurd cc
 
 one_store_plain : (s : Size) (base : ℕ) (z : ℤ) (src : ℕ) → IsOne (line.Store s base z src)
 one_store_plain s base z src (line.Store s' base' z' src') a b odd tokens m h k =
-    let same = one_store IsRegister one_register tokens ((base, z), src) ((base', z'), src') h.2 k.2 in
+    let same = (one_list Memory (Token IsRegister) memory_form register_form tokens ((base, z), src) ((base', z'), src') [] [] h.2 k.2).0 in
     let p : base ≡ base' = λ i. (same i).0.0 in
     let q : z ≡ z' = λ i. (same i).0.1 in
     let r : src ≡ src' = λ i. (same i).1 in
@@ -165,7 +163,7 @@ one_store_plain s base z src _ a b odd tokens m h k = absurd cc
 
 one_store_immediate : (s : Size) (base : ℕ) (z y : ℤ) → IsOne (line.StoreImmediate s base z y)
 one_store_immediate s base z y (line.StoreImmediate s' base' z' y') a b odd tokens m h k =
-    let same = one_store IsImmediate one_immediate tokens ((base, z), y) ((base', z'), y') h.2 k.2 in
+    let same = (one_list Memory (Token IsImmediate) memory_form immediate_form tokens ((base, z), y) ((base', z'), y') [] [] h.2 k.2).0 in
     let p : base ≡ base' = λ i. (same i).0.0 in
     let q : z ≡ z' = λ i. (same i).0.1 in
     let r : y ≡ y' = λ i. (same i).1 in
@@ -183,18 +181,18 @@ one_swap s t (Some odd) m n same h k = absurd (k.1 s (sym h ∙ same))
 
 one_move_extended : (e : Extension) (dst src : ℕ) → IsOne (line.MoveExtended e dst src)
 one_move_extended e dst src (line.MoveExtended e' dst' src') a b odd tokens m h k =
-    let same = one_triple IsRegister IsRegister IsNumeral one_register one_register one_numeral tokens ((dst, src), h.1) ((dst', src'), k.1) h.3 k.3 in
-    let p : dst ≡ dst' = λ i. (same i).0.0 in
-    let q : src ≡ src' = λ i. (same i).0.1 in
+    let same = (one_list (Token IsRegister) (Token IsRegister ⸴ Token IsNumeral) register_form (one_list (Token IsRegister) (Token IsNumeral) register_form numeral_form) tokens (dst, (src, h.1)) (dst', (src', k.1)) [] [] h.3 k.3).0 in
+    let p : dst ≡ dst' = λ i. (same i).0 in
+    let q : src ≡ src' = λ i. (same i).1.0 in
     let w : extension_width e ≡ extension_width e' = cc in
-    let r = one_width e e' odd h.1 k.1 w (λ i. (same i).1) h.2 k.2 in
+    let r = one_width e e' odd h.1 k.1 w (λ i. (same i).1.1) h.2 k.2 in
     let f = r.0 in
     (cc, h.0 ∙ sym k.0, r.1)
 one_move_extended e dst src _ a b odd tokens m h k = absurd cc
 
 one_byte_order : (o : Order) (s : SwapWidth) (dst : ℕ) → IsOne (line.ByteOrder o s dst)
 one_byte_order o s dst (line.ByteOrder o' s' dst') a b odd tokens m h k =
-    let same = one_pair IsRegister IsNumeral one_register one_numeral tokens (dst, h.1) (dst', k.1) h.3 k.3 in
+    let same = (one_list (Token IsRegister) (Token IsNumeral) register_form numeral_form tokens (dst, h.1) (dst', k.1) [] [] h.3 k.3).0 in
     let p : dst ≡ dst' = λ i. (same i).0 in
     let r = one_swap s s' odd h.1 k.1 (λ i. (same i).1) h.2 k.2 in
     let f = r.0 in
@@ -218,20 +216,20 @@ one_operands (line.LoadExtended s dst base z) = one_load_extended s dst base z
 one_operands (line.StoreImmediate s base z y) = one_store_immediate s base z y
 one_operands (line.Store s base z src) = one_store_plain s base z src
 
-pub one_form : AreNamed → (l k : Line) (a b : Option (List ℕ)) (odd : Option ℕ) (tokens : List (List ℕ)) → IsForm l a None tokens → IsForm k b odd tokens → Same l a k b odd
+pub one_form : AreNamed → (l k : Line) (a b : Option (List ℕ)) (odd : Option ℕ) (tokens : List (List ℕ)) → IsForm (statement l a None) tokens → IsForm (statement k b odd) tokens → Same l a k b odd
 one_form named l k a b odd tokens (x, e, h) (y, f, j) =
     let words : mnemonic_name (mnemonic_of l) ≡ mnemonic_name (mnemonic_of k) = cc in
     let others : y ≡ x = cc in
-    one_operands l k a b odd x (named (mnemonic_of l) (mnemonic_of k) words) h (subst (IsOperands k b odd) others j)
+    one_operands l k a b odd x (named (mnemonic_of l) (mnemonic_of k) words) h (subst (IsOperands (statement k b odd)) others j)
 
 pub one_body : AreNamed → (s u : Option Statement) (tokens : List (List ℕ)) → IsBody s tokens → InRange s → IsBody u tokens → s ≡ u
 one_body named None None tokens h r k = refl
 one_body named None (Some u) tokens h r (x, e, k) = absurd cc
 one_body named (Some s) None tokens (x, e, h) r k = absurd cc
 one_body named (Some s) (Some u) tokens h r k =
-    let same = one_form named s.line u.line s.name u.name u.odd tokens (subst (λ (o : Option ℕ). IsForm s.line s.name o tokens) r.1 h) k in
+    let same = one_form named s.line u.line s.name u.name u.unknown_width tokens (subst (λ (o : Option ℕ). IsForm (statement s.line s.name o) tokens) r.1 h) k in
     let odd = r.1 ∙ sym same.2 in
-    ap Some (λ i. record { line = same.0 i; name = same.1 i; odd = odd i })
+    ap Some (λ i. record { line = same.0 i; name = same.1 i; unknown_width = odd i })
 
 pub one_label : AreNamed → (a b : Option (List ℕ)) (s u : Option Statement) (tokens : List (List ℕ)) → HasLabel a s tokens → InRange s → HasLabel b u tokens → (a ≡ b) × (s ≡ u)
 one_label named None None s u tokens h r k = (refl, one_body named s u tokens h r k)

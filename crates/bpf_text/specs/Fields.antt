@@ -37,11 +37,6 @@ IsDistance token z = (digits : List ℕ) × (n : ℕ) × IsNumeral digits n
     × (((token ≡ codes "+" ++ digits) × (z ≡ pos n))
     ⊎ ((token ≡ codes "-" ++ digits) × (z ≡ pos 0 -ℤ pos n)))
 
--- an offset, which is zero where it is left out
-abbrev pub IsOffset : Option (List ℕ) → ℤ → Type 0
-IsOffset None z = z ≡ pos 0
-IsOffset (Some token) z = IsDistance token z
-
 -- a letter or _
 abbrev pub IsFirst : ℕ → Type 0
 IsFirst octet = (is_word octet ≡ true) × ((octet < 48) ⊎ (57 < octet))

@@ -24,7 +24,7 @@ target_of p = (p.0, text_of p.1)
 
 -- an instruction, as it is written
 abbrev pub as_statement : Source → Statement
-as_statement s = record { line = s.line; name = text_of s.name; odd = None }
+as_statement s = record { line = s.line; name = text_of s.name; unknown_width = None }
 
 -- the instruction of a line, if it has one
 abbrev pub statement_of : Option Source → Option Statement
@@ -58,10 +58,10 @@ JudgesBody tokens result = Gives statement_of (λ s. IsBody s tokens) InRange re
 
 -- an instruction
 abbrev pub JudgesForm : List (List ℕ) → Result Source LineFault → Type 0
-JudgesForm tokens result = Gives as_statement (λ s. IsForm s.line s.name s.odd tokens) Fits result
+JudgesForm tokens result = Gives as_statement (λ s. IsForm s tokens) Fits result
 
 -- the operands of one mnemonic
 abbrev pub Judges : Mnemonic → List (List ℕ) → Result Source LineFault → Type 0
 Judges m tokens result =
-    Gives as_statement (λ s. (mnemonic_of s.line ≡ m) × IsOperands s.line s.name s.odd tokens) Fits
+    Gives as_statement (λ s. (mnemonic_of s.line ≡ m) × IsOperands s tokens) Fits
     result

@@ -1,6 +1,7 @@
 pub mod Number
 pub mod Tokens
 pub mod Fields
+pub mod Grammar
 pub mod Lines
 pub mod Judged
 pub mod Listings

@@ -5,4 +5,7 @@ use Rattle.bpf_text.specs.Lines.{TextLine}
 
 -- a line of text with this instruction, and with no label
 abbrev pub alone : Line → TextLine
-alone l = record { label = None; body = Some (record { line = l; name = None; odd = None }) }
+alone l = record {
+  label = None;
+  body = Some (record { line = l; name = None; unknown_width = None });
+}

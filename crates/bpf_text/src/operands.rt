@@ -6,7 +6,8 @@ ghost use Rattle.bpf_text.specs.Number.{IsNumeral};
 ghost use Rattle.bpf_text.specs.Fields.{IsRegister, IsImmediate, IsSecond, IsTarget};
 ghost use Rattle.bpf_text.specs.Judged.{texts, target_of};
 ghost use Rattle.bpf_text.specs.Mirror.Gives.{bits_in, HasExtension, HasSwapWidth};
-ghost use Rattle.bpf_text.specs.Mirror.Reads.{state, Reads, Token, Bracket, Memory, Takes, Notes};
+ghost use Rattle.bpf_text.specs.Grammar.{Token, Bracket, Memory};
+ghost use Rattle.bpf_text.specs.Mirror.Reads.{state, Reads, Takes, Notes};
 
 use crate::fields;
 use crate::line::LineFault;

@@ -30,7 +30,7 @@ entry row =
     record {
       number = row.number;
       place = row.place;
-      statement = record { line = row.line; name = text_of row.name; odd = None };
+      statement = record { line = row.line; name = text_of row.name; unknown_width = None };
     }
 
 -- what is known of the lines so far

@@ -2,7 +2,8 @@ use Rattle.std.proofs.Common.{[], ◌∷◌, Some, None}
 use Rattle.bpf_types.specs.Line.{IsOperand}
 use Rattle.bpf_types.specs.declared.line.Operand.{Operand}
 use Rattle.bpf_text.specs.Fields.{IsSecond}
-use Rattle.bpf_text.specs.Mirror.Reads.{state, Token, Behind}
+use Rattle.bpf_text.specs.Grammar.{Token, Behind}
+use Rattle.bpf_text.specs.Mirror.Reads.{state}
 use Rattle.bpf_text.proofs.ReadLemmas.{then_next, behind_next}
 use Rattle.bpf_text.proofs.JudgeLemmas.{arithmetic}
 use Rattle.bpf_text.proofs.statements.arithmetic.Goals as goal

@@ -2,7 +2,8 @@ use Rattle.std.proofs.Common.{[], ◌∷◌, Some, None}
 use Rattle.bpf_types.specs.Line.{swap_width_bits}
 use Rattle.bpf_text.specs.Number.{IsNumeral}
 use Rattle.bpf_text.specs.Mirror.Gives.{HasSwapWidth}
-use Rattle.bpf_text.specs.Mirror.Reads.{state, Token, Behind}
+use Rattle.bpf_text.specs.Grammar.{Token, Behind}
+use Rattle.bpf_text.specs.Mirror.Reads.{state}
 use Rattle.bpf_text.proofs.ReadLemmas.{then_next, behind_next}
 use Rattle.bpf_text.proofs.JudgeLemmas.{byte_order}
 use Rattle.bpf_text.proofs.statements.byte_order.Goals as goal

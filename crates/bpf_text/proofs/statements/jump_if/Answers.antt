@@ -7,7 +7,8 @@ use Rattle.bpf_canonical.specs.declared.mnemonic.Jump.TheVariants as leap
 use Rattle.bpf_types.specs.declared.line.Operand.{Operand}
 use Rattle.bpf_text.specs.Fields.{IsSecond, IsTarget}
 use Rattle.bpf_text.specs.Judged.{target_of}
-use Rattle.bpf_text.specs.Mirror.Reads.{state, Answers, Token, Behind, Then}
+use Rattle.bpf_text.specs.Grammar.{Token, Behind, Then}
+use Rattle.bpf_text.specs.Mirror.Reads.{state, Answers}
 use Rattle.bpf_text.proofs.ReadLemmas.{then_next, behind_next}
 use Rattle.bpf_text.proofs.JudgeLemmas.{jump_if}
 use Rattle.bpf_text.proofs.statements.jump_if.Goals as goal

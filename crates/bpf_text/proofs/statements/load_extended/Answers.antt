@@ -2,7 +2,8 @@ use Rattle.std.proofs.Common.{ℕ, ℤ, [], ◌∷◌, Some, None, FitsSigned, S
 use Rattle.std.specs.Int.{w16}
 use Rattle.bpf_types.specs.Line.{IsReg}
 use Rattle.bpf_types.specs.declared.line.Line.TheVariants as line
-use Rattle.bpf_text.specs.Mirror.Reads.{state, Behind, Memory}
+use Rattle.bpf_text.specs.Grammar.{Behind, Memory}
+use Rattle.bpf_text.specs.Mirror.Reads.{state}
 use Rattle.bpf_text.proofs.ReadLemmas.{then_next, behind_next}
 use Rattle.bpf_text.proofs.JudgeLemmas.{load_extended, plain}
 use Rattle.bpf_text.proofs.statements.load_extended.Goals as goal

@@ -1,6 +1,7 @@
 use Rattle.std.proofs.Common.{◌<◌, ◌^◌, ℕ, [], ◌∷◌, Some, None}
 use Rattle.bpf_text.specs.Number.{IsNumeral}
-use Rattle.bpf_text.specs.Mirror.Reads.{state, Token, Behind}
+use Rattle.bpf_text.specs.Grammar.{Token, Behind}
+use Rattle.bpf_text.specs.Mirror.Reads.{state}
 use Rattle.bpf_text.proofs.ReadLemmas.{then_next, behind_next}
 use Rattle.bpf_text.proofs.JudgeLemmas.{load_wide}
 use Rattle.bpf_text.proofs.statements.load_wide.Goals as goal

@@ -4,7 +4,8 @@ use Rattle.bpf_types.specs.declared.line.Extension.{Extension}
 use Rattle.bpf_text.specs.Number.{IsNumeral}
 use Rattle.bpf_text.specs.Fields.{IsRegister}
 use Rattle.bpf_text.specs.Mirror.Gives.{bits_in, HasExtension}
-use Rattle.bpf_text.specs.Mirror.Reads.{state, Token, Behind, Then}
+use Rattle.bpf_text.specs.Grammar.{Token, Behind, Then}
+use Rattle.bpf_text.specs.Mirror.Reads.{state}
 use Rattle.bpf_text.proofs.ReadLemmas.{then_next, behind_next}
 use Rattle.bpf_text.proofs.JudgeLemmas.{move_extended}
 use Rattle.bpf_text.proofs.statements.move_extended.Goals as goal

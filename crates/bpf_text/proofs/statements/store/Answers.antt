@@ -3,7 +3,8 @@ use Rattle.std.specs.Int.{w16}
 use Rattle.bpf_types.specs.Line.{IsReg}
 use Rattle.bpf_types.specs.declared.line.Line.TheVariants as line
 use Rattle.bpf_text.specs.Fields.{IsRegister}
-use Rattle.bpf_text.specs.Mirror.Reads.{state, Token, Behind}
+use Rattle.bpf_text.specs.Grammar.{Token, Behind}
+use Rattle.bpf_text.specs.Mirror.Reads.{state}
 use Rattle.bpf_text.proofs.ReadLemmas.{then_next, behind_next}
 use Rattle.bpf_text.proofs.JudgeLemmas.{store, plain}
 use Rattle.bpf_text.proofs.statements.store.Goals as goal

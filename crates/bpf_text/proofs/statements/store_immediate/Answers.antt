@@ -2,7 +2,8 @@ use Rattle.std.proofs.Common.{ℤ, [], ◌∷◌, Some, None, FitsSigned, SFits,
 use Rattle.std.specs.Int.{w16, w32}
 use Rattle.bpf_types.specs.declared.line.Line.TheVariants as line
 use Rattle.bpf_text.specs.Fields.{IsImmediate}
-use Rattle.bpf_text.specs.Mirror.Reads.{state, Token, Behind}
+use Rattle.bpf_text.specs.Grammar.{Token, Behind}
+use Rattle.bpf_text.specs.Mirror.Reads.{state}
 use Rattle.bpf_text.proofs.ReadLemmas.{then_next, behind_next}
 use Rattle.bpf_text.proofs.JudgeLemmas.{store_immediate, plain}
 use Rattle.bpf_text.proofs.statements.store_immediate.Goals as goal

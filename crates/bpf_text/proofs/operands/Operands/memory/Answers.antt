@@ -2,7 +2,8 @@ use Rattle.std.proofs.Common.{ℕ, ℤ, [], ◌∷◌, Some, None, FitsSigned, S
 use Rattle.std.specs.Int.{w16}
 use Rattle.bpf_types.specs.Line.{IsReg}
 use Rattle.bpf_text.specs.Fields.{IsRegister}
-use Rattle.bpf_text.specs.Mirror.Reads.{state, Token, Then, Bracket}
+use Rattle.bpf_text.specs.Grammar.{Token, Then, Bracket}
+use Rattle.bpf_text.specs.Mirror.Reads.{state}
 use Rattle.bpf_text.proofs.ReadLemmas.{then_next, behind_next}
 use Rattle.bpf_text.proofs.operands.Operands.memory.Goals as goal
 

@@ -1,6 +1,7 @@
 use Rattle.std.proofs.Common.{◌≡◌, ◌≢◌, ◌∷◌, [], ℤ, List, ℕ, sym, ◌∙◌, subst, arith, FitsSigned}
 use Rattle.std.specs.Int.{w16}
-use Rattle.bpf_text.specs.Mirror.Reads.{State, state, Reads, Bracket}
+use Rattle.bpf_text.specs.Grammar.{Bracket}
+use Rattle.bpf_text.specs.Mirror.Reads.{State, state, Reads}
 use Rattle.bpf_text.proofs.ReadLemmas.{closed_at_once, closed_read, if_some, if_none}
 use Rattle.bpf_text.proofs.operands.Operands.offset.Goals as goal
 
