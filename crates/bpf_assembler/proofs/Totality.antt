@@ -15,7 +15,7 @@ use Rattle.ocp_loader.specs.FaultNumbers.{number_of, slot_of}
 use Rattle.ocp_loader.specs.LoadResult.{load_result}
 use Rattle.bpf_text.specs.Lines.{TextLine, InRange, Statement}
 use Rattle.bpf_text.specs.Judged.{JudgesLine, written_line}
-use Rattle.bpf_text.specs.declared.line.Parsed.{Parsed}
+use Rattle.bpf_text.specs.declared.line.TextLine.{TextLine as LentLine}
 use Rattle.bpf_text.specs.declared.line.LineFault.{LineFault}
 use Rattle.bpf_text.specs.declared.line.LineFault.TheVariants.{Syntax, Range}
 use Rattle.text_lines.specs.Lines.{line_texts}
@@ -52,7 +52,7 @@ new_or_not (Some name) ws = by (label_place name 0 ws) refl
     by None e = inl e
     by (Some x) e = inr (λ n. let bad = sym e ∙ n in absurd cc)
 
-line_judged : (text rest line after : List ℕ) (r : Result Parsed LineFault) → Progress text rest → line_texts rest ≡ line ∷ line_texts after → JudgesLine line r → Progress text after ⊎ SomeLineFault text
+line_judged : (text rest line after : List ℕ) (r : Result LentLine LineFault) → Progress text rest → line_texts rest ≡ line ∷ line_texts after → JudgesLine line r → Progress text after ⊎ SomeLineFault text
 line_judged text rest line after (Err Syntax) t e j = inr (
   length t.done + 1,
   why.Syntax,
@@ -109,7 +109,7 @@ line_judged text rest line after (Ok p) t e j = by (new_or_not (written_line p).
       },
     )
 
-pub line_or_fault : (text rest line after : List ℕ) (r : Result Parsed LineFault) → Progress text rest ⊎ SomeLineFault text → line_texts rest ≡ line ∷ line_texts after → JudgesLine line r → Progress text after ⊎ SomeLineFault text
+pub line_or_fault : (text rest line after : List ℕ) (r : Result LentLine LineFault) → Progress text rest ⊎ SomeLineFault text → line_texts rest ≡ line ∷ line_texts after → JudgesLine line r → Progress text after ⊎ SomeLineFault text
 line_or_fault text rest line after r (inl t) e j = line_judged text rest line after r t e j
 line_or_fault text rest line after r (inr f) e j = inr f
 

@@ -8,7 +8,7 @@ ghost use Rattle.bpf_assembler.specs.Mirror.Passes.{AreLabels, PutsLabel, Knows,
 
 use crate::fault::{AsmFault, Why};
 use crate::table::{Row, Table, put};
-use bpf_text::{LineFault, Source, read_line};
+use bpf_text::{LineFault, Statement, read_line};
 use std::alloc::Allocator;
 use std::collections::BTreeMap;
 use text_lines::first_line;
@@ -34,7 +34,7 @@ fn put_row<'a, A: Allocator>(
     rows: &mut Vec<Row<'a>, A>,
     number: u64,
     place: u64,
-    body: &Option<Source<'a>>,
+    body: &Option<Statement<'a>>,
 ) -> Result<u64, AsmFault>
     requires { place + 2 < 2 ^ 64 }
     ensures rows { OnOk result (map entry rows.new.items ≡
@@ -43,17 +43,17 @@ fn put_row<'a, A: Allocator>(
         (λ next. (next ≡ place + slots (statement_of body.now)) × (next ≤ place + 2)) }
     ensures err { IfErr result (λ e. e ≡ AsmFault.Memory) }
 {
-    let Some(source) = body else {
+    let Some(statement) = body else {
         return Ok(place);
     };
     let row = Row {
         number,
         place,
-        line: source.line,
-        name: source.name,
+        line: statement.line,
+        name: statement.name,
     };
     rows.extend_from_slice(&[row])?;
-    Ok(place + u64::from(source.line.slots()))
+    Ok(place + u64::from(statement.line.slots()))
 }
 
 /// Takes one more line.

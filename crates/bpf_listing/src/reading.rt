@@ -6,7 +6,7 @@ ghost use Rattle.bpf_canonical.specs.Canonical.{canonical};
 
 use bpf_canonical::text_of;
 use bpf_text::laws::canonical_texts_are_read_back;
-use bpf_text::{Parsed, Source};
+use bpf_text::{Statement, TextLine};
 use bpf_types::Line;
 
 /// The instruction whose canonical text this is, without a newline, or `None` where the text is no
@@ -18,8 +18,8 @@ pub fn read_line(text: &[u8]) -> Option<Line>
     canonical_texts_are_read_back();
     match bpf_text::read_line(text) {
         Ok(
-            Parsed {
-                body: Some(Source { line, .. }),
+            TextLine {
+                body: Some(Statement { line, .. }),
                 ..
             },
         ) if text_of(&line).as_slice() == text => Some(line),

@@ -13,7 +13,7 @@ use Rattle.bpf_types.specs.Line.{IsOperand}
 use Rattle.bpf_canonical.specs.Canonical.{hex_digits, register, with_sign, operand_text}
 use Rattle.std.specs.Char.{digit_value}
 use Rattle.std.proofs.lemmas.Int.Digits.{digits_push, digits_value_push}
-use Rattle.bpf_text.specs.Number.{Spells, IsNumeral}
+use Rattle.bpf_text.specs.Number.{IsInBase, IsNumeral}
 use Rattle.bpf_text.specs.Tokens.{is_word, is_sign, AllWord}
 use Rattle.bpf_text.specs.Fields.{IsRegister, IsInteger, IsImmediate, IsSecond, IsDistance, as_signed}
 
@@ -30,10 +30,10 @@ pub run_of_word : (w : List ℕ) → w ≢ [] → AllWord w → IsRun w
 run_of_word [] some all = absurd (some refl)
 run_of_word (o ∷ os) some all = inl all
 
-pub spells_more : (base : ℕ) (ds : List ℕ) (n o : ℕ) → Spells base ds n → digit_value o < base → Spells base (ds ++ o ∷ []) (n * base + digit_value o)
+pub spells_more : (base : ℕ) (ds : List ℕ) (n o : ℕ) → IsInBase base ds n → digit_value o < base → IsInBase base (ds ++ o ∷ []) (n * base + digit_value o)
 spells_more base ds n o h lt = ((omega (arith, length-append ds (o ∷ [])), digits_push base ds o h.0.1 lt), rw h.1 (sym (digits_value_push base ds o)))
 
-spells_one : (base d o : ℕ) → digit_value o ≡ d → d < base → Spells base (o ∷ []) d
+spells_one : (base d o : ℕ) → digit_value o ≡ d → d < base → IsInBase base (o ∷ []) d
 spells_one base d o e lt = ((omega arith, (rw e lt, tt)), omega (arith, e))
 
 digit_of : (d : ℕ) → d < 10 → digit_value (48 + d) ≡ d
@@ -42,13 +42,13 @@ digit_of d lt = grind (arith, nat_tests)
 word_of : (d : ℕ) → d < 10 → is_word (48 + d) ≡ true
 word_of d lt = grind (arith, nat_tests)
 
-pub decimal_spells : (n : ℕ) → n < 2 ^ 64 → Spells 10 (decimal n) n
-decimal_spells = decimal_by_steps (λ n ds. Spells 10 ds n)
+pub decimal_spells : (n : ℕ) → n < 2 ^ 64 → IsInBase 10 (decimal n) n
+decimal_spells = decimal_by_steps (λ n ds. IsInBase 10 ds n)
     (λ n lt. spells_one 10 n (48 + n) (digit_of n lt) lt)
     (λ n ds ge h.
     let d : digit_value (48 + n % 10) ≡ n % 10 = digit_of (n % 10) (omega arith) in
     let e : n / 10 * 10 + digit_value (48 + n % 10) ≡ n = omega arith in
-    subst (Spells 10 (ds ++ (48 + n % 10) ∷ [])) e (spells_more 10 ds (n / 10) (48 + n % 10) h (omega arith)))
+    subst (IsInBase 10 (ds ++ (48 + n % 10) ∷ [])) e (spells_more 10 ds (n / 10) (48 + n % 10) h (omega arith)))
 
 pub decimal_word : (n : ℕ) → n < 2 ^ 64 → AllWord (decimal n)
 decimal_word = decimal_by_steps (λ n ds. AllWord ds)
@@ -56,7 +56,7 @@ decimal_word = decimal_by_steps (λ n ds. AllWord ds)
     (λ n ds ge h. word_join ds ((48 + n % 10) ∷ []) h (word_of (n % 10) (omega arith), tt))
 
 -- a numeral has octets
-some_octets : (w : List ℕ) (n : ℕ) → Spells 10 w n → w ≢ []
+some_octets : (w : List ℕ) (n : ℕ) → IsInBase 10 w n → w ≢ []
 some_octets w n h = λ e. absurd (omega (arith, h.0.0, ap length e))
 
 pub decimal_run : (n : ℕ) → n < 2 ^ 64 → IsRun (decimal n)
@@ -74,7 +74,7 @@ glyph_word d lt = elim (cases_lt d 10) [
   | inr large ↦ rw (le-ltb d 10 large) (grind (arith, nat_tests))
 ]
 
-pub hex_spells : (count n : ℕ) → n < 16 ^ suc count → Spells 16 (hex_digits (suc count) n) n
+pub hex_spells : (count n : ℕ) → n < 16 ^ suc count → IsInBase 16 (hex_digits (suc count) n) n
 hex_spells zero n lt =
     let bound : n < 16 = lt in
     let e : n % 16 ≡ n = omega arith in
@@ -83,7 +83,7 @@ hex_spells (suc count) n lt =
     let bound = simp unary_clauses at lt in
     let d : digit_value (digit_glyph false (n % 16)) ≡ n % 16 = glyph_digit (n % 16) (omega arith) in
     let e : n / 16 * 16 + digit_value (digit_glyph false (n % 16)) ≡ n = omega arith in
-    subst (Spells 16 (hex_digits (suc count) (n / 16) ++ digit_glyph false (n % 16) ∷ [])) e
+    subst (IsInBase 16 (hex_digits (suc count) (n / 16) ++ digit_glyph false (n % 16) ∷ [])) e
     (spells_more 16 (hex_digits (suc count) (n / 16)) (n / 16) (digit_glyph false (n % 16)) (hex_spells count (n / 16) (omega arith)) (omega arith))
 
 pub hex_word : (count n : ℕ) → AllWord (hex_digits count n)

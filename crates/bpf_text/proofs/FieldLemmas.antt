@@ -4,6 +4,8 @@ use Rattle.std.proofs.lemmas.Int.{ints}
 use Rattle.bpf_text.proofs.Scanning.{whole_drop}
 use Rattle.std.specs.Char.{digit_value}
 use Rattle.bpf_text.specs.Number.{IsNumeral}
+use Rattle.std.specs.Option.{ok_or}
+use Rattle.std.specs.Prelude.{◌≢◌, IfSome, IfNone}
 use Rattle.std.specs.Int.{w32}
 use Rattle.bpf_types.specs.declared.line.Operand.{Operand}
 use Rattle.bpf_types.specs.declared.line.Operand.TheVariants.{Immediate, Register}
@@ -14,7 +16,7 @@ use Rattle.bpf_types.specs.declared.line.Extension.{Extension}
 use Rattle.bpf_types.specs.declared.line.Extension.TheVariants as extension
 use Rattle.bpf_text.specs.Fields.{IsRegister, IsInteger, IsImmediate, IsDistance, IsSecond, IsTarget, IsName, as_signed}
 use Rattle.bpf_text.specs.Judged.{Gives}
-use Rattle.bpf_text.specs.Mirror.Gives.{IsWide, bits_in, HasExtension}
+use Rattle.bpf_text.specs.Mirror.Gives.{IsWide, bits_in, IsWidth, HasExtension}
 use Rattle.bpf_text.specs.declared.line.LineFault.{LineFault}
 use Rattle.bpf_text.specs.declared.line.LineFault.TheVariants.{Syntax, Range}
 
@@ -141,34 +143,48 @@ immediate_err token Syntax f h g = λ z k. h k.0 k.1
 immediate_err token Range f h g = (as_signed h.0, (h.0, h.1, refl), λ m. h.2 (as_signed_wide h.0 m))
 
 -- an extension has the width of its class
-pub bits_in_class : (w : Width) (e : Extension) (n : ℕ) → extension_width e ≡ w → extension_bits e ≡ n → bits_in w e ≡ n
-bits_in_class w e n is same = subst (λ (v : Width). bits_in v e ≡ n) is (own e ∙ same)
+bits_in_class : (w : Width) (e : Extension) (n : ℕ) → extension_width e ≡ w → extension_bits e ≡ n → bits_in w e ≡ Some n
+bits_in_class w e n is same = subst (λ (v : Width). bits_in v e ≡ Some n) is (own e ∙ ap (λ (m : ℕ). Some m) same)
   where
-    own : (e : Extension) → bits_in (extension_width e) e ≡ extension_bits e
+    own : (e : Extension) → bits_in (extension_width e) e ≡ Some (extension_bits e)
     own extension.From8To32 = refl
     own extension.From16To32 = refl
     own extension.From8To64 = refl
     own extension.From16To64 = refl
     own extension.From32To64 = refl
 
-some_bits : (w : Width) → HasExtension w 0 → ⊥
-some_bits w (extension.From8To32, is, same) = omega arith
-some_bits w (extension.From16To32, is, same) = omega arith
-some_bits w (extension.From8To64, is, same) = omega arith
-some_bits w (extension.From16To64, is, same) = omega arith
-some_bits w (extension.From32To64, is, same) = omega arith
-
-pub extension_class : (w : Width) (e : Extension) → HasExtension w (bits_in w e) → (extension_width e ≡ w) × (bits_in w e ≡ extension_bits e)
+pub extension_class : (w : Width) (e : Extension) → HasExtension w (bits_in w e) → (extension_width e ≡ w) × (bits_in w e ≡ Some (extension_bits e))
 extension_class W32 extension.From8To32 h = (refl, refl)
 extension_class W32 extension.From16To32 h = (refl, refl)
-extension_class W32 extension.From8To64 h = absurd (some_bits W32 h)
-extension_class W32 extension.From16To64 h = absurd (some_bits W32 h)
-extension_class W32 extension.From32To64 h = absurd (some_bits W32 h)
+extension_class W32 extension.From8To64 h = absurd h
+extension_class W32 extension.From16To64 h = absurd h
+extension_class W32 extension.From32To64 h = absurd h
 extension_class W64 extension.From8To64 h = (refl, refl)
 extension_class W64 extension.From16To64 h = (refl, refl)
 extension_class W64 extension.From32To64 h = (refl, refl)
-extension_class W64 extension.From8To32 h = absurd (some_bits W64 h)
-extension_class W64 extension.From16To32 h = absurd (some_bits W64 h)
+extension_class W64 extension.From8To32 h = absurd h
+extension_class W64 extension.From16To32 h = absurd h
+
+-- a width is written so, or it is no width of the class
+pub extension_fault : (w : Width) (token : List ℕ) (fault : LineFault) → {V : Type 0} → (f : V → ℕ) → {U : Type 0} → (g : U → Option ℕ) → Gives f (IsNumeral token) (λ n. n < 2 ^ 64) (Err fault) → (((n : ℕ) → HasExtension w (Some n) → n < 2 ^ 64)) → Gives g (IsWidth token) (HasExtension w) (Err fault)
+extension_fault w token Syntax f g h small = by
+  where
+    by : (o : Option ℕ) → IsWidth token o → ⊥
+    by None k = k
+    by (Some n) k = h n k
+extension_fault w token Range f g h small = (Some h.0, h.1, λ m. h.2 (small h.0 m))
+
+pub extension_read : (w : Width) (token : List ℕ) (n : ℕ) (found : Option Extension) → IsNumeral token n → IfSome found (λ e. (extension_width e ≡ w) × (extension_bits e ≡ n)) → IfNone found ((e : Extension) → extension_width e ≡ w → extension_bits e ≢ n)
+    → Gives (bits_in w) (IsWidth token) (HasExtension w) (ok_or found Range)
+extension_read w token n None is some none = (Some n, is, λ h. none h.0 h.1 h.2)
+extension_read w token n (Some e) is some none = let b = bits_in_class w e n some.0 some.1 in (subst (IsWidth token) (sym b) is, subst (HasExtension w) (sym b) (e, some.0, some.1))
+
+pub few_bits : (w : Width) (n : ℕ) → HasExtension w (Some n) → n < 2 ^ 64
+few_bits w n (extension.From8To32, is, same) = omega arith
+few_bits w n (extension.From16To32, is, same) = omega arith
+few_bits w n (extension.From8To64, is, same) = omega arith
+few_bits w n (extension.From16To64, is, same) = omega arith
+few_bits w n (extension.From32To64, is, same) = omega arith
 
 pub immediate_ok : (token : List ℕ) (z y v : ℤ) → IsInteger token z → y ≡ as_signed z → FitsSigned w32 y → v ≡ y → Gives (λ (x : ℤ). x) (IsImmediate token) (FitsSigned w32) (Ok v)
 immediate_ok token z y v is e fits same = ((z, is, same ∙ e), subst (FitsSigned w32) (sym same) fits)

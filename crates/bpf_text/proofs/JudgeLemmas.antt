@@ -1,7 +1,7 @@
 -- Instructions of each mnemonic.
 use Rattle.std.proofs.Common.{Bor, ◌≡◌, ◌≢◌, ◌<◌, ◌^◌, ℕ, ℤ, List, [], ◌∷◌, get_or, Option, Some, None, Result, Ok, Err, refl, sym, ap, ◌∙◌, subst, arith, true, false, inl, inr, FitsSigned, option_map}
 use Rattle.std.specs.Int.{w16, w32}
-use Rattle.bpf_types.specs.Line.{IsLine, IsReg, IsOperand, swap_width_bits}
+use Rattle.bpf_types.specs.Line.{IsLine, IsReg, IsOperand, swap_width_bits, extension_bits}
 use Rattle.bpf_types.specs.declared.line.Line.{Line}
 use Rattle.bpf_types.specs.declared.line.Line.TheVariants as line
 use Rattle.bpf_types.specs.declared.line.Operand.{Operand}
@@ -23,12 +23,12 @@ use Rattle.bpf_canonical.specs.declared.mnemonic.Access.TheVariants as access
 use Rattle.bpf_canonical.specs.Mnemonics.{mnemonic_name, mnemonic_of}
 use Rattle.bpf_text.specs.Number.{IsNumeral}
 use Rattle.bpf_text.specs.Fields.{IsRegister, IsImmediate, IsSecond, IsTarget}
-use Rattle.bpf_text.specs.Mirror.Gives.{bits_in, HasExtension, HasSwapWidth}
+use Rattle.bpf_text.specs.Mirror.Gives.{bits_in, IsWidth, HasExtension, HasSwapWidth}
 use Rattle.bpf_text.specs.Grammar.{Form, Token, Behind, Then, Memory}
 use Rattle.bpf_text.specs.Mirror.Reads.{State, Reads, Answers, verdict}
 use Rattle.bpf_text.specs.Lines.{Statement, IsOperands, Fits}
 use Rattle.bpf_text.specs.Judged.{Gives, Judges, JudgesForm, as_statement, target_of}
-use Rattle.bpf_text.specs.declared.line.Source.{Source}
+use Rattle.bpf_text.specs.declared.line.Statement.{Statement as LentStatement}
 use Rattle.bpf_text.specs.declared.line.LineFault.{LineFault}
 use Rattle.bpf_text.specs.declared.line.LineFault.TheVariants.{Syntax, Range}
 use Rattle.bpf_text.proofs.FieldLemmas.{register_in_range, letter_no_numeral, extension_class}
@@ -36,19 +36,19 @@ use Rattle.bpf_text.proofs.ReadLemmas.{statement, behind_next, gives_of}
 
 -- What was read is an instruction of the mnemonic; an instruction of it is written so; and one
 -- that is out of its range is an instruction of it out of its range.
-pub record Fitting {V W : Type 0} (m : Mnemonic) (tokens : List (List ℕ)) (mk : V → Source) (view : V → W) (L : Form W) (F : W → Type 0) : Type 0 where
+pub record Fitting {V W : Type 0} (m : Mnemonic) (tokens : List (List ℕ)) (mk : V → LentStatement) (view : V → W) (L : Form W) (F : W → Type 0) : Type 0 where
   pub ok : (v : V) → L tokens (view v) [] → F (view v) → (mnemonic_of (mk v).line ≡ m) × IsOperands (as_statement (mk v)) tokens × IsLine (mk v).line
   pub back : (l : Line) → (name : Option (List ℕ)) → (odd : Option ℕ) → mnemonic_of l ≡ m → IsOperands (statement l name odd) tokens → (w : W) × L tokens w []
   pub out : (w : W) → L tokens w [] → ¬ F w → (s : Statement) × (mnemonic_of s.line ≡ m) × IsOperands s tokens × ¬ Fits s
 
-judged : {V W : Type 0} {m : Mnemonic} {tokens : List (List ℕ)} {mk : V → Source} {view : V → W} {L : Form W} {F : W → Type 0} → Fitting m tokens mk view L F → (r : Option V) (u : State) → Gives view (λ (w : W). L tokens w []) F (verdict r u) → Judges m tokens (verdict (option_map mk r) u)
+judged : {V W : Type 0} {m : Mnemonic} {tokens : List (List ℕ)} {mk : V → LentStatement} {view : V → W} {L : Form W} {F : W → Type 0} → Fitting m tokens mk view L F → (r : Option V) (u : State) → Gives view (λ (w : W). L tokens w []) F (verdict r u) → Judges m tokens (verdict (option_map mk r) u)
 judged f None u h = λ s k. let b = f.back s.line s.name s.unknown_width k.0 k.1 in h b.0 b.1
 judged f (Some v) (x ∷ xs, out) h = λ s k. let b = f.back s.line s.name s.unknown_width k.0 k.1 in h b.0 b.1
 judged f (Some v) ([], true) h = let o = f.out h.0 h.1 h.2 in (o.0, (o.1, o.2), o.3)
 judged f (Some v) ([], false) h = let o = f.ok v h.0 h.1 in ((o.0, o.1), (o.2, refl))
 
 -- an instruction with no label's name
-abbrev pub plain : Line → Source
+abbrev pub plain : Line → LentStatement
 plain l = record { line = l; name = None }
 
 pub arithmetic : (w : Width) (o : Operation) (s : State) (r : Option (ℕ × Operand)) (u : State) → Reads (λ (v : ℕ × Operand). (v.0, v.1)) (Then (Token IsRegister) (Behind (44 ∷ []) (Token IsSecond))) (λ (v : ℕ × Operand). IsReg v.0 × IsOperand v.1) s r u → Answers (word.Arithmetic w o) s (option_map (λ (v : ℕ × Operand). plain (line.Arithmetic w o v.0 v.1)) r) u
@@ -152,27 +152,28 @@ store_immediate z s r u h start = judged fits r u (gives_of (λ (v : (ℕ × ℤ
     fits = record { ok = λ v p f. (refl, (refl, refl, p), (f.0.0, f.0.1, f.1)); back = back; out = λ w p bad. (statement (line.StoreImmediate z w.0.0 w.0.1 w.1) None None, refl, (refl, refl, p), λ m. bad ((m.0.0, m.0.1), m.0.2)) }
 
 -- two registers and a number
-abbrev Extended : Form (ℕ × (ℕ × ℕ))
-Extended = Then (Token IsRegister) (Behind (44 ∷ []) (Then (Token IsRegister) (Behind (44 ∷ []) (Token IsNumeral))))
+abbrev Extended : Form (ℕ × (ℕ × Option ℕ))
+Extended = Then (Token IsRegister) (Behind (44 ∷ []) (Then (Token IsRegister) (Behind (44 ∷ []) (Token IsWidth))))
 
 -- an extension and a byte order instruction have one of the widths that there are, or another one
-odd_extended : (w : Width) (tokens : List (List ℕ)) (v : ℕ × (ℕ × ℕ)) → Extended tokens v [] → ¬ HasExtension w v.1.1 → (s : Statement) × (mnemonic_of s.line ≡ word.MoveExtended w) × IsOperands s tokens × ¬ Fits s
-odd_extended W32 tokens v h none = (statement (line.MoveExtended extension.From8To32 v.0 v.1.0) None (Some v.1.1), refl, (refl, v.1.1, (refl, λ e is same. none (e, is, same)), h), λ m. let e = m.1 in absurd cc)
-odd_extended W64 tokens v h none = (statement (line.MoveExtended extension.From8To64 v.0 v.1.0) None (Some v.1.1), refl, (refl, v.1.1, (refl, λ e is same. none (e, is, same)), h), λ m. let e = m.1 in absurd cc)
+odd_extended : (w : Width) (tokens : List (List ℕ)) (dst src : ℕ) (n : Option ℕ) → Extended tokens (dst, (src, n)) [] → ¬ HasExtension w n → (s : Statement) × (mnemonic_of s.line ≡ word.MoveExtended w) × IsOperands s tokens × ¬ Fits s
+odd_extended w tokens dst src None (t, p, (u, e, (v, q, (x, f, (token, g, h))))) none = absurd h
+odd_extended W32 tokens dst src (Some n) h none = (statement (line.MoveExtended extension.From8To32 dst src) None (Some n), refl, (refl, n, (refl, λ e is same. none (e, is, same)), h), λ m. let e = m.1 in absurd cc)
+odd_extended W64 tokens dst src (Some n) h none = (statement (line.MoveExtended extension.From8To64 dst src) None (Some n), refl, (refl, n, (refl, λ e is same. none (e, is, same)), h), λ m. let e = m.1 in absurd cc)
 
 extended_ok : (w : Width) (tokens : List (List ℕ)) (e : Extension) (dst src : ℕ) → Extended tokens (dst, (src, bits_in w e)) [] → IsReg dst × (IsReg src × HasExtension w (bits_in w e))
     → (mnemonic_of (line.MoveExtended e dst src) ≡ word.MoveExtended w) × IsOperands (statement (line.MoveExtended e dst src) None None) tokens × IsLine (line.MoveExtended e dst src)
-extended_ok w tokens e dst src p f = let k = extension_class w e f.1.1 in (ap word.MoveExtended k.0, (refl, bits_in w e, k.1, p), (f.0, f.1.0))
+extended_ok w tokens e dst src p f = let k = extension_class w e f.1.1 in let q = subst (λ (o : Option ℕ). Extended tokens (dst, (src, o)) []) k.1 p in (ap (word.MoveExtended) k.0, (refl, extension_bits e, refl, q), (f.0, f.1.0))
 
-pub move_extended : (w : Width) (s : State) (r : Option (ℕ × (ℕ × Extension))) (u : State) → Reads (λ (v : ℕ × (ℕ × Extension)). (v.0, (v.1.0, bits_in w v.1.1))) (Then (Token IsRegister) (Behind (44 ∷ []) (Then (Token IsRegister) (Behind (44 ∷ []) (Token IsNumeral))))) (λ (v : ℕ × (ℕ × ℕ)). IsReg v.0 × (IsReg v.1.0 × HasExtension w v.1.1)) s r u → Answers (word.MoveExtended w) s (option_map (λ (v : ℕ × (ℕ × Extension)). plain (line.MoveExtended v.1.1 v.0 v.1.0)) r) u
-move_extended w s r u h start = judged fits r u (gives_of (λ (v : ℕ × (ℕ × Extension)). (v.0, (v.1.0, bits_in w v.1.1))) (Then (Token IsRegister) (Behind (44 ∷ []) (Then (Token IsRegister) (Behind (44 ∷ []) (Token IsNumeral))))) (λ (v : ℕ × (ℕ × ℕ)). IsReg v.0 × (IsReg v.1.0 × HasExtension w v.1.1)) s r u start h)
+pub move_extended : (w : Width) (s : State) (r : Option (ℕ × (ℕ × Extension))) (u : State) → Reads (λ (v : ℕ × (ℕ × Extension)). (v.0, (v.1.0, bits_in w v.1.1))) (Then (Token IsRegister) (Behind (44 ∷ []) (Then (Token IsRegister) (Behind (44 ∷ []) (Token IsWidth))))) (λ (v : ℕ × (ℕ × Option ℕ)). IsReg v.0 × (IsReg v.1.0 × HasExtension w v.1.1)) s r u → Answers (word.MoveExtended w) s (option_map (λ (v : ℕ × (ℕ × Extension)). plain (line.MoveExtended v.1.1 v.0 v.1.0)) r) u
+move_extended w s r u h start = judged fits r u (gives_of (λ (v : ℕ × (ℕ × Extension)). (v.0, (v.1.0, bits_in w v.1.1))) (Then (Token IsRegister) (Behind (44 ∷ []) (Then (Token IsRegister) (Behind (44 ∷ []) (Token IsWidth))))) (λ (v : ℕ × (ℕ × Option ℕ)). IsReg v.0 × (IsReg v.1.0 × HasExtension w v.1.1)) s r u start h)
   where
-    back : (l : Line) → (name : Option (List ℕ)) → (odd : Option ℕ) → mnemonic_of l ≡ word.MoveExtended w → IsOperands (statement l name odd) s.0 → (w : ℕ × (ℕ × ℕ)) × (Then (Token IsRegister) (Behind (44 ∷ []) (Then (Token IsRegister) (Behind (44 ∷ []) (Token IsNumeral))))) s.0 w []
-    back (line.MoveExtended e dst src) name odd m k = ((dst, (src, k.1)), k.3)
+    back : (l : Line) → (name : Option (List ℕ)) → (odd : Option ℕ) → mnemonic_of l ≡ word.MoveExtended w → IsOperands (statement l name odd) s.0 → (w : ℕ × (ℕ × Option ℕ)) × (Then (Token IsRegister) (Behind (44 ∷ []) (Then (Token IsRegister) (Behind (44 ∷ []) (Token IsWidth))))) s.0 w []
+    back (line.MoveExtended e dst src) name odd m k = ((dst, (src, Some k.1)), k.3)
     back _ name odd m k = absurd cc
 
-    fits : Fitting (word.MoveExtended w) s.0 (λ (v : ℕ × (ℕ × Extension)). plain (line.MoveExtended v.1.1 v.0 v.1.0)) (λ (v : ℕ × (ℕ × Extension)). (v.0, (v.1.0, bits_in w v.1.1))) (Then (Token IsRegister) (Behind (44 ∷ []) (Then (Token IsRegister) (Behind (44 ∷ []) (Token IsNumeral))))) (λ (v : ℕ × (ℕ × ℕ)). IsReg v.0 × (IsReg v.1.0 × HasExtension w v.1.1))
-    fits = record { ok = λ v p f. extended_ok w s.0 v.1.1 v.0 v.1.0 p f; back = back; out = λ v p bad. odd_extended w s.0 v p (λ m. bad (register_in_range p.1.0 v.0 p.1.2, (register_in_range p.2.2.1.0 v.1.0 p.2.2.1.2, m))) }
+    fits : Fitting (word.MoveExtended w) s.0 (λ (v : ℕ × (ℕ × Extension)). plain (line.MoveExtended v.1.1 v.0 v.1.0)) (λ (v : ℕ × (ℕ × Extension)). (v.0, (v.1.0, bits_in w v.1.1))) (Then (Token IsRegister) (Behind (44 ∷ []) (Then (Token IsRegister) (Behind (44 ∷ []) (Token IsWidth))))) (λ (v : ℕ × (ℕ × Option ℕ)). IsReg v.0 × (IsReg v.1.0 × HasExtension w v.1.1))
+    fits = record { ok = λ v p f. extended_ok w s.0 v.1.1 v.0 v.1.0 p f; back = back; out = λ v p bad. odd_extended w s.0 v.0 v.1.0 v.1.1 p (λ m. bad (register_in_range p.1.0 v.0 p.1.2, (register_in_range p.2.2.1.0 v.1.0 p.2.2.1.2, m))) }
 
 pub byte_order : (o : Order) (s : State) (r : Option (ℕ × SwapWidth)) (u : State) → Reads (λ (v : ℕ × SwapWidth). (v.0, swap_width_bits v.1)) (Then (Token IsRegister) (Behind (44 ∷ []) (Token IsNumeral))) (λ (v : ℕ × ℕ). IsReg v.0 × HasSwapWidth v.1) s r u → Answers (word.ByteOrder o) s (option_map (λ (v : ℕ × SwapWidth). plain (line.ByteOrder o v.1 v.0)) r) u
 byte_order o s r u h start = judged fits r u (gives_of (λ (v : ℕ × SwapWidth). (v.0, swap_width_bits v.1)) (Then (Token IsRegister) (Behind (44 ∷ []) (Token IsNumeral))) (λ (v : ℕ × ℕ). IsReg v.0 × HasSwapWidth v.1) s r u start h)
@@ -227,7 +228,7 @@ exit (x ∷ xs, out) start = λ s k. by s.line s.name s.unknown_width k.0 k.1
     by _ name odd m k = absurd cc
 
 -- a word is of one mnemonic
-pub form_judged : (tokens : List (List ℕ)) (w : List ℕ) (operands : List (List ℕ)) (found : Mnemonic) (r : Result Source LineFault) → tokens ≡ w ∷ operands → w ≡ mnemonic_name found → ((m : Mnemonic) → w ≡ mnemonic_name m → Some found ≡ Some m)
+pub form_judged : (tokens : List (List ℕ)) (w : List ℕ) (operands : List (List ℕ)) (found : Mnemonic) (r : Result LentStatement LineFault) → tokens ≡ w ∷ operands → w ≡ mnemonic_name found → ((m : Mnemonic) → w ≡ mnemonic_name m → Some found ≡ Some m)
     → Judges found operands r → JudgesForm tokens r
 form_judged tokens w operands found (Ok s) e is only h = ((operands, e ∙ ap (λ (t : List ℕ). t ∷ operands) (is ∙ ap mnemonic_name (sym h.0.0)), h.0.1), h.1)
 form_judged tokens w operands found (Err Syntax) e is only h = λ s k.

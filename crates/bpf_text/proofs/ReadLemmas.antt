@@ -1,5 +1,5 @@
 -- Readings one after another.
-use Rattle.std.proofs.Common.{◌≡◌, ◌≢◌, ℕ, ℤ, pos, List, [], ◌∷◌, Option, Some, None, Result, Ok, Err, IfSome, IfNone, Bor, length, ◌≤◌, ◌-◌, take, drop, arith, is_some, Bool, true, false, refl, sym, ap, ◌∙◌, subst, inl, inr, ◌⊎◌, FitsSigned}
+use Rattle.std.proofs.Common.{◌≡◌, ◌≢◌, ℕ, ℤ, pos, List, [], ◌∷◌, Option, Some, None, Result, Ok, Err, IfSome, IfNone, Bor, length, ◌≤◌, ◌-◌, take, drop, get_or, arith, is_some, Bool, true, false, refl, sym, ap, ◌∙◌, subst, inl, inr, ◌⊎◌, FitsSigned}
 use Rattle.std.specs.Int.{w16}
 use Rattle.bpf_types.specs.Line.{IsReg}
 use Rattle.bpf_types.specs.declared.line.Line.{Line}
@@ -119,9 +119,9 @@ gives_of view L F s (Some v) ([], true) start h = elim h.kept [
 gives_of view L F s (Some v) (x ∷ xs, out) start h = λ w p. let bad = h.only w [] p in absurd cc
 
 -- the tokens behind the first one
-pub mark_front : (ts : List (Bor (List ℕ))) (mark : List ℕ) → 1 ≤ length ts → ((token : Bor (List ℕ)) (rest : List (Bor (List ℕ))) → ts ≡ token ∷ rest → token.now ≡ mark) → texts ts ≡ mark ∷ texts (take (length ts - 1) (drop 1 ts))
-mark_front [] mark le same = absurd (omega arith)
-mark_front (x ∷ ts) mark le same = let e : take (length (x ∷ ts) - 1) (drop 1 (x ∷ ts)) ≡ ts = grind (arith, common_steps) in rw e (ap (λ (m : List ℕ). m ∷ texts ts) (same x ts refl))
+pub word_front : (ts : List (Bor (List ℕ))) (word : List ℕ) (other : Bor (List ℕ)) → 1 ≤ length ts → (get_or ts 0 other).now ≡ word → texts ts ≡ word ∷ texts (take (length ts - 1) (drop 1 ts))
+word_front [] word other le same = absurd (omega arith)
+word_front (x ∷ ts) word other le same = let e : take (length (x ∷ ts) - 1) (drop 1 (x ∷ ts)) ≡ ts = grind (arith, common_steps) in rw e (ap (λ (m : List ℕ). m ∷ texts ts) same)
 
 pub if_some : {P : Type 0} (r : Option (Unit {0})) → IfSome r (λ u. P) → is_some r ≡ true → P
 if_some None h e = absurd cc

@@ -9,7 +9,7 @@ use Rattle.bpf_text.specs.Lines.{IsOperands, IsForm, IsBody, HasLabel, Statement
 use Rattle.bpf_text.specs.Judged.{texts, JudgesForm, JudgesBody, JudgesTokens, JudgesLine}
 use Rattle.bpf_types.specs.declared.line.Line.{Line}
 use Rattle.bpf_types.specs.declared.line.Line.TheVariants as line
-use Rattle.bpf_text.specs.declared.line.Parsed.{Parsed}
+use Rattle.bpf_text.specs.declared.line.TextLine.{TextLine as LentLine}
 use Rattle.bpf_text.specs.declared.line.LineFault.{LineFault}
 use Rattle.bpf_text.specs.declared.line.LineFault.TheVariants.{Syntax, Range}
 use Rattle.bpf_text.proofs.Scanning.{one_tokens}
@@ -109,7 +109,7 @@ plain_err tokens Syntax none judge = λ w h. by w.label w.body h
     by (Some n) body (others, e', is', b) = none n others e'
 plain_err tokens Range none judge = (record { label = None; body = judge.0 }, judge.1, judge.2)
 
-pub line_judged : (text : List ℕ) (tokens : List (List ℕ)) (r : Result Parsed LineFault) → HasTokens text tokens → JudgesTokens tokens r → JudgesLine text r
+pub line_judged : (text : List ℕ) (tokens : List (List ℕ)) (r : Result LentLine LineFault) → HasTokens text tokens → JudgesTokens tokens r → JudgesLine text r
 line_judged text tokens (Ok p) has judge = ((tokens, has, judge.0), judge.1)
 line_judged text tokens (Err Syntax) has judge = λ w h. judge w (subst (HasLabel w.label w.body) (one_tokens text h.0 tokens h.1 has) h.2)
 line_judged text tokens (Err Range) has judge = (judge.0, (tokens, has, judge.1), judge.2)

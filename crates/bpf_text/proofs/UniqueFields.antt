@@ -3,13 +3,13 @@ use Rattle.std.proofs.Common.{◌≡◌, ◌<◌, ◌+◌, ℕ, ℤ, pos, ◌-�
 use Rattle.bpf_types.specs.declared.line.Operand.{Operand}
 use Rattle.bpf_types.specs.declared.line.Operand.TheVariants.{Immediate, Register}
 use Rattle.std.specs.Str.Parse.{AllDigits}
-use Rattle.bpf_text.specs.Number.{Spells, IsNumeral}
+use Rattle.bpf_text.specs.Number.{IsInBase, IsNumeral}
 use Rattle.bpf_text.specs.Tokens.{is_word}
 use Rattle.bpf_text.specs.Fields.{IsRegister, IsInteger, IsImmediate, IsSecond, IsDistance, IsTarget, IsName, as_signed}
 use Rattle.bpf_text.proofs.FieldLemmas.{register_text, letter_no_numeral, sign_no_numeral}
 
 -- no decimal numeral begins with 0x
-no_x : (octets digits : List ℕ) (n : ℕ) → Spells 10 octets n → octets ≡ 48 ∷ 120 ∷ digits → ⊥
+no_x : (octets digits : List ℕ) (n : ℕ) → IsInBase 10 octets n → octets ≡ 48 ∷ 120 ∷ digits → ⊥
 no_x octets digits n h e =
     let all = subst (AllDigits 10) e h.0.1 in
     omega (arith, all.1.0)
@@ -18,7 +18,7 @@ pub one_numeral : (t : List ℕ) (m n : ℕ) → IsNumeral t m → IsNumeral t n
 one_numeral t m n (inl h) (inl k) = h.1 ∙ sym k.1
 one_numeral t m n (inl h) (inr k) = absurd (no_x t k.0 m h k.1)
 one_numeral t m n (inr h) (inl k) = absurd (no_x t h.0 n k h.1)
-one_numeral t m n (inr (a, e, h)) (inr (b, f, k)) = let same : b ≡ a = cc in let q = subst (λ (u : List ℕ). Spells 16 u n) same k in h.1 ∙ sym q.1
+one_numeral t m n (inr (a, e, h)) (inr (b, f, k)) = let same : b ≡ a = cc in let q = subst (λ (u : List ℕ). IsInBase 16 u n) same k in h.1 ∙ sym q.1
 
 pub one_register : (t : List ℕ) (m n : ℕ) → IsRegister t m → IsRegister t n → m ≡ n
 one_register t m n h k = by (register_text t m h) (register_text t n k)

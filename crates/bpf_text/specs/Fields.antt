@@ -38,13 +38,13 @@ IsDistance token z = (digits : List ℕ) × (n : ℕ) × IsNumeral digits n
     ⊎ ((token ≡ codes "-" ++ digits) × (z ≡ pos 0 -ℤ pos n)))
 
 -- a letter or _
-abbrev pub IsFirst : ℕ → Type 0
-IsFirst octet = (is_word octet ≡ true) × ((octet < 48) ⊎ (57 < octet))
+abbrev pub BeginsName : ℕ → Type 0
+BeginsName octet = (is_word octet ≡ true) × ((octet < 48) ⊎ (57 < octet))
 
 -- a name: at most 32 octets of a word, no digit in front
 abbrev pub IsName : List ℕ → Type 0
 IsName [] = ⊥
-IsName (octet ∷ octets) = IsFirst octet × AllWord octets × (length octets < 32)
+IsName (octet ∷ octets) = BeginsName octet × AllWord octets × (length octets < 32)
 
 -- what stands in place of a distance: the distance itself, or a label's name, for which the line
 -- has distance 0

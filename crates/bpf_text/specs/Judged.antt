@@ -4,8 +4,8 @@ use denote.Ref.{Bor}
 use Rattle.bpf_canonical.specs.declared.mnemonic.Mnemonic.{Mnemonic}
 use Rattle.bpf_canonical.specs.Mnemonics.{mnemonic_of}
 use Rattle.bpf_text.specs.Lines.{IsOperands, IsForm, Statement, TextLine, Writes, Fits, InRange, IsBody, HasLabel}
-use Rattle.bpf_text.specs.declared.line.Source.{Source}
-use Rattle.bpf_text.specs.declared.line.Parsed.{Parsed}
+use Rattle.bpf_text.specs.declared.line.Statement.{Statement as LentStatement}
+use Rattle.bpf_text.specs.declared.line.TextLine.{TextLine as LentLine}
 use Rattle.bpf_text.specs.declared.line.LineFault.{LineFault}
 use Rattle.bpf_text.specs.declared.line.LineFault.TheVariants.{Syntax, Range}
 
@@ -23,16 +23,16 @@ abbrev pub target_of : ℤ × Option (Bor (List ℕ)) → ℤ × Option (List �
 target_of p = (p.0, text_of p.1)
 
 -- an instruction, as it is written
-abbrev pub as_statement : Source → Statement
+abbrev pub as_statement : LentStatement → Statement
 as_statement s = record { line = s.line; name = text_of s.name; unknown_width = None }
 
 -- the instruction of a line, if it has one
-abbrev pub statement_of : Option Source → Option Statement
+abbrev pub statement_of : Option LentStatement → Option Statement
 statement_of None = None
 statement_of (Some s) = Some (as_statement s)
 
 -- a line: its label and its instruction
-abbrev pub written_line : Parsed → TextLine
+abbrev pub written_line : LentLine → TextLine
 written_line p = record { label = text_of p.label; body = statement_of p.body }
 
 -- what was read is written so, and in its range; or nothing is written so; or something is, and out
@@ -44,24 +44,24 @@ Gives {V} {W} view Is Fits (Err Syntax) = (w : W) → ¬ Is w
 Gives {V} {W} view Is Fits (Err Range) = (w : W) × Is w × ¬ Fits w
 
 -- a whole line
-abbrev pub JudgesLine : List ℕ → Result Parsed LineFault → Type 0
+abbrev pub JudgesLine : List ℕ → Result LentLine LineFault → Type 0
 JudgesLine text result = Gives written_line (Writes text) (λ w. InRange w.body) result
 
 -- a line's tokens
-abbrev pub JudgesTokens : List (List ℕ) → Result Parsed LineFault → Type 0
+abbrev pub JudgesTokens : List (List ℕ) → Result LentLine LineFault → Type 0
 JudgesTokens tokens result =
     Gives written_line (λ w. HasLabel w.label w.body tokens) (λ w. InRange w.body) result
 
 -- the tokens behind a label
-abbrev pub JudgesBody : List (List ℕ) → Result (Option Source) LineFault → Type 0
+abbrev pub JudgesBody : List (List ℕ) → Result (Option LentStatement) LineFault → Type 0
 JudgesBody tokens result = Gives statement_of (λ s. IsBody s tokens) InRange result
 
 -- an instruction
-abbrev pub JudgesForm : List (List ℕ) → Result Source LineFault → Type 0
+abbrev pub JudgesForm : List (List ℕ) → Result LentStatement LineFault → Type 0
 JudgesForm tokens result = Gives as_statement (λ s. IsForm s tokens) Fits result
 
 -- the operands of one mnemonic
-abbrev pub Judges : Mnemonic → List (List ℕ) → Result Source LineFault → Type 0
+abbrev pub Judges : Mnemonic → List (List ℕ) → Result LentStatement LineFault → Type 0
 Judges m tokens result =
     Gives as_statement (λ s. (mnemonic_of s.line ≡ m) × IsOperands s tokens) Fits
     result

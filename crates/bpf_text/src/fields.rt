@@ -5,7 +5,7 @@ ghost use Rattle.bpf_types.specs.Line.{IsOperand, swap_width_bits};
 ghost use Rattle.bpf_text.specs.Number.{IsNumeral};
 ghost use Rattle.bpf_text.specs.Tokens.{AllWord};
 ghost use Rattle.bpf_text.specs.Fields.{IsRegister, IsInteger, IsImmediate, IsSecond, IsDistance, IsName, IsTarget, as_signed};
-ghost use Rattle.bpf_text.specs.Mirror.Gives.{IsWide, bits_in, HasExtension, HasSwapWidth};
+ghost use Rattle.bpf_text.specs.Mirror.Gives.{IsWide, bits_in, IsWidth, HasExtension, HasSwapWidth};
 ghost use Rattle.bpf_text.specs.Judged.{Gives, target_of};
 
 use crate::line::LineFault;
@@ -114,9 +114,8 @@ pub fn long_target(token: &[u8]) -> Result<(i32, Option<&[u8]>), LineFault>
 }
 
 /// The width that the token says, which a sign is extended from.
-#[tactic(auto, using(crate::proofs::FieldLemmas::bits_in_class))]
 pub fn extension(width: Width, token: &[u8]) -> Result<Extension, LineFault>
-    ensures { Gives (bits_in width) (IsNumeral token.now) (HasExtension width) result }
+    ensures { Gives (bits_in width) (IsWidth token.now) (HasExtension width) result }
 {
     Extension::new(width, numeral(token)?).ok_or(LineFault::Range)
 }

@@ -7,7 +7,7 @@ ghost use Rattle.bpf_canonical.specs.Canonical.{canonical};
 ghost use Rattle.bpf_text.specs.Lines.{TextLine, Writes, InRange};
 ghost use Rattle.bpf_text.specs.Listings.{alone};
 ghost use Rattle.bpf_text.specs.Judged.{JudgesLine, written_line};
-ghost use Rattle.bpf_text.specs.declared.line.Parsed.{Parsed};
+ghost use Rattle.bpf_text.specs.declared.line.TextLine as lent;
 ghost use Rattle.bpf_text.specs.declared.line.LineFault.{LineFault};
 
 use bpf_canonical::mnemonics_are_unique;
@@ -25,7 +25,7 @@ pub fn readings_are_unique()
 /// no label; `read_line` answers that instruction.
 pub fn canonical_texts_are_read_back()
     ensures writes { (line : Line) → IsLine line → Writes (canonical line) (alone line) }
-    ensures reads { (line : Line) (result : Result Parsed LineFault) → IsLine line →
+    ensures reads { (line : Line) (result : Result lent.TextLine LineFault) → IsLine line →
         JudgesLine (canonical line) result →
         MatchResult result (λ p. written_line p ≡ alone line) (λ fault. ⊥) }
 {

@@ -11,5 +11,5 @@ mod statements;
 mod token;
 mod tokens;
 
-pub use line::{LineFault, Parsed, Source};
+pub use line::{LineFault, Statement, TextLine};
 pub use reading::read_line;

@@ -3,22 +3,22 @@
 use bpf_types::Line;
 
 /// An instruction, and the label's name that stands in place of its distance, which is 0 then.
-#[derive(Clone, Copy)]
-pub struct Source<'a> {
+#[derive(Clone, Copy, PartialEq, Eq, Debug)]
+pub struct Statement<'a> {
     pub line: Line,
     pub name: Option<&'a [u8]>,
 }
 
 /// The label and the instruction of a line, each if there is one.
-#[derive(Clone, Copy)]
-pub struct Parsed<'a> {
+#[derive(Clone, Copy, PartialEq, Eq, Debug)]
+pub struct TextLine<'a> {
     pub label: Option<&'a [u8]>,
-    pub body: Option<Source<'a>>,
+    pub body: Option<Statement<'a>>,
 }
 
 /// Why a line by itself is no line of assembly text: it has not the form of one, or a number of it
 /// is out of its range.
-#[derive(Clone, Copy)]
+#[derive(Clone, Copy, PartialEq, Eq, Debug)]
 pub enum LineFault {
     Syntax,
     Range,

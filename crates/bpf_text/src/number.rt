@@ -1,7 +1,7 @@
 //! Numbers in assembly text.
 ghost use Rattle.std.specs.Prelude.{◌<◌, ◌≤◌, ◌^◌, ◌↔◌, IsTrue};
 ghost use Rattle.std.specs.Str.Parse.{AllDigits};
-ghost use Rattle.bpf_text.specs.Number.{Spells, IsNumeral};
+ghost use Rattle.bpf_text.specs.Number.{IsInBase, IsNumeral};
 ghost use Rattle.bpf_text.specs.Judged.{Gives};
 
 use crate::line::LineFault;
@@ -19,7 +19,7 @@ fn are_digits(base: u32, octets: &[u8]) -> bool
 fn in_base(base: u32, octets: &[u8]) -> Result<u64, LineFault>
     requires low { 2 ≤ base }
     requires high { base ≤ 36 }
-    ensures { Gives (λ n. n) (Spells base octets.now) (λ n. n < 2 ^ 64) result }
+    ensures { Gives (λ n. n) (IsInBase base octets.now) (λ n. n < 2 ^ 64) result }
 {
     if octets.is_empty() || !are_digits(base, octets) {
         return Err(LineFault::Syntax);

@@ -1,11 +1,11 @@
 //! A cursor over the operands of an instruction.
-ghost use Rattle.std.specs.Prelude.{◌≡◌, ◌≢◌, ◌<◌, ◌^◌, ◌∷◌, [], List, ℕ, codes, IfSome, IfNone, FitsSigned};
+ghost use Rattle.std.specs.Prelude.{◌≡◌, ◌≢◌, ◌<◌, ◌^◌, ◌∷◌, List, ℕ, IfSome, IfNone, FitsSigned};
 ghost use Rattle.std.specs.Int.{w16, w32};
 ghost use Rattle.bpf_types.specs.Line.{IsReg, IsOperand, swap_width_bits};
 ghost use Rattle.bpf_text.specs.Number.{IsNumeral};
 ghost use Rattle.bpf_text.specs.Fields.{IsRegister, IsImmediate, IsSecond, IsTarget};
 ghost use Rattle.bpf_text.specs.Judged.{texts, target_of};
-ghost use Rattle.bpf_text.specs.Mirror.Gives.{bits_in, HasExtension, HasSwapWidth};
+ghost use Rattle.bpf_text.specs.Mirror.Gives.{bits_in, IsWidth, HasExtension, HasSwapWidth};
 ghost use Rattle.bpf_text.specs.Grammar.{Token, Bracket, Memory};
 ghost use Rattle.bpf_text.specs.Mirror.Reads.{state, Reads, Takes, Notes};
 
@@ -37,35 +37,17 @@ impl<'a> Operands<'_, 'a> {
         }
     }
 
-    /// Passes over the mark where it is the next token.
-    pub fn mark(&mut self, mark: u8) -> Option<()>
+    /// Passes over the word or the mark where it is the next token.
+    pub fn expect(&mut self, word: &[u8]) -> Option<()>
         ensures some { IfSome result (λ u. (texts self.old.rest.now
-            ≡ (mark ∷ []) ∷ texts self.new.rest.now)
+            ≡ word.now ∷ texts self.new.rest.now)
             × (self.new.out_of_range ≡ self.old.out_of_range)) }
         ensures none { IfNone result ((rest : List (List ℕ)) →
-            texts self.old.rest.now ≢ (mark ∷ []) ∷ rest) }
+            texts self.old.rest.now ≢ word.now ∷ rest) }
         ensures stays { IfNone result (state self.new ≡ state self.old) }
     {
         match self.rest {
-            [[octet], rest @ ..] if *octet == mark => {
-                self.rest = rest;
-                Some(())
-            }
-            _ => None,
-        }
-    }
-
-    /// Passes over the word `local` where it is the next token.
-    pub fn local(&mut self) -> Option<()>
-        ensures some { IfSome result (λ u. (texts self.old.rest.now
-            ≡ codes "local" ∷ texts self.new.rest.now)
-            × (self.new.out_of_range ≡ self.old.out_of_range)) }
-        ensures none { IfNone result ((rest : List (List ℕ)) →
-            texts self.old.rest.now ≢ codes "local" ∷ rest) }
-        ensures stays { IfNone result (state self.new ≡ state self.old) }
-    {
-        match self.rest {
-            [b"local", rest @ ..] => {
+            [token, rest @ ..] if *token == word => {
                 self.rest = rest;
                 Some(())
             }
@@ -122,7 +104,7 @@ impl<'a> Operands<'_, 'a> {
 
     /// The width that a sign is extended from.
     pub fn extension(&mut self, width: Width) -> Option<Extension>
-        ensures { Reads (bits_in width) (Token IsNumeral) (HasExtension width)
+        ensures { Reads (bits_in width) (Token IsWidth) (HasExtension width)
             (state self.old) result (state self.new) }
     {
         let extension = fields::extension(width, self.token()?);
@@ -159,11 +141,11 @@ impl<'a> Operands<'_, 'a> {
     fn offset(&mut self) -> Option<i16>
         ensures { Reads (λ z. z) Bracket (FitsSigned w16) (state self.old) result (state self.new) }
     {
-        if self.mark(b']').is_some() {
+        if self.expect(b"]").is_some() {
             return Some(0);
         }
         let distance = fields::short_distance(self.token()?);
-        self.mark(b']')?;
+        self.expect(b"]")?;
         self.note(distance, 0)
     }
 
@@ -172,7 +154,7 @@ impl<'a> Operands<'_, 'a> {
         ensures { Reads (λ p. (p.0, p.1)) Memory (λ w. IsReg w.0 × FitsSigned w16 w.1)
             (state self.old) result (state self.new) }
     {
-        self.mark(b'[')?;
+        self.expect(b"[")?;
         let base = self.register()?;
         let offset = self.offset()?;
         Some((base, offset))

@@ -3,19 +3,19 @@ ghost use Rattle.std.specs.Prelude.{◌≡◌, ◌≢◌, ◌∷◌, List, ℕ, 
 ghost use Rattle.bpf_text.specs.Judged.{texts, JudgesBody, JudgesTokens, JudgesLine};
 
 use crate::fields::is_name;
-use crate::line::{LineFault, Parsed, Source};
+use crate::line::{LineFault, Statement, TextLine};
 use crate::statements::statement;
 use crate::tokens::tokens;
 
 /// The instruction of these tokens, if there are any.
-fn body_of<'a>(tokens: &[&'a [u8]]) -> Result<Option<Source<'a>>, LineFault>
+fn body_of<'a>(tokens: &[&'a [u8]]) -> Result<Option<Statement<'a>>, LineFault>
     ensures { JudgesBody (texts tokens.now) result }
 {
     if tokens.is_empty() {
         return Ok(None);
     }
     match statement(tokens) {
-        Ok(source) => Ok(Some(source)),
+        Ok(statement) => Ok(Some(statement)),
         Err(fault) => Err(fault),
     }
 }
@@ -33,7 +33,7 @@ fn label_of<'b, 'a>(tokens: &'b [&'a [u8]]) -> Option<(&'a [u8], &'b [&'a [u8]])
 }
 
 /// The label and the instruction of these tokens.
-fn parts_of<'a>(tokens: &[&'a [u8]]) -> Result<Parsed<'a>, LineFault>
+fn parts_of<'a>(tokens: &[&'a [u8]]) -> Result<TextLine<'a>, LineFault>
     ensures { JudgesTokens (texts tokens.now) result }
 {
     let (label, rest) = match label_of(tokens) {
@@ -42,7 +42,7 @@ fn parts_of<'a>(tokens: &[&'a [u8]]) -> Result<Parsed<'a>, LineFault>
         None => (None, tokens),
     };
     match body_of(rest) {
-        Ok(body) => Ok(Parsed { label, body }),
+        Ok(body) => Ok(TextLine { label, body }),
         Err(fault) => Err(fault),
     }
 }
@@ -53,7 +53,7 @@ fn parts_of<'a>(tokens: &[&'a [u8]]) -> Result<Parsed<'a>, LineFault>
 ///
 /// Refused with Syntax where the line has not the form of one, and then with Range where a number,
 /// or the number of a width, is out of its range. The time is linear in the line.
-pub fn read_line<'a>(text: &'a [u8]) -> Result<Parsed<'a>, LineFault>
+pub fn read_line<'a>(text: &'a [u8]) -> Result<TextLine<'a>, LineFault>
     ensures { JudgesLine text.now result }
 {
     let found = tokens(text).ok_or(LineFault::Syntax)?;

@@ -6,28 +6,28 @@ ghost use Rattle.bpf_canonical.specs.declared.mnemonic.Access.TheVariants as acc
 ghost use Rattle.bpf_text.specs.Judged.{texts, Judges, JudgesForm};
 ghost use Rattle.bpf_text.specs.Mirror.Reads.{state, Answers};
 
-use crate::line::{LineFault, Source};
+use crate::line::{LineFault, Statement};
 use crate::operands::Operands;
 use bpf_canonical::{Access, Jump, Mnemonic, read_mnemonic};
 use bpf_types::{Comparison, Line, Operation, Order, SignedSize, Size, Width};
 
 /// An instruction with no label's name.
-fn plain<'a>(line: Line) -> Option<Source<'a>>
+fn plain<'a>(line: Line) -> Option<Statement<'a>>
     ensures { result ≡ Some (record { line = line; name = None }) }
 {
-    Some(Source { line, name: None })
+    Some(Statement { line, name: None })
 }
 
 fn arithmetic<'a>(
     operands: &mut Operands<'_, 'a>,
     width: Width,
     operation: Operation,
-) -> Option<Source<'a>>
+) -> Option<Statement<'a>>
     ensures { Answers (word.Arithmetic width operation)
         (state operands.old) result (state operands.new) }
 {
     let dst = operands.register()?;
-    operands.mark(b',')?;
+    operands.expect(b",")?;
     let operand = operands.second()?;
     plain(Line::Arithmetic {
         width,
@@ -37,20 +37,20 @@ fn arithmetic<'a>(
     })
 }
 
-fn negate<'a>(operands: &mut Operands<'_, 'a>, width: Width) -> Option<Source<'a>>
+fn negate<'a>(operands: &mut Operands<'_, 'a>, width: Width) -> Option<Statement<'a>>
     ensures { Answers (word.Negate width) (state operands.old) result (state operands.new) }
 {
     let dst = operands.register()?;
     plain(Line::Negate { width, dst })
 }
 
-fn move_extended<'a>(operands: &mut Operands<'_, 'a>, width: Width) -> Option<Source<'a>>
+fn move_extended<'a>(operands: &mut Operands<'_, 'a>, width: Width) -> Option<Statement<'a>>
     ensures { Answers (word.MoveExtended width) (state operands.old) result (state operands.new) }
 {
     let dst = operands.register()?;
-    operands.mark(b',')?;
+    operands.expect(b",")?;
     let src = operands.register()?;
-    operands.mark(b',')?;
+    operands.expect(b",")?;
     let extension = operands.extension(width)?;
     plain(Line::MoveExtended {
         extension,
@@ -59,39 +59,39 @@ fn move_extended<'a>(operands: &mut Operands<'_, 'a>, width: Width) -> Option<So
     })
 }
 
-fn byte_order<'a>(operands: &mut Operands<'_, 'a>, order: Order) -> Option<Source<'a>>
+fn byte_order<'a>(operands: &mut Operands<'_, 'a>, order: Order) -> Option<Statement<'a>>
     ensures { Answers (word.ByteOrder order) (state operands.old) result (state operands.new) }
 {
     let dst = operands.register()?;
-    operands.mark(b',')?;
+    operands.expect(b",")?;
     let width = operands.swap_width()?;
     plain(Line::ByteOrder { order, width, dst })
 }
 
-fn load_wide<'a>(operands: &mut Operands<'_, 'a>) -> Option<Source<'a>>
+fn load_wide<'a>(operands: &mut Operands<'_, 'a>) -> Option<Statement<'a>>
     ensures { Answers word.LoadWide (state operands.old) result (state operands.new) }
 {
     let dst = operands.register()?;
-    operands.mark(b',')?;
+    operands.expect(b",")?;
     let value = operands.number()?;
     plain(Line::LoadWide { dst, value })
 }
 
-fn jump<'a>(operands: &mut Operands<'_, 'a>) -> Option<Source<'a>>
+fn jump<'a>(operands: &mut Operands<'_, 'a>) -> Option<Statement<'a>>
     ensures { Answers (word.Jump leap.Short) (state operands.old) result (state operands.new) }
 {
     let (distance, name) = operands.short_target()?;
-    Some(Source {
+    Some(Statement {
         line: Line::Jump { distance },
         name,
     })
 }
 
-fn long_jump<'a>(operands: &mut Operands<'_, 'a>) -> Option<Source<'a>>
+fn long_jump<'a>(operands: &mut Operands<'_, 'a>) -> Option<Statement<'a>>
     ensures { Answers (word.Jump leap.Long) (state operands.old) result (state operands.new) }
 {
     let (distance, name) = operands.long_target()?;
-    Some(Source {
+    Some(Statement {
         line: Line::LongJump { distance },
         name,
     })
@@ -101,16 +101,16 @@ fn jump_if<'a>(
     operands: &mut Operands<'_, 'a>,
     width: Width,
     comparison: Comparison,
-) -> Option<Source<'a>>
+) -> Option<Statement<'a>>
     ensures { Answers (word.Jump (leap.If width comparison))
         (state operands.old) result (state operands.new) }
 {
     let dst = operands.register()?;
-    operands.mark(b',')?;
+    operands.expect(b",")?;
     let operand = operands.second()?;
-    operands.mark(b',')?;
+    operands.expect(b",")?;
     let (distance, name) = operands.short_target()?;
-    Some(Source {
+    Some(Statement {
         line: Line::JumpIf {
             width,
             comparison,
@@ -123,12 +123,12 @@ fn jump_if<'a>(
 }
 
 /// A call of the engine by its number, or a local call.
-fn call<'a>(operands: &mut Operands<'_, 'a>) -> Option<Source<'a>>
+fn call<'a>(operands: &mut Operands<'_, 'a>) -> Option<Statement<'a>>
     ensures { Answers (word.Jump leap.Call) (state operands.old) result (state operands.new) }
 {
-    if operands.local().is_some() {
+    if operands.expect(b"local").is_some() {
         let (distance, name) = operands.long_target()?;
-        return Some(Source {
+        return Some(Statement {
             line: Line::CallLocal { distance },
             name,
         });
@@ -137,12 +137,12 @@ fn call<'a>(operands: &mut Operands<'_, 'a>) -> Option<Source<'a>>
     plain(Line::Call { number })
 }
 
-fn load<'a>(operands: &mut Operands<'_, 'a>, size: Size) -> Option<Source<'a>>
+fn load<'a>(operands: &mut Operands<'_, 'a>, size: Size) -> Option<Statement<'a>>
     ensures { Answers (word.Access (access.Load size))
         (state operands.old) result (state operands.new) }
 {
     let dst = operands.register()?;
-    operands.mark(b',')?;
+    operands.expect(b",")?;
     let (base, offset) = operands.memory()?;
     plain(Line::Load {
         size,
@@ -152,12 +152,12 @@ fn load<'a>(operands: &mut Operands<'_, 'a>, size: Size) -> Option<Source<'a>>
     })
 }
 
-fn load_extended<'a>(operands: &mut Operands<'_, 'a>, size: SignedSize) -> Option<Source<'a>>
+fn load_extended<'a>(operands: &mut Operands<'_, 'a>, size: SignedSize) -> Option<Statement<'a>>
     ensures { Answers (word.Access (access.LoadExtended size))
         (state operands.old) result (state operands.new) }
 {
     let dst = operands.register()?;
-    operands.mark(b',')?;
+    operands.expect(b",")?;
     let (base, offset) = operands.memory()?;
     plain(Line::LoadExtended {
         size,
@@ -167,12 +167,12 @@ fn load_extended<'a>(operands: &mut Operands<'_, 'a>, size: SignedSize) -> Optio
     })
 }
 
-fn store<'a>(operands: &mut Operands<'_, 'a>, size: Size) -> Option<Source<'a>>
+fn store<'a>(operands: &mut Operands<'_, 'a>, size: Size) -> Option<Statement<'a>>
     ensures { Answers (word.Access (access.Store size))
         (state operands.old) result (state operands.new) }
 {
     let (base, offset) = operands.memory()?;
-    operands.mark(b',')?;
+    operands.expect(b",")?;
     let src = operands.register()?;
     plain(Line::Store {
         size,
@@ -182,12 +182,12 @@ fn store<'a>(operands: &mut Operands<'_, 'a>, size: Size) -> Option<Source<'a>>
     })
 }
 
-fn store_immediate<'a>(operands: &mut Operands<'_, 'a>, size: Size) -> Option<Source<'a>>
+fn store_immediate<'a>(operands: &mut Operands<'_, 'a>, size: Size) -> Option<Statement<'a>>
     ensures { Answers (word.Access (access.StoreImmediate size))
         (state operands.old) result (state operands.new) }
 {
     let (base, offset) = operands.memory()?;
-    operands.mark(b',')?;
+    operands.expect(b",")?;
     let value = operands.immediate()?;
     plain(Line::StoreImmediate {
         size,
@@ -198,7 +198,7 @@ fn store_immediate<'a>(operands: &mut Operands<'_, 'a>, size: Size) -> Option<So
 }
 
 /// The instruction of a mnemonic, from its operands.
-fn instruction<'a>(operands: &mut Operands<'_, 'a>, mnemonic: Mnemonic) -> Option<Source<'a>>
+fn instruction<'a>(operands: &mut Operands<'_, 'a>, mnemonic: Mnemonic) -> Option<Statement<'a>>
     ensures { Answers mnemonic (state operands.old) result (state operands.new) }
 {
     match mnemonic {
@@ -224,31 +224,27 @@ fn instruction<'a>(operands: &mut Operands<'_, 'a>, mnemonic: Mnemonic) -> Optio
 fn complete<'a>(
     operands: &mut Operands<'_, 'a>,
     mnemonic: Mnemonic,
-) -> Result<Source<'a>, LineFault>
+) -> Result<Statement<'a>, LineFault>
     requires { operands.old.out_of_range ≡ false }
     ensures { Judges mnemonic (texts operands.old.rest.now) result }
 {
     match instruction(operands, mnemonic) {
         Some(_) if operands.out_of_range && operands.rest.is_empty() => Err(LineFault::Range),
-        Some(source) if operands.rest.is_empty() => Ok(source),
+        Some(statement) if operands.rest.is_empty() => Ok(statement),
         _ => Err(LineFault::Syntax),
     }
 }
 
 /// The instruction of these tokens.
 #[inline(never)]
-pub fn statement<'a>(tokens: &[&'a [u8]]) -> Result<Source<'a>, LineFault>
+pub fn statement<'a>(tokens: &[&'a [u8]]) -> Result<Statement<'a>, LineFault>
     ensures { JudgesForm (texts tokens.now) result }
 {
     let mut operands = Operands {
         rest: tokens,
         out_of_range: false,
     };
-    let Some(word) = operands.token() else {
-        return Err(LineFault::Syntax);
-    };
-    match read_mnemonic(word) {
-        Some(mnemonic) => complete(&mut operands, mnemonic),
-        None => Err(LineFault::Syntax),
-    }
+    let word = operands.token().ok_or(LineFault::Syntax)?;
+    let mnemonic = read_mnemonic(word).ok_or(LineFault::Syntax)?;
+    complete(&mut operands, mnemonic)
 }

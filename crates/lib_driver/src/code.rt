@@ -5,7 +5,7 @@ ghost use Rattle.std.specs.Prelude.{◌+◌, ◌*◌, ◌≤◌, length, IsTrue}
 use bpf_canonical::{Jump, Mnemonic, read_mnemonic};
 use bpf_decode::{Slots, decode_at, encode};
 use bpf_listing::{disassemble, line_text};
-use bpf_text::{LineFault, Parsed};
+use bpf_text::{LineFault, TextLine};
 use bpf_types::Line;
 use call_lines::{Fault, Octets, Text, octets};
 use std::alloc::Global;
@@ -112,9 +112,9 @@ fn jump_name(jump: Jump) -> &'static str {
 fn read_line(alloc: Global, text: &[u8]) -> Result<String, Fault> {
     match bpf_text::read_line(text) {
         Ok(parsed) => {
-            let Parsed { label, body } = parsed;
+            let TextLine { label, body } = parsed;
             match body {
-                Some(source) => show_labelled(alloc, label, encode(source.line)),
+                Some(statement) => show_labelled(alloc, label, encode(statement.line)),
                 None => show_label(alloc, label),
             }
         }

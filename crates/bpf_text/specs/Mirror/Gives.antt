@@ -1,28 +1,34 @@
 -- The widths and the numbers that are read.
-use Rattle.std.specs.Prelude.{◌≡◌, ◌<◌, ◌^◌, ℕ, ℤ, pos, ◌-ℤ◌, ◌⊎◌, Result, Ok, Err}
+use Rattle.std.specs.Prelude.{◌≡◌, ◌<◌, ◌^◌, ℕ, ℤ, pos, ◌-ℤ◌, ◌⊎◌, List, Option, Some, None}
 use Rattle.bpf_types.specs.declared.line.Width.{Width}
 use Rattle.bpf_types.specs.declared.line.Extension.{Extension}
 use Rattle.bpf_types.specs.declared.line.Extension.TheVariants as extension
 use Rattle.bpf_types.specs.declared.line.Width.TheVariants.{W32, W64}
 use Rattle.bpf_types.specs.declared.line.SwapWidth.{SwapWidth}
 use Rattle.bpf_types.specs.Line.{swap_width_bits, extension_width, extension_bits}
-use Rattle.bpf_text.specs.declared.line.LineFault.{LineFault}
-use Rattle.bpf_text.specs.declared.line.LineFault.TheVariants.{Syntax, Range}
+use Rattle.bpf_text.specs.Number.{IsNumeral}
 
--- the width of an extension of the class, or 0 where it is of the other class
-abbrev pub bits_in : Width → Extension → ℕ
-bits_in W32 extension.From8To32 = 8
-bits_in W32 extension.From16To32 = 16
-bits_in W64 extension.From8To64 = 8
-bits_in W64 extension.From16To64 = 16
-bits_in W64 extension.From32To64 = 32
-bits_in width other = 0
+-- the width of an extension, where it is of the class
+abbrev pub bits_in : Width → Extension → Option ℕ
+bits_in W32 extension.From8To32 = Some 8
+bits_in W32 extension.From16To32 = Some 16
+bits_in W64 extension.From8To64 = Some 8
+bits_in W64 extension.From16To64 = Some 16
+bits_in W64 extension.From32To64 = Some 32
+bits_in width other = None
 
--- an extension of the class, or a byte order instruction, has this width
-abbrev pub HasExtension : Width → ℕ → Type 0
-HasExtension width n =
+-- the width is written so
+abbrev pub IsWidth : List ℕ → Option ℕ → Type 0
+IsWidth token None = ⊥
+IsWidth token (Some n) = IsNumeral token n
+
+-- an extension of the class has this width
+abbrev pub HasExtension : Width → Option ℕ → Type 0
+HasExtension width None = ⊥
+HasExtension width (Some n) =
     (e : Extension) × (extension_width e ≡ width) × (extension_bits e ≡ n)
 
+-- a byte order instruction has this width
 abbrev pub HasSwapWidth : ℕ → Type 0
 HasSwapWidth n = (s : SwapWidth) × (swap_width_bits s ≡ n)
 

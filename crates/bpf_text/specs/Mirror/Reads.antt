@@ -4,7 +4,7 @@ use denote.Ref.{Bor}
 use Rattle.bpf_canonical.specs.declared.mnemonic.Mnemonic.{Mnemonic}
 use Rattle.bpf_text.specs.Grammar.{Form}
 use Rattle.bpf_text.specs.Judged.{texts, Judges}
-use Rattle.bpf_text.specs.declared.line.Source.{Source}
+use Rattle.bpf_text.specs.declared.line.Statement.{Statement as LentStatement}
 use Rattle.bpf_text.specs.declared.line.LineFault.{LineFault}
 use Rattle.bpf_text.specs.declared.line.LineFault.TheVariants.{Syntax, Range}
 use Rattle.bpf_text.specs.declared.operands.Operands.{Operands}
@@ -52,5 +52,5 @@ verdict (Some v) ([], true) = Err Range
 verdict (Some v) ([], false) = Ok v
 
 -- an instruction of the mnemonic
-abbrev pub Answers : Mnemonic → State → Option Source → State → Type 0
+abbrev pub Answers : Mnemonic → State → Option LentStatement → State → Type 0
 Answers m old result new = old.1 ≡ false → Judges m old.0 (verdict result new)

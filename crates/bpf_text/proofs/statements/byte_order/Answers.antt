@@ -11,11 +11,11 @@ use Rattle.bpf_text.proofs.statements.byte_order.Goals as goal
 pub returns-in_err-dst : goal.returns-in_err-dst
 returns-in_err-dst c = rw c.from_residual.ensures (byte_order c.args.order (state c.args.operands.now) None (state c.register.new.self) (λ w rest m. c.in_err-dst.ensures w.0 m.0 m.1))
 
-pub returns-in_err-mark : goal.returns-in_err-mark
-returns-in_err-mark c = rw c.from_residual-in_err-mark.ensures (byte_order c.args.order (state c.args.operands.now) None (state c.mark.new.self) (then_next c.in_ok-dst.ensures swap_width_bits (Behind (44 ∷ []) (Token IsNumeral)) HasSwapWidth None (state c.mark.new.self) (λ w rest m. c.in_err-mark.ensures.none m.0 m.1)))
+pub returns-in_err-expect : goal.returns-in_err-expect
+returns-in_err-expect c = rw c.from_residual-in_err-expect.ensures (byte_order c.args.order (state c.args.operands.now) None (state c.expect.new.self) (then_next c.in_ok-dst.ensures swap_width_bits (Behind (44 ∷ []) (Token IsNumeral)) HasSwapWidth None (state c.expect.new.self) (λ w rest m. c.in_err-expect.ensures.none m.0 m.1)))
 
 pub returns-in_err-width : goal.returns-in_err-width
-returns-in_err-width c = rw c.from_residual-in_err-width.ensures (byte_order c.args.order (state c.args.operands.now) None (state c.swap_width.new.self) (then_next c.in_ok-dst.ensures swap_width_bits (Behind (44 ∷ []) (Token IsNumeral)) HasSwapWidth None (state c.swap_width.new.self) (behind_next (44 ∷ []) (state c.register.new.self) (state c.mark.new.self) c.in_ok-mark.ensures.some swap_width_bits (Token IsNumeral) HasSwapWidth None (state c.swap_width.new.self) c.in_err-width.ensures)))
+returns-in_err-width c = rw c.from_residual-in_err-width.ensures (byte_order c.args.order (state c.args.operands.now) None (state c.swap_width.new.self) (then_next c.in_ok-dst.ensures swap_width_bits (Behind (44 ∷ []) (Token IsNumeral)) HasSwapWidth None (state c.swap_width.new.self) (behind_next (44 ∷ []) (state c.register.new.self) (state c.expect.new.self) c.in_ok-expect.ensures.some swap_width_bits (Token IsNumeral) HasSwapWidth None (state c.swap_width.new.self) c.in_err-width.ensures)))
 
 pub returns : goal.returns
-returns c = rw c.plain.ensures (byte_order c.args.order (state c.args.operands.now) (Some (c.in_ok-dst.dst, c.in_ok-width.width)) (state c.swap_width.new.self) (then_next c.in_ok-dst.ensures swap_width_bits (Behind (44 ∷ []) (Token IsNumeral)) HasSwapWidth (Some c.in_ok-width.width) (state c.swap_width.new.self) (behind_next (44 ∷ []) (state c.register.new.self) (state c.mark.new.self) c.in_ok-mark.ensures.some swap_width_bits (Token IsNumeral) HasSwapWidth (Some c.in_ok-width.width) (state c.swap_width.new.self) c.in_ok-width.ensures)))
+returns c = rw c.plain.ensures (byte_order c.args.order (state c.args.operands.now) (Some (c.in_ok-dst.dst, c.in_ok-width.width)) (state c.swap_width.new.self) (then_next c.in_ok-dst.ensures swap_width_bits (Behind (44 ∷ []) (Token IsNumeral)) HasSwapWidth (Some c.in_ok-width.width) (state c.swap_width.new.self) (behind_next (44 ∷ []) (state c.register.new.self) (state c.expect.new.self) c.in_ok-expect.ensures.some swap_width_bits (Token IsNumeral) HasSwapWidth (Some c.in_ok-width.width) (state c.swap_width.new.self) c.in_ok-width.ensures)))
