@@ -34,9 +34,9 @@ use Rattle.std.proofs.Common.{w16, rules}
 use Rattle.std.proofs.lemmas.Int.{ints}
 use Rattle.bpf_canonical.specs.declared.mnemonic.Mnemonic.{Mnemonic}
 use Rattle.bpf_canonical.specs.declared.mnemonic.Mnemonic.TheVariants as word
-use Rattle.bpf_canonical.specs.declared.mnemonic.Jump.TheVariants as jump
-use Rattle.bpf_canonical.specs.declared.mnemonic.Access.TheVariants as access
-use Rattle.bpf_canonical.specs.Mnemonics.{operation_name, comparison_name, order_name, size_name, signed_size_name, width_name, mnemonic_name, mnemonic_of}
+use Rattle.bpf_canonical.specs.declared.mnemonic.Stem.{Stem}
+use Rattle.bpf_canonical.specs.declared.mnemonic.Stem.TheVariants as stem
+use Rattle.bpf_canonical.specs.Mnemonics.{operation_name, comparison_name, order_name, size_name, signed_size_name, width_name, stem_name, mnemonic_name, mnemonic_of}
 use Rattle.bpf_canonical.specs.Canonical.{canonical, operands_text, listing, register, with_sign, operand_text, hex_digits}
 use Rattle.bpf_canonical.specs.Octets.{is_text_octet}
 
@@ -122,19 +122,24 @@ swap_width_text swap.Bits16 = decimal_text 16 (omega arith)
 swap_width_text swap.Bits32 = decimal_text 32 (omega arith)
 swap_width_text swap.Bits64 = decimal_text 64 (omega arith)
 
+stem_text : (s : Stem) → IsText (stem_name s)
+stem_text (stem.Arithmetic o) = operation_text o
+stem_text stem.Negate = refl
+stem_text stem.MoveExtended = refl
+stem_text (stem.JumpIf t) = comparison_text t
+
 mnemonic_text : (m : Mnemonic) → IsText (mnemonic_name m)
-mnemonic_text (word.Arithmetic w o) = joined (operation_name o) (width_name w) (operation_text o) (width_text w)
-mnemonic_text (word.Negate w) = joined (codes "neg") (width_name w) refl (width_text w)
-mnemonic_text (word.MoveExtended w) = joined (codes "movsx") (width_name w) refl (width_text w)
+mnemonic_text (word.Classed s w) = joined (stem_name s) (width_name w) (stem_text s) (width_text w)
 mnemonic_text (word.ByteOrder o) = order_text o
 mnemonic_text word.LoadWide = refl
-mnemonic_text (word.Jump (jump.If w t)) = joined (comparison_name t) (width_name w) (comparison_text t) (width_text w)
-mnemonic_text (word.Jump jump.Short) = refl
-mnemonic_text (word.Jump _) = refl
-mnemonic_text (word.Access (access.Load s)) = joined (codes "ldx") (size_name s) refl (size_text s)
-mnemonic_text (word.Access (access.LoadExtended s)) = joined (codes "ldxs") (signed_size_name s) refl (signed_size_text s)
-mnemonic_text (word.Access (access.Store s)) = joined (codes "stx") (size_name s) refl (size_text s)
-mnemonic_text (word.Access (access.StoreImmediate s)) = joined (codes "st") (size_name s) refl (size_text s)
+mnemonic_text (word.Load s) = joined (codes "ldx") (size_name s) refl (size_text s)
+mnemonic_text (word.LoadExtended s) = joined (codes "ldxs") (signed_size_name s) refl (signed_size_text s)
+mnemonic_text (word.Store s) = joined (codes "stx") (size_name s) refl (size_text s)
+mnemonic_text (word.StoreImmediate s) = joined (codes "st") (size_name s) refl (size_text s)
+mnemonic_text word.Jump = refl
+mnemonic_text word.LongJump = refl
+mnemonic_text word.Call = refl
+mnemonic_text word.Exit = refl
 
 wide_text : (dst : ℕ) (hex : List ℕ) → dst ≤ 10 → IsText hex → IsText (codes " " ++ register dst ++ codes ", 0x" ++ hex)
 wide_text dst hex le h = simp (list_all-append is_text_octet, register_text dst le, h) refl

@@ -19,10 +19,8 @@ use Rattle.bpf_types.specs.declared.line.Width.TheVariants.{W32, W64}
 use Rattle.bpf_types.specs.Line.{extension_width}
 use Rattle.bpf_canonical.specs.declared.mnemonic.Mnemonic.{Mnemonic}
 use Rattle.bpf_canonical.specs.declared.mnemonic.Mnemonic.TheVariants as word
-use Rattle.bpf_canonical.specs.declared.mnemonic.Jump.{Jump}
-use Rattle.bpf_canonical.specs.declared.mnemonic.Jump.TheVariants as jump
-use Rattle.bpf_canonical.specs.declared.mnemonic.Access.{Access}
-use Rattle.bpf_canonical.specs.declared.mnemonic.Access.TheVariants as access
+use Rattle.bpf_canonical.specs.declared.mnemonic.Stem.{Stem}
+use Rattle.bpf_canonical.specs.declared.mnemonic.Stem.TheVariants as stem
 
 -- the arithmetic operations (RFC 9669, section 4.1)
 abbrev pub operation_name : Operation → List ℕ
@@ -79,46 +77,44 @@ abbrev pub width_name : Width → List ℕ
 width_name W32 = codes "32"
 width_name W64 = codes "64"
 
--- the words of jumps, calls and the exit (RFC 9669, section 4.3)
-abbrev pub jump_name : Jump → List ℕ
-jump_name (jump.If width comparison) = comparison_name comparison ++ width_name width
-jump_name jump.Short = codes "ja"
-jump_name jump.Long = codes "ja32"
-jump_name jump.Call = codes "call"
-jump_name jump.Exit = codes "exit"
+-- the word of a mnemonic without its class (RFC 9669, sections 4.1 to 4.3)
+abbrev pub stem_name : Stem → List ℕ
+stem_name (stem.Arithmetic operation) = operation_name operation
+stem_name stem.Negate = codes "neg"
+stem_name stem.MoveExtended = codes "movsx"
+stem_name (stem.JumpIf comparison) = comparison_name comparison
 
--- the words of loads and stores at a place in memory (RFC 9669, section 5)
-abbrev pub access_name : Access → List ℕ
-access_name (access.Load size) = codes "ldx" ++ size_name size
-access_name (access.LoadExtended size) = codes "ldxs" ++ signed_size_name size
-access_name (access.Store size) = codes "stx" ++ size_name size
-access_name (access.StoreImmediate size) = codes "st" ++ size_name size
-
--- the word of a mnemonic
+-- the word of a mnemonic (RFC 9669, sections 4 and 5)
 abbrev pub mnemonic_name : Mnemonic → List ℕ
-mnemonic_name (word.Arithmetic width operation) = operation_name operation ++ width_name width
-mnemonic_name (word.Negate width) = codes "neg" ++ width_name width
-mnemonic_name (word.MoveExtended width) = codes "movsx" ++ width_name width
+mnemonic_name (word.Classed stem width) = stem_name stem ++ width_name width
 mnemonic_name (word.ByteOrder order) = order_name order
 mnemonic_name word.LoadWide = codes "lddw"
-mnemonic_name (word.Jump jump) = jump_name jump
-mnemonic_name (word.Access access) = access_name access
+mnemonic_name (word.Load size) = codes "ldx" ++ size_name size
+mnemonic_name (word.LoadExtended size) = codes "ldxs" ++ signed_size_name size
+mnemonic_name (word.Store size) = codes "stx" ++ size_name size
+mnemonic_name (word.StoreImmediate size) = codes "st" ++ size_name size
+mnemonic_name word.Jump = codes "ja"
+mnemonic_name word.LongJump = codes "ja32"
+mnemonic_name word.Call = codes "call"
+mnemonic_name word.Exit = codes "exit"
 
 -- the mnemonic of an instruction
 abbrev pub mnemonic_of : Line → Mnemonic
-mnemonic_of (line.Arithmetic width operation dst operand) = word.Arithmetic width operation
-mnemonic_of (line.Negate width dst) = word.Negate width
-mnemonic_of (line.MoveExtended extension dst src) = word.MoveExtended (extension_width extension)
+mnemonic_of (line.Arithmetic width operation dst operand) =
+    word.Classed (stem.Arithmetic operation) width
+mnemonic_of (line.Negate width dst) = word.Classed stem.Negate width
+mnemonic_of (line.MoveExtended extension dst src) =
+    word.Classed stem.MoveExtended (extension_width extension)
 mnemonic_of (line.ByteOrder order width dst) = word.ByteOrder order
-mnemonic_of (line.Jump distance) = word.Jump jump.Short
-mnemonic_of (line.LongJump distance) = word.Jump jump.Long
+mnemonic_of (line.Jump distance) = word.Jump
+mnemonic_of (line.LongJump distance) = word.LongJump
 mnemonic_of (line.JumpIf width comparison dst operand distance) =
-    word.Jump (jump.If width comparison)
-mnemonic_of (line.Call number) = word.Jump jump.Call
-mnemonic_of (line.CallLocal distance) = word.Jump jump.Call
-mnemonic_of line.Exit = word.Jump jump.Exit
+    word.Classed (stem.JumpIf comparison) width
+mnemonic_of (line.Call number) = word.Call
+mnemonic_of (line.CallLocal distance) = word.Call
+mnemonic_of line.Exit = word.Exit
 mnemonic_of (line.LoadWide dst value) = word.LoadWide
-mnemonic_of (line.Load size dst base offset) = word.Access (access.Load size)
-mnemonic_of (line.LoadExtended size dst base offset) = word.Access (access.LoadExtended size)
-mnemonic_of (line.StoreImmediate size base offset value) = word.Access (access.StoreImmediate size)
-mnemonic_of (line.Store size base offset src) = word.Access (access.Store size)
+mnemonic_of (line.Load size dst base offset) = word.Load size
+mnemonic_of (line.LoadExtended size dst base offset) = word.LoadExtended size
+mnemonic_of (line.StoreImmediate size base offset value) = word.StoreImmediate size
+mnemonic_of (line.Store size base offset src) = word.Store size

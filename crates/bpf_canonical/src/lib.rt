@@ -7,6 +7,6 @@ mod text;
 mod writing;
 
 pub use laws::{listings_have_a_line_for_each_instruction, mnemonics_are_unique};
-pub use mnemonic::{Access, Jump, Mnemonic, mnemonic_of, read_mnemonic};
+pub use mnemonic::{Mnemonic, Stem, mnemonic_of, read_mnemonic};
 pub use text::{MAX_TEXT_LENGTH, Text};
 pub use writing::{line_text, text_of};

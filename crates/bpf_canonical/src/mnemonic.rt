@@ -4,10 +4,9 @@ ghost use Rattle.std.specs.Prelude.{◌≡◌, ◌≤◌, ◌+◌, ◌++◌, IfS
 ghost use Rattle.bpf_types.specs.declared.line.Width.{Width};
 ghost use Rattle.bpf_canonical.specs.declared.mnemonic.Mnemonic.{Mnemonic};
 ghost use Rattle.bpf_canonical.specs.declared.mnemonic.Stem.{Stem};
-ghost use Rattle.bpf_canonical.specs.Mnemonics.{mnemonic_name, width_name};
+ghost use Rattle.bpf_canonical.specs.Mnemonics.{mnemonic_name, stem_name, width_name};
 ghost use Rattle.bpf_canonical.specs.Mnemonics as mnemonics;
-ghost use Rattle.bpf_canonical.specs.Mirror.Words.{stem_name, IsPlain};
-ghost use Rattle.bpf_canonical.specs.Mirror.Words as words;
+ghost use Rattle.bpf_canonical.specs.Mirror.Words.{IsPlain};
 
 use crate::text::Text;
 use bpf_types::{Comparison, Line, Operation, Order, SignedSize, Size, Width};
@@ -15,38 +14,12 @@ use bpf_types::{Comparison, Line, Operation, Order, SignedSize, Size, Width};
 /// What the first word of an instruction's text says: `canonical` begins with it.
 #[derive(Clone, Copy, PartialEq, Eq, Debug)]
 pub enum Mnemonic {
-    /// `add32`, .. `arsh64`, of two operands.
-    Arithmetic(Width, Operation),
-    /// `neg32`, `neg64`.
-    Negate(Width),
-    /// `movsx32`, `movsx64`.
-    MoveExtended(Width),
+    /// A word that ends in its class: `add32`, .. `jsle64`.
+    Classed(Stem, Width),
     /// `le`, `be`, `swap`.
     ByteOrder(Order),
     /// `lddw`.
     LoadWide,
-    Jump(Jump),
-    Access(Access),
-}
-
-/// The jumps, the calls and the exit.
-#[derive(Clone, Copy, PartialEq, Eq, Debug)]
-pub enum Jump {
-    /// `jeq32`, .. `jsle64`.
-    If(Width, Comparison),
-    /// `ja`.
-    Short,
-    /// `ja32`.
-    Long,
-    /// `call`, of the engine or local.
-    Call,
-    /// `exit`.
-    Exit,
-}
-
-/// The loads and stores at a place in memory.
-#[derive(Clone, Copy, PartialEq, Eq, Debug)]
-pub enum Access {
     /// `ldxw`, `ldxh`, `ldxb`, `ldxdw`.
     Load(Size),
     /// `ldxsw`, `ldxsh`, `ldxsb`.
@@ -55,15 +28,27 @@ pub enum Access {
     Store(Size),
     /// `stw`, `sth`, `stb`, `stdw`.
     StoreImmediate(Size),
+    /// `ja`.
+    Jump,
+    /// `ja32`.
+    LongJump,
+    /// `call`, of the engine or local.
+    Call,
+    /// `exit`.
+    Exit,
 }
 
 /// A mnemonic without the class that it ends in.
-#[derive(Clone, Copy)]
-enum Stem {
+#[derive(Clone, Copy, PartialEq, Eq, Debug)]
+pub enum Stem {
+    /// `add`, .. `arsh`, of two operands.
     Arithmetic(Operation),
-    JumpIf(Comparison),
+    /// `neg`.
     Negate,
+    /// `movsx`.
     MoveExtended,
+    /// `jeq`, .. `jsle`.
+    JumpIf(Comparison),
 }
 
 /// The words of the classes.
@@ -115,25 +100,25 @@ macro_rules! plain {
             [Mnemonic::ByteOrder(Order::Big)] b"be",
             [Mnemonic::ByteOrder(Order::Swap)] b"swap",
             [Mnemonic::LoadWide] b"lddw",
-            [Mnemonic::Jump(Jump::Short)] b"ja",
-            [Mnemonic::Jump(Jump::Long)] b"ja32",
-            [Mnemonic::Jump(Jump::Call)] b"call",
-            [Mnemonic::Jump(Jump::Exit)] b"exit",
-            [Mnemonic::Access(Access::Load(Size::Word))] b"ldxw",
-            [Mnemonic::Access(Access::Load(Size::Half))] b"ldxh",
-            [Mnemonic::Access(Access::Load(Size::Byte))] b"ldxb",
-            [Mnemonic::Access(Access::Load(Size::Double))] b"ldxdw",
-            [Mnemonic::Access(Access::LoadExtended(SignedSize::Word))] b"ldxsw",
-            [Mnemonic::Access(Access::LoadExtended(SignedSize::Half))] b"ldxsh",
-            [Mnemonic::Access(Access::LoadExtended(SignedSize::Byte))] b"ldxsb",
-            [Mnemonic::Access(Access::Store(Size::Word))] b"stxw",
-            [Mnemonic::Access(Access::Store(Size::Half))] b"stxh",
-            [Mnemonic::Access(Access::Store(Size::Byte))] b"stxb",
-            [Mnemonic::Access(Access::Store(Size::Double))] b"stxdw",
-            [Mnemonic::Access(Access::StoreImmediate(Size::Word))] b"stw",
-            [Mnemonic::Access(Access::StoreImmediate(Size::Half))] b"sth",
-            [Mnemonic::Access(Access::StoreImmediate(Size::Byte))] b"stb",
-            [Mnemonic::Access(Access::StoreImmediate(Size::Double))] b"stdw")
+            [Mnemonic::Jump] b"ja",
+            [Mnemonic::LongJump] b"ja32",
+            [Mnemonic::Call] b"call",
+            [Mnemonic::Exit] b"exit",
+            [Mnemonic::Load(Size::Word)] b"ldxw",
+            [Mnemonic::Load(Size::Half)] b"ldxh",
+            [Mnemonic::Load(Size::Byte)] b"ldxb",
+            [Mnemonic::Load(Size::Double)] b"ldxdw",
+            [Mnemonic::LoadExtended(SignedSize::Word)] b"ldxsw",
+            [Mnemonic::LoadExtended(SignedSize::Half)] b"ldxsh",
+            [Mnemonic::LoadExtended(SignedSize::Byte)] b"ldxsb",
+            [Mnemonic::Store(Size::Word)] b"stxw",
+            [Mnemonic::Store(Size::Half)] b"stxh",
+            [Mnemonic::Store(Size::Byte)] b"stxb",
+            [Mnemonic::Store(Size::Double)] b"stxdw",
+            [Mnemonic::StoreImmediate(Size::Word)] b"stw",
+            [Mnemonic::StoreImmediate(Size::Half)] b"sth",
+            [Mnemonic::StoreImmediate(Size::Byte)] b"stb",
+            [Mnemonic::StoreImmediate(Size::Double)] b"stdw")
     };
 }
 
@@ -160,10 +145,7 @@ macro_rules! push {
 macro_rules! push_whole {
     (($text:ident, $value:expr), $([$($meaning:tt)*] $word:literal),*) => {
         match $value {
-            Mnemonic::Arithmetic(width, by) => $text.push_classed(Stem::Arithmetic(by), width),
-            Mnemonic::Negate(width) => $text.push_classed(Stem::Negate, width),
-            Mnemonic::MoveExtended(width) => $text.push_classed(Stem::MoveExtended, width),
-            Mnemonic::Jump(Jump::If(width, test)) => $text.push_classed(Stem::JumpIf(test), width),
+            Mnemonic::Classed(stem, width) => $text.push_classed(stem, width),
             $($($meaning)* => $text.push_all($word),)*
         }
     };
@@ -229,19 +211,6 @@ fn stem_and_width(word: &[u8]) -> Option<(Stem, Width)>
     Some((stem_of(&word[..end])?, width))
 }
 
-/// The mnemonic of a stem and a class.
-fn mnemonic_of_stem(stem: Stem, width: Width) -> Mnemonic
-    ensures exact { result ≡ words.mnemonic_of_stem stem width }
-    ensures name { mnemonic_name result ≡ stem_name stem ++ width_name width }
-{
-    match stem {
-        Stem::Arithmetic(operation) => Mnemonic::Arithmetic(width, operation),
-        Stem::JumpIf(comparison) => Mnemonic::Jump(Jump::If(width, comparison)),
-        Stem::Negate => Mnemonic::Negate(width),
-        Stem::MoveExtended => Mnemonic::MoveExtended(width),
-    }
-}
-
 /// The mnemonic without a class that is this text.
 fn plain_of(word: &[u8]) -> Option<Mnemonic>
     ensures some { IfSome result (λ m. word.now ≡ mnemonic_name m) }
@@ -259,24 +228,26 @@ pub fn mnemonic_of(line: &Line) -> Mnemonic
             width,
             operation,
             ..
-        } => Mnemonic::Arithmetic(width, operation),
-        Line::Negate { width, .. } => Mnemonic::Negate(width),
-        Line::MoveExtended { extension, .. } => Mnemonic::MoveExtended(extension.width()),
+        } => Mnemonic::Classed(Stem::Arithmetic(operation), width),
+        Line::Negate { width, .. } => Mnemonic::Classed(Stem::Negate, width),
+        Line::MoveExtended { extension, .. } => {
+            Mnemonic::Classed(Stem::MoveExtended, extension.width())
+        }
         Line::ByteOrder { order, .. } => Mnemonic::ByteOrder(order),
         Line::LoadWide { .. } => Mnemonic::LoadWide,
-        Line::Load { size, .. } => Mnemonic::Access(Access::Load(size)),
-        Line::LoadExtended { size, .. } => Mnemonic::Access(Access::LoadExtended(size)),
-        Line::Store { size, .. } => Mnemonic::Access(Access::Store(size)),
-        Line::StoreImmediate { size, .. } => Mnemonic::Access(Access::StoreImmediate(size)),
+        Line::Load { size, .. } => Mnemonic::Load(size),
+        Line::LoadExtended { size, .. } => Mnemonic::LoadExtended(size),
+        Line::Store { size, .. } => Mnemonic::Store(size),
+        Line::StoreImmediate { size, .. } => Mnemonic::StoreImmediate(size),
         Line::JumpIf {
             width,
             comparison,
             ..
-        } => Mnemonic::Jump(Jump::If(width, comparison)),
-        Line::Jump { .. } => Mnemonic::Jump(Jump::Short),
-        Line::LongJump { .. } => Mnemonic::Jump(Jump::Long),
-        Line::Call { .. } | Line::CallLocal { .. } => Mnemonic::Jump(Jump::Call),
-        Line::Exit => Mnemonic::Jump(Jump::Exit),
+        } => Mnemonic::Classed(Stem::JumpIf(comparison), width),
+        Line::Jump { .. } => Mnemonic::Jump,
+        Line::LongJump { .. } => Mnemonic::LongJump,
+        Line::Call { .. } | Line::CallLocal { .. } => Mnemonic::Call,
+        Line::Exit => Mnemonic::Exit,
     }
 }
 
@@ -286,7 +257,7 @@ pub fn read_mnemonic(word: &[u8]) -> Option<Mnemonic>
     ensures only { (m : Mnemonic) → word.now ≡ mnemonic_name m → result ≡ Some m }
 {
     match stem_and_width(word) {
-        Some((stem, width)) => Some(mnemonic_of_stem(stem, width)),
+        Some((stem, width)) => Some(Mnemonic::Classed(stem, width)),
         None => plain_of(word),
     }
 }

@@ -15,12 +15,9 @@ use Rattle.bpf_types.specs.declared.line.Width.{Width}
 use Rattle.bpf_types.specs.declared.line.Width.TheVariants.{W32, W64}
 use Rattle.bpf_canonical.specs.declared.mnemonic.Mnemonic.{Mnemonic}
 use Rattle.bpf_canonical.specs.declared.mnemonic.Mnemonic.TheVariants as word
-use Rattle.bpf_canonical.specs.declared.mnemonic.Jump.{Jump}
-use Rattle.bpf_canonical.specs.declared.mnemonic.Jump.TheVariants as leap
-use Rattle.bpf_canonical.specs.declared.mnemonic.Access.{Access}
-use Rattle.bpf_canonical.specs.declared.mnemonic.Access.TheVariants as access
-use Rattle.bpf_canonical.specs.Mnemonics.{operation_name, comparison_name, order_name, size_name, signed_size_name, width_name}
-use Rattle.bpf_canonical.specs.Mnemonics.{mnemonic_name, jump_name, access_name}
+use Rattle.bpf_canonical.specs.declared.mnemonic.Stem.{Stem}
+use Rattle.bpf_canonical.specs.declared.mnemonic.Stem.TheVariants as stem
+use Rattle.bpf_canonical.specs.Mnemonics.{operation_name, comparison_name, order_name, size_name, signed_size_name, width_name, stem_name, mnemonic_name}
 use Rattle.bpf_text.specs.Tokens.{is_word, AllWord}
 use Rattle.bpf_text.proofs.CanonicalNumbers.{IsRun, word_join}
 
@@ -72,28 +69,25 @@ signed_size_word : (s : SignedSize) → all_word (signed_size_name s) ≡ true
 signed_size_word signed_size.Word = refl
 signed_size_word _ = refl
 
-jump_run : (j : Jump) → IsRun (jump_name j)
-jump_run (leap.If width comparison) = run_join (comparison_name comparison) (width_name width) (comparison_plain comparison) (width_word width)
-jump_run leap.Short = plain_run (codes "ja") refl
-jump_run leap.Long = plain_run (codes "ja32") refl
-jump_run leap.Call = plain_run (codes "call") refl
-jump_run leap.Exit = plain_run (codes "exit") refl
-
-access_run : (a : Access) → IsRun (access_name a)
-access_run (access.Load size) = run_join (codes "ldx") (size_name size) refl (size_word size)
-access_run (access.LoadExtended size) = run_join (codes "ldxs") (signed_size_name size) refl (signed_size_word size)
-access_run (access.Store size) = run_join (codes "stx") (size_name size) refl (size_word size)
-access_run (access.StoreImmediate size) = run_join (codes "st") (size_name size) refl (size_word size)
+stem_plain : (s : Stem) → is_plain (stem_name s) ≡ true
+stem_plain (stem.Arithmetic operation) = operation_plain operation
+stem_plain stem.Negate = refl
+stem_plain stem.MoveExtended = refl
+stem_plain (stem.JumpIf comparison) = comparison_plain comparison
 
 -- each mnemonic is one word
 pub mnemonic_run : (m : Mnemonic) → IsRun (mnemonic_name m)
-mnemonic_run (word.Arithmetic width operation) = run_join (operation_name operation) (width_name width) (operation_plain operation) (width_word width)
-mnemonic_run (word.Negate width) = run_join (codes "neg") (width_name width) refl (width_word width)
-mnemonic_run (word.MoveExtended width) = run_join (codes "movsx") (width_name width) refl (width_word width)
+mnemonic_run (word.Classed stem width) = run_join (stem_name stem) (width_name width) (stem_plain stem) (width_word width)
 mnemonic_run (word.ByteOrder order) = plain_run (order_name order) (order_plain order)
 mnemonic_run word.LoadWide = plain_run (codes "lddw") refl
-mnemonic_run (word.Jump jump) = jump_run jump
-mnemonic_run (word.Access access) = access_run access
+mnemonic_run (word.Load size) = run_join (codes "ldx") (size_name size) refl (size_word size)
+mnemonic_run (word.LoadExtended size) = run_join (codes "ldxs") (signed_size_name size) refl (signed_size_word size)
+mnemonic_run (word.Store size) = run_join (codes "stx") (size_name size) refl (size_word size)
+mnemonic_run (word.StoreImmediate size) = run_join (codes "st") (size_name size) refl (size_word size)
+mnemonic_run word.Jump = plain_run (codes "ja") refl
+mnemonic_run word.LongJump = plain_run (codes "ja32") refl
+mnemonic_run word.Call = plain_run (codes "call") refl
+mnemonic_run word.Exit = plain_run (codes "exit") refl
 
 pub local_run : IsRun (codes "local")
 local_run = plain_run (codes "local") refl

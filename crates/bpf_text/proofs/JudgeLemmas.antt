@@ -18,8 +18,7 @@ use Rattle.bpf_types.specs.declared.line.SwapWidth.{SwapWidth}
 use Rattle.bpf_types.specs.declared.line.SwapWidth.TheVariants as swap
 use Rattle.bpf_canonical.specs.declared.mnemonic.Mnemonic.{Mnemonic}
 use Rattle.bpf_canonical.specs.declared.mnemonic.Mnemonic.TheVariants as word
-use Rattle.bpf_canonical.specs.declared.mnemonic.Jump.TheVariants as leap
-use Rattle.bpf_canonical.specs.declared.mnemonic.Access.TheVariants as access
+use Rattle.bpf_canonical.specs.declared.mnemonic.Stem.TheVariants as stem
 use Rattle.bpf_canonical.specs.Mnemonics.{mnemonic_name, mnemonic_of}
 use Rattle.bpf_text.specs.Number.{IsNumeral}
 use Rattle.bpf_text.specs.Fields.{IsRegister, IsImmediate, IsSecond, IsTarget}
@@ -51,24 +50,24 @@ judged f (Some v) ([], false) h = let o = f.ok v h.0 h.1 in ((o.0, o.1), (o.2, r
 abbrev pub plain : Line → LentStatement
 plain l = record { line = l; name = None }
 
-pub arithmetic : (w : Width) (o : Operation) (s : State) (r : Option (ℕ × Operand)) (u : State) → Reads (λ (v : ℕ × Operand). (v.0, v.1)) (Then (Token IsRegister) (Behind (44 ∷ []) (Token IsSecond))) (λ (v : ℕ × Operand). IsReg v.0 × IsOperand v.1) s r u → Answers (word.Arithmetic w o) s (option_map (λ (v : ℕ × Operand). plain (line.Arithmetic w o v.0 v.1)) r) u
+pub arithmetic : (w : Width) (o : Operation) (s : State) (r : Option (ℕ × Operand)) (u : State) → Reads (λ (v : ℕ × Operand). (v.0, v.1)) (Then (Token IsRegister) (Behind (44 ∷ []) (Token IsSecond))) (λ (v : ℕ × Operand). IsReg v.0 × IsOperand v.1) s r u → Answers (word.Classed (stem.Arithmetic o) w) s (option_map (λ (v : ℕ × Operand). plain (line.Arithmetic w o v.0 v.1)) r) u
 arithmetic w o s r u h start = judged fits r u (gives_of (λ (v : ℕ × Operand). (v.0, v.1)) (Then (Token IsRegister) (Behind (44 ∷ []) (Token IsSecond))) (λ (v : ℕ × Operand). IsReg v.0 × IsOperand v.1) s r u start h)
   where
-    back : (l : Line) → (name : Option (List ℕ)) → (odd : Option ℕ) → mnemonic_of l ≡ word.Arithmetic w o → IsOperands (statement l name odd) s.0 → (w : ℕ × Operand) × (Then (Token IsRegister) (Behind (44 ∷ []) (Token IsSecond))) s.0 w []
+    back : (l : Line) → (name : Option (List ℕ)) → (odd : Option ℕ) → mnemonic_of l ≡ word.Classed (stem.Arithmetic o) w → IsOperands (statement l name odd) s.0 → (w : ℕ × Operand) × (Then (Token IsRegister) (Behind (44 ∷ []) (Token IsSecond))) s.0 w []
     back (line.Arithmetic w' o' dst operand) name odd m k = ((dst, operand), k.2)
     back _ name odd m k = absurd cc
 
-    fits : Fitting (word.Arithmetic w o) s.0 (λ (v : ℕ × Operand). plain (line.Arithmetic w o v.0 v.1)) (λ (v : ℕ × Operand). (v.0, v.1)) (Then (Token IsRegister) (Behind (44 ∷ []) (Token IsSecond))) (λ (v : ℕ × Operand). IsReg v.0 × IsOperand v.1)
+    fits : Fitting (word.Classed (stem.Arithmetic o) w) s.0 (λ (v : ℕ × Operand). plain (line.Arithmetic w o v.0 v.1)) (λ (v : ℕ × Operand). (v.0, v.1)) (Then (Token IsRegister) (Behind (44 ∷ []) (Token IsSecond))) (λ (v : ℕ × Operand). IsReg v.0 × IsOperand v.1)
     fits = record { ok = λ v p f. (refl, (refl, refl, p), f); back = back; out = λ v p bad. (statement (line.Arithmetic w o v.0 v.1) None None, refl, (refl, refl, p), λ m. bad m.0) }
 
-pub negate : (w : Width) (s : State) (r : Option (ℕ)) (u : State) → Reads (λ (v : ℕ). v) (Token IsRegister) IsReg s r u → Answers (word.Negate w) s (option_map (λ (v : ℕ). plain (line.Negate w v)) r) u
+pub negate : (w : Width) (s : State) (r : Option (ℕ)) (u : State) → Reads (λ (v : ℕ). v) (Token IsRegister) IsReg s r u → Answers (word.Classed stem.Negate w) s (option_map (λ (v : ℕ). plain (line.Negate w v)) r) u
 negate w s r u h start = judged fits r u (gives_of (λ (v : ℕ). v) (Token IsRegister) IsReg s r u start h)
   where
-    back : (l : Line) → (name : Option (List ℕ)) → (odd : Option ℕ) → mnemonic_of l ≡ word.Negate w → IsOperands (statement l name odd) s.0 → (w : ℕ) × (Token IsRegister) s.0 w []
+    back : (l : Line) → (name : Option (List ℕ)) → (odd : Option ℕ) → mnemonic_of l ≡ word.Classed stem.Negate w → IsOperands (statement l name odd) s.0 → (w : ℕ) × (Token IsRegister) s.0 w []
     back (line.Negate w' dst) name odd m k = (dst, k.2)
     back _ name odd m k = absurd cc
 
-    fits : Fitting (word.Negate w) s.0 (λ (v : ℕ). plain (line.Negate w v)) (λ (v : ℕ). v) (Token IsRegister) IsReg
+    fits : Fitting (word.Classed stem.Negate w) s.0 (λ (v : ℕ). plain (line.Negate w v)) (λ (v : ℕ). v) (Token IsRegister) IsReg
     fits = record { ok = λ v p f. (refl, (refl, refl, p), f); back = back; out = λ v p bad. (statement (line.Negate w v) None None, refl, (refl, refl, p), λ m. bad m.0) }
 
 pub load_wide : (s : State) (r : Option (ℕ × ℕ)) (u : State) → Reads (λ (v : ℕ × ℕ). (v.0, v.1)) (Then (Token IsRegister) (Behind (44 ∷ []) (Token IsNumeral))) (λ (v : ℕ × ℕ). IsReg v.0 × (v.1 < 2 ^ 64)) s r u → Answers (word.LoadWide) s (option_map (λ (v : ℕ × ℕ). plain (line.LoadWide v.0 v.1)) r) u
@@ -81,74 +80,74 @@ load_wide s r u h start = judged fits r u (gives_of (λ (v : ℕ × ℕ). (v.0, 
     fits : Fitting (word.LoadWide) s.0 (λ (v : ℕ × ℕ). plain (line.LoadWide v.0 v.1)) (λ (v : ℕ × ℕ). (v.0, v.1)) (Then (Token IsRegister) (Behind (44 ∷ []) (Token IsNumeral))) (λ (v : ℕ × ℕ). IsReg v.0 × (v.1 < 2 ^ 64))
     fits = record { ok = λ v p f. (refl, (refl, refl, p), f); back = back; out = λ w p bad. (statement (line.LoadWide w.0 w.1) None None, refl, (refl, refl, p), λ m. bad m.0) }
 
-pub jump : (s : State) (r : Option (ℤ × Option (Bor (List ℕ)))) (u : State) → Reads target_of (Token IsTarget) (λ (v : ℤ × Option (List ℕ)). FitsSigned w16 v.0) s r u → Answers (word.Jump leap.Short) s (option_map (λ (v : ℤ × Option (Bor (List ℕ))). record { line = line.Jump v.0; name = v.1 }) r) u
+pub jump : (s : State) (r : Option (ℤ × Option (Bor (List ℕ)))) (u : State) → Reads target_of (Token IsTarget) (λ (v : ℤ × Option (List ℕ)). FitsSigned w16 v.0) s r u → Answers word.Jump s (option_map (λ (v : ℤ × Option (Bor (List ℕ))). record { line = line.Jump v.0; name = v.1 }) r) u
 jump s r u h start = judged fits r u (gives_of target_of (Token IsTarget) (λ (v : ℤ × Option (List ℕ)). FitsSigned w16 v.0) s r u start h)
   where
-    back : (l : Line) → (name : Option (List ℕ)) → (odd : Option ℕ) → mnemonic_of l ≡ word.Jump leap.Short → IsOperands (statement l name odd) s.0 → (w : ℤ × Option (List ℕ)) × (Token IsTarget) s.0 w []
+    back : (l : Line) → (name : Option (List ℕ)) → (odd : Option ℕ) → mnemonic_of l ≡ word.Jump → IsOperands (statement l name odd) s.0 → (w : ℤ × Option (List ℕ)) × (Token IsTarget) s.0 w []
     back (line.Jump z) name odd m k = ((z, name), k.1)
     back _ name odd m k = absurd cc
 
-    fits : Fitting (word.Jump leap.Short) s.0 (λ (v : ℤ × Option (Bor (List ℕ))). record { line = line.Jump v.0; name = v.1 }) target_of (Token IsTarget) (λ (v : ℤ × Option (List ℕ)). FitsSigned w16 v.0)
+    fits : Fitting word.Jump s.0 (λ (v : ℤ × Option (Bor (List ℕ))). record { line = line.Jump v.0; name = v.1 }) target_of (Token IsTarget) (λ (v : ℤ × Option (List ℕ)). FitsSigned w16 v.0)
     fits = record { ok = λ v p f. (refl, (refl, p), f); back = back; out = λ w p bad. (statement (line.Jump w.0) (w.1) None, refl, (refl, p), λ m. bad m.0) }
 
-pub long_jump : (s : State) (r : Option (ℤ × Option (Bor (List ℕ)))) (u : State) → Reads target_of (Token IsTarget) (λ (v : ℤ × Option (List ℕ)). FitsSigned w32 v.0) s r u → Answers (word.Jump leap.Long) s (option_map (λ (v : ℤ × Option (Bor (List ℕ))). record { line = line.LongJump v.0; name = v.1 }) r) u
+pub long_jump : (s : State) (r : Option (ℤ × Option (Bor (List ℕ)))) (u : State) → Reads target_of (Token IsTarget) (λ (v : ℤ × Option (List ℕ)). FitsSigned w32 v.0) s r u → Answers word.LongJump s (option_map (λ (v : ℤ × Option (Bor (List ℕ))). record { line = line.LongJump v.0; name = v.1 }) r) u
 long_jump s r u h start = judged fits r u (gives_of target_of (Token IsTarget) (λ (v : ℤ × Option (List ℕ)). FitsSigned w32 v.0) s r u start h)
   where
-    back : (l : Line) → (name : Option (List ℕ)) → (odd : Option ℕ) → mnemonic_of l ≡ word.Jump leap.Long → IsOperands (statement l name odd) s.0 → (w : ℤ × Option (List ℕ)) × (Token IsTarget) s.0 w []
+    back : (l : Line) → (name : Option (List ℕ)) → (odd : Option ℕ) → mnemonic_of l ≡ word.LongJump → IsOperands (statement l name odd) s.0 → (w : ℤ × Option (List ℕ)) × (Token IsTarget) s.0 w []
     back (line.LongJump z) name odd m k = ((z, name), k.1)
     back _ name odd m k = absurd cc
 
-    fits : Fitting (word.Jump leap.Long) s.0 (λ (v : ℤ × Option (Bor (List ℕ))). record { line = line.LongJump v.0; name = v.1 }) target_of (Token IsTarget) (λ (v : ℤ × Option (List ℕ)). FitsSigned w32 v.0)
+    fits : Fitting word.LongJump s.0 (λ (v : ℤ × Option (Bor (List ℕ))). record { line = line.LongJump v.0; name = v.1 }) target_of (Token IsTarget) (λ (v : ℤ × Option (List ℕ)). FitsSigned w32 v.0)
     fits = record { ok = λ v p f. (refl, (refl, p), f); back = back; out = λ w p bad. (statement (line.LongJump w.0) (w.1) None, refl, (refl, p), λ m. bad m.0) }
 
-pub jump_if : (w : Width) (t : Comparison) (s : State) (r : Option (ℕ × (Operand × (ℤ × Option (Bor (List ℕ)))))) (u : State) → Reads (λ (v : ℕ × (Operand × (ℤ × Option (Bor (List ℕ))))). (v.0, (v.1.0, target_of v.1.1))) (Then (Token IsRegister) (Behind (44 ∷ []) (Then (Token IsSecond) (Behind (44 ∷ []) (Token IsTarget))))) (λ (v : ℕ × (Operand × (ℤ × Option (List ℕ)))). IsReg v.0 × (IsOperand v.1.0 × FitsSigned w16 v.1.1.0)) s r u → Answers (word.Jump (leap.If w t)) s (option_map (λ (v : ℕ × (Operand × (ℤ × Option (Bor (List ℕ))))). record { line = line.JumpIf w t v.0 v.1.0 v.1.1.0; name = v.1.1.1 }) r) u
+pub jump_if : (w : Width) (t : Comparison) (s : State) (r : Option (ℕ × (Operand × (ℤ × Option (Bor (List ℕ)))))) (u : State) → Reads (λ (v : ℕ × (Operand × (ℤ × Option (Bor (List ℕ))))). (v.0, (v.1.0, target_of v.1.1))) (Then (Token IsRegister) (Behind (44 ∷ []) (Then (Token IsSecond) (Behind (44 ∷ []) (Token IsTarget))))) (λ (v : ℕ × (Operand × (ℤ × Option (List ℕ)))). IsReg v.0 × (IsOperand v.1.0 × FitsSigned w16 v.1.1.0)) s r u → Answers (word.Classed (stem.JumpIf t) w) s (option_map (λ (v : ℕ × (Operand × (ℤ × Option (Bor (List ℕ))))). record { line = line.JumpIf w t v.0 v.1.0 v.1.1.0; name = v.1.1.1 }) r) u
 jump_if w t s r u h start = judged fits r u (gives_of (λ (v : ℕ × (Operand × (ℤ × Option (Bor (List ℕ))))). (v.0, (v.1.0, target_of v.1.1))) (Then (Token IsRegister) (Behind (44 ∷ []) (Then (Token IsSecond) (Behind (44 ∷ []) (Token IsTarget))))) (λ (v : ℕ × (Operand × (ℤ × Option (List ℕ)))). IsReg v.0 × (IsOperand v.1.0 × FitsSigned w16 v.1.1.0)) s r u start h)
   where
-    back : (l : Line) → (name : Option (List ℕ)) → (odd : Option ℕ) → mnemonic_of l ≡ word.Jump (leap.If w t) → IsOperands (statement l name odd) s.0 → (w : ℕ × (Operand × (ℤ × Option (List ℕ)))) × (Then (Token IsRegister) (Behind (44 ∷ []) (Then (Token IsSecond) (Behind (44 ∷ []) (Token IsTarget))))) s.0 w []
+    back : (l : Line) → (name : Option (List ℕ)) → (odd : Option ℕ) → mnemonic_of l ≡ word.Classed (stem.JumpIf t) w → IsOperands (statement l name odd) s.0 → (w : ℕ × (Operand × (ℤ × Option (List ℕ)))) × (Then (Token IsRegister) (Behind (44 ∷ []) (Then (Token IsSecond) (Behind (44 ∷ []) (Token IsTarget))))) s.0 w []
     back (line.JumpIf w' t' dst operand z) name odd m k = ((dst, (operand, (z, name))), k.1)
     back _ name odd m k = absurd cc
 
-    fits : Fitting (word.Jump (leap.If w t)) s.0 (λ (v : ℕ × (Operand × (ℤ × Option (Bor (List ℕ))))). record { line = line.JumpIf w t v.0 v.1.0 v.1.1.0; name = v.1.1.1 }) (λ (v : ℕ × (Operand × (ℤ × Option (Bor (List ℕ))))). (v.0, (v.1.0, target_of v.1.1))) (Then (Token IsRegister) (Behind (44 ∷ []) (Then (Token IsSecond) (Behind (44 ∷ []) (Token IsTarget))))) (λ (v : ℕ × (Operand × (ℤ × Option (List ℕ)))). IsReg v.0 × (IsOperand v.1.0 × FitsSigned w16 v.1.1.0))
+    fits : Fitting (word.Classed (stem.JumpIf t) w) s.0 (λ (v : ℕ × (Operand × (ℤ × Option (Bor (List ℕ))))). record { line = line.JumpIf w t v.0 v.1.0 v.1.1.0; name = v.1.1.1 }) (λ (v : ℕ × (Operand × (ℤ × Option (Bor (List ℕ))))). (v.0, (v.1.0, target_of v.1.1))) (Then (Token IsRegister) (Behind (44 ∷ []) (Then (Token IsSecond) (Behind (44 ∷ []) (Token IsTarget))))) (λ (v : ℕ × (Operand × (ℤ × Option (List ℕ)))). IsReg v.0 × (IsOperand v.1.0 × FitsSigned w16 v.1.1.0))
     fits = record { ok = λ v p f. (refl, (refl, p), (f.0, f.1.0, f.1.1)); back = back; out = λ v p bad. (statement (line.JumpIf w t v.0 v.1.0 v.1.1.0) (v.1.1.1) None, refl, (refl, p), λ m. bad (m.0.0, (m.0.1, m.0.2))) }
 
-pub load : (z : Size) (s : State) (r : Option (ℕ × (ℕ × ℤ))) (u : State) → Reads (λ (v : ℕ × (ℕ × ℤ)). (v.0, v.1)) (Then (Token IsRegister) (Behind (44 ∷ []) (Memory))) (λ (v : ℕ × (ℕ × ℤ)). IsReg v.0 × (IsReg v.1.0 × FitsSigned w16 v.1.1)) s r u → Answers (word.Access (access.Load z)) s (option_map (λ (v : ℕ × (ℕ × ℤ)). plain (line.Load z v.0 v.1.0 v.1.1)) r) u
+pub load : (z : Size) (s : State) (r : Option (ℕ × (ℕ × ℤ))) (u : State) → Reads (λ (v : ℕ × (ℕ × ℤ)). (v.0, v.1)) (Then (Token IsRegister) (Behind (44 ∷ []) (Memory))) (λ (v : ℕ × (ℕ × ℤ)). IsReg v.0 × (IsReg v.1.0 × FitsSigned w16 v.1.1)) s r u → Answers (word.Load z) s (option_map (λ (v : ℕ × (ℕ × ℤ)). plain (line.Load z v.0 v.1.0 v.1.1)) r) u
 load z s r u h start = judged fits r u (gives_of (λ (v : ℕ × (ℕ × ℤ)). (v.0, v.1)) (Then (Token IsRegister) (Behind (44 ∷ []) (Memory))) (λ (v : ℕ × (ℕ × ℤ)). IsReg v.0 × (IsReg v.1.0 × FitsSigned w16 v.1.1)) s r u start h)
   where
-    back : (l : Line) → (name : Option (List ℕ)) → (odd : Option ℕ) → mnemonic_of l ≡ word.Access (access.Load z) → IsOperands (statement l name odd) s.0 → (w : ℕ × (ℕ × ℤ)) × (Then (Token IsRegister) (Behind (44 ∷ []) (Memory))) s.0 w []
+    back : (l : Line) → (name : Option (List ℕ)) → (odd : Option ℕ) → mnemonic_of l ≡ word.Load z → IsOperands (statement l name odd) s.0 → (w : ℕ × (ℕ × ℤ)) × (Then (Token IsRegister) (Behind (44 ∷ []) (Memory))) s.0 w []
     back (line.Load z' dst base y) name odd m k = ((dst, (base, y)), k.2)
     back _ name odd m k = absurd cc
 
-    fits : Fitting (word.Access (access.Load z)) s.0 (λ (v : ℕ × (ℕ × ℤ)). plain (line.Load z v.0 v.1.0 v.1.1)) (λ (v : ℕ × (ℕ × ℤ)). (v.0, v.1)) (Then (Token IsRegister) (Behind (44 ∷ []) (Memory))) (λ (v : ℕ × (ℕ × ℤ)). IsReg v.0 × (IsReg v.1.0 × FitsSigned w16 v.1.1))
+    fits : Fitting (word.Load z) s.0 (λ (v : ℕ × (ℕ × ℤ)). plain (line.Load z v.0 v.1.0 v.1.1)) (λ (v : ℕ × (ℕ × ℤ)). (v.0, v.1)) (Then (Token IsRegister) (Behind (44 ∷ []) (Memory))) (λ (v : ℕ × (ℕ × ℤ)). IsReg v.0 × (IsReg v.1.0 × FitsSigned w16 v.1.1))
     fits = record { ok = λ v p f. (refl, (refl, refl, p), (f.0, f.1.0, f.1.1)); back = back; out = λ w p bad. (statement (line.Load z w.0 w.1.0 w.1.1) None None, refl, (refl, refl, p), λ m. bad (m.0.0, (m.0.1, m.0.2))) }
 
-pub load_extended : (z : SignedSize) (s : State) (r : Option (ℕ × (ℕ × ℤ))) (u : State) → Reads (λ (v : ℕ × (ℕ × ℤ)). (v.0, v.1)) (Then (Token IsRegister) (Behind (44 ∷ []) (Memory))) (λ (v : ℕ × (ℕ × ℤ)). IsReg v.0 × (IsReg v.1.0 × FitsSigned w16 v.1.1)) s r u → Answers (word.Access (access.LoadExtended z)) s (option_map (λ (v : ℕ × (ℕ × ℤ)). plain (line.LoadExtended z v.0 v.1.0 v.1.1)) r) u
+pub load_extended : (z : SignedSize) (s : State) (r : Option (ℕ × (ℕ × ℤ))) (u : State) → Reads (λ (v : ℕ × (ℕ × ℤ)). (v.0, v.1)) (Then (Token IsRegister) (Behind (44 ∷ []) (Memory))) (λ (v : ℕ × (ℕ × ℤ)). IsReg v.0 × (IsReg v.1.0 × FitsSigned w16 v.1.1)) s r u → Answers (word.LoadExtended z) s (option_map (λ (v : ℕ × (ℕ × ℤ)). plain (line.LoadExtended z v.0 v.1.0 v.1.1)) r) u
 load_extended z s r u h start = judged fits r u (gives_of (λ (v : ℕ × (ℕ × ℤ)). (v.0, v.1)) (Then (Token IsRegister) (Behind (44 ∷ []) (Memory))) (λ (v : ℕ × (ℕ × ℤ)). IsReg v.0 × (IsReg v.1.0 × FitsSigned w16 v.1.1)) s r u start h)
   where
-    back : (l : Line) → (name : Option (List ℕ)) → (odd : Option ℕ) → mnemonic_of l ≡ word.Access (access.LoadExtended z) → IsOperands (statement l name odd) s.0 → (w : ℕ × (ℕ × ℤ)) × (Then (Token IsRegister) (Behind (44 ∷ []) (Memory))) s.0 w []
+    back : (l : Line) → (name : Option (List ℕ)) → (odd : Option ℕ) → mnemonic_of l ≡ word.LoadExtended z → IsOperands (statement l name odd) s.0 → (w : ℕ × (ℕ × ℤ)) × (Then (Token IsRegister) (Behind (44 ∷ []) (Memory))) s.0 w []
     back (line.LoadExtended z' dst base y) name odd m k = ((dst, (base, y)), k.2)
     back _ name odd m k = absurd cc
 
-    fits : Fitting (word.Access (access.LoadExtended z)) s.0 (λ (v : ℕ × (ℕ × ℤ)). plain (line.LoadExtended z v.0 v.1.0 v.1.1)) (λ (v : ℕ × (ℕ × ℤ)). (v.0, v.1)) (Then (Token IsRegister) (Behind (44 ∷ []) (Memory))) (λ (v : ℕ × (ℕ × ℤ)). IsReg v.0 × (IsReg v.1.0 × FitsSigned w16 v.1.1))
+    fits : Fitting (word.LoadExtended z) s.0 (λ (v : ℕ × (ℕ × ℤ)). plain (line.LoadExtended z v.0 v.1.0 v.1.1)) (λ (v : ℕ × (ℕ × ℤ)). (v.0, v.1)) (Then (Token IsRegister) (Behind (44 ∷ []) (Memory))) (λ (v : ℕ × (ℕ × ℤ)). IsReg v.0 × (IsReg v.1.0 × FitsSigned w16 v.1.1))
     fits = record { ok = λ v p f. (refl, (refl, refl, p), (f.0, f.1.0, f.1.1)); back = back; out = λ w p bad. (statement (line.LoadExtended z w.0 w.1.0 w.1.1) None None, refl, (refl, refl, p), λ m. bad (m.0.0, (m.0.1, m.0.2))) }
 
-pub store : (z : Size) (s : State) (r : Option ((ℕ × ℤ) × ℕ)) (u : State) → Reads (λ (v : (ℕ × ℤ) × ℕ). (v.0, v.1)) (Then (Memory) (Behind (44 ∷ []) (Token IsRegister))) (λ (v : (ℕ × ℤ) × ℕ). (IsReg v.0.0 × FitsSigned w16 v.0.1) × IsReg v.1) s r u → Answers (word.Access (access.Store z)) s (option_map (λ (v : (ℕ × ℤ) × ℕ). plain (line.Store z v.0.0 v.0.1 v.1)) r) u
+pub store : (z : Size) (s : State) (r : Option ((ℕ × ℤ) × ℕ)) (u : State) → Reads (λ (v : (ℕ × ℤ) × ℕ). (v.0, v.1)) (Then (Memory) (Behind (44 ∷ []) (Token IsRegister))) (λ (v : (ℕ × ℤ) × ℕ). (IsReg v.0.0 × FitsSigned w16 v.0.1) × IsReg v.1) s r u → Answers (word.Store z) s (option_map (λ (v : (ℕ × ℤ) × ℕ). plain (line.Store z v.0.0 v.0.1 v.1)) r) u
 store z s r u h start = judged fits r u (gives_of (λ (v : (ℕ × ℤ) × ℕ). (v.0, v.1)) (Then (Memory) (Behind (44 ∷ []) (Token IsRegister))) (λ (v : (ℕ × ℤ) × ℕ). (IsReg v.0.0 × FitsSigned w16 v.0.1) × IsReg v.1) s r u start h)
   where
-    back : (l : Line) → (name : Option (List ℕ)) → (odd : Option ℕ) → mnemonic_of l ≡ word.Access (access.Store z) → IsOperands (statement l name odd) s.0 → (w : (ℕ × ℤ) × ℕ) × (Then (Memory) (Behind (44 ∷ []) (Token IsRegister))) s.0 w []
+    back : (l : Line) → (name : Option (List ℕ)) → (odd : Option ℕ) → mnemonic_of l ≡ word.Store z → IsOperands (statement l name odd) s.0 → (w : (ℕ × ℤ) × ℕ) × (Then (Memory) (Behind (44 ∷ []) (Token IsRegister))) s.0 w []
     back (line.Store z' base y value) name odd m k = (((base, y), value), k.2)
     back _ name odd m k = absurd cc
 
-    fits : Fitting (word.Access (access.Store z)) s.0 (λ (v : (ℕ × ℤ) × ℕ). plain (line.Store z v.0.0 v.0.1 v.1)) (λ (v : (ℕ × ℤ) × ℕ). (v.0, v.1)) (Then (Memory) (Behind (44 ∷ []) (Token IsRegister))) (λ (v : (ℕ × ℤ) × ℕ). (IsReg v.0.0 × FitsSigned w16 v.0.1) × IsReg v.1)
+    fits : Fitting (word.Store z) s.0 (λ (v : (ℕ × ℤ) × ℕ). plain (line.Store z v.0.0 v.0.1 v.1)) (λ (v : (ℕ × ℤ) × ℕ). (v.0, v.1)) (Then (Memory) (Behind (44 ∷ []) (Token IsRegister))) (λ (v : (ℕ × ℤ) × ℕ). (IsReg v.0.0 × FitsSigned w16 v.0.1) × IsReg v.1)
     fits = record { ok = λ v p f. (refl, (refl, refl, p), (f.0.0, f.0.1, f.1)); back = back; out = λ w p bad. (statement (line.Store z w.0.0 w.0.1 w.1) None None, refl, (refl, refl, p), λ m. bad ((m.0.0, m.0.1), m.0.2)) }
 
-pub store_immediate : (z : Size) (s : State) (r : Option ((ℕ × ℤ) × ℤ)) (u : State) → Reads (λ (v : (ℕ × ℤ) × ℤ). (v.0, v.1)) (Then (Memory) (Behind (44 ∷ []) (Token IsImmediate))) (λ (v : (ℕ × ℤ) × ℤ). (IsReg v.0.0 × FitsSigned w16 v.0.1) × FitsSigned w32 v.1) s r u → Answers (word.Access (access.StoreImmediate z)) s (option_map (λ (v : (ℕ × ℤ) × ℤ). plain (line.StoreImmediate z v.0.0 v.0.1 v.1)) r) u
+pub store_immediate : (z : Size) (s : State) (r : Option ((ℕ × ℤ) × ℤ)) (u : State) → Reads (λ (v : (ℕ × ℤ) × ℤ). (v.0, v.1)) (Then (Memory) (Behind (44 ∷ []) (Token IsImmediate))) (λ (v : (ℕ × ℤ) × ℤ). (IsReg v.0.0 × FitsSigned w16 v.0.1) × FitsSigned w32 v.1) s r u → Answers (word.StoreImmediate z) s (option_map (λ (v : (ℕ × ℤ) × ℤ). plain (line.StoreImmediate z v.0.0 v.0.1 v.1)) r) u
 store_immediate z s r u h start = judged fits r u (gives_of (λ (v : (ℕ × ℤ) × ℤ). (v.0, v.1)) (Then (Memory) (Behind (44 ∷ []) (Token IsImmediate))) (λ (v : (ℕ × ℤ) × ℤ). (IsReg v.0.0 × FitsSigned w16 v.0.1) × FitsSigned w32 v.1) s r u start h)
   where
-    back : (l : Line) → (name : Option (List ℕ)) → (odd : Option ℕ) → mnemonic_of l ≡ word.Access (access.StoreImmediate z) → IsOperands (statement l name odd) s.0 → (w : (ℕ × ℤ) × ℤ) × (Then (Memory) (Behind (44 ∷ []) (Token IsImmediate))) s.0 w []
+    back : (l : Line) → (name : Option (List ℕ)) → (odd : Option ℕ) → mnemonic_of l ≡ word.StoreImmediate z → IsOperands (statement l name odd) s.0 → (w : (ℕ × ℤ) × ℤ) × (Then (Memory) (Behind (44 ∷ []) (Token IsImmediate))) s.0 w []
     back (line.StoreImmediate z' base y value) name odd m k = (((base, y), value), k.2)
     back _ name odd m k = absurd cc
 
-    fits : Fitting (word.Access (access.StoreImmediate z)) s.0 (λ (v : (ℕ × ℤ) × ℤ). plain (line.StoreImmediate z v.0.0 v.0.1 v.1)) (λ (v : (ℕ × ℤ) × ℤ). (v.0, v.1)) (Then (Memory) (Behind (44 ∷ []) (Token IsImmediate))) (λ (v : (ℕ × ℤ) × ℤ). (IsReg v.0.0 × FitsSigned w16 v.0.1) × FitsSigned w32 v.1)
+    fits : Fitting (word.StoreImmediate z) s.0 (λ (v : (ℕ × ℤ) × ℤ). plain (line.StoreImmediate z v.0.0 v.0.1 v.1)) (λ (v : (ℕ × ℤ) × ℤ). (v.0, v.1)) (Then (Memory) (Behind (44 ∷ []) (Token IsImmediate))) (λ (v : (ℕ × ℤ) × ℤ). (IsReg v.0.0 × FitsSigned w16 v.0.1) × FitsSigned w32 v.1)
     fits = record { ok = λ v p f. (refl, (refl, refl, p), (f.0.0, f.0.1, f.1)); back = back; out = λ w p bad. (statement (line.StoreImmediate z w.0.0 w.0.1 w.1) None None, refl, (refl, refl, p), λ m. bad ((m.0.0, m.0.1), m.0.2)) }
 
 -- two registers and a number
@@ -156,23 +155,23 @@ abbrev Extended : Form (ℕ × (ℕ × Option ℕ))
 Extended = Then (Token IsRegister) (Behind (44 ∷ []) (Then (Token IsRegister) (Behind (44 ∷ []) (Token IsWidth))))
 
 -- an extension and a byte order instruction have one of the widths that there are, or another one
-odd_extended : (w : Width) (tokens : List (List ℕ)) (dst src : ℕ) (n : Option ℕ) → Extended tokens (dst, (src, n)) [] → ¬ HasExtension w n → (s : Statement) × (mnemonic_of s.line ≡ word.MoveExtended w) × IsOperands s tokens × ¬ Fits s
+odd_extended : (w : Width) (tokens : List (List ℕ)) (dst src : ℕ) (n : Option ℕ) → Extended tokens (dst, (src, n)) [] → ¬ HasExtension w n → (s : Statement) × (mnemonic_of s.line ≡ word.Classed stem.MoveExtended w) × IsOperands s tokens × ¬ Fits s
 odd_extended w tokens dst src None (t, p, (u, e, (v, q, (x, f, (token, g, h))))) none = absurd h
 odd_extended W32 tokens dst src (Some n) h none = (statement (line.MoveExtended extension.From8To32 dst src) None (Some n), refl, (refl, n, (refl, λ e is same. none (e, is, same)), h), λ m. let e = m.1 in absurd cc)
 odd_extended W64 tokens dst src (Some n) h none = (statement (line.MoveExtended extension.From8To64 dst src) None (Some n), refl, (refl, n, (refl, λ e is same. none (e, is, same)), h), λ m. let e = m.1 in absurd cc)
 
 extended_ok : (w : Width) (tokens : List (List ℕ)) (e : Extension) (dst src : ℕ) → Extended tokens (dst, (src, bits_in w e)) [] → IsReg dst × (IsReg src × HasExtension w (bits_in w e))
-    → (mnemonic_of (line.MoveExtended e dst src) ≡ word.MoveExtended w) × IsOperands (statement (line.MoveExtended e dst src) None None) tokens × IsLine (line.MoveExtended e dst src)
-extended_ok w tokens e dst src p f = let k = extension_class w e f.1.1 in let q = subst (λ (o : Option ℕ). Extended tokens (dst, (src, o)) []) k.1 p in (ap (word.MoveExtended) k.0, (refl, extension_bits e, refl, q), (f.0, f.1.0))
+    → (mnemonic_of (line.MoveExtended e dst src) ≡ word.Classed stem.MoveExtended w) × IsOperands (statement (line.MoveExtended e dst src) None None) tokens × IsLine (line.MoveExtended e dst src)
+extended_ok w tokens e dst src p f = let k = extension_class w e f.1.1 in let q = subst (λ (o : Option ℕ). Extended tokens (dst, (src, o)) []) k.1 p in (ap (word.Classed stem.MoveExtended) k.0, (refl, extension_bits e, refl, q), (f.0, f.1.0))
 
-pub move_extended : (w : Width) (s : State) (r : Option (ℕ × (ℕ × Extension))) (u : State) → Reads (λ (v : ℕ × (ℕ × Extension)). (v.0, (v.1.0, bits_in w v.1.1))) (Then (Token IsRegister) (Behind (44 ∷ []) (Then (Token IsRegister) (Behind (44 ∷ []) (Token IsWidth))))) (λ (v : ℕ × (ℕ × Option ℕ)). IsReg v.0 × (IsReg v.1.0 × HasExtension w v.1.1)) s r u → Answers (word.MoveExtended w) s (option_map (λ (v : ℕ × (ℕ × Extension)). plain (line.MoveExtended v.1.1 v.0 v.1.0)) r) u
+pub move_extended : (w : Width) (s : State) (r : Option (ℕ × (ℕ × Extension))) (u : State) → Reads (λ (v : ℕ × (ℕ × Extension)). (v.0, (v.1.0, bits_in w v.1.1))) (Then (Token IsRegister) (Behind (44 ∷ []) (Then (Token IsRegister) (Behind (44 ∷ []) (Token IsWidth))))) (λ (v : ℕ × (ℕ × Option ℕ)). IsReg v.0 × (IsReg v.1.0 × HasExtension w v.1.1)) s r u → Answers (word.Classed stem.MoveExtended w) s (option_map (λ (v : ℕ × (ℕ × Extension)). plain (line.MoveExtended v.1.1 v.0 v.1.0)) r) u
 move_extended w s r u h start = judged fits r u (gives_of (λ (v : ℕ × (ℕ × Extension)). (v.0, (v.1.0, bits_in w v.1.1))) (Then (Token IsRegister) (Behind (44 ∷ []) (Then (Token IsRegister) (Behind (44 ∷ []) (Token IsWidth))))) (λ (v : ℕ × (ℕ × Option ℕ)). IsReg v.0 × (IsReg v.1.0 × HasExtension w v.1.1)) s r u start h)
   where
-    back : (l : Line) → (name : Option (List ℕ)) → (odd : Option ℕ) → mnemonic_of l ≡ word.MoveExtended w → IsOperands (statement l name odd) s.0 → (w : ℕ × (ℕ × Option ℕ)) × (Then (Token IsRegister) (Behind (44 ∷ []) (Then (Token IsRegister) (Behind (44 ∷ []) (Token IsWidth))))) s.0 w []
+    back : (l : Line) → (name : Option (List ℕ)) → (odd : Option ℕ) → mnemonic_of l ≡ word.Classed stem.MoveExtended w → IsOperands (statement l name odd) s.0 → (w : ℕ × (ℕ × Option ℕ)) × (Then (Token IsRegister) (Behind (44 ∷ []) (Then (Token IsRegister) (Behind (44 ∷ []) (Token IsWidth))))) s.0 w []
     back (line.MoveExtended e dst src) name odd m k = ((dst, (src, Some k.1)), k.3)
     back _ name odd m k = absurd cc
 
-    fits : Fitting (word.MoveExtended w) s.0 (λ (v : ℕ × (ℕ × Extension)). plain (line.MoveExtended v.1.1 v.0 v.1.0)) (λ (v : ℕ × (ℕ × Extension)). (v.0, (v.1.0, bits_in w v.1.1))) (Then (Token IsRegister) (Behind (44 ∷ []) (Then (Token IsRegister) (Behind (44 ∷ []) (Token IsWidth))))) (λ (v : ℕ × (ℕ × Option ℕ)). IsReg v.0 × (IsReg v.1.0 × HasExtension w v.1.1))
+    fits : Fitting (word.Classed stem.MoveExtended w) s.0 (λ (v : ℕ × (ℕ × Extension)). plain (line.MoveExtended v.1.1 v.0 v.1.0)) (λ (v : ℕ × (ℕ × Extension)). (v.0, (v.1.0, bits_in w v.1.1))) (Then (Token IsRegister) (Behind (44 ∷ []) (Then (Token IsRegister) (Behind (44 ∷ []) (Token IsWidth))))) (λ (v : ℕ × (ℕ × Option ℕ)). IsReg v.0 × (IsReg v.1.0 × HasExtension w v.1.1))
     fits = record { ok = λ v p f. extended_ok w s.0 v.1.1 v.0 v.1.0 p f; back = back; out = λ v p bad. odd_extended w s.0 v.0 v.1.0 v.1.1 p (λ m. bad (register_in_range p.1.0 v.0 p.1.2, (register_in_range p.2.2.1.0 v.1.0 p.2.2.1.2, m))) }
 
 pub byte_order : (o : Order) (s : State) (r : Option (ℕ × SwapWidth)) (u : State) → Reads (λ (v : ℕ × SwapWidth). (v.0, swap_width_bits v.1)) (Then (Token IsRegister) (Behind (44 ∷ []) (Token IsNumeral))) (λ (v : ℕ × ℕ). IsReg v.0 × HasSwapWidth v.1) s r u → Answers (word.ByteOrder o) s (option_map (λ (v : ℕ × SwapWidth). plain (line.ByteOrder o v.1 v.0)) r) u
@@ -195,35 +194,35 @@ abbrev Local : Form (ℤ × Option (List ℕ))
 Local = Behind (108 ∷ 111 ∷ 99 ∷ 97 ∷ 108 ∷ []) (Token IsTarget)
 
 pub call_local : (s t : State) (r : Option (ℤ × Option (Bor (List ℕ)))) (u : State) → (s.0 ≡ (108 ∷ 111 ∷ 99 ∷ 97 ∷ 108 ∷ []) ∷ t.0) × (t.1 ≡ s.1) → Reads target_of (Token IsTarget) (λ (v : ℤ × Option (List ℕ)). FitsSigned w32 v.0) t r u
-    → Answers (word.Jump leap.Call) s (option_map (λ (v : ℤ × Option (Bor (List ℕ))). record { line = line.CallLocal v.0; name = v.1 }) r) u
+    → Answers word.Call s (option_map (λ (v : ℤ × Option (Bor (List ℕ))). record { line = line.CallLocal v.0; name = v.1 }) r) u
 call_local s t r u e h start = judged fits r u (gives_of target_of Local (λ (v : ℤ × Option (List ℕ)). FitsSigned w32 v.0) s r u start (behind_next (108 ∷ 111 ∷ 99 ∷ 97 ∷ 108 ∷ []) s t e target_of (Token IsTarget) (λ (v : ℤ × Option (List ℕ)). FitsSigned w32 v.0) r u h))
   where
-    back : (l : Line) → (name : Option (List ℕ)) → (odd : Option ℕ) → mnemonic_of l ≡ word.Jump leap.Call → IsOperands (statement l name odd) s.0 → (w : ℤ × Option (List ℕ)) × Local s.0 w []
+    back : (l : Line) → (name : Option (List ℕ)) → (odd : Option ℕ) → mnemonic_of l ≡ word.Call → IsOperands (statement l name odd) s.0 → (w : ℤ × Option (List ℕ)) × Local s.0 w []
     back (line.CallLocal z) name odd m k = ((z, name), k.1)
     back (line.Call z) name odd m k = let p = k.2.1 in let q = e.0 in let same : k.2.0 ≡ 108 ∷ 111 ∷ 99 ∷ 97 ∷ 108 ∷ [] = cc in absurd (no_local k.2.0 z same k.2.2)
     back _ name odd m k = absurd cc
 
-    fits : Fitting (word.Jump leap.Call) s.0 (λ (v : ℤ × Option (Bor (List ℕ))). record { line = line.CallLocal v.0; name = v.1 }) target_of Local (λ (v : ℤ × Option (List ℕ)). FitsSigned w32 v.0)
+    fits : Fitting word.Call s.0 (λ (v : ℤ × Option (Bor (List ℕ))). record { line = line.CallLocal v.0; name = v.1 }) target_of Local (λ (v : ℤ × Option (List ℕ)). FitsSigned w32 v.0)
     fits = record { ok = λ v p f. (refl, (refl, p), f); back = back; out = λ w p bad. (statement (line.CallLocal w.0) w.1 None, refl, (refl, p), λ m. bad m.0) }
 
 pub call : (s : State) (r : Option ℤ) (u : State) → ((others : List (List ℕ)) → s.0 ≢ (108 ∷ 111 ∷ 99 ∷ 97 ∷ 108 ∷ []) ∷ others) → Reads (λ (z : ℤ). z) (Token IsImmediate) (FitsSigned w32) s r u
-    → Answers (word.Jump leap.Call) s (option_map (λ (v : ℤ). plain (line.Call v)) r) u
+    → Answers word.Call s (option_map (λ (v : ℤ). plain (line.Call v)) r) u
 call s r u none h start = judged fits r u (gives_of (λ (z : ℤ). z) (Token IsImmediate) (FitsSigned w32) s r u start h)
   where
-    back : (l : Line) → (name : Option (List ℕ)) → (odd : Option ℕ) → mnemonic_of l ≡ word.Jump leap.Call → IsOperands (statement l name odd) s.0 → (w : ℤ) × (Token IsImmediate) s.0 w []
+    back : (l : Line) → (name : Option (List ℕ)) → (odd : Option ℕ) → mnemonic_of l ≡ word.Call → IsOperands (statement l name odd) s.0 → (w : ℤ) × (Token IsImmediate) s.0 w []
     back (line.CallLocal z) name odd m k = absurd (none k.1.0 k.1.1)
     back (line.Call z) name odd m k = (z, k.2)
     back _ name odd m k = absurd cc
 
-    fits : Fitting (word.Jump leap.Call) s.0 (λ (v : ℤ). plain (line.Call v)) (λ (z : ℤ). z) (Token IsImmediate) (FitsSigned w32)
+    fits : Fitting word.Call s.0 (λ (v : ℤ). plain (line.Call v)) (λ (z : ℤ). z) (Token IsImmediate) (FitsSigned w32)
     fits = record { ok = λ v p f. (refl, (refl, refl, p), f); back = back; out = λ w p bad. (statement (line.Call w) None None, refl, (refl, refl, p), λ m. bad m.0) }
 
-pub exit : (s : State) → Answers (word.Jump leap.Exit) s (Some (plain line.Exit)) s
+pub exit : (s : State) → Answers word.Exit s (Some (plain line.Exit)) s
 exit ([], false) start = ((refl, (refl, refl, refl)), (tt, refl))
 exit ([], true) start = absurd cc
 exit (x ∷ xs, out) start = λ s k. by s.line s.name s.unknown_width k.0 k.1
   where
-    by : (l : Line) → (name : Option (List ℕ)) → (odd : Option ℕ) → mnemonic_of l ≡ word.Jump leap.Exit → ¬ IsOperands (statement l name odd) (x ∷ xs)
+    by : (l : Line) → (name : Option (List ℕ)) → (odd : Option ℕ) → mnemonic_of l ≡ word.Exit → ¬ IsOperands (statement l name odd) (x ∷ xs)
     by line.Exit name odd m k = let e = k.2 in absurd cc
     by _ name odd m k = absurd cc
 

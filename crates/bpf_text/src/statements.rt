@@ -1,14 +1,13 @@
 //! Instructions, from their tokens: the grammar of each mnemonic's operands.
 ghost use Rattle.std.specs.Prelude.{◌≡◌, false};
 ghost use Rattle.bpf_canonical.specs.declared.mnemonic.Mnemonic.TheVariants as word;
-ghost use Rattle.bpf_canonical.specs.declared.mnemonic.Jump.TheVariants as leap;
-ghost use Rattle.bpf_canonical.specs.declared.mnemonic.Access.TheVariants as access;
+ghost use Rattle.bpf_canonical.specs.declared.mnemonic.Stem.TheVariants as stem;
 ghost use Rattle.bpf_text.specs.Judged.{texts, Judges, JudgesForm};
 ghost use Rattle.bpf_text.specs.Mirror.Reads.{state, Answers};
 
 use crate::line::{LineFault, Statement};
 use crate::operands::Operands;
-use bpf_canonical::{Access, Jump, Mnemonic, read_mnemonic};
+use bpf_canonical::{Mnemonic, Stem, read_mnemonic};
 use bpf_types::{Comparison, Line, Operation, Order, SignedSize, Size, Width};
 
 /// An instruction with no label's name.
@@ -23,7 +22,7 @@ fn arithmetic<'a>(
     width: Width,
     operation: Operation,
 ) -> Option<Statement<'a>>
-    ensures { Answers (word.Arithmetic width operation)
+    ensures { Answers (word.Classed (stem.Arithmetic operation) width)
         (state operands.old) result (state operands.new) }
 {
     let dst = operands.register()?;
@@ -38,14 +37,16 @@ fn arithmetic<'a>(
 }
 
 fn negate<'a>(operands: &mut Operands<'_, 'a>, width: Width) -> Option<Statement<'a>>
-    ensures { Answers (word.Negate width) (state operands.old) result (state operands.new) }
+    ensures { Answers (word.Classed stem.Negate width)
+        (state operands.old) result (state operands.new) }
 {
     let dst = operands.register()?;
     plain(Line::Negate { width, dst })
 }
 
 fn move_extended<'a>(operands: &mut Operands<'_, 'a>, width: Width) -> Option<Statement<'a>>
-    ensures { Answers (word.MoveExtended width) (state operands.old) result (state operands.new) }
+    ensures { Answers (word.Classed stem.MoveExtended width)
+        (state operands.old) result (state operands.new) }
 {
     let dst = operands.register()?;
     operands.expect(b",")?;
@@ -78,7 +79,7 @@ fn load_wide<'a>(operands: &mut Operands<'_, 'a>) -> Option<Statement<'a>>
 }
 
 fn jump<'a>(operands: &mut Operands<'_, 'a>) -> Option<Statement<'a>>
-    ensures { Answers (word.Jump leap.Short) (state operands.old) result (state operands.new) }
+    ensures { Answers word.Jump (state operands.old) result (state operands.new) }
 {
     let (distance, name) = operands.short_target()?;
     Some(Statement {
@@ -88,7 +89,7 @@ fn jump<'a>(operands: &mut Operands<'_, 'a>) -> Option<Statement<'a>>
 }
 
 fn long_jump<'a>(operands: &mut Operands<'_, 'a>) -> Option<Statement<'a>>
-    ensures { Answers (word.Jump leap.Long) (state operands.old) result (state operands.new) }
+    ensures { Answers word.LongJump (state operands.old) result (state operands.new) }
 {
     let (distance, name) = operands.long_target()?;
     Some(Statement {
@@ -102,7 +103,7 @@ fn jump_if<'a>(
     width: Width,
     comparison: Comparison,
 ) -> Option<Statement<'a>>
-    ensures { Answers (word.Jump (leap.If width comparison))
+    ensures { Answers (word.Classed (stem.JumpIf comparison) width)
         (state operands.old) result (state operands.new) }
 {
     let dst = operands.register()?;
@@ -124,7 +125,7 @@ fn jump_if<'a>(
 
 /// A call of the engine by its number, or a local call.
 fn call<'a>(operands: &mut Operands<'_, 'a>) -> Option<Statement<'a>>
-    ensures { Answers (word.Jump leap.Call) (state operands.old) result (state operands.new) }
+    ensures { Answers word.Call (state operands.old) result (state operands.new) }
 {
     if operands.expect(b"local").is_some() {
         let (distance, name) = operands.long_target()?;
@@ -138,7 +139,7 @@ fn call<'a>(operands: &mut Operands<'_, 'a>) -> Option<Statement<'a>>
 }
 
 fn load<'a>(operands: &mut Operands<'_, 'a>, size: Size) -> Option<Statement<'a>>
-    ensures { Answers (word.Access (access.Load size))
+    ensures { Answers (word.Load size)
         (state operands.old) result (state operands.new) }
 {
     let dst = operands.register()?;
@@ -153,7 +154,7 @@ fn load<'a>(operands: &mut Operands<'_, 'a>, size: Size) -> Option<Statement<'a>
 }
 
 fn load_extended<'a>(operands: &mut Operands<'_, 'a>, size: SignedSize) -> Option<Statement<'a>>
-    ensures { Answers (word.Access (access.LoadExtended size))
+    ensures { Answers (word.LoadExtended size)
         (state operands.old) result (state operands.new) }
 {
     let dst = operands.register()?;
@@ -168,7 +169,7 @@ fn load_extended<'a>(operands: &mut Operands<'_, 'a>, size: SignedSize) -> Optio
 }
 
 fn store<'a>(operands: &mut Operands<'_, 'a>, size: Size) -> Option<Statement<'a>>
-    ensures { Answers (word.Access (access.Store size))
+    ensures { Answers (word.Store size)
         (state operands.old) result (state operands.new) }
 {
     let (base, offset) = operands.memory()?;
@@ -183,7 +184,7 @@ fn store<'a>(operands: &mut Operands<'_, 'a>, size: Size) -> Option<Statement<'a
 }
 
 fn store_immediate<'a>(operands: &mut Operands<'_, 'a>, size: Size) -> Option<Statement<'a>>
-    ensures { Answers (word.Access (access.StoreImmediate size))
+    ensures { Answers (word.StoreImmediate size)
         (state operands.old) result (state operands.new) }
 {
     let (base, offset) = operands.memory()?;
@@ -202,20 +203,22 @@ fn instruction<'a>(operands: &mut Operands<'_, 'a>, mnemonic: Mnemonic) -> Optio
     ensures { Answers mnemonic (state operands.old) result (state operands.new) }
 {
     match mnemonic {
-        Mnemonic::Arithmetic(width, operation) => arithmetic(operands, width, operation),
-        Mnemonic::Negate(width) => negate(operands, width),
-        Mnemonic::MoveExtended(width) => move_extended(operands, width),
+        Mnemonic::Classed(Stem::Arithmetic(operation), width) => {
+            arithmetic(operands, width, operation)
+        }
+        Mnemonic::Classed(Stem::Negate, width) => negate(operands, width),
+        Mnemonic::Classed(Stem::MoveExtended, width) => move_extended(operands, width),
+        Mnemonic::Classed(Stem::JumpIf(comparison), width) => jump_if(operands, width, comparison),
         Mnemonic::ByteOrder(order) => byte_order(operands, order),
         Mnemonic::LoadWide => load_wide(operands),
-        Mnemonic::Jump(Jump::If(width, comparison)) => jump_if(operands, width, comparison),
-        Mnemonic::Jump(Jump::Short) => jump(operands),
-        Mnemonic::Jump(Jump::Long) => long_jump(operands),
-        Mnemonic::Jump(Jump::Call) => call(operands),
-        Mnemonic::Jump(Jump::Exit) => plain(Line::Exit),
-        Mnemonic::Access(Access::Load(size)) => load(operands, size),
-        Mnemonic::Access(Access::LoadExtended(size)) => load_extended(operands, size),
-        Mnemonic::Access(Access::Store(size)) => store(operands, size),
-        Mnemonic::Access(Access::StoreImmediate(size)) => store_immediate(operands, size),
+        Mnemonic::Load(size) => load(operands, size),
+        Mnemonic::LoadExtended(size) => load_extended(operands, size),
+        Mnemonic::Store(size) => store(operands, size),
+        Mnemonic::StoreImmediate(size) => store_immediate(operands, size),
+        Mnemonic::Jump => jump(operands),
+        Mnemonic::LongJump => long_jump(operands),
+        Mnemonic::Call => call(operands),
+        Mnemonic::Exit => plain(Line::Exit),
     }
 }
 

@@ -2,7 +2,7 @@
 
 ghost use Rattle.std.specs.Prelude.{◌+◌, ◌*◌, ◌≤◌, length, IsTrue};
 
-use bpf_canonical::{Jump, Mnemonic, read_mnemonic};
+use bpf_canonical::{Mnemonic, Stem, read_mnemonic};
 use bpf_decode::{Slots, decode_at, encode};
 use bpf_listing::{disassemble, line_text};
 use bpf_text::{LineFault, TextLine};
@@ -87,24 +87,29 @@ fn write_canonical(alloc: Global, line: Line) -> Result<String, Fault> {
 fn mnemonic(alloc: Global, text: &[u8]) -> Result<String, Fault> {
     let name = match read_mnemonic(text) {
         None => "None",
-        Some(Mnemonic::Arithmetic(_, _)) => "Arithmetic",
-        Some(Mnemonic::Negate(_)) => "Negate",
-        Some(Mnemonic::MoveExtended(_)) => "MoveExtended",
+        Some(Mnemonic::Classed(stem, _)) => stem_name(stem),
         Some(Mnemonic::ByteOrder(_)) => "ByteOrder",
         Some(Mnemonic::LoadWide) => "LoadWide",
-        Some(Mnemonic::Jump(jump)) => jump_name(jump),
-        Some(Mnemonic::Access(_)) => "Access",
+        Some(
+            Mnemonic::Load(_)
+            | Mnemonic::LoadExtended(_)
+            | Mnemonic::Store(_)
+            | Mnemonic::StoreImmediate(_),
+        ) => "Access",
+        Some(Mnemonic::Jump) => "Jump Short",
+        Some(Mnemonic::LongJump) => "Jump Long",
+        Some(Mnemonic::Call) => "Jump Call",
+        Some(Mnemonic::Exit) => "Jump Exit",
     };
     Ok(String::from_str(alloc, name)?)
 }
 
-fn jump_name(jump: Jump) -> &'static str {
-    match jump {
-        Jump::If(_, _) => "Jump If",
-        Jump::Short => "Jump Short",
-        Jump::Long => "Jump Long",
-        Jump::Call => "Jump Call",
-        Jump::Exit => "Jump Exit",
+fn stem_name(stem: Stem) -> &'static str {
+    match stem {
+        Stem::Arithmetic(_) => "Arithmetic",
+        Stem::Negate => "Negate",
+        Stem::MoveExtended => "MoveExtended",
+        Stem::JumpIf(_) => "Jump If",
     }
 }
 

@@ -12,7 +12,7 @@ use crate::operand::Operand::{
 use crate::operand::{Fit, Operand, is_name};
 use crate::tokens::Tokens;
 use arrayvec::ArrayVec;
-use bpf_canonical::{Access, Jump, Mnemonic, read_mnemonic};
+use bpf_canonical::{Mnemonic, Stem, read_mnemonic};
 use bpf_types::Width;
 
 const TARGET: &str = "<distance with its sign, or label>";
@@ -34,16 +34,16 @@ struct Shape {
 /// What stands behind a mnemonic; of `call` the word behind it decides.
 fn shape_of(mnemonic: Mnemonic, is_local: bool) -> Shape {
     let (text, operands): (&str, &[Operand]) = match mnemonic {
-        Mnemonic::Arithmetic(..) => (
+        Mnemonic::Classed(Stem::Arithmetic(_), _) => (
             "<register>, <register or number>",
             &[Register, Comma, Second],
         ),
-        Mnemonic::Negate(_) => ("<register>", &[Register]),
-        Mnemonic::MoveExtended(Width::W64) => (
+        Mnemonic::Classed(Stem::Negate, _) => ("<register>", &[Register]),
+        Mnemonic::Classed(Stem::MoveExtended, Width::W64) => (
             "<register>, <register>, 8 or 16 or 32",
             &[Register, Comma, Register, Comma, Extension],
         ),
-        Mnemonic::MoveExtended(Width::W32) => (
+        Mnemonic::Classed(Stem::MoveExtended, Width::W32) => (
             "<register>, <register>, 8 or 16",
             &[Register, Comma, Register, Comma, ShortExtension],
         ),
@@ -52,27 +52,27 @@ fn shape_of(mnemonic: Mnemonic, is_local: bool) -> Shape {
             "<register>, <number without a sign>",
             &[Register, Comma, Wide],
         ),
-        Mnemonic::Access(Access::Load(_) | Access::LoadExtended(_)) => (
+        Mnemonic::Load(_) | Mnemonic::LoadExtended(_) => (
             "<register>, [<register>+<distance>], with no blank between sign and distance",
             &[Register, Comma, Opens, Register, Offset, Closes],
         ),
-        Mnemonic::Access(Access::Store(_)) => (
+        Mnemonic::Store(_) => (
             "[<register>+<distance>], <register>",
             &[Opens, Register, Offset, Closes, Comma, Register],
         ),
-        Mnemonic::Access(Access::StoreImmediate(_)) => (
+        Mnemonic::StoreImmediate(_) => (
             "[<register>+<distance>], <number>",
             &[Opens, Register, Offset, Closes, Comma, Immediate],
         ),
-        Mnemonic::Jump(Jump::If(..)) => (
+        Mnemonic::Classed(Stem::JumpIf(_), _) => (
             "<register>, <register or number>, <distance with its sign, or label>",
             &[Register, Comma, Second, Comma, Target],
         ),
-        Mnemonic::Jump(Jump::Short) => (TARGET, &[Target]),
-        Mnemonic::Jump(Jump::Long) => (TARGET, &[LongTarget]),
-        Mnemonic::Jump(Jump::Call) if is_local => (CALL, &[LongTarget]),
-        Mnemonic::Jump(Jump::Call) => (CALL, &[Immediate]),
-        Mnemonic::Jump(Jump::Exit) => ("has nothing behind it", &[]),
+        Mnemonic::Jump => (TARGET, &[Target]),
+        Mnemonic::LongJump => (TARGET, &[LongTarget]),
+        Mnemonic::Call if is_local => (CALL, &[LongTarget]),
+        Mnemonic::Call => (CALL, &[Immediate]),
+        Mnemonic::Exit => ("has nothing behind it", &[]),
     };
     Shape { text, operands }
 }

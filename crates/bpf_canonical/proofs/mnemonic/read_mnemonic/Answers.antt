@@ -1,4 +1,4 @@
-use Rattle.std.proofs.Common.{◌∙◌, ap, Some}
+use Rattle.std.proofs.Common.{ap, Some}
 use Rattle.bpf_canonical.specs.declared.mnemonic.Mnemonic.{Mnemonic}
 use Rattle.bpf_canonical.proofs.Words.{classed_only, plain_only, same_classed}
 use Rattle.bpf_canonical.proofs.mnemonic.read_mnemonic.Goals as goal
@@ -6,8 +6,7 @@ use Rattle.bpf_canonical.proofs.mnemonic.read_mnemonic.Goals as goal
 pub returns-in-Some-clause-only : goal.returns-in-Some-clause-only
 returns-in-Some-clause-only c m e =
     let some = c.in-Some in
-    ap (λ (k : Mnemonic). Some k) (c.mnemonic_of_stem.ensures.exact
-    ∙ classed_only c.args.word.now m some.stem some.width some.ensures.some (λ t v h. same_classed some.stem t some.width v (some.ensures.only t v h)) e)
+    ap (λ (k : Mnemonic). Some k) (classed_only c.args.word.now m some.stem some.width some.ensures.some (λ t v h. same_classed some.stem t some.width v (some.ensures.only t v h)) e)
 
 pub returns-in-None-clause-only : goal.returns-in-None-clause-only
 returns-in-None-clause-only c m e =

@@ -3,7 +3,7 @@ use Rattle.std.specs.Int.{w16}
 use Rattle.bpf_types.specs.Line.{IsOperand}
 use Rattle.bpf_types.specs.declared.line.Line.TheVariants as line
 use Rattle.bpf_canonical.specs.declared.mnemonic.Mnemonic.TheVariants as word
-use Rattle.bpf_canonical.specs.declared.mnemonic.Jump.TheVariants as leap
+use Rattle.bpf_canonical.specs.declared.mnemonic.Stem.TheVariants as stem
 use Rattle.bpf_types.specs.declared.line.Operand.{Operand}
 use Rattle.bpf_text.specs.Fields.{IsSecond, IsTarget}
 use Rattle.bpf_text.specs.Judged.{target_of}
@@ -29,4 +29,4 @@ pub returns-in_err-distance : goal.returns-in_err-distance
 returns-in_err-distance c = rw c.from_residual-in_err-distance.ensures (jump_if c.args.width c.args.comparison (state c.args.operands.now) None (state c.short_target.new.self) (then_next c.in_ok-dst.ensures (λ (p : (Operand) × (ℤ × Option (Bor (List ℕ)))). ((λ (o : Operand). o) p.0, target_of p.1)) (Behind (44 ∷ []) (Then (Token IsSecond) (Behind (44 ∷ []) (Token IsTarget)))) (λ (p : (Operand) × (ℤ × Option (List ℕ))). IsOperand p.0 × (λ (v : ℤ × Option (List ℕ)). FitsSigned w16 v.0) p.1) None (state c.short_target.new.self) (behind_next (44 ∷ []) (state c.register.new.self) (state c.expect.new.self) c.in_ok-expect.ensures.some (λ (p : (Operand) × (ℤ × Option (Bor (List ℕ)))). ((λ (o : Operand). o) p.0, target_of p.1)) (Then (Token IsSecond) (Behind (44 ∷ []) (Token IsTarget))) (λ (p : (Operand) × (ℤ × Option (List ℕ))). IsOperand p.0 × (λ (v : ℤ × Option (List ℕ)). FitsSigned w16 v.0) p.1) None (state c.short_target.new.self) (then_next c.in_ok-operand.ensures target_of (Behind (44 ∷ []) (Token IsTarget)) (λ (v : ℤ × Option (List ℕ)). FitsSigned w16 v.0) None (state c.short_target.new.self) (behind_next (44 ∷ []) (state c.second.new.self) (state c.expect-2.new.self) c.in_ok-expect-2.ensures.some target_of (Token IsTarget) (λ (v : ℤ × Option (List ℕ)). FitsSigned w16 v.0) None (state c.short_target.new.self) c.in_err-distance.ensures)))))
 
 pub returns : goal.returns
-returns c = let f : SFits w16 c.in_ok-distance.distance = search rules in subst (λ (y : ℤ). Answers (word.Jump (leap.If c.args.width c.args.comparison)) (state c.args.operands.now) (Some (record { line = line.JumpIf c.args.width c.args.comparison c.in_ok-dst.dst c.in_ok-operand.operand y; name = c.in_ok-distance.name })) (state c.short_target.new.self)) (sym (to_z-of_z f)) (jump_if c.args.width c.args.comparison (state c.args.operands.now) (Some (c.in_ok-dst.dst, (c.in_ok-operand.operand, (c.in_ok-distance.distance, c.in_ok-distance.name)))) (state c.short_target.new.self) (then_next c.in_ok-dst.ensures (λ (p : (Operand) × (ℤ × Option (Bor (List ℕ)))). ((λ (o : Operand). o) p.0, target_of p.1)) (Behind (44 ∷ []) (Then (Token IsSecond) (Behind (44 ∷ []) (Token IsTarget)))) (λ (p : (Operand) × (ℤ × Option (List ℕ))). IsOperand p.0 × (λ (v : ℤ × Option (List ℕ)). FitsSigned w16 v.0) p.1) (Some (c.in_ok-operand.operand, (c.in_ok-distance.distance, c.in_ok-distance.name))) (state c.short_target.new.self) (behind_next (44 ∷ []) (state c.register.new.self) (state c.expect.new.self) c.in_ok-expect.ensures.some (λ (p : (Operand) × (ℤ × Option (Bor (List ℕ)))). ((λ (o : Operand). o) p.0, target_of p.1)) (Then (Token IsSecond) (Behind (44 ∷ []) (Token IsTarget))) (λ (p : (Operand) × (ℤ × Option (List ℕ))). IsOperand p.0 × (λ (v : ℤ × Option (List ℕ)). FitsSigned w16 v.0) p.1) (Some (c.in_ok-operand.operand, (c.in_ok-distance.distance, c.in_ok-distance.name))) (state c.short_target.new.self) (then_next c.in_ok-operand.ensures target_of (Behind (44 ∷ []) (Token IsTarget)) (λ (v : ℤ × Option (List ℕ)). FitsSigned w16 v.0) (Some (c.in_ok-distance.distance, c.in_ok-distance.name)) (state c.short_target.new.self) (behind_next (44 ∷ []) (state c.second.new.self) (state c.expect-2.new.self) c.in_ok-expect-2.ensures.some target_of (Token IsTarget) (λ (v : ℤ × Option (List ℕ)). FitsSigned w16 v.0) (Some (c.in_ok-distance.distance, c.in_ok-distance.name)) (state c.short_target.new.self) c.in_ok-distance.ensures)))))
+returns c = let f : SFits w16 c.in_ok-distance.distance = search rules in subst (λ (y : ℤ). Answers (word.Classed (stem.JumpIf c.args.comparison) c.args.width) (state c.args.operands.now) (Some (record { line = line.JumpIf c.args.width c.args.comparison c.in_ok-dst.dst c.in_ok-operand.operand y; name = c.in_ok-distance.name })) (state c.short_target.new.self)) (sym (to_z-of_z f)) (jump_if c.args.width c.args.comparison (state c.args.operands.now) (Some (c.in_ok-dst.dst, (c.in_ok-operand.operand, (c.in_ok-distance.distance, c.in_ok-distance.name)))) (state c.short_target.new.self) (then_next c.in_ok-dst.ensures (λ (p : (Operand) × (ℤ × Option (Bor (List ℕ)))). ((λ (o : Operand). o) p.0, target_of p.1)) (Behind (44 ∷ []) (Then (Token IsSecond) (Behind (44 ∷ []) (Token IsTarget)))) (λ (p : (Operand) × (ℤ × Option (List ℕ))). IsOperand p.0 × (λ (v : ℤ × Option (List ℕ)). FitsSigned w16 v.0) p.1) (Some (c.in_ok-operand.operand, (c.in_ok-distance.distance, c.in_ok-distance.name))) (state c.short_target.new.self) (behind_next (44 ∷ []) (state c.register.new.self) (state c.expect.new.self) c.in_ok-expect.ensures.some (λ (p : (Operand) × (ℤ × Option (Bor (List ℕ)))). ((λ (o : Operand). o) p.0, target_of p.1)) (Then (Token IsSecond) (Behind (44 ∷ []) (Token IsTarget))) (λ (p : (Operand) × (ℤ × Option (List ℕ))). IsOperand p.0 × (λ (v : ℤ × Option (List ℕ)). FitsSigned w16 v.0) p.1) (Some (c.in_ok-operand.operand, (c.in_ok-distance.distance, c.in_ok-distance.name))) (state c.short_target.new.self) (then_next c.in_ok-operand.ensures target_of (Behind (44 ∷ []) (Token IsTarget)) (λ (v : ℤ × Option (List ℕ)). FitsSigned w16 v.0) (Some (c.in_ok-distance.distance, c.in_ok-distance.name)) (state c.short_target.new.self) (behind_next (44 ∷ []) (state c.second.new.self) (state c.expect-2.new.self) c.in_ok-expect-2.ensures.some target_of (Token IsTarget) (λ (v : ℤ × Option (List ℕ)). FitsSigned w16 v.0) (Some (c.in_ok-distance.distance, c.in_ok-distance.name)) (state c.short_target.new.self) c.in_ok-distance.ensures)))))
