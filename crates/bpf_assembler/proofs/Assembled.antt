@@ -117,3 +117,15 @@ assembled profile one text rows octets t a = record {
   means = record { lines = t.lines; written = t.written; instructions = subst (λ (es : List Entry). AreInstructions t.lines es t.resolved.lines) t.rows t.resolved.instructions };
   admitted = subst (IsAdmittedAs profile octets) (one octets a.lines t.resolved.lines a.admitted.whole t.resolved.image) a.admitted;
 }
+
+-- the fault of an instruction has a slot
+pub fault_reported : (entries : List Entry) (fault : LoadFault) (number : ℕ) → fault ≢ load.Memory → fault ≢ load.EmptyCode → fault ≢ load.RaggedCode → fault ≢ load.TooLong → IsLineUpTo entries (slot_of fault) number
+    → IsReported entries fault (At number (why.Load fault))
+fault_reported entries load.Memory number a b c d h = absurd (a refl)
+fault_reported entries load.EmptyCode number a b c d h = absurd (b refl)
+fault_reported entries load.RaggedCode number a b c d h = absurd (c refl)
+fault_reported entries load.TooLong number a b c d h = absurd (d refl)
+fault_reported entries (load.Decode x s) number a b c d h = (number, refl, h)
+fault_reported entries (load.BadCall s) number a b c d h = (number, refl, h)
+fault_reported entries (load.BadTarget s) number a b c d h = (number, refl, h)
+fault_reported entries (load.FallsOffEnd s) number a b c d h = (number, refl, h)

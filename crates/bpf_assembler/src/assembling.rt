@@ -55,15 +55,13 @@ impl<A: Allocator> Image<A> {
 fn fault_with_line(rows: &[Row<'_>], fault: LoadFault) -> AsmFault
     ensures { IsReported (map entry rows.now) fault result }
 {
-    let line = match fault {
-        LoadFault::Memory => return AsmFault::Memory,
-        LoadFault::EmptyCode | LoadFault::RaggedCode | LoadFault::TooLong => 0,
-        LoadFault::Decode(_, slot)
-        | LoadFault::BadCall(slot)
-        | LoadFault::BadTarget(slot)
-        | LoadFault::FallsOffEnd(slot) => line_up_to(rows, slot),
-    };
-    AsmFault::at(line, Why::Load(fault))
+    match fault {
+        LoadFault::Memory => AsmFault::Memory,
+        LoadFault::EmptyCode | LoadFault::RaggedCode | LoadFault::TooLong => {
+            AsmFault::at(0, Why::Load(fault))
+        }
+        _ => AsmFault::at(line_up_to(rows, fault.slot()), Why::Load(fault)),
+    }
 }
 
 /// What the loader says of the image, its fault at the line of the instruction at its slot.
