@@ -8,8 +8,8 @@ use hex::encode_to_slice;
 use itoa::Buffer;
 use std::marker::Model;
 
-/// No instruction's text is longer, without a newline.
-pub const MAX_TEXT_LENGTH: usize = 37;
+/// The octets of the longest text of an instruction, as `jsge64 r10, -2147483648, -32768`.
+pub const MAX_TEXT_LENGTH: usize = 31;
 
 /// A text of at most `ROOM` octets, on the stack.
 #[derive(Drop)]
@@ -53,14 +53,15 @@ impl<const ROOM: usize> Text<ROOM> {
         ensures items { self.new ≡ self.old ++ piece.now }
         ensures len { length self.new ≡ length self.old + length piece.now }
     {
-        let _fits = self.octets.try_extend_from_slice(piece);
+        self.octets.try_extend_from_slice(piece).unwrap();
     }
 
     /// Appends a number in decimal digits.
+    #[tactic(auto, using(crate::proofs::Rooms::one_digit))]
     pub(crate) fn push_number(&mut self, number: u32)
-        requires { length self.old + 10 ≤ ROOM }
+        requires { length self.old + length (decimal number) ≤ ROOM }
         ensures items { self.new ≡ self.old ++ decimal number }
-        ensures len { length self.new ≤ length self.old + 10 }
+        ensures len { length self.new ≡ length self.old + length (decimal number) }
     {
         if number < 10 {
             return self.push_all(&[b'0' + number as u8]);
@@ -70,6 +71,7 @@ impl<const ROOM: usize> Text<ROOM> {
     }
 
     /// Appends a number in decimal digits, with a sign where it is negative.
+    #[tactic(auto, using(crate::proofs::Rooms::few_digits))]
     pub(crate) fn push_signed(&mut self, number: i32)
         requires { length self.old + 11 ≤ ROOM }
         ensures items { self.new ≡ self.old ++ signed_decimal number }
@@ -82,6 +84,7 @@ impl<const ROOM: usize> Text<ROOM> {
     }
 
     /// Appends a number in decimal digits, always with its sign.
+    #[tactic(auto, using(crate::proofs::Rooms::few_digits))]
     pub(crate) fn push_with_sign(&mut self, number: i32)
         requires { length self.old + 11 ≤ ROOM }
         ensures items { self.new ≡ self.old ++ with_sign number }
@@ -91,6 +94,17 @@ impl<const ROOM: usize> Text<ROOM> {
         self.push_number(number.unsigned_abs());
     }
 
+    /// Appends a distance of 16 bits in decimal digits, always with its sign.
+    #[tactic(auto, using(crate::proofs::Rooms::short_digits))]
+    pub(crate) fn push_distance(&mut self, distance: i16)
+        requires { length self.old + 6 ≤ ROOM }
+        ensures items { self.new ≡ self.old ++ with_sign distance }
+        ensures len { length self.new ≤ length self.old + 6 }
+    {
+        self.push_all(if distance < 0 { b"-" } else { b"+" });
+        self.push_number(u32::from(distance.unsigned_abs()));
+    }
+
     /// Appends a number in 16 hexadecimal digits, in lower case.
     pub(crate) fn push_hex(&mut self, number: u64)
         requires { length self.old + 16 ≤ ROOM }
@@ -98,7 +112,7 @@ impl<const ROOM: usize> Text<ROOM> {
         ensures len { length self.new ≡ length self.old + 16 }
     {
         let mut digits = [0; 16];
-        let _fits = encode_to_slice(number.to_be_bytes(), &mut digits);
+        encode_to_slice(number.to_be_bytes(), &mut digits).unwrap();
         self.push_all(&digits);
     }
 }

@@ -1,5 +1,6 @@
 //! Instructions as text: their one spelling.
 ghost use Rattle.std.specs.Prelude.{◌≡◌, ◌++◌, ◌≤◌, ◌<◌, ◌+◌, length, OnOk, OnErr, vec_capacity};
+ghost use Rattle.bpf_canonical.specs.Mirror.Rooms.{operands_room};
 ghost use Rattle.bpf_canonical.specs.Canonical.{canonical, operands_text, operand_text, place_text, register};
 
 use crate::mnemonic::mnemonic_of;
@@ -36,21 +37,22 @@ impl<const ROOM: usize> Text<ROOM> {
 
     /// Appends a place in memory.
     fn push_place(&mut self, base: Reg, offset: i16)
-        requires { length self.old + 16 ≤ ROOM }
+        requires { length self.old + 11 ≤ ROOM }
         ensures items { self.new ≡ self.old ++ place_text base offset }
-        ensures len { length self.new ≤ length self.old + 16 }
+        ensures len { length self.new ≤ length self.old + 11 }
     {
         self.push_all(b"[");
         self.push_register(base);
-        self.push_with_sign(i32::from(offset));
+        self.push_distance(offset);
         self.push_all(b"]");
     }
 
     /// Appends the operands of an instruction, behind a space.
+    #[tactic(auto, using(crate::proofs::Rooms::room_least, crate::proofs::Rooms::few_digits))]
     fn push_operands(&mut self, line: &Line)
-        requires { length self.old + 30 ≤ ROOM }
+        requires { length self.old + operands_room line.now ≤ ROOM }
         ensures items { self.new ≡ self.old ++ operands_text line.now }
-        ensures len { length self.new ≤ length self.old + 30 }
+        ensures len { length self.new ≤ length self.old + operands_room line.now }
     {
         if !matches!(line, Line::Exit) {
             self.push_all(b" ");
@@ -129,9 +131,9 @@ impl<const ROOM: usize> Text<ROOM> {
                 self.push_all(b", ");
                 self.push_operand(operand);
                 self.push_all(b", ");
-                self.push_with_sign(i32::from(distance));
+                self.push_distance(distance);
             }
-            Line::Jump { distance } => self.push_with_sign(i32::from(distance)),
+            Line::Jump { distance } => self.push_distance(distance),
             Line::LongJump { distance } => self.push_with_sign(distance),
             Line::Call { number } => self.push_signed(number),
             Line::CallLocal { distance } => {
@@ -143,6 +145,7 @@ impl<const ROOM: usize> Text<ROOM> {
     }
 
     /// Appends the canonical text of an instruction.
+    #[tactic(auto, using(crate::proofs::Rooms::word_and_room))]
     pub fn push_line(&mut self, line: &Line)
         requires { length self.old + MAX_TEXT_LENGTH ≤ ROOM }
         ensures items { self.new ≡ self.old ++ canonical line.now }
