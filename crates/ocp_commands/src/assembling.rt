@@ -1,10 +1,11 @@
 //! The command `asm`.
 
-ghost use Rattle.std.specs.Prelude.{◌≡◌, List, ℕ, ◌<◌, ◌-◌, ◌^◌, ◌↔◌, length, IfOk, IfErr, IfSome, IsErrOf, string_bytes};
+ghost use Rattle.std.specs.Prelude.{◌≡◌, List, ℕ, ◌<◌, ◌-◌, ◌^◌, length, IfOk, IfErr, IfSome, string_bytes};
 ghost use Rattle.ocp_profile.specs.declared.profile.Profile.{Profile};
 ghost use Rattle.bpf_assembler.specs.Faults.{IsFault};
 ghost use Rattle.bpf_assembler.specs.Assembling.{IsImageOfText};
-ghost use Rattle.ocp_ports.specs.Reading.{max_input, IsShort, ReadsWhile};
+ghost use Rattle.ocp_ports.specs.Outcomes.{TellsReads, TellsWrites};
+ghost use Rattle.ocp_ports.specs.Reading.{max_input, IsShort, LeavesWhile};
 ghost use Rattle.ocp_commands.specs.Commands.{Writes, IsMachineFault};
 ghost use Rattle.ocp_commands.specs.Assembly.{image_line, why_name, Assembles};
 
@@ -109,12 +110,9 @@ pub fn asm<R: Source, W: Sink, A: Allocator + Copy>(
         (λ input. Writes (Assembles profile input)
         (W.contents writer.old) (W.contents writer.new) result) }
     ensures machine { IfErr result IsMachineFault }
-    ensures reads { IfSome (R.remaining reader.old)
-        (λ input. ReadsWhile IsShort input (R.remaining reader.new)) }
-    ensures read { IsErrOf result ConsoleFault.Read ↔
-        (R.failed_reads reader.old < R.failed_reads reader.new) }
-    ensures write { IsErrOf result ConsoleFault.Write ↔
-        (W.failed_writes writer.old < W.failed_writes writer.new) }
+    ensures reads { LeavesWhile IsShort (R.remaining reader.old) (R.remaining reader.new) }
+    ensures read { TellsReads (R.failed_reads reader.old) (R.failed_reads reader.new) result }
+    ensures write { TellsWrites (W.failed_writes writer.old) (W.failed_writes writer.new) result }
 {
     let output = match read_whole(alloc, reader)? {
         Some(input) => output_of(alloc, profile, &input)?,

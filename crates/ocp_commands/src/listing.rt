@@ -1,7 +1,8 @@
 //! The command `list`.
 
-ghost use Rattle.std.specs.Prelude.{◌≡◌, List, ℕ, ◌<◌, ◌-◌, ◌^◌, ◌↔◌, IfOk, IfErr, IfSome, IsErrOf, string_bytes};
-ghost use Rattle.ocp_ports.specs.Reading.{IsShort, ReadsWhile};
+ghost use Rattle.std.specs.Prelude.{◌≡◌, List, ℕ, ◌<◌, ◌-◌, ◌^◌, IfOk, IfErr, IfSome, string_bytes};
+ghost use Rattle.ocp_ports.specs.Outcomes.{TellsReads, TellsWrites};
+ghost use Rattle.ocp_ports.specs.Reading.{IsShort, LeavesWhile};
 ghost use Rattle.ocp_commands.specs.Commands.{Writes, IsMachineFault};
 ghost use Rattle.ocp_commands.specs.Listings.{is_blank, digits_of, decode_number, list_fault_line, HasImage, HasListFault, Lists};
 
@@ -138,12 +139,9 @@ pub fn list<R: Source, W: Sink, A: Allocator + Copy>(
     ensures lists { IfSome (R.remaining reader.old)
         (λ input. Writes (Lists input) (W.contents writer.old) (W.contents writer.new) result) }
     ensures machine { IfErr result IsMachineFault }
-    ensures reads { IfSome (R.remaining reader.old)
-        (λ input. ReadsWhile IsShort input (R.remaining reader.new)) }
-    ensures read { IsErrOf result ConsoleFault.Read ↔
-        (R.failed_reads reader.old < R.failed_reads reader.new) }
-    ensures write { IsErrOf result ConsoleFault.Write ↔
-        (W.failed_writes writer.old < W.failed_writes writer.new) }
+    ensures reads { LeavesWhile IsShort (R.remaining reader.old) (R.remaining reader.new) }
+    ensures read { TellsReads (R.failed_reads reader.old) (R.failed_reads reader.new) result }
+    ensures write { TellsWrites (W.failed_writes writer.old) (W.failed_writes writer.new) result }
 {
     let output = match read_whole(alloc, reader)? {
         Some(input) => output_of(alloc, input)?,

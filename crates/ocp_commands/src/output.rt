@@ -1,8 +1,7 @@
 //! What a command writes.
 
-ghost use Rattle.std.specs.Prelude.{◌≡◌, ◌<◌, ◌-◌, ◌^◌, MatchResult, true, false, string_bytes};
-ghost use Rattle.std.specs.Io.KnownBytes.{Appends};
-ghost use Rattle.ocp_ports.specs.Printing.{PrintsPrefix};
+ghost use Rattle.std.specs.Prelude.{◌≡◌, ◌<◌, ◌-◌, ◌^◌, IfOk, true, false, string_bytes};
+ghost use Rattle.ocp_ports.specs.Outcomes.{CountsFailure, PrintsText};
 
 use ocp_ports::{ConsoleFault, Sink, write_whole};
 use std::alloc::{Allocator, Global};
@@ -39,14 +38,11 @@ pub(crate) fn write_output<W: Sink, A: Allocator>(
     output: &Output<A>,
 ) -> Result<bool, ConsoleFault>
     requires { W.failed_writes writer.old < 2 ^ 64 - 1 }
-    ensures octets { MatchResult result
-        (λ done. (done ≡ output.now.done) ×
-        Appends (W.contents writer.old) (W.contents writer.new) output.now.text.items)
-        (λ e. (e ≡ ConsoleFault.Write) ×
-        PrintsPrefix (W.contents writer.old) (W.contents writer.new) output.now.text.items) }
-    ensures count { MatchResult result
-        (λ _. W.failed_writes writer.new ≡ W.failed_writes writer.old)
-        (λ _. W.failed_writes writer.old < W.failed_writes writer.new) }
+    ensures done { IfOk result (λ done. done ≡ output.now.done) }
+    ensures octets { PrintsText (W.contents writer.old) (W.contents writer.new)
+        output.now.text.items result }
+    ensures count { CountsFailure (W.failed_writes writer.old)
+        (W.failed_writes writer.new) result }
 {
     write_whole(writer, output.text.as_slice())?;
     Ok(output.done)

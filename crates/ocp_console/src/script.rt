@@ -1,7 +1,8 @@
 //! A whole run.
 
-ghost use Rattle.std.specs.Prelude.{◌<◌, ◌^◌, ◌-◌, ◌↔◌, IfSome, IsErrOf};
-ghost use Rattle.ocp_ports.specs.Reading.{ReadsWhile};
+ghost use Rattle.std.specs.Prelude.{◌<◌, ◌^◌, ◌-◌, IfSome};
+ghost use Rattle.ocp_ports.specs.Outcomes.{TellsReads, TellsWrites};
+ghost use Rattle.ocp_ports.specs.Reading.{LeavesWhile};
 ghost use Rattle.ocp_console.specs.Reading.{IsWithin};
 ghost use Rattle.ocp_console.specs.Script.{IsWorkless, Prints, PrintsBy, WritesScript, transcript};
 
@@ -41,12 +42,9 @@ pub fn run<R: Source, W: Sink, C: Crew<Engine<A>>, A: Allocator + Copy>(
     ensures work { IfSome (R.remaining reader.old) (λ script.
         PrintsBy (W.contents writer.old) (W.contents writer.new)
         (WritesScript (C.answers crew.now) settings script) result) }
-    ensures reads { IfSome (R.remaining reader.old)
-        (λ script. ReadsWhile IsWithin script (R.remaining reader.new)) }
-    ensures read { IsErrOf result ConsoleFault.Read ↔
-        (R.failed_reads reader.old < R.failed_reads reader.new) }
-    ensures write { IsErrOf result ConsoleFault.Write ↔
-        (W.failed_writes writer.old < W.failed_writes writer.new) }
+    ensures reads { LeavesWhile IsWithin (R.remaining reader.old) (R.remaining reader.new) }
+    ensures read { TellsReads (R.failed_reads reader.old) (R.failed_reads reader.new) result }
+    ensures write { TellsWrites (W.failed_writes writer.old) (W.failed_writes writer.new) result }
 {
     let console = Console::new(alloc, settings)?;
     let mut session = Session::new(alloc, console);

@@ -4,6 +4,7 @@ ghost use Rattle.std.specs.Prelude.{◌≡◌, ◌≢◌, ◌<◌, ◌≤◌, �
 ghost use Rattle.ocp_console.specs.Answering.{state_of};
 ghost use Rattle.text_lines.specs.Lines.{Line, text_of, octets_of};
 ghost use Rattle.ocp_console.specs.declared.session.TheConstants.{MAX_LINES, MAX_LINE_OCTETS};
+ghost use Rattle.ocp_ports.specs.Outcomes.{TellsWrites};
 ghost use Rattle.ocp_console.specs.Crew.{crew_fault};
 ghost use Rattle.ocp_console.specs.Script.{FaultLine, Writes, PrintsBy};
 ghost use Rattle.ocp_console.specs.Mirror.Session.{Answers, after_line, rest_of, rest_with, octets_so_far};
@@ -291,8 +292,7 @@ pub(crate) fn finish<W: Sink, C: Crew<Engine<A>>, A: Allocator + Copy>(
     requires device { W.failed_writes writer.old < 2 ^ 64 - 1 }
     ensures run { PrintsBy (W.contents writer.old) (W.contents writer.new)
         (rest_of (C.answers crew.now) session []) result }
-    ensures write { IsErrOf result ConsoleFault.Write ↔
-        (W.failed_writes writer.old < W.failed_writes writer.new) }
+    ensures write { TellsWrites (W.failed_writes writer.old) (W.failed_writes writer.new) result }
     ensures no_read { IsErrOf result ConsoleFault.Read → ⊥ }
 {
     if session.line.is_empty() {

@@ -1,3 +1,4 @@
 pub mod Ports
 pub mod Reading
 pub mod Printing
+pub mod Outcomes

@@ -1,5 +1,5 @@
 -- How much of an input is read.
-use Rattle.std.specs.Prelude.{◌≡◌, ◌≤◌, ℕ, List, ◌++◌, length, Option, Some}
+use Rattle.std.specs.Prelude.{◌≡◌, ◌≤◌, ℕ, List, ◌++◌, length, Option, Some, IfSome}
 use Rattle.std.specs.Io.KnownBytes.{Keeps}
 
 -- the most octets of an input that is read whole
@@ -21,6 +21,11 @@ pub record ReadsWhile (IsWithin : List ℕ → Type 0) (input : List ℕ)
   pub kept : Keeps (Some rest) left
   pub within : IsWithin before
   pub few : length last ≤ max_chunk
+
+-- what is left of an input that is read while what was read of it is within a limit
+abbrev pub LeavesWhile :
+    (List ℕ → Type 0) → Option (List ℕ) → Option (List ℕ) → Type 0
+LeavesWhile IsWithin old new = IfSome old (λ input. ReadsWhile IsWithin input new)
 
 -- an input that is read whole
 abbrev pub IsShort : List ℕ → Type 0

@@ -1,7 +1,8 @@
 //! Reading a whole input.
 
-ghost use Rattle.std.specs.Prelude.{◌≡◌, ◌<◌, ◌-◌, ◌^◌, ◌⊎◌, ◌↔◌, length, IfOk, IfErr, IfSome, IsErrOf, MatchOption};
-ghost use Rattle.ocp_ports.specs.Reading.{max_input, IsShort, ReadsWhile};
+ghost use Rattle.std.specs.Prelude.{◌≡◌, ◌<◌, ◌-◌, ◌^◌, ◌⊎◌, length, IfOk, IfErr, IfSome, MatchOption};
+ghost use Rattle.ocp_ports.specs.Outcomes.{TellsReads};
+ghost use Rattle.ocp_ports.specs.Reading.{max_input, IsShort, LeavesWhile};
 
 use crate::fault::ConsoleFault;
 use crate::ports::Source;
@@ -23,10 +24,8 @@ pub fn read_whole<R: Source, A: Allocator>(
     ensures whole { IfOk result (λ read. IfSome (R.remaining reader.old) (λ input.
         MatchOption read (max_input < length input) (λ octets. octets.items ≡ input))) }
     ensures few { IfOk result (λ read. IfSome read (λ octets. IsShort octets.items)) }
-    ensures reads { IfSome (R.remaining reader.old)
-        (λ input. ReadsWhile IsShort input (R.remaining reader.new)) }
-    ensures read { IsErrOf result ConsoleFault.Read ↔
-        (R.failed_reads reader.old < R.failed_reads reader.new) }
+    ensures reads { LeavesWhile IsShort (R.remaining reader.old) (R.remaining reader.new) }
+    ensures read { TellsReads (R.failed_reads reader.old) (R.failed_reads reader.new) result }
     ensures err { IfErr result (λ e. (e ≡ ConsoleFault.Read) ⊎ (e ≡ ConsoleFault.Memory)) }
 {
     let mut input = Vec::new(alloc);

@@ -1,8 +1,8 @@
 //! Writing a whole output.
 
-ghost use Rattle.std.specs.Prelude.{◌≡◌, ◌<◌, ◌-◌, ◌^◌, IfOk, MatchResult, string_bytes};
-ghost use Rattle.std.specs.Io.KnownBytes.{Appends};
-ghost use Rattle.ocp_ports.specs.Printing.{PrintsPrefix, error_line};
+ghost use Rattle.std.specs.Prelude.{◌≡◌, ◌<◌, ◌-◌, ◌^◌, IfOk, string_bytes};
+ghost use Rattle.ocp_ports.specs.Outcomes.{CountsFailure, PrintsText};
+ghost use Rattle.ocp_ports.specs.Printing.{error_line};
 
 use crate::fault::ConsoleFault;
 use crate::ports::Sink;
@@ -12,13 +12,9 @@ use std::alloc::{AllocError, Allocator};
 /// them was written.
 pub fn write_whole<W: Sink>(writer: &mut W, octets: &[u8]) -> Result<(), ConsoleFault>
     requires { W.failed_writes writer.old < 2 ^ 64 - 1 }
-    ensures octets { MatchResult result
-        (λ _. Appends (W.contents writer.old) (W.contents writer.new) octets.now)
-        (λ e. (e ≡ ConsoleFault.Write) ×
-        PrintsPrefix (W.contents writer.old) (W.contents writer.new) octets.now) }
-    ensures count { MatchResult result
-        (λ _. W.failed_writes writer.new ≡ W.failed_writes writer.old)
-        (λ _. W.failed_writes writer.old < W.failed_writes writer.new) }
+    ensures octets { PrintsText (W.contents writer.old) (W.contents writer.new) octets.now result }
+    ensures count { CountsFailure (W.failed_writes writer.old)
+        (W.failed_writes writer.new) result }
 {
     let mut rest = octets;
     while !rest.is_empty() {
