@@ -1,8 +1,8 @@
 -- What the program does of a job.
-use Rattle.std.specs.Prelude.{◌≡◌, ◌↔◌, ℕ, Bool, true, List, Option, Result, Ok, Err, IsErrOf}
+use Rattle.std.specs.Prelude.{◌≡◌, ℕ, Bool, true, List, Option, Result, Ok, Err}
+use Rattle.ocp_ports.specs.Outcomes.{TellsReads, TellsWrites}
 use Rattle.ocp_ports.specs.Reading.{IsShort, ReadsWhile}
 use Rattle.ocp_ports.specs.declared.fault.ConsoleFault.{ConsoleFault}
-use Rattle.ocp_ports.specs.declared.fault.ConsoleFault.TheVariants.{Read, Write}
 use Rattle.ocp_commands.specs.Assembly.{Assembles}
 use Rattle.ocp_commands.specs.Commands.{Writes}
 use Rattle.ocp_commands.specs.Listings.{Lists}
@@ -44,11 +44,11 @@ Leaves Listing input left = ReadsWhile IsShort input left
 Leaves (Run settings) input left = ReadsWhile IsWithin input left
 
 -- what is written for a job and an input, and the status that the program ends with: it is that of
--- what the command answers, which is a failed read or write just where one failed
+-- what the command answers, which tells of a read or a write just where one failed
 pub record Performs (crew : CrewAnswers) (job : Job) (input : List ℕ) (old new : Option (List ℕ))
-    (read_failed write_failed : Type 0) (status : ℕ) : Type 0 where
+    (reads_before reads_after writes_before writes_after : ℕ) (status : ℕ) : Type 0 where
   pub answer : Result Bool ConsoleFault
   pub answers : Answers crew job input old new answer
-  pub read : IsErrOf answer Read ↔ read_failed
-  pub write : IsErrOf answer Write ↔ write_failed
+  pub read : TellsReads reads_before reads_after answer
+  pub write : TellsWrites writes_before writes_after answer
   pub ends : status ≡ status_of answer

@@ -1,7 +1,8 @@
 //! A job from its input to its output.
 
-ghost use Rattle.std.specs.Prelude.{◌≡◌, ◌<◌, ◌^◌, ◌-◌, ◌↔◌, IfSome, IsErrOf};
+ghost use Rattle.std.specs.Prelude.{◌≡◌, ◌<◌, ◌^◌, ◌-◌, IfSome};
 ghost use Rattle.std.specs.Process.{exit_status};
+ghost use Rattle.ocp_ports.specs.Outcomes.{TellsReads, TellsWrites};
 ghost use Rattle.ocp_jobs.specs.Performing.{Answers, Leaves, Performs};
 
 use crate::hint::say_hint;
@@ -31,10 +32,8 @@ fn answer_of<R: Source, W: Sink, C: Crew<Engine>>(
         (W.contents writer.old) (W.contents writer.new) result) }
     ensures left { IfSome (R.remaining reader.old)
         (λ input. Leaves job input (R.remaining reader.new)) }
-    ensures read { IsErrOf result ConsoleFault.Read ↔
-        (R.failed_reads reader.old < R.failed_reads reader.new) }
-    ensures write { IsErrOf result ConsoleFault.Write ↔
-        (W.failed_writes writer.old < W.failed_writes writer.new) }
+    ensures read { TellsReads (R.failed_reads reader.old) (R.failed_reads reader.new) result }
+    ensures write { TellsWrites (W.failed_writes writer.old) (W.failed_writes writer.new) result }
 {
     match job {
         Job::Assemble(profile) => asm(alloc, profile, reader, writer),
@@ -63,8 +62,8 @@ pub fn perform<E: Eprint + AllocGlobal, R: Source + Drop, W: Sink + Drop, C: Cre
     ensures performs { IfSome (R.remaining reader.old.inner) (λ input.
         Performs (C.answers crew.now) job input
         (W.contents writer.old.inner) (W.contents writer.new.inner)
-        (R.failed_reads reader.old.inner < R.failed_reads reader.new.inner)
-        (W.failed_writes writer.old.inner < W.failed_writes writer.new.inner)
+        (R.failed_reads reader.old.inner) (R.failed_reads reader.new.inner)
+        (W.failed_writes writer.old.inner) (W.failed_writes writer.new.inner)
         (exit_status result)) }
     ensures left { IfSome (R.remaining reader.old.inner)
         (λ input. Leaves job input (R.remaining reader.new.inner)) }
