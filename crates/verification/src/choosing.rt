@@ -1,8 +1,7 @@
 //! Which reports an outcome gives.
 
-ghost use Rattle.std.specs.Prelude.{◌≡◌, ◌++◌, []};
-ghost use Rattle.verification.specs.declared.notice.Notice.TheVariants.{Accepted, Started};
-ghost use Rattle.verification.specs.Reports.{completion, optional_report, reports_of_outcome, wants_acceptance, wants_completion, wants_start};
+ghost use Rattle.std.specs.Prelude.{◌≡◌};
+ghost use Rattle.verification.specs.Reports.{completion, reports_of_outcome, wants_acceptance, wants_completion, wants_start};
 
 use crate::notice::{Notice, NoticeList};
 use crate::outcome::Outcome;
@@ -33,17 +32,6 @@ pub fn is_completion_asked(ack: Ack) -> bool
     ack.contains(Ack::COMPLETION)
 }
 
-// The reports of acceptance and start, which come first.
-fn add_start(list: &mut NoticeList, ack: Ack)
-    requires { list.old ≡ [] }
-    ensures { list.new ≡
-        optional_report (wants_acceptance ack) Accepted ++
-        optional_report (wants_start ack) Started }
-{
-    list.add_if(is_acceptance_asked(ack), Notice::Accepted);
-    list.add_if(is_start_asked(ack), Notice::Started);
-}
-
 /// The reports of a request, in the order in which they are sent: acceptance, start, the place of
 /// the answer report, completion. A report of success is sent where its acknowledgement flag is
 /// set. A failed acceptance or start is sent whatever the flags are, and ends the list. The
@@ -52,18 +40,19 @@ pub fn notices(ack: Ack, outcome: &Outcome) -> NoticeList
     ensures { result ≡ reports_of_outcome ack outcome.now }
 {
     let mut list = NoticeList::new();
-    match outcome {
-        Outcome::Refused(failure) => list.add(Notice::NotAccepted(*failure)),
-        Outcome::NotStarted(failure) => {
-            list.add_if(is_acceptance_asked(ack), Notice::Accepted);
-            list.add(Notice::NotStarted(*failure));
-        }
-        Outcome::Started => add_start(&mut list, ack),
-        Outcome::Done => {
-            add_start(&mut list, ack);
-            list.add(Notice::Answer);
-            list.add_if(is_completion_asked(ack), Notice::Completed);
-        }
+    if let Outcome::Refused(failure) = outcome {
+        list.add(Notice::NotAccepted(*failure));
+        return list;
+    }
+    list.add_if(is_acceptance_asked(ack), Notice::Accepted);
+    if let Outcome::NotStarted(failure) = outcome {
+        list.add(Notice::NotStarted(*failure));
+        return list;
+    }
+    list.add_if(is_start_asked(ack), Notice::Started);
+    if let Outcome::Done = outcome {
+        list.add(Notice::Answer);
+        list.add_if(is_completion_asked(ack), Notice::Completed);
     }
     list
 }
