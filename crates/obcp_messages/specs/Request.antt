@@ -79,18 +79,6 @@ HasRequestFault profile service subtype octets Layout =
     (service ≡ 18) × ((request : Request) × (subtype ≡ subtype_of request))
     × ((request : Request) → IsRequestData profile service subtype octets request → ⊥)
 
--- the octets at the end of the data: a load's code, an activation's arguments
-abbrev pub trailing_octets : Request → List ℕ
-trailing_octets (Load id code) = code
-trailing_octets (Unload id) = []
-trailing_octets (Activate id budget arguments) = arguments
-trailing_octets (Stop id step) = []
-trailing_octets (Suspend id step) = []
-trailing_octets (Resume id) = []
-trailing_octets (Communicate id words) = []
-trailing_octets Status = []
-trailing_octets (Abort id) = []
-
 -- under profile One a budget is 0, which is none
 abbrev pub IsFittingBudget : Profile → ℕ → Type 0
 IsFittingBudget One budget = budget ≡ 0

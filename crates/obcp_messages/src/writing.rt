@@ -2,7 +2,7 @@
 
 ghost use Rattle.std.specs.Prelude.{◌≡◌, ◌<◌, ◌+◌, ◌++◌, ◌≤◌, length, OnOk, OnErr, vec_len, vec_capacity};
 ghost use Rattle.arrayvec.specs.ArrayVec.{array_vec_len};
-ghost use Rattle.obcp_messages.specs.Request.{HasFittingBudget, IsRequest, IsRequestData, budget_data, request_data, subtype_of, trailing_octets};
+ghost use Rattle.obcp_messages.specs.Request.{HasFittingBudget, IsRequest, IsRequestData, budget_data, request_data, subtype_of};
 ghost use Rattle.obcp_messages.specs.Report.{IsReport, IsReportData, IsStartFault, report_data, service_of, kind_of, fault_data};
 
 use crate::fields::{
@@ -25,18 +25,18 @@ fn put_budget(profile: Profile, fields: &mut Fields, budget: u32)
     }
 }
 
-/// The fields of a request before the octets at its end.
-fn request_fields(profile: Profile, request: &Request) -> Fields
+/// The fields of a request, and the octets at its end.
+fn request_parts<'a>(profile: Profile, request: &Request<'a>) -> (Fields, &'a [u8])
     requires { HasFittingBudget profile request.now }
-    ensures octets { result.items ++ trailing_octets request.now ≡
-        request_data profile request.now }
+    ensures octets { result.0.items ++ result.1.now ≡ request_data profile request.now }
     ensures in_range { IsRequest profile request.now }
 {
     let mut fields = ArrayVec::new();
-    match request {
+    let octets: &[u8] = match request {
         Request::Load { id, code } => {
             put_u16(&mut fields, *id);
             put_u16(&mut fields, code.octets().len() as u16);
+            code.octets()
         }
         Request::Activate {
             id,
@@ -46,33 +46,26 @@ fn request_fields(profile: Profile, request: &Request) -> Fields
             put_u16(&mut fields, *id);
             put_budget(profile, &mut fields, *budget);
             put_u16(&mut fields, arguments.octets().len() as u16);
+            arguments.octets()
         }
         Request::Stop { id, step } | Request::Suspend { id, step } => {
             put_u16(&mut fields, *id);
             put_u16(&mut fields, *step);
+            &[]
         }
         Request::Unload { id } | Request::Resume { id } | Request::Abort { id } => {
             put_u16(&mut fields, *id);
+            &[]
         }
         Request::Communicate { id, words } => {
             put_u16(&mut fields, *id);
             put_u8(&mut fields, words.as_slice().len() as u8);
             put_words(&mut fields, words.as_slice());
+            &[]
         }
-        Request::Status => {}
-    }
-    fields
-}
-
-/// The octets at the end of a request.
-fn trailing_octets<'a>(request: &Request<'a>) -> &'a [u8]
-    ensures { result.now ≡ trailing_octets request.now }
-{
-    match request {
-        Request::Load { code, .. } => code.octets(),
-        Request::Activate { arguments, .. } => arguments.octets(),
-        _ => &[],
-    }
+        Request::Status => &[],
+    };
+    (fields, octets)
 }
 
 /// Appends the service data of a request (ECSS-E-ST-70-41C, 8.18). An activation has a field for
@@ -94,8 +87,7 @@ pub fn write_request<A: Allocator>(
     ensures same_capacity { OnErr result (vec_capacity out.new ≡ vec_capacity out.old) }
     ensures capacity { vec_capacity out.old ≤ vec_capacity out.new }
 {
-    let fields = request_fields(profile, request);
-    let octets = trailing_octets(request);
+    let (fields, octets) = request_parts(profile, request);
     out.reserve(fields.len() + octets.len())?;
     out.extend_from_slice(fields.as_slice()).unwrap();
     out.extend_from_slice(octets).unwrap();

@@ -18,7 +18,7 @@ answer profile {s} {service} {t} {subtype} {o} {octets} r e f g is =
 
 pub returns-clause-found : goal.returns-clause-found
 returns-clause-found c =
-    let is = answer c.args.profile c.request_of_service.result c.service.ensures c.subtype.ensures c.payload-octets.ensures c.request_of_service.ensures in
+    let is = answer c.args.profile c.request_of.result c.service.ensures c.subtype.ensures c.payload-octets.ensures c.request_of.ensures in
     let fits : AreOctets c.payload-octets.result.now = search rules in
     let octets : AreOctets c.args.tc.now.payload = subst (λ (o : List ℕ). AreOctets o) c.payload-octets.ensures fits in
     subst (λ (r : Result Request RequestFault). IfOk r (IsRequestData c.args.profile c.args.tc.now.service c.args.tc.now.subtype c.args.tc.now.payload)) (sym is)
@@ -26,11 +26,11 @@ returns-clause-found c =
 
 pub returns-clause-only : goal.returns-clause-only
 returns-clause-only c = λ request p.
-    answer c.args.profile c.request_of_service.result c.service.ensures c.subtype.ensures c.payload-octets.ensures c.request_of_service.ensures
+    answer c.args.profile c.request_of.result c.service.ensures c.subtype.ensures c.payload-octets.ensures c.request_of.ensures
     ∙ only_request c.args.profile c.args.tc.now.service c.args.tc.now.subtype c.args.tc.now.payload request p
 
 pub returns-clause-fault : goal.returns-clause-fault
 returns-clause-fault c =
-    let is = answer c.args.profile c.request_of_service.result c.service.ensures c.subtype.ensures c.payload-octets.ensures c.request_of_service.ensures in
+    let is = answer c.args.profile c.request_of.result c.service.ensures c.subtype.ensures c.payload-octets.ensures c.request_of.ensures in
     subst (λ (r : Result Request RequestFault). IfErr r (HasRequestFault c.args.profile c.args.tc.now.service c.args.tc.now.subtype c.args.tc.now.payload)) (sym is)
     (request_fault c.args.profile c.args.tc.now.service c.args.tc.now.subtype c.args.tc.now.payload)
