@@ -1,5 +1,5 @@
 -- What a directive does to the records, by the record that a look-up finds.
-use Rattle.std.proofs.Common.{◌≡◌, ℕ, ◌+◌, ◌≤◌, ◌<◌, ◌++◌, length, subst, Bool, true, false, List, Option, Some, None, refl, sym, ap, ◌∙◌, arith}
+use Rattle.std.proofs.Common.{◌≡◌, ℕ, ◌+◌, ◌≤◌, ◌<◌, ◌++◌, length, subst, Bool, true, false, List, Option, Some, None, Result, Ok, Err, IsOk, refl, sym, ap, ◌∙◌, arith}
 use Rattle.std.specs.FinMap as map
 use Rattle.slab.specs.Slab.{Slab, Updates, slab_len}
 use Rattle.obcp_types.specs.declared.status.Status.{Status}
@@ -10,6 +10,8 @@ use Rattle.ocp_table.specs.declared.table.TheConstants.{MAX_PROCEDURES}
 use Rattle.ocp_table.specs.declared.answers.InstructionOutcome.{InstructionOutcome}
 use Rattle.ocp_table.specs.declared.answers.LoadFailure.{LoadFailure}
 use Rattle.ocp_table.specs.declared.answers.LoadFailure.TheVariants as load
+use Rattle.bpf_types.specs.declared.line.Line.{Line}
+use Rattle.ocp_loader.specs.declared.fault.LoadFault.{LoadFault}
 use Rattle.ocp_loader.specs.LoadResult.{load_result}
 use Rattle.ocp_profile.specs.declared.profile.Profile.{Profile}
 use Rattle.ocp_table.specs.Records.{Rec, Records, Procedures}
@@ -45,6 +47,17 @@ load_fails t id code (load.Failed failure) free room is =
     ∙ ap (λ r. effect_of_load false r t.profile id code) is.1
     ∙ ap (λ x. Kept (Failed x)) (sym is.2)
 load_fails t id code load.Memory free room is = record { free = free; room = room; slots = is }
+
+loaded_by : (profile : Profile) (id : ℕ) (code : List ℕ) (r : Result (List (Option Line)) LoadFault) → IsOk r → effect_of_load false r profile id code ≡ Loaded profile id code
+loaded_by profile id code (Ok lines) ok = refl
+loaded_by profile id code (Err fault) ok = absurd (cc)
+
+-- and code that may be run is loaded
+pub load_loads : (t : Procedures) (id : ℕ) (code : List ℕ) → map.get t.records id ≡ None → is_full t.records ≡ false → IsOk (load_result t.profile code) → effect_in (Load t.profile code) id t.records ≡ Loaded t.profile id code
+load_loads t id code free room ok =
+    ap (λ o. effect_on (Load t.profile code) id o (is_full t.records)) free
+    ∙ ap (λ full. effect_of_load full (load_result t.profile code) t.profile id code) room
+    ∙ loaded_by t.profile id code (load_result t.profile code) ok
 
 -- ---- what is decided of a record that is there
 

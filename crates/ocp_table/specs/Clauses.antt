@@ -23,7 +23,7 @@ pub use Rattle.ocp_table.specs.Effects.{Changed, records_by, failure_of, failed_
 pub use Rattle.ocp_table.specs.Effects.{dues_at_step_end, dues_by_outcome, Stepped}
 pub use Rattle.ocp_table.specs.Effects.{remaining_by_outcome, record_after, pool_by, new_record}
 pub use Rattle.ocp_table.specs.Effects.{table_by, table_with, with_procedure, with_breakpoints}
-pub use Rattle.ocp_table.specs.Effects.{with_trace_flag, Loaded, Unloaded, Drained}
+pub use Rattle.ocp_table.specs.Effects.{with_trace_flag, Loaded, Unloaded, Drained, refusal_of}
 pub use Rattle.ocp_table.specs.Slices.{is_on, is_done, Store, RunsBy, Leads, with_machine, last_ran}
 pub use Rattle.ocp_table.specs.Slices.{is_running_status, IsSlice, is_traced, is_running}
 pub use Rattle.ocp_table.specs.Slices.{slice_count, slice_last, store_of, store_after_events}

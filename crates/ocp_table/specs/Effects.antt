@@ -352,3 +352,8 @@ abbrev pub step_outcome : Effect → StepOutcome
 step_outcome (Changed id (Stepped outcome)) = step_outcome_of outcome
 step_outcome (Kept (Failed failure.NotLoaded)) = step.NotLoaded
 step_outcome effect = step.NotRunning
+
+-- how an instruction event is refused, where it is
+abbrev pub refusal_of : Effect → Option StepOutcome
+refusal_of (Kept (Failed failure)) = Some (step_outcome (Kept (Failed failure)))
+refusal_of effect = None

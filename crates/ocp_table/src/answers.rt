@@ -1,6 +1,6 @@
 //! What became of an event of a procedure.
 ghost use Rattle.std.specs.Prelude.{◌≡◌, true};
-ghost use Rattle.ocp_table.specs.Clauses.{Failed, Kept, is_done, is_on, step_outcome, step_outcome_of};
+ghost use Rattle.ocp_table.specs.Clauses.{is_done, is_on, step_outcome_of};
 
 use crate::ProcedureFault;
 use obcp_types::StartFailure;
@@ -76,15 +76,5 @@ impl StepOutcome {
         ensures { result ≡ is_on self }
     {
         matches!(self, StepOutcome::Ran | StepOutcome::Called)
-    }
-
-    /// That of an instruction event which failed so.
-    pub fn of_failure(failure: StartFailure) -> StepOutcome
-        ensures { result ≡ step_outcome (Kept (Failed failure)) }
-    {
-        match failure {
-            StartFailure::NotLoaded => StepOutcome::NotLoaded,
-            _ => StepOutcome::NotRunning,
-        }
     }
 }

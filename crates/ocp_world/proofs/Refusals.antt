@@ -1,6 +1,6 @@
 -- Which events are refused, and that a refused one leaves the world.
 use Rattle.std.proofs.Common.{◌≡◌, ℕ, Bool, true, false, ◌+◌, cond, List, [], ◌∷◌, ◌++◌, length, Option, Some, None, refl, sym, ap, subst, ◌∙◌}
-use Rattle.std.specs.Prelude.{Result, Ok, Err, is_some, is_none, not, nat_le}
+use Rattle.std.specs.Prelude.{Result, Ok, Err, is_some, not, nat_le}
 use Rattle.std.proofs.lemmas.List.{append-nil}
 use Rattle.pus_fields.specs.declared.fault.Discard.{Discard}
 use Rattle.pus_fields.specs.declared.fault.TcFault.{TcFault}
@@ -19,12 +19,12 @@ use Rattle.ocp_table.specs.declared.answers.InstructionOutcome.TheVariants as di
 use Rattle.ocp_table.specs.declared.answers.StepOutcome.{StepOutcome}
 use Rattle.ocp_table.specs.declared.answers.StepOutcome.TheVariants as S
 use Rattle.ocp_table.specs.Records.{Rec, Records}
-use Rattle.ocp_table.specs.Effects.{Loaded, Unloaded, Changed, Kept, Drained, Started, Stepped as Instructed, Unasked, Failed, step_outcome, failure_of}
+use Rattle.ocp_table.specs.Effects.{Loaded, Unloaded, Changed, Kept, Drained, Started, Stepped as Instructed, Unasked, Failed, step_outcome, failure_of, refusal_of}
 use Rattle.ocp_table.specs.Effects as table
 use Rattle.ocp_table.specs.RequestTable as directive
-use Rattle.ocp_table.specs.RequestTable.{transition, failure_by}
+use Rattle.ocp_table.specs.RequestTable.{transition}
 use Rattle.std.specs.FinMap.{get}
-use Rattle.ocp_table.specs.Deciding.{effect_in, effect_on, effect_by, effect_of_step, outcome_at, decision_on}
+use Rattle.ocp_table.specs.Deciding.{effect_in, effect_on, effect_by, effect_of_step, outcome_at}
 use Rattle.ocp_table.specs.Deciding.{is_full as is_full_table}
 use Rattle.ocp_loader.specs.LineAt.{line_of}
 use Rattle.ocp_table.specs.declared.record.TheConstants.{MAX_BREAKPOINTS}
@@ -42,7 +42,6 @@ use Rattle.ocp_world.specs.Instructions.{instruction_effect}
 use Rattle.ocp_world.specs.Drains.{drain_effect}
 use Rattle.ocp_world.specs.declared.answers.EngineFault.TheVariants as engine
 use Rattle.ocp_world.specs.After.{Answer, Requested, Stepped, Commanded, after, world_after, answer_by, is_accepted}
-use Rattle.ocp_world.specs.Slice.{is_running, is_running_status}
 use Rattle.ocp_world.specs.Mirror.Answering.{discard_of, IsDiscard, IsRefusal, IsDebugFault, IsUndue}
 
 true_false : true ≡ false → ⊥
@@ -182,45 +181,25 @@ refused_step Drained is h = absurd is
 refused_step (Kept Unasked) is h = absurd is
 refused_step (Kept (Failed failure)) is h = failed_outcome failure
 
-allowed_step : (effect : table.Effect) → IsInstruction effect → failure_of effect ≡ None → is_accepted (Stepped (step_outcome effect)) ≡ true
-allowed_step (Loaded profile id image) is h = absurd is
-allowed_step (Unloaded id) is h = absurd is
-allowed_step (Changed id (Instructed did.Broke)) is h = refl
-allowed_step (Changed id (Instructed did.Ran)) is h = refl
-allowed_step (Changed id (Instructed (did.Called call))) is h = refl
-allowed_step (Changed id (Instructed did.Ended)) is h = refl
-allowed_step (Changed id (Instructed (did.Faulted number))) is h = refl
-allowed_step (Changed id (Started budget arguments)) is h = absurd is
-allowed_step (Changed id change) is h = absurd is
-allowed_step Drained is h = absurd is
-allowed_step (Kept Unasked) is h = absurd is
-allowed_step (Kept (Failed failure)) is h = absurd (some_none h)
+-- an instruction event is refused in the world as in the table
+refused_on : (effect : table.Effect) → IsInstruction effect → IsRefusal (Stepped (step_outcome effect)) (refusal_of effect)
+refused_on (Loaded profile id image) is = absurd is
+refused_on (Unloaded id) is = absurd is
+refused_on (Changed id (Instructed did.Broke)) is = refl
+refused_on (Changed id (Instructed did.Ran)) is = refl
+refused_on (Changed id (Instructed (did.Called call))) is = refl
+refused_on (Changed id (Instructed did.Ended)) is = refl
+refused_on (Changed id (Instructed (did.Faulted number))) is = refl
+refused_on (Changed id (Started budget arguments)) is = absurd is
+refused_on (Changed id change) is = absurd is
+refused_on Drained is = absurd is
+refused_on (Kept Unasked) is = absurd is
+refused_on (Kept (Failed failure)) is = (failed_outcome failure, refl)
 
-failed_step : (effect : table.Effect) → IsInstruction effect → (failure : StartFailure) → failure_of effect ≡ Some failure → effect ≡ Kept (Failed failure)
-failed_step (Loaded profile id image) is failure h = absurd is
-failed_step (Unloaded id) is failure h = absurd is
-failed_step (Changed id (Instructed outcome)) is failure h = absurd (some_none (sym h))
-failed_step (Changed id change) is failure h = absurd is
-failed_step Drained is failure h = absurd is
-failed_step (Kept Unasked) is failure h = absurd is
-failed_step (Kept (Failed why)) is failure h = ap (λ f. Kept (Failed f)) (cc)
-
-module _ (m : Records) (by id : ℕ) (w : World) (same : m ≡ w.records) (o : Option StartFailure) (told : (pool : List ℕ) → o ≡ failure_of (effect_in (directive.Step pool) id m)) where
-  abbrev effect : table.Effect
-  effect = effect_in (directive.Step w.pool) id w.records
-
-  told_here : failure_of effect ≡ o
-  told_here = ap (λ n. failure_of (effect_in (directive.Step w.pool) id n)) (sym same) ∙ sym (told w.pool)
-
-  -- an instruction event that does not fail in the table is accepted
-  pub refusal_none : o ≡ None → IsRefusal (after w (Step by id)).answer None
-  refusal_none none = allowed_step effect (is_instruction w.pool w.records id) (told_here ∙ none)
-
-  -- and one that fails there is refused so
-  pub refusal_some : (failure : StartFailure) → o ≡ Some failure → (outcome : StepOutcome) → outcome ≡ step_outcome (Kept (Failed failure)) → IsRefusal (after w (Step by id)).answer (Some outcome)
-  refusal_some failure some outcome is =
-      let fails : effect ≡ Kept (Failed failure) = failed_step effect (is_instruction w.pool w.records id) failure (told_here ∙ some) in
-      (ap (λ d. is_accepted (Stepped (step_outcome d))) fails ∙ failed_outcome failure, ap Stepped is ∙ ap (λ d. Stepped (step_outcome d)) (sym fails))
+pub refused_so : (m : Records) (by id : ℕ) (w : World) → m ≡ w.records → (o : Option StepOutcome) → ((pool : List ℕ) → o ≡ refusal_of (effect_in (directive.Step pool) id m)) → IsRefusal (after w (Step by id)).answer o
+refused_so m by id w same o told =
+    let here : o ≡ refusal_of (effect_in (directive.Step w.pool) id w.records) = told w.pool ∙ ap (λ n. refusal_of (effect_in (directive.Step w.pool) id n)) same in
+    subst (IsRefusal (after w (Step by id)).answer) (sym here) (refused_on (effect_in (directive.Step w.pool) id w.records) (is_instruction w.pool w.records id))
 
 -- ---- no answer is that of a full journal
 
@@ -291,17 +270,3 @@ step_has_room w e is = true_false (ap is_full (sym is) ∙ roomy w e)
 
 pub command_has_room : (w : World) (e : Event) → (after w e).answer ≡ Commanded (Err debug.JournalFull) → ⊥
 command_has_room w e is = true_false (ap is_full (sym is) ∙ roomy w e)
-
--- ---- whether a procedure runs
-
-step_runs : (pool : List ℕ) (o : Option Rec) → is_running o ≡ is_none (failure_by (decision_on (directive.Step pool) o))
-step_runs pool None = refl
-step_runs pool (Some r) =
-    elim r.control.status as (λ s. is_running_status s ≡ is_none (failure_by (transition (directive.Step pool) (Some s) r.control.pending (length r.mailbox)))) [
-      | Inactive ↦ refl
-      | Running ↦ refl
-      | Held ↦ refl
-    ]
-
-pub running_steps : (m : Records) (id : ℕ) (w : World) → m ≡ w.records → (o : Option StartFailure) → ((pool : List ℕ) → o ≡ failure_by (decision_on (directive.Step pool) (get m id))) → is_none o ≡ is_running (get w.records id)
-running_steps m id w same o told = ap is_none (told []) ∙ sym (step_runs [] (get m id)) ∙ ap (λ n. is_running (get n id)) same

@@ -32,22 +32,22 @@ use Rattle.ocp_world.proofs.Calm.{directive_leaves_pool, directive_keeps_traces}
 true_false : true ≡ false → ⊥
 true_false e = cc
 
-module _ {A : Type 0} (w : World) (s : State A) (dispatches : List Dispatch) (reports : List (List ℕ)) (stands : IsWorld w s) (are : reports ≡ packets s.apid s.count dispatches) where
+module _ {A : Type 0} (w : World) (s : State A) (dispatches : List Dispatch) (reports : List (List ℕ)) (stands : IsWorld w s) (are : reports ≡ packets s.sender.apid s.sender.count dispatches) where
   -- the packets are those of all reports so far, of which only the count modulo 16,384 is sent
   pub sent_reports : packets w.apid w.reports dispatches ≡ reports
   sent_reports =
-      let alike : w.reports % 16384 ≡ s.count % 16384 = omega (arith, stands.count) in
-      packets-alike w.apid w.reports s.count dispatches alike
-      ∙ ap (λ apid. packets apid s.count dispatches) (sym stands.apid) ∙ sym are
+      let alike : w.reports % 16384 ≡ s.sender.count % 16384 = omega (arith, stands.count) in
+      packets-alike w.apid w.reports s.sender.count dispatches alike
+      ∙ ap (λ apid. packets apid s.sender.count dispatches) (sym stands.apid) ∙ sym are
 
   many_sent : length reports ≡ length dispatches
-  many_sent = ap length are ∙ length-packets s.apid s.count dispatches
+  many_sent = ap length are ∙ length-packets s.sender.apid s.sender.count dispatches
 
   -- the next count is that after them
-  pub next_count : (count : ℕ) → count ≡ (s.count + length reports) % 16384 → count ≡ (w.reports + length dispatches) % 16384
+  pub next_count : (count : ℕ) → count ≡ (s.sender.count + length reports) % 16384 → count ≡ (w.reports + length dispatches) % 16384
   next_count count is = omega (arith, is, many_sent, stands.count)
 
-  pub IsWorld-sent : (count : ℕ) → count ≡ (s.count + length reports) % 16384 → IsWorld (world_after (record { on_records = Kept Unasked; reply = Sends dispatches }) w) (record s { count = count })
+  pub IsWorld-sent : (count : ℕ) → count ≡ (s.sender.count + length reports) % 16384 → IsWorld (world_after (record { on_records = Kept Unasked; reply = Sends dispatches }) w) (record s { sender = record s.sender { count = count } })
   IsWorld-sent count is = record {
     profile = stands.profile;
     apid = stands.apid;
@@ -64,15 +64,15 @@ drain_is w time [] accepted = absurd (true_false (sym accepted))
 drain_is w time (due ∷ dues) accepted = refl
 
 -- a drain that is accepted: the reports are sent, and then the outbox is emptied
-module _ {A : Type 0} (w : World) (time : ℕ) (old : State A) (stands : IsWorld w old) (accepted : is_accepted (answer_by (drain_effect time w.outbox).reply w) ≡ true) (procedures : Procedures) (profile : procedures.profile ≡ old.table.profile) (records : procedures.records ≡ old.table.records) (outbox : procedures.outbox ≡ []) (reports : List (List ℕ)) (are : reports ≡ packets old.apid old.count (drain_dispatches time old.table.outbox)) (count : ℕ) (next : count ≡ (old.count + length reports) % 16384) where
+module _ {A : Type 0} (w : World) (time : ℕ) (old : State A) (stands : IsWorld w old) (accepted : is_accepted (answer_by (drain_effect time w.outbox).reply w) ≡ true) (procedures : Procedures) (profile : procedures.profile ≡ old.table.profile) (records : procedures.records ≡ old.table.records) (outbox : procedures.outbox ≡ []) (reports : List (List ℕ)) (are : reports ≡ packets old.sender.apid old.sender.count (drain_dispatches time old.table.outbox)) (count : ℕ) (next : count ≡ (old.sender.count + length reports) % 16384) where
   abbrev dispatches : List Dispatch
   dispatches = drain_dispatches time w.outbox
 
-  are_here : reports ≡ packets old.apid old.count dispatches
-  are_here = are ∙ ap (λ due. packets old.apid old.count (drain_dispatches time due)) stands.outbox
+  are_here : reports ≡ packets old.sender.apid old.sender.count dispatches
+  are_here = are ∙ ap (λ due. packets old.sender.apid old.sender.count (drain_dispatches time due)) stands.outbox
 
   abbrev Drains : Effect → Type 0
-  Drains effect = DoesIn w effect (Ok reports) (record old { table = procedures; count = count })
+  Drains effect = DoesIn w effect (Ok reports) (record old { table = procedures; sender = record old.sender { count = count } })
 
   pub drained_all : Drains (drain_effect time w.outbox)
   drained_all = subst Drains (sym (drain_is w time w.outbox accepted)) (

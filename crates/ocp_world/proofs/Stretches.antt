@@ -117,7 +117,7 @@ module _ {A : Type 0} where
   same_start : (s : State A) (w : World) → IsWorld w s → store_in s ≡ store_of w
   same_start s w stands = λ i. record { records = stands.records i; outbox = stands.outbox i; pool = stands.pool i }
 
-  pub sliced : (old now : State A) (id n : ℕ) → is_traced (get old.table.records id) ≡ false → store_after_events id n (store_in old) ≡ store_in now → now.table.profile ≡ old.table.profile → now.apid ≡ old.apid → now.count ≡ old.count → now.ring ≡ old.ring → (w : World) (by : ℕ) → IsWorld w old → IsWorld (replay_from w (replicate n (Step by id))) now
+  pub sliced : (old now : State A) (id n : ℕ) → is_traced (get old.table.records id) ≡ false → store_after_events id n (store_in old) ≡ store_in now → now.table.profile ≡ old.table.profile → now.sender.apid ≡ old.sender.apid → now.sender.count ≡ old.sender.count → now.ring ≡ old.ring → (w : World) (by : ℕ) → IsWorld w old → IsWorld (replay_from w (replicate n (Step by id))) now
   sliced old now id n off done profile apid count ring w by stands =
       let whole : store_of (replay_from w (replicate n (Step by id))) ≡ store_in now = same_store by id n w ∙ ap (store_after_events id n) (sym (same_start old w stands)) ∙ done in
       let same_off : is_traced (get w.records id) ≡ false = ap (λ m. is_traced (get m id)) (sym stands.records) ∙ off in

@@ -4,7 +4,7 @@ ghost use Rattle.std.specs.Prelude.{ℕ};
 ghost use Rattle.ocp_world.specs.Clauses.{DoesIn, Drain, IsUndue, IsWorld, World, after, effect_of};
 
 use crate::{EngineFault, State};
-use ocp_reports::{CopiedReports, Sender, count_after};
+use ocp_reports::{CopiedReports, count_after};
 use std::alloc::Allocator;
 
 impl<A: Allocator> State<A> {
@@ -28,13 +28,11 @@ impl<A: Allocator> State<A> {
         if !self.is_due() {
             return Err(EngineFault::NothingDue);
         }
-        let sender = Sender {
-            apid: self.apid,
-            count: self.count,
-        };
-        let reports = sender.drained_reports(alloc, time, self.table.outbox())?;
+        let reports = self
+            .sender
+            .drained_reports(alloc, time, self.table.outbox())?;
         self.table.drain();
-        self.count = count_after(self.count, reports.len());
+        self.sender.count = count_after(self.sender.count, reports.len());
         Ok(reports)
     }
 }

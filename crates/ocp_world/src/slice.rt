@@ -15,7 +15,7 @@ impl<A: Allocator> State<A> {
         ensures accepted { (w : World) (by : ℕ) → IsWorld w self.now → result ≡ true →
             is_accepted (after w (Step by id)).answer ≡ true }
     {
-        outcome.is_on() && self.table.step_failure(id).is_none()
+        outcome.is_on() && self.table.refusal(id).is_none()
     }
 
     /// Does instructions of one procedure until the budget is used or it no longer goes on. Each of

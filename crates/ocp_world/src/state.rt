@@ -18,14 +18,12 @@ use space_packet::{Apid, SequenceCount};
 use std::alloc::{AllocError, Allocator};
 use verification::Outcome;
 
-/// The procedures with the profile, the pool, the application process identifier, the sequence
-/// count of the next report, and the last trace records.
+/// The procedures with the profile, the pool, the sender of reports, and the last trace records.
 #[derive(Drop)]
 pub struct State<A: Allocator> {
-    pub apid: Apid,
     pub table: Table<A>,
     pub pool: Pool<A>,
-    pub count: SequenceCount,
+    pub sender: Sender,
     pub ring: TraceRing<A>,
 }
 
@@ -43,10 +41,9 @@ impl<A: Allocator> State<A> {
             unreachable!()
         };
         Ok(State {
-            apid,
             table: Table::new(alloc, profile)?,
             pool: Pool::new(alloc, words)?,
-            count,
+            sender: Sender { apid, count },
             ring: TraceRing::new(alloc)?,
         })
     }
@@ -56,8 +53,7 @@ impl<A: Allocator> State<A> {
         ensures { (w : World) (by : ℕ) → IsWorld w self.now →
             IsRefusal (after w (Step by id)).answer result }
     {
-        let failure = self.table.step_failure(id)?;
-        Some(StepOutcome::of_failure(failure))
+        self.table.refusal(id)
     }
 
     /// Does one instruction of a procedure.
@@ -108,13 +104,11 @@ impl<A: Allocator> State<A> {
         ensures ring { self.new.ring ≡ self.old.ring }
         ensures memory { result ≡ Err engine.Memory → heap.new ≡ true }
     {
-        let sender = Sender {
-            apid: self.apid,
-            count: self.count,
-        };
-        let made = sender.copied_reports(heap.alloc(), origin, outcome, answer);
+        let made = self
+            .sender
+            .copied_reports(heap.alloc(), origin, outcome, answer);
         let reports = heap.note(made)?;
-        self.count = count_after(self.count, reports.len());
+        self.sender.count = count_after(self.sender.count, reports.len());
         Ok(reports)
     }
 

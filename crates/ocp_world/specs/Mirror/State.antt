@@ -12,11 +12,11 @@ use Rattle.ocp_world.specs.declared.state.State.{State}
 module _ {A : Type 0} where
   pub record IsWorld (w : World) (s : State A) : Type 0 where
     pub profile : s.table.profile ≡ w.profile
-    pub apid : s.apid ≡ w.apid
+    pub apid : s.sender.apid ≡ w.apid
     pub records : s.table.records ≡ w.records
     pub outbox : s.table.outbox ≡ w.outbox
     pub pool : s.pool ≡ w.pool
-    pub count : s.count ≡ w.reports % SEQUENCE_COUNTS
+    pub count : s.sender.count ≡ w.reports % SEQUENCE_COUNTS
     pub ring : s.ring ≡ last_traces w.traces
 
   -- the state stands for the next world, or where there are no reports for the old one

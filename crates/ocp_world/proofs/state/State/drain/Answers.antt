@@ -17,8 +17,8 @@ returns-in_err-reports g c w by stands =
 pub returns : goal.returns
 returns g c w by stands =
     let accepted : is_accepted (after w (Drain by c.args.time)).answer ≡ true = due_accepted (after w (Drain by c.args.time)).answer c.is_due.result (c.is_due.ensures w by c.args.time stands) c.if-not-is_due.false in
-    let are : c.in_ok-reports.reports ≡ packets c.args.self.now.apid c.args.self.now.count (drain_dispatches c.args.time c.args.self.now.table.outbox) =
-    c.in_ok-reports.ensures ∙ ap (λ due. packets c.args.self.now.apid c.args.self.now.count (drain_dispatches c.args.time due)) c.outbox.ensures in
-    let count : c.count_after-self.result ≡ (c.args.self.now.count + length c.in_ok-reports.reports) % 16384 =
-    c.count_after-self.ensures ∙ ap (λ n. (c.args.self.now.count + n) % 16384) c.len.ensures in
+    let are : c.in_ok-reports.reports ≡ packets c.args.self.now.sender.apid c.args.self.now.sender.count (drain_dispatches c.args.time c.args.self.now.table.outbox) =
+    c.in_ok-reports.ensures ∙ ap (λ due. packets c.args.self.now.sender.apid c.args.self.now.sender.count (drain_dispatches c.args.time due)) c.outbox.ensures in
+    let count : c.count_after-self.result ≡ (c.args.self.now.sender.count + length c.in_ok-reports.reports) % 16384 =
+    c.count_after-self.ensures ∙ ap (λ n. (c.args.self.now.sender.count + n) % 16384) c.len.ensures in
     drained_all w c.args.time c.args.self.now stands accepted c.drain.new.self (ap (λ t. t.profile) c.drain.ensures) (ap (λ t. t.records) c.drain.ensures) (ap (λ t. t.outbox) c.drain.ensures) c.in_ok-reports.reports are c.count_after-self.result count
