@@ -1,12 +1,12 @@
 -- Both passes together.
-use Rattle.std.proofs.Common.{◌≡◌, ◌≢◌, ◌<◌, ◌≤◌, ◌+◌, ◌++◌, ◌/◌, ℕ, List, [], ◌∷◌, length, Option, Some, None, Result, Ok, Err, IfErr, IfOk, OnOk, nat_le, Bool, true, false, refl, sym, ap, ◌∙◌, subst, inl, inr, ◌⊎◌, arith, map}
+use Rattle.std.proofs.Common.{◌≡◌, ◌≢◌, ◌<◌, ◌≤◌, ◌+◌, ◌++◌, ◌/◌, ℕ, List, [], ◌∷◌, length, Option, Some, None, Result, Ok, Err, IfErr, IfOk, OnOk, refl, sym, ap, ◌∙◌, subst, inl, inr, ◌⊎◌, arith, map}
 use Rattle.ocp_profile.specs.declared.profile.Profile.{Profile}
 use Rattle.bpf_types.specs.declared.line.Line.{Line}
 use Rattle.bpf_decode.specs.declared.fault.DecodeFault.TheVariants.{CutWide, UnknownOpcode, BadRegister, ReservedField, WritesFramePointer}
 use Rattle.bpf_decode.specs.Images.{image_of, IsImageOf}
 use Rattle.ocp_loader.specs.declared.fault.LoadFault.{LoadFault}
 use Rattle.ocp_loader.specs.declared.fault.LoadFault.TheVariants as load
-use Rattle.ocp_loader.specs.FaultNumbers.{number_of, slot_of}
+use Rattle.ocp_loader.specs.FaultNumbers.{slot_of}
 use Rattle.ocp_loader.specs.Faults.{IsFirstFault}
 use Rattle.ocp_loader.specs.LoadResult.{load_result}
 use Rattle.ocp_loader.specs.Admitted.{IsAdmitted, IsAdmittedAs, HasSlots}
@@ -52,30 +52,30 @@ abbrev IsRefused : Profile → List ℕ → LoadFault → Type 0
 IsRefused profile octets fault = ((fault ≡ load.Memory) ⊎ (load_result profile octets ≡ Err fault)) × IsFirstFault profile octets fault
 
 refused : (profile : Profile) (text : List ℕ) (rows : List Row) (octets : List ℕ) (fault : LoadFault) (n : ℕ) (t : ArePassed text rows octets)
-    → load_result profile octets ≡ Err fault → IsLineOf (nat_le (number_of fault) 3) (map entry rows) (slot_of fault) n → IsFault profile text n (why.Load fault)
+    → load_result profile octets ≡ Err fault → IsLineOf fault (map entry rows) n → IsFault profile text n (why.Load fault)
 refused profile text rows octets fault n t e counted = inr (inr (record {
   lines = t.lines;
   instructions = t.resolved.lines;
   written = t.written;
   meant = subst (λ (es : List Entry). AreInstructions t.lines es t.resolved.lines) t.rows t.resolved.instructions;
   refused = ap (load_result profile) (sym t.resolved.image.octets) ∙ e;
-  counted = subst (λ (es : List Entry). IsLineOf (nat_le (number_of fault) 3) es (slot_of fault) n) t.rows counted;
+  counted = subst (λ (es : List Entry). IsLineOf fault es n) t.rows counted;
 }))
 
 -- a fault of the length
 of_length : (profile : Profile) (text : List ℕ) (rows : List Row) (octets : List ℕ) (fault : LoadFault) (f : AsmFault) (t : ArePassed text rows octets)
-    → nat_le (number_of fault) 3 ≡ true → fault ≢ load.Memory → IsRefused profile octets fault → f ≡ At 0 (why.Load fault) → IsFaultOf profile text f
-of_length profile text rows octets fault f t low other (inl e, first) is = absurd (other e)
-of_length profile text rows octets fault f t low other (inr e, first) is =
-    subst (IsFaultOf profile text) (sym is) (refused profile text rows octets fault 0 t e (subst (λ (b : Bool). IsLineOf b (map entry rows) (slot_of fault) 0) (sym low) refl))
+    → IsLineOf fault (map entry rows) 0 → fault ≢ load.Memory → IsRefused profile octets fault → f ≡ At 0 (why.Load fault) → IsFaultOf profile text f
+of_length profile text rows octets fault f t none other (inl e, first) is = absurd (other e)
+of_length profile text rows octets fault f t none other (inr e, first) is = subst (IsFaultOf profile text) (sym is) (refused profile text rows octets fault 0 t e none)
 
 -- a fault of a slot
 of_slot : (profile : Profile) (text : List ℕ) (rows : List Row) (octets : List ℕ) (fault : LoadFault) (f : AsmFault) (t : ArePassed text rows octets)
-    → nat_le (number_of fault) 3 ≡ false → fault ≢ load.Memory → HasSlots octets → IsRefused profile octets fault → (n : ℕ) × (f ≡ At n (why.Load fault)) × IsLineUpTo (map entry rows) (slot_of fault) n → IsFaultOf profile text f
-of_slot profile text rows octets fault f t high other slots (inl e, first) h = absurd (other e)
-of_slot profile text rows octets fault f t high other slots (inr e, first) (n, is, up) =
+    → ((n : ℕ) → IsLineOfSlot (map entry rows) (slot_of fault) n → IsLineOf fault (map entry rows) n) → fault ≢ load.Memory → HasSlots octets → IsRefused profile octets fault
+    → (n : ℕ) × (f ≡ At n (why.Load fault)) × IsLineUpTo (map entry rows) (slot_of fault) n → IsFaultOf profile text f
+of_slot profile text rows octets fault f t at other slots (inl e, first) h = absurd (other e)
+of_slot profile text rows octets fault f t at other slots (inr e, first) (n, is, up) =
     let found : IsLineOfSlot (map entry rows) (slot_of fault) n = line_found 1 t.lines (map entry rows) (slot_of fault) n t.rows (some_entry t.lines (map entry rows) octets t.resolved slots.some) up in
-    subst (IsFaultOf profile text) (sym is) (refused profile text rows octets fault n t e (subst (λ (b : Bool). IsLineOf b (map entry rows) (slot_of fault) n) (sym high) found))
+    subst (IsFaultOf profile text) (sym is) (refused profile text rows octets fault n t e (at n found))
 
 pub reported_fault : (profile : Profile) (text : List ℕ) (rows : List Row) (octets : List ℕ) (fault : LoadFault) (f : AsmFault) (t : ArePassed text rows octets)
     → (fault ≡ load.Memory) ⊎ (load_result profile octets ≡ Err fault) → IsFirstFault profile octets fault → IsReported (map entry rows) fault f → IsFaultOf profile text f
@@ -83,14 +83,14 @@ reported_fault profile text rows octets load.Memory f t e first is = subst (IsFa
 reported_fault profile text rows octets load.EmptyCode f t e first is = of_length profile text rows octets load.EmptyCode f t refl (λ x. cc) (e, first) is
 reported_fault profile text rows octets load.RaggedCode f t e first is = of_length profile text rows octets load.RaggedCode f t refl (λ x. cc) (e, first) is
 reported_fault profile text rows octets load.TooLong f t e first is = of_length profile text rows octets load.TooLong f t refl (λ x. cc) (e, first) is
-reported_fault profile text rows octets (load.Decode CutWide slot) f t e first is = of_slot profile text rows octets (load.Decode CutWide slot) f t refl (λ x. cc) first.0 (e, first) is
-reported_fault profile text rows octets (load.Decode UnknownOpcode slot) f t e first is = of_slot profile text rows octets (load.Decode UnknownOpcode slot) f t refl (λ x. cc) first.0 (e, first) is
-reported_fault profile text rows octets (load.Decode BadRegister slot) f t e first is = of_slot profile text rows octets (load.Decode BadRegister slot) f t refl (λ x. cc) first.0 (e, first) is
-reported_fault profile text rows octets (load.Decode ReservedField slot) f t e first is = of_slot profile text rows octets (load.Decode ReservedField slot) f t refl (λ x. cc) first.0 (e, first) is
-reported_fault profile text rows octets (load.Decode WritesFramePointer slot) f t e first is = of_slot profile text rows octets (load.Decode WritesFramePointer slot) f t refl (λ x. cc) first.0 (e, first) is
-reported_fault profile text rows octets (load.BadCall slot) f t e first is = of_slot profile text rows octets (load.BadCall slot) f t refl (λ x. cc) first.0 (e, first) is
-reported_fault profile text rows octets (load.BadTarget slot) f t e first is = of_slot profile text rows octets (load.BadTarget slot) f t refl (λ x. cc) first.0 (e, first) is
-reported_fault profile text rows octets (load.FallsOffEnd slot) f t e first is = of_slot profile text rows octets (load.FallsOffEnd slot) f t refl (λ x. cc) first.0 (e, first) is
+reported_fault profile text rows octets (load.Decode CutWide slot) f t e first is = of_slot profile text rows octets (load.Decode CutWide slot) f t (λ n h. h) (λ x. cc) first.0 (e, first) is
+reported_fault profile text rows octets (load.Decode UnknownOpcode slot) f t e first is = of_slot profile text rows octets (load.Decode UnknownOpcode slot) f t (λ n h. h) (λ x. cc) first.0 (e, first) is
+reported_fault profile text rows octets (load.Decode BadRegister slot) f t e first is = of_slot profile text rows octets (load.Decode BadRegister slot) f t (λ n h. h) (λ x. cc) first.0 (e, first) is
+reported_fault profile text rows octets (load.Decode ReservedField slot) f t e first is = of_slot profile text rows octets (load.Decode ReservedField slot) f t (λ n h. h) (λ x. cc) first.0 (e, first) is
+reported_fault profile text rows octets (load.Decode WritesFramePointer slot) f t e first is = of_slot profile text rows octets (load.Decode WritesFramePointer slot) f t (λ n h. h) (λ x. cc) first.0 (e, first) is
+reported_fault profile text rows octets (load.BadCall slot) f t e first is = of_slot profile text rows octets (load.BadCall slot) f t (λ n h. h) (λ x. cc) first.0 (e, first) is
+reported_fault profile text rows octets (load.BadTarget slot) f t e first is = of_slot profile text rows octets (load.BadTarget slot) f t (λ n h. h) (λ x. cc) first.0 (e, first) is
+reported_fault profile text rows octets (load.FallsOffEnd slot) f t e first is = of_slot profile text rows octets (load.FallsOffEnd slot) f t (λ n h. h) (λ x. cc) first.0 (e, first) is
 
 -- what the loader said, as it is reported
 pub judged_fault : (profile : Profile) (text : List ℕ) (rows : List Row) (octets : List ℕ) {V : Type 0} (judged : Result V LoadFault) (result : Result V AsmFault) → ArePassed text rows octets

@@ -25,7 +25,7 @@ AreSound profile = (text : List ℕ) (lines : List Line) (number : ℕ) (y : Why
 one_image : (profile : Profile) → AreMeantOnce → (text a b : List ℕ) → IsImageOfText profile text a → IsImageOfText profile text b → a ≡ b
 one_image profile meaning text a b h k = h.admitted.whole.octets ∙ ap image_of (meaning text h.lines k.lines h.means k.means) ∙ sym k.admitted.whole.octets
 
-image_or_fault : (profile : Profile) → AreSound profile → (text image : List ℕ) (number : ℕ) (y : Why) → IsImageOfText profile text image → IsFault profile text number y → ⊥
+pub image_or_fault : (profile : Profile) → AreSound profile → (text image : List ℕ) (number : ℕ) (y : Why) → IsImageOfText profile text image → IsFault profile text number y → ⊥
 image_or_fault profile sound text image number y h k =
     sound text h.lines number y h.means (subst (IsAdmitted profile) h.admitted.whole.octets (record { lines = h.lines; admitted = h.admitted })) k
 

@@ -1,5 +1,5 @@
 -- Each text means instructions or has a fault.
-use Rattle.std.proofs.Common.{◌≡◌, ◌<◌, ◌+◌, ◌++◌, ℕ, suc, zero, ℤ, pos, negsuc, ◌-ℤ◌, List, [], ◌∷◌, length, Option, Some, None, Result, Ok, Err, nat_le, Bool, true, false, ltb, is_ok, refl, sym, ap, ◌∙◌, subst, inl, inr, ◌⊎◌, arith, append_assoc, append-nil}
+use Rattle.std.proofs.Common.{◌≡◌, ◌≢◌, ◌<◌, ◌+◌, ◌++◌, ℕ, suc, zero, ℤ, pos, negsuc, ◌-ℤ◌, List, [], ◌∷◌, length, Option, Some, None, Result, Ok, Err, Bool, true, false, ltb, refl, sym, ap, ◌∙◌, subst, inl, inr, ◌⊎◌, arith, append_assoc, append-nil}
 use Rattle.std.specs.Prelude.{FitsSigned}
 use Rattle.std.specs.Int.{w16, w32}
 use Rattle.std.specs.List.{All}
@@ -8,25 +8,27 @@ use Rattle.ocp_profile.specs.declared.profile.Profile.{Profile}
 use Rattle.bpf_types.specs.declared.line.Line.{Line}
 use Rattle.bpf_types.specs.declared.line.Line.TheVariants as line
 use Rattle.bpf_types.specs.Line.{IsLine}
-use Rattle.bpf_decode.specs.Images.{image_of}
+use Rattle.bpf_decode.specs.Images.{image_of, IsImageOf}
 use Rattle.ocp_loader.specs.declared.fault.LoadFault.{LoadFault}
-use Rattle.ocp_loader.specs.declared.fault.LoadFault.TheVariants.{EmptyCode}
-use Rattle.ocp_loader.specs.FaultNumbers.{number_of, slot_of}
+use Rattle.ocp_loader.specs.declared.fault.LoadFault.TheVariants as load
+use Rattle.ocp_loader.specs.FaultNumbers.{slot_of}
+use Rattle.ocp_loader.specs.Admitted.{IsAdmitted, IsAdmittedAs}
 use Rattle.ocp_loader.specs.LoadResult.{load_result}
-use Rattle.bpf_text.specs.Lines.{TextLine, InRange, Statement}
+use Rattle.bpf_text.specs.Lines.{TextLine, InRange, Fits, Statement}
 use Rattle.bpf_text.specs.Judged.{JudgesLine, written_line}
 use Rattle.bpf_text.specs.declared.line.TextLine.{TextLine as LentLine}
 use Rattle.bpf_text.specs.declared.line.LineFault.{LineFault}
 use Rattle.bpf_text.specs.declared.line.LineFault.TheVariants.{Syntax, Range}
 use Rattle.text_lines.specs.Lines.{line_texts}
-use Rattle.bpf_assembler.specs.Text.{EachWritten, label_place, IsNew, AreDistinct, Entry, entry_of, entries_of, slots, with_distance, with_target, IsInstruction, AreInstructions, IsWritten, Means}
-use Rattle.bpf_assembler.specs.Faults.{HasLineFault, MissesLabel, IsFirstMiss, IsLineOf, IsFault}
+use Rattle.bpf_assembler.specs.Text.{EachWritten, label_place, IsNew, AreDistinct, Entry, entry_of, entries_of, slots, with_distance, with_target, IsInstruction, AreInstructions, IsWritten}
+use Rattle.bpf_assembler.specs.Faults.{HasLineFault, MissesLabel, IsFirstMiss, IsLineOfSlot, IsLineOf}
 use Rattle.bpf_assembler.specs.Assembling.{HasMeaning, HasSomeFault}
 use Rattle.bpf_assembler.specs.Mirror.Passes.{IsLineUpTo}
 use Rattle.bpf_assembler.specs.declared.fault.Why.{Why}
 use Rattle.bpf_assembler.specs.declared.fault.Why.TheVariants as why
 use Rattle.bpf_assembler.proofs.Places.{written_after, distinct_after}
-use Rattle.bpf_assembler.proofs.Assembled.{line_found}
+use Rattle.bpf_assembler.proofs.Assembled.{line_found, OneImage}
+use Rattle.bpf_assembler.proofs.Only.{AreSound, image_or_fault}
 
 -- ---- the first pass
 
@@ -261,28 +263,73 @@ none_of_none all (x ∷ es) ls e h = absurd cc
 same_fault : {V E : Type 0} (r : Result V E) (a b : E) → r ≡ Err a → r ≡ Err b → b ≡ a
 same_fault r a b p q = let e = sym p ∙ q in cc
 
--- an image without octets has a fault of its length
-empty_code : (profile : Profile) (ls : List Line) (f : LoadFault) → ls ≡ [] → load_result profile (image_of ls) ≡ Err f → nat_le (number_of f) 3 ≡ true
+-- an image without octets has the fault that it is empty
+empty_code : (profile : Profile) (ls : List Line) (f : LoadFault) → ls ≡ [] → load_result profile (image_of ls) ≡ Err f → f ≡ load.EmptyCode
 unfolding load_result
-empty_code profile [] f none e = ap (λ (g : LoadFault). nat_le (number_of g) 3) (same_fault (load_result profile []) EmptyCode f refl e)
+empty_code profile [] f none e = same_fault (load_result profile []) load.EmptyCode f refl e
 empty_code profile (l ∷ ls) f none e = absurd cc
 
-line_of_fault : (profile : Profile) (ws : List TextLine) (ls : List Line) (f : LoadFault) → AreInstructions ws (entries_of 1 0 ws) ls → load_result profile (image_of ls) ≡ Err f
-    → (number : ℕ) × IsLineOf (nat_le (number_of f) 3) (entries_of 1 0 ws) (slot_of f) number
-line_of_fault profile ws ls f is e = by (nat_le (number_of f) 3) refl
-  where
-    by : (b : Bool) → nat_le (number_of f) 3 ≡ b → (number : ℕ) × IsLineOf b (entries_of 1 0 ws) (slot_of f) number
-    by true low = (0, refl)
-    by false high =
-        let up = line_up_to (entries_of 1 0 ws) (slot_of f) in
-        let some = λ (none : entries_of 1 0 ws ≡ []). (let bad = sym high ∙ empty_code profile ls f (none_of_none ws (entries_of 1 0 ws) ls none is) e in absurd cc) in
-        (up.0, line_found 1 ws (entries_of 1 0 ws) (slot_of f) up.0 refl some up.1)
+-- the instruction at the slot of another fault
+line_of_slot : (profile : Profile) (ws : List TextLine) (ls : List Line) (f : LoadFault) → AreInstructions ws (entries_of 1 0 ws) ls → load_result profile (image_of ls) ≡ Err f → f ≢ load.EmptyCode
+    → (number : ℕ) × IsLineOfSlot (entries_of 1 0 ws) (slot_of f) number
+line_of_slot profile ws ls f is e other =
+    let up = line_up_to (entries_of 1 0 ws) (slot_of f) in
+    let some = λ (none : entries_of 1 0 ws ≡ []). other (empty_code profile ls f (none_of_none ws (entries_of 1 0 ws) ls none is) e) in
+    (up.0, line_found 1 ws (entries_of 1 0 ws) (slot_of f) up.0 refl some up.1)
 
-of_image : (profile : Profile) (text : List ℕ) (ws : List TextLine) (ls : List Line) → IsWritten text ws → AreInstructions ws (entries_of 1 0 ws) ls → HasMeaning profile text ⊎ HasSomeFault profile text
-of_image profile text ws ls w is = by (load_result profile (image_of ls)) refl
+line_of_fault : (profile : Profile) (ws : List TextLine) (ls : List Line) (f : LoadFault) → AreInstructions ws (entries_of 1 0 ws) ls → load_result profile (image_of ls) ≡ Err f
+    → (number : ℕ) × IsLineOf f (entries_of 1 0 ws) number
+line_of_fault profile ws ls load.EmptyCode is e = (0, refl)
+line_of_fault profile ws ls load.RaggedCode is e = (0, refl)
+line_of_fault profile ws ls load.TooLong is e = (0, refl)
+line_of_fault profile ws ls load.Memory is e = (0, refl)
+line_of_fault profile ws ls (load.Decode fault slot) is e = line_of_slot profile ws ls (load.Decode fault slot) is e (λ h. cc)
+line_of_fault profile ws ls (load.BadCall slot) is e = line_of_slot profile ws ls (load.BadCall slot) is e (λ h. cc)
+line_of_fault profile ws ls (load.BadTarget slot) is e = line_of_slot profile ws ls (load.BadTarget slot) is e (λ h. cc)
+line_of_fault profile ws ls (load.FallsOffEnd slot) is e = line_of_slot profile ws ls (load.FallsOffEnd slot) is e (λ h. cc)
+
+-- an instruction that a statement means is in its ranges
+line_in_range : (all : List TextLine) (place : ℕ) (s : Statement) (name : Option (List ℕ)) (l : Line) → Fits s → s.name ≡ name → IsInstruction all place s.line name l → IsLine l
+line_in_range all place s None l fits none is = subst IsLine (sym is) fits.0
+line_in_range all place s (Some name) l fits some is = is.2
+
+by_body : (all : List TextLine) (number place : ℕ) (body : Option Statement) (rest : List Entry) (ls : List Line) → InRange body → AreInstructions all (entry_of number place body ++ rest) ls
+    → ((more : List Line) → AreInstructions all rest more → All IsLine more) → All IsLine ls
+by_body all number place None rest ls range is go = go ls is
+by_body all number place (Some s) rest [] range is go = absurd is
+by_body all number place (Some s) rest (l ∷ ls) range is go = first_and_rest IsLine l ls (line_in_range all place s s.name l range refl is.0) (go ls is.1)
+
+none_given : (all : List TextLine) (ls : List Line) → AreInstructions all [] ls → All IsLine ls
+none_given all [] h = λ i d lt. absurd (omega (arith, lt))
+none_given all (l ∷ ls) h = absurd h
+
+-- so are those of all lines
+all_in_range : (all : List TextLine) (texts : List (List ℕ)) (ws : List TextLine) (number place : ℕ) → EachWritten texts ws → (ls : List Line) → AreInstructions all (entries_of number place ws) ls → All IsLine ls
+all_in_range all [] [] number place h ls is = none_given all ls is
+all_in_range all [] (w ∷ ws) number place h ls is = absurd h
+all_in_range all (t ∷ ts) [] number place h ls is = absurd h
+all_in_range all (t ∷ ts) (w ∷ ws) number place h ls is =
+    by_body all number place w.body (entries_of (number + 1) (place + slots w.body) ws) ls h.1 is (all_in_range all ts ws (number + 1) (place + slots w.body) h.2)
+
+-- what the laws of images say
+abbrev pub MayBeRunOf : Profile → Type 0
+MayBeRunOf profile = (image : List ℕ) (instructions : List Line) (lines : List (Option Line)) → IsImageOf image instructions → load_result profile image ≡ Ok lines → IsAdmitted profile image
+
+of_image : (profile : Profile) → MayBeRunOf profile → OneImage → (text : List ℕ) (ws : List TextLine) (ls : List Line) → IsWritten text ws → AreInstructions ws (entries_of 1 0 ws) ls → HasMeaning profile text ⊎ HasSomeFault profile text
+of_image profile may one text ws ls w is = by (load_result profile (image_of ls)) refl
   where
     by : (r : Result (List (Option Line)) LoadFault) → load_result profile (image_of ls) ≡ r → HasMeaning profile text ⊎ HasSomeFault profile text
-    by (Ok lines) e = inl (record { lines = ls; means = record { lines = ws; written = w; instructions = is }; loads = ap is_ok e })
+    by (Ok lines) e =
+        let image : IsImageOf (image_of ls) ls = record { ranges = all_in_range ws (line_texts text) ws 1 0 w.each ls is; octets = refl } in
+        let a = may (image_of ls) ls lines image e in
+        inl (
+          image_of ls,
+          record {
+            lines = ls;
+            means = record { lines = ws; written = w; instructions = is };
+            admitted = subst (IsAdmittedAs profile (image_of ls)) (one (image_of ls) a.lines ls a.admitted.whole image) a.admitted;
+          },
+        )
     by (Err f) e =
         let at = line_of_fault profile ws ls f is e in
         inr (record {
@@ -291,26 +338,20 @@ of_image profile text ws ls w is = by (load_result profile (image_of ls)) refl
           fault = inr (inr (record { lines = ws; instructions = ls; written = w; meant = is; refused = e; counted = at.1 }));
         })
 
-of_written : (profile : Profile) (text : List ℕ) (ws : List TextLine) → IsWritten text ws → AreMeant ws (entries_of 1 0 ws) ⊎ SomeMiss ws (entries_of 1 0 ws) → HasMeaning profile text ⊎ HasSomeFault profile text
-of_written profile text ws w (inl (ls, is)) = of_image profile text ws ls w is
-of_written profile text ws w (inr (n, y, f)) = inr (record { line = n; why = y; fault = inr (inl (record { lines = ws; written = w; first = f })) })
+of_written : (profile : Profile) → MayBeRunOf profile → OneImage → (text : List ℕ) (ws : List TextLine) → IsWritten text ws → AreMeant ws (entries_of 1 0 ws) ⊎ SomeMiss ws (entries_of 1 0 ws) → HasMeaning profile text ⊎ HasSomeFault profile text
+of_written profile may one text ws w (inl (ls, is)) = of_image profile may one text ws ls w is
+of_written profile may one text ws w (inr (n, y, f)) = inr (record { line = n; why = y; fault = inr (inl (record { lines = ws; written = w; first = f })) })
 
 -- all lines are read
-pub all_read : (profile : Profile) (text rest : List ℕ) → rest ≡ [] → Progress text rest ⊎ SomeLineFault text → HasMeaning profile text ⊎ HasSomeFault profile text
-all_read profile text rest e (inr (n, y, f)) = inr (record { line = n; why = y; fault = inl f })
-all_read profile text rest e (inl t) =
+pub all_read : (profile : Profile) → MayBeRunOf profile → OneImage → (text rest : List ℕ) → rest ≡ [] → Progress text rest ⊎ SomeLineFault text → HasMeaning profile text ⊎ HasSomeFault profile text
+all_read profile may one text rest e (inr (n, y, f)) = inr (record { line = n; why = y; fault = inl f })
+all_read profile may one text rest e (inl t) =
     let w : IsWritten text t.written = record {
       each = subst (λ (ls : List (List ℕ)). EachWritten ls t.written) (sym (t.whole ∙ ap (λ (r : List ℕ). t.done ++ line_texts r) e ∙ append-nil t.done)) t.each;
       distinct = t.distinct;
     } in
-    of_written profile text t.written w (all_entries t.written 1 0 (line_texts text) t.written w.each)
+    of_written profile may one text t.written w (all_entries t.written 1 0 (line_texts text) t.written w.each)
 
--- what the law of meanings and faults says
-abbrev pub HasFaultOfImage : Profile → Type 0
-HasFaultOfImage profile = (text : List ℕ) (lines : List Line) (number : ℕ) (y : Why) → Means text lines → IsFault profile text number y → (fault : LoadFault) × (y ≡ why.Load fault) × (load_result profile (image_of lines) ≡ Err fault)
-
-pub no_fault : (profile : Profile) → HasFaultOfImage profile → (text : List ℕ) → HasMeaning profile text → HasSomeFault profile text → ⊥
-no_fault profile law text m f =
-    let q = law text m.lines f.line f.why m.means f.fault in
-    let bad = sym (ap is_ok q.2) ∙ m.loads in
-    absurd cc
+-- what the law of meanings and faults says of images that may be run
+pub no_fault : (profile : Profile) → AreSound profile → (text : List ℕ) → HasMeaning profile text → HasSomeFault profile text → ⊥
+no_fault profile sound text m f = image_or_fault profile sound text m.0 f.line f.why m.1 f.fault

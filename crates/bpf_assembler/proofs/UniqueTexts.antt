@@ -1,6 +1,5 @@
 -- A text means one list of instructions, or has one fault.
-use Rattle.std.proofs.Common.{Bool, true, false, ◌⊎◌, ◌≡◌, ◌<◌, ◌≤◌, ◌+◌, ℕ, suc, List, [], ◌∷◌, ◌++◌, length, Option, Some, None, Err, refl, sym, ap, ◌∙◌, subst, arith, inl, inr, append_assoc, append-nil}
-use Rattle.std.specs.Prelude.{nat_le}
+use Rattle.std.proofs.Common.{◌⊎◌, ◌≡◌, ◌<◌, ◌≤◌, ◌+◌, ℕ, suc, List, [], ◌∷◌, ◌++◌, length, Option, Some, None, Err, refl, sym, ap, ◌∙◌, subst, arith, inl, inr, append_assoc, append-nil}
 use Rattle.std.specs.List.{All}
 use Rattle.std.proofs.lemmas.List.Elements.{All-head, All-tail}
 use Rattle.ocp_profile.specs.declared.profile.Profile.{Profile}
@@ -8,7 +7,7 @@ use Rattle.bpf_types.specs.declared.line.Line.{Line}
 use Rattle.bpf_types.specs.Line.{IsLine}
 use Rattle.bpf_decode.specs.Images.{image_of}
 use Rattle.ocp_loader.specs.declared.fault.LoadFault.{LoadFault}
-use Rattle.ocp_loader.specs.FaultNumbers.{number_of, slot_of}
+use Rattle.ocp_loader.specs.declared.fault.LoadFault.TheVariants as load
 use Rattle.ocp_loader.specs.LoadResult.{load_result}
 use Rattle.ocp_loader.specs.Admitted.{IsAdmitted}
 use Rattle.bpf_text.specs.Lines.{TextLine, Writes, InRange}
@@ -218,9 +217,15 @@ one_line_of_slot : (es : List Entry) (slot m n : ℕ) → IsLineOfSlot es slot m
 one_line_of_slot es slot m n h k =
     h.counted ∙ ap (λ (e : Entry). e.number) (one_entry slot h.before k.before h.after k.after h.entry k.entry (sym h.order ∙ k.order) h.reached k.reached h.behind k.behind) ∙ sym k.counted
 
-one_line_of : (b : Bool) (es : List Entry) (slot m n : ℕ) → IsLineOf b es slot m → IsLineOf b es slot n → m ≡ n
-one_line_of true es slot m n h k = h ∙ sym k
-one_line_of false es slot m n h k = one_line_of_slot es slot m n h k
+one_line_of : (f : LoadFault) (es : List Entry) (m n : ℕ) → IsLineOf f es m → IsLineOf f es n → m ≡ n
+one_line_of load.EmptyCode es m n h k = h ∙ sym k
+one_line_of load.RaggedCode es m n h k = h ∙ sym k
+one_line_of load.TooLong es m n h k = h ∙ sym k
+one_line_of load.Memory es m n h k = h ∙ sym k
+one_line_of (load.Decode fault slot) es m n h k = one_line_of_slot es slot m n h k
+one_line_of (load.BadCall slot) es m n h k = one_line_of_slot es slot m n h k
+one_line_of (load.BadTarget slot) es m n h k = one_line_of_slot es slot m n h k
+one_line_of (load.FallsOffEnd slot) es m n h k = one_line_of_slot es slot m n h k
 
 -- the instructions of a text are those whose image has the fault
 pub load_fault_of : (profile : Profile) → AreReadOnce → (text : List ℕ) (ws : List TextLine) (ls : List Line) (number : ℕ) (fault : LoadFault) → IsWritten text ws → AreInstructions ws (entries_of 1 0 ws) ls → HasLoadFault profile text number fault → load_result profile (image_of ls) ≡ Err fault
@@ -234,8 +239,8 @@ one_load_fault profile once text m n f g h k =
     let is = h.refused in
     let same : g ≡ f = cc in
     let lines = one_list once text k.lines h.lines k.written h.written in (
-      one_line_of (nat_le (number_of f) 3) (entries_of 1 0 h.lines) (slot_of f) m n h.counted
-          (subst (λ (x : List TextLine). IsLineOf (nat_le (number_of f) 3) (entries_of 1 0 x) (slot_of f) n) lines (subst (λ (x : LoadFault). IsLineOf (nat_le (number_of x) 3) (entries_of 1 0 k.lines) (slot_of x) n) same k.counted)),
+      one_line_of f (entries_of 1 0 h.lines) m n h.counted
+          (subst (λ (x : List TextLine). IsLineOf f (entries_of 1 0 x) n) lines (subst (λ (x : LoadFault). IsLineOf x (entries_of 1 0 k.lines) n) same k.counted)),
       sym same,
     )
 

@@ -1,9 +1,7 @@
 -- What the assembler answers.
-use Rattle.std.specs.Prelude.{ℕ, List, IsOk}
+use Rattle.std.specs.Prelude.{ℕ, List}
 use Rattle.ocp_profile.specs.declared.profile.Profile.{Profile}
 use Rattle.bpf_types.specs.declared.line.Line.{Line}
-use Rattle.bpf_decode.specs.Images.{image_of}
-use Rattle.ocp_loader.specs.LoadResult.{load_result}
 use Rattle.ocp_loader.specs.Admitted.{IsAdmittedAs}
 use Rattle.bpf_assembler.specs.Text.{Means}
 use Rattle.bpf_assembler.specs.Faults.{IsFault}
@@ -24,11 +22,9 @@ IsFaultOf profile text (At number y) = IsFault profile text number y
 
 -- ---- a text means instructions that may be run, or has a fault
 
--- the text means instructions, whose image has no fault
-pub record HasMeaning (profile : Profile) (text : List ℕ) : Type 0 where
-  pub lines : List Line
-  pub means : Means text lines
-  pub loads : IsOk (load_result profile (image_of lines))
+-- the text means instructions, whose image may be run
+abbrev pub HasMeaning : Profile → List ℕ → Type 0
+HasMeaning profile text = (image : List ℕ) × IsImageOfText profile text image
 
 -- the text has a fault in a line
 pub record HasSomeFault (profile : Profile) (text : List ℕ) : Type 0 where

@@ -1,12 +1,13 @@
 -- The fault of an assembly text.
-use Rattle.std.specs.Prelude.{◌≡◌, ◌<◌, ◌≤◌, ◌+◌, ℕ, nat_le, List, [], ◌∷◌, ◌++◌, length, Option, Some, None, Err, Bool, true, false, ◌⊎◌}
+use Rattle.std.specs.Prelude.{◌≡◌, ◌<◌, ◌≤◌, ◌+◌, ℕ, List, [], ◌∷◌, ◌++◌, length, Option, Some, None, Err, ◌⊎◌}
 use Rattle.std.specs.List.{All}
 use Rattle.ocp_profile.specs.declared.profile.Profile.{Profile}
 use Rattle.bpf_types.specs.declared.line.Line.{Line}
 use Rattle.bpf_types.specs.Line.{IsLine}
 use Rattle.bpf_decode.specs.Images.{image_of}
 use Rattle.ocp_loader.specs.declared.fault.LoadFault.{LoadFault}
-use Rattle.ocp_loader.specs.FaultNumbers.{number_of, slot_of}
+use Rattle.ocp_loader.specs.declared.fault.LoadFault.TheVariants as load
+use Rattle.ocp_loader.specs.FaultNumbers.{slot_of}
 use Rattle.ocp_loader.specs.LoadResult.{load_result}
 use Rattle.text_lines.specs.Lines.{line_texts}
 use Rattle.bpf_text.specs.Lines.{TextLine, Writes, InRange}
@@ -76,12 +77,16 @@ pub record IsLineOfSlot (entries : List Entry) (slot number : ℕ) : Type 0 wher
   pub reached : entry.place ≤ slot
   pub behind : All (λ e. slot < e.place) after
 
--- line 0, or the line of the instruction at the slot
-abbrev pub IsLineOf : Bool → List Entry → ℕ → ℕ → Type 0
-IsLineOf true entries slot number = number ≡ 0
-IsLineOf false entries slot number = IsLineOfSlot entries slot number
+-- the line of the instruction at the fault's slot; a fault of the image's length has line 0, and so
+-- has Memory, which is none of an image
+abbrev pub IsLineOf : LoadFault → List Entry → ℕ → Type 0
+IsLineOf load.EmptyCode entries number = number ≡ 0
+IsLineOf load.RaggedCode entries number = number ≡ 0
+IsLineOf load.TooLong entries number = number ≡ 0
+IsLineOf load.Memory entries number = number ≡ 0
+IsLineOf fault entries number = IsLineOfSlot entries (slot_of fault) number
 
--- the image of the instructions may not be run; faults 1 to 3, those of its length, have line 0
+-- the image of the instructions may not be run
 pub record HasLoadFault (profile : Profile) (text : List ℕ) (number : ℕ) (fault : LoadFault)
     : Type 0 where
   pub lines : List TextLine
@@ -89,7 +94,7 @@ pub record HasLoadFault (profile : Profile) (text : List ℕ) (number : ℕ) (fa
   pub written : IsWritten text lines
   pub meant : AreInstructions lines (entries_of 1 0 lines) instructions
   pub refused : load_result profile (image_of instructions) ≡ Err fault
-  pub counted : IsLineOf (nat_le (number_of fault) 3) (entries_of 1 0 lines) (slot_of fault) number
+  pub counted : IsLineOf fault (entries_of 1 0 lines) number
 
 abbrev pub IsLoadFault : Profile → List ℕ → ℕ → Why → Type 0
 IsLoadFault profile text number (why.Load fault) = HasLoadFault profile text number fault

@@ -16,9 +16,13 @@ ghost use Rattle.bpf_assembler.specs.declared.fault.Why.{Why};
 ghost use Rattle.bpf_assembler.specs.declared.fault.Why.TheVariants.{Load};
 ghost use Rattle.bpf_text.specs.Lines.{TextLine, Statement};
 
+use bpf_decode::images_are_unique;
 use bpf_text::laws::readings_are_unique;
 use bpf_text::read_line;
-use ocp_loader::{faults_are_of_images_that_may_not_be_run, places_are_counted_in_slots};
+use ocp_loader::{
+    faults_are_of_images_that_may_not_be_run, images_that_load_may_be_run,
+    places_are_counted_in_slots,
+};
 use text_lines::first_line;
 pub use text_lines::laws::texts_are_cut_at_newlines;
 
@@ -67,7 +71,7 @@ pub fn named_jumps_lead_to_their_labels()
     places_are_counted_in_slots();
 }
 
-/// Under each profile a text means instructions whose image has no fault, or has a fault itself;
+/// Under each profile a text means instructions whose image may be run, or has a fault itself;
 /// and not both. When it runs it reads the lines of the text, and keeps nothing of them.
 pub fn texts_have_a_meaning_or_a_fault(text: &[u8])
     ensures one { (profile : Profile) →
@@ -76,6 +80,8 @@ pub fn texts_have_a_meaning_or_a_fault(text: &[u8])
         HasMeaning profile text.now → ¬ HasSomeFault profile text.now }
 {
     meanings_exclude_faults();
+    images_that_load_may_be_run();
+    images_are_unique();
     let mut rest = text;
     while !rest.is_empty() {
         let (line, after) = first_line(rest);
