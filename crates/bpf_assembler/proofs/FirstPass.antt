@@ -5,7 +5,7 @@ use Rattle.std.proofs.Common.{Bor}
 use Rattle.bpf_text.specs.Lines.{TextLine}
 use Rattle.text_lines.specs.Lines.{line_texts}
 use Rattle.bpf_assembler.specs.Text.{EachWritten}
-use Rattle.bpf_assembler.specs.Mirror.Passes.{Knows, Adds, Collects}
+use Rattle.bpf_assembler.specs.Mirror.Passes.{Knows, Adds, IsCollected, IsFaultOfLines}
 use Rattle.bpf_assembler.specs.declared.table.Row.{Row}
 use Rattle.bpf_assembler.specs.declared.fault.AsmFault.{AsmFault}
 use Rattle.bpf_assembler.specs.declared.fault.AsmFault.TheVariants.{Memory, At}
@@ -41,7 +41,7 @@ one_taken text rest line after m m' rs rs' n n' p p' u t e add =
     }
 
 pub fault_taken : (text rest line after : List ℕ) (m m' : BTreeMap (Bor (List ℕ)) ℕ) (rs rs' : List Row) (n n' p p' : ℕ) (f : AsmFault) → Taken text rest m rs n p → line_texts rest ≡ line ∷ line_texts after
-    → ((ws : List TextLine) → Knows m rs n p ws → Adds line m' rs' n' p' ws (Err f)) → Collects text m' rs' (Err f)
+    → ((ws : List TextLine) → Knows m rs n p ws → Adds line m' rs' n' p' ws (Err f)) → IsFaultOfLines text f
 fault_taken text rest line after m m' rs rs' n n' p p' Memory t e add = tt
 fault_taken text rest line after m m' rs rs' n n' p p' (At k y) t e add =
     let a = add t.written t.known in
@@ -57,8 +57,8 @@ fault_taken text rest line after m m' rs rs' n n' p p' (At k y) t e add =
       fault = a.1;
     }
 
-pub all_taken : (text rest : List ℕ) (m : BTreeMap (Bor (List ℕ)) ℕ) (rs : List Row) (n p : ℕ) (u : Unit {0}) → Taken text rest m rs n p → rest ≡ [] → Collects text m rs (Ok u)
-all_taken text rest m rs n p u t e = record {
+pub all_taken : (text rest : List ℕ) (m : BTreeMap (Bor (List ℕ)) ℕ) (rs : List Row) (n p : ℕ) → Taken text rest m rs n p → rest ≡ [] → IsCollected text m rs
+all_taken text rest m rs n p t e = record {
   lines = t.written;
   written = record {
     each = subst (λ (ls : List (List ℕ)). EachWritten ls t.written) (sym (t.whole ∙ ap (λ (r : List ℕ). t.done ++ line_texts r) e ∙ append-nil t.done)) t.each;

@@ -11,7 +11,6 @@ ghost use Rattle.bpf_assembler.specs.Assembling.{IsImageOfText, IsFaultOf};
 ghost use Rattle.bpf_assembler.specs.declared.fault.Why.{Why};
 ghost use Rattle.bpf_assembler.specs.declared.fault.AsmFault.TheVariants.{Memory, At};
 
-use crate::collecting::collect;
 use crate::fault::{AsmFault, Why};
 use crate::laws::{faults_are_unique, meanings_are_unique, meanings_exclude_faults};
 use crate::listings::admitted_images_are_meant_by_their_listings;
@@ -82,8 +81,7 @@ fn both_passes<'a, A: Allocator + Copy>(
     ensures ok { IfOk result (λ r. ArePassed text.now r.0.rows.items r.1.items) }
     ensures fault { (profile : Profile) → IfErr result (IsFaultOf profile text.now) }
 {
-    let mut table = Table::new(alloc);
-    collect(&mut table, text)?;
+    let table = Table::of(alloc, text)?;
     let octets = resolve_all(alloc, &table.labels, &table.rows)?;
     Ok((table, octets))
 }

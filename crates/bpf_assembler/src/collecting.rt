@@ -1,10 +1,10 @@
 //! The first pass: the lines, their labels and their instructions.
 
-ghost use Rattle.std.specs.Prelude.{◌≡◌, ◌<◌, ◌≤◌, ◌+◌, ◌*◌, ◌++◌, ◌^◌, List, [], map, OnOk, IfOk, IfErr};
+ghost use Rattle.std.specs.Prelude.{◌≡◌, ◌<◌, ◌≤◌, ◌+◌, ◌*◌, ◌++◌, ◌^◌, List, map, OnOk, IfOk, IfErr};
 ghost use Rattle.bpf_text.specs.Lines.{TextLine};
 ghost use Rattle.bpf_text.specs.Judged.{text_of, statement_of};
 ghost use Rattle.bpf_assembler.specs.Text.{end_of, slots, entry_of};
-ghost use Rattle.bpf_assembler.specs.Mirror.Passes.{AreLabels, PutsLabel, Knows, Adds, Collects, entry};
+ghost use Rattle.bpf_assembler.specs.Mirror.Passes.{AreLabels, PutsLabel, Knows, Adds, IsCollected, IsFaultOfLines, entry};
 
 use crate::fault::{AsmFault, Why};
 use crate::table::{Row, Table, put};
@@ -56,45 +56,45 @@ fn put_row<'a, A: Allocator>(
     Ok(place + u64::from(statement.line.slots()))
 }
 
-/// Takes one more line.
-fn add<'a, A: Allocator + Clone>(table: &mut Table<'a, A>, text: &'a [u8]) -> Result<(), AsmFault>
-    requires few { table.old.lines + 1 < 2 ^ 63 }
-    requires room { table.old.place ≤ 2 * table.old.lines }
-    ensures lines { (ws : List TextLine) →
-        Knows table.old.labels table.old.rows.items table.old.lines table.old.place ws
-        → Adds text.now table.new.labels table.new.rows.items table.new.lines table.new.place
-        ws result }
-    ensures count { OnOk result (table.new.lines ≡ table.old.lines + 1) }
-    ensures place { OnOk result (table.new.place ≤ table.old.place + 2) }
-{
-    let number = table.lines + 1;
-    let parsed = match read_line(text) {
-        Ok(parsed) => parsed,
-        Err(LineFault::Syntax) => return Err(AsmFault::at(number, Why::Syntax)),
-        Err(LineFault::Range) => return Err(AsmFault::at(number, Why::Range)),
-    };
-    if !put_label(&mut table.labels, parsed.label, table.place)? {
-        return Err(AsmFault::at(number, Why::DuplicateLabel));
+impl<'a, A: Allocator + Copy> Table<'a, A> {
+    /// The table of the lines of a text.
+    pub fn of(alloc: A, text: &'a [u8]) -> Result<Self, AsmFault>
+        ensures collected { IfOk result
+            (λ table. IsCollected text.now table.labels table.rows.items) }
+        ensures fault { IfErr result (IsFaultOfLines text.now) }
+    {
+        let mut table = Table::new(alloc);
+        let mut rest = text;
+        while !rest.is_empty() {
+            let (line, after) = first_line(rest);
+            table.add(line)?;
+            rest = after;
+        }
+        Ok(table)
     }
-    table.place = put_row(&mut table.rows, number, table.place, &parsed.body)?;
-    table.lines = number;
-    Ok(())
-}
 
-/// Takes all lines of a text.
-pub fn collect<'a, A: Allocator + Clone>(
-    table: &mut Table<'a, A>,
-    text: &'a [u8],
-) -> Result<(), AsmFault>
-    requires empty { Knows table.old.labels table.old.rows.items
-        table.old.lines table.old.place [] }
-    ensures { Collects text.now table.new.labels table.new.rows.items result }
-{
-    let mut rest = text;
-    while !rest.is_empty() {
-        let (line, after) = first_line(rest);
-        add(table, line)?;
-        rest = after;
+    /// Takes one more line.
+    fn add(&mut self, text: &'a [u8]) -> Result<(), AsmFault>
+        requires few { self.old.lines + 1 < 2 ^ 63 }
+        requires room { self.old.place ≤ 2 * self.old.lines }
+        ensures lines { (ws : List TextLine) →
+            Knows self.old.labels self.old.rows.items self.old.lines self.old.place ws
+            → Adds text.now self.new.labels self.new.rows.items self.new.lines self.new.place
+            ws result }
+        ensures count { OnOk result (self.new.lines ≡ self.old.lines + 1) }
+        ensures place { OnOk result (self.new.place ≤ self.old.place + 2) }
+    {
+        let number = self.lines + 1;
+        let parsed = match read_line(text) {
+            Ok(parsed) => parsed,
+            Err(LineFault::Syntax) => return Err(AsmFault::at(number, Why::Syntax)),
+            Err(LineFault::Range) => return Err(AsmFault::at(number, Why::Range)),
+        };
+        if !put_label(&mut self.labels, parsed.label, self.place)? {
+            return Err(AsmFault::at(number, Why::DuplicateLabel));
+        }
+        self.place = put_row(&mut self.rows, number, self.place, &parsed.body)?;
+        self.lines = number;
+        Ok(())
     }
-    Ok(())
 }

@@ -68,11 +68,10 @@ pub record IsCollected (text : List ℕ) (m : BTreeMap (Bor (List ℕ)) ℕ)
   pub labels : AreLabels m lines
   pub rows : map entry rs ≡ entries_of 1 0 lines
 
--- or the text has a first line at fault
-abbrev pub Collects : List ℕ → BTreeMap (Bor (List ℕ)) ℕ → List Row → Result Unit AsmFault → Type 0
-Collects text m rows (Ok u) = IsCollected text m rows
-Collects text m rows (Err Memory) = Unit {0}
-Collects text m rows (Err (At n y)) = HasLineFault text n y
+-- or memory was refused, or the text has a first line at fault
+abbrev pub IsFaultOfLines : List ℕ → AsmFault → Type 0
+IsFaultOfLines text Memory = Unit {0}
+IsFaultOfLines text (At n y) = HasLineFault text n y
 
 -- ---- the second pass
 

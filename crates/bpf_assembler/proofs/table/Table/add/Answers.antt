@@ -1,7 +1,7 @@
 use Rattle.std.proofs.Common.{◌+◌, ℕ, ap, refl}
 use Rattle.bpf_text.specs.Judged.{written_line}
 use Rattle.bpf_assembler.proofs.Places.{known_after}
-use Rattle.bpf_assembler.proofs.collecting.add.Goals as goal
+use Rattle.bpf_assembler.proofs.table.Table.add.Goals as goal
 
 pub returns-then-not-branch-clause-lines : goal.returns-then-not-branch-clause-lines
 returns-then-not-branch-clause-lines g c = rw c.at-then-not-branch.ensures (λ ws known.
@@ -11,11 +11,11 @@ returns-then-not-branch-clause-lines g c = rw c.at-then-not-branch.ensures (λ w
 pub returns-clause-lines : goal.returns-clause-lines
 returns-clause-lines g c = λ ws known.
     let put = rw c.if-not-branch.false at (c.in_ok-put_label.ensures ws known.labels known.place) in
-    let t = c.args.table.now in
+    let t = c.args.self.now in
     let w = written_line c.in-Ok.parsed in (
       w,
       c.in-Ok.ensures.0,
       c.in-Ok.ensures.1,
-      known_after t.labels c.put_label.new.labels t.rows.items c.put_row.new.rows.items t.lines (t.lines + 1) t.place c.in_ok-table.field-0 ws w
-          known put.0 (put.1 w.body) c.in_ok-table.ensures.rows refl c.in_ok-table.ensures.place.0,
+      known_after t.labels c.put_label.new.labels t.rows.items c.put_row.new.rows.items t.lines (t.lines + 1) t.place c.in_ok-self.field-0 ws w
+          known put.0 (put.1 w.body) c.in_ok-self.ensures.rows refl c.in_ok-self.ensures.place.0,
     )

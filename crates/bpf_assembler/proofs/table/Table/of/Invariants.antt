@@ -1,6 +1,6 @@
 use Rattle.std.proofs.Common.{◌≤◌, ◌+◌, ◌*◌, length}
 use Rattle.bpf_assembler.proofs.FirstPass.{Taken}
-use Rattle.bpf_assembler.proofs.collecting.collect.Given as goal
+use Rattle.bpf_assembler.proofs.table.Table.of.Given as goal
 
 abbrev pub invariant-loop-rest : goal.invariant-loop-rest
 invariant-loop-rest g l = record {
