@@ -16,7 +16,7 @@ pub use Rattle.ocp_world.specs.NextRunning.{IsNextRunning, Runs}
 pub use Rattle.ocp_world.specs.Replay.{answers, replay_from}
 pub use Rattle.ocp_core.specs.declared.answers.CommitOutcome.{CommitOutcome}
 pub use Rattle.ocp_core.specs.Log.{Log, Debugged, events_of, expand, empty_log, world_of, is_full}
-pub use Rattle.ocp_core.specs.Log.{with_entry, answer_in, log_after}
+pub use Rattle.ocp_core.specs.Log.{with_entry, full_answer, answer_in, log_after}
 pub use Rattle.ocp_core.specs.Slice.{slice_in, slice_log}
 pub use Rattle.ocp_core.specs.Marks.{by_of, mark_in, entries_with_marks}
 pub use Rattle.ocp_core.specs.Journal.{event_of, entry_of, mark_of, entry_with_mark, answer_of}

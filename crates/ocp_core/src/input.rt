@@ -3,7 +3,7 @@
 ghost use Rattle.std.specs.Prelude.{◌≡◌, ℕ};
 ghost use Rattle.ocp_world.specs.World as world;
 ghost use Rattle.ocp_world.specs.After as after;
-ghost use Rattle.ocp_core.specs.Clauses.{Enters, entries_in, event_entries};
+ghost use Rattle.ocp_core.specs.Clauses.{Enters, entries_in, event_entries, full_answer};
 
 use crate::{Command, DebugFault, Engine, EngineFault, Entry, Octets, Reports, StepOutcome};
 use ocp_world::Heap;
@@ -18,6 +18,10 @@ pub trait Input<A: Allocator> {
     ghost event: { ℕ → Self → world.Event };
 
     ghost answer: { Self.Answer → after.Answer };
+
+    /// The answer where there is no room for a further journal entry.
+    fn full(self) -> Self::Answer
+        ensures { (by : ℕ) → answer result ≡ full_answer (event by self) };
 
     /// `Engine::apply`.
     fn enter(self, engine: &mut Engine<A>, by: u16) -> (Self::Answer, Option<Entry<A>>)
@@ -60,6 +64,10 @@ impl<'a, A: Allocator + Copy> Input<A> for Request<'a, A> {
 
     ghost answer = { after.Requested };
 
+    fn full(self) -> Self::Answer {
+        Err(EngineFault::JournalFull)
+    }
+
     fn enter(self, engine: &mut Engine<A>, by: u16) -> (Self::Answer, Option<Entry<A>>) {
         let read = match engine.admit(self.octets) {
             Ok(read) => read,
@@ -90,6 +98,10 @@ impl<A: Allocator> Input<A> for Step {
 
     ghost answer = { after.Stepped };
 
+    fn full(self) -> StepOutcome {
+        StepOutcome::JournalFull
+    }
+
     fn enter(self, engine: &mut Engine<A>, by: u16) -> (StepOutcome, Option<Entry<A>>) {
         let Step { id } = self;
         let mark = engine.step(by, id);
@@ -117,6 +129,10 @@ impl<A: Allocator> Input<A> for DebuggerCommand {
 
     ghost answer = { after.Commanded };
 
+    fn full(self) -> Result<(), DebugFault> {
+        Err(DebugFault::JournalFull)
+    }
+
     fn enter(self, engine: &mut Engine<A>, by: u16) -> (Result<(), DebugFault>, Option<Entry<A>>) {
         let DebuggerCommand { id, command } = self;
         match engine.command(by, id, command) {
@@ -132,6 +148,10 @@ impl<A: Allocator + Copy> Input<A> for Drain<A> {
     ghost event = { λ by d. world.Drain by d.time };
 
     ghost answer = { after.Requested };
+
+    fn full(self) -> Self::Answer {
+        Err(EngineFault::JournalFull)
+    }
 
     fn enter(self, engine: &mut Engine<A>, by: u16) -> (Self::Answer, Option<Entry<A>>) {
         let Drain { alloc, time } = self;

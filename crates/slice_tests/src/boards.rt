@@ -3,7 +3,7 @@
 
 ghost use Rattle.std.specs.Prelude.{◌≡◌, ◌+◌, length};
 
-use crate::packets::{STATUS, full_engine, takes_loops};
+use crate::packets::{STATUS, takes_loops};
 use ocp_profile::Profile;
 use ocp_slices::{
     Board, Book, CommitOutcome, DebugFault, Engine, EngineFault, Entry, Gate, Input, Naming, Seat,
@@ -28,12 +28,11 @@ pub(crate) enum Meets {
     AsFull,
 }
 
-// A book that counts its calls, answers each third event as a full engine does, and meets the turns as it was told to, where it
-// was. Others may see how many tickets were asked for.
+// A book that counts its calls, refuses each third event by itself, as for a full journal, and meets the turns as it was told to,
+// where it was. Others may see how many tickets were asked for.
 #[derive(Drop)]
 pub(crate) struct Counting<'a, L: Naming> {
     book: Book<L>,
-    full: Engine,
     calls: u64,
     asked: u64,
     turns: &'static [Meets],
@@ -42,15 +41,9 @@ pub(crate) struct Counting<'a, L: Naming> {
 }
 
 impl<'a, L: Naming> Counting<'a, L> {
-    pub(crate) fn new(
-        book: Book<L>,
-        full: Engine,
-        turns: &'static [Meets],
-        taken: &'a AtomicU64,
-    ) -> Self {
+    pub(crate) fn new(book: Book<L>, turns: &'static [Meets], taken: &'a AtomicU64) -> Self {
         Counting {
             book,
-            full,
             calls: 0,
             asked: 0,
             turns,
@@ -115,8 +108,7 @@ impl<L: Naming> Board<L> for Counting<'_, L> {
         self.calls = self.calls.saturating_add(1);
         self.asked = self.asked.saturating_add(1);
         if self.asked % 3 == 0 {
-            let (answer, _none) = self.full.apply(0, input);
-            return answer;
+            return input.full();
         }
         self.book.apply(seat, input)
     }
@@ -149,12 +141,7 @@ fn through<L: Naming, R: Wait + Abort>(
     requires log { L.log ≡ engine }
 {
     let taken = AtomicU64::new(0);
-    let board = Counting::new(
-        Book::<L>::new(engine, blank),
-        full_engine(alloc)?,
-        &[],
-        &taken,
-    );
+    let board = Counting::new(Book::<L>::new(engine, blank), &[], &taken);
     let shared = SharedEngine::over(board);
     let mut seat = shared.seat(rt, alloc)?;
     let work = shared.take(rt, alloc)?.run(10);
@@ -308,12 +295,7 @@ fn by_script<L: Naming, R: Wait + Abort>(
     requires log { L.log ≡ engine }
 {
     let taken = AtomicU64::new(0);
-    let board = Counting::new(
-        Book::<L>::new(engine, blank),
-        full_engine(alloc)?,
-        &MEETS,
-        &taken,
-    );
+    let board = Counting::new(Book::<L>::new(engine, blank), &MEETS, &taken);
     let shared = SharedEngine::over(board);
     let _one = shared.seat(rt, alloc)?;
     let mut two = shared.seat(rt, alloc)?;

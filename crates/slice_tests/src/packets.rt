@@ -3,7 +3,6 @@
 
 ghost use Rattle.std.specs.Prelude.{◌≤◌};
 
-use ocp_profile::Profile;
 use ocp_slices::{CloseFault, Engine, Naming, Seat, SharedEngine, StillShared};
 use ocp_table::{Cause, Status, View};
 use pus_fields::crc16;
@@ -87,13 +86,6 @@ pub(crate) fn takes_loops(alloc: Global, engine: &mut Engine, count: u8) -> bool
     requires { count ≤ 16 }
 {
     (1..count + 1).all(|id| takes(alloc, engine, &[&load_loop(id), &activate_loop(id)]))
-}
-
-// An engine with a full journal, in which the loops with the ids 1 and 2 run.
-pub(crate) fn full_engine(alloc: Global) -> Result<Engine, AllocError> {
-    let mut engine = Engine::new(alloc, Profile::One, 0x123, 16, 4)?;
-    let _taken = takes_loops(alloc, &mut engine, 2);
-    Ok(engine)
 }
 
 // Whether a procedure is shown as a loop at its end.

@@ -3,9 +3,7 @@
 ghost use Rattle.std.specs.Prelude.{◌≡◌, ◌+◌, length};
 
 use crate::boards::Counting;
-use crate::packets::{
-    STATUS, activate_loop, closes, full_engine, is_taken, load_long, takes, takes_loops,
-};
+use crate::packets::{STATUS, activate_loop, closes, is_taken, load_long, takes, takes_loops};
 use ocp_profile::Profile;
 use ocp_slices::{
     Board, Book, CommitOutcome, Engine, Gate, Naming, Seat, SharedEngine, StepOutcome, Turn,
@@ -197,12 +195,7 @@ fn meanwhile<L: Naming + Send + Sync, R: Threads + Wait + Abort + Sync>(
         met: AtomicU64::new(0),
         over: AtomicU64::new(0),
     };
-    let board = Counting::new(
-        Book::<L>::new(engine, blank),
-        full_engine(alloc)?,
-        &[],
-        &watch.taken,
-    );
+    let board = Counting::new(Book::<L>::new(engine, blank), &[], &watch.taken);
     let shared = SharedEngine::over(board);
     let mut one = shared.seat(rt, alloc)?;
     let mut two = shared.seat(rt, alloc)?;
