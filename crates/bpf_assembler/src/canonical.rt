@@ -4,7 +4,7 @@ ghost use Rattle.std.specs.Prelude.{◌≡◌, ◌⊎◌, ◌++◌, ℕ, List, O
 ghost use Rattle.bpf_types.specs.declared.line.Line.{Line};
 ghost use Rattle.bpf_canonical.specs.Canonical.{listing};
 ghost use Rattle.bpf_assembler.specs.Text.{Means};
-ghost use Rattle.bpf_assembler.specs.Assembling.{IsImageOfText, IsFaultOf};
+ghost use Rattle.bpf_assembler.specs.Assembling.{IsImageOfText, IsFaultOf, HasMeaning};
 ghost use Rattle.bpf_assembler.specs.declared.fault.AsmFault.TheVariants.{Memory};
 
 use crate::assembling::program_of;
@@ -27,6 +27,7 @@ pub fn write_canonical<A: Allocator + Copy, B: Allocator>(
 ) -> Result<(), AsmFault>
     ensures ok { OnOk result ((lines : List Line) × Means text.now lines ×
         (out.new.items ≡ out.old.items ++ listing lines)) }
+    ensures admitted { OnOk result (HasMeaning profile text.now) }
     ensures only { (image : List ℕ) → IsImageOfText profile text.now image →
         (result ≡ Err Memory) ⊎ (result ≡ Ok tt) }
     ensures fault { IfErr result (IsFaultOf profile text.now) }
