@@ -5,6 +5,7 @@ ghost use Rattle.ocp_core.specs.Clauses.{Commits, Grows, commit_entries, get, ti
 
 use crate::ticket::Parts;
 use crate::{CommitOutcome, Engine, Entry, StepOutcome, Ticket, Work};
+use ocp_table::Snapshot;
 use ocp_world::instructions_done_alone_are_events;
 use std::alloc::{AllocError, Allocator};
 
@@ -16,10 +17,13 @@ impl<A: Allocator> Engine<A> {
         ensures { IfOk result (λ ticket.
             ticket ≡ ticket_at id (get (world_of self.now).records id)) }
     {
-        let Some(base) = self.state.table.snapshot(alloc, id)? else {
+        let Some(procedure) = self.state.table.record(id) else {
             return Ok(None);
         };
-        let machine = base.machine(alloc)?;
+        let Some(base) = Snapshot::take(alloc, procedure)? else {
+            return Ok(None);
+        };
+        let machine = base.machine().copy(alloc)?;
         let parts = Box::new(alloc, Parts { base, machine })?;
         Ok(Some(Ticket { id, parts }))
     }
@@ -32,7 +36,10 @@ impl<A: Allocator> Engine<A> {
             ticket_at id (get (world_of self.now).records id) ≡ Some ticket.new }
         ensures kept { (result ≡ false) → ticket.new ≡ ticket.old }
     {
-        if !self.state.table.snapshot_into(id, &mut ticket.parts.base) {
+        let Some(procedure) = self.state.table.record(id) else {
+            return false;
+        };
+        if !ticket.parts.base.retake(procedure) {
             return false;
         }
         ticket.id = id;

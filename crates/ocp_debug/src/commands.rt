@@ -17,7 +17,7 @@ pub fn fault_of<A: Allocator>(table: &Table<A>, id: u16, command: Command) -> Op
     };
     let breakpoints = record.breakpoints.as_slice();
     match command {
-        Command::SetBreak(place) if record.execution.line_at(place).is_none() => {
+        Command::SetBreak(place) if record.execution.program().line_at(place).is_none() => {
             Some(DebugFault::NotAnInstruction)
         }
         Command::SetBreak(place) if is_set(place, breakpoints) => Some(DebugFault::AlreadySet),

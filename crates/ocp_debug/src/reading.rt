@@ -27,7 +27,7 @@ pub fn memory<A: Allocator>(
     let Some(record) = table.record(id) else {
         return Err(DebugFault::NotLoaded);
     };
-    match record.execution.octets(address, octets) {
+    match record.execution.machine().octets(address, octets) {
         Ok(()) => Ok(()),
         Err(_) => Err(DebugFault::OutsideMemory),
     }

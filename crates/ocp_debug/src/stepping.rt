@@ -14,7 +14,7 @@ fn traced_place<A: Allocator>(table: &Table<A>, id: u16, at: Place) -> Option<u1
     if !record.traced {
         return None;
     }
-    Some(record.execution.place())
+    Some(record.execution.machine().place())
 }
 
 /// Notes the instruction at this place, where it was done and is traced, by its outcome and the
@@ -45,14 +45,14 @@ fn note<A: Allocator>(
     let Some(record) = table.record_at(id, at) else {
         return;
     };
-    let Some(line) = record.execution.line_at(place) else {
+    let Some(line) = record.execution.program().line_at(place) else {
         return;
     };
     ring.push(Trace {
         id,
         place,
         outcome,
-        registers: record.execution.registers(),
+        registers: record.execution.machine().registers(),
         line,
     });
 }

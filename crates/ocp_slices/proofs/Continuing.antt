@@ -1,5 +1,5 @@
 -- Seats that go on.
-use Rattle.std.proofs.Common.{◌≡◌, ◌≢◌, ◌≤◌, ◌+◌, ◌-◌, ℕ, true, List, [], ◌∷◌, ◌++◌, All, inl, inr, refl, ap, sym, subst, ◌∙◌, append_assoc, length-append, arith}
+use Rattle.std.proofs.Common.{◌≡◌, ◌≢◌, ◌≤◌, ◌+◌, ℕ, true, List, [], ◌∷◌, ◌++◌, All, inl, inr, refl, ap, sym, subst, ◌∙◌, append_assoc, length-append, arith}
 use Rattle.std.proofs.lemmas.List.{append-nil}
 use Rattle.std.proofs.lemmas.List.Elements.{All-nil, All-cons, All-append}
 use Rattle.ocp_table.specs.declared.answers.StepOutcome.{StepOutcome}
@@ -93,23 +93,3 @@ continues_further m n budget a b c one two = record {
 
 pub continues_by_turn : (answers : Reply → Type 0) (turns budget : ℕ) (a b c : SeatContents) (t : Turn) → Continues turns budget a b → IsTurn answers budget b c t → Continues (turns + 1) budget a c
 continues_by_turn answers turns budget a b c t one turned = continues_further turns 1 budget a b c one (continues_turn answers budget b c t turned)
-
-pub continues_at_end : (made turns budget : ℕ) (a b : SeatContents) → made ≤ turns → Continues made budget a b → Continues turns budget a b
-continues_at_end made turns budget a b within one = record {
-  number = one.number;
-  more = one.more;
-  receipts = one.receipts;
-  few = omega (arith, one.few);
-  shifts = one.shifts;
-  done = one.done;
-}
-
-pub continues_without : (turns budget : ℕ) (s : SeatContents) → turns ≡ 0 → Continues turns budget s s
-continues_without turns budget s none = subst (λ (n : ℕ). Continues n budget s s) (sym none) (continues_unchanged budget s)
-
--- one turn more after the others
-pub continues_last : (answers : Reply → Type 0) (made turns budget : ℕ) (a b c : SeatContents) (t : Turn) → (turns ≡ 0 → ⊥) → made ≤ turns - 1 → Continues made budget a b → IsTurn answers budget b c t → Continues turns budget a c
-continues_last answers made turns budget a b c t some before one turned =
-    let low : turns ≢ 0 = some in
-    let within : made + 1 ≤ turns = grind arith in
-    continues_at_end (made + 1) turns budget a c within (continues_by_turn answers made budget a b c t one turned)

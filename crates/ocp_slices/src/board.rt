@@ -1,6 +1,6 @@
 //! What stands behind the lock.
 
-ghost use Rattle.std.specs.Prelude.{◌≡◌, ◌≤◌, [], Ok, Err, IfOk, IfErr, OnOk};
+ghost use Rattle.std.specs.Prelude.{◌≡◌, ◌≤◌, [], Ok, Err, IfOk, IfErr};
 ghost use Rattle.ocp_core.specs.Clauses.{work_after};
 ghost use Rattle.ocp_slices.specs.Replies.{Reply, SeatReply, TakeReply, IsServed, IsSliced, IsHandedIn};
 
@@ -20,20 +20,12 @@ pub trait Board<L: Naming> {
         ensures receipts { IfOk result (λ seat. (seat.receipts ≡ []) × (seat.share ≡ 0)) }
         ensures number { IfOk result (λ seat. (1 ≤ seat.number) × (seat.number ≤ 64)) };
 
-    /// A ticket for the next running procedure, in turn.
-    fn take(&mut self, alloc: Global) -> Result<Ticket, TakeFault>
+    /// A ticket for the next running procedure, in turn. A spare one becomes it, where there is
+    /// one; that stays where there is none.
+    fn take(&mut self, alloc: Global, spare: &mut Option<Ticket>) -> Result<Ticket, TakeFault>
         ensures given { answers (TakeReply result) };
 
-    /// The same with a ticket that there is, which becomes the one that is taken.
-    fn take_into(&mut self, alloc: Global, ticket: &mut Ticket) -> Result<(), TakeFault>
-        ensures ok { OnOk result (answers (TakeReply (Ok ticket.new))) }
-        ensures err { IfErr result (λ why. answers (TakeReply (Err why))) };
-
-    /// Hands in a work.
-    fn commit(&mut self, seat: &mut Seat<L>, work: Work) -> CommitOutcome
-        ensures handed_in { IsHandedIn answers seat.old seat.new work result };
-
-    /// The same with a work that stays.
+    /// Hands in a work, which stays.
     fn hand_in(&mut self, seat: &mut Seat<L>, work: &mut Work) -> CommitOutcome
         ensures handed_in { IsHandedIn answers seat.old seat.new work.old result }
         ensures work { work.new ≡ work_after work.old result };
@@ -62,26 +54,18 @@ impl<L: Naming> Board<L> for Book<L> {
         Book::seat(self, alloc)
     }
 
-    fn take(&mut self, alloc: Global) -> Result<Ticket, TakeFault>
+    fn take(&mut self, alloc: Global, spare: &mut Option<Ticket>) -> Result<Ticket, TakeFault>
         ensures ok { IfOk result (λ ticket. Takes self.old self.new ticket) }
         ensures err { IfErr result (λ why. (self.new ≡ self.old) × RefusesTake self.old why) }
     {
-        Book::take(self, alloc)
-    }
-
-    fn take_into(&mut self, alloc: Global, ticket: &mut Ticket) -> Result<(), TakeFault>
-        ensures ok { OnOk result (Takes self.old self.new ticket.new) }
-        ensures err { IfErr result (λ why. (self.new ≡ self.old) × RefusesTake self.old why) }
-    {
-        Book::take_into(self, alloc, ticket)
-    }
-
-    #[tactic(auto, using(crate::proofs::Outcomes::empty_exactly, crate::proofs::Outcomes::committed_all))]
-    fn commit(&mut self, seat: &mut Seat<L>, work: Work) -> CommitOutcome
-        ensures serves { ServesWork self.old self.new seat.old seat.new work result }
-        ensures handed_in { IsHandedIn (λ _. Unit {0}) seat.old seat.new work result }
-    {
-        Book::commit(self, seat, work)
+        let Some(mut ticket) = spare.take() else {
+            return Book::take(self, alloc);
+        };
+        if let Err(fault) = self.take_into(alloc, &mut ticket) {
+            *spare = Some(ticket);
+            return Err(fault);
+        }
+        Ok(ticket)
     }
 
     #[tactic(auto, using(crate::proofs::Outcomes::empty_exactly, crate::proofs::Outcomes::committed_all))]

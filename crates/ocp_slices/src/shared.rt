@@ -1,9 +1,9 @@
 //! The engine behind a lock.
 
-ghost use Rattle.std.specs.Prelude.{◌≡◌, ◌≤◌, ◌+◌, [], Ok, Err, length, IfOk, IfErr, OnOk};
+ghost use Rattle.std.specs.Prelude.{◌≡◌, ◌≤◌, ◌+◌, [], length, IfOk};
 ghost use Rattle.ocp_debug.specs.declared.command.Command.TheVariants as command;
 ghost use Rattle.ocp_world.specs.World as world;
-ghost use Rattle.ocp_core.specs.Clauses.{Commanded, Requested, Stepped, work_after};
+ghost use Rattle.ocp_core.specs.Clauses.{Commanded, Requested, Stepped};
 ghost use Rattle.ocp_slices.specs.Replies.{SeatReply, TakeReply, IsServed, IsSliced, IsHandedIn};
 
 use crate::input::{DebuggerCommand, Drain, Request, Step};
@@ -92,39 +92,16 @@ impl<L: Naming, B: Board<L>> SharedEngine<L, B> {
     pub fn take<R: Wait>(&self, rt: &R, alloc: Global) -> Result<Ticket, TakeFault>
         ensures given { B.answers (TakeReply result) }
     {
-        self.lock(rt).take(alloc)
-    }
-
-    /// As `take`, with a ticket that there is, which becomes the one that is taken. It keeps its
-    /// memory, and none is asked for, where its machine has the addresses of the procedure's.
-    pub fn take_into<R: Wait>(
-        &self,
-        rt: &R,
-        alloc: Global,
-        ticket: &mut Ticket,
-    ) -> Result<(), TakeFault>
-        ensures ok { OnOk result (B.answers (TakeReply (Ok ticket.new))) }
-        ensures err { IfErr result (λ why. B.answers (TakeReply (Err why))) }
-    {
-        self.lock(rt).take_into(alloc, ticket)
-    }
-
-    /// As `commit`, with a work that stays, so that no memory is given back under the lock, and no
-    /// machine is copied.
-    pub fn hand_in<R: Wait>(&self, rt: &R, seat: &mut Seat<L>, work: &mut Work) -> CommitOutcome
-        ensures handed_in { IsHandedIn B.answers seat.old seat.new work.old result }
-        ensures work { work.new ≡ work_after work.old result }
-    {
-        self.lock(rt).hand_in(seat, work)
+        self.lock(rt).take(alloc, &mut None)
     }
 
     /// Puts a work's instructions into its procedure. Refused, in this order, where there are none,
     /// where the procedure is not what the work began with, and where the journal is full; the work
     /// is dropped then.
-    pub fn commit<R: Wait>(&self, rt: &R, seat: &mut Seat<L>, work: Work) -> CommitOutcome
+    pub fn commit<R: Wait>(&self, rt: &R, seat: &mut Seat<L>, mut work: Work) -> CommitOutcome
         ensures handed_in { IsHandedIn B.answers seat.old seat.new work result }
     {
-        self.lock(rt).commit(seat, work)
+        self.lock(rt).hand_in(seat, &mut work)
     }
 
     /// Takes the octets of a telecommand packet and answers its reports, as the engine's call with

@@ -1,6 +1,6 @@
 //! Turns: take a procedure, run it off the lock, and put its work back.
 
-ghost use Rattle.std.specs.Prelude.{◌≡◌, ℕ};
+ghost use Rattle.std.specs.Prelude.{◌≡◌, ℕ, IfSome};
 ghost use Rattle.ocp_slices.specs.Continuing.{Continues};
 ghost use Rattle.ocp_slices.specs.Replies.{TakeReply};
 ghost use Rattle.ocp_slices.specs.Turns.{IsWorkOf, IsTurn, turn_without};
@@ -47,34 +47,6 @@ pub enum Turn {
     Full,
     /// There is no memory for a ticket.
     NoMemory,
-}
-
-/// What a turn begins with: a ticket, or why there is none; and the memory of one, where there is.
-#[derive(Drop)]
-struct Next {
-    taken: Result<Ticket, TakeFault>,
-    spare: Option<Ticket>,
-}
-
-/// The next ticket, in the memory of a spare one where there is one; that stays where there is
-/// none.
-fn take_next<L: Naming, B: Board<L>>(board: &mut B, alloc: Global, spare: Option<Ticket>) -> Next
-    ensures given { B.answers (TakeReply result.taken) }
-{
-    let Some(mut ticket) = spare else {
-        let taken = board.take(alloc);
-        return Next { taken, spare: None };
-    };
-    match board.take_into(alloc, &mut ticket) {
-        Ok(()) => Next {
-            taken: Ok(ticket),
-            spare: None,
-        },
-        Err(fault) => Next {
-            taken: Err(fault),
-            spare: Some(ticket),
-        },
-    }
 }
 
 /// Why a turn without a ticket does nothing.
@@ -126,57 +98,35 @@ impl<L: Naming, B: Board<L>> SharedEngine<L, B> {
         ensures turned { IsTurn B.answers budget seat.old seat.new result }
     {
         let taken = self.take(rt, alloc);
-        self.turn_with(rt, seat, budget, gate, taken)
-    }
-
-    /// A turn that begins with what was taken.
-    #[tactic(auto, using(crate::proofs::Turning::did, crate::proofs::Turning::idle))]
-    fn turn_with<R: Wait, G: Gate>(
-        &self,
-        rt: &R,
-        seat: &mut Seat<L>,
-        budget: u32,
-        gate: &G,
-        taken: Result<Ticket, TakeFault>,
-    ) -> Turn
-        requires given { B.answers (TakeReply taken) }
-        ensures turned { IsTurn B.answers budget seat.old seat.new result }
-    {
-        let ticket = match taken {
-            Ok(ticket) => ticket,
-            Err(fault) => return turn_without(fault),
-        };
-        let mut work = ticket.run(budget);
-        let number = seat.number();
-        let id = work.id();
-        gate.before(number, id, work.count());
-        let (outcome, turn) = put_back(&mut *self.lock(rt), seat, &mut work);
-        gate.after(number, id, outcome);
+        let (turn, _next) = self.turn_by(rt, alloc, seat, budget, gate, taken, &mut None, false);
         turn
     }
 
-    /// The same, and what the next turn begins with, which is taken under one lock with it.
+    /// A turn that begins with what was taken. Where more follow, what the next one begins with is
+    /// taken under the same lock, into the memory of a spare ticket where there is one.
     #[tactic(auto, using(crate::proofs::Turning::did, crate::proofs::Turning::idle))]
-    fn turn_and_take<R: Wait, G: Gate>(
+    fn turn_by<R: Wait, G: Gate>(
         &self,
         rt: &R,
         alloc: Global,
         seat: &mut Seat<L>,
         budget: u32,
         gate: &G,
-        next: Next,
-    ) -> (Turn, Next)
-        requires given { B.answers (TakeReply next.taken) }
+        taken: Result<Ticket, TakeFault>,
+        spare: &mut Option<Ticket>,
+        more: bool,
+    ) -> (Turn, Option<Result<Ticket, TakeFault>>)
+        requires given { B.answers (TakeReply taken) }
         ensures turned { IsTurn B.answers budget seat.old seat.new result.0 }
-        ensures given { B.answers (TakeReply result.1.taken) }
+        ensures given { IfSome result.1 (λ next. B.answers (TakeReply next)) }
     {
-        let Next { taken, spare } = next;
         let ticket = match taken {
             Ok(ticket) => ticket,
-            Err(fault) => {
-                let next = take_next(&mut *self.lock(rt), alloc, spare);
-                return (turn_without(fault), next);
+            Err(fault) if more => {
+                let next = self.lock(rt).take(alloc, spare);
+                return (turn_without(fault), Some(next));
             }
+            Err(fault) => return (turn_without(fault), None),
         };
         let mut work = ticket.run(budget);
         let number = seat.number();
@@ -184,7 +134,12 @@ impl<L: Naming, B: Board<L>> SharedEngine<L, B> {
         gate.before(number, id, work.count());
         let mut board = self.lock(rt);
         let (outcome, turn) = put_back(&mut *board, seat, &mut work);
-        let next = take_next(&mut *board, alloc, Some(work.into_ticket()));
+        *spare = Some(work.into_ticket());
+        let next = if more {
+            Some(board.take(alloc, spare))
+        } else {
+            None
+        };
         drop(board);
         gate.after(number, id, outcome);
         (turn, next)
@@ -192,7 +147,7 @@ impl<L: Naming, B: Board<L>> SharedEngine<L, B> {
 
     /// That many turns, one after the other. The lock is taken once between two of them. From the
     /// second on none asks for memory, where all procedures have machines of one size.
-    #[tactic(auto, using(crate::proofs::Continuing::continues_unchanged, crate::proofs::Continuing::continues_by_turn, crate::proofs::Continuing::continues_without, crate::proofs::Continuing::continues_last))]
+    #[tactic(auto, using(crate::proofs::Continuing::continues_unchanged, crate::proofs::Continuing::continues_by_turn))]
     pub fn turns<R: Wait, G: Gate>(
         &self,
         rt: &R,
@@ -204,17 +159,18 @@ impl<L: Naming, B: Board<L>> SharedEngine<L, B> {
     )
         ensures { Continues turns budget seat.old seat.new }
     {
-        if turns == 0 {
-            return;
-        }
-        let mut next = Next {
-            taken: self.take(rt, alloc),
-            spare: None,
-        };
-        for _turn in 0..turns - 1 {
-            let (_turn, after) = self.turn_and_take(rt, alloc, seat, budget, gate, next);
+        let mut spare = None;
+        let mut next = None;
+        for turn in 0..turns {
+            let taken = match next {
+                Some(taken) => taken,
+                None => self.take(rt, alloc),
+            };
+            let more = turn + 1 < turns;
+            let (_turn, after) = self.turn_by(
+                rt, alloc, seat, budget, gate, taken, &mut spare, more,
+            );
             next = after;
         }
-        self.turn_with(rt, seat, budget, gate, next.taken);
     }
 }

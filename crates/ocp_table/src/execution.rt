@@ -1,13 +1,12 @@
 //! A program and the machine that runs it.
-ghost use Rattle.std.specs.Prelude.{◌≡◌, ◌≤◌, ◌↔◌, ℕ, List, [], None, Some, false, IfOk, IsSome, IsTrue, IfErr, OnOk, OnErr, length};
-ghost use Rattle.ocp_table.specs.Clauses.{AccessOutside, HasAddressesOf, IsPlace, Loads, StandsIn, line_of, local_count, local_run, machine_at_restart, machine_by_outcome, mailbox_by_outcome, octets_at, one_step, outcome_of, pool_by_outcome};
+ghost use Rattle.std.specs.Prelude.{◌≡◌, ◌≤◌, ◌↔◌, ℕ, List, [], Some, false, IfOk, IsSome, IsTrue, length};
+ghost use Rattle.ocp_table.specs.Clauses.{HasAddressesOf, IsPlace, Loads, StandsIn, local_count, local_run, machine_at_restart, machine_by_outcome, mailbox_by_outcome, one_step, outcome_of, pool_by_outcome};
 
 use crate::InstructionOutcome;
 use bpf_step::{Local, Machine, Need};
-use bpf_types::Line;
 use ocp_loader::{Program, places_lead_to_places};
 use ocp_pool::{Mailbox, Pool, engine_call};
-use ocp_regions::{ARGUMENT_OCTETS, AccessFault};
+use ocp_regions::ARGUMENT_OCTETS;
 use std::alloc::{AllocError, Allocator};
 use std::marker::Model;
 use std::mem;
@@ -88,13 +87,12 @@ impl<A: Allocator> Execution<A> {
         true
     }
 
-    /// A machine like this one.
-    pub fn machine(&self, alloc: A) -> Result<Machine<A>, AllocError>
-    where
-        A: Copy,
-        ensures { IfOk result (λ machine. machine ≡ self.now.machine) }
+    /// The machine.
+    #[inline(always)]
+    pub fn machine(&self) -> &Machine<A>
+        ensures { result.now ≡ self.now.machine }
     {
-        self.machine.copy(alloc)
+        &self.machine
     }
 
     /// Whether the images and the machines are the same.
@@ -103,26 +101,6 @@ impl<A: Allocator> Execution<A> {
         ensures stands { StandsIn self.now.image self.now.machine }
     {
         self.machine.is_same(&other.machine) && self.program.is_same(&other.program)
-    }
-
-    /// Lets a machine that becomes like this one do instructions that need no engine, at most so
-    /// many, and says how many it did.
-    pub(crate) fn run(
-        &self,
-        machine: &mut Machine<A>,
-        breakpoints: &[u16],
-        pass: bool,
-        budget: u32,
-    ) -> u32
-        requires { HasAddressesOf machine.old self.now.machine }
-        ensures ran { local_run self.now.image breakpoints.now pass self.now.machine result ≡
-            Some machine.new }
-        ensures count { result ≡
-            local_count self.now.image breakpoints.now pass self.now.machine budget }
-        ensures stands { StandsIn self.now.image machine.new }
-    {
-        machine.copy_from(&self.machine);
-        machine.run(&self.program, breakpoints, pass, budget)
     }
 
     /// Takes another machine and gives its own for it.
@@ -193,45 +171,11 @@ impl<A: Allocator> Execution<A> {
         self.machine.run(&self.program, breakpoints, pass, budget)
     }
 
-    /// The slot of the next instruction.
-    pub fn place(&self) -> u16
-        ensures { result ≡ self.now.machine.place }
+    /// The program.
+    pub fn program(&self) -> &Program<A>
+        ensures value { result.now ≡ self.now.image }
+        ensures stands { StandsIn self.now.image self.now.machine }
     {
-        self.machine.place()
-    }
-
-    /// How many local calls have not returned.
-    pub fn depth(&self) -> usize
-        ensures { result ≡ length self.now.machine.frames }
-    {
-        self.machine.depth()
-    }
-
-    /// The line whose first slot this is; none at the second slot of a wide load or behind the
-    /// code.
-    pub fn line_at(&self, slot: u16) -> Option<Line>
-        ensures { result ≡ line_of self.now.image slot }
-    {
-        self.program.line_at(slot)
-    }
-
-    /// Reads octets of the memory from an address on, one into each of the slice. It refuses with
-    /// AccessOutside where one of them is not there, and the slice keeps its octets.
-    pub fn octets(&self, address: u64, octets: &mut [u8]) -> Result<(), AccessFault>
-        ensures ok { OnOk result
-            (octets_at self.now.machine.memory address (length octets.old) ≡ Some octets.new) }
-        ensures err { IfErr result (λ fault. fault ≡ AccessOutside) }
-        ensures outside { OnErr result
-            (octets_at self.now.machine.memory address (length octets.old) ≡ None) }
-        ensures kept { OnErr result (octets.new ≡ octets.old) }
-    {
-        self.machine.octets(address, octets)
-    }
-
-    /// R0 to R10.
-    pub fn registers(&self) -> [u64; 11]
-        ensures { result ≡ self.now.machine.registers }
-    {
-        self.machine.registers()
+        &self.program
     }
 }

@@ -43,7 +43,7 @@ impl<A: Allocator> Record<A> {
         ensures pool { pool.new ≡ pool_by_outcome result pool.old }
         ensures id { self.new.id ≡ self.old.id }
     {
-        let place = self.execution.place();
+        let place = self.execution.machine().place();
         let outcome = if breaks_at(self.control.pass, self.breakpoints.as_slice(), place) {
             InstructionOutcome::Broke
         } else if let Some(0) = self.remaining {

@@ -44,7 +44,7 @@ impl<A: Allocator> Model for Snapshot<A> {
 
 impl<A: Allocator> Snapshot<A> {
     /// That of a procedure, where it runs.
-    pub(crate) fn take(alloc: A, procedure: &Record<A>) -> Result<Option<Self>, AllocError>
+    pub fn take(alloc: A, procedure: &Record<A>) -> Result<Option<Self>, AllocError>
     where
         A: Copy,
         ensures { IfOk result (λ s. s ≡ snapshot_at (Some (record_of procedure.now))) }
@@ -61,8 +61,10 @@ impl<A: Allocator> Snapshot<A> {
         }
     }
 
-    /// Becomes that of a procedure, where it runs, in the same memory.
-    pub(crate) fn retake(&mut self, procedure: &Record<A>) -> bool
+    /// Becomes that of a procedure in the same memory: none is asked for. It is refused where the
+    /// procedure does not run, where its machine's memory has other addresses, and where its
+    /// program can't be shared once more; then nothing is changed.
+    pub fn retake(&mut self, procedure: &Record<A>) -> bool
         ensures taken { IsTrue result →
             snapshot_at (Some (record_of procedure.now)) ≡ Some self.new }
         ensures addresses { HasAddressesOf self.old.machine self.new.machine }
@@ -95,13 +97,11 @@ impl<A: Allocator> Snapshot<A> {
             && self.execution.is_same(&procedure.execution)
     }
 
-    /// A machine as it stood.
-    pub fn machine(&self, alloc: A) -> Result<Machine<A>, AllocError>
-    where
-        A: Copy,
-        ensures { IfOk result (λ machine. machine ≡ self.now.machine) }
+    /// The machine as it stood.
+    pub fn machine(&self) -> &Machine<A>
+        ensures { result.now ≡ self.now.machine }
     {
-        self.execution.machine(alloc)
+        self.execution.machine()
     }
 
     /// Makes a machine like the one that stood, and lets it do instructions that need no engine, at
@@ -121,7 +121,8 @@ impl<A: Allocator> Snapshot<A> {
         } else {
             within(self.remaining, budget)
         };
-        self.execution
-            .run(machine, self.breakpoints.as_slice(), self.pass, most)
+        machine.copy_from(self.execution.machine());
+        let breakpoints = self.breakpoints.as_slice();
+        machine.run(self.execution.program(), breakpoints, self.pass, most)
     }
 }

@@ -30,7 +30,7 @@ impl<A: Allocator> State<A> {
         let Some(procedure) = self.table.record(id) else {
             return Ok(None);
         };
-        let machine = procedure.execution.machine(alloc)?;
+        let machine = procedure.execution.machine().copy(alloc)?;
         Ok(Some(machine))
     }
 }

@@ -71,25 +71,12 @@ impl<L: Naming> Board<L> for Counting<'_, L> {
         self.book.seat(alloc)
     }
 
-    fn take(&mut self, alloc: Global) -> Result<Ticket, TakeFault> {
+    fn take(&mut self, alloc: Global, spare: &mut Option<Ticket>) -> Result<Ticket, TakeFault> {
         match self.meet() {
             Meets::NothingRuns => Err(TakeFault::NoneRunning),
             Meets::NoMemory => Err(TakeFault::Memory),
-            _ => self.book.take(alloc),
+            _ => Board::take(&mut self.book, alloc, spare),
         }
-    }
-
-    fn take_into(&mut self, alloc: Global, ticket: &mut Ticket) -> Result<(), TakeFault> {
-        match self.meet() {
-            Meets::NothingRuns => Err(TakeFault::NoneRunning),
-            Meets::NoMemory => Err(TakeFault::Memory),
-            _ => self.book.take_into(alloc, ticket),
-        }
-    }
-
-    fn commit(&mut self, seat: &mut Seat<L>, work: Work) -> CommitOutcome {
-        let mut work = work;
-        self.hand_in(seat, &mut work)
     }
 
     fn hand_in(&mut self, seat: &mut Seat<L>, work: &mut Work) -> CommitOutcome {
