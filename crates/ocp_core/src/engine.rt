@@ -33,7 +33,7 @@ impl<A: Allocator> Model for Engine<A> {
     ghost invariant = { λ e. IsWorld (world_of e.journal) e.state };
 }
 
-impl<A: Allocator> Engine<A> {
+impl<A: Allocator + Copy> Engine<A> {
     /// An engine of a profile without procedures, for the application process 0 to 2,046, with 1 to
     /// 256 pool words and room for 1 to 1,000,000 journal entries, all of it reserved here.
     pub fn new(
@@ -43,8 +43,6 @@ impl<A: Allocator> Engine<A> {
         words: u16,
         capacity: u32,
     ) -> Result<Self, AllocError>
-    where
-        A: Copy,
         requires apid { apid ≤ MAX_APID }
         requires words_from { 1 ≤ words }
         requires words_to { words ≤ MAX_POOL_WORDS }
@@ -56,19 +54,6 @@ impl<A: Allocator> Engine<A> {
         let state = State::new(alloc, profile, apid, words)?;
         let journal = Journal::new(alloc, profile, apid, words, capacity)?;
         Ok(Engine { state, journal })
-    }
-
-    /// Does what a seat asks, and answers it, with a copy of the entry that the journal gained, if
-    /// it gained one. All memory is taken before anything is changed.
-    pub fn apply<I: Input<A>>(&mut self, by: u16, input: I) -> (I::Answer, Option<Entry<A>>)
-        ensures enters { Enters self.old self.new (I.event by input) (I.answer result.0) }
-        ensures receipt { entries_in result.1 ≡
-            event_entries (I.event by input) (I.answer result.0) }
-        ensures gain { Grows self.old self.new (entries_in result.1) }
-        ensures refused { is_accepted (I.answer result.0) ≡ false →
-            (result.1 ≡ None) × (self.new ≡ self.old) }
-    {
-        input.enter(self, by)
     }
 
     // Reads the octets of a request. Refused, in this order, where they are discarded and where the journal is full.
@@ -98,8 +83,6 @@ impl<A: Allocator> Engine<A> {
         time: u32,
         octets: &[u8],
     ) -> Result<Reports<A>, EngineFault>
-    where
-        A: Copy,
         ensures answer { Answers result (answer_in self.old (world.Request by time octets.now)) }
         ensures journal { OnOk result
             (self.new ≡ log_after self.old (world.Request by time octets.now)) }
@@ -119,8 +102,6 @@ impl<A: Allocator> Engine<A> {
         time: u32,
         octets: &[u8],
     ) -> Result<Reports<A>, EngineFault>
-    where
-        A: Copy,
         ensures answer { Answers result (answer_in self.old (world.Request by time octets.now)) }
         ensures journal { OnOk result
             (self.new ≡ log_after self.old (world.Request by time octets.now)) }
@@ -142,8 +123,6 @@ impl<A: Allocator> Engine<A> {
         octets: &[u8],
         read: Result<Tc<'_>, TcFault>,
     ) -> Result<(Reports<A>, Reports<A>), EngineFault>
-    where
-        A: Copy,
         requires { IsAdmitted self.old by time octets.now read }
         ensures answer { Answers (reports_in result)
             (answer_in self.old (world.Request by time octets.now)) }
@@ -172,8 +151,6 @@ impl<A: Allocator> Engine<A> {
     /// none waits, where the journal is full, and where there is no memory; then nothing is
     /// changed.
     pub fn drain(&mut self, alloc: A, by: u16, time: u32) -> Result<Reports<A>, EngineFault>
-    where
-        A: Copy,
         ensures answer { Answers result (answer_in self.old (world.Drain by time)) }
         ensures journal { OnOk result (self.new ≡ log_after self.old (world.Drain by time)) }
         ensures err { OnErr result (self.new ≡ self.old) }
@@ -189,8 +166,6 @@ impl<A: Allocator> Engine<A> {
         by: u16,
         time: u32,
     ) -> Result<(Reports<A>, Reports<A>), EngineFault>
-    where
-        A: Copy,
         ensures answer { Answers (reports_in result) (answer_in self.old (world.Drain by time)) }
         ensures journal { OnOk result (self.new ≡ log_after self.old (world.Drain by time)) }
         ensures copy { IfOk result (λ r. r.1 ≡ r.0) }
@@ -206,6 +181,21 @@ impl<A: Allocator> Engine<A> {
         let (answer, mark, receipt) = sent.into_parts();
         self.journal.push(Entry::Drain { by, time, mark });
         Ok((answer, receipt))
+    }
+}
+
+impl<A: Allocator> Engine<A> {
+    /// Does what a seat asks, and answers it, with a copy of the entry that the journal gained, if
+    /// it gained one. All memory is taken before anything is changed.
+    pub fn apply<I: Input<A>>(&mut self, by: u16, input: I) -> (I::Answer, Option<Entry<A>>)
+        ensures enters { Enters self.old self.new (I.event by input) (I.answer result.0) }
+        ensures receipt { entries_in result.1 ≡
+            event_entries (I.event by input) (I.answer result.0) }
+        ensures gain { Grows self.old self.new (entries_in result.1) }
+        ensures refused { is_accepted (I.answer result.0) ≡ false →
+            (result.1 ≡ None) × (self.new ≡ self.old) }
+    {
+        input.enter(self, by)
     }
 
     /// Does one instruction of a running procedure. Refused, in this order, where the procedure is

@@ -22,11 +22,9 @@ fn reply<A: Allocator>(given: Result<Reports<A>, EngineFault>) -> Result<Answer<
     }
 }
 
-impl<A: Allocator> Engine<A> {
+impl<A: Allocator + Copy> Engine<A> {
     // Does an event.
     fn run_event(&mut self, alloc: A, event: Event<'_>) -> Result<Answer<A>, RunRefusal>
-    where
-        A: Copy,
         ensures { Applies self.old self.new (event_of event.entry) result }
     {
         refused_events_change_nothing();
@@ -67,8 +65,6 @@ impl<A: Allocator> Engine<A> {
     /// stand. Room for all answers is taken first: where there is none, the index is 0. A later
     /// instruction takes no memory.
     pub fn run(&mut self, alloc: A, events: &[Event<'_>]) -> Result<Vec<Answer<A>, A>, RunFault<A>>
-    where
-        A: Copy,
         ensures answers { IfOk result (λ v.
             map answer_of v.items ≡ answers (world_of self.old) (map event_of events.now)) }
         ensures world { OnOk result

@@ -7,7 +7,7 @@ use crate::{EngineFault, State};
 use ocp_reports::{CopiedReports, count_after};
 use std::alloc::Allocator;
 
-impl<A: Allocator> State<A> {
+impl<A: Allocator + Copy> State<A> {
     /// Whether a completion waits to be reported: else a drain is refused.
     pub fn is_due(&self) -> bool
         ensures { (w : World) (by time : ℕ) → IsWorld w self.now →
@@ -20,8 +20,6 @@ impl<A: Allocator> State<A> {
     /// source of its request: then none waits any more. It fails where none waits, and for memory,
     /// and then changes nothing.
     pub fn drain(&mut self, alloc: A, time: u32) -> Result<CopiedReports<A>, EngineFault>
-    where
-        A: Copy,
         ensures { (w : World) (by : ℕ) → IsWorld w self.old →
             DoesIn w (effect_of w (Drain by time)) result self.new }
     {

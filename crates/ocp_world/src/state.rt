@@ -28,26 +28,6 @@ pub struct State<A: Allocator> {
 }
 
 impl<A: Allocator> State<A> {
-    /// The state of a profile in which no procedure is loaded, with so many pool words, all of them
-    /// 0.
-    pub fn new(alloc: A, profile: Profile, apid: Apid, words: u16) -> Result<Self, AllocError>
-    where
-        A: Copy,
-        requires some { 1 ≤ words }
-        requires few { words ≤ MAX_POOL_WORDS }
-        ensures { IfOk result (IsWorld (opening profile apid words)) }
-    {
-        let Some(count) = SequenceCount::new(0) else {
-            unreachable!()
-        };
-        Ok(State {
-            table: Table::new(alloc, profile)?,
-            pool: Pool::new(alloc, words)?,
-            sender: Sender { apid, count },
-            ring: TraceRing::new(alloc)?,
-        })
-    }
-
     /// Why an instruction event is refused, where it is.
     pub fn refusal(&self, id: u16) -> Option<StepOutcome>
         ensures { (w : World) (by : ℕ) → IsWorld w self.now →
@@ -84,6 +64,26 @@ impl<A: Allocator> State<A> {
     {
         ocp_debug::apply(&mut self.table, id, command)
     }
+}
+
+impl<A: Allocator + Copy> State<A> {
+    /// The state of a profile in which no procedure is loaded, with so many pool words, all of them
+    /// 0.
+    pub fn new(alloc: A, profile: Profile, apid: Apid, words: u16) -> Result<Self, AllocError>
+        requires some { 1 ≤ words }
+        requires few { words ≤ MAX_POOL_WORDS }
+        ensures { IfOk result (IsWorld (opening profile apid words)) }
+    {
+        let Some(count) = SequenceCount::new(0) else {
+            unreachable!()
+        };
+        Ok(State {
+            table: Table::new(alloc, profile)?,
+            pool: Pool::new(alloc, words)?,
+            sender: Sender { apid, count },
+            ring: TraceRing::new(alloc)?,
+        })
+    }
 
     // Sends the reports of a request that changes no procedure.
     fn reply(
@@ -93,8 +93,6 @@ impl<A: Allocator> State<A> {
         outcome: Outcome,
         answer: &Option<Report>,
     ) -> Result<CopiedReports<A>, EngineFault>
-    where
-        A: Copy,
         ensures does { Does self.old self.new result (λ w. record {
           on_records = Kept Unasked;
           reply = Sends (reports_of origin outcome (option_to_list answer.now));
@@ -120,8 +118,6 @@ impl<A: Allocator> State<A> {
         id: u16,
         code: &[u8],
     ) -> Result<CopiedReports<A>, EngineFault>
-    where
-        A: Copy,
         ensures does { Does self.old self.new result
             (λ w. directive_effect origin (directive.Load w.profile code.now) id w.records) }
         ensures memory { result ≡ Err engine.Memory → heap.new ≡ false →
@@ -148,8 +144,6 @@ impl<A: Allocator> State<A> {
         origin: Origin,
         id: u16,
     ) -> Result<CopiedReports<A>, EngineFault>
-    where
-        A: Copy,
         ensures does { Does self.old self.new result
             (λ w. directive_effect origin directive.Unload id w.records) }
         ensures memory { result ≡ Err engine.Memory → heap.new ≡ true }
@@ -172,8 +166,6 @@ impl<A: Allocator> State<A> {
         id: u16,
         directive: Directive<'_>,
     ) -> Result<CopiedReports<A>, EngineFault>
-    where
-        A: Copy,
         requires { HasFewArguments (directive_of directive false) }
         ensures does { Does self.old self.new result
             (λ w. directive_effect origin (directive_of directive.entry (has_no_place w)) id
@@ -203,8 +195,6 @@ impl<A: Allocator> State<A> {
         origin: Origin,
         request: Request<'_>,
     ) -> Result<CopiedReports<A>, EngineFault>
-    where
-        A: Copy,
         ensures does { (w : World) → IsWorld w self.old → event ≡ w.events →
             DoesIn w (command_effect request.entry origin w) result self.new }
         ensures memory { result ≡ Err engine.Memory → heap.new ≡ false →
@@ -260,8 +250,6 @@ impl<A: Allocator> State<A> {
         time: u32,
         read: Result<Tc<'_>, TcFault>,
     ) -> Result<CopiedReports<A>, EngineFault>
-    where
-        A: Copy,
         ensures does { (w : World) (by : ℕ) (octets : List ℕ) →
             IsWorld w self.old → event ≡ w.events → read.entry ≡ telecommand_of w.apid octets →
             DoesIn w (effect_of w (Asked by time octets)) result self.new }
