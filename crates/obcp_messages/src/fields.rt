@@ -11,10 +11,10 @@ use obcp_types::StatusRow;
 
 /// The most octets of fields, but for the octets at the end of a request: those of a communicate
 /// request with 8 words.
-pub(crate) const MAX_FIELDS_LENGTH: usize = 67;
+pub const MAX_FIELDS_LENGTH: usize = 67;
 
-/// Room for the fields of each request and report, but for the octets at the end of a request.
-pub(crate) type Fields = ArrayVec<u8, MAX_FIELDS_LENGTH>;
+/// The fields of a report, or of a request but for the octets at its end.
+pub type Fields = ArrayVec<u8, MAX_FIELDS_LENGTH>;
 
 pub(crate) fn put_octets(fields: &mut Fields, octets: &[u8])
     requires { array_vec_len fields.old + length octets.now ≤ MAX_FIELDS_LENGTH }

@@ -15,6 +15,7 @@ mod rows;
 mod writing;
 
 pub use fault::ReportFault;
+pub use fields::{Fields, MAX_FIELDS_LENGTH};
 pub use laws::{
     read_reports_are_laid_out, read_requests_are_laid_out, reports_are_read_back,
     requests_are_read_back,
@@ -26,4 +27,4 @@ pub use reading_requests::read_request;
 pub use report::{BAD_CODE, PlainCode, Report, STATUS_REPORT, StartFault, VERIFICATION};
 pub use request::{Request, SERVICE};
 pub use rows::{MAX_ROWS, StatusRows};
-pub use writing::{write_report, write_request};
+pub use writing::{report_fields, write_report, write_request};

@@ -110,8 +110,8 @@ fn put_fault(fields: &mut Fields, fault: &StartFault)
     }
 }
 
-/// The fields of a report.
-fn report_fields(report: &Report) -> Fields
+/// The service data of a report (ECSS-E-ST-70-41C, 8.1 and 8.18).
+pub fn report_fields(report: &Report) -> Fields
     ensures octets { result.items ≡ report_data report.now }
     ensures in_range { IsReport report.now }
 {

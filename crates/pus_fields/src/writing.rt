@@ -4,7 +4,7 @@ ghost use Rattle.std.specs.Prelude.{◌≡◌, ◌<◌, ◌≤◌, ◌+◌, ◌�
 ghost use Rattle.pus_fields.specs.Telecommand.{IsTelecommand, IsTelecommandInRange, telecommand_covered, telecommand_octets};
 ghost use Rattle.pus_fields.specs.Telemetry.{IsTelemetry, IsTelemetryInRange, telemetry_covered, telemetry_octets};
 
-use crate::appending::{append_error_control, append_octets};
+use crate::appending::append_error_control;
 use crate::fault::WriteFault;
 use crate::telecommand::Tc;
 use crate::telemetry::Tm;
@@ -32,14 +32,13 @@ fn append_tc<A: Allocator>(tc: &Tc, out: &mut Vec<u8, A>)
     ensures in_range { IsTelecommandInRange tc.now }
 {
     let payload = tc.payload();
-    append_octets(out, &tc.id());
-    append_octets(out, &((payload.len() + 6) as u16).to_be_bytes());
-    append_octets(
-        out,
-        &[VERSION_OCTET + tc.ack().bits(), tc.service(), tc.subtype()],
-    );
-    append_octets(out, &tc.source().to_be_bytes());
-    append_octets(out, payload);
+    out.extend_from_slice(&tc.id()).unwrap();
+    out.extend_from_slice(&((payload.len() + 6) as u16).to_be_bytes())
+        .unwrap();
+    out.extend_from_slice(&[VERSION_OCTET + tc.ack().bits(), tc.service(), tc.subtype()])
+        .unwrap();
+    out.extend_from_slice(&tc.source().to_be_bytes()).unwrap();
+    out.extend_from_slice(payload).unwrap();
 }
 
 /// Appends the packet of a telecommand (CCSDS 133.0-B, 4.1; ECSS-E-ST-70-41C, 7.4.4): 13 octets
@@ -80,13 +79,18 @@ fn append_tm<A: Allocator>(tm: &Tm, out: &mut Vec<u8, A>)
     ensures in_range { IsTelemetryInRange tm.now }
 {
     let payload = tm.payload();
-    append_octets(out, &((1 << 11) + tm.apid().number()).to_be_bytes());
-    append_octets(out, &((3 << 14) + tm.count().number()).to_be_bytes());
-    append_octets(out, &((payload.len() + 12) as u16).to_be_bytes());
-    append_octets(out, &[VERSION_OCTET, tm.service(), tm.subtype(), 0, 0]);
-    append_octets(out, &tm.destination().to_be_bytes());
-    append_octets(out, &tm.time().to_be_bytes());
-    append_octets(out, payload);
+    out.extend_from_slice(&((1 << 11) + tm.apid().number()).to_be_bytes())
+        .unwrap();
+    out.extend_from_slice(&((3 << 14) + tm.count().number()).to_be_bytes())
+        .unwrap();
+    out.extend_from_slice(&((payload.len() + 12) as u16).to_be_bytes())
+        .unwrap();
+    out.extend_from_slice(&[VERSION_OCTET, tm.service(), tm.subtype(), 0, 0])
+        .unwrap();
+    out.extend_from_slice(&tm.destination().to_be_bytes())
+        .unwrap();
+    out.extend_from_slice(&tm.time().to_be_bytes()).unwrap();
+    out.extend_from_slice(payload).unwrap();
 }
 
 /// Appends the packet of telemetry (CCSDS 133.0-B, 4.1; ECSS-E-ST-70-41C, 7.4.3): 19 octets more

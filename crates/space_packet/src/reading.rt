@@ -11,26 +11,6 @@ use byteorder::{BigEndian, ByteOrder};
 /// How many octets a primary header has.
 pub const HEADER_LENGTH: usize = 6;
 
-/// The application process identifier in the low 11 bits of the packet identification.
-fn apid_in(identification: u16) -> Apid
-    ensures { result ≡ identification % APIDS }
-{
-    match Apid::new(identification % APIDS) {
-        Some(apid) => apid,
-        None => unreachable!(),
-    }
-}
-
-/// The sequence count in the low 14 bits of the packet sequence control.
-fn count_in(sequence_control: u16) -> SequenceCount
-    ensures { result ≡ sequence_control % SEQUENCE_COUNTS }
-{
-    match SequenceCount::new(sequence_control % SEQUENCE_COUNTS) {
-        Some(count) => count,
-        None => unreachable!(),
-    }
-}
-
 /// The header of the packet that these octets are, and its data field: all octets after the header.
 ///
 /// Refusals, in this order: `Short` (under 7 octets), `Version` (not 0), `Length` (the octets are
@@ -60,9 +40,9 @@ pub fn read(octets: &[u8]) -> Result<(Primary, &[u8]), PacketFault>
     let header = Primary {
         telecommand: (identification >> 12) % 2 == 1,
         secondary: (identification >> 11) % 2 == 1,
-        apid: apid_in(identification),
+        apid: Apid::new(identification % APIDS).unwrap(),
         flags: SequenceFlags::of_number(sequence_control >> 14),
-        count: count_in(sequence_control),
+        count: SequenceCount::new(sequence_control % SEQUENCE_COUNTS).unwrap(),
     };
     Ok((header, payload))
 }
