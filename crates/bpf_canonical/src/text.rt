@@ -1,11 +1,13 @@
 //! A text on the stack, and the parts of a line that it takes.
 ghost use Rattle.std.specs.Prelude.{◌≡◌, ◌≤◌, ◌+◌, ◌<◌, ◌++◌, [], List, ℕ, length};
 ghost use Rattle.std.specs.Fmt.{decimal, signed_decimal};
+ghost use Rattle.std.specs.Int.{w64, to_be_bytes};
+ghost use Rattle.hex.specs.Hex.{encode_lower};
 ghost use Rattle.bpf_canonical.specs.Canonical.{hex_digits, with_sign};
 
 use arrayvec::ArrayVec;
 use hex::encode_to_slice;
-use itoa::Buffer;
+use itoa::{Buffer, Integer};
 use std::marker::Model;
 
 /// The octets of the longest text of an instruction, as `jsge64 r10, -2147483648, -32768`.
@@ -105,10 +107,22 @@ impl<const ROOM: usize> Text<ROOM> {
         self.push_number(u32::from(distance.unsigned_abs()));
     }
 
+    /// Appends a number of any type in decimal digits.
+    #[inline(always)]
+    pub fn push_integer<I: Integer>(&mut self, number: I)
+        requires { length self.old + I.MAX_STR_LEN ≤ ROOM }
+        ensures items { self.new ≡ self.old ++ I.text number }
+        ensures len { length self.new ≤ length self.old + I.MAX_STR_LEN }
+    {
+        let mut buffer = Buffer::new();
+        self.push_all(buffer.format(number).as_bytes());
+    }
+
     /// Appends a number in 16 hexadecimal digits, in lower case.
-    pub(crate) fn push_hex(&mut self, number: u64)
+    pub fn push_hex(&mut self, number: u64)
         requires { length self.old + 16 ≤ ROOM }
         ensures items { self.new ≡ self.old ++ hex_digits 16 number }
+        ensures octets { self.new ≡ self.old ++ encode_lower (to_be_bytes w64 number) }
         ensures len { length self.new ≡ length self.old + 16 }
     {
         let mut digits = [0; 16];
