@@ -3,7 +3,7 @@
 ghost use Rattle.std.specs.Prelude.{◌≡◌, ◌≤◌, length, Ok, Err, OnOk};
 ghost use Rattle.ocp_console.specs.Texts.{ending_text, place_line, break_line, unbreak_line, switch_line, memory_line};
 
-use crate::text::Text;
+use crate::text::{Text, write_text};
 use ocp_debug::{DebugFault, fault_name};
 use std::alloc::{AllocError, Allocator};
 
@@ -30,13 +30,13 @@ fn place_text(
     ensures { result ≡ place_line front.now id place (ending_text word.now answer) }
 {
     let mut text = Text::new();
-    text.push(front);
-    text.push_number(id);
-    text.push(b" ");
-    text.push_number(place);
-    text.push(b" ");
-    text.push(ending(word, answer).as_bytes());
-    text.push(b"\n");
+    text.push_all(front);
+    text.push_integer(id);
+    text.push_all(b" ");
+    text.push_integer(place);
+    text.push_all(b" ");
+    text.push_all(ending(word, answer).as_bytes());
+    text.push_all(b"\n");
     text
 }
 
@@ -49,7 +49,8 @@ pub(crate) fn break_text<A: Allocator>(
 ) -> Result<(), AllocError>
     ensures { OnOk result (output.new.items ≡ break_line id place answer) }
 {
-    place_text(b"break ", id, place, "set", answer).write_to(output)
+    let text = place_text(b"break ", id, place, "set", answer);
+    write_text(&text, output)
 }
 
 /// Writes the line of a breakpoint that is to be cleared.
@@ -61,7 +62,8 @@ pub(crate) fn unbreak_text<A: Allocator>(
 ) -> Result<(), AllocError>
     ensures { OnOk result (output.new.items ≡ unbreak_line id place answer) }
 {
-    place_text(b"unbreak ", id, place, "cleared", answer).write_to(output)
+    let text = place_text(b"unbreak ", id, place, "cleared", answer);
+    write_text(&text, output)
 }
 
 /// Writes the line of a trace flag that is to be set or cleared.
@@ -74,12 +76,12 @@ pub(crate) fn switch_text<A: Allocator>(
     ensures { OnOk result (output.new.items ≡ switch_line id on answer) }
 {
     let mut text = Text::new();
-    text.push(b"trace ");
-    text.push_number(id);
-    text.push(b" ");
-    text.push(ending(if on { "on" } else { "off" }, answer).as_bytes());
-    text.push(b"\n");
-    text.write_to(output)
+    text.push_all(b"trace ");
+    text.push_integer(id);
+    text.push_all(b" ");
+    text.push_all(ending(if on { "on" } else { "off" }, answer).as_bytes());
+    text.push_all(b"\n");
+    write_text(&text, output)
 }
 
 /// Writes the line of a procedure's octets from an address on.
@@ -92,12 +94,12 @@ pub(crate) fn octets_text<A: Allocator + Copy>(
     ensures { OnOk result (output.new.items ≡ memory_line id address (Ok octets.now)) }
 {
     let mut text = Text::new();
-    text.push(b"mem ");
-    text.push_number(id);
-    text.push(b" 0x");
-    text.push_word(address);
-    text.push(b" ");
-    text.write_to(output)?;
+    text.push_all(b"mem ");
+    text.push_integer(id);
+    text.push_all(b" 0x");
+    text.push_hex(address);
+    text.push_all(b" ");
+    write_text(&text, output)?;
     let digits = hex::encode(*output.allocator(), octets)?;
     output.extend_from_slice(digits.as_bytes())?;
     output.push(b'\n')?;
@@ -114,10 +116,10 @@ pub(crate) fn no_octets_text<A: Allocator>(
     ensures { OnOk result (output.new.items ≡ memory_line id address (Err fault)) }
 {
     let mut text = Text::new();
-    text.push(b"mem ");
-    text.push_number(id);
-    text.push(b" ");
-    text.push(fault_name(fault).as_bytes());
-    text.push(b"\n");
-    text.write_to(output)
+    text.push_all(b"mem ");
+    text.push_integer(id);
+    text.push_all(b" ");
+    text.push_all(fault_name(fault).as_bytes());
+    text.push_all(b"\n");
+    write_text(&text, output)
 }

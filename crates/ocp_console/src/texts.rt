@@ -6,8 +6,9 @@ ghost use Rattle.ocp_console.specs.Answering.{answer_text};
 ghost use Rattle.ocp_console.specs.Mirror.Fronts.{front_line};
 ghost use Rattle.ocp_console.specs.Texts.{report_line, discard_name, discard_line, refusal_line, step_line, pool_line, journal_line, work_line};
 
-use crate::text::Text;
+use crate::text::{Text, write_text};
 use ocp_core::{EngineFault, Reports, Slice};
+use ocp_debug::{push_outcome, push_spaced_word};
 use pus_fields::{Discard, Tm, read_tm};
 use std::alloc::{AllocError, Allocator};
 
@@ -16,15 +17,15 @@ fn front_of(tm: &Tm) -> Text
     ensures { result ≡ front_line tm.now }
 {
     let mut text = Text::new();
-    text.push(b"tm ");
-    text.push_number(tm.service());
-    text.push(b" ");
-    text.push_number(tm.subtype());
-    text.push(b" seq ");
-    text.push_number(tm.count().number());
-    text.push(b" dest ");
-    text.push_number(tm.destination());
-    text.push(b" data ");
+    text.push_all(b"tm ");
+    text.push_integer(tm.service());
+    text.push_all(b" ");
+    text.push_integer(tm.subtype());
+    text.push_all(b" seq ");
+    text.push_integer(tm.count().number());
+    text.push_all(b" dest ");
+    text.push_integer(tm.destination());
+    text.push_all(b" data ");
     text
 }
 
@@ -63,9 +64,9 @@ fn refusal_text(name: &str) -> Text
     ensures { result ≡ refusal_line name.now }
 {
     let mut text = Text::new();
-    text.push(b"refused ");
-    text.push(name.as_bytes());
-    text.push(b"\n");
+    text.push_all(b"refused ");
+    text.push_all(name.as_bytes());
+    text.push_all(b"\n");
     text
 }
 
@@ -74,9 +75,9 @@ fn discard_text(why: Discard) -> Text
     ensures { result ≡ discard_line why }
 {
     let mut text = Text::new();
-    text.push(b"discarded ");
-    text.push(name_of_discard(why).as_bytes());
-    text.push(b"\n");
+    text.push_all(b"discarded ");
+    text.push_all(name_of_discard(why).as_bytes());
+    text.push_all(b"\n");
     text
 }
 
@@ -96,9 +97,9 @@ pub(crate) fn answer_text<A: Allocator + Copy>(
             }
             Ok(())
         }
-        Err(EngineFault::Discarded(why)) => discard_text(why).write_to(output),
-        Err(EngineFault::NothingDue) => refusal_text("NothingDue").write_to(output),
-        Err(EngineFault::JournalFull) => refusal_text("JournalFull").write_to(output),
+        Err(EngineFault::Discarded(why)) => write_text(&discard_text(why), output),
+        Err(EngineFault::NothingDue) => write_text(&refusal_text("NothingDue"), output),
+        Err(EngineFault::JournalFull) => write_text(&refusal_text("JournalFull"), output),
         Err(EngineFault::Memory) => Err(AllocError),
     }
 }
@@ -112,14 +113,14 @@ pub(crate) fn step_text<A: Allocator>(
     ensures { OnOk result (output.new.items ≡ step_line id slice.count slice.last) }
 {
     let mut text = Text::new();
-    text.push(b"step ");
-    text.push_number(id);
-    text.push(b" ");
-    text.push_number(slice.count);
-    text.push(b" ");
-    text.push_outcome(slice.last);
-    text.push(b"\n");
-    text.write_to(output)
+    text.push_all(b"step ");
+    text.push_integer(id);
+    text.push_all(b" ");
+    text.push_integer(slice.count);
+    text.push_all(b" ");
+    push_outcome(&mut text, slice.last);
+    text.push_all(b"\n");
+    write_text(&text, output)
 }
 
 /// Writes the line of a word of the pool.
@@ -131,17 +132,16 @@ pub(crate) fn pool_text<A: Allocator>(
     ensures { OnOk result (output.new.items ≡ pool_line index word) }
 {
     let mut text = Text::new();
-    text.push(b"pool ");
-    text.push_number(index);
+    text.push_all(b"pool ");
+    text.push_integer(index);
     match word {
-        None => text.push(b" BadPoolIndex\n"),
+        None => text.push_all(b" BadPoolIndex\n"),
         Some(word) => {
-            text.push(b" ");
-            text.push_word(word);
-            text.push(b"\n");
+            push_spaced_word(&mut text, word);
+            text.push_all(b"\n");
         }
     }
-    text.write_to(output)
+    write_text(&text, output)
 }
 
 /// Writes the line of a journal with so many events.
@@ -152,10 +152,10 @@ pub(crate) fn journal_text<A: Allocator>(
     ensures { OnOk result (output.new.items ≡ journal_line events) }
 {
     let mut text = Text::new();
-    text.push(b"journal ");
-    text.push_number(events);
-    text.push(b"\n");
-    text.write_to(output)
+    text.push_all(b"journal ");
+    text.push_integer(events);
+    text.push_all(b"\n");
+    write_text(&text, output)
 }
 
 /// The line of workers whose work was closed.
@@ -163,8 +163,8 @@ pub(crate) fn work_text(workers: u32) -> Text
     ensures { result ≡ work_line workers }
 {
     let mut text = Text::new();
-    text.push(b"work ");
-    text.push_number(workers);
-    text.push(b" closed\n");
+    text.push_all(b"work ");
+    text.push_integer(workers);
+    text.push_all(b" closed\n");
     text
 }

@@ -18,5 +18,5 @@ pub use Rattle.ocp_debug.specs.Memory.{Reads}
 pub use Rattle.ocp_debug.specs.Appending.{Appends}
 pub use Rattle.ocp_debug.specs.Texts.{trace_line, word_text, status_name, cause_text, pending_text}
 pub use Rattle.ocp_debug.specs.Texts.{outcome_text, view_line, register_line, view_lines}
-pub use Rattle.ocp_debug.specs.Texts.{words_text, debug_fault_name}
+pub use Rattle.ocp_debug.specs.Texts.{register_lines, words_text, debug_fault_name}
 pub use Rattle.ocp_debug.specs.Mirror.Tracing.{traced_place, trace_after}

@@ -19,5 +19,6 @@ pub use ocp_table::{MAX_BREAKPOINTS, StepOutcome, View};
 pub use reading::{memory, view};
 pub use ring::TraceRing;
 pub use stepping::instruction;
+pub use text::{push_outcome, push_spaced_word};
 pub use texts::{fault_name, trace_text, view_text};
 pub use trace::{TRACE_RECORDS, Trace};

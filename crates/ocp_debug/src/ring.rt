@@ -2,7 +2,6 @@
 ghost use Rattle.std.specs.Prelude.{◌≡◌, ◌≤◌, ◌<◌, ◌++◌, ◌∷◌, [], IfOk, length};
 ghost use Rattle.ocp_debug.specs.Clauses.{Appends, flat_map, last_traces, trace_line};
 
-use crate::text::append_within;
 use crate::texts::line_of;
 use crate::{TRACE_RECORDS, Trace};
 use circular_buffer::HeapCircularBuffer;
@@ -72,7 +71,7 @@ impl<A: Allocator> TraceRing<A> {
     {
         output.reserve(self.lines_len())?;
         for trace in &self.records {
-            append_within(&line_of(trace), output);
+            let _has_room = output.extend_from_slice(line_of(trace).as_slice());
         }
         Ok(())
     }

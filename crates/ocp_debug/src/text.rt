@@ -1,9 +1,8 @@
 //! The parts of lines that a text takes.
-ghost use Rattle.std.specs.Prelude.{◌≡◌, ◌≤◌, ◌<◌, ◌+◌, ◌++◌, length, vec_capacity};
+ghost use Rattle.std.specs.Prelude.{◌≡◌, ◌≤◌, ◌<◌, ◌+◌, ◌++◌, length, codes};
 ghost use Rattle.ocp_debug.specs.Clauses.{Appends, cause_text, outcome_text, pending_text, status_name, word_text};
 
 use crate::StepOutcome;
-use itoa::{Buffer, Integer};
 use ocp_table::{Cause, Pending, Status};
 use std::alloc::{AllocError, Allocator};
 
@@ -21,37 +20,17 @@ pub(crate) fn append_to<B: Allocator>(
     ensures { Appends text.now output.old output.new result }
 {
     output.reserve(text.as_slice().len())?;
-    append_within(text, output);
-    Ok(())
+    output.extend_from_slice(text.as_slice())
 }
 
-/// Appends the octets to a vector that has room for them.
-pub(crate) fn append_within<B: Allocator>(text: &Text, output: &mut Vec<u8, B>)
-    requires { length output.old.items + length text.now ≤ vec_capacity output.old }
-    ensures items { output.new.items ≡ output.old.items ++ text.now }
-    ensures capacity { vec_capacity output.old ≤ vec_capacity output.new }
+/// Appends a word in 16 hexadecimal digits, with a space in front.
+pub fn push_spaced_word<const ROOM: usize>(text: &mut bpf_canonical::Text<ROOM>, word: u64)
+    requires { length text.old + 17 ≤ ROOM }
+    ensures items { text.new ≡ text.old ++ codes " " ++ word_text word }
+    ensures len { length text.new ≤ length text.old + 17 }
 {
-    let _has_room = output.extend_from_slice(text.as_slice());
-}
-
-/// Appends a number in decimal digits.
-pub(crate) fn push_number<I: Integer>(text: &mut Text, number: I)
-    requires { length text.old + I.MAX_STR_LEN ≤ TEXT_OCTETS }
-    ensures items { text.new ≡ text.old ++ I.text number }
-    ensures len { length text.new ≤ length text.old + I.MAX_STR_LEN }
-{
-    let mut buffer = Buffer::new();
-    text.push_all(buffer.format(number).as_bytes());
-}
-
-/// Appends a word in 16 hexadecimal digits.
-pub(crate) fn push_word(text: &mut Text, word: u64)
-    requires { length text.old + 16 ≤ TEXT_OCTETS }
-    ensures items { text.new ≡ text.old ++ word_text word }
-    ensures len { length text.new ≤ length text.old + 16 }
-{
-    let mut digits = [0; 16];
-    let _fits = hex::encode_to_slice(word.to_be_bytes(), &mut digits);
+    let mut digits = *b" 0000000000000000";
+    hex::encode_to_slice(word.to_be_bytes(), &mut digits[1..]).unwrap();
     text.push_all(&digits);
 }
 
@@ -81,7 +60,7 @@ pub(crate) fn push_cause(text: &mut Text, cause: Cause)
         Cause::Aborted => text.push_all(b"aborted"),
         Cause::Fault(fault) => {
             text.push_all(b"fault");
-            push_number(text, fault.number());
+            text.push_integer(fault.number());
         }
     }
 }
@@ -96,18 +75,18 @@ pub(crate) fn push_pending(text: &mut Text, pending: Pending)
         Pending::Nothing => text.push_all(b"none"),
         Pending::Stop(step, _) => {
             text.push_all(b"stop ");
-            push_number(text, step);
+            text.push_integer(step);
         }
         Pending::Suspend(step, _) => {
             text.push_all(b"suspend ");
-            push_number(text, step);
+            text.push_integer(step);
         }
     }
 }
 
 /// Appends the outcome of an instruction event.
-pub(crate) fn push_outcome(text: &mut Text, outcome: StepOutcome)
-    requires { length text.old + 11 ≤ TEXT_OCTETS }
+pub fn push_outcome<const ROOM: usize>(text: &mut bpf_canonical::Text<ROOM>, outcome: StepOutcome)
+    requires { length text.old + 11 ≤ ROOM }
     ensures items { text.new ≡ text.old ++ outcome_text outcome }
     ensures len { length text.new ≤ length text.old + 11 }
 {
@@ -118,7 +97,7 @@ pub(crate) fn push_outcome(text: &mut Text, outcome: StepOutcome)
         StepOutcome::Ended => text.push_all(b"Ended"),
         StepOutcome::Faulted(number) => {
             text.push_all(b"Faulted ");
-            push_number(text, number);
+            text.push_integer(number);
         }
         StepOutcome::NotLoaded => text.push_all(b"NotLoaded"),
         StepOutcome::NotRunning => text.push_all(b"NotRunning"),

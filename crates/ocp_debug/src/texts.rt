@@ -1,34 +1,48 @@
 //! What is printed of procedures and of trace records.
-ghost use Rattle.std.specs.Prelude.{◌≡◌, ◌≤◌, ◌<◌, ◌+◌, ◌*◌, ◌++◌, length, Some, None};
-ghost use Rattle.ocp_debug.specs.Clauses.{Appends, debug_fault_name, register_line, trace_line, view_line, view_lines, words_text};
+ghost use Rattle.std.specs.Prelude.{◌≡◌, ◌≤◌, ◌<◌, ◌+◌, ◌*◌, ◌++◌, length, codes};
+ghost use Rattle.std.specs.Fmt.{decimal};
+ghost use Rattle.ocp_debug.specs.Clauses.{Appends, debug_fault_name, register_line, register_lines, trace_line, view_line, view_lines, words_text};
 
 use crate::text::{
-    TEXT_OCTETS, Text, append_to, push_cause, push_number, push_outcome, push_pending, push_status,
-    push_word,
+    TEXT_OCTETS, Text, append_to, push_cause, push_outcome, push_pending, push_spaced_word,
+    push_status,
 };
 use crate::{DebugFault, Trace, View};
 use std::alloc::{AllocError, Allocator};
 
-/// The line of a procedure's status.
-fn head_of(id: u16, view: &View) -> Text
-    ensures items { result ≡ view_line id view.now }
-    ensures len { length result ≤ 90 }
+/// Appends the line of a procedure's status.
+fn push_head(text: &mut Text, id: u16, view: &View)
+    requires { length text.old + 90 ≤ TEXT_OCTETS }
+    ensures items { text.new ≡ text.old ++ view_line id view.now }
+    ensures len { length text.new ≤ length text.old + 90 }
 {
-    let mut text = Text::new();
     text.push_all(b"view ");
-    push_number(&mut text, id);
+    text.push_integer(id);
     text.push_all(b" ");
-    push_status(&mut text, view.status);
+    push_status(text, view.status);
     text.push_all(b" ");
-    push_cause(&mut text, view.cause);
+    push_cause(text, view.cause);
     text.push_all(b" place ");
-    push_number(&mut text, view.place);
+    text.push_integer(view.place);
     text.push_all(b" depth ");
-    push_number(&mut text, view.depth);
+    text.push_integer(view.depth);
     text.push_all(b" pending ");
-    push_pending(&mut text, view.pending);
+    push_pending(text, view.pending);
     text.push_all(b"\n");
-    text
+}
+
+/// Appends the name of a register.
+fn push_name(text: &mut Text, index: u8)
+    requires { length text.old + 4 ≤ TEXT_OCTETS }
+    ensures items { text.new ≡ text.old ++ codes "r" ++ decimal index }
+    ensures len { length text.new ≤ length text.old + 4 }
+{
+    if index < 10 {
+        text.push_all(&[b'r', b'0' + index]);
+    } else {
+        text.push_all(b"r");
+        text.push_integer(index);
+    }
 }
 
 /// Appends the line of a register.
@@ -37,24 +51,21 @@ fn push_register(text: &mut Text, index: u8, register: u64)
     ensures items { text.new ≡ text.old ++ register_line index register }
     ensures len { length text.new ≤ length text.old + 22 }
 {
-    text.push_all(b"r");
-    push_number(text, index);
-    text.push_all(b" ");
-    push_word(text, register);
+    push_name(text, index);
+    push_spaced_word(text, register);
     text.push_all(b"\n");
 }
 
-/// The lines of a procedure's status and registers.
-fn lines_of(id: u16, view: &View) -> Text
-    ensures { result ≡ view_lines id (Some view.now) }
+/// Appends the lines of the registers.
+fn push_registers(text: &mut Text, registers: &[u64; 11])
+    requires { length text.old + 242 ≤ TEXT_OCTETS }
+    ensures { text.new ≡ text.old ++ register_lines 0 registers.now }
 {
-    let mut text = head_of(id, view);
     let mut index = 0;
-    for register in &view.registers {
-        push_register(&mut text, index, *register);
+    for register in registers {
+        push_register(text, index, *register);
         index += 1;
     }
-    text
 }
 
 /// Appends the lines of a view: the status and the eleven registers, or that the procedure is not
@@ -69,16 +80,18 @@ pub fn view_text<B: Allocator>(
 ) -> Result<(), AllocError>
     ensures { Appends (view_lines id view) output.old output.new result }
 {
-    let text = match &view {
-        Some(view) => lines_of(id, view),
-        None => {
-            let mut text = Text::new();
-            text.push_all(b"view ");
-            push_number(&mut text, id);
-            text.push_all(b" NotLoaded\n");
-            text
+    let mut text = Text::new();
+    match &view {
+        Some(view) => {
+            push_head(&mut text, id, view);
+            push_registers(&mut text, &view.registers);
         }
-    };
+        None => {
+            text.push_all(b"view ");
+            text.push_integer(id);
+            text.push_all(b" NotLoaded\n");
+        }
+    }
     append_to(&text, output)
 }
 
@@ -89,9 +102,9 @@ pub(crate) fn line_of(trace: &Trace) -> Text
 {
     let mut text = Text::new();
     text.push_all(b"trace ");
-    push_number(&mut text, trace.id);
+    text.push_integer(trace.id);
     text.push_all(b" ");
-    push_number(&mut text, trace.place);
+    text.push_integer(trace.place);
     text.push_all(b" ");
     push_outcome(&mut text, trace.outcome);
     push_words(&mut text, &trace.registers);
@@ -108,8 +121,7 @@ fn push_words(text: &mut Text, words: &[u64])
     ensures len { length text.new ≤ length text.old + 17 * length words.now }
 {
     for word in words {
-        text.push_all(b" ");
-        push_word(text, *word);
+        push_spaced_word(text, *word);
     }
 }
 
