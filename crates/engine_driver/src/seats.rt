@@ -9,7 +9,8 @@ use crate::engines::budget_of;
 use crate::runs::Runs;
 use crate::views;
 use call_lines::{Calls, Fault, Reply, flag, octets};
-use ocp_seats::{Book, Engine, Naming, NotClosed, Seat, SeatFault, TakeFault};
+use ocp_seats::input::{DebuggerCommand, Drain, Request, Step};
+use ocp_seats::{Book, Command, Engine, Naming, NotClosed, Seat, SeatFault, TakeFault};
 use std::alloc::Global;
 use std::sync::ledger::Blank;
 
@@ -161,7 +162,10 @@ fn seat_answer<L: Naming>(
             request(book, seat, alloc, time.parse()?, &packet)
         }
         ["ocp_seats.drain", _, time] => drain(book, seat, alloc, time.parse()?),
-        ["ocp_seats.step", _, id] => show_outcome(alloc, book.step(seat, id.parse()?)),
+        ["ocp_seats.step", _, id] => show_outcome(
+            alloc,
+            book.apply(seat, Step { id: id.parse()? }),
+        ),
         ["ocp_seats.slice", _, id, budget] => {
             let budget = budget_of(budget)?;
             show_slice(alloc, book.slice(seat, id.parse()?, budget))
@@ -171,13 +175,13 @@ fn seat_answer<L: Naming>(
             show_commit(alloc, book.commit(seat, work))
         }
         ["ocp_seats.set_break", _, id, place] => {
-            show_done(alloc, book.set_break(seat, id.parse()?, place.parse()?))
+            command(book, seat, alloc, id, Command::SetBreak(place.parse()?))
         }
         ["ocp_seats.clear_break", _, id, place] => {
-            show_done(alloc, book.clear_break(seat, id.parse()?, place.parse()?))
+            command(book, seat, alloc, id, Command::ClearBreak(place.parse()?))
         }
         ["ocp_seats.trace", _, id, on] => {
-            show_done(alloc, book.trace(seat, id.parse()?, flag(on)?))
+            command(book, seat, alloc, id, Command::SetTrace(flag(on)?))
         }
         _ => Err(Fault::Syntax),
     }
@@ -188,9 +192,25 @@ fn request<L: Naming>(
     seat: &mut Seat<L>,
     alloc: Global,
     time: u32,
-    packet: &[u8],
+    octets: &[u8],
 ) -> Result<String, Fault> {
-    show_reports(alloc, &book.request(alloc, seat, time, packet))
+    let request = Request {
+        alloc,
+        time,
+        octets,
+    };
+    show_reports(alloc, &book.apply(seat, request))
+}
+
+fn command<L: Naming>(
+    book: &mut Book<L>,
+    seat: &mut Seat<L>,
+    alloc: Global,
+    id: &str,
+    command: Command,
+) -> Result<String, Fault> {
+    let id = id.parse()?;
+    show_done(alloc, book.apply(seat, DebuggerCommand { id, command }))
 }
 
 fn drain<L: Naming>(
@@ -199,5 +219,5 @@ fn drain<L: Naming>(
     alloc: Global,
     time: u32,
 ) -> Result<String, Fault> {
-    show_reports(alloc, &book.drain(alloc, seat, time))
+    show_reports(alloc, &book.apply(seat, Drain { alloc, time }))
 }

@@ -1,5 +1,5 @@
 -- An event's answer and its entry, by whether it is accepted and the journal is full.
-use Rattle.std.proofs.Common.{◌≡◌, ℕ, true, false, cond, List, [], ◌∷◌, Option, Some, None, refl, sym, ap, subst, ◌∙◌}
+use Rattle.std.proofs.Common.{◌≡◌, ℕ, zero, suc, Bool, true, false, cond, List, [], ◌∷◌, Option, Some, None, refl, sym, ap, subst, ◌∙◌}
 use Rattle.std.specs.Prelude.{Result, Err}
 use Rattle.pus_fields.specs.declared.fault.Discard.{Discard}
 use Rattle.pus_fields.specs.declared.fault.TcFault.{TcFault}
@@ -15,7 +15,7 @@ use Rattle.ocp_debug.specs.declared.command.DebugFault.{DebugFault}
 use Rattle.ocp_world.specs.After.{Answer, Requested, Stepped, Commanded, after, is_accepted}
 use Rattle.ocp_world.specs.Answers.{Answers}
 use Rattle.ocp_world.specs.Replay.{replay_from}
-use Rattle.ocp_world.specs.Slice.{next_outcome, slice_count, slice_last}
+use Rattle.ocp_world.specs.Slice.{goes_on, next_outcome, slice_count, slice_last}
 use Rattle.ocp_world.specs.Mirror.Answering.{IsDiscard, IsDebugFault}
 use Rattle.ocp_core.specs.Log.{Log, Steps, world_of, is_full, with_entry, entry_for, full_answer, answer_in, log_after, expand}
 use Rattle.ocp_core.specs.Slice.{slice_in, slice_log}
@@ -108,6 +108,34 @@ module _ (log now : Log) (same : log ≡ now) (by id budget : ℕ) where
 
   pub done_slice_log : (new : Log) (n : ℕ) → is_accepted first ≡ true → is_full log ≡ false → n ≡ slice_count (world_of log) by id budget → new ≡ with_entry log (Steps by id n) → new ≡ slice_log now by id budget
   done_slice_log new n taken free count is = log_now new (is ∙ ap (λ k. with_entry log (Steps by id k)) count ∙ ap (λ b. cond b log entered) (sym free) ∙ ap (λ b. cond b (cond (is_full log) log entered) log) (sym taken))
+
+-- ---- an instruction of a log: a slice of one
+
+one_count : (w : World) (by id : ℕ) → slice_count w by id 1 ≡ 1
+one_count w by id = elim (goes_on w by id) as (λ b. cond b (suc zero) (suc zero) ≡ suc zero) [
+  | true ↦ refl
+  | false ↦ refl
+]
+
+one_last : (w : World) (by id : ℕ) → next_outcome w id ≡ slice_last w by id S.Ran 1
+one_last w by id = elim (goes_on w by id) as (λ b. next_outcome w id ≡ cond b (next_outcome w id) (next_outcome w id)) [
+  | true ↦ refl
+  | false ↦ refl
+]
+
+abbrev slice_by : World → ℕ → ℕ → Bool → Bool → Slice
+slice_by w by id taken full = cond taken (cond full (record { count = 0; last = S.JournalFull }) (record { count = slice_count w by id 1; last = slice_last w by id S.Ran 1 })) (record { count = 0; last = next_outcome w id })
+
+answered_by : (w : World) (by id : ℕ) (taken full : Bool) → Stepped (slice_by w by id taken full).last ≡ cond taken (cond full (Stepped S.JournalFull) (Stepped (next_outcome w id))) (Stepped (next_outcome w id))
+answered_by w by id true true = refl
+answered_by w by id true false = ap Stepped (sym (one_last w by id))
+answered_by w by id false full = refl
+
+pub step_answered : (log : Log) (by id : ℕ) → Stepped (slice_in log by id 1).last ≡ answer_in log (Step by id)
+step_answered log by id = answered_by (world_of log) by id (is_accepted (after (world_of log) (Step by id)).answer) (is_full log)
+
+pub step_left : (log : Log) (by id : ℕ) → slice_log log by id 1 ≡ log_after log (Step by id)
+step_left log by id = ap (λ n. cond (is_accepted (after (world_of log) (Step by id)).answer) (cond (is_full log) log (with_entry log (Steps by id n))) log) (one_count (world_of log) by id)
 
 -- ---- the octets of a request
 

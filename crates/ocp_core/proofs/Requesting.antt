@@ -1,8 +1,10 @@
 -- A request that is admitted: its reports, its entry with its mark, and the engine's world.
-use Rattle.std.proofs.Common.{◌≡◌, ℕ, true, List, [], ◌∷◌, sym, ap, subst, refl, ◌∙◌}
-use Rattle.std.specs.Prelude.{Result, Ok, Err}
+use Rattle.std.proofs.Common.{◌≡◌, ℕ, true, false, List, [], ◌∷◌, sym, ap, subst, refl, ◌∙◌}
+use Rattle.std.specs.Prelude.{Option, None, Result, Ok, Err}
+use Rattle.pus_fields.specs.declared.fault.Discard.{Discard}
 use Rattle.pus_fields.specs.Telecommand.{Telecommand}
 use Rattle.pus_fields.specs.declared.fault.TcFault.{TcFault}
+use Rattle.pus_fields.specs.TelecommandFaults.{telecommand_of}
 use Rattle.ocp_world.specs.declared.answers.EngineFault.{EngineFault}
 use Rattle.ocp_world.specs.declared.state.State.{State}
 use Rattle.ocp_world.specs.World.{Event, Request}
@@ -10,14 +12,25 @@ use Rattle.ocp_world.specs.After.{Requested, after, effect_of, is_accepted}
 use Rattle.ocp_world.specs.Answers.{Answers}
 use Rattle.ocp_world.specs.Loading.{TakesRecord, TakesRecordIn}
 use Rattle.ocp_world.specs.Replay.{replay_from}
+use Rattle.ocp_world.specs.Mirror.Answering.{IsDiscard}
 use Rattle.ocp_world.specs.Mirror.State.{IsWorld, DoesIn}
-use Rattle.ocp_core.specs.Log.{Log, Asked, world_of, with_entry, answer_in, log_after}
+use Rattle.ocp_core.specs.Log.{Log, Asked, world_of, is_full, with_entry, answer_in, log_after}
 use Rattle.ocp_core.specs.Marks.{mark_in}
-use Rattle.ocp_core.specs.Mirror.Admitted.{IsAdmitted}
 use Rattle.ocp_core.specs.Mirror.Counted.{AreCounted}
 use Rattle.ocp_core.proofs.Keeping.{IsWorld-with_entry}
 use Rattle.ocp_core.proofs.Counting.{counted}
-use Rattle.ocp_core.proofs.Journaling.{answer_taken, done_answer, done_log}
+use Rattle.ocp_core.proofs.Journaling.{request_accepted, answer_taken, done_answer, done_log}
+
+-- a request that is read so would be accepted, and finds room
+pub record IsAdmitted (log : Log) (by time : ℕ) (octets : List ℕ) (read : Result Telecommand TcFault) : Type 0 where
+  pub is : read ≡ telecommand_of (world_of log).apid octets
+  pub taken : is_accepted (after (world_of log) (Request by time octets)).answer ≡ true
+  pub free : is_full log ≡ false
+
+-- one that is not discarded is admitted where there is room
+pub admitted_so : (log now : Log) (same : log ≡ now) (by time : ℕ) (octets : List ℕ) (read : Result Telecommand TcFault) → read ≡ telecommand_of (world_of log).apid octets → (found : Option Discard) → IsDiscard (after (world_of log) (Request by time octets)).answer found → found ≡ None → is_full log ≡ false → IsAdmitted now by time octets read
+admitted_so log now same by time octets read is found told none free =
+    subst (λ l. IsAdmitted l by time octets read) same (record { is = is; taken = request_accepted log now same (Request by time octets) found told none; free = free })
 
 module _ (log now : Log) (same : log ≡ now) (by time : ℕ) (octets : List ℕ) (read : Result Telecommand TcFault) (told : IsAdmitted now by time octets read) where
   abbrev e : Event

@@ -1,6 +1,7 @@
 -- The marks of a journal: the answer that was given with each entry. They are those of the replay.
-use Rattle.std.specs.Prelude.{ℕ, zero, suc, ◌==◌, List, [], ◌∷◌, filter}
+use Rattle.std.specs.Prelude.{ℕ, zero, suc, ◌==◌, List, [], ◌∷◌, filter, Option, Some, None}
 use Rattle.ocp_table.specs.declared.answers.StepOutcome.{StepOutcome}
+use Rattle.ocp_debug.specs.declared.command.Command.{Command}
 use Rattle.ocp_table.specs.declared.answers.StepOutcome.TheVariants as S
 use Rattle.ocp_world.specs.World.{World, Request, Step, Debug, Drain, opening}
 use Rattle.ocp_world.specs.After.{Answer, Stepped, after}
@@ -44,6 +45,11 @@ by_of (Asked by time octets) = by
 by_of (Steps by id count) = by
 by_of (Debugged by id command) = by
 by_of (Drained by time) = by
+
+-- the debugger's command that an entry is, where it is one, with the id of its procedure
+abbrev pub command_of : Entry → Option (ℕ × Command)
+command_of (Debugged by id command) = Some (id, command)
+command_of other = None
 
 -- those of one seat, in order
 abbrev pub entries_by : List MarkedEntry → ℕ → List MarkedEntry

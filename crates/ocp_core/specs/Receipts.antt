@@ -10,7 +10,7 @@ use Rattle.ocp_world.specs.Answers.{Answers}
 use Rattle.ocp_core.specs.declared.answers.CommitOutcome.{CommitOutcome}
 use Rattle.ocp_core.specs.declared.answers.CommitOutcome.TheVariants as C
 use Rattle.ocp_core.specs.declared.event.Entry as N
-use Rattle.ocp_core.specs.Log.{Log, Steps, entry_for, answer_in, log_after}
+use Rattle.ocp_core.specs.Log.{Log, Asked, Steps, Drained, entry_for, answer_in, log_after}
 use Rattle.ocp_core.specs.Marks.{MarkedEntry, entries_with_marks}
 use Rattle.ocp_core.specs.Journal.{entry_with_mark}
 
@@ -35,6 +35,14 @@ Enters old new e (Commanded result) = (Commanded result ≡ answer_in old e) × 
 abbrev pub event_entries : Event → Answer → List MarkedEntry
 event_entries e answer =
     if is_accepted answer then record { entry = entry_for e; mark = answer } ∷ [] else []
+
+-- the entry of a request, and that of a drain, with the reports that were answered
+abbrev pub marked_request : ℕ → ℕ → List ℕ → List (List ℕ) → MarkedEntry
+marked_request by time octets reports =
+    record { entry = Asked by time octets; mark = Requested (Ok reports) }
+
+abbrev pub marked_drain : ℕ → ℕ → List (List ℕ) → MarkedEntry
+marked_drain by time reports = record { entry = Drained by time; mark = Requested (Ok reports) }
 
 -- the entry, where there is one
 abbrev pub entries_in : {A : Type 0} → Option (N.Entry A) → List MarkedEntry

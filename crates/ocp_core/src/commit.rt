@@ -68,7 +68,10 @@ impl<A: Allocator> Engine<A> {
         if count == 0 {
             return CommitOutcome::Empty;
         }
-        if !self.state.table.is_at(work.id, &work.parts.base) {
+        let Some(procedure) = self.state.table.record(work.id) else {
+            return CommitOutcome::Stale;
+        };
+        if !work.parts.base.is_at(procedure) {
             return CommitOutcome::Stale;
         }
         if self.journal.is_full() {

@@ -1,9 +1,8 @@
 //! The engine.
 
-ghost use Rattle.std.specs.Prelude.{◌≡◌, ◌≢◌, ◌↔◌, ◌≤◌, ◌<◌, ◌-◌, ◌^◌, ℕ, false, Ok, Err, None, IfOk, IfErr, IfSome, OnOk, OnErr, length, slice_get};
+ghost use Rattle.std.specs.Prelude.{◌≡◌, ◌↔◌, ◌≤◌, ◌<◌, ◌-◌, ◌^◌, ℕ, false, Err, None, IfOk, IfSome, OnOk, OnErr, length, slice_get};
 ghost use Rattle.ocp_world.specs.World as world;
-ghost use Rattle.ocp_core.specs.Clauses.{MAX_APID, MAX_POOL_WORDS, MAX_CAPACITY, Answers, Enters, Grows, IsNextRunning, Log, Runs, Stepped, TakesRecordIn, answer_in, empty_log, entries_in, event_entries, expand, get, is_accepted, log_after, reports_in, slice_entries, slice_in, slice_log, view_at, world_of};
-ghost use Rattle.ocp_core.specs.Mirror.Admitted.{IsAdmitted};
+ghost use Rattle.ocp_core.specs.Clauses.{MAX_APID, MAX_POOL_WORDS, MAX_CAPACITY, Answers, Enters, Grows, IsNextRunning, Log, Runs, Stepped, TakesRecordIn, answer_in, empty_log, entries_in, entry_with_mark, event_entries, expand, get, is_accepted, log_after, marked_drain, marked_request, reports_in, slice_entries, slice_in, slice_log, view_at, world_of};
 ghost use Rattle.ocp_core.specs.Mirror.Codes.{log_code};
 ghost use Rattle.ocp_world.specs.Mirror.State.{IsWorld};
 
@@ -11,7 +10,7 @@ use crate::{EngineFault, Entry, Input, Journal, Octets, Reports, Slice, StepOutc
 use ocp_profile::Profile;
 use ocp_table::View;
 use ocp_world::{Heap, State, discard_of};
-use pus_fields::{Tc, TcFault, read_tc};
+use pus_fields::read_tc;
 use space_packet::Apid;
 use std::alloc::{AllocError, Allocator, Global};
 use std::marker::Model;
@@ -56,23 +55,6 @@ impl<A: Allocator + Copy> Engine<A> {
         Ok(Engine { state, journal })
     }
 
-    // Reads the octets of a request. Refused, in this order, where they are discarded and where the journal is full.
-    pub(crate) fn admit<'a>(&self, octets: &'a [u8]) -> Result<Result<Tc<'a>, TcFault>, EngineFault>
-        ensures ok { (by time : ℕ) → IfOk result (IsAdmitted self.now by time octets.now) }
-        ensures err { (by time : ℕ) → IfErr result (λ fault.
-            Answers (Err fault) (answer_in self.now (world.Request by time octets.now))) }
-        ensures memory { IfErr result (λ fault. fault ≢ EngineFault.Memory) }
-    {
-        let read = read_tc(self.journal.apid(), octets);
-        if let Some(cause) = discard_of(&read) {
-            return Err(EngineFault::Discarded(cause));
-        }
-        if self.journal.is_full() {
-            return Err(EngineFault::JournalFull);
-        }
-        Ok(read)
-    }
-
     /// Takes the octets of a telecommand packet, which a seat hands in at a time in whole seconds,
     /// and answers its reports. Refused, in this order, where the octets are discarded, where the
     /// journal is full, and where there is no memory; then nothing is changed.
@@ -88,53 +70,41 @@ impl<A: Allocator + Copy> Engine<A> {
             (self.new ≡ log_after self.old (world.Request by time octets.now)) }
         ensures err { OnErr result (self.new ≡ self.old) }
     {
-        self.request_in(&mut Heap::new(alloc), by, time, octets)
+        let (reports, _receipt) = self.request_in(&mut Heap::new(alloc), by, time, octets)?;
+        Ok(reports)
     }
 
-    /// `request`, at a heap that notes whether the copy of the octets or the reports found no
-    /// memory. Where they found it, Memory is answered only for a load under an id that is free, in
-    /// a table with room, of 1 to 2,048 whole slots: never in place of a request that fails
-    /// otherwise.
+    /// `request`, with the receipt of its entry, at a heap that notes whether the copy of the
+    /// octets or the reports found no memory. Where they found it, Memory is answered only for a
+    /// load under an id that is free, in a table with room, of 1 to 2,048 whole slots: never in
+    /// place of a request that fails otherwise.
     pub fn request_in(
         &mut self,
         heap: &mut Heap<A>,
         by: u16,
         time: u32,
         octets: &[u8],
-    ) -> Result<Reports<A>, EngineFault>
-        ensures answer { Answers result (answer_in self.old (world.Request by time octets.now)) }
-        ensures journal { OnOk result
-            (self.new ≡ log_after self.old (world.Request by time octets.now)) }
-        ensures err { OnErr result (self.new ≡ self.old) }
-        ensures memory { result ≡ Err EngineFault.Memory → heap.new ≡ false →
-            TakesRecordIn (world_of self.old) octets.now }
-    {
-        let read = self.admit(octets)?;
-        let (reports, _copy) = self.accept(heap, by, time, octets, read)?;
-        Ok(reports)
-    }
-
-    // Takes a request that was admitted. A copy of its reports, for a receipt, comes with them.
-    pub(crate) fn accept(
-        &mut self,
-        heap: &mut Heap<A>,
-        by: u16,
-        time: u32,
-        octets: &[u8],
-        read: Result<Tc<'_>, TcFault>,
-    ) -> Result<(Reports<A>, Reports<A>), EngineFault>
-        requires { IsAdmitted self.old by time octets.now read }
+    ) -> Result<(Reports<A>, Entry<A>), EngineFault>
         ensures answer { Answers (reports_in result)
             (answer_in self.old (world.Request by time octets.now)) }
         ensures journal { OnOk result
             (self.new ≡ log_after self.old (world.Request by time octets.now)) }
-        ensures copy { IfOk result (λ r. r.1 ≡ r.0) }
+        ensures receipt { IfOk result (λ r. entry_with_mark r.1 ≡
+            marked_request by time octets.now r.0) }
         ensures err { OnErr result (self.new ≡ self.old) }
         ensures memory { result ≡ Err EngineFault.Memory → heap.new ≡ false →
             TakesRecordIn (world_of self.old) octets.now }
     {
+        let read = read_tc(self.journal.apid(), octets);
+        if let Some(cause) = discard_of(&read) {
+            return Err(EngineFault::Discarded(cause));
+        }
+        if self.journal.is_full() {
+            return Err(EngineFault::JournalFull);
+        }
         let copy = Octets::copy_of(heap.alloc(), octets);
         let kept = heap.note(copy)?;
+        let own = heap.note(kept.share())?;
         let sent = self.state.receive(heap, self.journal.events(), time, read)?;
         let (answer, mark, receipt) = sent.into_parts();
         self.journal.push(Entry::Request {
@@ -143,6 +113,12 @@ impl<A: Allocator + Copy> Engine<A> {
             octets: kept,
             mark,
         });
+        let receipt = Entry::Request {
+            by,
+            time,
+            octets: own,
+            mark: receipt,
+        };
         Ok((answer, receipt))
     }
 
@@ -155,20 +131,20 @@ impl<A: Allocator + Copy> Engine<A> {
         ensures journal { OnOk result (self.new ≡ log_after self.old (world.Drain by time)) }
         ensures err { OnErr result (self.new ≡ self.old) }
     {
-        let (reports, _copy) = self.drain_with_copy(alloc, by, time)?;
+        let (reports, _receipt) = self.receipted_drain(alloc, by, time)?;
         Ok(reports)
     }
 
-    // `drain`, with a copy of its reports for a receipt.
-    pub(crate) fn drain_with_copy(
+    // `drain`, with the receipt of its entry.
+    pub(crate) fn receipted_drain(
         &mut self,
         alloc: A,
         by: u16,
         time: u32,
-    ) -> Result<(Reports<A>, Reports<A>), EngineFault>
+    ) -> Result<(Reports<A>, Entry<A>), EngineFault>
         ensures answer { Answers (reports_in result) (answer_in self.old (world.Drain by time)) }
         ensures journal { OnOk result (self.new ≡ log_after self.old (world.Drain by time)) }
-        ensures copy { IfOk result (λ r. r.1 ≡ r.0) }
+        ensures receipt { IfOk result (λ r. entry_with_mark r.1 ≡ marked_drain by time r.0) }
         ensures err { OnErr result (self.new ≡ self.old) }
     {
         if !self.state.is_due() {
@@ -180,7 +156,8 @@ impl<A: Allocator + Copy> Engine<A> {
         let sent = self.state.drain(alloc, time)?;
         let (answer, mark, receipt) = sent.into_parts();
         self.journal.push(Entry::Drain { by, time, mark });
-        Ok((answer, receipt))
+        let mark = receipt;
+        Ok((answer, Entry::Drain { by, time, mark }))
     }
 }
 
@@ -204,20 +181,7 @@ impl<A: Allocator> Engine<A> {
         ensures answer { Stepped result ≡ answer_in self.old (world.Step by id) }
         ensures journal { self.new ≡ log_after self.old (world.Step by id) }
     {
-        if let Some(refused) = self.state.refusal(id) {
-            return refused;
-        }
-        if self.journal.is_full() {
-            return StepOutcome::JournalFull;
-        }
-        let outcome = self.state.step(id);
-        self.journal.push(Entry::Steps {
-            by,
-            id,
-            count: 1,
-            mark: outcome,
-        });
-        outcome
+        self.slice(by, id, 1).last
     }
 
     /// Does instructions of one procedure, at least one, until the budget is used, the procedure no

@@ -86,7 +86,7 @@ pub enum Entry<A: Allocator = Global> {
 
 impl<A: Allocator> Entry<A> {
     ghost use Rattle.std.specs.Prelude.{◌≡◌, ◌↔◌, ◌<◌, ◌^◌, IsTrue, Ok, length};
-    ghost use Rattle.ocp_core.specs.Clauses.{Commanded, Debugged, by_of, entry_of, entry_with_mark, events_of, mark_of};
+    ghost use Rattle.ocp_core.specs.Clauses.{Commanded, Debugged, by_of, command_of, entry_of, entry_with_mark, events_of, mark_of};
 
     /// That of a debugger's command, which a seat hands in.
     pub(crate) fn of_command(by: u16, id: u16, command: Command) -> Self
@@ -125,10 +125,25 @@ impl<A: Allocator> Entry<A> {
         }
     }
 
+    /// The debugger's command that it is, where it is one, with the id of its procedure.
+    pub(crate) fn command(&self) -> Option<(u16, Command)>
+        ensures { result ≡ command_of (entry_of self.now) }
+    {
+        match self {
+            Entry::SetBreak { id, place, .. } => Some((*id, Command::SetBreak(*place))),
+            Entry::ClearBreak { id, place, .. } => Some((*id, Command::ClearBreak(*place))),
+            Entry::Trace { id, on, .. } => Some((*id, Command::SetTrace(*on))),
+            Entry::Request { .. } | Entry::Steps { .. } | Entry::Drain { .. } => None,
+        }
+    }
+
     /// Whether they are the same entry with the same mark, by value.
     pub fn is_same(&self, other: &Self) -> bool
         ensures { IsTrue result ↔ (entry_with_mark self.now ≡ entry_with_mark other.now) }
     {
+        if let (Some(asked), Some(other_asked)) = (self.command(), other.command()) {
+            return self.by() == other.by() && asked == other_asked;
+        }
         match (self, other) {
             (
                 Entry::Request {
@@ -163,30 +178,6 @@ impl<A: Allocator> Entry<A> {
                     mark: other_mark,
                 },
             ) => by == other_by && id == other_id && count == other_count && mark == other_mark,
-            (
-                Entry::SetBreak { by, id, place },
-                Entry::SetBreak {
-                    by: other_by,
-                    id: other_id,
-                    place: other_place,
-                },
-            ) => by == other_by && id == other_id && place == other_place,
-            (
-                Entry::ClearBreak { by, id, place },
-                Entry::ClearBreak {
-                    by: other_by,
-                    id: other_id,
-                    place: other_place,
-                },
-            ) => by == other_by && id == other_id && place == other_place,
-            (
-                Entry::Trace { by, id, on },
-                Entry::Trace {
-                    by: other_by,
-                    id: other_id,
-                    on: other_on,
-                },
-            ) => by == other_by && id == other_id && on == other_on,
             (
                 Entry::Drain { by, time, mark },
                 Entry::Drain {

@@ -5,7 +5,7 @@ ghost use Rattle.ocp_world.specs.World as world;
 ghost use Rattle.ocp_world.specs.After as after;
 ghost use Rattle.ocp_core.specs.Clauses.{Enters, entries_in, event_entries, full_answer};
 
-use crate::{Command, DebugFault, Engine, EngineFault, Entry, Octets, Reports, StepOutcome};
+use crate::{Command, DebugFault, Engine, EngineFault, Entry, Reports, StepOutcome};
 use ocp_world::Heap;
 use std::alloc::{Allocator, Global};
 
@@ -69,23 +69,13 @@ impl<'a, A: Allocator + Copy> Input<A> for Request<'a, A> {
     }
 
     fn enter(self, engine: &mut Engine<A>, by: u16) -> (Self::Answer, Option<Entry<A>>) {
-        let read = match engine.admit(self.octets) {
-            Ok(read) => read,
-            Err(fault) => return (Err(fault), None),
-        };
-        let Ok(own) = Octets::copy_of(self.alloc, self.octets) else {
-            return (Err(EngineFault::Memory), None);
-        };
-        match engine.accept(&mut Heap::new(self.alloc), by, self.time, self.octets, read) {
-            Ok((reports, mark)) => {
-                let receipt = Entry::Request {
-                    by,
-                    time: self.time,
-                    octets: own,
-                    mark,
-                };
-                (Ok(reports), Some(receipt))
-            }
+        let Request {
+            alloc,
+            time,
+            octets,
+        } = self;
+        match engine.request_in(&mut Heap::new(alloc), by, time, octets) {
+            Ok((reports, receipt)) => (Ok(reports), Some(receipt)),
             Err(fault) => (Err(fault), None),
         }
     }
@@ -155,8 +145,8 @@ impl<A: Allocator + Copy> Input<A> for Drain<A> {
 
     fn enter(self, engine: &mut Engine<A>, by: u16) -> (Self::Answer, Option<Entry<A>>) {
         let Drain { alloc, time } = self;
-        match engine.drain_with_copy(alloc, by, time) {
-            Ok((reports, mark)) => (Ok(reports), Some(Entry::Drain { by, time, mark })),
+        match engine.receipted_drain(alloc, by, time) {
+            Ok((reports, receipt)) => (Ok(reports), Some(receipt)),
             Err(fault) => (Err(fault), None),
         }
     }

@@ -8,14 +8,14 @@ ghost use Rattle.ocp_core.specs.Mirror.Admitted.{HasMemory};
 use crate::laws::{machines_follow_from_their_own_events, refused_events_change_nothing};
 use crate::{Command, EngineFault, Entry, Journal};
 use bpf_step::Machine;
-use ocp_reports::CopiedReports;
+use ocp_reports::SharedReports;
 use ocp_world::{Heap, State};
 use pus_fields::read_tc;
 use space_packet::Apid;
 use std::alloc::{AllocError, Allocator};
 
 // Whether a request or a drain found memory: it was done, or it was refused and changed nothing.
-fn memory_of<A: Allocator>(given: Result<CopiedReports<A>, EngineFault>) -> Result<(), AllocError>
+fn memory_of<A: Allocator>(given: Result<SharedReports<A>, EngineFault>) -> Result<(), AllocError>
     ensures { OnOk result (HasMemory given) }
 {
     match given {

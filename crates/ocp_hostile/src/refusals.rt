@@ -8,6 +8,7 @@ use crate::heap::Refusing;
 use ocp_core::{Engine, EngineFault};
 use ocp_loader::{LoadFault, load};
 use ocp_profile::Profile;
+use ocp_seats::input::{Drain, Request};
 use ocp_seats::{Book, MAX_SEATS, Naming, Seat, SeatFault, TakeFault};
 use ocp_table::{LoadFailure, StartFailure, Table};
 use pus_fields::Discard;
@@ -172,6 +173,20 @@ const BY_FULL_BOOK: [(Asked, Fault); 4] = [
     ),
 ];
 
+/// A request at time 0.
+fn request<A: Allocator>(alloc: A, octets: &[u8]) -> Request<'_, A> {
+    Request {
+        alloc,
+        time: 0,
+        octets,
+    }
+}
+
+/// A drain at time 0.
+fn drain<A: Allocator>(alloc: A) -> Drain<A> {
+    Drain { alloc, time: 0 }
+}
+
 /// Why a call of a book, or of its seat, is refused.
 fn book_fault<L: Naming, A: Allocator + Copy>(
     refusing: A,
@@ -181,10 +196,10 @@ fn book_fault<L: Naming, A: Allocator + Copy>(
 ) -> Option<Fault> {
     match asked {
         Asked::Request(octets) => book
-            .request(refusing, seat, 0, octets)
+            .apply(seat, request(refusing, octets))
             .err()
             .map(Fault::Engine),
-        Asked::Drain => book.drain(refusing, seat, 0).err().map(Fault::Engine),
+        Asked::Drain => book.apply(seat, drain(refusing)).err().map(Fault::Engine),
         Asked::Seat => book.seat(refusing).err().map(Fault::Seat),
         Asked::Take => book.take(refusing).err().map(Fault::Take),
     }
@@ -220,7 +235,7 @@ fn all_refused<L: Naming, A: Allocator + Copy>(
         return Err("an empty book".into());
     }
     for octets in REQUESTED {
-        book.request(refusing, seat, 0, octets)?;
+        book.apply(seat, request(refusing, octets))?;
     }
     if !are_refused(heap, refusing, book, seat, &BY_FULL_BOOK) {
         return Err("a full book".into());

@@ -9,6 +9,7 @@ use crate::engine::shown;
 use crate::heap::Refusing;
 use ocp_core::{Engine, EngineFault, Reports, StepOutcome};
 use ocp_profile::Profile;
+use ocp_seats::input::{Drain, Request};
 use ocp_seats::{Book, Naming, Seat, SeatFault, TakeFault};
 use std::alloc::{Allocator, Global};
 use std::marker::Brand;
@@ -88,10 +89,21 @@ fn answers<L: Naming, A: Allocator + Copy>(
     match asked {
         Asked::Seat => hands_out(refusing, book),
         Asked::Request(octets, wanted) => {
-            reports(book.request(refusing, seat, TIME, octets), wanted)
+            let request = Request {
+                alloc: refusing,
+                time: TIME,
+                octets,
+            };
+            reports(book.apply(seat, request), wanted)
         }
         Asked::Take => takes(refusing, book),
-        Asked::Drain => reports(book.drain(refusing, seat, TIME), &REPORTED),
+        Asked::Drain => {
+            let drain = Drain {
+                alloc: refusing,
+                time: TIME,
+            };
+            reports(book.apply(seat, drain), &REPORTED)
+        }
     }
 }
 
@@ -134,8 +146,8 @@ fn refused<L: Naming, A: Allocator + Copy>(
 }
 
 /// A second seat, then the requests of the first, which keeps a receipt for each, and between its
-/// activation and its suspension procedure 4. A request takes a copy of its octets, and of each of
-/// its reports three: the answer's, the journal's and the seat's.
+/// activation and its suspension procedure 4. A request takes at least two blocks for its octets,
+/// which journal and seat share, two for each report, and one for what those share who keep all.
 fn requests_refused<L: Naming, A: Allocator + Copy>(
     heap: &Refusing<Global>,
     refusing: A,
@@ -148,9 +160,9 @@ fn requests_refused<L: Naming, A: Allocator + Copy>(
     }
     for (index, (octets, wanted)) in REQUESTED.iter().zip(ANSWERED.iter()).enumerate() {
         let asked = Asked::Request(octets, wanted);
-        let copies = 3u64.saturating_mul(wanted.len() as u64);
-        if refused(heap, refusing, alloc, book, seat, asked)? <= copies {
-            return Err("a request without copies".into());
+        let blocks = 2u64.saturating_mul(wanted.len() as u64).saturating_add(3);
+        if refused(heap, refusing, alloc, book, seat, asked)? < blocks {
+            return Err("a request with fewer blocks".into());
         }
         if index == 1 && refused(heap, refusing, alloc, book, seat, Asked::Take)? == 0 {
             return Err("a ticket without memory".into());
@@ -160,7 +172,8 @@ fn requests_refused<L: Naming, A: Allocator + Copy>(
 }
 
 /// The procedure's four instructions up to the end of step 2, then a drain of the two completions,
-/// of which the journal's last entry and the seat's last receipt have a copy each.
+/// whose reports the journal's last entry and the seat's last receipt share with the answer: two
+/// blocks for each report, one for their list, and one for what those share who keep it.
 fn drain_refused<L: Naming, A: Allocator + Copy>(
     heap: &Refusing<Global>,
     refusing: A,
@@ -172,8 +185,8 @@ fn drain_refused<L: Naming, A: Allocator + Copy>(
     if slice.count != 4 || slice.last != StepOutcome::Called {
         return Err("four instructions".into());
     }
-    if refused(heap, refusing, alloc, book, seat, Asked::Drain)? < 8 {
-        return Err("copies without memory".into());
+    if refused(heap, refusing, alloc, book, seat, Asked::Drain)? != 6 {
+        return Err("other growths of a drain".into());
     }
     let receipts = seat.receipts();
     let entries = book.engine().journal().entries();

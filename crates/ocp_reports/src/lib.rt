@@ -2,12 +2,10 @@
 //! they are.
 #![tactic(auto)]
 
-mod copied;
 mod octets;
 mod origin;
 mod sender;
 
-pub use copied::CopiedReports;
-pub use octets::{Octets, Reports};
+pub use octets::{Octets, Reports, SharedReports};
 pub use origin::Origin;
 pub use sender::{Sender, count_after};

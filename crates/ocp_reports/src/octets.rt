@@ -1,30 +1,44 @@
 //! Octets that are kept or handed out.
 
 ghost use Rattle.std.specs.Prelude.{◌≡◌, ◌↔◌, ℕ, List, [], ◌∷◌, ◌++◌, ◌==◌, All, IsTrue, IfOk, OnOk, OnErr, length};
+ghost use Rattle.std.specs.Arc.{arc_value};
 ghost use Rattle.ocp_reports.specs.Packets.{IsTelemetryPacket};
 
 use std::alloc::{AllocError, Allocator, Global};
 use std::marker::Model;
+use std::sync::Arc;
 
-/// Octets of its own, seen as their list.
+/// Octets that are kept, seen as their list. All handles of the same octets share one memory.
 #[derive(Drop)]
 pub struct Octets<A: Allocator = Global> {
-    octets: Vec<u8, A>,
+    octets: Arc<Vec<u8, A>, A>,
 }
 
 impl<A: Allocator> Model for Octets<A> {
     ghost Value = { List ℕ };
 
-    ghost view = { λ o. o.octets.items };
+    ghost view = { λ o. (arc_value o.octets).items };
 }
 
 impl<A: Allocator> Octets<A> {
     /// A copy of borrowed octets.
     pub fn copy_of(alloc: A, octets: &[u8]) -> Result<Self, AllocError>
+    where
+        A: Copy,
         ensures { IfOk result (λ copy. copy ≡ octets.now) }
     {
+        let octets = Vec::from_slice(alloc, octets)?;
         Ok(Octets {
-            octets: Vec::from_slice(alloc, octets)?,
+            octets: Arc::new(alloc, octets)?,
+        })
+    }
+
+    /// One more handle. It takes no memory, and is refused where 2^63 - 1 share the octets.
+    pub fn share(&self) -> Result<Self, AllocError>
+        ensures { IfOk result (λ handle. handle ≡ self.now) }
+    {
+        Ok(Octets {
+            octets: Arc::try_clone(&self.octets)?,
         })
     }
 
@@ -42,50 +56,73 @@ impl<A: Allocator> Octets<A> {
     }
 }
 
+/// Packets of reports, each of which is read as telemetry.
+#[derive(Drop)]
+pub(crate) struct Packets<A: Allocator> {
+    list: Vec<Octets<A>, A>,
+}
+
+impl<A: Allocator> Model for Packets<A> {
+    ghost Value = { List (List ℕ) };
+
+    ghost view = { λ p. p.list.items };
+
+    ghost invariant = { λ p. All IsTelemetryPacket p.list.items };
+}
+
+impl<A: Allocator> Packets<A> {
+    pub fn new(alloc: A) -> Self
+        ensures { result ≡ [] }
+    {
+        Packets {
+            list: Vec::new(alloc),
+        }
+    }
+
+    /// Adds the packet of these octets. Where there is no memory, nothing changes.
+    pub fn push(&mut self, alloc: A, octets: Vec<u8, A>) -> Result<(), AllocError>
+        requires { IsTelemetryPacket octets.items }
+        ensures ok { OnOk result (self.new ≡ self.old ++ octets.items ∷ []) }
+        ensures err { OnErr result (self.new ≡ self.old) }
+    {
+        let octets = Arc::new(alloc, octets)?;
+        self.list.push(Octets { octets })?;
+        Ok(())
+    }
+
+    pub fn as_slice(&self) -> &[Octets<A>]
+        ensures value { result.now ≡ self.now }
+        ensures telemetry { All IsTelemetryPacket self.now }
+    {
+        self.list.as_slice()
+    }
+}
+
 /// The reports of one request, each a whole telemetry packet, in the order in which they are sent.
+/// All handles of the same reports share one memory.
 #[derive(Drop)]
 pub struct Reports<A: Allocator = Global> {
-    packets: Vec<Octets<A>, A>,
+    packets: Arc<Packets<A>, A>,
 }
 
 impl<A: Allocator> Model for Reports<A> {
     ghost Value = { List (List ℕ) };
 
-    ghost view = { λ r. r.packets.items };
-
-    ghost invariant = { λ r. All IsTelemetryPacket r.packets.items };
+    ghost view = { λ r. arc_value r.packets };
 }
 
 impl<A: Allocator> Reports<A> {
-    pub(crate) fn new(alloc: A) -> Self
-        ensures { result ≡ [] }
-    {
-        Reports {
-            packets: Vec::new(alloc),
-        }
-    }
-
-    /// Adds the packet of these octets. Where there is no memory, nothing changes.
-    pub(crate) fn push(&mut self, octets: Vec<u8, A>) -> Result<(), AllocError>
-        requires { IsTelemetryPacket octets.items }
-        ensures ok { OnOk result (self.new ≡ self.old ++ octets.items ∷ []) }
-        ensures err { OnErr result (self.new ≡ self.old) }
-    {
-        self.packets.push(Octets { octets })?;
-        Ok(())
-    }
-
     /// How many packets there are.
     pub fn len(&self) -> usize
         ensures { result ≡ length self.now }
     {
-        self.packets.len()
+        self.packets().len()
     }
 
     pub fn is_empty(&self) -> bool
         ensures { result ≡ (length self.now == 0) }
     {
-        self.packets.is_empty()
+        self.packets().is_empty()
     }
 
     /// The packets, each of which is read as telemetry.
@@ -103,23 +140,59 @@ impl<A: Allocator> Reports<A> {
         if self.len() != other.len() {
             return false;
         }
-        for (index, packet) in self.packets.iter().enumerate() {
-            if !packet.is_same(&other.packets[index]) {
+        for (index, packet) in self.packets().iter().enumerate() {
+            if !packet.is_same(&other.packets()[index]) {
                 return false;
             }
         }
         true
     }
+}
 
-    pub fn copy(&self, alloc: A) -> Result<Self, AllocError>
-    where
-        A: Copy,
-        ensures { IfOk result (λ copy. copy ≡ self.now) }
+/// The reports of a request, seen as their list, with a handle for each of those who keep them.
+/// All handles are taken before anything is changed, since one more may be refused.
+#[derive(Drop)]
+pub struct SharedReports<A: Allocator = Global> {
+    answer: Reports<A>,
+    journal: Reports<A>,
+    receipt: Reports<A>,
+}
+
+impl<A: Allocator> Model for SharedReports<A> {
+    ghost Value = { List (List ℕ) };
+
+    ghost view = { λ r. r.answer };
+
+    ghost invariant = { λ r. (r.journal ≡ r.answer) × (r.receipt ≡ r.answer) };
+}
+
+impl<A: Allocator> SharedReports<A> {
+    pub(crate) fn of(alloc: A, packets: Packets<A>) -> Result<Self, AllocError>
+        ensures { IfOk result (λ shared. shared ≡ packets) }
     {
-        let mut copy = Reports::new(alloc);
-        for packet in self.packets() {
-            copy.push(Vec::from_slice(alloc, packet.as_slice())?)?;
-        }
-        Ok(copy)
+        let packets = Arc::new(alloc, packets)?;
+        let journal = Arc::try_clone(&packets)?;
+        let receipt = Arc::try_clone(&packets)?;
+        Ok(SharedReports {
+            answer: Reports { packets },
+            journal: Reports { packets: journal },
+            receipt: Reports { packets: receipt },
+        })
+    }
+
+    /// How many packets there are.
+    pub fn len(&self) -> usize
+        ensures { result ≡ length self.now }
+    {
+        self.answer.len()
+    }
+
+    /// The answer, the mark of the journal's entry, and that of the seat's receipt.
+    pub fn into_parts(self) -> (Reports<A>, Reports<A>, Reports<A>)
+        ensures answer { result.0 ≡ self }
+        ensures journal { result.1 ≡ self }
+        ensures receipt { result.2 ≡ self }
+    {
+        (self.answer, self.journal, self.receipt)
     }
 }

@@ -7,8 +7,9 @@ ghost use Rattle.ocp_reports.specs.Reports.{dispatch_of_notice, reports_of};
 ghost use Rattle.ocp_reports.specs.Due.{drain_dispatches};
 ghost use Rattle.ocp_reports.specs.Packets.{packets};
 
-use crate::{CopiedReports, Origin, Reports};
-use obcp_messages::{Report, StartFault, write_report};
+use crate::octets::Packets;
+use crate::{Origin, SharedReports};
+use obcp_messages::{Report, StartFault, report_fields};
 use obcp_types::Due;
 use pus_fields::{Tm, WriteFault, telemetry_octets_are_read_back, write_tm};
 use space_packet::{Apid, SEQUENCE_COUNTS, SequenceCount};
@@ -41,18 +42,17 @@ impl Sender {
         alloc: A,
         origin: Origin,
         report: &Report,
-        reports: &mut Reports<A>,
+        reports: &mut Packets<A>,
     ) -> Result<(), AllocError>
         ensures { let count = self.now.count + length reports.old in
             OnOk result (reports.new ≡
             reports.old ++ packets self.now.apid count (dispatch_of origin report.now ∷ [])) }
     {
         telemetry_octets_are_read_back();
-        let mut data = Vec::new(alloc);
-        write_report(report, &mut data)?;
+        let data = report_fields(report);
         let telemetry = Tm::new(
             self.apid,
-            count_after(self.count, reports.len()),
+            count_after(self.count, reports.as_slice().len()),
             report.service(),
             report.subtype(),
             origin.destination,
@@ -61,7 +61,7 @@ impl Sender {
         );
         let mut octets = Vec::new(alloc);
         match write_tm(&telemetry, &mut octets) {
-            Ok(()) => reports.push(octets),
+            Ok(()) => reports.push(alloc, octets),
             Err(WriteFault::Memory) => Err(AllocError),
             Err(WriteFault::TooLong) => unreachable!(),
         }
@@ -74,7 +74,7 @@ impl Sender {
         origin: Origin,
         notice: Notice,
         answer: &Option<Report>,
-        reports: &mut Reports<A>,
+        reports: &mut Packets<A>,
     ) -> Result<(), AllocError>
         ensures { let count = self.now.count + length reports.old in
             let more = dispatch_of_notice origin (option_to_list answer.now) notice in
@@ -105,44 +105,44 @@ impl Sender {
         self.add(alloc, origin, &report, reports)
     }
 
-    /// The packets of the reports of a request, with copies of them.
-    pub fn copied_reports<A: Allocator + Copy>(
+    /// The packets of the reports of a request.
+    pub fn shared_reports<A: Allocator + Copy>(
         &self,
         alloc: A,
         origin: Origin,
         outcome: Outcome,
         answer: &Option<Report>,
-    ) -> Result<CopiedReports<A>, AllocError>
+    ) -> Result<SharedReports<A>, AllocError>
         ensures { let all = reports_of origin outcome (option_to_list answer.now) in
             IfOk result (λ r. r ≡ packets self.now.apid self.now.count all) }
     {
-        let mut reports = Reports::new(alloc);
+        let mut reports = Packets::new(alloc);
         let list = notices(origin.ack, &outcome);
         let all = list.as_slice();
         for notice in all {
             self.send(alloc, origin, *notice, answer, &mut reports)?;
         }
-        CopiedReports::of(alloc, reports)
+        SharedReports::of(alloc, reports)
     }
 
     /// The packets of the reports of completions that waited, the first one first, sent at this
-    /// time to the sources of their requests; with copies of them.
+    /// time to the sources of their requests.
     pub fn drained_reports<A: Allocator + Copy>(
         &self,
         alloc: A,
         time: u32,
         due: &[Due],
-    ) -> Result<CopiedReports<A>, AllocError>
+    ) -> Result<SharedReports<A>, AllocError>
         ensures { IfOk result
             (λ r. r ≡ packets self.now.apid self.now.count (drain_dispatches time due.now)) }
     {
-        let mut reports = Reports::new(alloc);
+        let mut reports = Packets::new(alloc);
         for one in due {
             if let Some(notice) = completion(one.origin.ack, one.failure) {
                 let origin = Origin::of_due(one, time);
                 self.send(alloc, origin, notice, &None, &mut reports)?;
             }
         }
-        CopiedReports::of(alloc, reports)
+        SharedReports::of(alloc, reports)
     }
 }

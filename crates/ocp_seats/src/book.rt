@@ -1,6 +1,6 @@
 //! The book of a shared engine.
 
-ghost use Rattle.std.specs.Prelude.{◌≡◌, ◌≤◌, ◌+◌, None, IfOk, IfErr, OnOk, drop, length, map};
+ghost use Rattle.std.specs.Prelude.{◌≡◌, ◌≤◌, ◌+◌, None, IfOk, IfErr, OnOk, OnErr, drop, length, map};
 ghost use Rattle.ocp_core.specs.Clauses.{entries_with_marks, entry_with_mark};
 ghost use Rattle.ocp_seats.specs.Going.{GoesOn};
 ghost use Rattle.ocp_seats.specs.Seats.{BookContents, HandsOut, RefusesSeat};
@@ -115,13 +115,15 @@ impl<L: Naming, A: Allocator> Book<L, A> {
         Ok(ticket)
     }
 
-    /// As `take`, with a ticket that there is, which becomes the one that is taken. It keeps its
-    /// memory, and none is asked for, where its machine has the addresses of the procedure's.
+    /// As `take`, with a ticket that there is, which becomes the one that is taken, or stays where
+    /// none is. It keeps its memory, and none is asked for, where its machine has the addresses of
+    /// the procedure's.
     pub fn take_into(&mut self, alloc: A, ticket: &mut Ticket<A>) -> Result<(), TakeFault>
     where
         A: Copy,
         ensures ok { OnOk result (Takes self.old self.new ticket.new) }
         ensures err { IfErr result (λ why. (self.new ≡ self.old) × RefusesTake self.old why) }
+        ensures kept { OnErr result (ticket.new ≡ ticket.old) }
     {
         let Some(next) = self.engine.next_running(self.taken) else {
             return Err(TakeFault::NoneRunning);

@@ -1,21 +1,16 @@
 //! The calls of a seat that change the engine.
 
 ghost use Rattle.std.specs.Prelude.{◌≡◌, ◌≤◌};
-ghost use Rattle.ocp_debug.specs.declared.command.Command.TheVariants as command;
-ghost use Rattle.ocp_world.specs.World as world;
-ghost use Rattle.ocp_core.specs.Clauses.{Commanded, Requested, Stepped, work_after};
+ghost use Rattle.ocp_core.specs.Clauses.{work_after};
 ghost use Rattle.ocp_seats.specs.Seats.{Serves, ServesSlice, ServesWork};
 
-use crate::input::{DebuggerCommand, Drain, Request, Step};
-use crate::{
-    Book, Command, CommitOutcome, DebugFault, EngineFault, Entry, Input, Naming, Reports, Seat,
-    Slice, StepOutcome, Work,
-};
+use crate::{Book, CommitOutcome, Entry, Input, Naming, Seat, Slice, StepOutcome, Work};
 use std::alloc::Allocator;
 
 impl<L: Naming, A: Allocator> Book<L, A> {
-    /// `Engine::apply` with the seat's number: the seat keeps the receipt of the entry that the
-    /// journal gained.
+    /// `Engine::apply` with the seat's number: a request, an instruction, a debugger's command or a
+    /// drain. The seat keeps the receipt of the entry that the journal gained. The memory of the
+    /// reports and of what journal and seat keep is taken before anything is changed.
     #[tactic(auto, using(crate::proofs::Going::goes_on_further))]
     pub fn apply<I: Input<A>>(&mut self, seat: &mut Seat<L, A>, input: I) -> I::Answer
         ensures served { Serves self.old self.new seat.old seat.new
@@ -26,52 +21,6 @@ impl<L: Naming, A: Allocator> Book<L, A> {
             seat.gain(&mut self.tally, &self.engine, entry);
         }
         answer
-    }
-
-    /// `Engine::request` with the seat's number. The memory of the reports and of the two copies
-    /// that journal and seat keep is taken before anything is changed.
-    pub fn request(
-        &mut self,
-        alloc: A,
-        seat: &mut Seat<L, A>,
-        time: u32,
-        octets: &[u8],
-    ) -> Result<Reports<A>, EngineFault>
-    where
-        A: Copy,
-        ensures served { Serves self.old self.new seat.old seat.new
-            (world.Request seat.old.number time octets.now) (Requested result) }
-    {
-        let request = Request {
-            alloc,
-            time,
-            octets,
-        };
-        self.apply(seat, request)
-    }
-
-    /// `Engine::drain` with the seat's number. The memory of the reports and of the two copies that
-    /// journal and seat keep is taken before anything is changed.
-    pub fn drain(
-        &mut self,
-        alloc: A,
-        seat: &mut Seat<L, A>,
-        time: u32,
-    ) -> Result<Reports<A>, EngineFault>
-    where
-        A: Copy,
-        ensures served { Serves self.old self.new seat.old seat.new
-            (world.Drain seat.old.number time) (Requested result) }
-    {
-        self.apply(seat, Drain { alloc, time })
-    }
-
-    /// `Engine::step` with the seat's number.
-    pub fn step(&mut self, seat: &mut Seat<L, A>, id: u16) -> StepOutcome
-        ensures served { Serves self.old self.new seat.old seat.new
-            (world.Step seat.old.number id) (Stepped result) }
-    {
-        self.apply(seat, Step { id })
     }
 
     /// `Engine::slice` with the seat's number: at most so many instructions.
@@ -120,42 +69,5 @@ impl<L: Naming, A: Allocator> Book<L, A> {
             seat.gain(&mut self.tally, &self.engine, entry);
         }
         outcome
-    }
-
-    /// `Engine::set_break` with the seat's number.
-    pub fn set_break(
-        &mut self,
-        seat: &mut Seat<L, A>,
-        id: u16,
-        place: u16,
-    ) -> Result<(), DebugFault>
-        ensures served { Serves self.old self.new seat.old seat.new
-            (world.Debug seat.old.number id (command.SetBreak place)) (Commanded result) }
-    {
-        let command = Command::SetBreak(place);
-        self.apply(seat, DebuggerCommand { id, command })
-    }
-
-    /// `Engine::clear_break` with the seat's number.
-    pub fn clear_break(
-        &mut self,
-        seat: &mut Seat<L, A>,
-        id: u16,
-        place: u16,
-    ) -> Result<(), DebugFault>
-        ensures served { Serves self.old self.new seat.old seat.new
-            (world.Debug seat.old.number id (command.ClearBreak place)) (Commanded result) }
-    {
-        let command = Command::ClearBreak(place);
-        self.apply(seat, DebuggerCommand { id, command })
-    }
-
-    /// `Engine::trace` with the seat's number.
-    pub fn trace(&mut self, seat: &mut Seat<L, A>, id: u16, on: bool) -> Result<(), DebugFault>
-        ensures served { Serves self.old self.new seat.old seat.new
-            (world.Debug seat.old.number id (command.SetTrace on)) (Commanded result) }
-    {
-        let command = Command::SetTrace(on);
-        self.apply(seat, DebuggerCommand { id, command })
     }
 }

@@ -1,6 +1,6 @@
 //! The end of a book: whether all seats are back, and their receipts are the journal.
 
-ghost use Rattle.std.specs.Prelude.{◌≡◌, ◌≢◌, ◌≤◌, ◌<◌, ◌==◌, ◌↔◌, ℕ, All, IfErr, IfNone, IfOk, IfSome, IsTrue, MatchOption, count_by, drop, length, map, slice_index, slice_index_or};
+ghost use Rattle.std.specs.Prelude.{◌≡◌, ◌≢◌, ◌≤◌, ◌<◌, ◌==◌, ◌↔◌, ℕ, All, IfErr, IfOk, IsTrue, MatchOption, count_by, drop, length, map, slice_index, slice_index_or};
 ghost use Rattle.ocp_core.specs.Clauses.{entries_with_marks, entry_with_mark};
 ghost use Rattle.ocp_seats.specs.Going.{GoesOn};
 ghost use Rattle.ocp_seats.specs.Closing.{IsWhole, IsReceipted, RefusesClose};
@@ -41,30 +41,18 @@ impl<L: Naming, A: Allocator> Book<L, A> {
         ensures err { IfErr result (λ refused. RefusesClose self.seats
             (drop self.start (entries_with_marks self.engine)) seats.items refused.why) }
     {
-        match self.close_fault(seats.as_slice()) {
-            Some(why) => Err(NotClosed {
-                why,
-                book: self,
-                seats,
-            }),
-            None => Ok(self.into_engine()),
-        }
-    }
-
-    /// Why the book is not closed with these seats.
-    fn close_fault(&self, seats: &[Seat<L, A>]) -> Option<CloseFault>
-        ensures none { IfNone result (IsWhole seats.now self.now.seats
-            × IsReceipted (drop self.now.start (entries_with_marks self.now.engine)) seats.now) }
-        ensures some { IfSome result (λ why. RefusesClose self.now.seats
-            (drop self.now.start (entries_with_marks self.now.engine)) seats.now why) }
-    {
-        if !is_whole(seats, self.seat_count()) {
-            return Some(CloseFault::MissingSeat);
-        }
-        if !is_receipted(self.since(), seats, self.seat_count()) {
-            return Some(CloseFault::ReceiptMismatch);
-        }
-        None
+        let why = if !is_whole(seats.as_slice(), self.seat_count()) {
+            CloseFault::MissingSeat
+        } else if !is_receipted(self.since(), seats.as_slice(), self.seat_count()) {
+            CloseFault::ReceiptMismatch
+        } else {
+            return Ok(self.into_engine());
+        };
+        Err(NotClosed {
+            why,
+            book: self,
+            seats,
+        })
     }
 }
 

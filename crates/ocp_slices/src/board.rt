@@ -1,6 +1,6 @@
 //! What stands behind the lock.
 
-ghost use Rattle.std.specs.Prelude.{◌≡◌, ◌≤◌, [], Ok, Err, IfOk, IfErr};
+ghost use Rattle.std.specs.Prelude.{◌≡◌, ◌≤◌, [], None, Ok, Err, IfOk, IfErr, OnOk, OnErr};
 ghost use Rattle.ocp_core.specs.Clauses.{work_after};
 ghost use Rattle.ocp_slices.specs.Replies.{Reply, SeatReply, TakeReply, IsServed, IsSliced, IsHandedIn};
 
@@ -21,9 +21,11 @@ pub trait Board<L: Naming> {
         ensures number { IfOk result (λ seat. (1 ≤ seat.number) × (seat.number ≤ 64)) };
 
     /// A ticket for the next running procedure, in turn. A spare one becomes it, where there is
-    /// one; that stays where there is none.
+    /// one; it stays where none runs or there is no memory.
     fn take(&mut self, alloc: Global, spare: &mut Option<Ticket>) -> Result<Ticket, TakeFault>
-        ensures given { answers (TakeReply result) };
+        ensures given { answers (TakeReply result) }
+        ensures used { OnOk result (spare.new ≡ None) }
+        ensures kept { OnErr result (spare.new ≡ spare.old) };
 
     /// Hands in a work, which stays.
     fn hand_in(&mut self, seat: &mut Seat<L>, work: &mut Work) -> CommitOutcome
@@ -57,6 +59,8 @@ impl<L: Naming> Board<L> for Book<L> {
     fn take(&mut self, alloc: Global, spare: &mut Option<Ticket>) -> Result<Ticket, TakeFault>
         ensures ok { IfOk result (λ ticket. Takes self.old self.new ticket) }
         ensures err { IfErr result (λ why. (self.new ≡ self.old) × RefusesTake self.old why) }
+        ensures used { OnOk result (spare.new ≡ None) }
+        ensures kept { OnErr result (spare.new ≡ spare.old) }
     {
         let Some(mut ticket) = spare.take() else {
             return Book::take(self, alloc);

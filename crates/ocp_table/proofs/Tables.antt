@@ -19,12 +19,14 @@ use Rattle.ocp_table.specs.Effects.{Change, Effect, Loaded, Unloaded, Changed, D
 use Rattle.ocp_table.specs.RequestTable.{Load, Step, transition}
 use Rattle.ocp_table.specs.Deciding.{outcome_in, effect_of_load, effect_of_step, effect_by, effect_on, effect_in, is_full}
 use Rattle.ocp_table.specs.Loading.{IsCodeFailure, IsLoadFailure}
-use Rattle.ocp_table.specs.Shown.{dues_of_effect}
+use Rattle.ocp_table.specs.declared.change.Decision as B
+use Rattle.ocp_table.specs.declared.change.Decision.TheVariants as decision
+use Rattle.ocp_table.specs.Shown.{dues_of_effect, change_of, effect_decided}
 use Rattle.obcp_types.specs.declared.pending.Due.{Due}
 use Rattle.std.proofs.lemmas.List.{append-nil}
 use Rattle.ocp_table.specs.Mirror.Contents.{IsSound}
 use Rattle.std.proofs.lemmas.Bool.Decides.{nat_tests}
-use Rattle.ocp_table.proofs.ContentsLemmas.{insert-same, IsDistinct-removed}
+use Rattle.ocp_table.proofs.ContentsLemmas.{insert-same, remove-same, IsDistinct-removed}
 
 -- ---- a table by its parts
 
@@ -126,23 +128,25 @@ outbox-failed m outbox e why is = sym (ap (λ x. outbox_by x m outbox) is ∙ ap
 pub outbox-unloaded : (m : Records) (id : ℕ) (r : Rec) (outbox : List Due) → map.get m id ≡ Some r → outbox ++ failed_completion r.control.pending ≡ outbox_by (Unloaded id) m outbox
 outbox-unloaded m id r outbox here = sym (ap (λ o. outbox ++ failed_completion_of o) here)
 
-pub outbox-missing : (m : Records) (id : ℕ) (outbox : List Due) → map.get m id ≡ None → outbox ≡ outbox_by (Unloaded id) m outbox
-outbox-missing m id outbox none = sym (ap (λ o. outbox ++ failed_completion_of o) none ∙ append-nil outbox)
-
 -- ---- a change that was decided
 
 module _ (m : Records) (id : ℕ) (change : Change) where
   pub records-changed : (r new : Rec) → map.get m id ≡ Some r → new ≡ record_by change r → map.insert m id new ≡ records_by (Changed id change) m
   records-changed r new here is = ap (map.insert m id) is ∙ sym (ap (λ o. with_change o id change m) here)
 
-  pub records-unchanged : map.get m id ≡ None → m ≡ records_by (Changed id change) m
-  records-unchanged none = sym (ap (λ o. with_change o id change m) none)
-
   pub outbox-changed : (r : Rec) (outbox : List Due) → map.get m id ≡ Some r → outbox ++ dues_by_change change r.control.pending ≡ outbox_by (Changed id change) m outbox
   outbox-changed r outbox here = sym (ap (λ o. outbox ++ dues_of change o) here)
 
-  pub outbox-unchanged : (outbox : List Due) → map.get m id ≡ None → outbox ≡ outbox_by (Changed id change) m outbox
-  outbox-unchanged outbox none = sym (ap (λ o. outbox ++ dues_of change o) none ∙ append-nil outbox)
+-- ---- what was decided, where no procedure has the id
+
+module _ (m : Records) (id : ℕ) (none : map.get m id ≡ None) where
+  pub records-kept : (d : B.Decision) → m ≡ records_by (effect_decided id d) m
+  records-kept decision.Unloads = sym (remove-same m id none)
+  records-kept (decision.Changes change) = sym (ap (λ o. with_change o id (change_of change) m) none)
+
+  pub outbox-kept : (outbox : List Due) (d : B.Decision) → outbox ≡ outbox_by (effect_decided id d) m outbox
+  outbox-kept outbox decision.Unloads = sym (ap (λ o. outbox ++ failed_completion_of o) none ∙ append-nil outbox)
+  outbox-kept outbox (decision.Changes change) = sym (ap (λ o. outbox ++ dues_of (change_of change) o) none ∙ append-nil outbox)
 
 -- ---- the slab
 

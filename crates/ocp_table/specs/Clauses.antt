@@ -23,7 +23,7 @@ pub use Rattle.ocp_table.specs.Effects.{Changed, records_by, failure_of, failed_
 pub use Rattle.ocp_table.specs.Effects.{dues_at_step_end, dues_by_outcome, Stepped}
 pub use Rattle.ocp_table.specs.Effects.{remaining_by_outcome, record_after, pool_by, new_record}
 pub use Rattle.ocp_table.specs.Effects.{table_by, table_with, with_procedure, with_breakpoints}
-pub use Rattle.ocp_table.specs.Effects.{with_trace_flag, Loaded, Unloaded, Drained, refusal_of}
+pub use Rattle.ocp_table.specs.Effects.{with_trace_flag, Loaded, Drained, refusal_of}
 pub use Rattle.ocp_table.specs.Slices.{is_on, is_done, Store, RunsBy, Leads, with_machine, last_ran}
 pub use Rattle.ocp_table.specs.Slices.{is_running_status, IsSlice, is_traced, is_running}
 pub use Rattle.ocp_table.specs.Slices.{slice_count, slice_last, store_of, store_after_events}
@@ -34,6 +34,7 @@ pub use Rattle.ocp_table.specs.Deciding.{outcome_unheld, Executes, ExecutesStep,
 pub use Rattle.ocp_table.specs.Shown.{record_of, directive_of, change_of, decision_of}
 pub use Rattle.ocp_table.specs.Shown.{HasFewArguments, FitsIn, HasPlaceFor, effect_of_record}
 pub use Rattle.ocp_table.specs.Shown.{dues_of_effect, id_of, statuses_of, view_at, IsLoading}
+pub use Rattle.ocp_table.specs.Shown.{effect_decided, IfChanges}
 pub use Rattle.ocp_table.specs.Faults.{fault_number}
 pub use Rattle.ocp_table.specs.declared.answers.StepOutcome.{StepOutcome}
 pub use Rattle.ocp_table.specs.declared.fault.ProcedureFault.TheVariants.{Machine, Pool}

@@ -12,12 +12,14 @@ use Rattle.ocp_table.specs.declared.control.Pending.TheVariants as pending
 use Rattle.ocp_table.specs.declared.view.View.{View}
 use Rattle.ocp_table.specs.declared.change.Change as C
 use Rattle.ocp_table.specs.declared.change.Change.TheVariants as change
+use Rattle.ocp_table.specs.declared.change.Decision as B
+use Rattle.ocp_table.specs.declared.change.Decision.TheVariants as decision
 use Rattle.ocp_table.specs.declared.directive.Directive as D
 use Rattle.ocp_table.specs.declared.directive.Directive.TheVariants as directive
 use Rattle.ocp_table.specs.declared.record.Record.{Record}
 use Rattle.ocp_table.specs.Records.{Rec, Records}
 use Rattle.ocp_table.specs.Effects.{Effect, Unloaded, Changed, Change, Started, Sent, Pended, Quit, Resumed, new_record, failed_completion, dues_by_change}
-use Rattle.ocp_table.specs.RequestTable.{Directive, Activate, Stop, Suspend, Resume, Abort, Communicate, Decision, Changes, Fails}
+use Rattle.ocp_table.specs.RequestTable.{Directive, Unload, Activate, Stop, Suspend, Resume, Abort, Communicate, Decision, Unloads, Changes, Fails}
 use Rattle.ocp_table.specs.Deciding.{effect_on, words_of}
 
 -- ---- what contracts see
@@ -46,6 +48,7 @@ module _ {A : Type 0} where
 
 -- what a request asks, where all places for pending and unreported completions are taken or not
 abbrev pub directive_of : D.Directive → Bool → Directive
+directive_of directive.Unload full = Unload
 directive_of (directive.Activate budget arguments) full = Activate budget arguments.now
 directive_of (directive.Stop s from) full = Stop s from full
 directive_of (directive.Suspend s from) full = Suspend s from full
@@ -61,10 +64,21 @@ change_of (change.Pended pending) = Pended pending
 change_of (change.Quit cause) = Quit cause
 change_of change.Resumed = Resumed
 
--- and what was decided of it
-abbrev pub decision_of : Result C.Change StartFailure → Decision
-decision_of (Ok change) = Changes (change_of change)
+-- what was decided of it
+abbrev pub decision_of : Result B.Decision StartFailure → Decision
+decision_of (Ok decision.Unloads) = Unloads
+decision_of (Ok (decision.Changes change)) = Changes (change_of change)
 decision_of (Err failure) = Fails failure
+
+-- the effect of what was decided
+abbrev pub effect_decided : ℕ → B.Decision → Effect
+effect_decided id decision.Unloads = Unloaded id
+effect_decided id (decision.Changes change) = Changed id (change_of change)
+
+-- what holds of the change, where a change was decided
+abbrev pub IfChanges : B.Decision → (Change → Type 0) → Type 0
+IfChanges decision.Unloads P = Unit {0}
+IfChanges (decision.Changes change) P = P (change_of change)
 
 -- the effect of a directive on a record of the table, in which whether the table is full is not
 -- asked

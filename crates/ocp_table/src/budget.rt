@@ -7,10 +7,7 @@ ghost use Rattle.ocp_table.specs.Clauses.{less, within};
 pub(crate) fn less(count: u32, remaining: Option<u32>) -> Option<u32>
     ensures { result ≡ less count remaining }
 {
-    match remaining {
-        Some(left) => Some(left.saturating_sub(count)),
-        None => None,
-    }
+    remaining.map(|left| left.saturating_sub(count))
 }
 
 /// So many, or what is left where that is less.
@@ -18,8 +15,5 @@ pub(crate) fn less(count: u32, remaining: Option<u32>) -> Option<u32>
 pub(crate) fn within(remaining: Option<u32>, most: u32) -> u32
     ensures { result ≡ within remaining most }
 {
-    match remaining {
-        Some(left) => most.min(left),
-        None => most,
-    }
+    remaining.map_or(most, |left| most.min(left))
 }

@@ -1,7 +1,7 @@
 //! The request table: what a request does to the record of its procedure, or why it fails; and how
 //! that is enacted.
 ghost use Rattle.std.specs.Prelude.{◌≡◌, ◌++◌, false, Some, IfOk};
-ghost use Rattle.ocp_table.specs.Clauses.{FitsIn, HasFewArguments, HasPlaceBeside, HasPlaceFor, change_of, decision_of, decision_on, directive_of, dues_by_change, record_by, record_of};
+ghost use Rattle.ocp_table.specs.Clauses.{FitsIn, HasFewArguments, HasPlaceBeside, HasPlaceFor, IfChanges, change_of, decision_of, decision_on, directive_of, dues_by_change, record_by, record_of};
 
 use crate::outbox::{Outbox, overtake};
 use crate::{Cause, Control, Directive, Pending, Place, Record};
@@ -24,10 +24,19 @@ pub enum Change<'a> {
     Resumed,
 }
 
+/// What a request does to its procedure.
+#[derive(Clone, Copy)]
+pub enum Decision<'a> {
+    /// The record is dropped. What was pending is overtaken.
+    Unloads,
+    /// The record is changed.
+    Changes(Change<'a>),
+}
+
 /// What was decided of a request, and where its record was found.
 #[derive(Clone, Copy)]
 pub struct Decided<'a> {
-    pub change: Change<'a>,
+    pub decision: Decision<'a>,
     pub(crate) place: Place,
 }
 
@@ -38,50 +47,50 @@ impl<A: Allocator> Record<A> {
         &self,
         directive: Directive<'a>,
         full: bool,
-    ) -> Result<Change<'a>, StartFailure>
+    ) -> Result<Decision<'a>, StartFailure>
         requires few { HasFewArguments (directive_of directive false) }
         ensures decision { decision_of result ≡
             decision_on (directive_of directive.entry full) (Some (record_of self.now)) }
-        ensures fits { IfOk result
-            (λ change. FitsIn (change_of change) (Some (record_of self.now))) }
-        ensures place { IfOk result (λ change. HasPlaceFor full (change_of change)) }
+        ensures fits { IfOk result (λ decided.
+            IfChanges decided (λ change. FitsIn change (Some (record_of self.now)))) }
+        ensures place { IfOk result (λ decided. IfChanges decided (HasPlaceFor full)) }
     {
         match (directive, self.control.status) {
+            (Directive::Unload, Status::Inactive) => Ok(Decision::Unloads),
             (Directive::Activate { budget, arguments }, Status::Inactive) => {
-                Ok(Change::Started { budget, arguments })
+                Ok(Decision::Changes(Change::Started { budget, arguments }))
             }
-            (Directive::Activate { .. }, Status::Running) => Err(StartFailure::NotInactive),
-            (Directive::Activate { .. }, Status::Held) => Err(StartFailure::NotInactive),
-
+            (Directive::Unload | Directive::Activate { .. }, Status::Running | Status::Held) => {
+                Err(StartFailure::NotInactive)
+            }
             (Directive::Stop(_, _), Status::Inactive) => Err(StartFailure::NotActive),
             (Directive::Stop(_, _), Status::Running) if full => Err(StartFailure::OutboxFull),
             (Directive::Stop(step, origin), Status::Running) => {
-                Ok(Change::Pended(Pending::Stop(step, origin)))
+                Ok(Decision::Changes(Change::Pended(Pending::Stop(step, origin))))
             }
-            (Directive::Stop(_, _), Status::Held) => Ok(Change::Quit(Cause::Stopped)),
-
-            (Directive::Suspend(_, _), Status::Inactive) => Err(StartFailure::NotRunning),
+            (Directive::Stop(_, _), Status::Held) => {
+                Ok(Decision::Changes(Change::Quit(Cause::Stopped)))
+            }
             (Directive::Suspend(step, origin), Status::Running) => match self.control.pending {
                 Pending::Stop(_, _) => Err(StartFailure::StopPending),
                 Pending::Nothing | Pending::Suspend(_, _) if full => Err(StartFailure::OutboxFull),
                 Pending::Nothing | Pending::Suspend(_, _) => {
-                    Ok(Change::Pended(Pending::Suspend(step, origin)))
+                    Ok(Decision::Changes(Change::Pended(Pending::Suspend(step, origin))))
                 }
             },
-            (Directive::Suspend(_, _), Status::Held) => Err(StartFailure::NotRunning),
-
-            (Directive::Resume, Status::Inactive) => Err(StartFailure::NotHeld),
-            (Directive::Resume, Status::Running) => Err(StartFailure::NotHeld),
-            (Directive::Resume, Status::Held) => Ok(Change::Resumed),
-
+            (Directive::Suspend(_, _), Status::Inactive | Status::Held) => {
+                Err(StartFailure::NotRunning)
+            }
+            (Directive::Resume, Status::Inactive | Status::Running) => Err(StartFailure::NotHeld),
+            (Directive::Resume, Status::Held) => Ok(Decision::Changes(Change::Resumed)),
             (Directive::Abort, Status::Inactive) => Err(StartFailure::NotActive),
-            (Directive::Abort, Status::Running) => Ok(Change::Quit(Cause::Aborted)),
-            (Directive::Abort, Status::Held) => Ok(Change::Quit(Cause::Aborted)),
-
+            (Directive::Abort, Status::Running | Status::Held) => {
+                Ok(Decision::Changes(Change::Quit(Cause::Aborted)))
+            }
             (Directive::Communicate(_), Status::Inactive) => Err(StartFailure::NotActive),
             (Directive::Communicate(words), Status::Running | Status::Held) => {
                 if self.mailbox.has_room(words.len()) {
-                    Ok(Change::Sent(words))
+                    Ok(Decision::Changes(Change::Sent(words)))
                 } else {
                     Err(StartFailure::MailboxFull)
                 }

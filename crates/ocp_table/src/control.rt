@@ -85,9 +85,8 @@ impl Control {
     {
         match outcome {
             InstructionOutcome::Broke => self.hold(self.pending),
-            InstructionOutcome::Ran => self.pass = false,
             InstructionOutcome::Called(Called::StepEnd(step)) => self.end_step(step),
-            InstructionOutcome::Called(_) => self.pass = false,
+            InstructionOutcome::Ran | InstructionOutcome::Called(_) => self.pass = false,
             InstructionOutcome::Ended => *self = Control::inactive(Cause::Exited),
             InstructionOutcome::Faulted(fault) => {
                 *self = Control::inactive(Cause::Fault(fault));

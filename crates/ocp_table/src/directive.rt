@@ -5,6 +5,8 @@ use obcp_types::PendingOrigin;
 /// What a request asks of a procedure that is loaded.
 #[derive(Clone, Copy)]
 pub enum Directive<'a> {
+    /// To be dropped.
+    Unload,
     /// To start from its first instruction, with a budget of so many instructions, where it is not
     /// 0, and with these arguments.
     Activate { budget: u32, arguments: &'a [u8] },

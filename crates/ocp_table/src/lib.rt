@@ -19,7 +19,7 @@ mod table;
 mod view;
 
 pub use answers::{InstructionOutcome, LoadFailure, Slice, StepOutcome};
-pub use change::{Change, Decided};
+pub use change::{Change, Decided, Decision};
 pub use control::{Cause, Control, Pending};
 pub use directive::Directive;
 pub use execution::Execution;

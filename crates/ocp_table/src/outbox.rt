@@ -15,10 +15,8 @@ pub(crate) fn overtake(outbox: &mut Outbox, pending: Pending)
     requires { HasPlaceBeside outbox.old.items pending }
     ensures { outbox.new.items ≡ outbox.old.items ++ failed_completion pending }
 {
-    let origin = match pending {
-        Pending::Nothing => return,
-        Pending::Stop(_, origin) => origin,
-        Pending::Suspend(_, origin) => origin,
+    let (Pending::Stop(_, origin) | Pending::Suspend(_, origin)) = pending else {
+        return;
     };
     outbox.push(Due {
         origin,
@@ -31,10 +29,8 @@ fn end_step(outbox: &mut Outbox, pending: Pending, step: u16)
     requires { HasPlaceBeside outbox.old.items pending }
     ensures { outbox.new.items ≡ outbox.old.items ++ dues_at_step_end pending step }
 {
-    let (wanted, origin) = match pending {
-        Pending::Nothing => return,
-        Pending::Stop(wanted, origin) => (wanted, origin),
-        Pending::Suspend(wanted, origin) => (wanted, origin),
+    let (Pending::Stop(wanted, origin) | Pending::Suspend(wanted, origin)) = pending else {
+        return;
     };
     if matches(wanted, step) && is_completion_asked(origin.ack) {
         outbox.push(Due {

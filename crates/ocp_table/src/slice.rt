@@ -13,10 +13,7 @@ impl<A: Allocator> Record<A> {
     pub(crate) fn is_running(&self) -> bool
         ensures { result ≡ is_running_status self.now.control.status }
     {
-        match self.control.status {
-            Status::Running => true,
-            Status::Inactive | Status::Held => false,
-        }
+        matches!(self.control.status, Status::Running)
     }
 
     // Does instructions that need no engine, at most so many and at most what is left of the budget, and says how many.

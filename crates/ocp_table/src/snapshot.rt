@@ -83,8 +83,9 @@ impl<A: Allocator> Snapshot<A> {
         true
     }
 
-    /// Whether the procedure still runs, and its parts are the same.
-    pub(crate) fn is_at(&self, procedure: &Record<A>) -> bool
+    /// Whether a procedure runs, and its program, machine, breakpoints, pass flag, trace flag and
+    /// what is left of its budget are the same by value.
+    pub fn is_at(&self, procedure: &Record<A>) -> bool
         ensures same { IsTrue result ↔
             (snapshot_at (Some (record_of procedure.now)) ≡ Some self.now) }
         ensures stands { IsTrue result → StandsIn self.now.image self.now.machine }

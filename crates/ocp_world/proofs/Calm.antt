@@ -1,4 +1,4 @@
--- A request leaves the pool and makes no trace record.
+-- A request makes no trace record, and a load leaves the outbox.
 use Rattle.std.proofs.Common.{◌≡◌, ℕ, Bool, List, length, Option, Some, None, refl, ap, ◌∙◌, [], ◌++◌}
 use Rattle.std.specs.FinMap.{get}
 use Rattle.std.proofs.lemmas.List.{append-nil}
@@ -6,13 +6,10 @@ use Rattle.ocp_profile.specs.declared.profile.Profile.{Profile}
 use Rattle.obcp_types.specs.declared.pending.Due.{Due}
 use Rattle.obcp_types.specs.declared.status.Status.TheVariants.{Inactive, Running, Held}
 use Rattle.ocp_table.specs.Records.{Rec, Records}
-use Rattle.ocp_table.specs.Effects.{Loaded, Changed, Stepped, pool_by, outbox_by, failed_completion_of}
+use Rattle.ocp_table.specs.Effects.{Loaded, Changed, Stepped, outbox_by, failed_completion_of}
 use Rattle.ocp_table.specs.Effects as table
-use Rattle.ocp_table.specs.RequestTable.{Directive, Load, Unload, transition}
+use Rattle.ocp_table.specs.RequestTable.{Directive, Load, transition}
 use Rattle.ocp_table.specs.Deciding.{effect_in, effect_by, decision_on, is_full}
-use Rattle.ocp_table.specs.Shown.{directive_of}
-use Rattle.ocp_table.specs.declared.directive.Directive as D
-use Rattle.ocp_table.specs.declared.directive.Directive.TheVariants as asked
 use Rattle.ocp_table.specs.Laws.{IsRequest}
 use Rattle.ocp_debug.specs.declared.trace.Trace.{Trace}
 use Rattle.ocp_debug.specs.Traces.{traces_by}
@@ -29,23 +26,6 @@ plain_idle effect plain = tt
 
 pub idle_in : (d : Directive) → IsRequest d → (id : ℕ) (m : Records) → IsIdle (effect_in d id m)
 idle_in d h id m = each_kind (λ d effect. IsRequest d → IsIdle effect) id m (λ profile image room h. tt) (λ pool outcome r is status next h. h) (λ d effect plain h. plain_idle effect plain) d h
-
-pool_by_idle : (effect : table.Effect) → IsIdle effect → (pool : List ℕ) → pool_by effect pool ≡ pool
-pool_by_idle (Changed id (Stepped outcome)) h pool = absurd h
-pool_by_idle effect h pool = refl
-
-pub request_leaves_pool : (d : Directive) → IsRequest d → (id : ℕ) (m : Records) (pool : List ℕ) → pool_by (effect_in d id m) pool ≡ pool
-request_leaves_pool d h id m pool = pool_by_idle (effect_in d id m) (idle_in d h id m) pool
-
-pub unload_leaves_pool : (id : ℕ) (m : Records) (pool : List ℕ) → pool_by (effect_in Unload id m) pool ≡ pool
-unload_leaves_pool id m pool = request_leaves_pool Unload tt id m pool
-
-is_request : (d : D.Directive) (full : Bool) → IsRequest (directive_of d full)
-is_request asked.Resume full = tt
-is_request d full = tt
-
-pub directive_leaves_pool : (d : D.Directive) (full : Bool) (id : ℕ) (m : Records) (pool : List ℕ) → pool_by (effect_in (directive_of d full) id m) pool ≡ pool
-directive_leaves_pool d full id m pool = request_leaves_pool (directive_of d full) (is_request d full) id m pool
 
 -- ---- the outbox
 
@@ -75,9 +55,3 @@ request_makes_no_trace d h id m = traces_by_idle (effect_in d id m) (idle_in d h
 -- the trace records and no further one
 pub no_more : (traces more : List Trace) → more ≡ [] → traces ++ more ≡ traces
 no_more traces more none = ap (λ ts. traces ++ ts) none ∙ append-nil traces
-
-pub unload_keeps_traces : (id : ℕ) (m : Records) (traces : List Trace) → traces ++ traces_by (effect_in Unload id m) m ≡ traces
-unload_keeps_traces id m traces = no_more traces _ (request_makes_no_trace Unload tt id m)
-
-pub directive_keeps_traces : (d : D.Directive) (full : Bool) (id : ℕ) (m : Records) (traces : List Trace) → traces ++ traces_by (effect_in (directive_of d full) id m) m ≡ traces
-directive_keeps_traces d full id m traces = no_more traces _ (request_makes_no_trace (directive_of d full) (is_request d full) id m)

@@ -2,21 +2,11 @@
 use Rattle.std.proofs.Common.{◌≡◌, ◌+◌, ℕ, true, false, List, [], ◌∷◌, length, refl, sym, ap, subst, ◌∙◌, arith}
 use Rattle.std.specs.Prelude.{◌%◌, Ok}
 use Rattle.std.proofs.lemmas.List.{append-nil}
-use Rattle.obcp_types.specs.declared.failure.StartFailure.{StartFailure}
 use Rattle.obcp_types.specs.declared.pending.Due.{Due}
-use Rattle.verification.specs.declared.outcome.Outcome.{Outcome}
-use Rattle.ocp_table.specs.declared.directive.Directive as D
 use Rattle.ocp_table.specs.Records.{Procedures}
-use Rattle.ocp_table.specs.RequestTable.{Directive}
-use Rattle.ocp_table.specs.Outbox.{is_outbox_full}
-use Rattle.ocp_table.specs.Deciding.{effect_in}
-use Rattle.ocp_table.specs.Effects as table
-use Rattle.ocp_table.specs.Effects.{Change, Changed, Kept, Unasked, Failed, Drained, records_by, outbox_by}
-use Rattle.ocp_table.specs.Shown.{directive_of}
+use Rattle.ocp_table.specs.Effects.{Kept, Unasked, Drained}
 use Rattle.ocp_debug.specs.Traces.{last_traces}
-use Rattle.ocp_reports.specs.declared.origin.Origin.{Origin}
 use Rattle.ocp_reports.specs.Origin.{Dispatch}
-use Rattle.ocp_reports.specs.Reports.{reports_of}
 use Rattle.ocp_reports.specs.Due.{drain_dispatches}
 use Rattle.ocp_reports.specs.Packets.{packets}
 use Rattle.ocp_reports.proofs.Packets.{packets-alike, length-packets}
@@ -24,10 +14,8 @@ use Rattle.ocp_world.specs.World.{World}
 use Rattle.ocp_world.specs.Effect.{Effect, Sends}
 use Rattle.ocp_world.specs.Drains.{drain_effect}
 use Rattle.ocp_world.specs.After.{Requested, answer_by, is_accepted, world_after}
-use Rattle.ocp_world.specs.Requests.{outcome_by, start_effect, directive_effect}
 use Rattle.ocp_world.specs.Mirror.State.{IsWorld, DoesIn}
 use Rattle.ocp_world.specs.declared.state.State.{State}
-use Rattle.ocp_world.proofs.Calm.{directive_leaves_pool, directive_keeps_traces}
 
 true_false : true ≡ false → ⊥
 true_false e = cc
@@ -87,46 +75,3 @@ module _ {A : Type 0} (w : World) (time : ℕ) (old : State A) (stands : IsWorld
       ring = stands.ring ∙ ap last_traces (sym (append-nil w.traces));
     },
   )
-
--- what a directive does, which is decided in the table
-module _ {A : Type 0} (w : World) (origin : Origin) (d : D.Directive) (id : ℕ) (old : State A) (stands : IsWorld w old) where
-  abbrev asked : Procedures → Directive
-  asked t = directive_of d (is_outbox_full t.records t.outbox)
-
-  abbrev effect_at : Procedures → table.Effect
-  effect_at t = effect_in (asked t) id t.records
-
-  abbrev here : Procedures
-  here = record { profile = w.profile; records = w.records; outbox = w.outbox }
-
-  same_table : old.table ≡ here
-  same_table = λ i. record { profile = stands.profile i; records = stands.records i; outbox = stands.outbox i }
-
-  pub decided : (effect : table.Effect) → effect_at old.table ≡ effect → effect_at here ≡ effect
-  decided effect is = ap effect_at (sym same_table) ∙ is
-
-  -- it fails: the report of that is sent
-  pub direct-fails : (failure : StartFailure) → effect_at old.table ≡ Kept (Failed failure) → directive_effect origin (asked here) id w.records ≡ start_effect origin [] (Kept (Failed failure))
-  direct-fails failure is = ap (start_effect origin []) (decided (Kept (Failed failure)) is)
-
-  -- it changes the procedure: its reports are sent, and then the records are changed
-  module _ (new : State A) (change : Change) (outcome : Outcome) (reports : List (List ℕ)) (procedures : Procedures) (is : effect_at old.table ≡ Changed id change) (became : outcome ≡ outcome_by (Changed id change)) (does : DoesIn w (record { on_records = Kept Unasked; reply = Sends (reports_of origin outcome []) }) (Ok reports) new) (same : new.table ≡ old.table) (profile : procedures.profile ≡ new.table.profile) (records : procedures.records ≡ records_by (Changed id change) new.table.records) (outbox : procedures.outbox ≡ outbox_by (Changed id change) new.table.records new.table.outbox) where
-    changes : effect_at here ≡ Changed id change
-    changes = decided (Changed id change) is
-
-    reported : outcome ≡ outcome_by (effect_at here)
-    reported = became ∙ ap outcome_by (sym changes)
-
-    pub directed : DoesIn w (directive_effect origin (asked here) id w.records) (Ok reports) (record new { table = procedures })
-    directed = (
-      ap (λ o. Requested (Ok (packets w.apid w.reports (reports_of origin o [])))) (sym reported) ∙ does.0,
-      record {
-        profile = profile ∙ does.1.profile;
-        apid = does.1.apid;
-        records = records ∙ ap (λ t. records_by (Changed id change) t.records) (same ∙ same_table) ∙ ap (λ e. records_by e w.records) (sym changes);
-        outbox = outbox ∙ ap (λ t. outbox_by (Changed id change) t.records t.outbox) (same ∙ same_table) ∙ ap (λ e. outbox_by e w.records w.outbox) (sym changes);
-        pool = does.1.pool ∙ sym (directive_leaves_pool d (is_outbox_full w.records w.outbox) id w.records w.pool);
-        count = does.1.count ∙ ap (λ o. (w.reports + length (reports_of origin o [])) % 16384) reported;
-        ring = does.1.ring ∙ ap last_traces (append-nil w.traces ∙ sym (directive_keeps_traces d (is_outbox_full w.records w.outbox) id w.records w.traces));
-      },
-    )

@@ -1,9 +1,9 @@
 //! What calls answer.
 
-ghost use Rattle.std.specs.Prelude.{◌≡◌};
-ghost use Rattle.ocp_world.specs.Clauses.{Memory};
+ghost use Rattle.std.specs.Prelude.{◌≡◌, ℕ, List};
+ghost use Rattle.ocp_world.specs.Clauses.{IsDiscard, Memory, Request as Asked, World, after, discard_of, telecommand_of};
 
-use pus_fields::Discard;
+use pus_fields::{Discard, Tc, TcFault};
 use std::alloc::AllocError;
 
 /// Why a request or a drain has no reports. Nothing is changed. Those of a request come in this
@@ -24,5 +24,20 @@ impl From<AllocError> for EngineFault {
 
     fn from(_error: AllocError) -> Self {
         EngineFault::Memory
+    }
+}
+
+/// Why octets are discarded, as they were read, where they are: then the request is refused so in
+/// every world of this application process, and else it is accepted.
+#[tactic(auto, using(crate::proofs::Refusals::request_discard))]
+pub fn discard_of(read: &Result<Tc<'_>, TcFault>) -> Option<Discard>
+    ensures cause { result ≡ discard_of read.now }
+    ensures answer { (w : World) (by time : ℕ) (octets : List ℕ) →
+        read.now ≡ telecommand_of w.apid octets →
+        IsDiscard (after w (Asked by time octets)).answer result }
+{
+    match read {
+        Err(TcFault::Discarded(cause)) => Some(*cause),
+        Err(TcFault::Rejected(_, _)) | Ok(_) => None,
     }
 }

@@ -4,7 +4,7 @@ ghost use Rattle.std.specs.Prelude.{ℕ};
 ghost use Rattle.ocp_world.specs.Clauses.{DoesIn, Drain, IsUndue, IsWorld, World, after, effect_of};
 
 use crate::{EngineFault, State};
-use ocp_reports::{CopiedReports, count_after};
+use ocp_reports::{SharedReports, count_after};
 use std::alloc::Allocator;
 
 impl<A: Allocator + Copy> State<A> {
@@ -19,7 +19,7 @@ impl<A: Allocator + Copy> State<A> {
     /// Sends the reports of all completions that wait, the oldest first, at this time, each to the
     /// source of its request: then none waits any more. It fails where none waits, and for memory,
     /// and then changes nothing.
-    pub fn drain(&mut self, alloc: A, time: u32) -> Result<CopiedReports<A>, EngineFault>
+    pub fn drain(&mut self, alloc: A, time: u32) -> Result<SharedReports<A>, EngineFault>
         ensures { (w : World) (by : ℕ) → IsWorld w self.old →
             DoesIn w (effect_of w (Drain by time)) result self.new }
     {

@@ -3,7 +3,6 @@
 #![tactic(auto)]
 
 mod answers;
-mod convert;
 mod drain;
 mod heap;
 pub mod laws;
@@ -12,8 +11,7 @@ mod slice;
 mod state;
 mod turns;
 
-pub use answers::EngineFault;
-pub use convert::discard_of;
+pub use answers::{EngineFault, discard_of};
 pub use heap::Heap;
 pub use ocp_debug::{Command, DebugFault};
 pub use ocp_table::{Slice, StepOutcome};

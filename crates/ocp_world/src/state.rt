@@ -11,8 +11,8 @@ use obcp_types::{AcceptanceFailure, PendingOrigin};
 use ocp_debug::{Command, DebugFault, TraceRing};
 use ocp_pool::{MAX_POOL_WORDS, Pool};
 use ocp_profile::Profile;
-use ocp_reports::{CopiedReports, Origin, Sender, count_after};
-use ocp_table::{Change, Directive, LoadFailure, StepOutcome, Table};
+use ocp_reports::{Origin, Sender, SharedReports, count_after};
+use ocp_table::{Change, Decision, Directive, LoadFailure, StepOutcome, Table};
 use pus_fields::{Tc, TcFault};
 use space_packet::{Apid, SequenceCount};
 use std::alloc::{AllocError, Allocator};
@@ -92,7 +92,7 @@ impl<A: Allocator + Copy> State<A> {
         origin: Origin,
         outcome: Outcome,
         answer: &Option<Report>,
-    ) -> Result<CopiedReports<A>, EngineFault>
+    ) -> Result<SharedReports<A>, EngineFault>
         ensures does { Does self.old self.new result (λ w. record {
           on_records = Kept Unasked;
           reply = Sends (reports_of origin outcome (option_to_list answer.now));
@@ -104,7 +104,7 @@ impl<A: Allocator + Copy> State<A> {
     {
         let made = self
             .sender
-            .copied_reports(heap.alloc(), origin, outcome, answer);
+            .shared_reports(heap.alloc(), origin, outcome, answer);
         let reports = heap.note(made)?;
         self.sender.count = count_after(self.sender.count, reports.len());
         Ok(reports)
@@ -117,7 +117,7 @@ impl<A: Allocator + Copy> State<A> {
         origin: Origin,
         id: u16,
         code: &[u8],
-    ) -> Result<CopiedReports<A>, EngineFault>
+    ) -> Result<SharedReports<A>, EngineFault>
         ensures does { Does self.old self.new result
             (λ w. directive_effect origin (directive.Load w.profile code.now) id w.records) }
         ensures memory { result ≡ Err engine.Memory → heap.new ≡ false →
@@ -136,28 +136,6 @@ impl<A: Allocator + Copy> State<A> {
         }
     }
 
-    // Unloads a procedure.
-    #[tactic(auto, using(crate::proofs::Calm::unload_leaves_pool))]
-    fn unload(
-        &mut self,
-        heap: &mut Heap<A>,
-        origin: Origin,
-        id: u16,
-    ) -> Result<CopiedReports<A>, EngineFault>
-        ensures does { Does self.old self.new result
-            (λ w. directive_effect origin directive.Unload id w.records) }
-        ensures memory { result ≡ Err engine.Memory → heap.new ≡ true }
-    {
-        match self.table.check_unload(id) {
-            Ok(place) => {
-                let reports = self.reply(heap, origin, Outcome::Done, &None)?;
-                self.table.remove(id, place);
-                Ok(reports)
-            }
-            Err(failure) => self.reply(heap, origin, Outcome::NotStarted(failure), &None),
-        }
-    }
-
     // Does what a request asks of a loaded procedure.
     fn direct(
         &mut self,
@@ -165,7 +143,7 @@ impl<A: Allocator + Copy> State<A> {
         origin: Origin,
         id: u16,
         directive: Directive<'_>,
-    ) -> Result<CopiedReports<A>, EngineFault>
+    ) -> Result<SharedReports<A>, EngineFault>
         requires { HasFewArguments (directive_of directive false) }
         ensures does { Does self.old self.new result
             (λ w. directive_effect origin (directive_of directive.entry (has_no_place w)) id
@@ -174,10 +152,15 @@ impl<A: Allocator + Copy> State<A> {
     {
         match self.table.decide(id, directive) {
             Ok(decided) => {
-                let outcome = match decided.change {
-                    Change::Pended(_) => Outcome::Started,
-                    Change::Started { .. } | Change::Sent(_) | Change::Quit(_) | Change::Resumed =>
-                        { Outcome::Done }
+                let outcome = match decided.decision {
+                    Decision::Changes(Change::Pended(_)) => Outcome::Started,
+                    Decision::Unloads
+                    | Decision::Changes(
+                        Change::Started { .. }
+                        | Change::Sent(_)
+                        | Change::Quit(_)
+                        | Change::Resumed,
+                    ) => Outcome::Done,
                 };
                 let reports = self.reply(heap, origin, outcome, &None)?;
                 self.table.enact(id, decided);
@@ -194,7 +177,7 @@ impl<A: Allocator + Copy> State<A> {
         event: u64,
         origin: Origin,
         request: Request<'_>,
-    ) -> Result<CopiedReports<A>, EngineFault>
+    ) -> Result<SharedReports<A>, EngineFault>
         ensures does { (w : World) → IsWorld w self.old → event ≡ w.events →
             DoesIn w (command_effect request.entry origin w) result self.new }
         ensures memory { result ≡ Err engine.Memory → heap.new ≡ false →
@@ -209,7 +192,7 @@ impl<A: Allocator + Copy> State<A> {
         };
         match request {
             Request::Load { id, code } => self.load(heap, origin, id, code.octets()),
-            Request::Unload { id } => self.unload(heap, origin, id),
+            Request::Unload { id } => self.direct(heap, origin, id, Directive::Unload),
             Request::Activate {
                 id,
                 budget,
@@ -249,7 +232,7 @@ impl<A: Allocator + Copy> State<A> {
         event: u64,
         time: u32,
         read: Result<Tc<'_>, TcFault>,
-    ) -> Result<CopiedReports<A>, EngineFault>
+    ) -> Result<SharedReports<A>, EngineFault>
         ensures does { (w : World) (by : ℕ) (octets : List ℕ) →
             IsWorld w self.old → event ≡ w.events → read.entry ≡ telecommand_of w.apid octets →
             DoesIn w (effect_of w (Asked by time octets)) result self.new }

@@ -1,11 +1,8 @@
 -- An event that is admitted.
 use Rattle.std.specs.Prelude.{◌≡◌, ℕ, List, Result, Err, true, false}
-use Rattle.pus_fields.specs.Telecommand.{Telecommand}
-use Rattle.pus_fields.specs.declared.fault.TcFault.{TcFault}
-use Rattle.pus_fields.specs.TelecommandFaults.{telecommand_of}
 use Rattle.ocp_world.specs.declared.answers.EngineFault.{EngineFault}
 use Rattle.ocp_world.specs.declared.answers.EngineFault.TheVariants.{Memory}
-use Rattle.ocp_world.specs.World.{Event, Request}
+use Rattle.ocp_world.specs.World.{Event}
 use Rattle.ocp_world.specs.After.{after, is_accepted}
 use Rattle.ocp_core.specs.Log.{Log, world_of, is_full}
 
@@ -17,11 +14,4 @@ HasMemory result = Unit {0}
 -- it would be accepted, and finds room
 pub record IsTaken (log : Log) (e : Event) : Type 0 where
   pub taken : is_accepted (after (world_of log) e).answer ≡ true
-  pub free : is_full log ≡ false
-
--- a request that is read so would be accepted, and finds room
-pub record IsAdmitted (log : Log) (by time : ℕ) (octets : List ℕ)
-    (read : Result Telecommand TcFault) : Type 0 where
-  pub is : read ≡ telecommand_of (world_of log).apid octets
-  pub taken : is_accepted (after (world_of log) (Request by time octets)).answer ≡ true
   pub free : is_full log ≡ false

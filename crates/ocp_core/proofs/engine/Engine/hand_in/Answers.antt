@@ -1,5 +1,6 @@
 use Rattle.std.proofs.Common.{◌≡◌, false, refl, sym, ap, subst, ◌∙◌}
 use Rattle.bpf_step.specs.Step.{StandsIn}
+use Rattle.ocp_table.specs.Snapshots.{snapshot_at}
 use Rattle.ocp_world.specs.After.{Stepped}
 use Rattle.ocp_world.specs.Settled.{world_after_work}
 use Rattle.ocp_world.specs.Mirror.State.{IsWorld}
@@ -15,14 +16,14 @@ use Rattle.ocp_core.proofs.engine.Engine.hand_in.Goals as goal
 pub invariant_of-self : goal.invariant_of-self
 invariant_of-self g c =
     let work : WorkContents = record { id = c.work.inside.id; base = c.work.inside.parts.value.base; end = c.work.inside.parts.value.machine; count = c.work.inside.count } in
-    let fresh = subst (λ p. IsFresh c.self.inside.journal (record work { base = p.base })) c.deref.ensures (fresh_at _ c.self.inside.journal _ _ c.self.invariant (c.is_at.ensures.same.0 c.if-not-is_at.false)) in
+    let fresh = subst (λ p. IsFresh c.self.inside.journal (record work { base = p.base })) c.deref.ensures (fresh_at _ c.self.inside.journal _ _ c.self.invariant (ap snapshot_at c.in-Some.ensures.some ∙ c.is_at.ensures.same.0 c.if-not-is_at.false)) in
     let settled = subst (λ p. IsWorld (world_after_work work.id p.machine work.count (world_of c.self.inside.journal)) c.settle.new.self) c.deref_mut.ensures.value (c.settle.ensures.world _ c.self.invariant) in
     IsWorld-committed c.instructions_done_alone_are_events.ensures.world c.self.inside.journal c.push.new.self c.args.by work c.settle.new.self c.if-count-eq0.false fresh c.work.invariant c.push.ensures settled
 
 pub invariant_of-work : goal.invariant_of-work
 invariant_of-work g c =
     let work : WorkContents = record { id = c.work.inside.id; base = c.work.inside.parts.value.base; end = c.work.inside.parts.value.machine; count = c.work.inside.count } in
-    let fresh = subst (λ p. IsFresh c.self.inside.journal (record work { base = p.base })) c.deref.ensures (fresh_at _ c.self.inside.journal _ _ c.self.invariant (c.is_at.ensures.same.0 c.if-not-is_at.false)) in
+    let fresh = subst (λ p. IsFresh c.self.inside.journal (record work { base = p.base })) c.deref.ensures (fresh_at _ c.self.inside.journal _ _ c.self.invariant (ap snapshot_at c.in-Some.ensures.some ∙ c.is_at.ensures.same.0 c.if-not-is_at.false)) in
     let stands = subst (λ p. StandsIn p.base.image p.base.machine) c.deref.ensures (c.is_at.ensures.stands c.if-not-is_at.false) in
     let run = run_none work.id work.base c.settle.new.machine stands (given_back c.self.inside.journal work _ c.settle.new.machine fresh (c.settle.ensures.machine _ c.self.invariant)) in
     subst (λ p. IsRun (record { id = work.id; base = p.base; end = c.settle.new.machine; count = 0 })) (sym c.deref_mut.ensures.value) run
@@ -30,7 +31,7 @@ invariant_of-work g c =
 pub returns-clause-commits : goal.returns-clause-commits
 returns-clause-commits g c =
     let work : WorkContents = record { id = c.work.inside.id; base = c.work.inside.parts.value.base; end = c.work.inside.parts.value.machine; count = c.work.inside.count } in
-    let fresh = subst (λ p. IsFresh c.self.inside.journal (record work { base = p.base })) c.deref.ensures (fresh_at _ c.self.inside.journal _ _ c.self.invariant (c.is_at.ensures.same.0 c.if-not-is_at.false)) in
+    let fresh = subst (λ p. IsFresh c.self.inside.journal (record work { base = p.base })) c.deref.ensures (fresh_at _ c.self.inside.journal _ _ c.self.invariant (ap snapshot_at c.in-Some.ensures.some ∙ c.is_at.ensures.same.0 c.if-not-is_at.false)) in
     let free : is_full c.self.inside.journal ≡ false = sym c.is_full.ensures ∙ c.if-is_full.false in
     let world = world_committed c.instructions_done_alone_are_events.ensures.world c.self.inside.journal c.push.new.self c.args.by work c.if-count-eq0.false fresh c.work.invariant c.push.ensures in
     subst (λ (log : Log). (c.args.work.now.count ≡ 0 → ⊥) × IsFresh log c.args.work.now × is_full log ≡ false × c.work.inside.count ≡ c.args.work.now.count × IsCommitted log c.push.new.self c.args.by c.args.work.now) c.self.view_is
@@ -40,7 +41,7 @@ returns-clause-commits g c =
 pub returns-clause-work : goal.returns-clause-work
 returns-clause-work g c =
     let work : WorkContents = record { id = c.work.inside.id; base = c.work.inside.parts.value.base; end = c.work.inside.parts.value.machine; count = c.work.inside.count } in
-    let fresh = subst (λ p. IsFresh c.self.inside.journal (record work { base = p.base })) c.deref.ensures (fresh_at _ c.self.inside.journal _ _ c.self.invariant (c.is_at.ensures.same.0 c.if-not-is_at.false)) in
+    let fresh = subst (λ p. IsFresh c.self.inside.journal (record work { base = p.base })) c.deref.ensures (fresh_at _ c.self.inside.journal _ _ c.self.invariant (ap snapshot_at c.in-Some.ensures.some ∙ c.is_at.ensures.same.0 c.if-not-is_at.false)) in
     let given = given_back c.self.inside.journal work _ c.settle.new.machine fresh (c.settle.ensures.machine _ c.self.invariant) in
     let same : (record { id = work.id; base = c.deref_mut.result.now.base; end = c.settle.new.machine; count = 0 }) ≡ work_after work (Committed work.count) =
     ap (λ p. record { id = work.id; base = p.base; end = c.settle.new.machine; count = 0 }) c.deref_mut.ensures.value
@@ -50,17 +51,20 @@ returns-clause-work g c =
 pub push-requires-clause-accepted : goal.push-requires-clause-accepted
 push-requires-clause-accepted g c =
     let work : WorkContents = record { id = c.work.inside.id; base = c.work.inside.parts.value.base; end = c.work.inside.parts.value.machine; count = c.work.inside.count } in
-    let fresh = subst (λ p. IsFresh c.self.inside.journal (record work { base = p.base })) c.deref.ensures (fresh_at _ c.self.inside.journal _ _ c.self.invariant (c.is_at.ensures.same.0 c.if-not-is_at.false)) in
+    let fresh = subst (λ p. IsFresh c.self.inside.journal (record work { base = p.base })) c.deref.ensures (fresh_at _ c.self.inside.journal _ _ c.self.invariant (ap snapshot_at c.in-Some.ensures.some ∙ c.is_at.ensures.same.0 c.if-not-is_at.false)) in
     counted_commit c.instructions_done_alone_are_events.ensures.world c.self.inside.journal c.args.by work c.if-count-eq0.false fresh c.work.invariant
 
 pub push-requires-clause-mark : goal.push-requires-clause-mark
 push-requires-clause-mark g c =
     let work : WorkContents = record { id = c.work.inside.id; base = c.work.inside.parts.value.base; end = c.work.inside.parts.value.machine; count = c.work.inside.count } in
-    let fresh = subst (λ p. IsFresh c.self.inside.journal (record work { base = p.base })) c.deref.ensures (fresh_at _ c.self.inside.journal _ _ c.self.invariant (c.is_at.ensures.same.0 c.if-not-is_at.false)) in
+    let fresh = subst (λ p. IsFresh c.self.inside.journal (record work { base = p.base })) c.deref.ensures (fresh_at _ c.self.inside.journal _ _ c.self.invariant (ap snapshot_at c.in-Some.ensures.some ∙ c.is_at.ensures.same.0 c.if-not-is_at.false)) in
     ap Stepped (sym (commit_mark c.instructions_done_alone_are_events.ensures.answers c.self.inside.journal c.args.by work c.if-count-eq0.false fresh c.work.invariant))
 
 pub returns-then-count-eq0-clause-gain : goal.returns-then-count-eq0-clause-gain
 returns-then-count-eq0-clause-gain g c = grows_none _ _ _ refl refl
+
+pub returns-in_default-clause-gain : goal.returns-in_default-clause-gain
+returns-in_default-clause-gain g c = grows_none _ _ _ refl refl
 
 pub returns-then-not-is_at-clause-gain : goal.returns-then-not-is_at-clause-gain
 returns-then-not-is_at-clause-gain g c = grows_none _ _ _ refl refl

@@ -1,38 +1,57 @@
-use Rattle.std.proofs.Common.{refl, sym, subst, ◌∙◌}
+use Rattle.std.proofs.Common.{refl, sym, ap, subst, ◌∙◌}
 use Rattle.std.specs.FinMap as map
 use Rattle.ocp_table.specs.Outbox.{is_outbox_full}
-use Rattle.ocp_table.specs.Effects.{Changed}
-use Rattle.ocp_table.specs.Shown.{id_of, record_of, change_of, FitsIn, HasPlaceFor}
+use Rattle.ocp_table.specs.Effects.{Unloaded, Changed, table_by}
+use Rattle.ocp_table.specs.Shown.{id_of, record_of, change_of, effect_decided, IfChanges, HasPlaceFor}
 use Rattle.ocp_table.specs.Mirror.Contents.{contents}
+use Rattle.ocp_table.proofs.ContentsLemmas.{contents-removed}
+use Rattle.ocp_table.proofs.Fitting.{fits_by}
 use Rattle.ocp_table.proofs.Held.{place_at, records_at, holds-by}
 use Rattle.ocp_table.proofs.Rooms.{outbox_fits}
-use Rattle.ocp_table.proofs.Tables.{table_is, records-changed, records-unchanged, outbox-changed, outbox-unchanged}
+use Rattle.ocp_table.proofs.Tables.{table_of, table_is, records-changed, records-kept, outbox-changed, outbox-kept, outbox-unloaded, IsSound-removed}
 use Rattle.ocp_table.proofs.table.Table.enact.Goals as goal
 
-pub enact-requires-clause-fits : goal.enact-requires-clause-fits
-enact-requires-clause-fits g c =
-    let fits = subst (λ t. FitsIn (change_of c.args.decided.change) (map.get t.records c.args.id)) (sym c.self.view_is) c.requires.fits in
-    subst (FitsIn (change_of c.args.decided.change)) (c.in-Some.ensures.found.there _ c.index_mut-record.ensures.value) fits
+pub returns-in_default : goal.returns-in_default
+returns-in_default g c =
+    let absent = c.in_default.ensures.absent in
+    rw (← c.self.view_is) (table_is _ _ _ _ _ (records-kept _ c.args.id absent c.args.decided.decision) (outbox-kept _ c.args.id absent c.self.inside.outbox.items c.args.decided.decision))
 
-pub enact-requires-clause-place : goal.enact-requires-clause-place
-enact-requires-clause-place g c = place_at id_of record_of c.self.inside.records c.self.inside.outbox.items _ c.args.id _ c.in-Some.ensures.found c.index_mut-record.ensures.value c.self.invariant
+-- ---- the record is dropped
+
+pub overtake-requires : goal.overtake-requires
+overtake-requires g c = place_at id_of record_of c.self.inside.records c.self.inside.outbox.items _ c.args.id _ c.in-Some.ensures.found c.index.ensures c.self.invariant
 
 pub invariant_of-self : goal.invariant_of-self
 invariant_of-self g c =
     let m = contents id_of record_of c.self.inside.records in
-    let effect = Changed c.args.id (change_of c.args.decided.change) in
-    let there = c.in-Some.ensures.found.there _ c.index_mut-record.ensures.value in
-    let place = subst (λ t. HasPlaceFor (is_outbox_full t.records t.outbox) (change_of c.args.decided.change)) (sym c.self.view_is) c.requires.place in
-    holds-by id_of record_of c.self.inside.records c.self.inside.outbox.items _ c.args.id _ c.in-Some.ensures.found c.index_mut-record.ensures.value c.self.invariant _ c.enact.ensures.id effect _
-    (records_at id_of record_of c.self.inside.records c.self.inside.outbox.items _ c.args.id _ c.in-Some.ensures.found c.index_mut-record.ensures.value c.self.invariant _ c.enact.ensures.id _ refl ∙ records-changed m c.args.id (change_of c.args.decided.change) _ _ there c.enact.ensures.record)
-    (c.enact.ensures.outbox ∙ outbox-changed m c.args.id (change_of c.args.decided.change) _ c.self.inside.outbox.items there)
-    (outbox_fits m c.self.inside.outbox.items c.self.invariant.places effect place)
+    let found = c.in-Some.ensures.found in
+    let gone = contents-removed id_of record_of c.self.inside.records c.remove.new.self _ _ c.self.invariant.sound.distinct c.index.ensures c.remove.ensures.updates ∙ ap (map.remove m) (found.named _ c.index.ensures) in
+    let files = c.overtake.ensures ∙ outbox-unloaded m c.args.id (record_of c.index.result.now) c.self.inside.outbox.items (found.there _ c.index.ensures) in
+    record {
+      sound = IsSound-removed id_of c.self.inside.records c.remove.new.self _ c.self.invariant.sound c.remove.ensures.updates c.remove.ensures.len c.remove.ensures.capacity;
+      places = fits_by m _ c.self.inside.outbox.items _ (Unloaded c.args.id) gone files (outbox_fits m c.self.inside.outbox.items c.self.invariant.places (Unloaded c.args.id) tt);
+    }
 
-pub returns-in_default : goal.returns-in_default
-returns-in_default g c = rw (← c.self.view_is) (table_is _ _ _ _ _ (records-unchanged _ c.args.id (change_of c.args.decided.change) c.in_default.ensures.absent) (outbox-unchanged _ c.args.id (change_of c.args.decided.change) c.self.inside.outbox.items c.in_default.ensures.absent))
-
-pub returns : goal.returns
-returns g c =
+pub returns-in-Unloads : goal.returns-in-Unloads
+returns-in-Unloads g c =
     let m = contents id_of record_of c.self.inside.records in
-    let there = c.in-Some.ensures.found.there _ c.index_mut-record.ensures.value in
-    rw (← c.self.view_is) (table_is _ _ _ _ _ (records_at id_of record_of c.self.inside.records c.self.inside.outbox.items _ c.args.id _ c.in-Some.ensures.found c.index_mut-record.ensures.value c.self.invariant _ c.enact.ensures.id _ refl ∙ records-changed m c.args.id (change_of c.args.decided.change) _ _ there c.enact.ensures.record) (c.enact.ensures.outbox ∙ outbox-changed (contents id_of record_of c.self.inside.records) c.args.id (change_of c.args.decided.change) _ c.self.inside.outbox.items there))
+    let found = c.in-Some.ensures.found in
+    let gone = contents-removed id_of record_of c.self.inside.records c.remove.new.self _ _ c.self.invariant.sound.distinct c.index.ensures c.remove.ensures.updates ∙ ap (map.remove m) (found.named _ c.index.ensures) in
+    let files = c.overtake.ensures ∙ outbox-unloaded m c.args.id (record_of c.index.result.now) c.self.inside.outbox.items (found.there _ c.index.ensures) in
+    rw (← c.self.view_is) (table_is _ _ _ _ _ gone files ∙ ap (λ d. table_by (effect_decided c.args.id d) (table_of c.self.inside.profile m c.self.inside.outbox.items)) (sym c.in-Unloads.is))
+
+-- ---- the record is changed
+
+pub enact-requires-clause-place : goal.enact-requires-clause-place
+enact-requires-clause-place g c = place_at id_of record_of c.self.inside.records c.self.inside.outbox.items _ c.args.id _ c.in-Some.ensures.found c.index_mut.ensures.value c.self.invariant
+
+pub invariant_of-self-in-Changes : goal.invariant_of-self-in-Changes
+invariant_of-self-in-Changes g c =
+    let m = contents id_of record_of c.self.inside.records in
+    let change = change_of c.in-Changes.change in
+    let there = c.in-Some.ensures.found.there _ c.index_mut.ensures.value in
+    let place = subst (λ d. IfChanges d (HasPlaceFor (is_outbox_full m c.self.inside.outbox.items))) (c.in-Changes.is) (subst (λ t. IfChanges c.args.decided.decision (HasPlaceFor (is_outbox_full t.records t.outbox))) (sym c.self.view_is) c.requires.place) in
+    holds-by id_of record_of c.self.inside.records c.self.inside.outbox.items _ c.args.id _ c.in-Some.ensures.found c.index_mut.ensures.value c.self.invariant _ c.enact.ensures.id (Changed c.args.id change) _
+    (records_at id_of record_of c.self.inside.records c.self.inside.outbox.items _ c.args.id _ c.in-Some.ensures.found c.index_mut.ensures.value c.self.invariant _ c.enact.ensures.id _ refl ∙ records-changed m c.args.id change _ _ there c.enact.ensures.record)
+    (c.enact.ensures.outbox ∙ outbox-changed m c.args.id change _ c.self.inside.outbox.items there)
+    (outbox_fits m c.self.inside.outbox.items c.self.invariant.places (Changed c.args.id change) place)

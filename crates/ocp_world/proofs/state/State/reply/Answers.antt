@@ -11,7 +11,7 @@ pub returns-clause-does : goal.returns-clause-does
 returns-clause-does g c w stands =
     let dispatches = reports_of c.args.origin c.args.outcome (option_to_list c.args.answer.now) in
     let are : c.in_ok-reports.reports ≡ packets c.args.self.now.sender.apid c.args.self.now.sender.count dispatches =
-    subst (λ made. IfOk made (λ r. r ≡ packets c.args.self.now.sender.apid c.args.self.now.sender.count dispatches)) (sym c.in_ok-reports.ensures.same) c.copied_reports-made.ensures in
+    subst (λ made. IfOk made (λ r. r ≡ packets c.args.self.now.sender.apid c.args.self.now.sender.count dispatches)) (sym c.in_ok-reports.ensures.same) c.shared_reports-made.ensures in
     let count : c.count_after-self.result ≡ (c.args.self.now.sender.count + length c.in_ok-reports.reports) % 16384 = c.count_after-self.ensures ∙ ap (λ n. (c.args.self.now.sender.count + n) % 16384) c.len.ensures in (
       ap (λ reports. Requested (Ok reports)) (sent_reports w c.args.self.now dispatches c.in_ok-reports.reports stands are),
       IsWorld-sent w c.args.self.now dispatches c.in_ok-reports.reports stands are c.count_after-self.result count,

@@ -1,7 +1,7 @@
 use Rattle.std.proofs.Common.{sym, ◌∙◌, rules}
 use Rattle.ocp_core.specs.Log.{world_of}
 use Rattle.ocp_core.proofs.Draining.{undue, full, taken, counted_so, refused_so, answered, marked_so, stands_after, journal_after}
-use Rattle.ocp_core.proofs.engine.Engine.drain_with_copy.Goals as goal
+use Rattle.ocp_core.proofs.engine.Engine.receipted_drain.Goals as goal
 
 pub returns-then-not-is_due-clause-answer : goal.returns-then-not-is_due-clause-answer
 returns-then-not-is_due-clause-answer g c =

@@ -3,7 +3,7 @@ use Rattle.std.specs.Option.{option_to_list}
 use Rattle.std.specs.List.{flat_map}
 use Rattle.ocp_reports.specs.Reports.{dispatch_of_notice}
 use Rattle.ocp_reports.specs.Packets.{packets}
-use Rattle.ocp_reports.proofs.sender.Sender.copied_reports.Given as goal
+use Rattle.ocp_reports.proofs.sender.Sender.shared_reports.Given as goal
 
 -- the packets of the notices so far
 abbrev pub invariant-loop-notice : goal.invariant-loop-notice
