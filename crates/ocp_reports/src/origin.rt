@@ -2,10 +2,10 @@
 
 use bitflags::Flags;
 use obcp_types::Due;
-use pus_fields::{Ack, Tc};
+use pus_fields::Ack;
 
 /// What a request's reports repeat of it: its first four octets, its acknowledgement flags, the
-/// destination of the reports and the time at which it came.
+/// destination of the reports, which is the request's source, and the time at which it came.
 #[derive(Clone, Copy)]
 pub struct Origin {
     pub request: [u8; 4],
@@ -16,20 +16,8 @@ pub struct Origin {
 
 impl Origin {
     ghost use Rattle.std.specs.Prelude.{◌≡◌};
-    ghost use Rattle.ocp_reports.specs.Origin.{origin_of, origin_of_packet};
+    ghost use Rattle.ocp_reports.specs.Origin.{origin_of_packet};
     ghost use Rattle.ocp_reports.specs.Due.{origin_of_due};
-
-    /// That of a telecommand: its reports go to its source.
-    pub fn of_telecommand(telecommand: &Tc, time: u32) -> Origin
-        ensures { result ≡ origin_of telecommand.now time }
-    {
-        Origin {
-            request: telecommand.id(),
-            ack: telecommand.ack(),
-            destination: telecommand.source(),
-            time,
-        }
-    }
 
     /// That of a packet whose secondary header is not read: its reports go to destination 0, and no
     /// report of success is asked for.

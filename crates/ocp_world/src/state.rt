@@ -241,7 +241,12 @@ impl<A: Allocator + Copy> State<A> {
     {
         match read {
             Ok(telecommand) => {
-                let origin = Origin::of_telecommand(&telecommand, time);
+                let origin = Origin {
+                    request: telecommand.id(),
+                    ack: telecommand.ack(),
+                    destination: telecommand.source(),
+                    time,
+                };
                 match read_request(self.table.profile(), &telecommand) {
                     Ok(request) => self.serve(heap, event, origin, request),
                     Err(fault) => {

@@ -42,7 +42,7 @@ pub tc_accepted : (apid : ℕ) (octets : List ℕ) (header : Primary) (field : L
 tc_accepted apid octets header field e t o r =
     ap (λ (x : Option Rejection). unless_rejected octets x (telecommand_in header.apid header.count field)) r ∙ sym (tc_ours apid octets header field e t o)
 
-same_telecommand : (a b : Telecommand) → a.apid ≡ b.apid → a.count ≡ b.count → flags_of a.ack ≡ flags_of b.ack → a.service ≡ b.service → a.subtype ≡ b.subtype → a.source ≡ b.source → a.payload ≡ b.payload → a ≡ b
+pub same_telecommand : (a b : Telecommand) → a.apid ≡ b.apid → a.count ≡ b.count → flags_of a.ack ≡ flags_of b.ack → a.service ≡ b.service → a.subtype ≡ b.subtype → a.source ≡ b.source → a.payload ≡ b.payload → a ≡ b
 same_telecommand a b h1 h2 h3 h4 h5 h6 h7 = λ i. record {
   apid = h1 i;
   count = h2 i;

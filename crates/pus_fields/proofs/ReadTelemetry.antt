@@ -1,5 +1,5 @@
 -- What is read as telemetry.
-use Rattle.std.proofs.Common.{◌≡◌, ◌≢◌, ◌<◌, ◌≤◌, ◌⊎◌, ◌&&◌, inl, inr, ℕ, ◌+◌, ◌*◌, ◌/◌, ◌%◌, ◌^◌, Bool, true, false, eqb, List, [], ◌∷◌, ◌++◌, length, drop, slice_index, refl, sym, ap, subst, ◌∙◌, arith, Option, Some, None, Ok, Err, eq-eqb, eqb-true}
+use Rattle.std.proofs.Common.{◌≡◌, ◌≢◌, ◌<◌, ◌≤◌, ◌⊎◌, ◌&&◌, inl, inr, ℕ, ◌+◌, ◌*◌, ◌/◌, ◌%◌, ◌^◌, Bool, true, false, eqb, List, [], ◌∷◌, ◌++◌, length, drop, slice_index, refl, sym, ap, subst, ◌∙◌, arith, Option, Some, None, Ok, Err, eq-eqb, ne_eqb}
 use Rattle.byteorder.specs.Endian.{big_bytes, big_number}
 use Rattle.space_packet.specs.declared.primary.Primary.{Primary}
 use Rattle.space_packet.specs.declared.fault.PacketFault.{PacketFault}
@@ -48,10 +48,6 @@ pub tm_accepted : (octets : List ℕ) (header : Primary) (field : List ℕ) → 
     → None ≡ rejection_of 13 octets header field → tests_profile field ≡ true → Ok (telemetry_in header.apid header.count field) ≡ telemetry_of octets
 tm_accepted octets header field e t r same = rw same at (tm_sound octets header field e t r)
 
-both_true : (a b : Bool) → (a && b) ≡ true → (a ≡ true) × (b ≡ true)
-both_true true b e = (refl, e)
-both_true false b e = absurd cc
-
 one_false : (a b : Bool) → (a && b) ≡ false → (a ≡ false) ⊎ (b ≡ false)
 one_false true b e = inr e
 one_false false b e = inl refl
@@ -59,13 +55,20 @@ one_false false b e = inl refl
 not_equal : (a b : ℕ) → eqb a b ≡ false → a ≢ b
 not_equal a b e same = let yes = eq-eqb a b same in absurd cc
 
-pub profile_fields : (field : List ℕ) → tests_profile field ≡ true → (slice_index field 0 % 2 ^ 4 ≡ 0) × (big_number 2 (drop 3 field) ≡ 0)
-profile_fields field e = let both = both_true _ _ e in (eqb-true _ _ both.0, eqb-true _ _ both.1)
+-- the two tests, one at a time
+pub other_status : (field : List ℕ) → slice_index field 0 % 2 ^ 4 ≢ 0 → tests_profile field ≡ false
+other_status field h = rw (ne_eqb _ _ h) refl
+
+pub other_counter : (field : List ℕ) → slice_index field 0 % 2 ^ 4 ≡ 0 → big_number 2 (drop 3 field) ≢ 0 → tests_profile field ≡ false
+other_counter field a h = rw (eq-eqb _ _ a, ne_eqb _ _ h) refl
+
+pub both_pass : (field : List ℕ) → slice_index field 0 % 2 ^ 4 ≡ 0 → big_number 2 (drop 3 field) ≡ 0 → tests_profile field ≡ true
+both_pass field a b = rw (eq-eqb _ _ a, eq-eqb _ _ b) refl
 
 pub other_profile : (field : List ℕ) → tests_profile field ≡ false → IsOtherProfile field
 other_profile field e = elim (one_false (eqb (slice_index field 0 % 2 ^ 4) 0) (eqb (big_number 2 (drop 3 field)) 0) e) [ inl a ↦ inl (not_equal _ _ a) | inr b ↦ inr (not_equal _ _ b) ]
 
-same_telemetry : (a b : Telemetry) → a.apid ≡ b.apid → a.count ≡ b.count → a.service ≡ b.service → a.subtype ≡ b.subtype → a.destination ≡ b.destination → a.time ≡ b.time → a.payload ≡ b.payload → a ≡ b
+pub same_telemetry : (a b : Telemetry) → a.apid ≡ b.apid → a.count ≡ b.count → a.service ≡ b.service → a.subtype ≡ b.subtype → a.destination ≡ b.destination → a.time ≡ b.time → a.payload ≡ b.payload → a ≡ b
 same_telemetry a b h1 h2 h3 h4 h5 h6 h7 = λ i. record {
   apid = h1 i;
   count = h2 i;

@@ -1,11 +1,10 @@
 //! Reading packets.
 
-ghost use Rattle.std.specs.Prelude.{◌≡◌, ◌<◌, ◌≤◌, ◌%◌, ◌^◌, ◌==◌, ◌&&◌, drop, slice_index, IfOk, IfErr, Ok, length};
-ghost use Rattle.byteorder.specs.Endian.{big_number};
+ghost use Rattle.std.specs.Prelude.{◌≡◌, ◌<◌, ◌%◌, IfOk, IfErr, Ok};
 ghost use Rattle.pus_fields.specs.Telecommand.{IsTelecommand, Telecommand};
-ghost use Rattle.pus_fields.specs.TelecommandFaults.{HasTcFault, telecommand_in, telecommand_of};
+ghost use Rattle.pus_fields.specs.TelecommandFaults.{HasTcFault, telecommand_of};
 ghost use Rattle.pus_fields.specs.Telemetry.{IsTelemetry, Telemetry};
-ghost use Rattle.pus_fields.specs.TelemetryFaults.{HasTmFault, telemetry_in, telemetry_of};
+ghost use Rattle.pus_fields.specs.TelemetryFaults.{HasTmFault, telemetry_of};
 ghost use Rattle.space_packet.specs.declared.range.TheConstants.{IDLE_APID};
 
 use crate::ack::Ack;
@@ -16,30 +15,6 @@ use crate::telemetry::Tm;
 use bitflags::Flags;
 use byteorder::{BigEndian, ByteOrder};
 use space_packet::{Apid, Primary};
-
-/// What the packet with this header and this data field says.
-fn tc_in<'a>(header: &Primary, field: &'a [u8]) -> Tc<'a>
-    requires apid { header.now.apid < IDLE_APID }
-    requires room { 7 ≤ length field.now }
-    ensures { result ≡ telecommand_in header.now.apid header.now.count field.now }
-{
-    let ack = Ack::from_bits_retain(field[0] % 16);
-    let (service, subtype) = (field[1], field[2]);
-    let source = BigEndian::read_u16(&field[3..]);
-    let payload = &field[5..field.len() - 2];
-    match Tc::new(
-        header.apid,
-        header.count,
-        ack,
-        service,
-        subtype,
-        source,
-        payload,
-    ) {
-        Some(tc) => tc,
-        None => unreachable!(),
-    }
-}
 
 /// The telecommand for this application process that the octets are (CCSDS 133.0-B, 4.1;
 /// ECSS-E-ST-70-41C, 7.4.4). Refusals, in this order: the packet is discarded as Short, Version,
@@ -67,32 +42,20 @@ pub fn read_tc<'a>(apid: Apid, octets: &'a [u8]) -> Result<Tc<'a>, TcFault>
         let id = [octets[0], octets[1], octets[2], octets[3]];
         return Err(TcFault::Rejected(why, id));
     }
-    Ok(tc_in(&header, field))
-}
-
-/// What the packet with this header and this data field says.
-fn tm_in<'a>(header: &Primary, field: &'a [u8]) -> Tm<'a>
-    requires { 13 ≤ length field.now }
-    ensures { result ≡ telemetry_in header.now.apid header.now.count field.now }
-{
-    Tm::new(
+    let ack = Ack::from_bits_retain(field[0] % 16);
+    let (service, subtype) = (field[1], field[2]);
+    match Tc::new(
         header.apid,
         header.count,
-        field[1],
-        field[2],
-        BigEndian::read_u16(&field[5..]),
-        BigEndian::read_u32(&field[7..]),
-        &field[11..field.len() - 2],
-    )
-}
-
-/// Whether the time reference status and the message type counter are 0.
-fn is_in_profile(field: &[u8]) -> bool
-    requires { 5 ≤ length field.now }
-    ensures { result ≡
-        ((slice_index field.now 0 % 2 ^ 4 == 0) && (big_number 2 (drop 3 field.now) == 0)) }
-{
-    field[0] % 16 == 0 && BigEndian::read_u16(&field[3..]) == 0
+        ack,
+        service,
+        subtype,
+        BigEndian::read_u16(&field[3..]),
+        &field[5..field.len() - 2],
+    ) {
+        Some(tc) => Ok(tc),
+        None => unreachable!(),
+    }
 }
 
 /// The telemetry that the octets are (CCSDS 133.0-B, 4.1; ECSS-E-ST-70-41C, 7.4.3). Refusals, in
@@ -114,8 +77,21 @@ pub fn read_tm(octets: &[u8]) -> Result<Tm, TmFault>
     if let Some(why) = rejection(13, octets, &header, field) {
         return Err(why.into());
     }
-    if !is_in_profile(field) {
+    let time_reference_status = field[0] % 16;
+    if time_reference_status != 0 {
         return Err(TmFault::NotProfile);
     }
-    Ok(tm_in(&header, field))
+    let message_type_counter = BigEndian::read_u16(&field[3..]);
+    if message_type_counter != 0 {
+        return Err(TmFault::NotProfile);
+    }
+    Ok(Tm::new(
+        header.apid,
+        header.count,
+        field[1],
+        field[2],
+        BigEndian::read_u16(&field[5..]),
+        BigEndian::read_u32(&field[7..]),
+        &field[11..field.len() - 2],
+    ))
 }

@@ -1,8 +1,8 @@
 //! Why a packet is rejected.
 
-ghost use Rattle.std.specs.Prelude.{◌≡◌, ◌≤◌, ◌↔◌, ◌==◌, IsTrue, MatchOption, length};
+ghost use Rattle.std.specs.Prelude.{◌≡◌, ◌≤◌, MatchOption, length};
 ghost use Rattle.pus_fields.specs.ErrorControl.{error_control};
-ghost use Rattle.pus_fields.specs.Rejections.{HasErrorControl, IsRejected, IsSound, covered_octets, last_two, rejection_of};
+ghost use Rattle.pus_fields.specs.Rejections.{IsRejected, IsSound, rejection_of};
 
 use crate::error_control::crc16;
 use crate::fault::Rejection;
@@ -11,16 +11,6 @@ use space_packet::{Primary, SequenceFlags};
 
 /// The version number of a secondary header.
 const PUS_VERSION: u8 = 2;
-
-/// Whether the last two octets are the error control of those before them.
-fn has_error_control(octets: &[u8]) -> bool
-    requires { 2 ≤ length octets.now }
-    ensures checked { IsTrue result ↔ HasErrorControl octets.now }
-    ensures value { result ≡ (error_control (covered_octets octets.now) == last_two octets.now) }
-{
-    let end = octets.len() - 2;
-    crc16(&octets[..end]) == BigEndian::read_u16(&octets[end..])
-}
 
 /// Why the packet with this header and this data field of at least so many octets is rejected.
 pub(crate) fn rejection(
@@ -44,7 +34,8 @@ pub(crate) fn rejection(
     if field.len() < least {
         return Some(Rejection::NoRoom);
     }
-    if !has_error_control(octets) {
+    let end = octets.len() - 2;
+    if crc16(&octets[..end]) != BigEndian::read_u16(&octets[end..]) {
         return Some(Rejection::Pec);
     }
     if field[0] >> 4 != PUS_VERSION {

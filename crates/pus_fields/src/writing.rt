@@ -1,8 +1,8 @@
 //! Writing packets.
 
 ghost use Rattle.std.specs.Prelude.{◌≡◌, ◌<◌, ◌≤◌, ◌+◌, ◌↔◌, ℕ, List, ◌++◌, length, OnOk, OnErr, IsErrOf, vec_len, vec_capacity};
-ghost use Rattle.pus_fields.specs.Telecommand.{IsTelecommand, IsTelecommandInRange, telecommand_covered, telecommand_octets};
-ghost use Rattle.pus_fields.specs.Telemetry.{IsTelemetry, IsTelemetryInRange, telemetry_covered, telemetry_octets};
+ghost use Rattle.pus_fields.specs.Telecommand.{IsTelecommand, telecommand_octets};
+ghost use Rattle.pus_fields.specs.Telemetry.{IsTelemetry, telemetry_octets};
 
 use crate::appending::append_error_control;
 use crate::fault::WriteFault;
@@ -22,25 +22,6 @@ pub const MAX_TELECOMMAND_DATA: usize = 65_529;
 /// The most octets of a telemetry packet's payload: its secondary header has 11 octets.
 pub const MAX_TELEMETRY_DATA: usize = 65_523;
 
-/// Appends a telecommand but its error control.
-fn append_tc<A: Allocator>(tc: &Tc, out: &mut Vec<u8, A>)
-    requires length { length tc.now.payload ≤ MAX_TELECOMMAND_DATA }
-    requires room { vec_len out.old + (11 + length tc.now.payload) ≤ vec_capacity out.old }
-    ensures items { out.new.items ≡ out.old.items ++ telecommand_covered tc.now }
-    ensures len { vec_len out.new ≡ vec_len out.old + (11 + length tc.now.payload) }
-    ensures capacity { vec_capacity out.old ≤ vec_capacity out.new }
-    ensures in_range { IsTelecommandInRange tc.now }
-{
-    let payload = tc.payload();
-    out.extend_from_slice(&tc.id()).unwrap();
-    out.extend_from_slice(&((payload.len() + 6) as u16).to_be_bytes())
-        .unwrap();
-    out.extend_from_slice(&[VERSION_OCTET + tc.ack().bits(), tc.service(), tc.subtype()])
-        .unwrap();
-    out.extend_from_slice(&tc.source().to_be_bytes()).unwrap();
-    out.extend_from_slice(payload).unwrap();
-}
-
 /// Appends the packet of a telecommand (CCSDS 133.0-B, 4.1; ECSS-E-ST-70-41C, 7.4.4): 13 octets
 /// more than its payload has. It is refused, with the vector and its capacity as they were, where
 /// 1. the payload has over 65,529 octets; 2. memory runs out. The capacity never shrinks.
@@ -57,40 +38,23 @@ pub fn write_tc<A: Allocator>(tc: &Tc, out: &mut Vec<u8, A>) -> Result<(), Write
     ensures same_capacity { OnErr result (vec_capacity out.new ≡ vec_capacity out.old) }
     ensures capacity { vec_capacity out.old ≤ vec_capacity out.new }
 {
-    let length = tc.payload().len();
-    if length > MAX_TELECOMMAND_DATA {
+    let payload = tc.payload();
+    if payload.len() > MAX_TELECOMMAND_DATA {
         return Err(WriteFault::TooLong);
     }
-    out.reserve(13 + length).map_err(|_| WriteFault::Memory)?;
+    out.reserve(13 + payload.len())
+        .map_err(|_| WriteFault::Memory)?;
     written_octets_are_the_packet();
     let start = out.len();
-    append_tc(tc, out);
+    out.extend_from_slice(&tc.id()).unwrap();
+    out.extend_from_slice(&((payload.len() + 6) as u16).to_be_bytes())
+        .unwrap();
+    out.extend_from_slice(&[VERSION_OCTET + tc.ack().bits(), tc.service(), tc.subtype()])
+        .unwrap();
+    out.extend_from_slice(&tc.source().to_be_bytes()).unwrap();
+    out.extend_from_slice(payload).unwrap();
     append_error_control(out, start);
     Ok(())
-}
-
-/// Appends a telemetry packet but its error control.
-fn append_tm<A: Allocator>(tm: &Tm, out: &mut Vec<u8, A>)
-    requires length { length tm.now.payload ≤ MAX_TELEMETRY_DATA }
-    requires room { vec_len out.old + (17 + length tm.now.payload) ≤ vec_capacity out.old }
-    ensures items { out.new.items ≡ out.old.items ++ telemetry_covered tm.now }
-    ensures len { vec_len out.new ≡ vec_len out.old + (17 + length tm.now.payload) }
-    ensures capacity { vec_capacity out.old ≤ vec_capacity out.new }
-    ensures in_range { IsTelemetryInRange tm.now }
-{
-    let payload = tm.payload();
-    out.extend_from_slice(&((1 << 11) + tm.apid().number()).to_be_bytes())
-        .unwrap();
-    out.extend_from_slice(&((3 << 14) + tm.count().number()).to_be_bytes())
-        .unwrap();
-    out.extend_from_slice(&((payload.len() + 12) as u16).to_be_bytes())
-        .unwrap();
-    out.extend_from_slice(&[VERSION_OCTET, tm.service(), tm.subtype(), 0, 0])
-        .unwrap();
-    out.extend_from_slice(&tm.destination().to_be_bytes())
-        .unwrap();
-    out.extend_from_slice(&tm.time().to_be_bytes()).unwrap();
-    out.extend_from_slice(payload).unwrap();
 }
 
 /// Appends the packet of telemetry (CCSDS 133.0-B, 4.1; ECSS-E-ST-70-41C, 7.4.3): 19 octets more
@@ -109,14 +73,26 @@ pub fn write_tm<A: Allocator>(tm: &Tm, out: &mut Vec<u8, A>) -> Result<(), Write
     ensures same_capacity { OnErr result (vec_capacity out.new ≡ vec_capacity out.old) }
     ensures capacity { vec_capacity out.old ≤ vec_capacity out.new }
 {
-    let length = tm.payload().len();
-    if length > MAX_TELEMETRY_DATA {
+    let payload = tm.payload();
+    if payload.len() > MAX_TELEMETRY_DATA {
         return Err(WriteFault::TooLong);
     }
-    out.reserve(19 + length).map_err(|_| WriteFault::Memory)?;
+    out.reserve(19 + payload.len())
+        .map_err(|_| WriteFault::Memory)?;
     written_octets_are_the_packet();
     let start = out.len();
-    append_tm(tm, out);
+    out.extend_from_slice(&((1 << 11) + tm.apid().number()).to_be_bytes())
+        .unwrap();
+    out.extend_from_slice(&((3 << 14) + tm.count().number()).to_be_bytes())
+        .unwrap();
+    out.extend_from_slice(&((payload.len() + 12) as u16).to_be_bytes())
+        .unwrap();
+    out.extend_from_slice(&[VERSION_OCTET, tm.service(), tm.subtype(), 0, 0])
+        .unwrap();
+    out.extend_from_slice(&tm.destination().to_be_bytes())
+        .unwrap();
+    out.extend_from_slice(&tm.time().to_be_bytes()).unwrap();
+    out.extend_from_slice(payload).unwrap();
     append_error_control(out, start);
     Ok(())
 }

@@ -1,7 +1,10 @@
-use Rattle.std.proofs.Common.{true, ◌≡◌, ◌≤◌, ◌∙◌, ap, sym, length, arith, Err, Ok, eqb-true}
+use Rattle.std.proofs.Common.{true, ◌≡◌, ◌≤◌, ◌∙◌, ap, sym, length, arith, refl, Err, Ok, eqb-true}
+use Rattle.std.proofs.lemmas.List.{take_rest}
+use Rattle.byteorder.specs.Endian.{big_number}
 use Rattle.pus_fields.specs.Controlled.{whole_header}
+use Rattle.pus_fields.specs.TelecommandFaults.{telecommand_in}
 use Rattle.pus_fields.proofs.Fields.{four, not-false, not-true, packet-length}
-use Rattle.pus_fields.proofs.ReadTelecommand.{sound_is, tc_accepted, tc_is_read, tc_no_packet, tc_not_telecommand, tc_other, tc_rejected}
+use Rattle.pus_fields.proofs.ReadTelecommand.{same_telecommand, sound_is, tc_accepted, tc_is_read, tc_no_packet, tc_not_telecommand, tc_other, tc_rejected}
 use Rattle.pus_fields.proofs.reading.read_tc.Goals as goal
 
 pub returns-in-Err-clause-value : goal.returns-in-Err-clause-value
@@ -32,9 +35,12 @@ returns-in-Some-clause-err c =
     (four octets long, (c.in-Ok.found.0, c.in-Ok.found.1.now, c.in-Ok.ensures.ok, (c.if-not-header.false, ours, c.in-Some.ensures.reason)))
 
 pub returns-clause-value : goal.returns-clause-value
-returns-clause-value c = ap Ok c.tc_in.ensures ∙ tc_accepted c.args.apid c.args.octets.now _ _ c.in-Ok.ensures.value c.if-not-header.false (not-false _ c.if-ne.ensures) c.in_default.ensures.value
+returns-clause-value c =
+    let said = c.in-Some-new.ensures.1 ∙ same_telecommand _ (telecommand_in c.in-Ok.found.0.apid c.in-Ok.found.0.count c.in-Ok.found.1.now) refl refl (c.from_bits_retain-ack.ensures tt) refl refl (c.read_u16.ensures ∙ ap (big_number 2) (take_rest c.in-Ok.found.1.now 3)) refl in
+    ap Ok said ∙ tc_accepted c.args.apid c.args.octets.now _ _ c.in-Ok.ensures.value c.if-not-header.false (not-false _ c.if-ne.ensures) c.in_default.ensures.value
 
 pub returns-clause-ok : goal.returns-clause-ok
 returns-clause-ok c =
+    let said = c.in-Some-new.ensures.1 ∙ same_telecommand _ (telecommand_in c.in-Ok.found.0.apid c.in-Ok.found.0.count c.in-Ok.found.1.now) refl refl (c.from_bits_retain-ack.ensures tt) refl refl (c.read_u16.ensures ∙ ap (big_number 2) (take_rest c.in-Ok.found.1.now 3)) refl in
     let ours : c.in-Ok.found.0.apid ≡ c.args.apid = eqb-true _ _ (not-false _ c.if-ne.ensures) in
-    rw c.tc_in.ensures (sound_is c.args.octets.now _ _ c.in-Ok.ensures.ok c.in_default.ensures.reason c.if-not-header.false (omega (arith, ours, c.requires)) (λ i. omega (arith, c.type_inv.octets i)), ours)
+    rw said (sound_is c.args.octets.now _ _ c.in-Ok.ensures.ok c.in_default.ensures.reason c.if-not-header.false (omega (arith, ours, c.requires)) (λ i. omega (arith, c.type_inv.octets i)), ours)

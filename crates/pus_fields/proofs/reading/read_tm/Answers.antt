@@ -1,6 +1,9 @@
-use Rattle.std.proofs.Common.{false, ◌∙◌, ap, sym, arith, Err, Ok}
+use Rattle.std.proofs.Common.{false, ◌∙◌, ap, sym, arith, refl, Err, Ok}
+use Rattle.std.proofs.lemmas.List.{take_rest}
+use Rattle.byteorder.specs.Endian.{big_number}
 use Rattle.pus_fields.specs.Controlled.{whole_header}
-use Rattle.pus_fields.proofs.ReadTelemetry.{profile_fields, sound_tm_is, tm_accepted, tm_is_read, tm_no_packet, tm_not_profile, tm_not_telemetry, tm_rejected}
+use Rattle.pus_fields.specs.TelemetryFaults.{telemetry_in}
+use Rattle.pus_fields.proofs.ReadTelemetry.{both_pass, other_counter, other_status, same_telemetry, sound_tm_is, tm_accepted, tm_is_read, tm_no_packet, tm_not_profile, tm_not_telemetry, tm_rejected}
 use Rattle.pus_fields.proofs.reading.read_tm.Goals as goal
 
 pub returns-in-Err-clause-value : goal.returns-in-Err-clause-value
@@ -17,11 +20,19 @@ returns-in-Some-clause-only c tm h =
     let same = c.in-Ok.ensures.only (whole_header false tm.apid tm.count) _ h.controlled.packet in
     returns-in-Some-clause-value c ∙ tm_is_read c.args.octets.now _ _ c.in-Ok.ensures.value tm h same.0 same.1
 
-pub returns-then-not-is_in_profile-clause-value : goal.returns-then-not-is_in_profile-clause-value
-returns-then-not-is_in_profile-clause-value c = tm_not_profile c.args.octets.now _ _ c.in-Ok.ensures.value c.if-header.false c.in_default.ensures.value (sym c.if-not-is_in_profile.ensures)
+pub returns-then-time_reference_status-ne0-clause-value : goal.returns-then-time_reference_status-ne0-clause-value
+returns-then-time_reference_status-ne0-clause-value c = tm_not_profile c.args.octets.now _ _ c.in-Ok.ensures.value c.if-header.false c.in_default.ensures.value (other_status c.in-Ok.found.1.now c.if-time_reference_status-ne0.true)
+
+pub returns-then-message_type_counter-ne0-clause-value : goal.returns-then-message_type_counter-ne0-clause-value
+returns-then-message_type_counter-ne0-clause-value c =
+    let counter = c.read_u16-message_type_counter.ensures ∙ ap (big_number 2) (take_rest c.in-Ok.found.1.now 3) in
+    tm_not_profile c.args.octets.now _ _ c.in-Ok.ensures.value c.if-header.false c.in_default.ensures.value (other_counter c.in-Ok.found.1.now c.if-time_reference_status-ne0.false (λ zero. c.if-message_type_counter-ne0.true (counter ∙ zero)))
 
 pub returns-clause-value : goal.returns-clause-value
-returns-clause-value c = ap Ok c.tm_in.ensures ∙ tm_accepted c.args.octets.now _ _ c.in-Ok.ensures.value c.if-header.false c.in_default.ensures.value (sym c.if-not-is_in_profile.ensures)
+returns-clause-value c =
+    let said = c.new.ensures ∙ same_telemetry _ (telemetry_in c.in-Ok.found.0.apid c.in-Ok.found.0.count c.in-Ok.found.1.now) refl refl refl refl (c.read_u16.ensures ∙ ap (big_number 2) (take_rest c.in-Ok.found.1.now 5)) (c.read_u32.ensures ∙ ap (big_number 4) (take_rest c.in-Ok.found.1.now 7)) refl in
+    let counter = sym (c.read_u16-message_type_counter.ensures ∙ ap (big_number 2) (take_rest c.in-Ok.found.1.now 3)) ∙ c.if-message_type_counter-ne0.false in
+    ap Ok said ∙ tm_accepted c.args.octets.now _ _ c.in-Ok.ensures.value c.if-header.false c.in_default.ensures.value (both_pass c.in-Ok.found.1.now c.if-time_reference_status-ne0.false counter)
 
 pub returns-clause-only : goal.returns-clause-only
 returns-clause-only c tm h =
@@ -30,5 +41,6 @@ returns-clause-only c tm h =
 
 pub returns-clause-ok : goal.returns-clause-ok
 returns-clause-ok c =
-    let fields = profile_fields c.in-Ok.found.1.now (sym c.if-not-is_in_profile.ensures) in
-    rw c.tm_in.ensures (sound_tm_is c.args.octets.now _ _ c.in-Ok.ensures.ok c.in_default.ensures.reason c.if-header.false fields.0 fields.1 (λ i. omega (arith, c.type_inv.octets i)))
+    let counter = sym (c.read_u16-message_type_counter.ensures ∙ ap (big_number 2) (take_rest c.in-Ok.found.1.now 3)) ∙ c.if-message_type_counter-ne0.false in
+    let said = c.new.ensures ∙ same_telemetry _ (telemetry_in c.in-Ok.found.0.apid c.in-Ok.found.0.count c.in-Ok.found.1.now) refl refl refl refl (c.read_u16.ensures ∙ ap (big_number 2) (take_rest c.in-Ok.found.1.now 5)) (c.read_u32.ensures ∙ ap (big_number 4) (take_rest c.in-Ok.found.1.now 7)) refl in
+    rw said (sound_tm_is c.args.octets.now _ _ c.in-Ok.ensures.ok c.in_default.ensures.reason c.if-header.false c.if-time_reference_status-ne0.false counter (λ i. omega (arith, c.type_inv.octets i)))
