@@ -1,5 +1,4 @@
 -- A run line by line and octet by octet, for its proofs.
-pub mod Fronts
 pub mod Lines
 pub mod Replies
 pub mod Session

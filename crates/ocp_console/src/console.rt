@@ -4,12 +4,10 @@ ghost use Rattle.std.specs.Prelude.{◌≡◌, ◌<◌, length, IfOk, IfErr, OnO
 ghost use Rattle.space_packet.specs.declared.range.TheConstants.{IDLE_APID};
 
 use crate::debugging::{break_text, no_octets_text, octets_text, switch_text, unbreak_text};
-use crate::sending::telecommand;
 use crate::texts::{answer_text, journal_text, pool_text, step_text};
-use obcp_messages::Request;
 use ocp_core::Engine;
 use ocp_debug::view_text;
-use ocp_lines::{Command, Count, Flags, MAX_MEMORY_LENGTH, Shift};
+use ocp_lines::{Command, Count, MAX_MEMORY_LENGTH, Shift};
 use ocp_ports::{Crew, CrewFault};
 use ocp_profile::Profile;
 use ocp_words::Settings;
@@ -43,8 +41,8 @@ pub(crate) enum Reply {
 }
 
 impl<A: Allocator + Copy> Console<A> {
-    ghost use Rattle.ocp_lines.specs.Grammar.{IsCarried, IsSayable, meaning_of};
-    ghost use Rattle.ocp_console.specs.Answering.{state_of, opening, on_drain, on_request, trace_lines, view_text, memory_text, effect_of};
+    ghost use Rattle.ocp_lines.specs.Grammar.{IsSayable, meaning_of};
+    ghost use Rattle.ocp_console.specs.Answering.{state_of, opening, on_drain, trace_lines, view_text, memory_text, effect_of};
     ghost use Rattle.ocp_console.specs.Crew.{HasDone, HasRefused};
     ghost use Rattle.ocp_console.specs.Texts.{work_line};
     ghost use Rattle.ocp_console.specs.Mirror.Replies.{effect_by, works_of, IsKept};
@@ -76,18 +74,6 @@ impl<A: Allocator + Copy> Console<A> {
             ((state_of self.new, self.new.output.items) ≡ on_drain (state_of self.old)) }
     {
         let answer = self.engine.drain(alloc, 0, self.time);
-        answer_text(answer, &mut self.output)
-    }
-
-    /// What a `send` line does: a telecommand of its request reaches the engine.
-    fn send(&mut self, alloc: A, flags: Flags, request: &Request) -> Result<(), AllocError>
-        requires { IsCarried self.old.profile request.now }
-        ensures { OnOk result ((state_of self.new, self.new.output.items) ≡
-            on_request (state_of self.old) flags.number request.now) }
-    {
-        let packet = telecommand(alloc, self.profile, self.apid, self.count, flags, request)?;
-        self.count = self.count.next();
-        let answer = self.engine.request(alloc, 0, self.time, packet.as_slice());
         answer_text(answer, &mut self.output)
     }
 
@@ -144,7 +130,11 @@ impl<A: Allocator + Copy> Console<A> {
                 let answer = self.engine.request(alloc, 0, self.time, octets);
                 answer_text(answer, &mut self.output)?;
             }
-            Command::Send { flags, request } => self.send(alloc, flags, &request)?,
+            Command::Send { flags, request } => {
+                let packet = self.telecommand(alloc, flags, &request)?;
+                let answer = self.engine.request(alloc, 0, self.time, packet.as_slice());
+                answer_text(answer, &mut self.output)?;
+            }
             Command::Time(time) => {
                 self.time = time;
                 self.output.clear();
@@ -211,6 +201,3 @@ impl<A: Allocator + Copy> Console<A> {
         })
     }
 }
-
-#[cfg(test)]
-mod tests;

@@ -3,31 +3,13 @@
 ghost use Rattle.std.specs.Prelude.{◌≡◌, ◌≢◌, ◌≤◌, ◌++◌, Err, length, OnOk};
 ghost use Rattle.ocp_world.specs.After.{Requested};
 ghost use Rattle.ocp_console.specs.Answering.{answer_text};
-ghost use Rattle.ocp_console.specs.Mirror.Fronts.{front_line};
 ghost use Rattle.ocp_console.specs.Texts.{report_line, discard_name, discard_line, refusal_line, step_line, pool_line, journal_line, work_line};
 
 use crate::text::{Text, write_text};
 use ocp_core::{EngineFault, Reports, Slice};
 use ocp_debug::{push_outcome, push_spaced_word};
-use pus_fields::{Discard, Tm, read_tm};
+use pus_fields::{Discard, read_tm};
 use std::alloc::{AllocError, Allocator};
-
-/// The front of the line of a report.
-fn front_of(tm: &Tm) -> Text
-    ensures { result ≡ front_line tm.now }
-{
-    let mut text = Text::new();
-    text.push_all(b"tm ");
-    text.push_integer(tm.service());
-    text.push_all(b" ");
-    text.push_integer(tm.subtype());
-    text.push_all(b" seq ");
-    text.push_integer(tm.count().number());
-    text.push_all(b" dest ");
-    text.push_integer(tm.destination());
-    text.push_all(b" data ");
-    text
-}
 
 /// Appends the line of a report.
 fn push_report<A: Allocator + Copy>(
@@ -39,7 +21,17 @@ fn push_report<A: Allocator + Copy>(
     let Ok(tm) = read_tm(packet) else {
         return Ok(());
     };
-    output.extend_from_slice(front_of(&tm).as_slice())?;
+    let mut front = Text::new();
+    front.push_all(b"tm ");
+    front.push_integer(tm.service());
+    front.push_all(b" ");
+    front.push_integer(tm.subtype());
+    front.push_all(b" seq ");
+    front.push_integer(tm.count().number());
+    front.push_all(b" dest ");
+    front.push_integer(tm.destination());
+    front.push_all(b" data ");
+    output.extend_from_slice(front.as_slice())?;
     let payload = hex::encode(*output.allocator(), tm.payload())?;
     output.extend_from_slice(payload.as_bytes())?;
     output.push(b'\n')?;

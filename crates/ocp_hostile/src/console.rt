@@ -2,6 +2,7 @@
 use crate::devices::{Giver, Taker};
 use crate::heap::Refusing;
 use ocp_console::{ConsoleFault, Crew, CrewFault, Device, Settings, asm, list, run};
+use ocp_core::{Engine, Entry};
 use ocp_profile::Profile;
 use std::alloc::{Allocator, Global};
 use std::test::Fail;
@@ -211,5 +212,110 @@ fn a_crew_that_refuses_ends_the_run(rt: HostRuntime) -> Result<(), Fail> {
         assert_eq!(rt; end, wanted);
         assert!(rt; taker.kept() == b"journal 0\n".as_slice(), "{fault:?}");
     }
+    Ok(())
+}
+
+/// Each kind of line that leaves an entry, and between them the time is set twice. The last line
+/// gives the crew the engine.
+const JOURNALED: &[u8] = b"send 0 load 7 9500000000000000
+time 86400
+send 0 activate 7
+send 0 stop 7 1
+step 7 1
+break 7 0
+break 7 0
+unbreak 7 0
+trace 7 on
+time 4294967295
+up 1923c00500062912080007d942
+drain
+work 1 1 1
+";
+
+/// Of each of its entries the seat, and the time of a request or a drain or else the identifier of
+/// the procedure.
+const ENTRIES: [(u16, u32); 9] = [
+    (0, 0),
+    (0, 86_400),
+    (0, 86_400),
+    (0, 7),
+    (0, 7),
+    (0, 7),
+    (0, 7),
+    (0, 4_294_967_295),
+    (0, 4_294_967_295),
+];
+
+fn seat_and_time(entry: &Entry) -> (u16, u32) {
+    match entry {
+        Entry::Request { by, time, .. } => (*by, *time),
+        Entry::Drain { by, time, .. } => (*by, *time),
+        Entry::Steps { by, id, .. } => (*by, u32::from(*id)),
+        Entry::SetBreak { by, id, .. } => (*by, u32::from(*id)),
+        Entry::ClearBreak { by, id, .. } => (*by, u32::from(*id)),
+        Entry::Trace { by, id, .. } => (*by, u32::from(*id)),
+    }
+}
+
+/// Whether these are the entries of the lines.
+fn are_the_entries(entries: &[Entry]) -> bool {
+    if entries.len() != ENTRIES.len() {
+        return false;
+    }
+    for (entry, wanted) in entries.iter().zip(ENTRIES) {
+        if seat_and_time(entry) != wanted {
+            return false;
+        }
+    }
+    true
+}
+
+/// A crew that refuses each work but on an engine whose journal has the entries of the lines.
+#[derive(Drop)]
+struct Auditor;
+
+impl Crew<Engine> for Auditor {
+    ghost ready = { λ _. Unit {0} };
+
+    ghost answers = { λ _ _ _ _ _ _. Unit {0} };
+
+    fn work(
+        &self,
+        engine: Engine,
+        _workers: u16,
+        _budget: u32,
+        _turns: u32,
+    ) -> Result<Engine, CrewFault> {
+        if are_the_entries(engine.journal().entries()) {
+            Ok(engine)
+        } else {
+            Err(CrewFault::Workers)
+        }
+    }
+}
+
+/// How a script ends whose crew looks at the journal.
+fn end_with_an_auditor(alloc: Global, script: &'static [u8]) -> End {
+    let mut reader = Device {
+        inner: Giver::new(script, ROOM, MOST),
+        failed: 0,
+    };
+    let mut writer = Device {
+        inner: Taker::new(alloc, ROOM, ROOM, true),
+        failed: 0,
+    };
+    let Some(settings) = Settings::new(Profile::One, 0x123, 16, 10) else {
+        return End::Other;
+    };
+    end_of(run(alloc, settings, &Auditor, &mut reader, &mut writer).map(|()| true))
+}
+
+#[test]
+fn entries_have_seat_0_and_the_time_of_the_last_time_line(rt: HostRuntime) -> Result<(), Fail> {
+    assert_eq!(rt; end_with_an_auditor(rt.alloc(), JOURNALED), End::Done);
+    assert_eq!(rt;
+        end_with_an_auditor(rt.alloc(), b"work 1 1 1\n"),
+        End::Workers
+    );
     Ok(())
 }

@@ -9,8 +9,8 @@ ghost use Rattle.ocp_lines.specs.Grammar.{Fits, meaning_of, from_one, up_in, sen
 use crate::command::{Command, Count, Flags, MAX_OCTETS_LENGTH, Shift};
 use crate::verbs::request;
 use crate::words::{
-    address, last_octets, long, next_word, no_word, number, one_short, one_word, short,
-    three_words, two_shorts, two_words,
+    address, last_octets, long, next_word, number, one_short, one_word, short, three_words,
+    two_shorts, two_words,
 };
 use ocp_profile::Profile;
 use std::alloc::{AllocError, Allocator};
@@ -97,7 +97,7 @@ fn trace(arguments: &[u8]) -> Option<Command<'_>>
     ensures command { option_map meaning_of result ≡ trace_in (words_of arguments.now) }
     ensures fits { (profile : Profile) → IfSome result (Fits profile) }
 {
-    if no_word(arguments) {
+    if next_word(arguments).is_none() {
         return Some(Command::Traces);
     }
     let (id, word) = two_words(arguments)?;
@@ -172,9 +172,9 @@ fn plain_command<'a>(name: &[u8], arguments: &'a [u8]) -> Option<Command<'a>>
     } else if name == b"pool".as_slice() {
         Some(Command::Pool(number(one_word(arguments)?, u64::MAX)?))
     } else if name == b"journal".as_slice() {
-        no_word(arguments).then_some(Command::Journal)
+        next_word(arguments).is_none().then_some(Command::Journal)
     } else if name == b"drain".as_slice() {
-        no_word(arguments).then_some(Command::Drain)
+        next_word(arguments).is_none().then_some(Command::Drain)
     } else if name == b"work".as_slice() {
         work(arguments)
     } else {

@@ -1,6 +1,6 @@
 //! The words of a line, and what they say.
 
-ghost use Rattle.std.specs.Prelude.{◌≡◌, ◌<◌, ◌≤◌, ◌-◌, ◌/◌, ◌∷◌, [], length, vec_capacity, true, take, slice_index, IfOk, OnErr, IfSome, IfNone, MatchOption, IsTrue, ◌↔◌, ◌≢◌, ◌⊎◌};
+ghost use Rattle.std.specs.Prelude.{◌≡◌, ◌<◌, ◌≤◌, ◌-◌, ◌/◌, ◌∷◌, [], length, vec_capacity, true, take, slice_index, IfOk, OnErr, IfSome, IfNone, MatchOption, ◌≢◌, ◌⊎◌};
 ghost use Rattle.std.specs.List.{list_all};
 ghost use Rattle.std.specs.Option.{option_map};
 ghost use Rattle.hex.specs.Hex.{hex_digit_value};
@@ -54,20 +54,17 @@ pub(crate) fn next_word(text: &[u8]) -> Option<(&[u8], &[u8])>
     Some((&rest[..length], &rest[length..]))
 }
 
-/// The text has no word.
-pub(crate) fn no_word(text: &[u8]) -> bool
-    ensures { IsTrue result ↔ (words_of text.now ≡ []) }
-{
-    next_word(text).is_none()
-}
-
 /// The one word of a text.
 pub(crate) fn one_word(text: &[u8]) -> Option<&[u8]>
     ensures some { IfSome result (λ word. words_of text.now ≡ word.now ∷ []) }
     ensures none { IfNone result (length (words_of text.now) ≢ 1) }
 {
     let (word, rest) = next_word(text)?;
-    if no_word(rest) { Some(word) } else { None }
+    if next_word(rest).is_none() {
+        Some(word)
+    } else {
+        None
+    }
 }
 
 /// The two words of a text.
@@ -77,7 +74,7 @@ pub(crate) fn two_words(text: &[u8]) -> Option<(&[u8], &[u8])>
 {
     let (word, rest) = next_word(text)?;
     let (next, rest) = next_word(rest)?;
-    if no_word(rest) {
+    if next_word(rest).is_none() {
         Some((word, next))
     } else {
         None
@@ -103,7 +100,13 @@ fn word_or_none(text: &[u8]) -> Option<&[u8]>
 {
     match next_word(text) {
         None => Some(&[]),
-        Some((word, rest)) => { if no_word(rest) { Some(word) } else { None } }
+        Some((word, rest)) => {
+            if next_word(rest).is_none() {
+                Some(word)
+            } else {
+                None
+            }
+        }
     }
 }
 
