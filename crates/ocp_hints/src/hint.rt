@@ -14,14 +14,10 @@ pub(crate) const C_TEXT: &str = "this is C: examples/c/build makes the image of 
 
 pub(crate) const FAULT_LINE: &str = "this is the fault line of another command: mend its input";
 
-/// Whether a line of C may begin with this word.
-pub(crate) fn is_word_of_c(word: &[u8]) -> bool {
-    match word {
-        b"int" | b"unsigned" | b"static" | b"struct" | b"void" | b"typedef" | b"extern" | b"word" =>
-            true,
-        _ => false,
-    }
-}
+/// The words that a line of C may begin with.
+pub(crate) const WORDS_OF_C: &[&str] = &[
+    "int", "unsigned", "static", "struct", "void", "typedef", "extern", "word",
+];
 
 /// What did not fit in a line: from this octet on, and why.
 #[derive(Clone, Copy)]
@@ -100,8 +96,11 @@ pub(crate) fn write_octets<W: fmt::Write>(
     f: &mut fmt::Formatter<W>,
 ) -> fmt::Result {
     for octet in octets.iter().take(most) {
-        let is_shown = octet.is_ascii_graphic() || *octet == b' ';
-        f.write_char(char::from(if is_shown { *octet } else { b'?' }))?;
+        let shown = match octet {
+            b' '..=b'~' => *octet,
+            _ => b'?',
+        };
+        f.write_char(char::from(shown))?;
     }
     Ok(())
 }

@@ -4,24 +4,34 @@ ghost use Rattle.std.specs.Prelude.{◌≤◌, IfSome, length};
 ghost use Rattle.ocp_hints.specs.Columns.{IsWithin};
 
 use crate::hint::{BYTE_ORDER_MARK, ELF_FILE, Hint};
+use crate::sentences::entry_at_front;
+
+/// What no image may have at a place, where it is a mistake of its own.
+const FRONTS: [(&[&[u8]], &str); 6] = [
+    (&[b"\xef\xbb\xbf"], BYTE_ORDER_MARK),
+    (&[b"\x7fELF"], ELF_FILE),
+    (
+        &[b"0x", b"0X", b"\\x"],
+        "digits stand alone, with nothing in front of them",
+    ),
+    (
+        &[b" ", b"\n"],
+        "digits stand in one row: tr -d ' \\n' takes blanks and newlines away",
+    ),
+    (
+        &[b"\r"],
+        "this is a carriage return, and a newline alone may end the digits",
+    ),
+    (&[b"\t"], "this is a tab, and digits stand in one row"),
+];
 
 /// What no image may have at this place.
 fn sentence_of_octets(octets: &[u8]) -> Option<&'static str> {
-    match octets {
-        [0xef, 0xbb, 0xbf, ..] => Some(BYTE_ORDER_MARK),
-        [0x7f, b'E', b'L', b'F', ..] => Some(ELF_FILE),
-        [b'0', b'x' | b'X', ..] | [b'\\', b'x', ..] => {
-            Some("digits stand alone, with nothing in front of them")
-        }
-        [b'0'..=b'9' | b'a'..=b'f' | b'A'..=b'F', ..] => None,
-        [b' ' | b'\n', ..] => {
-            Some("digits stand in one row: tr -d ' \\n' takes blanks and newlines away")
-        }
-        [b'\r', ..] => Some("this is a carriage return, and a newline alone may end the digits"),
-        [b'\t', ..] => Some("this is a tab, and digits stand in one row"),
-        [b'!'..=b'~', ..] => { Some("this is no hexadecimal digit; an assembly text goes to asm") }
+    entry_at_front(octets, &FRONTS).or(match octets {
+        [octet, ..] if octet.is_ascii_hexdigit() => None,
+        [b'!'..=b'~', ..] => Some("this is no hexadecimal digit; an assembly text goes to asm"),
         _ => Some("this is a raw image: od -An -v -tx1 | tr -d ' \\n' makes digits of it"),
-    }
+    })
 }
 
 /// The text without the spaces and newlines at its end.

@@ -11,6 +11,7 @@ mod line;
 mod number;
 mod operand;
 mod part;
+mod sentences;
 mod slot;
 mod statement;
 mod tokens;

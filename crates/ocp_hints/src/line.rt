@@ -4,9 +4,10 @@ ghost use Rattle.std.specs.Prelude.{◌≡◌, IfSome};
 ghost use Rattle.ocp_hints.specs.Columns.{IsWithin};
 
 use crate::form::{Form, form_of_request, form_of_verb};
-use crate::hint::{BYTE_ORDER_MARK, C_TEXT, FAULT_LINE, Hint, Misfit, Says, is_word_of_c};
+use crate::hint::{BYTE_ORDER_MARK, C_TEXT, FAULT_LINE, Hint, Misfit, Says, WORDS_OF_C};
 use crate::number::{decimal, is_hexadecimal};
 use crate::part::Part;
+use crate::sentences::{entry_at_front, sentence_on};
 use crate::slot::SLOT_DIGITS;
 use crate::words::{Word, Words};
 use ocp_profile::Profile;
@@ -28,24 +29,31 @@ const NO_COMMAND: &str = "a line begins with send, up, time, step, view, mem, br
 const NO_VERB: &str = "a verb of send is one of load, unload, activate, stop, suspend, resume, \
                        abort, communicate, status";
 
+/// What no line may have at a place, where it is a mistake by itself.
+const FRONTS: [(&[&[u8]], &str); 6] = [
+    (&[b"\xef\xbb\xbf"], BYTE_ORDER_MARK),
+    (
+        &[b"\0"],
+        "this is a zero octet: the file is UTF-16 or binary, and a script is plain ASCII",
+    ),
+    (
+        &[b"\xff\xfe", b"\xfe\xff"],
+        "this is the byte order mark of UTF-16, and a script is plain ASCII",
+    ),
+    (
+        &[b"\x7fELF"],
+        "this is an ELF file: examples/c/build makes the image of one, and load takes it",
+    ),
+    (&[b"\t"], "this is a tab, and words are parted by spaces"),
+    (&[b"\r"], "this is a carriage return inside of the line"),
+];
+
 /// What no line may have at this place, if it is a mistake by itself.
 fn sentence_of_octets(octets: &[u8]) -> Option<&'static str> {
-    match octets {
-        [0xef, 0xbb, 0xbf, ..] => Some(BYTE_ORDER_MARK),
-        [0, ..] => Some(
-            "this is a zero octet: the file is UTF-16 or binary, and a script is plain ASCII",
-        ),
-        [0xff, 0xfe, ..] | [0xfe, 0xff, ..] => {
-            Some("this is the byte order mark of UTF-16, and a script is plain ASCII")
-        }
-        [0x7f, b'E', b'L', b'F', ..] => {
-            Some("this is an ELF file: examples/c/build makes the image of one, and load takes it")
-        }
-        [b'\t', ..] => Some("this is a tab, and words are parted by spaces"),
-        [b'\r', ..] => Some("this is a carriage return inside of the line"),
+    entry_at_front(octets, &FRONTS).or(match octets {
         [0x80..=0xff, ..] => Some("this is no plain ASCII"),
         _ => None,
-    }
+    })
 }
 
 /// What no line may have at this column.
@@ -109,9 +117,11 @@ fn misfit_of<'a>(part: Part, word: &'a [u8]) -> Option<Misfit<'a>> {
 
 /// A word behind the last part of a form.
 fn misfit_of_more<'a>(form: Form, word: &'a [u8]) -> Misfit<'a> {
-    match (word, form.parts) {
-        ([b'#' | b';' | b'/', ..], _) => Misfit::Comment,
-        (_, [.., Part::OnlyArguments]) => Misfit::Budget,
+    if let [b'#' | b';' | b'/', ..] = word {
+        return Misfit::Comment;
+    }
+    match form.parts.last() {
+        Some(Part::OnlyArguments) => Misfit::Budget,
         _ => Misfit::More,
     }
 }
@@ -127,7 +137,7 @@ fn hint_of_words<'a>(form: Form, words: Words<'a>) -> Option<Hint<'a>>
                 return None;
             }
             return Some(Hint {
-                column: rest.end(),
+                column: rest.line.len(),
                 says: Says::Form(form.text, Misfit::Missing(*part)),
             });
         };
@@ -161,7 +171,7 @@ fn hint_of_send<'a>(profile: Profile, words: Words<'a>) -> Option<Hint<'a>>
     ensures within { IfSome result (λ hint. IsWithin words.entry.line.now hint.column) }
 {
     let missing = Some(Hint::sentence(
-        words.end(),
+        words.line.len(),
         "send <flags> <verb> .. wants another word here",
     ));
     let Some((flags, behind)) = words.next_word() else {
@@ -191,29 +201,42 @@ fn is_image(word: &[u8]) -> bool {
     word.len() >= SLOT_DIGITS && is_hexadecimal(word)
 }
 
+/// Words that are no verbs, and what a line that begins with them is.
+const NO_VERBS: [(&[&str], &str); 6] = [
+    (
+        &["help"],
+        "a script has no such line; ./ocp run --help shows them all",
+    ),
+    (
+        &["quit", "exit"],
+        "a script ends where its input ends; in a terminal Control-D",
+    ),
+    (&["error"], FAULT_LINE),
+    (
+        &["tm"],
+        "this is a line of a transcript, and a script has requests",
+    ),
+    (WORDS_OF_C, C_TEXT),
+    (
+        &["mov64", "mov32", "lddw", "jeq64", "call", "ja"],
+        "this is assembly: asm makes its image, and send <flags> load takes it",
+    ),
+];
+
 /// What does not fit in a line that begins with no verb.
 fn says_of_no_verb<'a>(profile: Profile, word: &'a [u8]) -> Says<'a> {
     if form_of_request(profile, word).is_some() {
         return Says::Flagless(word);
     }
-    match word {
-        b"help" => Says::Sentence("a script has no such line; ./ocp run --help shows them all"),
-        b"quit" | b"exit" => {
-            Says::Sentence("a script ends where its input ends; in a terminal Control-D")
-        }
-        b"error" => Says::Sentence(FAULT_LINE),
-        b"tm" => Says::Sentence("this is a line of a transcript, and a script has requests"),
-        word if is_word_of_c(word) => Says::Sentence(C_TEXT),
-        b"mov64" | b"mov32" | b"lddw" | b"jeq64" | b"call" | b"ja" => {
-            Says::Sentence("this is assembly: asm makes its image, and send <flags> load takes it")
-        }
-        _ if is_image(word) => {
-            Says::Sentence("digits of an image stand behind send <flags> load <id>")
-        }
-        _ => match verb_in_other_letters(word) {
-            Some(verb) => Says::LowerCase(verb),
-            None => Says::Sentence(NO_COMMAND),
-        },
+    if let Some(sentence) = sentence_on(word, &NO_VERBS) {
+        return Says::Sentence(sentence);
+    }
+    if is_image(word) {
+        return Says::Sentence("digits of an image stand behind send <flags> load <id>");
+    }
+    match verb_in_other_letters(word) {
+        Some(verb) => Says::LowerCase(verb),
+        None => Says::Sentence(NO_COMMAND),
     }
 }
 

@@ -1,6 +1,7 @@
 //! What may stand behind a mnemonic, and whether it does.
 
 use crate::number::number_in;
+use crate::sentences::is_one_of;
 
 /// What may stand at one place behind a mnemonic.
 #[derive(Clone, Copy)]
@@ -53,9 +54,13 @@ const DISTANCE: &str = "this distance is out of its range, -32768 to +32767";
 
 const LONG_DISTANCE: &str = "this distance is out of its range, -2147483648 to +2147483647";
 
+const REGISTERS: [&str; 11] = [
+    "r0", "r1", "r2", "r3", "r4", "r5", "r6", "r7", "r8", "r9", "r10",
+];
+
 /// Whether the token is the name of a register.
 fn is_register(token: &[u8]) -> bool {
-    matches!(token, [b'r', b'0'..=b'9'] | [b'r', b'1', b'0'])
+    is_one_of(&REGISTERS, token)
 }
 
 /// Whether the token is the name of a label.

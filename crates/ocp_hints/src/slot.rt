@@ -1,5 +1,7 @@
 //! Where a slot of an image does not fit.
 
+use crate::sentences::entry_at_front;
+
 /// How many digits a slot has.
 pub(crate) const SLOT_DIGITS: usize = 16;
 
@@ -19,19 +21,32 @@ const SECOND: Field = (SLOT_DIGITS, 24);
 
 /// The fields that the instructions of an opcode, in digits, do not use. A field that has some
 /// values alone stands behind them.
+const UNUSED_BY_OPCODES: [(&[&[u8]], &[Field]); 6] = [
+    (&[b"95"], &[SOURCE, DESTINATION, OFFSET, IMM]),
+    (&[b"85"], &[DESTINATION, OFFSET, SOURCE]),
+    (&[b"05"], &[SOURCE, DESTINATION, IMM]),
+    (&[b"06"], &[SOURCE, DESTINATION, OFFSET]),
+    (
+        &[
+            b"84", b"87", b"d4", b"d7", b"dc", b"dC", b"D4", b"D7", b"Dc", b"DC",
+        ],
+        &[SOURCE, OFFSET, IMM],
+    ),
+    (&[b"18"], &[SOURCE, OFFSET, SECOND]),
+];
+
+/// The fields that the other instructions do not use, by the low digit of the opcode.
+const UNUSED_BY_LOW_DIGITS: [(&[&[u8]], &[Field]); 3] = [
+    (&[b"4", b"7"], &[SOURCE, OFFSET]),
+    (&[b"c", b"C", b"f", b"F"], &[IMM, OFFSET]),
+    (&[b"2", b"a", b"A", b"5", b"6"], &[SOURCE]),
+];
+
+/// The fields that the instructions of an opcode do not use.
 fn unused_fields(opcode: [u8; 2]) -> &'static [Field] {
-    match opcode {
-        [b'9', b'5'] => &[SOURCE, DESTINATION, OFFSET, IMM],
-        [b'8', b'5'] => &[DESTINATION, OFFSET, SOURCE],
-        [b'0', b'5'] => &[SOURCE, DESTINATION, IMM],
-        [b'0', b'6'] => &[SOURCE, DESTINATION, OFFSET],
-        [b'8', b'4' | b'7'] | [b'd' | b'D', b'4' | b'7' | b'c' | b'C'] => &[SOURCE, OFFSET, IMM],
-        [b'1', b'8'] => &[SOURCE, OFFSET, SECOND],
-        [_, b'4' | b'7'] => &[SOURCE, OFFSET],
-        [_, b'c' | b'C' | b'f' | b'F'] => &[IMM, OFFSET],
-        [_, b'2' | b'a' | b'A' | b'5' | b'6'] => &[SOURCE],
-        _ => &[IMM],
-    }
+    entry_at_front(&opcode, &UNUSED_BY_OPCODES)
+        .or(entry_at_front(&opcode[1..], &UNUSED_BY_LOW_DIGITS))
+        .unwrap_or(&[IMM])
 }
 
 /// Whether a field is zero.

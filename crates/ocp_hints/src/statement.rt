@@ -4,15 +4,15 @@ ghost use Rattle.std.specs.Prelude.{◌+◌, ◌≤◌, IfSome, length};
 ghost use Rattle.ocp_hints.specs.Columns.{IsWithin};
 
 use crate::answer::sentence_of_fault;
-use crate::hint::{BYTE_ORDER_MARK, C_TEXT, ELF_FILE, FAULT_LINE, Hint, Says, is_word_of_c};
+use crate::hint::{BYTE_ORDER_MARK, C_TEXT, ELF_FILE, FAULT_LINE, Hint, Says, WORDS_OF_C};
 use crate::operand::Operand::{
     Closes, Comma, Extension, Immediate, LongTarget, Offset, Opens, Register, Second,
     ShortExtension, SwapWidth, Target, Wide,
 };
 use crate::operand::{Fit, Operand, is_name};
+use crate::sentences::{entry_at_front, sentence_on};
 use crate::tokens::Tokens;
-use arrayvec::ArrayVec;
-use bpf_canonical::{Mnemonic, Stem, read_mnemonic};
+use bpf_canonical::{Mnemonic, Stem, Text, read_mnemonic};
 use bpf_types::Width;
 
 const TARGET: &str = "<distance with its sign, or label>";
@@ -77,64 +77,101 @@ fn shape_of(mnemonic: Mnemonic, is_local: bool) -> Shape {
     Shape { text, operands }
 }
 
+/// The most octets of a mnemonic without its width.
+const LONGEST_STEM: usize = 6;
+
 /// Whether a word is a mnemonic without its width.
 fn is_without_width(word: &[u8]) -> bool {
-    let mut with_width: ArrayVec<u8, 8> = ArrayVec::new();
-    with_width.try_extend_from_slice(word).is_ok()
-        && with_width.try_extend_from_slice(b"64").is_ok()
-        && read_mnemonic(&with_width).is_some()
+    if word.len() > LONGEST_STEM {
+        return false;
+    }
+    let mut with_width = Text::<8>::new();
+    with_width.push_all(word);
+    with_width.push_all(b"64");
+    read_mnemonic(with_width.as_slice()).is_some()
 }
+
+/// Words that are no mnemonics, and what to write in place of them.
+const NO_MNEMONICS: [(&[&str], &str); 8] = [
+    (&["goto"], "a jump is ja +<distance> or ja <label>"),
+    (
+        &["if"],
+        "a conditional jump is jeq64 <register>, <register or number>, <label>",
+    ),
+    (&["return"], "a procedure ends with exit"),
+    (
+        &["le16", "le32", "le64", "be16", "be32", "be64"],
+        "the width is an operand here: be <register>, 16",
+    ),
+    (
+        &[
+            "r0", "r1", "r2", "r3", "r4", "r5", "r6", "r7", "r8", "r9", "r10",
+        ],
+        "an instruction begins with its mnemonic: mov64 r1, 5; ldxw r0, [r1+4]",
+    ),
+    (
+        &[
+            "send", "step", "view", "mem", "pool", "drain", "break", "trace",
+        ],
+        "this is a line of a script: a script goes to run",
+    ),
+    (&["error"], FAULT_LINE),
+    (WORDS_OF_C, C_TEXT),
+];
 
 /// What to write in place of a word that is no mnemonic.
 fn says_of_no_mnemonic(word: &[u8]) -> Says<'_> {
     if is_without_width(word) {
         return Says::Sentence("the width, 64 or 32, is a part of the mnemonic: add64, jeq32");
     }
-    Says::Sentence(match word {
-        b"goto" => "a jump is ja +<distance> or ja <label>",
-        b"if" => "a conditional jump is jeq64 <register>, <register or number>, <label>",
-        b"return" => "a procedure ends with exit",
-        b"le16" | b"le32" | b"le64" | b"be16" | b"be32" | b"be64" => {
-            "the width is an operand here: be <register>, 16"
-        }
-        b"r0" | b"r1" | b"r2" | b"r3" | b"r4" | b"r5" | b"r6" | b"r7" | b"r8" | b"r9" | b"r10" => {
-            "an instruction begins with its mnemonic: mov64 r1, 5; ldxw r0, [r1+4]"
-        }
-        b"send" | b"step" | b"view" | b"mem" | b"pool" | b"drain" | b"break" | b"trace" => {
-            "this is a line of a script: a script goes to run"
-        }
-        b"error" => FAULT_LINE,
-        word if is_word_of_c(word) => C_TEXT,
+    let other = match word {
         [b'A'..=b'Z', ..] => "mnemonics and registers are in lower case",
         [b'0'..=b'9', ..] => "a text has instructions; digits of an image go to list and to load",
         _ => "this is no mnemonic; docs/CARD.md has them all",
-    })
+    };
+    Says::Sentence(sentence_on(word, &NO_MNEMONICS).unwrap_or(other))
 }
+
+/// What no statement may have at a place, where it is a mistake by itself.
+const FRONTS: [(&[&[u8]], &str); 11] = [
+    (&[b"\xef\xbb\xbf"], BYTE_ORDER_MARK),
+    (
+        &[b"\0"],
+        "this is a zero octet: the file is UTF-16 or binary, and a text is plain ASCII",
+    ),
+    (
+        &[b"\xff\xfe", b"\xfe\xff"],
+        "this is the byte order mark of UTF-16, and a text is plain ASCII",
+    ),
+    (&[b"\x7fELF"], ELF_FILE),
+    (&[b"#inc", b"#def"], C_TEXT),
+    (
+        &[
+            b"#0", b"#1", b"#2", b"#3", b"#4", b"#5", b"#6", b"#7", b"#8", b"#9", b"#-",
+        ],
+        "a number has no # in front",
+    ),
+    (&[b"#", b"//", b"/*"], "a comment begins with ;"),
+    (
+        &[b"="],
+        "a value is set by mov64 <register>, <register or number>",
+    ),
+    (&[b"\r"], "this is a carriage return inside of the line"),
+    (&[b"."], "a text has no directives and no dots in names"),
+    (
+        &[
+            b"(", b")", b"{", b"}", b"*", b"\"", b"'", b"<", b">", b"&", b"%", b"$",
+        ],
+        "no instruction, label or number has this sign",
+    ),
+];
 
 /// What no statement may have at this place, if it is a mistake by itself.
 fn sentence_of_octets(octets: &[u8]) -> Option<&'static str> {
-    match octets {
-        [0xef, 0xbb, 0xbf, ..] => Some(BYTE_ORDER_MARK),
-        [0, ..] => {
-            Some("this is a zero octet: the file is UTF-16 or binary, and a text is plain ASCII")
-        }
-        [0xff, 0xfe, ..] | [0xfe, 0xff, ..] => {
-            Some("this is the byte order mark of UTF-16, and a text is plain ASCII")
-        }
-        [0x7f, b'E', b'L', b'F', ..] => Some(ELF_FILE),
-        [b'#', b'i', b'n', b'c', ..] | [b'#', b'd', b'e', b'f', ..] => Some(C_TEXT),
-        [b'#', b'0'..=b'9' | b'-', ..] => Some("a number has no # in front"),
-        [b'#', ..] | [b'/', b'/', ..] | [b'/', b'*', ..] => Some("a comment begins with ;"),
-        [b'=', ..] => Some("a value is set by mov64 <register>, <register or number>"),
-        [b'\r', ..] => Some("this is a carriage return inside of the line"),
-        [b'.', ..] => Some("a text has no directives and no dots in names"),
-        [
-            b'(' | b')' | b'{' | b'}' | b'*' | b'"' | b'\'' | b'<' | b'>' | b'&' | b'%' | b'$',
-            ..
-        ] => { Some("no instruction, label or number has this sign") }
+    entry_at_front(octets, &FRONTS).or(match octets {
         [0x80..=0xff, ..] => Some("outside of comments a text is plain ASCII"),
         _ => None,
-    }
+    })
 }
 
 /// What no statement may have at this column.

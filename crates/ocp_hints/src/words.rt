@@ -13,7 +13,8 @@ pub(crate) struct Word<'a> {
 /// The words of a line that are not yet read.
 #[derive(Clone, Copy)]
 pub(crate) struct Words<'a> {
-    line: &'a [u8],
+    /// The whole line.
+    pub line: &'a [u8],
     rest: &'a [u8],
 }
 
@@ -22,13 +23,6 @@ impl<'a> Words<'a> {
         ensures line { result.line.now ≡ line.now }
     {
         Words { line, rest: line }
-    }
-
-    /// The column behind the line.
-    pub fn end(self) -> usize
-        ensures { result ≡ length self.entry.line.now }
-    {
-        self.line.len()
     }
 
     /// What stands behind the words that were read.
