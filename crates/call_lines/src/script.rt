@@ -86,21 +86,38 @@ pub fn answer_lines<C: Calls>(
         let Some((number, line)) = script.next_line() else {
             return Ok(End::Input);
         };
-        match answer_line(calls, rt.alloc(), line) {
-            Ok(Some(Reply::Text(text))) => println!(rt; "{text}")?,
-            Ok(Some(Reply::Last(text))) => {
-                println!(rt; "{text}")?;
-                return Ok(End::Others);
-            }
-            Ok(None) => {}
-            Err(Fault::Syntax) => {
-                println!(rt; "error {number} Syntax")?;
-                return Ok(End::Syntax);
-            }
-            Err(Fault::Memory) => return Err(AllocError.into()),
+        let reply = answer_line(calls, rt.alloc(), line);
+        if let Some(end) = print_reply(rt, number, reply)? {
+            return Ok(end);
         }
     }
     Ok(End::Input)
+}
+
+/// Prints the answer of the line with this number, and says whether the lines end with it.
+fn print_reply(
+    rt: &impl Print,
+    number: usize,
+    reply: Result<Option<Reply>, Fault>,
+) -> io::Result<Option<End>> {
+    match reply {
+        Ok(Some(reply)) => print_answer(rt, reply),
+        Ok(None) => Ok(None),
+        Err(Fault::Syntax) => {
+            println!(rt; "error {number} Syntax")?;
+            Ok(Some(End::Syntax))
+        }
+        Err(Fault::Memory) => Err(AllocError.into()),
+    }
+}
+
+fn print_answer(rt: &impl Print, reply: Reply) -> io::Result<Option<End>> {
+    let (text, end) = match reply {
+        Reply::Text(text) => (text, None),
+        Reply::Last(text) => (text, Some(End::Others)),
+    };
+    println!(rt; "{text}")?;
+    Ok(end)
 }
 
 /// The exit status of a script.

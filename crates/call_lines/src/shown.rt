@@ -25,7 +25,7 @@ impl fmt::Display for Octets<'_> {
             last = show_run(run, last, f)?;
         }
         if last == Last::Nothing {
-            write!(f, "-")?;
+            f.write_str("-")?;
         }
         Ok(())
     }
@@ -40,22 +40,18 @@ fn show_run<W: fmt::Write>(
     let [octet, ..] = run else {
         return Ok(last);
     };
-    let next = if run.len() < LONG_RUN {
-        Last::Digits
-    } else {
-        Last::Run
-    };
-    if last == Last::Run || (last == Last::Digits && next == Last::Run) {
-        write!(f, "|")?;
+    if run.len() >= LONG_RUN {
+        let before = if last == Last::Nothing { "" } else { "|" };
+        write!(f, "{before}{octet:02x}*{}", run.len())?;
+        return Ok(Last::Run);
     }
-    if next == Last::Run {
-        write!(f, "{octet:02x}*{}", run.len())?;
-    } else {
-        for octet in run {
-            write!(f, "{octet:02x}")?;
-        }
+    if last == Last::Run {
+        f.write_str("|")?;
     }
-    Ok(next)
+    for octet in run {
+        write!(f, "{octet:02x}")?;
+    }
+    Ok(Last::Digits)
 }
 
 /// A text in the form of an argument: `-` for none, else between double quotes, with `\n`, `\r`,
@@ -66,22 +62,22 @@ pub struct Text<'a>(pub &'a [u8]);
 impl fmt::Display for Text<'_> {
     fn fmt<W: fmt::Write>(&self, f: &mut fmt::Formatter<W>) -> fmt::Result {
         if self.0.is_empty() {
-            return write!(f, "-");
+            return f.write_str("-");
         }
-        write!(f, "\"")?;
+        f.write_str("\"")?;
         for octet in self.0 {
             show_letter(*octet, f)?;
         }
-        write!(f, "\"")
+        f.write_str("\"")
     }
 }
 
 fn show_letter<W: fmt::Write>(octet: u8, f: &mut fmt::Formatter<W>) -> fmt::Result {
     match octet {
-        b'\n' => write!(f, "\\n"),
-        b'\r' => write!(f, "\\r"),
-        b'\t' => write!(f, "\\t"),
-        b'\\' => write!(f, "\\\\"),
+        b'\n' => f.write_str("\\n"),
+        b'\r' => f.write_str("\\r"),
+        b'\t' => f.write_str("\\t"),
+        b'\\' => f.write_str("\\\\"),
         other => write!(f, "{}", char::from(other)),
     }
 }
@@ -95,7 +91,7 @@ impl fmt::Display for Numbers<'_> {
         let mut is_first = true;
         for number in self.0 {
             if !is_first {
-                write!(f, " ")?;
+                f.write_str(" ")?;
             }
             is_first = false;
             write!(f, "{number}")?;

@@ -1,32 +1,36 @@
 //! How answers are shown.
 
-use call_lines::{Fault, Octets};
+use call_lines::{Both, Fault, Named, Octets, add_text, dash_if_empty, text_of};
 use ocp_core::{CommitOutcome, DebugFault, EngineFault, Reports, Slice, StepOutcome};
 use std::alloc::Global;
-
-/// `Ok`.
-pub(crate) fn show_ok(alloc: Global) -> Result<String, Fault> {
-    Ok(String::from_str(alloc, "Ok")?)
-}
-
-/// `None`.
-pub(crate) fn show_none(alloc: Global) -> Result<String, Fault> {
-    Ok(String::from_str(alloc, "None")?)
-}
+use std::fmt;
 
 /// The packets of reports, with spaces between them; `-` for none.
-pub(crate) fn show_packets(alloc: Global, reports: &Reports) -> Result<String, Fault> {
-    let mut text = String::new(alloc);
-    for packet in reports.packets() {
-        if !text.is_empty() {
-            text.push_str(" ")?;
+#[derive(Clone, Copy)]
+pub(crate) struct Packets<'a>(pub &'a Reports);
+
+impl fmt::Display for Packets<'_> {
+    fn fmt<W: fmt::Write>(&self, f: &mut fmt::Formatter<W>) -> fmt::Result {
+        let mut before = "";
+        for packet in self.0.packets() {
+            write!(f, "{before}{}", Octets(packet.as_slice()))?;
+            before = " ";
         }
-        text.push_str(&format!(in alloc; "{}", Octets(packet.as_slice()))?)?;
+        write!(f, "{}", if before.is_empty() { "-" } else { "" })
     }
-    if text.is_empty() {
-        text.push_str("-")?;
+}
+
+/// What an instruction did.
+#[derive(Clone, Copy)]
+pub(crate) struct Outcome(pub StepOutcome);
+
+impl fmt::Display for Outcome {
+    fn fmt<W: fmt::Write>(&self, f: &mut fmt::Formatter<W>) -> fmt::Result {
+        match self.0 {
+            StepOutcome::Faulted(number) => write!(f, "Faulted {number}"),
+            outcome => write!(f, "{outcome:?}"),
+        }
     }
-    Ok(text)
 }
 
 /// `Ok` and the packets, or the fault.
@@ -35,41 +39,36 @@ pub(crate) fn show_reports(
     answer: &Result<Reports, EngineFault>,
 ) -> Result<String, Fault> {
     match answer {
-        Ok(reports) => {
-            let packets = show_packets(alloc, reports)?;
-            Ok(format!(in alloc; "Ok {packets}")?)
-        }
-        Err(EngineFault::Memory) => Err(Fault::Memory),
-        Err(EngineFault::Discarded(cause)) => Ok(format!(in alloc; "Discarded {cause:?}")?),
-        Err(fault) => Ok(format!(in alloc; "{fault:?}")?),
+        Ok(reports) => text_of(alloc, Both("Ok", Packets(reports))),
+        Err(fault) => show_fault(alloc, *fault),
     }
 }
 
-pub(crate) fn show_outcome(alloc: Global, outcome: StepOutcome) -> Result<String, Fault> {
-    match outcome {
-        StepOutcome::Faulted(number) => Ok(format!(in alloc; "Faulted {number}")?),
-        outcome => Ok(format!(in alloc; "{outcome:?}")?),
+fn show_fault(alloc: Global, fault: EngineFault) -> Result<String, Fault> {
+    match fault {
+        EngineFault::Memory => Err(Fault::Memory),
+        EngineFault::Discarded(cause) => text_of(alloc, Both("Discarded", Named(cause))),
+        fault => text_of(alloc, Named(fault)),
     }
 }
 
 /// How many instructions, and the outcome of the last one.
 pub(crate) fn show_slice(alloc: Global, slice: Slice) -> Result<String, Fault> {
-    let last = show_outcome(alloc, slice.last)?;
-    Ok(format!(in alloc; "{} {last}", slice.count)?)
+    text_of(alloc, Both(slice.count, Outcome(slice.last)))
 }
 
 pub(crate) fn show_commit(alloc: Global, outcome: CommitOutcome) -> Result<String, Fault> {
     match outcome {
-        CommitOutcome::Committed(count) => Ok(format!(in alloc; "Committed {count}")?),
-        outcome => Ok(format!(in alloc; "{outcome:?}")?),
+        CommitOutcome::Committed(count) => text_of(alloc, Both("Committed", count)),
+        outcome => text_of(alloc, Named(outcome)),
     }
 }
 
 /// `Ok`, or the fault of a debugger's call.
 pub(crate) fn show_done(alloc: Global, done: Result<(), DebugFault>) -> Result<String, Fault> {
     match done {
-        Ok(()) => show_ok(alloc),
-        Err(fault) => Ok(format!(in alloc; "{fault:?}")?),
+        Ok(()) => text_of(alloc, "Ok"),
+        Err(fault) => text_of(alloc, Named(fault)),
     }
 }
 
@@ -84,16 +83,5 @@ pub(crate) fn show_all<T: Shown>(alloc: Global, all: &[T]) -> Result<String, Fau
     for one in all {
         add_text(&mut texts, &one.show(alloc)?)?;
     }
-    if texts.is_empty() {
-        texts.push_str("-")?;
-    }
-    Ok(texts)
-}
-
-/// A text behind those before it, with a comma between two.
-pub(crate) fn add_text(texts: &mut String, text: &str) -> Result<(), Fault> {
-    if !texts.is_empty() {
-        texts.push_str(", ")?;
-    }
-    Ok(texts.push_str(text)?)
+    dash_if_empty(texts)
 }

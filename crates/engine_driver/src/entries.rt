@@ -1,42 +1,51 @@
 //! How entries of a journal, and receipts of a seat, are shown.
 
-use crate::answers::{Shown, show_outcome, show_packets};
-use call_lines::{Fault, Octets};
-use ocp_core::Entry;
+use crate::answers::{Outcome, Packets, Shown};
+use call_lines::{Both, Fault, Octets, text_of};
+use ocp_core::{Entry, Reports};
 use std::alloc::Global;
 
 impl Shown for Entry {
     /// An entry with its mark.
     fn show(&self, alloc: Global) -> Result<String, Fault> {
-        Ok(match self {
+        match self {
             Entry::Request {
                 by,
                 time,
                 octets,
                 mark,
-            } => {
-                let packets = show_packets(alloc, mark)?;
-                let octets = Octets(octets.as_slice());
-                format!(in alloc; "Request {by} {time} {octets} {packets}")?
-            }
+            } => show_request(alloc, Both(*by, *time), octets.as_slice(), mark),
             Entry::Steps {
                 by,
                 id,
                 count,
                 mark,
             } => {
-                let mark = show_outcome(alloc, *mark)?;
-                format!(in alloc; "Steps {by} {id} {count} {mark}")?
+                let steps = Both(*count, Outcome(*mark));
+                text_of(alloc, Both("Steps", Both(Both(*by, *id), steps)))
             }
-            Entry::SetBreak { by, id, place } => format!(in alloc; "SetBreak {by} {id} {place}")?,
+            Entry::SetBreak { by, id, place } => {
+                text_of(alloc, Both("SetBreak", Both(*by, Both(*id, *place))))
+            }
             Entry::ClearBreak { by, id, place } => {
-                format!(in alloc; "ClearBreak {by} {id} {place}")?
+                text_of(alloc, Both("ClearBreak", Both(*by, Both(*id, *place))))
             }
-            Entry::Trace { by, id, on } => format!(in alloc; "Trace {by} {id} {on}")?,
+            Entry::Trace { by, id, on } => {
+                text_of(alloc, Both("Trace", Both(*by, Both(*id, *on))))
+            }
             Entry::Drain { by, time, mark } => {
-                let packets = show_packets(alloc, mark)?;
-                format!(in alloc; "Drain {by} {time} {packets}")?
+                text_of(alloc, Both("Drain", Both(Both(*by, *time), Packets(mark))))
             }
-        })
+        }
     }
+}
+
+fn show_request(
+    alloc: Global,
+    origin: Both<u16, u32>,
+    octets: &[u8],
+    mark: &Reports,
+) -> Result<String, Fault> {
+    let packets = Both(Octets(octets), Packets(mark));
+    text_of(alloc, Both("Request", Both(origin, packets)))
 }

@@ -1,7 +1,7 @@
 //! A list of events in words, and the run of it.
 
-use crate::answers::{Shown, show_all, show_done, show_outcome, show_reports};
-use call_lines::{Fault, flag, octets};
+use crate::answers::{Outcome, Shown, show_all, show_done, show_reports};
+use call_lines::{Both, Fault, flag, number, octets, text_of};
 use ocp_core::{Answer, Engine, Event, RunFault, RunRefusal};
 use std::alloc::Global;
 
@@ -53,47 +53,57 @@ fn events<'a>(
 }
 
 fn event<'a>(words: &[&str], octets: &'a [u8]) -> Result<Event<'a>, Fault> {
-    match *words {
-        ["Request", by, time, _] => Ok(Event::Request {
-            by: by.parse()?,
-            time: time.parse()?,
-            octets,
-        }),
-        ["Step", by, id] => Ok(Event::Step {
-            by: by.parse()?,
-            id: id.parse()?,
-        }),
-        ["SetBreak", by, id, place] => Ok(Event::SetBreak {
-            by: by.parse()?,
-            id: id.parse()?,
-            place: place.parse()?,
-        }),
-        ["ClearBreak", by, id, place] => Ok(Event::ClearBreak {
-            by: by.parse()?,
-            id: id.parse()?,
-            place: place.parse()?,
-        }),
-        ["Trace", by, id, on] => Ok(Event::Trace {
-            by: by.parse()?,
-            id: id.parse()?,
-            on: flag(on)?,
-        }),
-        ["Drain", by, time] => Ok(Event::Drain {
-            by: by.parse()?,
-            time: time.parse()?,
-        }),
+    let [name, by, arguments @ ..] = words else {
+        return Err(Fault::Syntax);
+    };
+    let by = number(by)?;
+    match (*name, arguments) {
+        ("Request", [time, _]) => {
+            let time = number(time)?;
+            Ok(Event::Request { by, time, octets })
+        }
+        ("Drain", [time]) => {
+            let time = number(time)?;
+            Ok(Event::Drain { by, time })
+        }
+        ("Step", [id]) => {
+            let id = number(id)?;
+            Ok(Event::Step { by, id })
+        }
+        (_, [id, argument]) => command(name, by, number(id)?, argument),
+        _ => Err(Fault::Syntax),
+    }
+}
+
+/// The event of a debugger's call.
+fn command<'a>(name: &str, by: u16, id: u16, argument: &str) -> Result<Event<'a>, Fault> {
+    match name {
+        "SetBreak" => {
+            let place = number(argument)?;
+            Ok(Event::SetBreak { by, id, place })
+        }
+        "ClearBreak" => {
+            let place = number(argument)?;
+            Ok(Event::ClearBreak { by, id, place })
+        }
+        "Trace" => {
+            let on = flag(argument)?;
+            Ok(Event::Trace { by, id, on })
+        }
         _ => Err(Fault::Syntax),
     }
 }
 
 fn show_run(alloc: Global, ended: Result<Vec<Answer>, RunFault>) -> Result<String, Fault> {
     match ended {
-        Ok(answers) => {
-            let texts = show_all(alloc, &answers)?;
-            Ok(format!(in alloc; "Ok: {texts}")?)
-        }
+        Ok(answers) => show_answers(alloc, &answers),
         Err(fault) => show_run_fault(alloc, &fault),
     }
+}
+
+fn show_answers(alloc: Global, answers: &[Answer]) -> Result<String, Fault> {
+    let texts = show_all(alloc, answers)?;
+    text_of(alloc, Both("Ok:", texts.as_str()))
 }
 
 fn show_run_fault(alloc: Global, fault: &RunFault) -> Result<String, Fault> {
@@ -108,7 +118,7 @@ impl Shown for Answer {
     fn show(&self, alloc: Global) -> Result<String, Fault> {
         match self {
             Answer::Requested(answer) => show_reports(alloc, answer),
-            Answer::Stepped(outcome) => show_outcome(alloc, *outcome),
+            Answer::Stepped(outcome) => text_of(alloc, Outcome(*outcome)),
             Answer::Commanded(done) => show_done(alloc, *done),
         }
     }

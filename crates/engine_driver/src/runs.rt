@@ -1,7 +1,6 @@
 //! Tickets, and their works, that lines before made.
 
-use crate::answers::show_none;
-use call_lines::Fault;
+use call_lines::{Both, Fault, number, text_of};
 use ocp_core::{Ticket, Work};
 use std::alloc::Global;
 
@@ -26,24 +25,20 @@ impl Runs {
         let id = ticket.id();
         let number = self.tickets.len();
         self.tickets.push(Some(ticket))?;
-        Ok(format!(in alloc; "{number} {id}")?)
+        text_of(alloc, Both(number, id))
     }
 
     /// The same, where there is one.
     pub fn add(&mut self, alloc: Global, ticket: Option<Ticket>) -> Result<String, Fault> {
         match ticket {
             Some(ticket) => self.add_ticket(alloc, ticket),
-            None => show_none(alloc),
+            None => text_of(alloc, "None"),
         }
     }
 
     /// Runs a ticket, and says the number, the procedure and the count of its work.
     pub fn run(&mut self, alloc: Global, ticket: &str, budget: u32) -> Result<String, Fault> {
-        let place = self
-            .tickets
-            .get_mut(ticket.parse::<usize>()?)
-            .ok_or(Fault::Syntax)?;
-        let ticket = place.take().ok_or(Fault::Syntax)?;
+        let ticket = take_at(&mut self.tickets, ticket)?;
         self.add_work(alloc, ticket.run(budget))
     }
 
@@ -52,15 +47,17 @@ impl Runs {
         let count = work.count();
         let number = self.works.len();
         self.works.push(Some(work))?;
-        Ok(format!(in alloc; "{number} {id} {count}")?)
+        text_of(alloc, Both(number, Both(id, count)))
     }
 
     /// The work of a number, once.
     pub fn work(&mut self, number: &str) -> Result<Work, Fault> {
-        let place = self
-            .works
-            .get_mut(number.parse::<usize>()?)
-            .ok_or(Fault::Syntax)?;
-        place.take().ok_or(Fault::Syntax)
+        take_at(&mut self.works, number)
     }
+}
+
+/// The ticket or the work of a number, once.
+fn take_at<T>(places: &mut [Option<T>], word: &str) -> Result<T, Fault> {
+    let place = places.get_mut(number::<usize>(word)?).ok_or(Fault::Syntax)?;
+    place.take().ok_or(Fault::Syntax)
 }

@@ -2,13 +2,12 @@
 
 ghost use Rattle.std.specs.Prelude.{◌≡◌, ◌+◌, length};
 
-use crate::answers::{
-    show_all, show_commit, show_done, show_ok, show_outcome, show_reports, show_slice,
-};
+use crate::answers::{Outcome, show_all, show_commit, show_done, show_reports, show_slice};
 use crate::engines::budget_of;
 use crate::runs::Runs;
 use crate::views;
-use call_lines::{Calls, Fault, Reply, flag, octets};
+use call_lines::{Calls, Fault, Named, Reply, flag, number, octets, text_of};
+use ocp_core::Work;
 use ocp_seats::input::{DebuggerCommand, Drain, Request, Step};
 use ocp_seats::{Book, Command, Engine, Naming, NotClosed, Seat, SeatFault, TakeFault};
 use std::alloc::Global;
@@ -47,19 +46,12 @@ impl<L: Naming> Shared<L> {
 
     /// Closes the book with the seats of these numbers.
     fn close(&mut self, alloc: Global, numbers: &[&str]) -> Result<Reply, Fault> {
-        let mut seats = Vec::new(alloc);
-        for number in numbers {
-            seats.push(
-                place_of(&mut self.seats, number)?
-                    .take()
-                    .ok_or(Fault::Syntax)?,
-            )?;
-        }
+        let seats = take_seats(alloc, &mut self.seats, numbers)?;
         let book = self.book.take().ok_or(Fault::Syntax)?;
         match book.close(seats) {
             Ok(engine) => {
                 self.closed = Some(engine);
-                Ok(Reply::Last(show_ok(alloc)?))
+                Ok(Reply::Last(text_of(alloc, "Ok")?))
             }
             Err(refused) => self.stay_open(alloc, refused),
         }
@@ -75,7 +67,7 @@ impl<L: Naming> Shared<L> {
                 *place = Some(seat);
             }
         }
-        Ok(Reply::Text(format!(in alloc; "{why:?}")?))
+        Ok(Reply::Text(text_of(alloc, Named(why))?))
     }
 }
 
@@ -89,15 +81,26 @@ impl<L: Naming> Calls for Shared<L> {
     }
 }
 
+/// The seats with these numbers, once.
+fn take_seats<L: Naming>(
+    alloc: Global,
+    seats: &mut [Option<Seat<L>>],
+    numbers: &[&str],
+) -> Result<Vec<Seat<L>>, Fault> {
+    let mut all = Vec::new(alloc);
+    for number in numbers {
+        let seat = place_of(seats, number)?.take().ok_or(Fault::Syntax)?;
+        all.push(seat)?;
+    }
+    Ok(all)
+}
+
 /// The place of the seat with a number.
 fn place_of<'a, L: Naming>(
     seats: &'a mut [Option<Seat<L>>],
-    number: &str,
+    word: &str,
 ) -> Result<&'a mut Option<Seat<L>>, Fault> {
-    let index = number
-        .parse::<usize>()?
-        .checked_sub(1)
-        .ok_or(Fault::Syntax)?;
+    let index = number::<usize>(word)?.checked_sub(1).ok_or(Fault::Syntax)?;
     seats.get_mut(index).ok_or(Fault::Syntax)
 }
 
@@ -112,7 +115,7 @@ fn book_answer<L: Naming>(
     match *words {
         ["ocp_seats.seat"] => hand_out(book, seats, alloc),
         ["ocp_seats.take"] => take(book, runs, alloc),
-        ["ocp_seats.seat_count"] => Ok(format!(in alloc; "{}", book.seat_count())?),
+        ["ocp_seats.seat_count"] => text_of(alloc, book.seat_count()),
         [name, number, ..] if name.starts_with("ocp_seats.") => {
             let seat = place_of(seats, number)?.as_mut().ok_or(Fault::Syntax)?;
             seat_answer(book, seat, runs, alloc, words)
@@ -131,10 +134,10 @@ fn hand_out<L: Naming>(
         Ok(seat) => {
             let number = seat.number();
             seats.push(Some(seat))?;
-            Ok(format!(in alloc; "{number}")?)
+            text_of(alloc, number)
         }
         Err(SeatFault::Memory) => Err(Fault::Memory),
-        Err(fault) => Ok(format!(in alloc; "{fault:?}")?),
+        Err(fault) => text_of(alloc, Named(fault)),
     }
 }
 
@@ -143,7 +146,7 @@ fn take<L: Naming>(book: &mut Book<L>, runs: &mut Runs, alloc: Global) -> Result
     match book.take(alloc) {
         Ok(ticket) => runs.add_ticket(alloc, ticket),
         Err(TakeFault::Memory) => Err(Fault::Memory),
-        Err(fault) => Ok(format!(in alloc; "{fault:?}")?),
+        Err(fault) => text_of(alloc, Named(fault)),
     }
 }
 
@@ -155,34 +158,29 @@ fn seat_answer<L: Naming>(
     alloc: Global,
     words: &[&str],
 ) -> Result<String, Fault> {
-    match *words {
+    match words {
         ["ocp_seats.receipts", _] => show_all(alloc, seat.receipts()),
-        ["ocp_seats.request", _, time, packet] => {
-            let packet = octets(alloc, packet)?;
-            request(book, seat, alloc, time.parse()?, &packet)
-        }
-        ["ocp_seats.drain", _, time] => drain(book, seat, alloc, time.parse()?),
-        ["ocp_seats.step", _, id] => show_outcome(
-            alloc,
-            book.apply(seat, Step { id: id.parse()? }),
-        ),
-        ["ocp_seats.slice", _, id, budget] => {
-            let budget = budget_of(budget)?;
-            show_slice(alloc, book.slice(seat, id.parse()?, budget))
-        }
-        ["ocp_seats.commit", _, work] => {
-            let work = runs.work(work)?;
-            show_commit(alloc, book.commit(seat, work))
-        }
-        ["ocp_seats.set_break", _, id, place] => {
-            command(book, seat, alloc, id, Command::SetBreak(place.parse()?))
-        }
-        ["ocp_seats.clear_break", _, id, place] => {
-            command(book, seat, alloc, id, Command::ClearBreak(place.parse()?))
-        }
-        ["ocp_seats.trace", _, id, on] => {
-            command(book, seat, alloc, id, Command::SetTrace(flag(on)?))
-        }
+        ["ocp_seats.commit", _, work] => commit(book, seat, alloc, runs.work(work)?),
+        [name, _, first, others @ ..] => event(book, seat, alloc, name, first, others),
+        _ => Err(Fault::Syntax),
+    }
+}
+
+/// The answer of a seat's call that is an event.
+fn event<L: Naming>(
+    book: &mut Book<L>,
+    seat: &mut Seat<L>,
+    alloc: Global,
+    name: &str,
+    first: &str,
+    others: &[&str],
+) -> Result<String, Fault> {
+    match (name, others) {
+        ("ocp_seats.request", [packet]) => request(book, seat, alloc, first, packet),
+        ("ocp_seats.drain", []) => drain(book, seat, alloc, number(first)?),
+        ("ocp_seats.step", []) => step(book, seat, alloc, number(first)?),
+        ("ocp_seats.slice", [budget]) => slice(book, seat, alloc, first, budget),
+        (_, [argument]) => debug(book, seat, alloc, first, command_of(name, argument)?),
         _ => Err(Fault::Syntax),
     }
 }
@@ -191,26 +189,16 @@ fn request<L: Naming>(
     book: &mut Book<L>,
     seat: &mut Seat<L>,
     alloc: Global,
-    time: u32,
-    octets: &[u8],
+    time: &str,
+    packet: &str,
 ) -> Result<String, Fault> {
+    let packet = octets(alloc, packet)?;
     let request = Request {
         alloc,
-        time,
-        octets,
+        time: number(time)?,
+        octets: &packet,
     };
     show_reports(alloc, &book.apply(seat, request))
-}
-
-fn command<L: Naming>(
-    book: &mut Book<L>,
-    seat: &mut Seat<L>,
-    alloc: Global,
-    id: &str,
-    command: Command,
-) -> Result<String, Fault> {
-    let id = id.parse()?;
-    show_done(alloc, book.apply(seat, DebuggerCommand { id, command }))
 }
 
 fn drain<L: Naming>(
@@ -220,4 +208,54 @@ fn drain<L: Naming>(
     time: u32,
 ) -> Result<String, Fault> {
     show_reports(alloc, &book.apply(seat, Drain { alloc, time }))
+}
+
+fn step<L: Naming>(
+    book: &mut Book<L>,
+    seat: &mut Seat<L>,
+    alloc: Global,
+    id: u16,
+) -> Result<String, Fault> {
+    text_of(alloc, Outcome(book.apply(seat, Step { id })))
+}
+
+fn slice<L: Naming>(
+    book: &mut Book<L>,
+    seat: &mut Seat<L>,
+    alloc: Global,
+    id: &str,
+    budget: &str,
+) -> Result<String, Fault> {
+    let budget = budget_of(budget)?;
+    show_slice(alloc, book.slice(seat, number(id)?, budget))
+}
+
+fn commit<L: Naming>(
+    book: &mut Book<L>,
+    seat: &mut Seat<L>,
+    alloc: Global,
+    work: Work,
+) -> Result<String, Fault> {
+    show_commit(alloc, book.commit(seat, work))
+}
+
+/// The debugger's command of a call.
+fn command_of(name: &str, argument: &str) -> Result<Command, Fault> {
+    match name {
+        "ocp_seats.set_break" => Ok(Command::SetBreak(number(argument)?)),
+        "ocp_seats.clear_break" => Ok(Command::ClearBreak(number(argument)?)),
+        "ocp_seats.trace" => Ok(Command::SetTrace(flag(argument)?)),
+        _ => Err(Fault::Syntax),
+    }
+}
+
+fn debug<L: Naming>(
+    book: &mut Book<L>,
+    seat: &mut Seat<L>,
+    alloc: Global,
+    id: &str,
+    command: Command,
+) -> Result<String, Fault> {
+    let id = number(id)?;
+    show_done(alloc, book.apply(seat, DebuggerCommand { id, command }))
 }

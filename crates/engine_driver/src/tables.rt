@@ -1,8 +1,10 @@
 //! Calls of ocp_table and of ocp_debug, on the table that a line before made.
 
-use crate::answers::{add_text, show_done, show_ok, show_outcome};
+use crate::answers::{Outcome, show_done};
 use crate::views::show_view;
-use call_lines::{Fault, flag, octets, profile_of};
+use call_lines::{
+    Both, Fault, Named, add_text, dash_if_empty, flag, number, octets, profile_of, text_of,
+};
 use ocp_debug::{clear_break, set_break, set_trace, view};
 use ocp_profile::MAX_POOL_WORDS;
 use ocp_regions::ARGUMENT_OCTETS;
@@ -23,6 +25,20 @@ impl Tables {
             pool: None,
         }
     }
+
+    /// Makes a table, and a pool of so many words.
+    fn begin(&mut self, alloc: Global, profile: Profile, count: u16) -> Result<String, Fault> {
+        self.pool = Some(pool_of(alloc, count)?);
+        self.table = Some(Table::new(alloc, profile)?);
+        text_of(alloc, "Ok")
+    }
+
+    /// The outcome of an instruction.
+    fn instruction(&mut self, alloc: Global, id: u16) -> Result<String, Fault> {
+        let table = self.table.as_mut().ok_or(Fault::Syntax)?;
+        let pool = self.pool.as_mut().ok_or(Fault::Syntax)?;
+        text_of(alloc, Outcome(table.instruction(id, pool)))
+    }
 }
 
 /// The answer of a call.
@@ -31,25 +47,12 @@ pub(crate) fn table_answer(
     alloc: Global,
     words: &[&str],
 ) -> Result<String, Fault> {
-    match *words {
+    match words {
         ["ocp_table.new", profile, count] => {
-            tables.pool = Some(pool_of(alloc, count.parse()?)?);
-            tables.table = Some(Table::new(alloc, profile_of(profile)?)?);
-            show_ok(alloc)
+            tables.begin(alloc, profile_of(profile)?, number(count)?)
         }
-        ["ocp_table.instruction", id] => {
-            let table = tables.table.as_mut().ok_or(Fault::Syntax)?;
-            let pool = tables.pool.as_mut().ok_or(Fault::Syntax)?;
-            show_outcome(alloc, table.instruction(id.parse()?, pool))
-        }
-        [name, ..] if name.starts_with("ocp_debug.") => {
-            let table = tables.table.as_mut().ok_or(Fault::Syntax)?;
-            debug(table, alloc, words)
-        }
-        _ => {
-            let table = tables.table.as_mut().ok_or(Fault::Syntax)?;
-            request(table, alloc, words)
-        }
+        ["ocp_table.instruction", id] => tables.instruction(alloc, number(id)?),
+        _ => call(tables.table.as_mut().ok_or(Fault::Syntax)?, alloc, words),
     }
 }
 
@@ -60,37 +63,55 @@ fn pool_of(alloc: Global, count: u16) -> Result<Pool, Fault> {
     Ok(Pool::new(alloc, count)?)
 }
 
-/// The answer of a table's call. Requests that wait have an origin without flags.
-fn request(table: &mut Table, alloc: Global, words: &[&str]) -> Result<String, Fault> {
-    let origin = PendingOrigin::default();
+/// The answer of a table's call.
+fn call(table: &mut Table, alloc: Global, words: &[&str]) -> Result<String, Fault> {
     match words {
-        ["ocp_table.load", id, code] => load(table, alloc, id.parse()?, code),
-        ["ocp_table.unload", id] => show_start(alloc, table.unload(id.parse()?)),
-        ["ocp_table.activate", id, budget, arguments] => {
-            let arguments = octets(alloc, arguments)?;
-            activate(table, alloc, id.parse()?, budget.parse()?, &arguments)
-        }
-        ["ocp_table.stop", id, step] => {
-            show_start(alloc, table.stop(id.parse()?, step.parse()?, origin))
-        }
-        ["ocp_table.suspend", id, step] => {
-            show_start(alloc, table.suspend(id.parse()?, step.parse()?, origin))
-        }
-        ["ocp_table.resume", id] => show_start(alloc, table.resume(id.parse()?)),
-        ["ocp_table.abort", id] => show_start(alloc, table.abort(id.parse()?)),
-        ["ocp_table.communicate", id, numbers @ ..] => {
-            communicate(table, alloc, id.parse()?, numbers)
-        }
         ["ocp_table.statuses"] => statuses(alloc, table),
-        ["ocp_table.outbox"] => Ok(format!(in alloc; "{}", table.outbox().len())?),
+        ["ocp_table.outbox"] => text_of(alloc, table.outbox().len()),
+        [name, id, arguments @ ..] => request(table, alloc, name, number(id)?, arguments),
         _ => Err(Fault::Syntax),
     }
+}
+
+/// The answer of a request or of a debugger's call.
+fn request(
+    table: &mut Table,
+    alloc: Global,
+    name: &str,
+    id: u16,
+    words: &[&str],
+) -> Result<String, Fault> {
+    match (name, words) {
+        ("ocp_table.load", [code]) => load(table, alloc, id, code),
+        ("ocp_table.activate", [budget, arguments]) => {
+            activate(table, alloc, id, number(budget)?, arguments)
+        }
+        ("ocp_table.communicate", numbers) => communicate(table, alloc, id, numbers),
+        ("ocp_table.unload", []) => show_start(alloc, table.unload(id)),
+        ("ocp_table.resume", []) => show_start(alloc, table.resume(id)),
+        ("ocp_table.abort", []) => show_start(alloc, table.abort(id)),
+        ("ocp_table.stop", [step]) => stop(table, alloc, id, number(step)?),
+        ("ocp_table.suspend", [step]) => suspend(table, alloc, id, number(step)?),
+        ("ocp_debug.view", []) => show_view(alloc, view(table, id)),
+        (_, [argument]) => debug(table, alloc, name, id, argument),
+        _ => Err(Fault::Syntax),
+    }
+}
+
+/// The answer of a stop, with an origin without flags.
+fn stop(table: &mut Table, alloc: Global, id: u16, step: u16) -> Result<String, Fault> {
+    show_start(alloc, table.stop(id, step, PendingOrigin::default()))
+}
+
+/// The answer of a suspension, with an origin without flags.
+fn suspend(table: &mut Table, alloc: Global, id: u16, step: u16) -> Result<String, Fault> {
+    show_start(alloc, table.suspend(id, step, PendingOrigin::default()))
 }
 
 fn load(table: &mut Table, alloc: Global, id: u16, code: &str) -> Result<String, Fault> {
     let code = octets(alloc, code)?;
     match table.load(alloc, id, &code) {
-        Ok(()) => show_ok(alloc),
+        Ok(()) => text_of(alloc, "Ok"),
         Err(LoadFailure::Failed(failure)) => show_start(alloc, Err(failure)),
         Err(LoadFailure::Memory) => Err(Fault::Memory),
     }
@@ -101,23 +122,29 @@ fn activate(
     alloc: Global,
     id: u16,
     budget: u32,
-    arguments: &[u8],
+    arguments: &str,
 ) -> Result<String, Fault> {
+    let arguments = octets(alloc, arguments)?;
     if arguments.len() > ARGUMENT_OCTETS {
         return Err(Fault::Syntax);
     }
     if budget != 0 && table.profile() == Profile::One {
         return Err(Fault::Syntax);
     }
-    show_start(alloc, table.activate(id, budget, arguments))
+    show_start(alloc, table.activate(id, budget, &arguments))
 }
 
 fn communicate(table: &mut Table, alloc: Global, id: u16, words: &[&str]) -> Result<String, Fault> {
-    let mut numbers: Vec<u64> = Vec::new(alloc);
-    for word in words {
-        numbers.push(word.parse()?)?;
-    }
+    let numbers = numbers_of(alloc, words)?;
     show_start(alloc, table.communicate(id, &numbers))
+}
+
+fn numbers_of(alloc: Global, words: &[&str]) -> Result<Vec<u64>, Fault> {
+    let mut numbers = Vec::new(alloc);
+    for word in words {
+        numbers.push(number(word)?)?;
+    }
+    Ok(numbers)
 }
 
 /// The status of each procedure, with a comma between two; `-` for none.
@@ -126,38 +153,34 @@ fn statuses(alloc: Global, table: &Table) -> Result<String, Fault> {
     for row in table.statuses().as_slice() {
         add_text(
             &mut texts,
-            &format!(in alloc; "{} {:?}", row.id, row.status)?,
+            &text_of(alloc, Both(row.id, Named(row.status)))?,
         )?;
     }
-    if texts.is_empty() {
-        texts.push_str("-")?;
-    }
-    Ok(texts)
+    dash_if_empty(texts)
 }
 
 fn show_start(alloc: Global, done: Result<(), StartFailure>) -> Result<String, Fault> {
     match done {
-        Ok(()) => show_ok(alloc),
+        Ok(()) => text_of(alloc, "Ok"),
         Err(StartFailure::BadCode { fault, slot }) => {
-            Ok(format!(in alloc; "BadCode {fault} {slot}")?)
+            text_of(alloc, Both("BadCode", Both(fault, slot)))
         }
-        Err(failure) => Ok(format!(in alloc; "{failure:?}")?),
+        Err(failure) => text_of(alloc, Named(failure)),
     }
 }
 
 /// The answer of a debugger's call.
-fn debug(table: &mut Table, alloc: Global, words: &[&str]) -> Result<String, Fault> {
-    match *words {
-        ["ocp_debug.set_break", id, place] => {
-            show_done(alloc, set_break(table, id.parse()?, place.parse()?))
-        }
-        ["ocp_debug.clear_break", id, place] => {
-            show_done(alloc, clear_break(table, id.parse()?, place.parse()?))
-        }
-        ["ocp_debug.set_trace", id, on] => {
-            show_done(alloc, set_trace(table, id.parse()?, flag(on)?))
-        }
-        ["ocp_debug.view", id] => show_view(alloc, view(table, id.parse()?)),
+fn debug(
+    table: &mut Table,
+    alloc: Global,
+    name: &str,
+    id: u16,
+    argument: &str,
+) -> Result<String, Fault> {
+    match name {
+        "ocp_debug.set_break" => show_done(alloc, set_break(table, id, number(argument)?)),
+        "ocp_debug.clear_break" => show_done(alloc, clear_break(table, id, number(argument)?)),
+        "ocp_debug.set_trace" => show_done(alloc, set_trace(table, id, flag(argument)?)),
         _ => Err(Fault::Syntax),
     }
 }

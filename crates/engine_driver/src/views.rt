@@ -1,12 +1,13 @@
 //! Calls of an engine that change nothing of it.
 
-use crate::answers::{show_all, show_none};
+use crate::answers::show_all;
 use crate::runs::Runs;
 use bpf_step::Machine;
-use call_lines::{Fault, Numbers};
+use call_lines::{Both, Fault, Named, Numbers, number, text_of};
 use ocp_core::{Engine, replay_one};
 use ocp_table::{Cause, Pending, View};
 use std::alloc::Global;
+use std::fmt;
 
 /// The answer of a call.
 pub(crate) fn answer(
@@ -16,88 +17,99 @@ pub(crate) fn answer(
     words: &[&str],
 ) -> Result<String, Fault> {
     match *words {
-        ["ocp_core.events"] => Ok(format!(in alloc; "{}", engine.events())?),
-        ["ocp_core.room"] => Ok(format!(in alloc; "{}", engine.room())?),
+        ["ocp_core.events"] => text_of(alloc, engine.events()),
+        ["ocp_core.room"] => text_of(alloc, engine.room()),
         ["ocp_core.entries"] => show_all(alloc, engine.journal().entries()),
-        ["ocp_core.pool_word", index] => show_word(alloc, engine.pool_word(index.parse()?)),
-        ["ocp_core.view", id] => show_view(alloc, engine.view(id.parse()?)),
-        ["ocp_core.registers", id] => show_registers(alloc, engine.view(id.parse()?)),
+        ["ocp_core.pool_word", index] => show_word(alloc, engine.pool_word(number(index)?)),
+        ["ocp_core.view", id] => show_view(alloc, engine.view(number(id)?)),
+        ["ocp_core.registers", id] => show_registers(alloc, engine.view(number(id)?)),
         ["ocp_core.replay_one", id] => {
-            show_machine(alloc, replay_one(alloc, engine.journal(), id.parse()?)?)
+            show_machine(alloc, replay_one(alloc, engine.journal(), number(id)?)?)
         }
         ["ocp_core.ticket", id] => {
-            let ticket = engine.ticket(alloc, id.parse()?)?;
+            let ticket = engine.ticket(alloc, number(id)?)?;
             runs.add(alloc, ticket)
         }
-        ["ocp_core.run_ticket", ticket, budget] => runs.run(alloc, ticket, budget.parse()?),
+        ["ocp_core.run_ticket", ticket, budget] => runs.run(alloc, ticket, number(budget)?),
         _ => Err(Fault::Syntax),
     }
 }
 
 fn show_word(alloc: Global, word: Option<u64>) -> Result<String, Fault> {
     match word {
-        Some(word) => Ok(format!(in alloc; "{word}")?),
-        None => show_none(alloc),
+        Some(word) => text_of(alloc, word),
+        None => text_of(alloc, "None"),
     }
 }
 
 /// The status, why it is inactive, the place, the depth, what is pending, and what remains of the
 /// budget.
 pub(crate) fn show_view(alloc: Global, view: Option<View>) -> Result<String, Fault> {
-    let Some(view) = view else {
-        return show_none(alloc);
-    };
-    let cause = show_cause(alloc, view.cause)?;
-    let pending = show_pending(alloc, view.pending)?;
-    let remaining = show_remaining(alloc, view.remaining)?;
-    Ok(format!(in alloc;
-        "{:?} {cause} {} {} {pending} {remaining}",
-        view.status, view.place, view.depth
-    )?)
-}
-
-fn show_cause(alloc: Global, cause: Cause) -> Result<String, Fault> {
-    match cause {
-        Cause::Fault(fault) => {
-            let number = fault.number();
-            Ok(format!(in alloc; "Fault {number}")?)
+    match view {
+        Some(view) => {
+            let status = Both(Named(view.status), Why(view.cause));
+            let place = Both(view.place, view.depth);
+            let rest = Both(Waiting(view.pending), Remaining(view.remaining));
+            text_of(alloc, Both(status, Both(place, rest)))
         }
-        cause => Ok(format!(in alloc; "{cause:?}")?),
+        None => text_of(alloc, "None"),
     }
 }
 
-fn show_pending(alloc: Global, pending: Pending) -> Result<String, Fault> {
-    Ok(match pending {
-        Pending::Nothing => String::from_str(alloc, "Nothing")?,
-        Pending::Stop(step, _) => format!(in alloc; "Stop {step}")?,
-        Pending::Suspend(step, _) => format!(in alloc; "Suspend {step}")?,
-    })
+/// Why a procedure is inactive.
+#[derive(Clone, Copy)]
+struct Why(Cause);
+
+impl fmt::Display for Why {
+    fn fmt<W: fmt::Write>(&self, f: &mut fmt::Formatter<W>) -> fmt::Result {
+        match self.0 {
+            Cause::Fault(fault) => write!(f, "Fault {}", fault.number()),
+            cause => write!(f, "{cause:?}"),
+        }
+    }
 }
 
-fn show_remaining(alloc: Global, remaining: Option<u32>) -> Result<String, Fault> {
-    match remaining {
-        Some(count) => Ok(format!(in alloc; "{count}")?),
-        None => show_none(alloc),
+/// What is pending, without its origin.
+#[derive(Clone, Copy)]
+struct Waiting(Pending);
+
+impl fmt::Display for Waiting {
+    fn fmt<W: fmt::Write>(&self, f: &mut fmt::Formatter<W>) -> fmt::Result {
+        match self.0 {
+            Pending::Nothing => write!(f, "Nothing"),
+            Pending::Stop(step, _) => write!(f, "Stop {step}"),
+            Pending::Suspend(step, _) => write!(f, "Suspend {step}"),
+        }
+    }
+}
+
+/// What remains of a budget.
+#[derive(Clone, Copy)]
+struct Remaining(Option<u32>);
+
+impl fmt::Display for Remaining {
+    fn fmt<W: fmt::Write>(&self, f: &mut fmt::Formatter<W>) -> fmt::Result {
+        match self.0 {
+            Some(count) => write!(f, "{count}"),
+            None => write!(f, "None"),
+        }
     }
 }
 
 fn show_registers(alloc: Global, view: Option<View>) -> Result<String, Fault> {
     match view {
-        Some(view) => Ok(format!(in alloc; "{}", Numbers(&view.registers))?),
-        None => show_none(alloc),
+        Some(view) => text_of(alloc, Numbers(&view.registers)),
+        None => text_of(alloc, "None"),
     }
 }
 
 /// The place, the depth and the registers of a machine.
 fn show_machine(alloc: Global, machine: Option<Machine>) -> Result<String, Fault> {
-    let Some(machine) = machine else {
-        return show_none(alloc);
-    };
-    let registers = machine.registers();
-    Ok(format!(in alloc;
-        "{} {} {}",
-        machine.place(),
-        machine.depth(),
-        Numbers(&registers)
-    )?)
+    match machine {
+        Some(machine) => {
+            let place = Both(machine.place(), machine.depth());
+            text_of(alloc, Both(place, Numbers(&machine.registers())))
+        }
+        None => text_of(alloc, "None"),
+    }
 }

@@ -7,26 +7,28 @@ use bpf_decode::{Slots, decode_at, encode};
 use bpf_listing::{disassemble, line_text};
 use bpf_text::{LineFault, TextLine};
 use bpf_types::Line;
-use call_lines::{Fault, Octets, Text, octets};
+use call_lines::{Both, Fault, Named, Octets, Text, number, octets, text_of};
 use std::alloc::Global;
 
 /// The octets of a slot.
 const SLOT: usize = 8;
 
-/// The answer of a call.
+/// The answer of a call, whose last word says octets, but for that of a slot.
 pub(crate) fn answer(alloc: Global, words: &[&str]) -> Result<String, Fault> {
-    match *words {
-        ["bpf_decode.decode_at", code, slot] => {
-            decode(alloc, &octets(alloc, code)?, slot.parse()?)
-        }
-        ["bpf_decode.encode", code] => spell(alloc, &octets(alloc, code)?),
-        ["bpf_listing.disassemble", before, code] => {
-            let out = octets(alloc, before)?;
-            list(alloc, &octets(alloc, code)?, out)
-        }
-        ["bpf_listing.read_line", text] => read_canonical(alloc, &octets(alloc, text)?),
-        ["bpf_canonical.read_mnemonic", text] => mnemonic(alloc, &octets(alloc, text)?),
-        ["bpf_text.read_line", text] => read_line(alloc, &octets(alloc, text)?),
+    match words {
+        ["bpf_decode.decode_at", code, slot] => decode(alloc, &octets(alloc, code)?, slot),
+        [name, arguments @ .., text] => call(alloc, name, arguments, &octets(alloc, text)?),
+        _ => Err(Fault::Syntax),
+    }
+}
+
+fn call(alloc: Global, name: &str, words: &[&str], text: &[u8]) -> Result<String, Fault> {
+    match (name, words) {
+        ("bpf_decode.encode", []) => spell(alloc, text),
+        ("bpf_listing.disassemble", [before]) => list(alloc, text, before),
+        ("bpf_listing.read_line", []) => read_canonical(alloc, text),
+        ("bpf_canonical.read_mnemonic", []) => mnemonic(alloc, text),
+        ("bpf_text.read_line", []) => read_line(alloc, text),
         _ => Err(Fault::Syntax),
     }
 }
@@ -38,13 +40,14 @@ fn has_slot(code: &[u8], slot: usize) -> bool
     slot < code.len() / SLOT
 }
 
-fn decode(alloc: Global, code: &[u8], slot: usize) -> Result<String, Fault> {
+fn decode(alloc: Global, code: &[u8], slot: &str) -> Result<String, Fault> {
+    let slot = number(slot)?;
     if !has_slot(code, slot) {
         return Err(Fault::Syntax);
     }
     match decode_at(code, slot) {
-        Ok(line) => Ok(format!(in alloc; "Ok {line:?}")?),
-        Err(fault) => Ok(format!(in alloc; "{fault:?}")?),
+        Ok(line) => text_of(alloc, Both("Ok", Named(line))),
+        Err(fault) => text_of(alloc, Named(fault)),
     }
 }
 
@@ -60,13 +63,14 @@ fn spell(alloc: Global, code: &[u8]) -> Result<String, Fault> {
 
 fn show_spelling(alloc: Global, line: Line) -> Result<String, Fault> {
     let slots = encode(line);
-    Ok(format!(in alloc; "{}", Octets(slots.as_slice()))?)
+    text_of(alloc, Octets(slots.as_slice()))
 }
 
-fn list(alloc: Global, code: &[u8], mut out: Vec<u8>) -> Result<String, Fault> {
+fn list(alloc: Global, code: &[u8], before: &str) -> Result<String, Fault> {
+    let mut out = octets(alloc, before)?;
     match disassemble(code, &mut out) {
-        Ok(()) => Ok(format!(in alloc; "Ok {}", Text(&out))?),
-        Err(fault) => Ok(format!(in alloc; "{fault:?} {}", Text(&out))?),
+        Ok(()) => text_of(alloc, Both("Ok", Text(&out))),
+        Err(fault) => text_of(alloc, Both(Named(fault), Text(&out))),
     }
 }
 
@@ -74,34 +78,37 @@ fn list(alloc: Global, code: &[u8], mut out: Vec<u8>) -> Result<String, Fault> {
 fn read_canonical(alloc: Global, text: &[u8]) -> Result<String, Fault> {
     match bpf_listing::read_line(text) {
         Some(line) => write_canonical(alloc, line),
-        None => Ok(String::from_str(alloc, "None")?),
+        None => text_of(alloc, "None"),
     }
 }
 
 fn write_canonical(alloc: Global, line: Line) -> Result<String, Fault> {
     let mut out = Vec::new(alloc);
     line_text(line, &mut out)?;
-    Ok(format!(in alloc; "Ok {}", Text(&out))?)
+    text_of(alloc, Both("Ok", Text(&out)))
 }
 
 fn mnemonic(alloc: Global, text: &[u8]) -> Result<String, Fault> {
-    let name = match read_mnemonic(text) {
-        None => "None",
-        Some(Mnemonic::Classed(stem, _)) => stem_name(stem),
-        Some(Mnemonic::ByteOrder(_)) => "ByteOrder",
-        Some(Mnemonic::LoadWide) => "LoadWide",
-        Some(
-            Mnemonic::Load(_)
-            | Mnemonic::LoadExtended(_)
-            | Mnemonic::Store(_)
-            | Mnemonic::StoreImmediate(_),
-        ) => "Access",
-        Some(Mnemonic::Jump) => "Jump Short",
-        Some(Mnemonic::LongJump) => "Jump Long",
-        Some(Mnemonic::Call) => "Jump Call",
-        Some(Mnemonic::Exit) => "Jump Exit",
-    };
-    Ok(String::from_str(alloc, name)?)
+    match read_mnemonic(text) {
+        Some(mnemonic) => text_of(alloc, mnemonic_name(mnemonic)),
+        None => text_of(alloc, "None"),
+    }
+}
+
+fn mnemonic_name(mnemonic: Mnemonic) -> &'static str {
+    match mnemonic {
+        Mnemonic::Classed(stem, _) => stem_name(stem),
+        Mnemonic::ByteOrder(_) => "ByteOrder",
+        Mnemonic::LoadWide => "LoadWide",
+        Mnemonic::Load(_)
+        | Mnemonic::LoadExtended(_)
+        | Mnemonic::Store(_)
+        | Mnemonic::StoreImmediate(_) => "Access",
+        Mnemonic::Jump => "Jump Short",
+        Mnemonic::LongJump => "Jump Long",
+        Mnemonic::Call => "Jump Call",
+        Mnemonic::Exit => "Jump Exit",
+    }
 }
 
 fn stem_name(stem: Stem) -> &'static str {
@@ -123,22 +130,22 @@ fn read_line(alloc: Global, text: &[u8]) -> Result<String, Fault> {
                 None => show_label(alloc, label),
             }
         }
-        Err(LineFault::Syntax) => Ok(String::from_str(alloc, "Syntax")?),
-        Err(LineFault::Range) => Ok(String::from_str(alloc, "Range")?),
+        Err(LineFault::Syntax) => text_of(alloc, "Syntax"),
+        Err(LineFault::Range) => text_of(alloc, "Range"),
     }
 }
 
 fn show_label(alloc: Global, label: Option<&[u8]>) -> Result<String, Fault> {
     match label {
-        Some(name) => Ok(format!(in alloc; "Ok {} -", Text(name))?),
-        None => Ok(String::from_str(alloc, "Ok - -")?),
+        Some(name) => text_of(alloc, Both("Ok", Both(Text(name), "-"))),
+        None => text_of(alloc, "Ok - -"),
     }
 }
 
 fn show_labelled(alloc: Global, label: Option<&[u8]>, slots: Slots) -> Result<String, Fault> {
     let octets = Octets(slots.as_slice());
     match label {
-        Some(name) => Ok(format!(in alloc; "Ok {} {octets}", Text(name))?),
-        None => Ok(format!(in alloc; "Ok - {octets}")?),
+        Some(name) => text_of(alloc, Both("Ok", Both(Text(name), octets))),
+        None => text_of(alloc, Both("Ok -", octets)),
     }
 }

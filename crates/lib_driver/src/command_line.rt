@@ -1,7 +1,7 @@
 //! Calls of ocp_words.
 
-use call_lines::Fault;
-use ocp_words::{Job, WordsFault, read_words};
+use call_lines::{Both, Fault, Numbers, text_of};
+use ocp_words::{Job, Settings, WordsFault, read_words};
 use std::alloc::Global;
 
 /// The answer of a call.
@@ -15,23 +15,25 @@ pub(crate) fn answer(alloc: Global, words: &[&str]) -> Result<String, Fault> {
 fn read(alloc: Global, words: &[&str]) -> Result<String, Fault> {
     match read_words(alloc, words) {
         Ok(job) => show(alloc, job),
-        Err(WordsFault::Usage(_)) => Ok(String::from_str(alloc, "Usage")?),
+        Err(WordsFault::Usage(_)) => text_of(alloc, "Usage"),
         Err(WordsFault::Memory) => Err(Fault::Memory),
     }
 }
 
 fn show(alloc: Global, job: Job) -> Result<String, Fault> {
-    Ok(match job {
-        Job::Run(settings) => {
-            format!(in alloc;
-                "Run {} {} {} {}",
-                settings.profile.number(),
-                settings.apid,
-                settings.pool_words,
-                settings.capacity
-            )?
-        }
-        Job::Assemble(profile) => format!(in alloc; "Assemble {}", profile.number())?,
-        Job::List => String::from_str(alloc, "List")?,
-    })
+    match job {
+        Job::Run(settings) => show_settings(alloc, &settings),
+        Job::Assemble(profile) => text_of(alloc, Both("Assemble", profile.number())),
+        Job::List => text_of(alloc, "List"),
+    }
+}
+
+fn show_settings(alloc: Global, settings: &Settings) -> Result<String, Fault> {
+    let numbers = [
+        settings.profile.number().into(),
+        settings.apid.into(),
+        settings.pool_words.into(),
+        settings.capacity.into(),
+    ];
+    text_of(alloc, Both("Run", Numbers(&numbers)))
 }

@@ -1,159 +1,156 @@
 //! Calls of obcp_types and of verification.
 
 use bitflags::Flags;
-use call_lines::Fault;
+use call_lines::{Both, Fault, Named, Numbers, add_text, dash_if_empty, number, text_of, value_of};
 use obcp_types::{AcceptanceFailure, CompletionFailure, RequestFault, StartFailure};
 use pus_fields::{Ack, Rejection};
 use std::alloc::Global;
 use verification::{Notice, NoticeList, Outcome, completion, notices};
 
+/// The failures of an acceptance, by name.
+const ACCEPTANCE: &[(&str, AcceptanceFailure)] = &[
+    ("Service", AcceptanceFailure::Request(RequestFault::Service)),
+    ("Subtype", AcceptanceFailure::Request(RequestFault::Subtype)),
+    ("Layout", AcceptanceFailure::Request(RequestFault::Layout)),
+    ("Segmented", AcceptanceFailure::Packet(Rejection::Segmented)),
+    (
+        "NoSecondary",
+        AcceptanceFailure::Packet(Rejection::NoSecondary),
+    ),
+    ("NoRoom", AcceptanceFailure::Packet(Rejection::NoRoom)),
+    ("Pec", AcceptanceFailure::Packet(Rejection::Pec)),
+    (
+        "PusVersion",
+        AcceptanceFailure::Packet(Rejection::PusVersion),
+    ),
+];
+
+/// The failures of a start that are no more than a name.
+const START: &[(&str, StartFailure)] = &[
+    ("AlreadyLoaded", StartFailure::AlreadyLoaded),
+    ("TableFull", StartFailure::TableFull),
+    ("NotLoaded", StartFailure::NotLoaded),
+    ("NotInactive", StartFailure::NotInactive),
+    ("NotActive", StartFailure::NotActive),
+    ("NotRunning", StartFailure::NotRunning),
+    ("NotHeld", StartFailure::NotHeld),
+    ("StopPending", StartFailure::StopPending),
+    ("MailboxFull", StartFailure::MailboxFull),
+    ("OutboxFull", StartFailure::OutboxFull),
+];
+
+/// The failures of a completion, by name.
+const COMPLETION: &[(&str, CompletionFailure)] = &[("Overtaken", CompletionFailure::Overtaken)];
+
 /// The answer of a call.
-pub(crate) fn answer(alloc: Global, words: &[&str]) -> Result<String, Fault> {
-    match *words {
-        ["obcp_types.acceptance_code", name] => {
-            Ok(format!(in alloc; "{}", acceptance_failure(name)?.code())?)
-        }
-        ["obcp_types.start_code", "BadCode", fault, slot] => {
-            let failure = bad_code(fault, slot)?;
-            Ok(format!(in alloc; "{}", failure.code())?)
-        }
-        ["obcp_types.start_code", name] => {
-            Ok(format!(in alloc; "{}", start_failure(name)?.code())?)
-        }
-        ["obcp_types.completion_code", name] => {
-            Ok(format!(in alloc; "{}", completion_failure(name)?.code())?)
-        }
-        ["verification.completion", ack] => {
-            show_completion(alloc, completion(flags(ack)?, None))
-        }
-        ["verification.completion", ack, name] => {
-            let failure = completion_failure(name)?;
-            show_completion(alloc, completion(flags(ack)?, Some(failure)))
-        }
-        [
-            "verification.notices",
-            ack,
-            "NotStarted",
-            "BadCode",
-            fault,
-            slot,
-        ] => {
-            let outcome = Outcome::NotStarted(bad_code(fault, slot)?);
-            show_notices(alloc, &notices(flags(ack)?, &outcome))
-        }
-        ["verification.notices", ack, outcome, name] => {
-            let outcome = failed_outcome(outcome, name)?;
-            show_notices(alloc, &notices(flags(ack)?, &outcome))
-        }
-        ["verification.notices", ack, outcome] => {
-            let outcome = outcome_of(outcome)?;
-            show_notices(alloc, &notices(flags(ack)?, &outcome))
-        }
+pub(crate) fn answer(alloc: Global, name: &str, words: &[&str]) -> Result<String, Fault> {
+    match name {
+        "obcp_types.acceptance_code" => acceptance_code(alloc, words),
+        "obcp_types.start_code" => text_of(alloc, start_failure(words)?.code()),
+        "obcp_types.completion_code" => completion_code(alloc, words),
+        "verification.completion" => show_completion(alloc, words),
+        "verification.notices" => show_notices(alloc, words),
         _ => Err(Fault::Syntax),
     }
 }
 
-fn flags(word: &str) -> Result<Ack, Fault> {
-    Ok(Ack::from_bits_retain(word.parse()?))
+fn acceptance_code(alloc: Global, words: &[&str]) -> Result<String, Fault> {
+    let [name] = *words else {
+        return Err(Fault::Syntax);
+    };
+    text_of(alloc, value_of(ACCEPTANCE, name)?.code())
 }
 
-fn acceptance_failure(name: &str) -> Result<AcceptanceFailure, Fault> {
-    let rejection = match name {
-        "Service" => return Ok(AcceptanceFailure::Request(RequestFault::Service)),
-        "Subtype" => return Ok(AcceptanceFailure::Request(RequestFault::Subtype)),
-        "Layout" => return Ok(AcceptanceFailure::Request(RequestFault::Layout)),
-        "Segmented" => Rejection::Segmented,
-        "NoSecondary" => Rejection::NoSecondary,
-        "NoRoom" => Rejection::NoRoom,
-        "Pec" => Rejection::Pec,
-        "PusVersion" => Rejection::PusVersion,
-        _ => return Err(Fault::Syntax),
+fn completion_code(alloc: Global, words: &[&str]) -> Result<String, Fault> {
+    let [name] = *words else {
+        return Err(Fault::Syntax);
     };
-    Ok(AcceptanceFailure::Packet(rejection))
+    text_of(alloc, value_of(COMPLETION, name)?.code())
+}
+
+fn flags(word: &str) -> Result<Ack, Fault> {
+    Ok(Ack::from_bits_retain(number(word)?))
+}
+
+/// The failure of a start in words.
+fn start_failure(words: &[&str]) -> Result<StartFailure, Fault> {
+    match *words {
+        ["BadCode", fault, slot] => bad_code(fault, slot),
+        [name] => value_of(START, name),
+        _ => Err(Fault::Syntax),
+    }
 }
 
 fn bad_code(fault: &str, slot: &str) -> Result<StartFailure, Fault> {
     Ok(StartFailure::BadCode {
-        fault: fault.parse()?,
-        slot: slot.parse()?,
+        fault: number(fault)?,
+        slot: number(slot)?,
     })
 }
 
-fn start_failure(name: &str) -> Result<StartFailure, Fault> {
-    match name {
-        "AlreadyLoaded" => Ok(StartFailure::AlreadyLoaded),
-        "TableFull" => Ok(StartFailure::TableFull),
-        "NotLoaded" => Ok(StartFailure::NotLoaded),
-        "NotInactive" => Ok(StartFailure::NotInactive),
-        "NotActive" => Ok(StartFailure::NotActive),
-        "NotRunning" => Ok(StartFailure::NotRunning),
-        "NotHeld" => Ok(StartFailure::NotHeld),
-        "StopPending" => Ok(StartFailure::StopPending),
-        "MailboxFull" => Ok(StartFailure::MailboxFull),
-        "OutboxFull" => Ok(StartFailure::OutboxFull),
-        _ => Err(Fault::Syntax),
-    }
-}
-
-fn completion_failure(name: &str) -> Result<CompletionFailure, Fault> {
-    match name {
-        "Overtaken" => Ok(CompletionFailure::Overtaken),
-        _ => Err(Fault::Syntax),
-    }
-}
-
-fn outcome_of(name: &str) -> Result<Outcome, Fault> {
-    match name {
-        "Started" => Ok(Outcome::Started),
-        "Done" => Ok(Outcome::Done),
-        _ => Err(Fault::Syntax),
-    }
-}
-
-fn failed_outcome(name: &str, failure: &str) -> Result<Outcome, Fault> {
-    match name {
-        "Refused" => Ok(Outcome::Refused(acceptance_failure(failure)?)),
-        "NotStarted" => Ok(Outcome::NotStarted(start_failure(failure)?)),
+/// The outcome in words.
+fn outcome_of(words: &[&str]) -> Result<Outcome, Fault> {
+    match words {
+        ["Started"] => Ok(Outcome::Started),
+        ["Done"] => Ok(Outcome::Done),
+        ["Refused", name] => Ok(Outcome::Refused(value_of(ACCEPTANCE, name)?)),
+        ["NotStarted", failure @ ..] => Ok(Outcome::NotStarted(start_failure(failure)?)),
         _ => Err(Fault::Syntax),
     }
 }
 
 /// A notice, with what its failure says.
 fn show_notice(alloc: Global, notice: Notice) -> Result<String, Fault> {
-    Ok(match notice {
-        Notice::NotAccepted(AcceptanceFailure::Packet(fault)) => {
-            format!(in alloc; "NotAccepted {fault:?}")?
-        }
-        Notice::NotAccepted(AcceptanceFailure::Request(fault)) => {
-            format!(in alloc; "NotAccepted {fault:?}")?
-        }
-        Notice::NotStarted(StartFailure::BadCode { fault, slot }) => {
-            format!(in alloc; "NotStarted BadCode {fault} {slot}")?
-        }
-        Notice::NotStarted(failure) => format!(in alloc; "NotStarted {failure:?}")?,
-        Notice::NotCompleted(failure) => format!(in alloc; "NotCompleted {failure:?}")?,
-        plain => format!(in alloc; "{plain:?}")?,
-    })
+    match notice {
+        Notice::NotAccepted(failure) => show_acceptance(alloc, failure),
+        Notice::NotStarted(failure) => show_start(alloc, failure),
+        Notice::NotCompleted(failure) => text_of(alloc, Both("NotCompleted", Named(failure))),
+        plain => text_of(alloc, Named(plain)),
+    }
 }
 
-fn show_completion(alloc: Global, notice: Option<Notice>) -> Result<String, Fault> {
+fn show_acceptance(alloc: Global, failure: AcceptanceFailure) -> Result<String, Fault> {
+    match failure {
+        AcceptanceFailure::Packet(fault) => text_of(alloc, Both("NotAccepted", Named(fault))),
+        AcceptanceFailure::Request(fault) => text_of(alloc, Both("NotAccepted", Named(fault))),
+    }
+}
+
+fn show_start(alloc: Global, failure: StartFailure) -> Result<String, Fault> {
+    match failure {
+        StartFailure::BadCode { fault, slot } => {
+            let numbers = [fault.into(), slot.into()];
+            text_of(alloc, Both("NotStarted BadCode", Numbers(&numbers)))
+        }
+        failure => text_of(alloc, Both("NotStarted", Named(failure))),
+    }
+}
+
+fn show_completion(alloc: Global, words: &[&str]) -> Result<String, Fault> {
+    let notice = match *words {
+        [ack] => completion(flags(ack)?, None),
+        [ack, name] => completion(flags(ack)?, Some(value_of(COMPLETION, name)?)),
+        _ => return Err(Fault::Syntax),
+    };
     match notice {
         Some(notice) => show_notice(alloc, notice),
-        None => Ok(String::from_str(alloc, "None")?),
+        None => text_of(alloc, "None"),
     }
+}
+
+fn show_notices(alloc: Global, words: &[&str]) -> Result<String, Fault> {
+    let [ack, outcome @ ..] = words else {
+        return Err(Fault::Syntax);
+    };
+    let list = notices(flags(ack)?, &outcome_of(outcome)?);
+    show_list(alloc, &list)
 }
 
 /// The notices, with a comma between two; `-` for none.
-fn show_notices(alloc: Global, list: &NoticeList) -> Result<String, Fault> {
-    let mut text = String::new(alloc);
+fn show_list(alloc: Global, list: &NoticeList) -> Result<String, Fault> {
+    let mut texts = String::new(alloc);
     for notice in list.as_slice() {
-        if !text.is_empty() {
-            text.push_str(", ")?;
-        }
-        text.push_str(&show_notice(alloc, *notice)?)?;
+        add_text(&mut texts, &show_notice(alloc, *notice)?)?;
     }
-    if text.is_empty() {
-        text.push_str("-")?;
-    }
-    Ok(text)
+    dash_if_empty(texts)
 }

@@ -1,49 +1,37 @@
 //! Calls of bpf_assembler and ocp_loader.
 
 use bpf_assembler::{AsmFault, Why, assemble, write_canonical};
-use call_lines::{Fault, Octets, Text, octets, profile_of};
+use call_lines::{Both, Fault, Named, Octets, Text, number, octets, profile_of, text_of};
 use ocp_loader::{LoadFault, Program, load};
 use ocp_profile::Profile;
 use std::alloc::Global;
 
-/// The answer of a call.
+/// The answer of a call, whose first argument is a profile.
 pub(crate) fn answer(alloc: Global, words: &[&str]) -> Result<String, Fault> {
-    match *words {
-        ["bpf_assembler.assemble", profile, text] => {
-            image_of(alloc, profile_of(profile)?, &octets(alloc, text)?)
+    let [name, profile, arguments @ ..] = words else {
+        return Err(Fault::Syntax);
+    };
+    call(alloc, name, profile_of(profile)?, arguments)
+}
+
+fn call(alloc: Global, name: &str, profile: Profile, words: &[&str]) -> Result<String, Fault> {
+    match (name, words) {
+        ("bpf_assembler.assemble", [text]) => image_of(alloc, profile, text),
+        ("bpf_assembler.write_canonical", [before, text]) => {
+            canonical(alloc, profile, before, text)
         }
-        ["bpf_assembler.write_canonical", profile, before, text] => {
-            let out = octets(alloc, before)?;
-            canonical(alloc, profile_of(profile)?, &octets(alloc, text)?, out)
-        }
-        ["ocp_loader.load", profile, code] => {
-            show_load(alloc, profile_of(profile)?, &octets(alloc, code)?)
-        }
-        ["ocp_loader.slots", profile, code] => {
-            let program = program_of(alloc, profile, code)?;
-            Ok(format!(in alloc; "{}", program.slots())?)
-        }
-        ["ocp_loader.line_at", profile, code, slot] => {
-            let program = program_of(alloc, profile, code)?;
-            line_at(alloc, &program, slot.parse()?)
-        }
-        ["ocp_loader.listing", profile, before, code] => {
-            let out = octets(alloc, before)?;
-            let program = program_of(alloc, profile, code)?;
-            listing(alloc, &program, out)
-        }
-        ["ocp_loader.is_same", profile, code, other] => {
-            let program = program_of(alloc, profile, code)?;
-            let other = program_of(alloc, profile, other)?;
-            Ok(format!(in alloc; "{}", program.is_same(&other))?)
-        }
+        ("ocp_loader.load", [code]) => show_load(alloc, profile, code),
+        ("ocp_loader.slots", [code]) => slots(alloc, profile, code),
+        ("ocp_loader.line_at", [code, slot]) => line_at(alloc, profile, code, slot),
+        ("ocp_loader.listing", [before, code]) => listing(alloc, profile, before, code),
+        ("ocp_loader.is_same", [code, other]) => is_same(alloc, profile, code, other),
         _ => Err(Fault::Syntax),
     }
 }
 
-fn image_of(alloc: Global, profile: Profile, text: &[u8]) -> Result<String, Fault> {
-    match assemble(alloc, profile, text) {
-        Ok(image) => Ok(format!(in alloc; "Ok {}", Octets(image.octets()))?),
+fn image_of(alloc: Global, profile: Profile, text: &str) -> Result<String, Fault> {
+    match assemble(alloc, profile, &octets(alloc, text)?) {
+        Ok(image) => text_of(alloc, Both("Ok", Octets(image.octets()))),
         Err(fault) => show_fault(alloc, fault),
     }
 }
@@ -53,49 +41,57 @@ fn show_fault(alloc: Global, fault: AsmFault) -> Result<String, Fault> {
         AsmFault::At {
             line,
             why: Why::Load(fault),
-        } => Ok(format!(in alloc; "{line} Load {}", fault.number())?),
-        AsmFault::At { line, why } => Ok(format!(in alloc; "{line} {why:?}")?),
+        } => text_of(alloc, Both(line, Both("Load", fault.number()))),
+        AsmFault::At { line, why } => text_of(alloc, Both(line, Named(why))),
         AsmFault::Memory => Err(Fault::Memory),
     }
 }
 
-fn canonical(
-    alloc: Global,
-    profile: Profile,
-    text: &[u8],
-    mut out: Vec<u8>,
-) -> Result<String, Fault> {
-    match write_canonical(alloc, profile, text, &mut out) {
-        Ok(()) => Ok(format!(in alloc; "Ok {}", Text(&out))?),
+fn canonical(alloc: Global, profile: Profile, before: &str, text: &str) -> Result<String, Fault> {
+    let mut out = octets(alloc, before)?;
+    match write_canonical(alloc, profile, &octets(alloc, text)?, &mut out) {
+        Ok(()) => text_of(alloc, Both("Ok", Text(&out))),
         Err(fault) => show_fault(alloc, fault),
     }
 }
 
-fn show_load(alloc: Global, profile: Profile, code: &[u8]) -> Result<String, Fault> {
-    match load(alloc, profile, code) {
-        Ok(program) => Ok(format!(in alloc;
-            "Ok {} {}",
-            program.slots(),
-            Octets(program.octets())
-        )?),
+fn show_load(alloc: Global, profile: Profile, code: &str) -> Result<String, Fault> {
+    match load(alloc, profile, &octets(alloc, code)?) {
+        Ok(program) => show_program(alloc, &program),
         Err(LoadFault::Memory) => Err(Fault::Memory),
-        Err(fault) => Ok(format!(in alloc; "{} {}", fault.number(), fault.slot())?),
+        Err(fault) => text_of(alloc, Both(fault.number(), fault.slot())),
     }
 }
 
+fn show_program(alloc: Global, program: &Program) -> Result<String, Fault> {
+    let shown = Both(program.slots(), Octets(program.octets()));
+    text_of(alloc, Both("Ok", shown))
+}
+
 /// The program of an image that is admitted.
-fn program_of(alloc: Global, profile: &str, code: &str) -> Result<Program, Fault> {
-    let code = octets(alloc, code)?;
-    load(alloc, profile_of(profile)?, &code)
+fn program_of(alloc: Global, profile: Profile, code: &str) -> Result<Program, Fault> {
+    load(alloc, profile, &octets(alloc, code)?)
         .ok()
         .ok_or(Fault::Syntax)
 }
 
-fn line_at(alloc: Global, program: &Program, slot: u16) -> Result<String, Fault> {
-    Ok(format!(in alloc; "{:?}", program.line_at(slot))?)
+fn slots(alloc: Global, profile: Profile, code: &str) -> Result<String, Fault> {
+    text_of(alloc, program_of(alloc, profile, code)?.slots())
 }
 
-fn listing(alloc: Global, program: &Program, mut out: Vec<u8>) -> Result<String, Fault> {
-    program.listing(&mut out)?;
-    Ok(format!(in alloc; "Ok {}", Text(&out))?)
+fn line_at(alloc: Global, profile: Profile, code: &str, slot: &str) -> Result<String, Fault> {
+    let program = program_of(alloc, profile, code)?;
+    text_of(alloc, Named(program.line_at(number(slot)?)))
+}
+
+fn listing(alloc: Global, profile: Profile, before: &str, code: &str) -> Result<String, Fault> {
+    let mut out = octets(alloc, before)?;
+    program_of(alloc, profile, code)?.listing(&mut out)?;
+    text_of(alloc, Both("Ok", Text(&out)))
+}
+
+fn is_same(alloc: Global, profile: Profile, code: &str, other: &str) -> Result<String, Fault> {
+    let program = program_of(alloc, profile, code)?;
+    let other = program_of(alloc, profile, other)?;
+    text_of(alloc, program.is_same(&other))
 }

@@ -3,16 +3,25 @@
 use crate::packets::show_written;
 use bpf_step::{MAX_SLOTS, Machine};
 use bpf_types::Size;
-use call_lines::{Fault, Numbers, octets, profile_of};
+use call_lines::{Both, Fault, Named, Numbers, number, octets, profile_of, text_of, value_of};
 use ocp_pool::{Mailbox, Pool};
-use ocp_regions::{ARGUMENT_OCTETS, AccessFault, Regions};
-use std::alloc::Global;
+use ocp_profile::Profile;
+use ocp_regions::{ARGUMENT_OCTETS, Regions};
+use std::alloc::{AllocError, Global};
+
+/// The sizes of an access, by name.
+const SIZES: &[(&str, Size)] = &[
+    ("Byte", Size::Byte),
+    ("Half", Size::Half),
+    ("Word", Size::Word),
+    ("Double", Size::Double),
+];
 
 /// The memories that there are, the first with the number 0, the machines, and the pool and the
 /// mailbox of engine calls.
 #[derive(Drop)]
 pub(crate) struct Made {
-    memories: Vec<Regions>,
+    pub memories: Vec<Regions>,
     pub machines: Vec<Machine>,
     pub pool: Option<Pool>,
     pub mailbox: Mailbox,
@@ -29,127 +38,202 @@ impl Made {
     }
 }
 
-/// The answer of a call.
-pub(crate) fn answer(made: &mut Made, alloc: Global, words: &[&str]) -> Result<String, Fault> {
-    match *words {
-        ["ocp_regions.new", profile] => {
-            let memory = Regions::new(alloc, profile_of(profile)?)?;
-            add(alloc, &mut made.memories, memory)
-        }
-        ["ocp_regions.copy", number] => {
-            let memory = at(&made.memories, number)?.copy(alloc)?;
-            add(alloc, &mut made.memories, memory)
-        }
-        ["ocp_regions.is_same", one, other] => {
-            let one = at(&made.memories, one)?;
-            show_flag(alloc, one.is_same(at(&made.memories, other)?))
-        }
-        ["bpf_step.new", profile] => {
-            let machine = Machine::new(alloc, profile_of(profile)?)?;
-            add(alloc, &mut made.machines, machine)
-        }
-        ["bpf_step.copy", number] => {
-            let machine = at(&made.machines, number)?.copy(alloc)?;
-            add(alloc, &mut made.machines, machine)
-        }
-        ["bpf_step.is_same", one, other] => {
-            let one = at(&made.machines, one)?;
-            show_flag(alloc, one.is_same(at(&made.machines, other)?))
-        }
-        [name, number, ..] if name.starts_with("ocp_regions.") => {
-            let number = number.parse::<usize>()?;
-            let memory = made.memories.get_mut(number).ok_or(Fault::Syntax)?;
-            memory_answer(alloc, memory, words)
-        }
-        [_, number, ..] => {
-            let machine = machine_of(&mut made.machines, number)?;
-            machine_answer(alloc, machine, words)
-        }
-        _ => Err(Fault::Syntax),
+/// What lines make, each with a number: memories and machines.
+pub(crate) trait Kept: Sized + Drop {
+    fn make(alloc: Global, profile: Profile) -> Result<Self, AllocError>;
+
+    fn duplicate(&self, alloc: Global) -> Result<Self, AllocError>;
+
+    fn equals(&self, other: &Self) -> bool;
+
+    /// The answer of a call on this one.
+    fn call(&mut self, alloc: Global, name: &str, words: &[&str]) -> Result<String, Fault>;
+}
+
+impl Kept for Regions {
+    fn make(alloc: Global, profile: Profile) -> Result<Regions, AllocError> {
+        Regions::new(alloc, profile)
+    }
+
+    fn duplicate(&self, alloc: Global) -> Result<Regions, AllocError> {
+        self.copy(alloc)
+    }
+
+    fn equals(&self, other: &Regions) -> bool {
+        self.is_same(other)
+    }
+
+    fn call(&mut self, alloc: Global, name: &str, words: &[&str]) -> Result<String, Fault> {
+        memory_answer(alloc, self, name, words)
     }
 }
 
-/// The machine of a number.
-pub(crate) fn machine_of<'a>(
-    machines: &'a mut [Machine],
-    number: &str,
-) -> Result<&'a mut Machine, Fault> {
-    machines
-        .get_mut(number.parse::<usize>()?)
-        .ok_or(Fault::Syntax)
+impl Kept for Machine {
+    fn make(alloc: Global, profile: Profile) -> Result<Machine, AllocError> {
+        Machine::new(alloc, profile)
+    }
+
+    fn duplicate(&self, alloc: Global) -> Result<Machine, AllocError> {
+        self.copy(alloc)
+    }
+
+    fn equals(&self, other: &Machine) -> bool {
+        self.is_same(other)
+    }
+
+    fn call(&mut self, alloc: Global, name: &str, words: &[&str]) -> Result<String, Fault> {
+        machine_answer(alloc, self, name, words)
+    }
+}
+
+/// The answer of a call that makes a memory or a machine, or is one of those that there are.
+pub(crate) fn answer<T: Kept>(
+    kept: &mut Vec<T>,
+    alloc: Global,
+    words: &[&str],
+) -> Result<String, Fault> {
+    match words {
+        ["ocp_regions.new" | "bpf_step.new", profile] => {
+            add(alloc, kept, T::make(alloc, profile_of(profile)?))
+        }
+        ["ocp_regions.copy" | "bpf_step.copy", number] => {
+            let copied = at(kept, number)?.duplicate(alloc);
+            add(alloc, kept, copied)
+        }
+        ["ocp_regions.is_same" | "bpf_step.is_same", one, other] => {
+            text_of(alloc, at(kept, one)?.equals(at(kept, other)?))
+        }
+        [name, number, arguments @ ..] => place_of(kept, number)?.call(alloc, name, arguments),
+        _ => Err(Fault::Syntax),
+    }
 }
 
 /// The memory or the machine of a number.
-fn at<'a, T>(made: &'a [T], number: &str) -> Result<&'a T, Fault> {
-    made.get(number.parse::<usize>()?).ok_or(Fault::Syntax)
+fn at<'a, T>(made: &'a [T], word: &str) -> Result<&'a T, Fault> {
+    made.get(number::<usize>(word)?).ok_or(Fault::Syntax)
+}
+
+/// The memory or the machine of a number, to be changed.
+pub(crate) fn place_of<'a, T>(made: &'a mut [T], word: &str) -> Result<&'a mut T, Fault> {
+    made.get_mut(number::<usize>(word)?).ok_or(Fault::Syntax)
 }
 
 /// Adds a memory or a machine, and says its number.
-fn add<T: Drop>(alloc: Global, made: &mut Vec<T>, one: T) -> Result<String, Fault> {
+fn add<T: Drop>(
+    alloc: Global,
+    made: &mut Vec<T>,
+    one: Result<T, AllocError>,
+) -> Result<String, Fault> {
     let number = made.len();
-    made.push(one)?;
-    Ok(format!(in alloc; "{number}")?)
+    made.push(one?)?;
+    text_of(alloc, number)
 }
 
 /// The answer of a call on a memory.
-fn memory_answer(alloc: Global, memory: &mut Regions, words: &[&str]) -> Result<String, Fault> {
-    match *words {
-        ["ocp_regions.load", _, address, size] => {
-            show_number(alloc, memory.load(address.parse()?, size_of(size)?))
+fn memory_answer(
+    alloc: Global,
+    memory: &mut Regions,
+    name: &str,
+    words: &[&str],
+) -> Result<String, Fault> {
+    match (name, words) {
+        ("ocp_regions.load", [address, size]) => load(alloc, memory, address, size),
+        ("ocp_regions.octets", [address, before]) => {
+            memory_octets(alloc, memory, address, before)
         }
-        ["ocp_regions.octets", _, address, before] => {
-            let mut out = octets(alloc, before)?;
-            let done = memory.octets(address.parse()?, &mut out);
-            show_written(alloc, done, &out)
+        ("ocp_regions.store", [address, size, value]) => {
+            store(alloc, memory, address, size, value)
         }
-        ["ocp_regions.store", _, address, size, value] => {
-            let done = memory.store(address.parse()?, size_of(size)?, value.parse()?);
-            show_done(alloc, done)
-        }
-        ["ocp_regions.set_arguments", _, arguments] => {
-            let arguments = octets(alloc, arguments)?;
-            if arguments.len() > ARGUMENT_OCTETS {
-                return Err(Fault::Syntax);
-            }
-            memory.set_arguments(&arguments);
-            show_done(alloc, Ok(()))
-        }
-        ["ocp_regions.clear", _] => {
+        ("ocp_regions.set_arguments", [arguments]) => set_arguments(alloc, memory, arguments),
+        ("ocp_regions.clear", []) => {
             memory.clear();
-            show_done(alloc, Ok(()))
+            text_of(alloc, "Ok")
         }
         _ => Err(Fault::Syntax),
     }
 }
 
+fn load(alloc: Global, memory: &Regions, address: &str, size: &str) -> Result<String, Fault> {
+    match memory.load(number(address)?, value_of(SIZES, size)?) {
+        Ok(number) => text_of(alloc, Both("Ok", number)),
+        Err(fault) => text_of(alloc, Named(fault)),
+    }
+}
+
+fn memory_octets(
+    alloc: Global,
+    memory: &Regions,
+    address: &str,
+    before: &str,
+) -> Result<String, Fault> {
+    let mut out = octets(alloc, before)?;
+    let done = memory.octets(number(address)?, &mut out);
+    show_written(alloc, done, &out)
+}
+
+fn store(
+    alloc: Global,
+    memory: &mut Regions,
+    address: &str,
+    size: &str,
+    value: &str,
+) -> Result<String, Fault> {
+    match memory.store(number(address)?, value_of(SIZES, size)?, number(value)?) {
+        Ok(()) => text_of(alloc, "Ok"),
+        Err(fault) => text_of(alloc, Named(fault)),
+    }
+}
+
+fn set_arguments(alloc: Global, memory: &mut Regions, word: &str) -> Result<String, Fault> {
+    let arguments = octets(alloc, word)?;
+    if arguments.len() > ARGUMENT_OCTETS {
+        return Err(Fault::Syntax);
+    }
+    memory.set_arguments(&arguments);
+    text_of(alloc, "Ok")
+}
+
 /// The answer of a call on a machine.
-fn machine_answer(alloc: Global, machine: &mut Machine, words: &[&str]) -> Result<String, Fault> {
-    match *words {
-        ["bpf_step.registers", _] => {
-            let registers = machine.registers();
-            Ok(format!(in alloc; "{}", Numbers(&registers))?)
+fn machine_answer(
+    alloc: Global,
+    machine: &mut Machine,
+    name: &str,
+    words: &[&str],
+) -> Result<String, Fault> {
+    match (name, words) {
+        ("bpf_step.registers", []) => text_of(alloc, Numbers(&machine.registers())),
+        ("bpf_step.place", []) => text_of(alloc, machine.place()),
+        ("bpf_step.depth", []) => text_of(alloc, machine.depth()),
+        ("bpf_step.octets", [address, before]) => {
+            machine_octets(alloc, machine, address, before)
         }
-        ["bpf_step.place", _] => Ok(format!(in alloc; "{}", machine.place())?),
-        ["bpf_step.depth", _] => Ok(format!(in alloc; "{}", machine.depth())?),
-        ["bpf_step.octets", _, address, before] => {
-            let mut out = octets(alloc, before)?;
-            let done = machine.octets(address.parse()?, &mut out);
-            show_written(alloc, done, &out)
-        }
-        ["bpf_step.start", _, arguments] => {
-            let arguments = octets(alloc, arguments)?;
-            if arguments.len() > ARGUMENT_OCTETS {
-                return Err(Fault::Syntax);
-            }
-            machine.start(&arguments);
-            show_done(alloc, Ok(()))
-        }
-        ["bpf_step.finish_call", _, r0] => { finish_call(alloc, machine, r0.parse()?, None) }
-        ["bpf_step.finish_call", _, r0, r1] => {
-            finish_call(alloc, machine, r0.parse()?, Some(r1.parse()?))
+        ("bpf_step.start", [arguments]) => start(alloc, machine, arguments),
+        ("bpf_step.finish_call", [r0]) => finish_call(alloc, machine, number(r0)?, None),
+        ("bpf_step.finish_call", [r0, r1]) => {
+            finish_call(alloc, machine, number(r0)?, Some(number(r1)?))
         }
         _ => Err(Fault::Syntax),
     }
+}
+
+fn machine_octets(
+    alloc: Global,
+    machine: &Machine,
+    address: &str,
+    before: &str,
+) -> Result<String, Fault> {
+    let mut out = octets(alloc, before)?;
+    let done = machine.octets(number(address)?, &mut out);
+    show_written(alloc, done, &out)
+}
+
+fn start(alloc: Global, machine: &mut Machine, word: &str) -> Result<String, Fault> {
+    let arguments = octets(alloc, word)?;
+    if arguments.len() > ARGUMENT_OCTETS {
+        return Err(Fault::Syntax);
+    }
+    machine.start(&arguments);
+    text_of(alloc, "Ok")
 }
 
 fn finish_call(
@@ -162,33 +246,5 @@ fn finish_call(
         return Err(Fault::Syntax);
     }
     machine.finish_call(r0, r1);
-    show_done(alloc, Ok(()))
-}
-
-fn size_of(name: &str) -> Result<Size, Fault> {
-    match name {
-        "Byte" => Ok(Size::Byte),
-        "Half" => Ok(Size::Half),
-        "Word" => Ok(Size::Word),
-        "Double" => Ok(Size::Double),
-        _ => Err(Fault::Syntax),
-    }
-}
-
-fn show_flag(alloc: Global, flag: bool) -> Result<String, Fault> {
-    Ok(format!(in alloc; "{flag}")?)
-}
-
-fn show_number(alloc: Global, loaded: Result<u64, AccessFault>) -> Result<String, Fault> {
-    match loaded {
-        Ok(number) => Ok(format!(in alloc; "Ok {number}")?),
-        Err(fault) => Ok(format!(in alloc; "{fault:?}")?),
-    }
-}
-
-fn show_done(alloc: Global, done: Result<(), AccessFault>) -> Result<String, Fault> {
-    match done {
-        Ok(()) => Ok(String::from_str(alloc, "Ok")?),
-        Err(fault) => Ok(format!(in alloc; "{fault:?}")?),
-    }
+    text_of(alloc, "Ok")
 }

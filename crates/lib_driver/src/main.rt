@@ -27,17 +27,20 @@ impl Calls for Made {
 
 /// The answer of a call.
 fn answer(made: &mut Made, alloc: Global, words: &[&str]) -> Result<String, Fault> {
-    let name = *words.first().ok_or(Fault::Syntax)?;
+    let [name, arguments @ ..] = words else {
+        return Err(Fault::Syntax);
+    };
     let (library, _) = name.split_once('.').ok_or(Fault::Syntax)?;
     match library {
         "space_packet" => packets::answer(alloc, words),
         "pus_fields" => fields::answer(alloc, words),
-        "obcp_types" | "verification" => failures::answer(alloc, words),
+        "obcp_types" | "verification" => failures::answer(alloc, name, arguments),
         "obcp_messages" if name.ends_with("report") => reports::answer(alloc, words),
         "obcp_messages" => requests::answer(alloc, words),
         "bpf_canonical" | "bpf_decode" | "bpf_listing" | "bpf_text" => code::answer(alloc, words),
         "bpf_assembler" | "ocp_loader" => images::answer(alloc, words),
-        "ocp_regions" | "bpf_step" => machines::answer(made, alloc, words),
+        "ocp_regions" => machines::answer(&mut made.memories, alloc, words),
+        "bpf_step" => machines::answer(&mut made.machines, alloc, words),
         "ocp_pool" => pools::answer(made, alloc, words),
         "ocp_words" => command_line::answer(alloc, words),
         _ => Err(Fault::Syntax),

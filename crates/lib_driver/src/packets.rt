@@ -1,34 +1,30 @@
 //! Calls of space_packet.
 
-use call_lines::{Fault, Octets, flag, octets};
+use call_lines::{Both, Fault, Named, Octets, flag, number, octets, text_of, value_of};
 use space_packet::{Apid, Primary, SequenceCount, SequenceFlags, read, write};
 use std::alloc::Global;
 use std::fmt;
 
+/// Whether a packet of this kind is a telecommand.
+const KINDS: &[(&str, bool)] = &[("tc", true), ("tm", false)];
+
+/// The sequence flags, by name.
+const FLAGS: &[(&str, SequenceFlags)] = &[
+    ("Continuation", SequenceFlags::Continuation),
+    ("First", SequenceFlags::First),
+    ("Last", SequenceFlags::Last),
+    ("Unsegmented", SequenceFlags::Unsegmented),
+];
+
 /// The answer of a call.
 pub(crate) fn answer(alloc: Global, words: &[&str]) -> Result<String, Fault> {
-    match *words {
-        ["space_packet.apid", number] => apid(alloc, number.parse()?),
-        ["space_packet.count", number] => count(alloc, number.parse()?),
-        ["space_packet.next", number] => {
-            let next = count_of(number)?.next();
-            Ok(format!(in alloc; "{}", next.number())?)
-        }
-        ["space_packet.read", packet] => read_packet(alloc, &octets(alloc, packet)?),
-        [
-            "space_packet.write",
-            before,
-            kind,
-            secondary,
-            apid,
-            flags,
-            count,
-            data,
-        ] => {
-            let mut out = octets(alloc, before)?;
-            let data = octets(alloc, data)?;
-            let header = header(kind, secondary, apid, flags, count)?;
-            show_written(alloc, write(&header, &data, &mut out), &out)
+    match words {
+        ["space_packet.apid", number] => apid(alloc, number),
+        ["space_packet.count", number] => count(alloc, number),
+        ["space_packet.next", number] => next(alloc, number),
+        ["space_packet.read", packet] => read_packet(alloc, packet),
+        ["space_packet.write", before, header @ .., data] => {
+            write_packet(alloc, before, header, data)
         }
         _ => Err(Fault::Syntax),
     }
@@ -36,79 +32,64 @@ pub(crate) fn answer(alloc: Global, words: &[&str]) -> Result<String, Fault> {
 
 /// The application process identifier of a word.
 pub(crate) fn apid_of(word: &str) -> Result<Apid, Fault> {
-    Apid::new(word.parse()?).ok_or(Fault::Syntax)
+    Apid::new(number(word)?).ok_or(Fault::Syntax)
 }
 
 /// The sequence count of a word.
 pub(crate) fn count_of(word: &str) -> Result<SequenceCount, Fault> {
-    SequenceCount::new(word.parse()?).ok_or(Fault::Syntax)
+    SequenceCount::new(number(word)?).ok_or(Fault::Syntax)
 }
 
-fn apid(alloc: Global, number: u16) -> Result<String, Fault> {
-    match Apid::new(number) {
-        Some(apid) => Ok(format!(in alloc; "{}", apid.number())?),
-        None => Ok(String::from_str(alloc, "None")?),
+fn apid(alloc: Global, word: &str) -> Result<String, Fault> {
+    match Apid::new(number(word)?) {
+        Some(apid) => text_of(alloc, apid.number()),
+        None => text_of(alloc, "None"),
     }
 }
 
-fn count(alloc: Global, number: u16) -> Result<String, Fault> {
-    match SequenceCount::new(number) {
-        Some(count) => Ok(format!(in alloc; "{}", count.number())?),
-        None => Ok(String::from_str(alloc, "None")?),
+fn count(alloc: Global, word: &str) -> Result<String, Fault> {
+    match SequenceCount::new(number(word)?) {
+        Some(count) => text_of(alloc, count.number()),
+        None => text_of(alloc, "None"),
     }
 }
 
-fn kind_name(telecommand: bool) -> &'static str {
-    if telecommand { "tc" } else { "tm" }
+fn next(alloc: Global, word: &str) -> Result<String, Fault> {
+    text_of(alloc, count_of(word)?.next().number())
 }
 
-fn is_telecommand(kind: &str) -> Result<bool, Fault> {
-    match kind {
-        "tc" => Ok(true),
-        "tm" => Ok(false),
-        _ => Err(Fault::Syntax),
-    }
+/// Writes the packet of this header and this data behind the octets.
+fn write_packet(alloc: Global, before: &str, header: &[&str], data: &str) -> Result<String, Fault> {
+    let header = header_of(header)?;
+    let mut out = octets(alloc, before)?;
+    show_written(alloc, write(&header, &octets(alloc, data)?, &mut out), &out)
 }
 
-fn flags_of(name: &str) -> Result<SequenceFlags, Fault> {
-    match name {
-        "Continuation" => Ok(SequenceFlags::Continuation),
-        "First" => Ok(SequenceFlags::First),
-        "Last" => Ok(SequenceFlags::Last),
-        "Unsegmented" => Ok(SequenceFlags::Unsegmented),
-        _ => Err(Fault::Syntax),
-    }
-}
-
-fn header(
-    kind: &str,
-    secondary: &str,
-    apid: &str,
-    flags: &str,
-    count: &str,
-) -> Result<Primary, Fault> {
+fn header_of(words: &[&str]) -> Result<Primary, Fault> {
+    let [kind, secondary, apid, flags, count] = *words else {
+        return Err(Fault::Syntax);
+    };
     Ok(Primary {
-        telecommand: is_telecommand(kind)?,
+        telecommand: value_of(KINDS, kind)?,
         secondary: flag(secondary)?,
         apid: apid_of(apid)?,
-        flags: flags_of(flags)?,
+        flags: value_of(FLAGS, flags)?,
         count: count_of(count)?,
     })
 }
 
-fn read_packet(alloc: Global, packet: &[u8]) -> Result<String, Fault> {
-    match read(packet) {
-        Ok((header, data)) => Ok(format!(in alloc;
-            "Ok {} {} {} {:?} {} {}",
-            kind_name(header.telecommand),
-            header.secondary,
-            header.apid.number(),
-            header.flags,
-            header.count.number(),
-            Octets(data)
-        )?),
-        Err(fault) => Ok(format!(in alloc; "{fault:?}")?),
+fn read_packet(alloc: Global, packet: &str) -> Result<String, Fault> {
+    match read(&octets(alloc, packet)?) {
+        Ok((header, data)) => show_packet(alloc, header, data),
+        Err(fault) => text_of(alloc, Named(fault)),
     }
+}
+
+fn show_packet(alloc: Global, header: Primary, data: &[u8]) -> Result<String, Fault> {
+    let kind = if header.telecommand { "Ok tc" } else { "Ok tm" };
+    let first = Both(header.secondary, header.apid.number());
+    let second = Both(Named(header.flags), header.count.number());
+    text_of(alloc, Both(Both(kind, first), Both(second, Octets(data))))
 }
 
 /// `Ok`, or the fault, and the octets that stand there then.
@@ -118,7 +99,7 @@ pub(crate) fn show_written<E: fmt::Debug + Drop>(
     out: &[u8],
 ) -> Result<String, Fault> {
     match done {
-        Ok(()) => Ok(format!(in alloc; "Ok {}", Octets(out))?),
-        Err(fault) => Ok(format!(in alloc; "{fault:?} {}", Octets(out))?),
+        Ok(()) => text_of(alloc, Both("Ok", Octets(out))),
+        Err(fault) => text_of(alloc, Both(Named(fault), Octets(out))),
     }
 }

@@ -1,72 +1,81 @@
 //! Calls of obcp_messages for reports.
 
 use arrayvec::ArrayVec;
-use call_lines::{Fault, Octets, octets};
+use call_lines::{Both, Fault, Named, Numbers, Octets, number, octets, text_of, value_of};
 use obcp_messages::{
     BAD_CODE, MAX_ROWS, PlainCode, Report, StartFault, Status, StatusRow, StatusRows, read_report,
     write_report,
 };
 use std::alloc::Global;
 
+/// The status of a procedure, by name.
+const STATUSES: &[(&str, Status)] = &[
+    ("Inactive", Status::Inactive),
+    ("Running", Status::Running),
+    ("Held", Status::Held),
+];
+
 /// The answer of a call.
 pub(crate) fn answer(alloc: Global, words: &[&str]) -> Result<String, Fault> {
     match words {
         ["obcp_messages.read_report", service, subtype, data] => {
-            let data = octets(alloc, data)?;
-            read(alloc, service.parse()?, subtype.parse()?, &data)
+            read(alloc, service, subtype, data)
         }
         ["obcp_messages.write_report", before, report @ ..] => {
-            let out = octets(alloc, before)?;
             match report_of(alloc, report)? {
-                Some(report) => write(alloc, &report, out),
-                None => Ok(String::from_str(alloc, "None")?),
+                Some(report) => write(alloc, &report, before),
+                None => text_of(alloc, "None"),
             }
         }
         _ => Err(Fault::Syntax),
     }
 }
 
-fn read(alloc: Global, service: u8, subtype: u8, data: &[u8]) -> Result<String, Fault> {
-    match read_report(service, subtype, data) {
-        Ok(report) => {
-            let text = show(alloc, &report)?;
-            Ok(format!(in alloc; "Ok {} {} {text}", report.service(), report.subtype())?)
-        }
-        Err(fault) => Ok(format!(in alloc; "{fault:?}")?),
+fn read(alloc: Global, service: &str, subtype: &str, data: &str) -> Result<String, Fault> {
+    let (service, subtype) = (number(service)?, number(subtype)?);
+    match read_report(service, subtype, &octets(alloc, data)?) {
+        Ok(report) => show_read(alloc, &report),
+        Err(fault) => text_of(alloc, Named(fault)),
     }
 }
 
+fn show_read(alloc: Global, report: &Report) -> Result<String, Fault> {
+    let text = show(alloc, report)?;
+    let kind = Both(report.service(), report.subtype());
+    text_of(alloc, Both("Ok", Both(kind, text.as_str())))
+}
+
 fn show(alloc: Global, report: &Report) -> Result<String, Fault> {
-    Ok(match report {
-        Report::Accepted { request } => format!(in alloc; "Accepted {}", Octets(request))?,
+    match report {
+        Report::Accepted { request } => text_of(alloc, Both("Accepted", Octets(request))),
         Report::NotAccepted { request, code } => {
-            format!(in alloc; "NotAccepted {} {code}", Octets(request))?
+            text_of(alloc, Both("NotAccepted", Both(Octets(request), *code)))
         }
-        Report::Started { request } => format!(in alloc; "Started {}", Octets(request))?,
-        Report::NotStarted { request, fault } => show_start_fault(alloc, request, *fault)?,
-        Report::Completed { request } => format!(in alloc; "Completed {}", Octets(request))?,
+        Report::Started { request } => text_of(alloc, Both("Started", Octets(request))),
+        Report::NotStarted { request, fault } => show_start_fault(alloc, request, *fault),
+        Report::Completed { request } => text_of(alloc, Both("Completed", Octets(request))),
         Report::NotCompleted { request, code } => {
-            format!(in alloc; "NotCompleted {} {code}", Octets(request))?
+            text_of(alloc, Both("NotCompleted", Both(Octets(request), *code)))
         }
-        Report::Status { rows } => show_rows(alloc, rows)?,
-    })
+        Report::Status { rows } => show_rows(alloc, rows.as_slice()),
+    }
 }
 
-fn show_start_fault(alloc: Global, request: &[u8; 4], fault: StartFault) -> Result<String, Fault> {
-    Ok(match fault {
+fn show_start_fault(alloc: Global, request: &[u8], fault: StartFault) -> Result<String, Fault> {
+    let request = Both("NotStarted", Octets(request));
+    match fault {
         StartFault::BadCode { fault, slot } => {
-            format!(in alloc; "NotStarted {} {BAD_CODE} {fault} {slot}", Octets(request))?
+            let numbers = [BAD_CODE.into(), fault.into(), slot.into()];
+            text_of(alloc, Both(request, Numbers(&numbers)))
         }
-        StartFault::Plain(code) => {
-            format!(in alloc; "NotStarted {} {}", Octets(request), code.code())?
-        }
-    })
+        StartFault::Plain(code) => text_of(alloc, Both(request, code.code())),
+    }
 }
 
-fn show_rows(alloc: Global, rows: &StatusRows) -> Result<String, Fault> {
+fn show_rows(alloc: Global, rows: &[StatusRow]) -> Result<String, Fault> {
     let mut text = String::from_str(alloc, "Status")?;
-    for row in rows.as_slice() {
-        text.push_str(&format!(in alloc; " {} {:?}", row.id, row.status)?)?;
+    for row in rows {
+        write!(text, " {} {:?}", row.id, row.status)?;
     }
     Ok(text)
 }
@@ -75,21 +84,35 @@ fn show_rows(alloc: Global, rows: &StatusRows) -> Result<String, Fault> {
 fn report_of(alloc: Global, words: &[&str]) -> Result<Option<Report>, Fault> {
     match words {
         ["Status", rows @ ..] => status_report(rows),
-        [kind, request] => Ok(Some(plain_report(kind, id(alloc, request)?)?)),
-        [kind, request, code] => report_with_code(kind, id(alloc, request)?, code.parse()?),
-        ["NotStarted", request, code, fault, slot] => {
-            if code.parse::<u16>()? != BAD_CODE {
-                return Err(Fault::Syntax);
-            }
-            let fault = StartFault::BadCode {
-                fault: fault.parse()?,
-                slot: slot.parse()?,
-            };
-            let request = id(alloc, request)?;
-            Ok(Some(Report::NotStarted { request, fault }))
-        }
+        [kind, request, codes @ ..] => request_report(kind, id(alloc, request)?, codes),
         _ => Err(Fault::Syntax),
     }
+}
+
+/// The report of a request.
+fn request_report(kind: &str, request: [u8; 4], codes: &[&str]) -> Result<Option<Report>, Fault> {
+    match (kind, codes) {
+        ("NotStarted", [code, fault, slot]) => bad_code(request, code, fault, slot),
+        (_, [code]) => report_with_code(kind, request, number(code)?),
+        (_, []) => Ok(Some(plain_report(kind, request)?)),
+        _ => Err(Fault::Syntax),
+    }
+}
+
+fn bad_code(
+    request: [u8; 4],
+    code: &str,
+    fault: &str,
+    slot: &str,
+) -> Result<Option<Report>, Fault> {
+    if number::<u16>(code)? != BAD_CODE {
+        return Err(Fault::Syntax);
+    }
+    let fault = StartFault::BadCode {
+        fault: number(fault)?,
+        slot: number(slot)?,
+    };
+    Ok(Some(Report::NotStarted { request, fault }))
 }
 
 /// The first four octets of a request.
@@ -113,26 +136,20 @@ fn report_with_code(kind: &str, request: [u8; 4], code: u16) -> Result<Option<Re
     match kind {
         "NotAccepted" => Ok(Some(Report::NotAccepted { request, code })),
         "NotCompleted" => Ok(Some(Report::NotCompleted { request, code })),
-        "NotStarted" => match PlainCode::new(code) {
-            Some(code) => {
-                let fault = StartFault::Plain(code);
-                Ok(Some(Report::NotStarted { request, fault }))
-            }
-            None => Ok(None),
-        },
+        "NotStarted" => Ok(not_started(request, code)),
         _ => Err(Fault::Syntax),
     }
+}
+
+fn not_started(request: [u8; 4], code: u16) -> Option<Report> {
+    let fault = StartFault::Plain(PlainCode::new(code)?);
+    Some(Report::NotStarted { request, fault })
 }
 
 fn status_report(words: &[&str]) -> Result<Option<Report>, Fault> {
     let mut rows: ArrayVec<StatusRow, MAX_ROWS> = ArrayVec::new();
     for row in words.chunks(2) {
-        let [id, status] = row else {
-            return Err(Fault::Syntax);
-        };
-        let id = id.parse()?;
-        let status = status_of(status)?;
-        if rows.try_push(StatusRow { id, status }).is_err() {
+        if rows.try_push(status_row(row)?).is_err() {
             return Ok(None);
         }
     }
@@ -142,16 +159,18 @@ fn status_report(words: &[&str]) -> Result<Option<Report>, Fault> {
     }
 }
 
-fn status_of(name: &str) -> Result<Status, Fault> {
-    match name {
-        "Inactive" => Ok(Status::Inactive),
-        "Running" => Ok(Status::Running),
-        "Held" => Ok(Status::Held),
-        _ => Err(Fault::Syntax),
-    }
+fn status_row(words: &[&str]) -> Result<StatusRow, Fault> {
+    let [id, status] = *words else {
+        return Err(Fault::Syntax);
+    };
+    Ok(StatusRow {
+        id: number(id)?,
+        status: value_of(STATUSES, status)?,
+    })
 }
 
-fn write(alloc: Global, report: &Report, mut out: Vec<u8>) -> Result<String, Fault> {
+fn write(alloc: Global, report: &Report, before: &str) -> Result<String, Fault> {
+    let mut out = octets(alloc, before)?;
     write_report(report, &mut out)?;
-    Ok(format!(in alloc; "Ok {}", Octets(&out))?)
+    text_of(alloc, Both("Ok", Octets(&out)))
 }

@@ -2,42 +2,31 @@
 
 use arrayvec::ArrayVec;
 use bitflags::Flags;
-use call_lines::{Fault, Octets, octets, profile_of};
+use call_lines::{Both, Fault, Named, Numbers, Octets, number, octets, profile_of, text_of};
 use obcp_messages::{Arguments, Code, MAX_WORDS, Request, Words, read_request, write_request};
+use obcp_types::RequestFault;
 use ocp_profile::Profile;
 use pus_fields::{Ack, Tc};
 use space_packet::{Apid, SequenceCount};
 use std::alloc::Global;
 
-/// The answer of a call.
+/// The answer of a call, whose first argument is a profile.
 pub(crate) fn answer(alloc: Global, words: &[&str]) -> Result<String, Fault> {
-    match words {
-        [
-            "obcp_messages.read_request",
-            profile,
-            service,
-            subtype,
-            data,
-        ] => {
-            let data = octets(alloc, data)?;
-            let tc = telecommand(service.parse()?, subtype.parse()?, &data)?;
-            read(alloc, profile_of(profile)?, &tc)
+    let [name, profile, arguments @ ..] = words else {
+        return Err(Fault::Syntax);
+    };
+    call(alloc, name, profile_of(profile)?, arguments)
+}
+
+fn call(alloc: Global, name: &str, profile: Profile, words: &[&str]) -> Result<String, Fault> {
+    match (name, words) {
+        ("obcp_messages.read_request", [service, subtype, data]) => {
+            read(alloc, profile, number(service)?, number(subtype)?, data)
         }
-        ["obcp_messages.write_request", profile, before, request @ ..] => {
-            let out = octets(alloc, before)?;
-            let carried = payload_of(alloc, request)?;
-            match request_of(request, &carried)? {
-                Some(request) => write(alloc, profile_of(profile)?, &request, out),
-                None => Ok(String::from_str(alloc, "None")?),
-            }
+        ("obcp_messages.write_request", [before, request @ ..]) => {
+            write(alloc, profile, before, request)
         }
-        ["obcp_messages.has_fitting_budget", profile, request @ ..] => {
-            let carried = payload_of(alloc, request)?;
-            match request_of(request, &carried)? {
-                Some(request) => fits(alloc, profile_of(profile)?, &request),
-                None => Ok(String::from_str(alloc, "None")?),
-            }
-        }
+        ("obcp_messages.has_fitting_budget", request) => fits(alloc, profile, request),
         _ => Err(Fault::Syntax),
     }
 }
@@ -49,40 +38,60 @@ fn telecommand<'a>(service: u8, subtype: u8, data: &'a [u8]) -> Result<Tc<'a>, F
     Tc::new(apid, count, Ack::empty(), service, subtype, 0, data).ok_or(Fault::Syntax)
 }
 
-fn read(alloc: Global, profile: Profile, tc: &Tc) -> Result<String, Fault> {
-    match read_request(profile, tc) {
-        Ok(request) => {
-            let text = show(alloc, &request)?;
-            Ok(format!(in alloc; "Ok {} {text}", request.subtype())?)
-        }
-        Err(fault) => Ok(format!(in alloc; "{fault:?}")?),
+fn read(
+    alloc: Global,
+    profile: Profile,
+    service: u8,
+    subtype: u8,
+    data: &str,
+) -> Result<String, Fault> {
+    let data = octets(alloc, data)?;
+    show_request(
+        alloc,
+        read_request(profile, &telecommand(service, subtype, &data)?),
+    )
+}
+
+fn show_request(alloc: Global, request: Result<Request, RequestFault>) -> Result<String, Fault> {
+    match request {
+        Ok(request) => show_read(alloc, &request),
+        Err(fault) => text_of(alloc, Named(fault)),
     }
 }
 
+fn show_read(alloc: Global, request: &Request) -> Result<String, Fault> {
+    let text = show(alloc, request)?;
+    text_of(alloc, Both("Ok", Both(request.subtype(), text.as_str())))
+}
+
 fn show(alloc: Global, request: &Request) -> Result<String, Fault> {
-    Ok(match request {
-        Request::Load { id, code } => { format!(in alloc; "Load {id} {}", Octets(code.octets()))? }
-        Request::Unload { id } => format!(in alloc; "Unload {id}")?,
+    match request {
+        Request::Load { id, code } => {
+            text_of(alloc, Both("Load", Both(*id, Octets(code.octets()))))
+        }
+        Request::Unload { id } => text_of(alloc, Both("Unload", *id)),
         Request::Activate {
             id,
             budget,
             arguments,
-        } => { format!(in alloc; "Activate {id} {budget} {}", Octets(arguments.octets()))? }
-        Request::Stop { id, step } => format!(in alloc; "Stop {id} {step}")?,
-        Request::Suspend { id, step } => format!(in alloc; "Suspend {id} {step}")?,
-        Request::Resume { id } => format!(in alloc; "Resume {id}")?,
-        Request::Communicate { id, words } => show_message(alloc, *id, words)?,
-        Request::Status => String::from_str(alloc, "Status")?,
-        Request::Abort { id } => format!(in alloc; "Abort {id}")?,
-    })
+        } => show_activation(alloc, *id, *budget, arguments.octets()),
+        Request::Stop { id, step } => text_of(alloc, Both("Stop", Both(*id, *step))),
+        Request::Suspend { id, step } => text_of(alloc, Both("Suspend", Both(*id, *step))),
+        Request::Resume { id } => text_of(alloc, Both("Resume", *id)),
+        Request::Communicate { id, words } => {
+            text_of(
+                alloc,
+                Both("Communicate", Both(*id, Numbers(words.as_slice()))),
+            )
+        }
+        Request::Status => text_of(alloc, "Status"),
+        Request::Abort { id } => text_of(alloc, Both("Abort", *id)),
+    }
 }
 
-fn show_message(alloc: Global, id: u16, words: &Words) -> Result<String, Fault> {
-    let mut text = format!(in alloc; "Communicate {id}")?;
-    for word in words.as_slice() {
-        text.push_str(&format!(in alloc; " {word}")?)?;
-    }
-    Ok(text)
+fn show_activation(alloc: Global, id: u16, budget: u32, octets: &[u8]) -> Result<String, Fault> {
+    let numbers = Both(id, budget);
+    text_of(alloc, Both("Activate", Both(numbers, Octets(octets))))
 }
 
 /// The octets that a request in words carries.
@@ -97,24 +106,45 @@ fn payload_of(alloc: Global, words: &[&str]) -> Result<Vec<u8>, Fault> {
 /// The request in words, with the octets that it carries; none where these are too many, or its
 /// words none.
 fn request_of<'a>(words: &[&str], carried: &'a [u8]) -> Result<Option<Request<'a>>, Fault> {
-    Ok(match words {
-        ["Load", id, _] => load(id.parse()?, carried),
-        ["Unload", id] => Some(Request::Unload { id: id.parse()? }),
-        ["Activate", id, budget, _] => activation(id.parse()?, budget.parse()?, carried),
-        ["Stop", id, step] => Some(Request::Stop {
-            id: id.parse()?,
-            step: step.parse()?,
-        }),
-        ["Suspend", id, step] => Some(Request::Suspend {
-            id: id.parse()?,
-            step: step.parse()?,
-        }),
-        ["Resume", id] => Some(Request::Resume { id: id.parse()? }),
-        ["Communicate", id, numbers @ ..] => message(id.parse()?, numbers)?,
-        ["Status"] => Some(Request::Status),
-        ["Abort", id] => Some(Request::Abort { id: id.parse()? }),
-        _ => return Err(Fault::Syntax),
-    })
+    match words {
+        ["Status"] => Ok(Some(Request::Status)),
+        [name, id, arguments @ ..] => request_for(name, number(id)?, arguments, carried),
+        _ => Err(Fault::Syntax),
+    }
+}
+
+/// The request for a procedure.
+fn request_for<'a>(
+    name: &str,
+    id: u16,
+    words: &[&str],
+    carried: &'a [u8],
+) -> Result<Option<Request<'a>>, Fault> {
+    match (name, words) {
+        ("Load", [_]) => Ok(load(id, carried)),
+        ("Activate", [budget, _]) => Ok(activation(id, number(budget)?, carried)),
+        ("Communicate", numbers) => message(id, numbers),
+        (_, [step]) => request_with_step(name, id, number(step)?),
+        (_, []) => plain_request(name, id),
+        _ => Err(Fault::Syntax),
+    }
+}
+
+fn plain_request<'a>(name: &str, id: u16) -> Result<Option<Request<'a>>, Fault> {
+    match name {
+        "Unload" => Ok(Some(Request::Unload { id })),
+        "Resume" => Ok(Some(Request::Resume { id })),
+        "Abort" => Ok(Some(Request::Abort { id })),
+        _ => Err(Fault::Syntax),
+    }
+}
+
+fn request_with_step<'a>(name: &str, id: u16, step: u16) -> Result<Option<Request<'a>>, Fault> {
+    match name {
+        "Stop" => Ok(Some(Request::Stop { id, step })),
+        "Suspend" => Ok(Some(Request::Suspend { id, step })),
+        _ => Err(Fault::Syntax),
+    }
 }
 
 fn load(id: u16, octets: &[u8]) -> Option<Request<'_>> {
@@ -133,8 +163,8 @@ fn activation(id: u16, budget: u32, octets: &[u8]) -> Option<Request<'_>> {
 
 fn message<'a>(id: u16, numbers: &[&str]) -> Result<Option<Request<'a>>, Fault> {
     let mut words: ArrayVec<u64, MAX_WORDS> = ArrayVec::new();
-    for number in numbers {
-        if words.try_push(number.parse()?).is_err() {
+    for word in numbers {
+        if words.try_push(number(word)?).is_err() {
             return Ok(None);
         }
     }
@@ -144,19 +174,33 @@ fn message<'a>(id: u16, numbers: &[&str]) -> Result<Option<Request<'a>>, Fault> 
     }
 }
 
-fn fits(alloc: Global, profile: Profile, request: &Request) -> Result<String, Fault> {
-    Ok(format!(in alloc; "{}", request.has_fitting_budget(profile))?)
+fn fits(alloc: Global, profile: Profile, words: &[&str]) -> Result<String, Fault> {
+    let carried = payload_of(alloc, words)?;
+    match request_of(words, &carried)? {
+        Some(request) => text_of(alloc, request.has_fitting_budget(profile)),
+        None => text_of(alloc, "None"),
+    }
 }
 
-fn write(
+/// Writes the request of these words behind the octets.
+fn write(alloc: Global, profile: Profile, before: &str, words: &[&str]) -> Result<String, Fault> {
+    let carried = payload_of(alloc, words)?;
+    match request_of(words, &carried)? {
+        Some(request) => show_written(alloc, profile, &request, before),
+        None => text_of(alloc, "None"),
+    }
+}
+
+fn show_written(
     alloc: Global,
     profile: Profile,
     request: &Request,
-    mut out: Vec<u8>,
+    before: &str,
 ) -> Result<String, Fault> {
     if !request.has_fitting_budget(profile) {
         return Err(Fault::Syntax);
     }
+    let mut out = octets(alloc, before)?;
     write_request(profile, request, &mut out)?;
-    Ok(format!(in alloc; "Ok {}", Octets(&out))?)
+    text_of(alloc, Both("Ok", Octets(&out)))
 }
