@@ -19,31 +19,27 @@ const IMM: Field = (8, SLOT_DIGITS);
 /// Opcode, registers and offset of the second slot of `lddw`.
 const SECOND: Field = (SLOT_DIGITS, 24);
 
-/// The fields that the instructions of an opcode, in digits, do not use. A field that has some
-/// values alone stands behind them.
+/// The fields that the instructions of an opcode, in digits of the lower case, do not use. A field
+/// that has some values alone stands behind them.
 const UNUSED_BY_OPCODES: [(&[&[u8]], &[Field]); 6] = [
     (&[b"95"], &[SOURCE, DESTINATION, OFFSET, IMM]),
     (&[b"85"], &[DESTINATION, OFFSET, SOURCE]),
     (&[b"05"], &[SOURCE, DESTINATION, IMM]),
     (&[b"06"], &[SOURCE, DESTINATION, OFFSET]),
-    (
-        &[
-            b"84", b"87", b"d4", b"d7", b"dc", b"dC", b"D4", b"D7", b"Dc", b"DC",
-        ],
-        &[SOURCE, OFFSET, IMM],
-    ),
+    (&[b"84", b"87", b"d4", b"d7", b"dc"], &[SOURCE, OFFSET, IMM]),
     (&[b"18"], &[SOURCE, OFFSET, SECOND]),
 ];
 
 /// The fields that the other instructions do not use, by the low digit of the opcode.
 const UNUSED_BY_LOW_DIGITS: [(&[&[u8]], &[Field]); 3] = [
     (&[b"4", b"7"], &[SOURCE, OFFSET]),
-    (&[b"c", b"C", b"f", b"F"], &[IMM, OFFSET]),
-    (&[b"2", b"a", b"A", b"5", b"6"], &[SOURCE]),
+    (&[b"c", b"f"], &[IMM, OFFSET]),
+    (&[b"2", b"a", b"5", b"6"], &[SOURCE]),
 ];
 
-/// The fields that the instructions of an opcode do not use.
-fn unused_fields(opcode: [u8; 2]) -> &'static [Field] {
+/// The fields that the instructions of an opcode do not use, whose digits have either case.
+fn unused_fields(high: u8, low: u8) -> &'static [Field] {
+    let opcode = [high.to_ascii_lowercase(), low.to_ascii_lowercase()];
     entry_at_front(&opcode, &UNUSED_BY_OPCODES)
         .or(entry_at_front(&opcode[1..], &UNUSED_BY_LOW_DIGITS))
         .unwrap_or(&[IMM])
@@ -63,7 +59,7 @@ fn reserved_column(digits: &[u8]) -> usize {
     let [high, low, ..] = digits else {
         return 0;
     };
-    let fields = unused_fields([*high, *low]);
+    let fields = unused_fields(*high, *low);
     let first = fields.iter().find(|field| !is_zero(digits, **field));
     match first.or(fields.last()) {
         Some((begin, _)) => *begin,
