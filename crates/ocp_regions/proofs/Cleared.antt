@@ -5,7 +5,7 @@ use Rattle.std.proofs.lemmas.List.{length-replicate}
 use Rattle.std.proofs.lemmas.Bool.Decides.{nat_tests}
 use Rattle.std.specs.Ordering.{nat_cmp}
 use Rattle.std.specs.Cmp.{nat_cmp_total}
-use Rattle.std.specs.FinMap.{from_entries, entries, find, get, insert, get-entries, get-from_entries, get-insert, same_map, nat_cmp-IsAntisymmetric}
+use Rattle.std.specs.FinMap.{entries, find, get, insert, get-entries, get-from_entries, get-insert, same_map, nat_cmp-IsAntisymmetric}
 use Rattle.std.specs.BTreeMap.{is_at}
 use Rattle.ocp_regions.specs.declared.fault.AccessFault.{AccessFault}
 use Rattle.ocp_profile.specs.declared.profile.Profile.{Profile}

@@ -2,3 +2,4 @@ pub mod Cleared
 pub mod Entries
 pub mod Numbers
 pub mod Written
+pub mod Zeros

@@ -8,6 +8,7 @@
 #![tactic(auto)]
 
 mod access;
+mod extent;
 pub mod fault;
 pub mod laws;
 pub mod regions;

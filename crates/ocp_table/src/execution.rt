@@ -9,7 +9,6 @@ use ocp_pool::{Mailbox, Pool, engine_call};
 use ocp_regions::ARGUMENT_OCTETS;
 use std::alloc::{AllocError, Allocator};
 use std::marker::Model;
-use std::mem;
 use std::sync::Arc;
 
 /// A program, which may be shared, and the machine that runs it. The machine always stands at an
@@ -110,7 +109,7 @@ impl<A: Allocator> Execution<A> {
         ensures machine { self.new.machine ≡ machine.old }
         ensures given { machine.new ≡ self.old.machine }
     {
-        mem::swap(&mut self.machine, machine);
+        self.machine.exchange(machine);
     }
 
     /// Starts the machine anew with at most 256 octets of arguments.

@@ -124,6 +124,8 @@ impl<A: Allocator> Snapshot<A> {
         };
         machine.copy_from(self.execution.machine());
         let breakpoints = self.breakpoints.as_slice();
-        machine.run(self.execution.program(), breakpoints, self.pass, most)
+        let count = machine.run(self.execution.program(), breakpoints, self.pass, most);
+        machine.measure();
+        count
     }
 }
