@@ -18,8 +18,8 @@ use std::marker::Model;
 /// The engine, seen as its journal. Its state is the replay of the journal.
 #[derive(Drop)]
 pub struct Engine<A: Allocator = Global> {
-    pub(crate) state: State<A>,
     pub(crate) journal: Journal<A>,
+    pub(crate) state: State<A>,
 }
 
 impl<A: Allocator> Model for Engine<A> {

@@ -13,15 +13,15 @@ use std::marker::Model;
 use std::sync::ledger;
 use std::sync::ledger::{Blank, Share};
 
-/// An engine with what its seats are counted by: the number of its entries at the start, the number
-/// of seats handed out, the procedure taken last by any seat, the count of the entries since, and
-/// the share that is not handed out.
+/// An engine with what its seats are counted by: the procedure taken last by any seat, the number
+/// of its entries at the start, the number of seats handed out, the count of the entries since, and
+/// the share that is not handed out. What each turn writes comes first, beside the lock.
 #[derive(Drop)]
 pub struct Book<L: Naming, A: Allocator = Global> {
+    taken: Option<u16>,
     pub(crate) engine: Engine<A>,
     start: usize,
     seats: u16,
-    taken: Option<u16>,
     pub(crate) tally: ledger::Book<L>,
     rest: Share<L>,
 }

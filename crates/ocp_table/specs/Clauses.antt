@@ -17,6 +17,7 @@ pub use Rattle.bpf_step.specs.declared.answer.MachineFault.TheVariants.{Access, 
 pub use Rattle.ocp_pool.specs.declared.call.PoolFault.TheVariants.{BadPoolIndex}
 pub use Rattle.ocp_table.specs.Effects.{Kept, Failed, step_outcome, step_outcome_of, record_by}
 pub use Rattle.ocp_table.specs.Effects.{dues_by_change, matches, inactive, control_on_hold}
+pub use Rattle.ocp_table.specs.Effects.{without_pass}
 pub use Rattle.ocp_table.specs.Effects.{control_at_step_end, control_by_outcome, machine_by_outcome}
 pub use Rattle.ocp_table.specs.Effects.{mailbox_by_outcome, pool_by_outcome, Effect, Change}
 pub use Rattle.ocp_table.specs.Effects.{Changed, records_by, failure_of, failed_completion}

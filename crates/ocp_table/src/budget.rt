@@ -10,6 +10,16 @@ pub(crate) fn less(count: u32, remaining: Option<u32>) -> Option<u32>
     remaining.map(|left| left.saturating_sub(count))
 }
 
+/// Takes so many instructions from what is left. Where no budget is set, nothing is written.
+#[inline(always)]
+pub(crate) fn spend(count: u32, remaining: &mut Option<u32>)
+    ensures { remaining.new ≡ less count remaining.old }
+{
+    if remaining.is_some() {
+        *remaining = less(count, *remaining);
+    }
+}
+
 /// So many, or what is left where that is less.
 #[inline(always)]
 pub(crate) fn within(remaining: Option<u32>, most: u32) -> u32

@@ -41,7 +41,7 @@ pub(crate) fn matches(wanted: u16, step: u16) -> bool
 }
 
 ghost use Rattle.std.specs.Prelude.{◌≡◌};
-ghost use Rattle.ocp_table.specs.Clauses.{control_at_step_end, control_by_outcome, control_on_hold, inactive, matches};
+ghost use Rattle.ocp_table.specs.Clauses.{control_at_step_end, control_by_outcome, control_on_hold, inactive, matches, without_pass};
 
 impl Control {
     /// That of a procedure that became inactive: nothing is pending.
@@ -53,6 +53,16 @@ impl Control {
             pending: Pending::Nothing,
             pass: false,
             cause,
+        }
+    }
+
+    /// The next instruction passes no breakpoint. Where that is so already, nothing is written.
+    #[inline(always)]
+    pub(crate) fn end_pass(&mut self)
+        ensures { self.new ≡ without_pass self.old }
+    {
+        if self.pass {
+            self.pass = false;
         }
     }
 

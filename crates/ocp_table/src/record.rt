@@ -13,17 +13,18 @@ use std::alloc::Allocator;
 /// How many breakpoints a procedure has at most.
 pub const MAX_BREAKPOINTS: usize = 8;
 
-/// A procedure under its id.
+/// A procedure under its id. What a search and a choice of the next one read comes first, apart
+/// from what each turn writes: no thread waits for the other's there.
 #[derive(Drop)]
 pub struct Record<A: Allocator> {
     pub id: u16,
-    pub execution: Execution<A>,
-    pub mailbox: Mailbox,
     pub control: Control,
     pub breakpoints: ArrayVec<u16, MAX_BREAKPOINTS>,
     pub traced: bool,
     /// How many instructions are left of the budget, where one is set.
     pub remaining: Option<u32>,
+    pub execution: Execution<A>,
+    pub mailbox: Mailbox,
 }
 
 impl<A: Allocator> Record<A> {
