@@ -18,11 +18,11 @@ use std::sync::ledger::Blank;
 use std::sync::{Mutex, MutexGuard, Wait};
 
 /// How often a thread looks whether the lock is free before it sleeps, and how often it pauses
-/// between two looks: about a millisecond in all. The lock is held for a microsecond or two, and
+/// between two looks: about a millisecond in all. The lock is held for a part of a microsecond, and
 /// to be woken takes longer.
-const LOOKS: u32 = 2_000;
+const LOOKS: u32 = 8_000;
 
-const PAUSES: u32 = 8;
+const PAUSES: u32 = 2;
 
 /// One engine for several threads: a board behind a lock, which is the book of an engine where
 /// nothing else is said. Each call of a seat holds the lock once. It answers what the board
