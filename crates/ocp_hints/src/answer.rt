@@ -1,7 +1,7 @@
 //! The line of a fault that ends an output, and what the fault means.
 
 use crate::number::decimal;
-use crate::sentences::sentence_on;
+use crate::sentences::entry_on;
 use crate::words::Words;
 
 /// A fault that ends an output: the number of its line or slot, or 0, and its name.
@@ -27,7 +27,7 @@ pub fn answer_in(output: &[u8]) -> Option<Answer<'_>> {
 
 /// The faults of an assembly text or of an image, `Syntax`, `Range` and `Hex` aside, and what each
 /// means.
-const FAULTS: [(&[&str], &str); 14] = [
+static FAULTS: [(&[&str], &str); 14] = [
     (
         &["DuplicateLabel"],
         "this label stands in front of another line already",
@@ -76,5 +76,5 @@ const FAULTS: [(&[&str], &str); 14] = [
 
 /// What such a fault means.
 pub(crate) fn sentence_of_fault(name: &[u8]) -> &'static str {
-    sentence_on(name, &FAULTS).unwrap_or("this does not fit")
+    entry_on(name, &FAULTS).unwrap_or("this does not fit")
 }

@@ -179,6 +179,18 @@ impl fmt::Display for Place {
     }
 }
 
+/// Writes a line, and under it a mark at the column.
+fn write_line<W: fmt::Write>(line: &[u8], column: usize, f: &mut fmt::Formatter<W>) -> fmt::Result {
+    let begin = column.saturating_sub(SHOWN_BEFORE);
+    f.write_str("    ")?;
+    write_octets(line.get(begin..).unwrap_or(&[]), SHOWN, f)?;
+    f.write_str("\n    ")?;
+    for _ in begin..column {
+        f.write_char(' ')?;
+    }
+    f.write_str("^\n")
+}
+
 impl fmt::Display for Explained<'_> {
     fn fmt<W: fmt::Write>(&self, f: &mut fmt::Formatter<W>) -> fmt::Result {
         let place = self.place;
@@ -187,13 +199,6 @@ impl fmt::Display for Explained<'_> {
         if self.line.is_empty() {
             return Ok(());
         }
-        let begin = self.hint.column.saturating_sub(SHOWN_BEFORE);
-        write!(f, "    ")?;
-        write_octets(self.line.get(begin..).unwrap_or(&[]), SHOWN, f)?;
-        write!(f, "\n    ")?;
-        for _ in begin..self.hint.column {
-            write!(f, " ")?;
-        }
-        write!(f, "^\n")
+        write_line(self.line, self.hint.column, f)
     }
 }

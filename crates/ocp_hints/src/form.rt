@@ -13,7 +13,7 @@ pub struct Form {
 }
 
 /// The forms of lines, each with the verb that they begin with, `send` aside.
-const FORMS: [(&str, Form); 12] = [
+static FORMS: [(&str, Form); 12] = [
     (
         "up",
         Form {
@@ -114,7 +114,7 @@ const FORMS: [(&str, Form); 12] = [
 
 /// The forms of lines that begin with `send` and the flags, each with the verb behind them,
 /// `activate` aside.
-const REQUEST_FORMS: [(&str, Form); 8] = [
+static REQUEST_FORMS: [(&str, Form); 8] = [
     (
         "load",
         Form {

@@ -108,62 +108,63 @@ pub(crate) fn write_octets<W: fmt::Write>(
 impl fmt::Display for Says<'_> {
     fn fmt<W: fmt::Write>(&self, f: &mut fmt::Formatter<W>) -> fmt::Result {
         match self {
-            Says::Sentence(text) => write!(f, "{text}"),
+            Says::Sentence(text) => f.write_str(text),
             Says::LowerCase(verb) => write!(f, "lines are in lower case: {verb}"),
-            Says::Flagless(verb) => {
-                let verb = Shown(verb);
-                write!(
-                    f,
-                    "requests begin with send and the flags: send <flags> {verb} .."
-                )
-            }
-            Says::Form(form, misfit) => {
-                write!(f, "{form}: ")?;
-                write!(f, "{misfit}")
-            }
-            Says::Flags(word) => {
-                let misfit = Misfit::Range(Part::Flags, word);
-                write!(f, "{misfit}")
-            }
-            Says::Operands(mnemonic, operands) => {
-                let mnemonic = Shown(mnemonic);
-                write!(f, "{mnemonic} {operands}")
-            }
+            Says::Flagless(verb) => write_flagless(verb, f),
+            Says::Form(form, misfit) => write!(f, "{form}: {misfit}"),
+            Says::Flags(word) => write_range(Part::Flags, word, f),
+            Says::Operands(mnemonic, operands) => write_operands(mnemonic, operands, f),
         }
     }
 }
 
+/// Writes what stands in front of the verb of a request.
+fn write_flagless<W: fmt::Write>(verb: &[u8], f: &mut fmt::Formatter<W>) -> fmt::Result {
+    let verb = Shown(verb);
+    write!(
+        f,
+        "requests begin with send and the flags: send <flags> {verb} .."
+    )
+}
+
+/// Writes the operands of a mnemonic.
+fn write_operands<W: fmt::Write>(
+    mnemonic: &[u8],
+    operands: &str,
+    f: &mut fmt::Formatter<W>,
+) -> fmt::Result {
+    let mnemonic = Shown(mnemonic);
+    write!(f, "{mnemonic} {operands}")
+}
+
 impl fmt::Display for Misfit<'_> {
     fn fmt<W: fmt::Write>(&self, f: &mut fmt::Formatter<W>) -> fmt::Result {
-        match self {
-            Misfit::Missing(part) => {
-                let name = part.name();
-                match part {
-                    Part::Address | Part::Switch => write!(f, "{name} is missing"),
-                    _ => write!(f, "<{name}> is missing"),
-                }
-            }
-            Misfit::Range(part, word) => write_range(*part, word, f),
-            Misfit::HexadecimalPrefix => {
-                write!(f, "hexadecimal digits have no 0x in front here")
-            }
-            Misfit::HexadecimalDigit => write!(f, "only hexadecimal digits may stand here"),
-            Misfit::OddDigits => write!(f, "the number of hexadecimal digits is even"),
-            Misfit::FaultLine => {
-                write!(f, "this is the fault line of asm or list, and no image")
-            }
+        let text = match self {
+            Misfit::Missing(part) => return write_missing(*part, f),
+            Misfit::Range(part, word) => return write_range(*part, word, f),
+            Misfit::HexadecimalPrefix => "hexadecimal digits have no 0x in front here",
+            Misfit::HexadecimalDigit => "only hexadecimal digits may stand here",
+            Misfit::OddDigits => "the number of hexadecimal digits is even",
+            Misfit::FaultLine => "this is the fault line of asm or list, and no image",
             Misfit::Budget => {
-                write!(
-                    f,
-                    "profile 1 has no budget, and arguments have two digits for each octet"
-                )
+                "profile 1 has no budget, and arguments have two digits for each octet"
             }
-            Misfit::TooManyArguments => write!(f, "arguments have at most 256 octets"),
-            Misfit::Address => write!(f, "an address is 0x and 1 to 16 hexadecimal digits"),
-            Misfit::Switch => write!(f, "on or off may stand here"),
-            Misfit::Comment => write!(f, "a comment is a line of its own"),
-            Misfit::More => write!(f, "nothing more may stand here"),
-        }
+            Misfit::TooManyArguments => "arguments have at most 256 octets",
+            Misfit::Address => "an address is 0x and 1 to 16 hexadecimal digits",
+            Misfit::Switch => "on or off may stand here",
+            Misfit::Comment => "a comment is a line of its own",
+            Misfit::More => "nothing more may stand here",
+        };
+        f.write_str(text)
+    }
+}
+
+/// Writes that a part is missing.
+fn write_missing<W: fmt::Write>(part: Part, f: &mut fmt::Formatter<W>) -> fmt::Result {
+    let name = part.name();
+    match part {
+        Part::Address | Part::Switch => write!(f, "{name} is missing"),
+        _ => write!(f, "<{name}> is missing"),
     }
 }
 

@@ -7,7 +7,7 @@ use crate::hint::{BYTE_ORDER_MARK, ELF_FILE, Hint};
 use crate::sentences::entry_at_front;
 
 /// What no image may have at a place, where it is a mistake of its own.
-const FRONTS: [(&[&[u8]], &str); 6] = [
+static FRONTS: [(&[&[u8]], &str); 6] = [
     (&[b"\xef\xbb\xbf"], BYTE_ORDER_MARK),
     (&[b"\x7fELF"], ELF_FILE),
     (

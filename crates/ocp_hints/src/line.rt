@@ -7,13 +7,13 @@ use crate::form::{Form, form_of_request, form_of_verb};
 use crate::hint::{BYTE_ORDER_MARK, C_TEXT, FAULT_LINE, Hint, Misfit, Says, WORDS_OF_C};
 use crate::number::{decimal, is_hexadecimal};
 use crate::part::Part;
-use crate::sentences::{entry_at_front, sentence_on};
+use crate::sentences::{entry_on, hint_at};
 use crate::slot::SLOT_DIGITS;
 use crate::words::{Word, Words};
 use ocp_profile::Profile;
 
 /// The verbs that a line may begin with.
-const VERBS: [&str; 13] = [
+static VERBS: [&str; 13] = [
     "send", "up", "time", "step", "view", "mem", "break", "unbreak", "trace", "pool", "journal",
     "drain", "work",
 ];
@@ -30,7 +30,7 @@ const NO_VERB: &str = "a verb of send is one of load, unload, activate, stop, su
                        abort, communicate, status";
 
 /// What no line may have at a place, where it is a mistake by itself.
-const FRONTS: [(&[&[u8]], &str); 6] = [
+static FRONTS: [(&[&[u8]], &str); 6] = [
     (&[b"\xef\xbb\xbf"], BYTE_ORDER_MARK),
     (
         &[b"\0"],
@@ -48,20 +48,11 @@ const FRONTS: [(&[&[u8]], &str); 6] = [
     (&[b"\r"], "this is a carriage return inside of the line"),
 ];
 
-/// What no line may have at this place, if it is a mistake by itself.
-fn sentence_of_octets(octets: &[u8]) -> Option<&'static str> {
-    entry_at_front(octets, &FRONTS).or(match octets {
-        [0x80..=0xff, ..] => Some("this is no plain ASCII"),
-        _ => None,
-    })
-}
-
-/// What no line may have at this column.
-fn hint_at(line: &[u8], column: usize) -> Option<Hint<'static>>
+/// What no line may have at this column, if it is a mistake by itself.
+fn hint_at_column(line: &[u8], column: usize) -> Option<Hint<'static>>
     ensures within { IfSome result (λ hint. IsWithin line.now hint.column) }
 {
-    let sentence = sentence_of_octets(line.get(column..)?)?;
-    Some(Hint::sentence(column, sentence))
+    hint_at(line, column, &FRONTS, "this is no plain ASCII")
 }
 
 /// Why a word is no octets in hexadecimal digits.
@@ -202,7 +193,7 @@ fn is_image(word: &[u8]) -> bool {
 }
 
 /// Words that are no verbs, and what a line that begins with them is.
-const NO_VERBS: [(&[&str], &str); 6] = [
+static NO_VERBS: [(&[&str], &str); 6] = [
     (
         &["help"],
         "a script has no such line; ./ocp run --help shows them all",
@@ -228,7 +219,7 @@ fn says_of_no_verb<'a>(profile: Profile, word: &'a [u8]) -> Says<'a> {
     if form_of_request(profile, word).is_some() {
         return Says::Flagless(word);
     }
-    if let Some(sentence) = sentence_on(word, &NO_VERBS) {
+    if let Some(sentence) = entry_on(word, &NO_VERBS) {
         return Says::Sentence(sentence);
     }
     if is_image(word) {
@@ -240,16 +231,10 @@ fn says_of_no_verb<'a>(profile: Profile, word: &'a [u8]) -> Says<'a> {
     }
 }
 
-/// What does not fit in a line of a script under the profile; None where all of it does.
-pub fn hint_of_line<'a>(profile: Profile, line: &'a [u8]) -> Option<Hint<'a>>
+/// What does not fit in the words of a line.
+fn hint_of_command<'a>(profile: Profile, line: &'a [u8]) -> Option<Hint<'a>>
     ensures within { IfSome result (λ hint. IsWithin line.now hint.column) }
 {
-    if let [b'#', ..] = line {
-        return None;
-    }
-    if let Some(hint) = (0..line.len()).find_map(|column| hint_at(line, column)) {
-        return Some(hint);
-    }
     let (verb, behind) = Words::new(line).next_word()?;
     if verb.text == b"send".as_slice() {
         return hint_of_send(profile, behind);
@@ -259,4 +244,17 @@ pub fn hint_of_line<'a>(profile: Profile, line: &'a [u8]) -> Option<Hint<'a>>
         Some(form) => hint_of_words(form, behind),
         None => at(verb, says_of_no_verb(profile, verb.text)),
     }
+}
+
+/// What does not fit in a line of a script under the profile; None where all of it does.
+pub fn hint_of_line<'a>(profile: Profile, line: &'a [u8]) -> Option<Hint<'a>>
+    ensures within { IfSome result (λ hint. IsWithin line.now hint.column) }
+{
+    if let [b'#', ..] = line {
+        return None;
+    }
+    if let Some(hint) = (0..line.len()).find_map(|column| hint_at_column(line, column)) {
+        return Some(hint);
+    }
+    hint_of_command(profile, line)
 }

@@ -29,5 +29,5 @@ pub(crate) fn decimal(word: &[u8]) -> Option<u64> {
 
 /// Whether these are hexadecimal digits alone.
 pub(crate) fn is_hexadecimal(digits: &[u8]) -> bool {
-    digits.iter().all(|octet| value_of(*octet) < 16)
+    digits.iter().all(u8::is_ascii_hexdigit)
 }

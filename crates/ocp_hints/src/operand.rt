@@ -54,7 +54,7 @@ const DISTANCE: &str = "this distance is out of its range, -32768 to +32767";
 
 const LONG_DISTANCE: &str = "this distance is out of its range, -2147483648 to +2147483647";
 
-const REGISTERS: [&str; 11] = [
+static REGISTERS: [&str; 11] = [
     "r0", "r1", "r2", "r3", "r4", "r5", "r6", "r7", "r8", "r9", "r10",
 ];
 

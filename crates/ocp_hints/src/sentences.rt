@@ -1,18 +1,20 @@
 //! Tables of what stands for a word, or for the octets at a place.
 
+ghost use Rattle.std.specs.Prelude.{IfSome};
+ghost use Rattle.ocp_hints.specs.Columns.{IsWithin};
+
+use crate::hint::Hint;
+
 /// Whether a word is one of these.
 pub(crate) fn is_one_of(words: &[&str], word: &[u8]) -> bool {
     words.iter().any(|known| known.as_bytes() == word)
 }
 
-/// The sentence on a word, if a table has one.
-pub(crate) fn sentence_on(
-    word: &[u8],
-    table: &[(&'static [&'static str], &'static str)],
-) -> Option<&'static str> {
-    for (words, sentence) in table {
+/// What a table has for a word.
+pub(crate) fn entry_on<T: Copy>(word: &[u8], table: &[(&'static [&'static str], T)]) -> Option<T> {
+    for (words, value) in table {
         if is_one_of(words, word) {
-            return Some(*sentence);
+            return Some(*value);
         }
     }
     None
@@ -29,4 +31,22 @@ pub(crate) fn entry_at_front<T: Copy>(
         }
     }
     None
+}
+
+/// What no line may have at this column, if it is a mistake by itself: what a table has for the
+/// front of the octets there, or the sentence on an octet that is no ASCII.
+pub(crate) fn hint_at(
+    line: &[u8],
+    column: usize,
+    fronts: &[(&'static [&'static [u8]], &'static str)],
+    not_ascii: &'static str,
+) -> Option<Hint<'static>>
+    ensures within { IfSome result (λ hint. IsWithin line.now hint.column) }
+{
+    let octets = line.get(column..)?;
+    let sentence = entry_at_front(octets, fronts).or(match octets {
+        [0x80..=0xff, ..] => Some(not_ascii),
+        _ => None,
+    })?;
+    Some(Hint::sentence(column, sentence))
 }

@@ -21,7 +21,7 @@ const SECOND: Field = (SLOT_DIGITS, 24);
 
 /// The fields that the instructions of an opcode, in digits of the lower case, do not use. A field
 /// that has some values alone stands behind them.
-const UNUSED_BY_OPCODES: [(&[&[u8]], &[Field]); 6] = [
+static UNUSED_BY_OPCODES: [(&[&[u8]], &[Field]); 6] = [
     (&[b"95"], &[SOURCE, DESTINATION, OFFSET, IMM]),
     (&[b"85"], &[DESTINATION, OFFSET, SOURCE]),
     (&[b"05"], &[SOURCE, DESTINATION, IMM]),
@@ -31,7 +31,7 @@ const UNUSED_BY_OPCODES: [(&[&[u8]], &[Field]); 6] = [
 ];
 
 /// The fields that the other instructions do not use, by the low digit of the opcode.
-const UNUSED_BY_LOW_DIGITS: [(&[&[u8]], &[Field]); 3] = [
+static UNUSED_BY_LOW_DIGITS: [(&[&[u8]], &[Field]); 3] = [
     (&[b"4", b"7"], &[SOURCE, OFFSET]),
     (&[b"c", b"f"], &[IMM, OFFSET]),
     (&[b"2", b"a", b"5", b"6"], &[SOURCE]),

@@ -10,8 +10,9 @@ use crate::operand::Operand::{
     ShortExtension, SwapWidth, Target, Wide,
 };
 use crate::operand::{Fit, Operand, is_name};
-use crate::sentences::{entry_at_front, sentence_on};
+use crate::sentences::{entry_on, hint_at};
 use crate::tokens::Tokens;
+use crate::words::Word;
 use bpf_canonical::{Mnemonic, Stem, Text, read_mnemonic};
 use bpf_types::Width;
 
@@ -92,7 +93,7 @@ fn is_without_width(word: &[u8]) -> bool {
 }
 
 /// Words that are no mnemonics, and what to write in place of them.
-const NO_MNEMONICS: [(&[&str], &str); 8] = [
+static NO_MNEMONICS: [(&[&str], &str); 8] = [
     (&["goto"], "a jump is ja +<distance> or ja <label>"),
     (
         &["if"],
@@ -129,11 +130,11 @@ fn says_of_no_mnemonic(word: &[u8]) -> Says<'_> {
         [b'0'..=b'9', ..] => "a text has instructions; digits of an image go to list and to load",
         _ => "this is no mnemonic; docs/CARD.md has them all",
     };
-    Says::Sentence(sentence_on(word, &NO_MNEMONICS).unwrap_or(other))
+    Says::Sentence(entry_on(word, &NO_MNEMONICS).unwrap_or(other))
 }
 
 /// What no statement may have at a place, where it is a mistake by itself.
-const FRONTS: [(&[&[u8]], &str); 11] = [
+static FRONTS: [(&[&[u8]], &str); 11] = [
     (&[b"\xef\xbb\xbf"], BYTE_ORDER_MARK),
     (
         &[b"\0"],
@@ -166,20 +167,16 @@ const FRONTS: [(&[&[u8]], &str); 11] = [
     ),
 ];
 
-/// What no statement may have at this place, if it is a mistake by itself.
-fn sentence_of_octets(octets: &[u8]) -> Option<&'static str> {
-    entry_at_front(octets, &FRONTS).or(match octets {
-        [0x80..=0xff, ..] => Some("outside of comments a text is plain ASCII"),
-        _ => None,
-    })
-}
-
-/// What no statement may have at this column.
-fn hint_at(line: &[u8], column: usize) -> Option<Hint<'static>>
+/// What no statement may have at this column, if it is a mistake by itself.
+fn hint_at_column(line: &[u8], column: usize) -> Option<Hint<'static>>
     ensures within { IfSome result (λ hint. IsWithin line.now hint.column) }
 {
-    let sentence = sentence_of_octets(line.get(column..)?)?;
-    Some(Hint::sentence(column, sentence))
+    hint_at(
+        line,
+        column,
+        &FRONTS,
+        "outside of comments a text is plain ASCII",
+    )
 }
 
 /// The first octet in front of the comment that no statement may have.
@@ -190,7 +187,7 @@ fn hint_of_octets(line: &[u8]) -> Option<Hint<'static>>
         .iter()
         .position(|octet| *octet == b';')
         .unwrap_or(line.len());
-    (0..end).find_map(|column| hint_at(line, column))
+    (0..end).find_map(|column| hint_at_column(line, column))
 }
 
 /// What in the operands of a statement does not fit.
@@ -235,15 +232,28 @@ fn misfits_of(operands: &[Operand], tokens: Tokens<'_>) -> Misfits
     Misfits { form, range }
 }
 
+/// The label at the front of these tokens, and the tokens behind its colon.
+fn label_at_front<'a>(tokens: Tokens<'a>) -> Option<(Word<'a>, Tokens<'a>)>
+    ensures label { IfSome result (λ found.
+        found.0.column ≤ tokens.entry.column + length tokens.entry.rest.now) }
+    ensures behind { IfSome result (λ found. found.1.column + length found.1.rest.now ≤
+        tokens.entry.column + length tokens.entry.rest.now) }
+{
+    let (label, behind) = tokens.next_token();
+    match behind.next_token() {
+        (colon, rest) if colon.text == b":".as_slice() => Some((label, rest)),
+        _ => None,
+    }
+}
+
 /// The tokens of a line behind its label.
 fn behind_label(line: &[u8]) -> Tokens<'_>
     ensures { result.column + length result.rest.now ≤ length line.now }
 {
     let tokens = Tokens::new(line);
-    let (_, behind) = tokens.next_token();
-    match behind.next_token() {
-        (colon, rest) if colon.text == b":".as_slice() => rest,
-        _ => tokens,
+    match label_at_front(tokens) {
+        Some((_, rest)) => rest,
+        None => tokens,
     }
 }
 
@@ -279,21 +289,12 @@ fn statement_of<'a>(mnemonic: &'a [u8], behind: Tokens<'a>) -> Option<Statement>
 fn hint_of_labels(line: &[u8]) -> Option<Hint<'_>>
     ensures within { IfSome result (λ hint. IsWithin line.now hint.column) }
 {
-    let (label, behind) = Tokens::new(line).next_token();
-    let (colon, rest) = behind.next_token();
-    if colon.text != b":".as_slice() {
-        return None;
-    }
+    let (label, rest) = label_at_front(Tokens::new(line))?;
     if !is_name(label.text) {
         return Some(Hint::sentence(label.column, NO_LABEL));
     }
-    let (second, behind) = rest.next_token();
-    match behind.next_token() {
-        (colon, _) if colon.text == b":".as_slice() => {
-            Some(Hint::sentence(second.column, "a line has one label at most"))
-        }
-        _ => None,
-    }
+    let (second, _) = label_at_front(rest)?;
+    Some(Hint::sentence(second.column, "a line has one label at most"))
 }
 
 /// What does not fit in a statement: the word in place of its mnemonic, or one of its operands.
@@ -336,17 +337,41 @@ fn hint_of_range(line: &[u8]) -> Hint<'_>
     Hint::sentence(column, sentence)
 }
 
-/// A fault of a line of assembly text, `Syntax` aside, with the word that it is about.
+/// The token of a line that a fault is about.
+#[derive(Clone, Copy)]
+enum About {
+    Label,
+    FirstOperand,
+    LastToken,
+}
+
+/// What a fault is about, where it isn't the mnemonic.
+static ABOUT: [(&[&str], About); 3] = [
+    (&["DuplicateLabel"], About::Label),
+    (&["Load 8"], About::FirstOperand),
+    (&["UnknownLabel", "Load 9", "Load 10"], About::LastToken),
+];
+
+/// Where the token stands that a fault is about.
+fn column_of_fault(line: &[u8], name: &[u8]) -> usize
+    ensures { IsWithin line.now result }
+{
+    let (mnemonic, behind) = behind_label(line).next_token();
+    let token = match entry_on(name, &ABOUT) {
+        Some(About::Label) => Tokens::new(line).next_token().0,
+        Some(About::FirstOperand) => behind.next_token().0,
+        Some(About::LastToken) => behind.last_token(),
+        None => mnemonic,
+    };
+    token.column
+}
+
+/// A fault of a line of assembly text, `Syntax` aside, with the token that it is about.
 pub(crate) fn hint_of_fault<'a>(line: &'a [u8], name: &[u8]) -> Hint<'a>
     ensures within { IsWithin line.now result.column }
 {
-    let (mnemonic, behind) = behind_label(line).next_token();
-    let word = match name {
-        b"Range" => return hint_of_range(line),
-        b"DuplicateLabel" => Tokens::new(line).next_token().0,
-        b"Load 8" => behind.next_token().0,
-        b"UnknownLabel" | b"Load 9" | b"Load 10" => behind.last_token(),
-        _ => mnemonic,
-    };
-    Hint::sentence(word.column, sentence_of_fault(name))
+    if name == b"Range".as_slice() {
+        return hint_of_range(line);
+    }
+    Hint::sentence(column_of_fault(line, name), sentence_of_fault(name))
 }

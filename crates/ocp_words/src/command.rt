@@ -1,10 +1,10 @@
 //! The commands that there are.
 
-ghost use Rattle.std.specs.Prelude.{◌≡◌, ℕ, IfOk, pos, false};
+ghost use Rattle.std.specs.Prelude.{◌≡◌, ℕ, IfOk, codes, pos, false};
 ghost use Rattle.clap.specs.Words.{app_of, rule_of, new_app};
 ghost use Rattle.clap.specs.declared.builder.command.Command.TheViews.{out-Command};
 ghost use Rattle.clap.specs.declared.builder.value_parser.ValueParser.TheVariants.{Signed};
-ghost use Rattle.ocp_words.specs.Words.{ocp, asm, run, number_option, profile_option as profile_rule, apid_option as apid_rule, pool_option as pool_rule, journal_option as journal_rule};
+ghost use Rattle.ocp_words.specs.Words.{ocp, program, asm, run, number_option, profile_option as profile_rule, apid_option as apid_rule, pool_option as pool_rule, journal_option as journal_rule};
 
 use crate::help;
 use clap::builder::ValueParser;
@@ -105,8 +105,7 @@ fn asm_command<'a>(alloc: Global) -> Result<Command<'a>, AllocError>
     ensures global { IfOk result (λ c. (out-Command c).has_globals ≡ false) }
 {
     let plain = plain_command(alloc, "asm", help::ASM_USAGE, help::ASM, help::ASM_HELP);
-    let asm = plain.arg(profile_option(alloc))?;
-    Ok(asm)
+    plain.arg(profile_option(alloc))
 }
 
 /// The command `run` and its options.
@@ -114,27 +113,37 @@ fn run_command<'a>(alloc: Global) -> Result<Command<'a>, AllocError>
     ensures app { IfOk result (λ c. app_of c ≡ run) }
     ensures global { IfOk result (λ c. (out-Command c).has_globals ≡ false) }
 {
-    let run = plain_command(alloc, "run", help::RUN_USAGE, help::RUN, SCRIPT_HELP)
+    plain_command(alloc, "run", help::RUN_USAGE, help::RUN, SCRIPT_HELP)
         .arg(profile_option(alloc))?
         .arg(apid_option(alloc))?
         .arg(pool_option(alloc))?
-        .arg(journal_option(alloc))?;
-    Ok(run)
+        .arg(journal_option(alloc))
+}
+
+/// The program's command without its subcommands.
+fn program_command<'a>(alloc: Global) -> Result<Command<'a>, AllocError>
+    ensures { IfOk result (λ c. app_of c ≡ program) }
+{
+    plain_command(alloc, "ocp", help::OCP_USAGE, help::OCP, help::OCP_HELP)
+        .version(help::VERSION)
+        .no_binary_name(true)
+        .bin_name("ocp")
+}
+
+/// The command `list`, which has no options.
+fn list_command<'a>(alloc: Global) -> Command<'a>
+    ensures app { app_of result ≡ new_app (codes "list") }
+    ensures global { (out-Command result).has_globals ≡ false }
+{
+    plain_command(alloc, "list", help::LIST_USAGE, help::LIST, help::LIST_HELP)
 }
 
 /// The program's commands and their options.
 pub(crate) fn ocp_command<'a>(alloc: Global) -> Result<Command<'a>, AllocError>
     ensures { IfOk result (λ c. app_of c ≡ ocp) }
 {
-    let run = run_command(alloc)?;
-    let asm = asm_command(alloc)?;
-    let list = plain_command(alloc, "list", help::LIST_USAGE, help::LIST, help::LIST_HELP);
-    let ocp = plain_command(alloc, "ocp", help::OCP_USAGE, help::OCP, help::OCP_HELP)
-        .version(help::VERSION)
-        .no_binary_name(true)
-        .bin_name("ocp")?
-        .subcommand(asm)?
-        .subcommand(list)?
-        .subcommand(run)?;
-    Ok(ocp)
+    program_command(alloc)?
+        .subcommand(asm_command(alloc)?)?
+        .subcommand(list_command(alloc))?
+        .subcommand(run_command(alloc)?)
 }

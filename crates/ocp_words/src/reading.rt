@@ -1,14 +1,15 @@
 //! Reading the words of a command line.
 
 ghost use Rattle.std.specs.Prelude.{◌≡◌, IfOk, IfSome, IsOk, [], map, ◌≢◌};
-ghost use Rattle.clap.specs.Words.{subcommand_of, rows_of, found_of};
+ghost use Rattle.clap.specs.Words.{app_of, subcommand_of, subcommand_rows_of, rows_of, found_of};
+ghost use Rattle.clap.specs.declared.error.kind.ErrorKind.TheVariants.{InvalidValue};
 ghost use Rattle.ocp_words.specs.Words.{ocp};
 ghost use Rattle.ocp_words.specs.Jobs.{HasProfile, HasSettings, HasDefaults, IsJob, IsMistake};
 
 use crate::command::ocp_command;
 use crate::job::{Job, Settings, WordsFault};
 use clap::error::ErrorKind;
-use clap::{ArgMatches, Command};
+use clap::{ArgMatches, Command, Error};
 use ocp_profile::Profile;
 use std::alloc::Global;
 
@@ -42,11 +43,63 @@ fn settings_of(matches: &ArgMatches<'_>) -> Option<Settings>
     Settings::new(profile, apid, pool_words, capacity)
 }
 
-/// A number that `clap` always finds is not there.
-fn number_is_missing(command: &mut Command<'_>) -> WordsFault {
-    match command.error(ErrorKind::ValueValidation, "a number is missing") {
+/// A mistake that is not `clap`'s to find: its kind, and what it is.
+type Mistake = (ErrorKind, &'static str);
+
+const NUMBER_IS_MISSING: Mistake = (ErrorKind::ValueValidation, "a number is missing");
+
+const NO_SUCH_COMMAND: Mistake = (ErrorKind::InvalidSubcommand, "no such command");
+
+/// The job of the subcommand and the numbers in the matches of the program; without a subcommand it
+/// is `run` with the defaults.
+fn job_of(matches: &ArgMatches<'_>) -> Result<Job, Mistake>
+    ensures { IfOk result (IsJob (subcommand_rows_of matches.now)) }
+{
+    match matches.subcommand() {
+        None => Ok(Job::Run(DEFAULTS)),
+        Some(("asm", inner)) => match profile_of(inner) {
+            Some(profile) => Ok(Job::Assemble(profile)),
+            None => Err(NUMBER_IS_MISSING),
+        },
+        Some(("list", _)) => Ok(Job::List),
+        Some(("run", inner)) => match settings_of(inner) {
+            Some(settings) => Ok(Job::Run(settings)),
+            None => Err(NUMBER_IS_MISSING),
+        },
+        Some(_) => Err(NO_SUCH_COMMAND),
+    }
+}
+
+/// A mistake as `clap` words it.
+fn fault_of_mistake(command: &mut Command<'_>, kind: ErrorKind, text: &str) -> WordsFault
+    ensures { (kind ≡ InvalidValue) → IsMistake result }
+{
+    match command.error(kind, text) {
         Ok(error) => WordsFault::Usage(error),
         Err(_) => WordsFault::Memory,
+    }
+}
+
+/// The fault that an error of `clap` is.
+fn fault_of_error(error: Error) -> WordsFault {
+    match error.kind() {
+        ErrorKind::OutOfMemory => WordsFault::Memory,
+        _ => WordsFault::Usage(error),
+    }
+}
+
+/// The job that these words ask the program's command for.
+fn job_of_words<'a>(command: &mut Command<'a>, words: &'a [&'a str]) -> Result<Job, WordsFault>
+    requires { app_of command.old ≡ ocp }
+    ensures { IfOk result (IsJob (subcommand_of ocp (map (λ word. word.now) words.entry.now))) }
+{
+    let matches = match command.try_get_matches_from_mut(words) {
+        Ok(matches) => matches,
+        Err(error) => return Err(fault_of_error(error)),
+    };
+    match job_of(&matches) {
+        Ok(job) => Ok(job),
+        Err((kind, text)) => Err(fault_of_mistake(command, kind, text)),
     }
 }
 
@@ -63,43 +116,16 @@ pub fn read_words<'a>(alloc: Global, words: &'a [&'a str]) -> Result<Job, WordsF
         return Ok(Job::Run(DEFAULTS));
     }
     let mut command = ocp_command(alloc)?;
-    let matches = match command.try_get_matches_from_mut(words) {
-        Ok(matches) => matches,
-        Err(error) => {
-            return Err(match error.kind() {
-                ErrorKind::OutOfMemory => WordsFault::Memory,
-                _ => WordsFault::Usage(error),
-            });
-        }
-    };
-    match matches.subcommand() {
-        None => Ok(Job::Run(DEFAULTS)),
-        Some(("asm", inner)) => match profile_of(inner) {
-            Some(profile) => Ok(Job::Assemble(profile)),
-            None => Err(number_is_missing(&mut command)),
-        },
-        Some(("list", _)) => Ok(Job::List),
-        Some(("run", inner)) => match settings_of(inner) {
-            Some(settings) => Ok(Job::Run(settings)),
-            None => Err(number_is_missing(&mut command)),
-        },
-        Some(_) => Err(WordsFault::Usage(command.error(
-            ErrorKind::InvalidSubcommand,
-            "no such command",
-        )?)),
-    }
+    job_of_words(&mut command, words)
 }
 
 /// The fault of words that are no UTF-8, which `read_words` can't be given, as `clap` words it.
 pub fn not_utf8(alloc: Global) -> WordsFault
     ensures { IsMistake result }
 {
-    let Ok(mut command) = ocp_command(alloc) else {
-        return WordsFault::Memory;
-    };
     let text = "invalid UTF-8 was detected in one or more arguments";
-    match command.error(ErrorKind::InvalidValue, text) {
-        Ok(error) => WordsFault::Usage(error),
+    match ocp_command(alloc) {
+        Ok(mut command) => fault_of_mistake(&mut command, ErrorKind::InvalidValue, text),
         Err(_) => WordsFault::Memory,
     }
 }

@@ -1,9 +1,8 @@
-use Rattle.std.proofs.Common.{ap₂, refl, ◌∙◌}
-use Rattle.clap.specs.Words.{with_rule}
+use Rattle.ocp_words.proofs.Commands.{with_option, without_globals}
 use Rattle.ocp_words.proofs.command.asm_command.Goals as goal
 
 pub returns-clause-app : goal.returns-clause-app
-returns-clause-app c = c.in_ok-asm.ensures.shape c.profile_option.ensures.global ∙ ap₂ with_rule c.plain_command-plain.ensures.app c.profile_option.ensures.rule
+returns-clause-app c = with_option _ _ _ _ _ c.arg.ensures c.plain_command-plain.ensures.app c.profile_option.ensures.rule c.profile_option.ensures.global
 
 pub returns-clause-global : goal.returns-clause-global
-returns-clause-global c = rw (c.in_ok-asm.ensures.globals, c.plain_command-plain.ensures.global, c.profile_option.ensures.global) refl
+returns-clause-global c = without_globals _ _ _ c.arg.ensures c.plain_command-plain.ensures.global c.profile_option.ensures.global
