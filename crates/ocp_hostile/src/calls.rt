@@ -1,12 +1,12 @@
 //! Growths that an engine's other calls ask for, refused one after another: an engine, tickets,
 //! machines by themselves, trace lines and lists of events.
 use crate::drains::REQUESTED;
+use crate::engine::is_traced;
 use crate::heap::Refusing;
-use crate::requests::REQUESTS;
-use ocp_core::{Engine, Event, RunRefusal, StepOutcome, replay_one};
+use crate::requests::{ACTIVATE, LOAD};
+use ocp_core::{Engine, Event, RunRefusal, replay_one};
 use ocp_profile::Profile;
 use std::alloc::{Allocator, Global};
-use std::test::Fail;
 
 /// More blocks than any of these calls asks for.
 const AMPLE: u64 = 1_000_000;
@@ -15,7 +15,7 @@ const AMPLE: u64 = 1_000_000;
 const MOST: u64 = 100;
 
 /// The calls, by what they make.
-#[derive(Clone, Copy, Debug)]
+#[derive(Clone, Copy)]
 enum Made {
     Engine,
     Ticket,
@@ -74,56 +74,58 @@ fn make<A: Allocator + Copy>(alloc: A, engine: &Engine<A>, made: Made) -> Option
 }
 
 /// Hands in the load and the activation of procedure 7, and does one traced instruction.
-fn begin<A: Allocator + Copy>(alloc: A, engine: &mut Engine<A>) -> Result<(), Fail> {
-    for index in [1, 4] {
-        let (octets, _) = REQUESTS[index];
-        engine.request(alloc, 0, 0, octets)?;
-    }
-    if engine.trace(0, 7, true).is_err() || engine.step(0, 7) != StepOutcome::Ran {
-        return Err("an instruction".into());
-    }
-    Ok(())
+fn is_begun<A: Allocator + Copy>(alloc: A, engine: &mut Engine<A>) -> bool {
+    engine.request(alloc, 0, 0, LOAD).is_ok()
+        && engine.request(alloc, 0, 0, ACTIVATE).is_ok()
+        && is_traced(engine, 0)
 }
 
 /// Makes a thing, at first with no memory, then with one more block each time, until it is made,
-/// and gives how many growths were refused.
-fn refused<'a>(
-    heap: &'a Refusing<Global>,
-    engine: &Engine<&'a Refusing<Global>>,
+/// and tells whether growths were refused, and the thing is as wanted.
+fn is_refused<A: Allocator + Copy>(
+    heap: &Refusing<Global>,
+    refusing: A,
+    engine: &Engine<A>,
     made: Made,
-) -> Result<u64, Fail> {
+) -> bool {
     for growths in 0..MOST {
         heap.allow(growths);
-        match make(heap, engine, made) {
-            None => {}
-            Some(true) => return Ok(growths),
-            Some(false) => return Err("another thing".into()),
+        if let Some(is_made) = make(refusing, engine, made) {
+            return is_made && growths > 0;
         }
     }
-    Err("growths without end".into())
+    false
 }
 
 /// Makes each thing in its turn of an engine in which procedure 7 has done one instruction.
-fn all_refused<'a>(
-    heap: &'a Refusing<Global>,
-    engine: &mut Engine<&'a Refusing<Global>>,
-) -> Result<(), Fail> {
-    begin(heap, engine)?;
+fn are_refused<A: Allocator + Copy>(
+    heap: &Refusing<Global>,
+    refusing: A,
+    engine: &mut Engine<A>,
+) -> bool {
+    if !is_begun(refusing, engine) {
+        return false;
+    }
     for made in MADE {
-        if refused(heap, engine, made)? == 0 {
-            return Err("a thing without memory".into());
+        if !is_refused(heap, refusing, engine, made) {
+            return false;
         }
     }
-    Ok(())
+    engine.events() == 4
+}
+
+/// What is made of a new engine.
+fn are_refused_of_a_new_one<A: Allocator + Copy>(heap: &Refusing<Global>, refusing: A) -> bool {
+    match Engine::new(refusing, Profile::One, 0x123, 16, 20) {
+        Ok(mut engine) => are_refused(heap, refusing, &mut engine),
+        Err(_) => false,
+    }
 }
 
 #[test]
-fn each_growth_of_what_is_made_of_an_engine_is_refused(rt: HostRuntime) -> Result<(), Fail> {
+fn each_growth_of_what_is_made_of_an_engine_is_refused(rt: HostRuntime) {
     let heap = Refusing::new(rt.alloc(), AMPLE);
-    let mut engine = Engine::new(&heap, Profile::One, 0x123, 16, 20)?;
-    all_refused(&heap, &mut engine)?;
-    assert_eq!(rt; engine.events(), 4);
-    Ok(())
+    assert!(rt; are_refused_of_a_new_one(&heap, &heap));
 }
 
 /// Does the events, and tells why it ended before its end, if it did, and how many events were
@@ -139,43 +141,68 @@ fn ended<A: Allocator + Copy>(
     }
 }
 
-/// Does the events with so many growths, and tells whether all were answered. After a refusal the
-/// events before it stand, and the others are answered with memory.
-fn is_run<'a>(
-    heap: &'a Refusing<Global>,
-    engine: &mut Engine<&'a Refusing<Global>>,
+/// Whether the events behind so many are all answered.
+fn are_answered_behind<A: Allocator + Copy>(
+    alloc: A,
+    engine: &mut Engine<A>,
+    events: &[Event<'_>],
+    count: usize,
+) -> bool {
+    let Some(rest) = events.get(count..) else {
+        return false;
+    };
+    let (refusal, answered) = ended(alloc, engine, rest);
+    refusal.is_none() && answered == rest.len()
+}
+
+/// Does the events with so many growths, and tells whether all were answered as wanted: none where
+/// memory was refused. Then the events before it stand, and the others are answered with memory.
+fn is_run<A: Allocator + Copy>(
+    heap: &Refusing<Global>,
+    refusing: A,
+    engine: &mut Engine<A>,
     growths: u64,
     events: &[Event<'_>],
-) -> Result<bool, Fail> {
+) -> Option<bool> {
     heap.allow(growths);
-    let (refusal, count) = ended(heap, engine, events);
+    let (refusal, count) = ended(refusing, engine, events);
     heap.allow(AMPLE);
     if engine.events() != count as u64 {
-        return Err("other events".into());
+        return Some(false);
     }
     match refusal {
-        None => Ok(count == events.len()),
-        Some(RunRefusal::JournalFull) => Err("a refusal that is not for memory".into()),
-        Some(RunRefusal::Memory) => {
-            let rest = events.get(count..).ok_or("an index")?;
-            if ended(heap, engine, rest) != (None, rest.len()) {
-                return Err("a refusal with memory".into());
-            }
-            Ok(false)
-        }
+        None => Some(count == events.len()),
+        Some(RunRefusal::Memory) if are_answered_behind(refusing, engine, events, count) => None,
+        Some(_) => Some(false),
+    }
+}
+
+/// Does the events with so many growths on a new engine.
+fn is_run_by_a_new_one<A: Allocator + Copy>(
+    heap: &Refusing<Global>,
+    refusing: A,
+    growths: u64,
+    events: &[Event<'_>],
+) -> Option<bool> {
+    match Engine::new(refusing, Profile::One, 0x123, 16, 20) {
+        Ok(mut engine) => is_run(heap, refusing, &mut engine, growths, events),
+        Err(_) => Some(false),
     }
 }
 
 /// Does the events on new engines, at first with no memory, then with one more block each time,
 /// until all are answered, and gives how many growths were refused.
-fn run_refused(heap: &Refusing<Global>, events: &[Event<'_>]) -> Result<u64, Fail> {
+fn refused_growths<A: Allocator + Copy>(
+    heap: &Refusing<Global>,
+    refusing: A,
+    events: &[Event<'_>],
+) -> Option<u64> {
     for growths in 0..MOST {
-        let mut engine = Engine::new(heap, Profile::One, 0x123, 16, 20)?;
-        if is_run(heap, &mut engine, growths, events)? {
-            return Ok(growths);
+        if let Some(is_answered) = is_run_by_a_new_one(heap, refusing, growths, events) {
+            return is_answered.then_some(growths);
         }
     }
-    Err("growths without end".into())
+    None
 }
 
 /// The event of a request by seat 1 at time 0.
@@ -188,17 +215,19 @@ fn request(octets: &[u8]) -> Event<'_> {
 }
 
 #[test]
-fn each_growth_of_a_run_is_refused(rt: HostRuntime) -> Result<(), Fail> {
+fn each_growth_of_a_run_is_refused(rt: HostRuntime) {
     let heap = Refusing::new(rt.alloc(), AMPLE);
-    let load = request(REQUESTS[1].0);
-    let activate = request(REQUESTS[4].0);
-    let count = run_refused(&heap, &[load, activate, Event::Step { by: 1, id: 7 }])?;
+    let events = [
+        request(LOAD),
+        request(ACTIVATE),
+        Event::Step { by: 1, id: 7 },
+    ];
+    let count = refused_growths(&heap, &heap, &events).unwrap_or(0);
     assert!(rt; count > 2);
-    Ok(())
 }
 
 #[test]
-fn each_growth_of_a_run_with_a_drain_is_refused(rt: HostRuntime) -> Result<(), Fail> {
+fn each_growth_of_a_run_with_a_drain_is_refused(rt: HostRuntime) {
     let heap = Refusing::new(rt.alloc(), AMPLE);
     let events = [
         request(REQUESTED[0]),
@@ -207,7 +236,6 @@ fn each_growth_of_a_run_with_a_drain_is_refused(rt: HostRuntime) -> Result<(), F
         request(REQUESTED[3]),
         Event::Drain { by: 1, time: 0 },
     ];
-    let count = run_refused(&heap, &events)?;
+    let count = refused_growths(&heap, &heap, &events).unwrap_or(0);
     assert!(rt; count > 5);
-    Ok(())
 }

@@ -5,7 +5,6 @@ use ocp_console::{ConsoleFault, Crew, CrewFault, Device, Settings, asm, list, ru
 use ocp_core::{Engine, Entry};
 use ocp_profile::Profile;
 use std::alloc::{Allocator, Global};
-use std::test::Fail;
 
 /// How many growths are refused at most before a call has to succeed.
 const MOST: u64 = 400;
@@ -40,7 +39,7 @@ const TEXT: &[u8] = b"mov64 r1, 3\nsub64 r1, 1\njne64 r1, 0, -2\nexit\n";
 const IMAGE: &[u8] = b"b70100000300000017010000010000005501feff000000009500000000000000\n";
 
 /// The commands. A script is run with a crew that refuses each work, as it is said here.
-#[derive(Clone, Copy, Debug)]
+#[derive(Clone, Copy)]
 enum Command {
     Assemble,
     List,
@@ -55,7 +54,7 @@ const COMMANDS: [(Command, &[u8], &[u8]); 3] = [
 ];
 
 /// How a command ended.
-#[derive(Clone, Copy, PartialEq, Eq, Debug)]
+#[derive(Clone, Copy, PartialEq, Eq)]
 enum End {
     Done,
     Read,
@@ -65,14 +64,28 @@ enum End {
     Other,
 }
 
+fn end_by(fault: ConsoleFault) -> End {
+    match fault {
+        ConsoleFault::Read => End::Read,
+        ConsoleFault::Write => End::Write,
+        ConsoleFault::Memory => End::Memory,
+        ConsoleFault::Workers => End::Workers,
+        _ => End::Other,
+    }
+}
+
 fn end_of(ended: Result<bool, ConsoleFault>) -> End {
     match ended {
         Ok(true) => End::Done,
-        Err(ConsoleFault::Read) => End::Read,
-        Err(ConsoleFault::Write) => End::Write,
-        Err(ConsoleFault::Memory) => End::Memory,
-        Err(ConsoleFault::Workers) => End::Workers,
-        Ok(false) | Err(_) => End::Other,
+        Ok(false) => End::Other,
+        Err(fault) => end_by(fault),
+    }
+}
+
+fn end_of_run(ended: Result<(), ConsoleFault>) -> End {
+    match ended {
+        Ok(()) => End::Done,
+        Err(fault) => end_by(fault),
     }
 }
 
@@ -109,110 +122,127 @@ fn perform<A: Allocator + Copy>(
     let Some(settings) = Settings::new(Profile::One, 0x123, 16, 10) else {
         return (End::Other, writer.inner);
     };
-    let ended = match command {
-        Command::Assemble => asm(alloc, Profile::One, &mut reader, &mut writer),
-        Command::List => list(alloc, &mut reader, &mut writer),
+    let end = match command {
+        Command::Assemble => end_of(asm(alloc, Profile::One, &mut reader, &mut writer)),
+        Command::List => end_of(list(alloc, &mut reader, &mut writer)),
         Command::Run(fault) => {
             let crew = Refuser(fault);
-            run(alloc, settings, &crew, &mut reader, &mut writer).map(|()| true)
+            end_of_run(run(alloc, settings, &crew, &mut reader, &mut writer))
         }
     };
-    (end_of(ended), writer.inner)
+    (end, writer.inner)
+}
+
+/// Whether a command is done, and the other device holds the whole output.
+fn is_done(alloc: Global, command: Command, giver: Giver, taker: Taker, output: &[u8]) -> bool {
+    let (end, taker) = perform(alloc, command, giver, taker);
+    end == End::Done && taker.kept() == output
+}
+
+/// Whether a command whose writer takes so many octets ends by it, and these are the first.
+fn is_cut(
+    alloc: Global,
+    command: Command,
+    input: &'static [u8],
+    output: &[u8],
+    room: usize,
+    fails: bool,
+) -> bool {
+    let giver = Giver::new(input, ROOM, MOST);
+    let taker = Taker::new(alloc, 50, room, fails);
+    let (end, taker) = perform(alloc, command, giver, taker);
+    end == End::Write && taker.kept().len() == room && output.starts_with(taker.kept())
 }
 
 #[test]
-fn a_writer_of_some_octets_holds_the_first(rt: HostRuntime) -> Result<(), Fail> {
+fn a_writer_of_some_octets_holds_the_first(rt: HostRuntime) {
     for (command, input, output) in COMMANDS {
         for room in 0..output.len() {
-            for fails in [false, true] {
-                let giver = Giver::new(input, ROOM, MOST);
-                let taker = Taker::new(rt.alloc(), 50, room, fails);
-                let (end, taker) = perform(rt.alloc(), command, giver, taker);
-                assert_eq!(rt; end, End::Write, "{command:?}: {room} octets");
-                assert!(rt;
-                    taker.kept() == &output[..room],
-                    "{command:?}: {room} octets"
-                );
-            }
+            assert!(rt; is_cut(rt.alloc(), command, input, output, room, false));
+            assert!(rt; is_cut(rt.alloc(), command, input, output, room, true));
         }
         let giver = Giver::new(input, ROOM, MOST);
         let taker = Taker::new(rt.alloc(), 1, output.len(), true);
-        let (end, taker) = perform(rt.alloc(), command, giver, taker);
-        assert!(rt; end == End::Done && taker.kept() == output, "{command:?}");
+        assert!(rt; is_done(rt.alloc(), command, giver, taker, output));
     }
-    Ok(())
+}
+
+/// Whether a command whose reader fails after so many calls ends by it, and a prefix of the output
+/// was written.
+fn is_unread(
+    alloc: Global,
+    command: Command,
+    input: &'static [u8],
+    output: &[u8],
+    good: u64,
+) -> bool {
+    let taker = Taker::new(alloc, ROOM, ROOM, true);
+    let (end, taker) = perform(alloc, command, Giver::new(input, 1, good), taker);
+    end == End::Read && output.starts_with(taker.kept())
 }
 
 #[test]
-fn a_reader_that_fails_ends_a_command(rt: HostRuntime) -> Result<(), Fail> {
+fn a_reader_that_fails_ends_a_command(rt: HostRuntime) {
     for (command, input, output) in COMMANDS {
         // One call for each octet, and one that finds the end.
         for good in 0..input.len() as u64 + 1 {
-            let taker = Taker::new(rt.alloc(), ROOM, ROOM, true);
-            let (end, taker) = perform(rt.alloc(), command, Giver::new(input, 1, good), taker);
-            assert_eq!(rt; end, End::Read, "{command:?}: {good} calls");
             assert!(rt;
-                output.starts_with(taker.kept()),
-                "{command:?}: {good} calls"
+                is_unread(rt.alloc(), command, input, output, good),
+                "{good} calls"
             );
         }
         let giver = Giver::new(input, 1, input.len() as u64 + 1);
         let taker = Taker::new(rt.alloc(), ROOM, ROOM, true);
-        let (end, taker) = perform(rt.alloc(), command, giver, taker);
-        assert!(rt; end == End::Done && taker.kept() == output, "{command:?}");
+        assert!(rt; is_done(rt.alloc(), command, giver, taker, output));
     }
-    Ok(())
 }
 
 /// Does a command, at first with no memory, then with one more block each time, until it is done,
-/// and gives how many growths were refused. After each refusal a prefix of the output was written.
-fn refused(
+/// and tells whether a growth was refused, and after each refusal a prefix of the output was
+/// written.
+fn is_refused(
     heap: &Refusing<Global>,
     alloc: Global,
     command: Command,
     input: &'static [u8],
     output: &[u8],
-) -> Result<u64, Fail> {
+) -> bool {
     for growths in 0..MOST {
         let taker = Taker::new(alloc, ROOM, ROOM, true);
         heap.allow(growths);
         let (end, taker) = perform(heap, command, Giver::new(input, 40, MOST), taker);
         match end {
-            End::Done if taker.kept() == output => return Ok(growths),
+            End::Done => return growths > 0 && taker.kept() == output,
             End::Memory if output.starts_with(taker.kept()) => {}
-            _ => return Err("another end, or other octets".into()),
+            _ => return false,
         }
     }
-    Err("growths without end".into())
+    false
 }
 
 #[test]
-fn each_growth_of_a_command_is_refused(rt: HostRuntime) -> Result<(), Fail> {
+fn each_growth_of_a_command_is_refused(rt: HostRuntime) {
     let heap = Refusing::new(rt.alloc(), 0);
     for (command, input, output) in COMMANDS {
-        let count = refused(&heap, rt.alloc(), command, input, output)?;
-        assert!(rt; count > 0, "{command:?}");
+        assert!(rt; is_refused(&heap, rt.alloc(), command, input, output));
     }
-    Ok(())
 }
 
 /// A script whose second line asks for the crew.
 const WORKED: &[u8] = b"journal\nwork 2 100 1000\njournal\n";
 
+/// Whether a script with a crew that refuses so ends as wanted, with what it wrote before.
+fn is_refused_work(alloc: Global, fault: CrewFault, wanted: End) -> bool {
+    let giver = Giver::new(WORKED, ROOM, MOST);
+    let taker = Taker::new(alloc, ROOM, ROOM, true);
+    let (end, taker) = perform(alloc, Command::Run(fault), giver, taker);
+    end == wanted && taker.kept() == b"journal 0\n".as_slice()
+}
+
 #[test]
-fn a_crew_that_refuses_ends_the_run(rt: HostRuntime) -> Result<(), Fail> {
-    let refusals = [
-        (CrewFault::Workers, End::Workers),
-        (CrewFault::Memory, End::Memory),
-    ];
-    for (fault, wanted) in refusals {
-        let giver = Giver::new(WORKED, ROOM, MOST);
-        let taker = Taker::new(rt.alloc(), ROOM, ROOM, true);
-        let (end, taker) = perform(rt.alloc(), Command::Run(fault), giver, taker);
-        assert_eq!(rt; end, wanted);
-        assert!(rt; taker.kept() == b"journal 0\n".as_slice(), "{fault:?}");
-    }
-    Ok(())
+fn a_crew_that_refuses_ends_the_run(rt: HostRuntime) {
+    assert!(rt; is_refused_work(rt.alloc(), CrewFault::Workers, End::Workers));
+    assert!(rt; is_refused_work(rt.alloc(), CrewFault::Memory, End::Memory));
 }
 
 /// Each kind of line that leaves an entry, and between them the time is set twice. The last line
@@ -307,15 +337,11 @@ fn end_with_an_auditor(alloc: Global, script: &'static [u8]) -> End {
     let Some(settings) = Settings::new(Profile::One, 0x123, 16, 10) else {
         return End::Other;
     };
-    end_of(run(alloc, settings, &Auditor, &mut reader, &mut writer).map(|()| true))
+    end_of_run(run(alloc, settings, &Auditor, &mut reader, &mut writer))
 }
 
 #[test]
-fn entries_have_seat_0_and_the_time_of_the_last_time_line(rt: HostRuntime) -> Result<(), Fail> {
-    assert_eq!(rt; end_with_an_auditor(rt.alloc(), JOURNALED), End::Done);
-    assert_eq!(rt;
-        end_with_an_auditor(rt.alloc(), b"work 1 1 1\n"),
-        End::Workers
-    );
-    Ok(())
+fn entries_have_seat_0_and_the_time_of_the_last_time_line(rt: HostRuntime) {
+    assert!(rt; end_with_an_auditor(rt.alloc(), JOURNALED) == End::Done);
+    assert!(rt; end_with_an_auditor(rt.alloc(), b"work 1 1 1\n") == End::Workers);
 }

@@ -1,11 +1,10 @@
 //! Growths that a drain of an engine asks for, refused one after another. The packets were written
 //! by a script that knows the tables of the profile alone.
-use crate::engine::shown;
+use crate::engine::{is_as_before, shown};
 use crate::heap::Refusing;
 use ocp_core::{Engine, EngineFault, Entry, Reports, StepOutcome};
 use ocp_profile::Profile;
 use std::alloc::{Allocator, Global};
-use std::test::Fail;
 
 /// More blocks than any of these calls asks for.
 const AMPLE: u64 = 1_000_000;
@@ -78,53 +77,83 @@ pub(crate) fn is_drain<A: Allocator>(entry: Option<&Entry<A>>) -> bool {
 
 /// Hands in the requests and does the procedure's four instructions up to the end of step 2, so
 /// that two completions wait.
-fn complete<A: Allocator + Copy>(alloc: A, engine: &mut Engine<A>) -> Result<(), Fail> {
+fn is_completed<A: Allocator + Copy>(alloc: A, engine: &mut Engine<A>) -> bool {
     for octets in REQUESTED {
-        engine.request(alloc, 1, 0, octets)?;
+        if engine.request(alloc, 1, 0, octets).is_err() {
+            return false;
+        }
     }
     let slice = engine.slice(1, 4, 9);
-    if slice.count != 4 || slice.last != StepOutcome::Called {
-        return Err("four instructions".into());
+    slice.count == 4 && slice.last == StepOutcome::Called
+}
+
+/// Whether a drain has the wanted reports: none where memory was refused.
+fn drains<A: Allocator + Copy>(refusing: A, engine: &mut Engine<A>) -> Option<bool> {
+    match engine.drain(refusing, 1, TIME) {
+        Ok(reports) => Some(are(&reports, &REPORTED)),
+        Err(EngineFault::Memory) => None,
+        Err(_) => Some(false),
     }
-    Ok(())
 }
 
 /// Drains with the allocator that refuses, at first with no memory, then with one more block each
-/// time, until reports are answered, and gives how many growths were refused. Each refusal leaves
-/// the engine as it was.
-fn refused<A: Allocator + Copy>(
+/// time, until reports are answered, and tells whether more than five growths were refused, each
+/// refusal left the engine as it was, and the reports are the wanted ones.
+fn is_refused<A: Allocator + Copy>(
     heap: &Refusing<Global>,
     refusing: A,
     alloc: Global,
     engine: &mut Engine<A>,
-) -> Result<u64, Fail> {
-    let before = shown(alloc, engine)?;
+) -> bool {
+    let Ok(before) = shown(alloc, engine) else {
+        return false;
+    };
     for growths in 0..MOST {
         heap.allow(growths);
-        match engine.drain(refusing, 1, TIME) {
-            Ok(reports) if are(&reports, &REPORTED) => return Ok(growths),
-            Ok(_) => return Err("other reports".into()),
-            Err(EngineFault::Memory) => {}
-            Err(_) => return Err("a refusal that is not for memory".into()),
+        if let Some(is_drained) = drains(refusing, engine) {
+            return is_drained && growths > 5;
         }
-        if shown(alloc, engine)?.as_slice() != before.as_slice() {
-            return Err("a refused drain changed the engine".into());
+        if !is_as_before(alloc, engine, before.as_slice()) {
+            return false;
         }
     }
-    Err("growths without end".into())
+    false
+}
+
+/// Whether a second drain finds nothing due.
+fn is_drained<A: Allocator + Copy>(alloc: A, engine: &mut Engine<A>) -> bool {
+    matches!(engine.drain(alloc, 1, TIME), Err(EngineFault::NothingDue))
+}
+
+/// The drain of an engine, and what it leaves.
+fn is_drained_once<A: Allocator + Copy>(
+    heap: &Refusing<Global>,
+    refusing: A,
+    alloc: Global,
+    engine: &mut Engine<A>,
+) -> bool {
+    is_completed(refusing, engine)
+        && is_refused(heap, refusing, alloc, engine)
+        && is_drain(engine.journal().entries().last())
+        && engine.events() == 9
+        && engine.room() == 14
+        && is_drained(refusing, engine)
+}
+
+/// The drain of a new engine.
+fn is_drained_by_a_new_one<A: Allocator + Copy>(
+    heap: &Refusing<Global>,
+    refusing: A,
+    alloc: Global,
+) -> bool {
+    match Engine::new(refusing, Profile::One, 0x123, 16, 20) {
+        Ok(mut engine) => is_drained_once(heap, refusing, alloc, &mut engine),
+        Err(_) => false,
+    }
 }
 
 #[test]
-fn each_growth_of_a_drain_is_refused(rt: HostRuntime) -> Result<(), Fail> {
+fn each_growth_of_a_drain_is_refused(rt: HostRuntime) {
     let heap = Refusing::new(rt.alloc(), AMPLE);
-    let mut engine = Engine::new(&heap, Profile::One, 0x123, 16, 20)?;
-    complete(&heap, &mut engine)?;
-    assert!(rt; refused(&heap, &heap, rt.alloc(), &mut engine)? > 5);
-    assert!(rt; is_drain(engine.journal().entries().last()));
-    assert!(rt; engine.events() == 9 && engine.room() == 14);
-    assert_eq!(rt;
-        engine.drain(&heap, 1, TIME).err(),
-        Some(EngineFault::NothingDue)
-    );
-    Ok(())
+    assert!(rt; is_drained_by_a_new_one(&heap, &heap, rt.alloc()));
 }

@@ -1,11 +1,10 @@
 //! Growths that an engine's calls ask for, refused one after another.
 use crate::heap::Refusing;
 use crate::requests::REQUESTS;
-use ocp_core::{Engine, EngineFault, StepOutcome};
+use ocp_core::{Engine, EngineFault, Reports, StepOutcome};
 use ocp_debug::view_text;
 use ocp_profile::Profile;
 use std::alloc::{AllocError, Allocator, Global};
-use std::test::Fail;
 
 /// More blocks than any of these calls asks for.
 const AMPLE: u64 = 1_000_000;
@@ -27,84 +26,119 @@ pub(crate) fn shown<A: Allocator>(
     let _ = engine.memory(7, 0x2000_0000, &mut arguments);
     text.extend_from_slice(&arguments)?;
     engine.trace_lines(&mut text)?;
-    for index in 0..2 {
-        let word = engine.pool_word(index).unwrap_or(9);
-        text.extend_from_slice(&word.to_be_bytes())?;
+    for number in numbers(engine) {
+        text.extend_from_slice(&number.to_be_bytes())?;
     }
-    text.extend_from_slice(&engine.events().to_be_bytes())?;
-    text.extend_from_slice(&engine.room().to_be_bytes())?;
     Ok(text)
 }
 
-/// Hands in a request, and appends the packets of its reports, or tells why there are none.
-fn answered<A: Allocator + Copy>(
-    alloc: A,
+/// Two pool words, how many events there were, and how many entries are free.
+fn numbers<A: Allocator>(engine: &Engine<A>) -> [u64; 4] {
+    [
+        engine.pool_word(0).unwrap_or(9),
+        engine.pool_word(1).unwrap_or(9),
+        engine.events(),
+        engine.room() as u64,
+    ]
+}
+
+/// Whether an engine shows what it did.
+pub(crate) fn is_as_before<A: Allocator>(alloc: Global, engine: &Engine<A>, before: &[u8]) -> bool {
+    match shown(alloc, engine) {
+        Ok(text) => text.as_slice() == before,
+        Err(_) => false,
+    }
+}
+
+/// Whether these are the packets of the reports, one behind the other.
+fn are<A: Allocator>(reports: &Reports<A>, packets: &[u8]) -> bool {
+    let mut left = packets;
+    for packet in reports.packets() {
+        match left.strip_prefix(packet.as_slice()) {
+            Some(others) => left = others,
+            None => return false,
+        }
+    }
+    left.is_empty()
+}
+
+/// Whether a request is answered with these packets: none where memory was refused.
+fn answers<A: Allocator + Copy>(
+    refusing: A,
     engine: &mut Engine<A>,
     octets: &[u8],
-    packets: &mut Vec<u8>,
-) -> Result<Option<EngineFault>, AllocError> {
-    match engine.request(alloc, 1, 0, octets) {
-        Ok(reports) => {
-            for packet in reports.packets() {
-                packets.extend_from_slice(packet.as_slice())?;
-            }
-            Ok(None)
-        }
-        Err(fault) => Ok(Some(fault)),
+    packets: &[u8],
+) -> Option<bool> {
+    match engine.request(refusing, 1, 0, octets) {
+        Ok(reports) => Some(are(&reports, packets)),
+        Err(EngineFault::Memory) => None,
+        Err(_) => Some(false),
     }
 }
 
 /// Hands in a request, at first with no memory, then with one more block each time, until it is
-/// answered, and gives how many growths were refused. Each refusal leaves the engine as it was, and
+/// answered, and tells whether growths were refused, each refusal left the engine as it was, and
 /// the answer has the wanted packets.
-fn refused<'a>(
-    heap: &'a Refusing<Global>,
+fn is_refused<A: Allocator + Copy>(
+    heap: &Refusing<Global>,
+    refusing: A,
     alloc: Global,
-    engine: &mut Engine<&'a Refusing<Global>>,
+    engine: &mut Engine<A>,
     octets: &[u8],
-    wanted: &[u8],
-) -> Result<u64, Fail> {
-    let before = shown(alloc, engine)?;
+    packets: &[u8],
+) -> bool {
+    let Ok(before) = shown(alloc, engine) else {
+        return false;
+    };
     for growths in 0..MOST {
-        let mut packets = Vec::new(alloc);
         heap.allow(growths);
-        match answered(heap, engine, octets, &mut packets)? {
-            None if packets.as_slice() == wanted => return Ok(growths),
-            None => return Err("other packets".into()),
-            Some(EngineFault::Memory) => {}
-            Some(_) => return Err("a refusal that is not for memory".into()),
+        if let Some(is_answered) = answers(refusing, engine, octets, packets) {
+            return is_answered && growths > 0;
         }
-        if shown(alloc, engine)?.as_slice() != before.as_slice() {
-            return Err("a refused request changed the engine".into());
+        if !is_as_before(alloc, engine, before.as_slice()) {
+            return false;
         }
     }
-    Err("growths without end".into())
+    false
+}
+
+/// Does one traced instruction of procedure 7.
+pub(crate) fn is_traced<A: Allocator>(engine: &mut Engine<A>, by: u16) -> bool {
+    engine.trace(by, 7, true).is_ok() && engine.step(by, 7) == StepOutcome::Ran
 }
 
 /// Each request in its turn, with procedure 7 traced for one instruction once it runs.
-fn all_refused<'a>(
-    heap: &'a Refusing<Global>,
+fn are_refused<A: Allocator + Copy>(
+    heap: &Refusing<Global>,
+    refusing: A,
     alloc: Global,
-    engine: &mut Engine<&'a Refusing<Global>>,
-) -> Result<(), Fail> {
-    for (index, (octets, wanted)) in REQUESTS.iter().enumerate() {
-        if refused(heap, alloc, engine, octets, wanted)? == 0 {
-            return Err("a request without memory".into());
+    engine: &mut Engine<A>,
+) -> bool {
+    for (index, (octets, packets)) in REQUESTS.iter().enumerate() {
+        if !is_refused(heap, refusing, alloc, engine, octets, packets) {
+            return false;
         }
-        if index == 4
-            && (engine.trace(0, 7, true).is_err() || engine.step(0, 7) != StepOutcome::Ran)
-        {
-            return Err("an instruction".into());
+        if index == 4 && !is_traced(engine, 0) {
+            return false;
         }
     }
-    Ok(())
+    engine.events() == 17 && engine.room() == 3
+}
+
+/// The requests to a new engine.
+fn are_refused_by_a_new_one<A: Allocator + Copy>(
+    heap: &Refusing<Global>,
+    refusing: A,
+    alloc: Global,
+) -> bool {
+    match Engine::new(refusing, Profile::One, 0x123, 16, 20) {
+        Ok(mut engine) => are_refused(heap, refusing, alloc, &mut engine),
+        Err(_) => false,
+    }
 }
 
 #[test]
-fn each_growth_of_a_request_is_refused(rt: HostRuntime) -> Result<(), Fail> {
+fn each_growth_of_a_request_is_refused(rt: HostRuntime) {
     let heap = Refusing::new(rt.alloc(), AMPLE);
-    let mut engine = Engine::new(&heap, Profile::One, 0x123, 16, 20)?;
-    all_refused(&heap, rt.alloc(), &mut engine)?;
-    assert!(rt; engine.events() == 17 && engine.room() == 3);
-    Ok(())
+    assert!(rt; are_refused_by_a_new_one(&heap, &heap, rt.alloc()));
 }

@@ -9,7 +9,6 @@ use ocp_profile::Profile;
 use ocp_regions::Regions;
 use ocp_table::{LoadFailure, Table};
 use std::alloc::{AllocError, Allocator, Global};
-use std::test::Fail;
 
 /// How many growths are refused at most before a call has to succeed.
 const MOST: u64 = 200;
@@ -24,7 +23,7 @@ const IMAGE: [u8; 32] = [
 ];
 
 /// The calls, by what they make.
-#[derive(Clone, Copy, Debug)]
+#[derive(Clone, Copy)]
 enum Made {
     Program,
     Image,
@@ -69,27 +68,54 @@ fn assembles<A: Allocator + Copy>(alloc: A) -> Option<bool> {
     }
 }
 
-/// Whether a memory of the allocator is all zeros.
-fn remembers<A: Allocator + Copy>(alloc: A) -> Result<bool, AllocError> {
-    let memory = Regions::new(alloc, Profile::One)?;
+/// Whether a memory of the allocator is all zeros: none where memory was refused.
+fn remembers<A: Allocator + Copy>(alloc: A) -> Option<bool> {
+    let memory = Regions::new(alloc, Profile::One).ok()?;
     let mut octets = [1; 8];
-    Ok(memory.octets(0x3000_03f8, &mut octets).is_ok() && octets == [0; 8])
+    Some(memory.octets(0x3000_03f8, &mut octets).is_ok() && octets == [0; 8])
 }
 
-/// Whether a copy has the arguments that the other memory has.
-fn remembers_too<A: Allocator + Copy>(alloc: A, other: &Regions) -> Result<bool, AllocError> {
-    let memory = other.copy(alloc)?;
+/// Whether a copy has the arguments that the other memory has: none where memory was refused.
+fn remembers_too<A: Allocator + Copy>(alloc: A, other: &Regions) -> Option<bool> {
+    let memory = other.copy(alloc).ok()?;
     let mut octets = [1; 3];
-    Ok(memory.octets(0x2000_0000, &mut octets).is_ok() && octets == [7, 8, 0])
+    Some(memory.octets(0x2000_0000, &mut octets).is_ok() && octets == [7, 8, 0])
+}
+
+/// Whether a machine stands at its first slot: none where memory was refused.
+fn starts<A: Allocator + Copy>(alloc: A) -> Option<bool> {
+    let machine = Machine::new(alloc, Profile::Two).ok()?;
+    Some(machine.place() == 0)
+}
+
+/// Whether a copy is the same as the other machine: none where memory was refused.
+fn starts_too<A: Allocator + Copy>(alloc: A, other: &Machine) -> Option<bool> {
+    let machine = other.copy(alloc).ok()?;
+    Some(other.is_same(&machine))
+}
+
+/// Whether a pool has its words: none where memory was refused.
+fn pools<A: Allocator + Copy>(alloc: A) -> Option<bool> {
+    let pool = Pool::new(alloc, 256).ok()?;
+    Some(pool.words() == 256)
+}
+
+/// Whether a table is empty: none where memory was refused.
+fn begins<A: Allocator + Copy>(alloc: A) -> Option<bool> {
+    let table = Table::new(alloc, Profile::One).ok()?;
+    Some(table.len() == 0)
+}
+
+/// Whether a ring is empty: none where memory was refused.
+fn rings<A: Allocator + Copy>(alloc: A) -> Option<bool> {
+    let ring = TraceRing::new(alloc).ok()?;
+    Some(ring.len() == 0)
 }
 
 /// Whether a procedure is loaded into a table, which else stays empty: none where memory was
 /// refused.
-fn takes_in<'a>(
-    heap: &'a Refusing<Global>,
-    table: &mut Table<&'a Refusing<Global>>,
-) -> Option<bool> {
-    match table.load(heap, 7, &IMAGE) {
+fn takes_in<A: Allocator + Copy>(alloc: A, table: &mut Table<A>) -> Option<bool> {
+    match table.load(alloc, 7, &IMAGE) {
         Ok(()) => Some(table.is_loaded(7)),
         Err(LoadFailure::Memory) if table.len() == 0 => None,
         Err(_) => Some(false),
@@ -98,19 +124,19 @@ fn takes_in<'a>(
 
 /// What the calls work on that need a thing to begin with.
 #[derive(Drop)]
-struct Begun<'a> {
+struct Begun<A: Allocator> {
     memory: Regions,
     machine: Machine,
-    table: Table<&'a Refusing<Global>>,
+    table: Table<A>,
 }
 
-impl<'a> Begun<'a> {
-    fn new(heap: &'a Refusing<Global>, alloc: Global) -> Result<Begun<'a>, AllocError> {
+impl<A: Allocator + Copy> Begun<A> {
+    fn new(refusing: A, alloc: Global) -> Result<Self, AllocError> {
         let mut memory = Regions::new(alloc, Profile::One)?;
         memory.set_arguments(&[7, 8]);
         let mut machine = Machine::new(alloc, Profile::One)?;
         machine.start(&[7, 8]);
-        let table = Table::new(heap, Profile::One)?;
+        let table = Table::new(refusing, Profile::One)?;
         Ok(Begun {
             memory,
             machine,
@@ -119,50 +145,51 @@ impl<'a> Begun<'a> {
     }
 
     /// Makes a thing, and tells whether it is as wanted: none where memory was refused.
-    fn make(&mut self, heap: &'a Refusing<Global>, made: Made) -> Option<bool> {
+    fn make(&mut self, refusing: A, made: Made) -> Option<bool> {
         match made {
-            Made::Program => loads(heap),
-            Made::Image => assembles(heap),
-            Made::Memory => remembers(heap).ok(),
-            Made::CopyOfMemory => remembers_too(heap, &self.memory).ok(),
-            Made::Machine => Machine::new(heap, Profile::Two)
-                .map(|machine| machine.place() == 0)
-                .ok(),
-            Made::CopyOfMachine => {
-                let copied = self.machine.copy(heap).ok()?;
-                Some(self.machine.is_same(&copied))
-            }
-            Made::Pool => Pool::new(heap, 256).map(|pool| pool.words() == 256).ok(),
-            Made::Table => Table::new(heap, Profile::One)
-                .map(|table| table.len() == 0)
-                .ok(),
-            Made::Procedure => takes_in(heap, &mut self.table),
-            Made::Ring => TraceRing::new(heap).map(|ring| ring.len() == 0).ok(),
+            Made::Program => loads(refusing),
+            Made::Image => assembles(refusing),
+            Made::Memory => remembers(refusing),
+            Made::CopyOfMemory => remembers_too(refusing, &self.memory),
+            Made::Machine => starts(refusing),
+            Made::CopyOfMachine => starts_too(refusing, &self.machine),
+            Made::Pool => pools(refusing),
+            Made::Table => begins(refusing),
+            Made::Procedure => takes_in(refusing, &mut self.table),
+            Made::Ring => rings(refusing),
         }
+    }
+
+    /// Makes a thing, at first with no memory, then with one more block each time, until it is
+    /// made, and tells whether growths were refused, and the thing is as wanted.
+    fn is_refused(&mut self, heap: &Refusing<Global>, refusing: A, made: Made) -> bool {
+        for growths in 0..MOST {
+            heap.allow(growths);
+            if let Some(is_wanted) = self.make(refusing, made) {
+                return is_wanted && growths > 0;
+            }
+        }
+        false
     }
 }
 
-/// Makes a thing, at first with no memory, then with one more block each time, until it is made,
-/// and gives how many growths were refused.
-fn refused<'a>(heap: &'a Refusing<Global>, begun: &mut Begun<'a>, made: Made) -> Result<u64, Fail> {
-    for growths in 0..MOST {
-        heap.allow(growths);
-        match begun.make(heap, made) {
-            None => {}
-            Some(true) => return Ok(growths),
-            Some(false) => return Err("another thing".into()),
+/// Makes each thing in its turn.
+fn are_refused<A: Allocator + Copy>(
+    heap: &Refusing<Global>,
+    refusing: A,
+    alloc: Global,
+) -> Result<bool, AllocError> {
+    let mut begun = Begun::new(refusing, alloc)?;
+    for made in MADE {
+        if !begun.is_refused(heap, refusing, made) {
+            return Ok(false);
         }
     }
-    Err("growths without end".into())
+    Ok(true)
 }
 
 #[test]
-fn each_growth_of_what_is_made_is_refused(rt: HostRuntime) -> Result<(), Fail> {
+fn each_growth_of_what_is_made_is_refused(rt: HostRuntime) {
     let heap = Refusing::new(rt.alloc(), MOST);
-    let mut begun = Begun::new(&heap, rt.alloc())?;
-    for made in MADE {
-        let count = refused(&heap, &mut begun, made)?;
-        assert!(rt; count > 0, "{made:?}");
-    }
-    Ok(())
+    assert!(rt; are_refused(&heap, &heap, rt.alloc()).unwrap_or(false));
 }

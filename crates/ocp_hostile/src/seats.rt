@@ -5,16 +5,15 @@
 ghost use Rattle.std.specs.Prelude.{◌≡◌, ◌+◌, length};
 
 use crate::drains::{REPORTED, REQUESTED, are, is_drain};
-use crate::engine::shown;
+use crate::engine::{is_as_before, shown};
 use crate::heap::Refusing;
 use ocp_core::{Engine, EngineFault, Reports, StepOutcome};
 use ocp_profile::Profile;
 use ocp_seats::input::{Drain, Request};
 use ocp_seats::{Book, Naming, Seat, SeatFault, TakeFault};
-use std::alloc::{Allocator, Global};
+use std::alloc::{AllocError, Allocator, Global};
 use std::marker::Brand;
 use std::sync::ledger::Blank;
-use std::test::Fail;
 
 /// More blocks than any of these calls asks for.
 const AMPLE: u64 = 1_000_000;
@@ -109,19 +108,42 @@ fn answers<L: Naming, A: Allocator + Copy>(
 
 /// What a book and its seat show: the engine, how many seats are handed out, and how many receipts
 /// the seat has.
-fn all_shown<L: Naming, A: Allocator>(
-    alloc: Global,
-    book: &Book<L, A>,
-    seat: &Seat<L, A>,
-) -> Result<Vec<u8>, Fail> {
-    let mut text = shown(alloc, book.engine())?;
-    text.extend_from_slice(&book.seat_count().to_be_bytes())?;
-    text.extend_from_slice(&seat.receipts().len().to_be_bytes())?;
-    Ok(text)
+#[derive(Drop)]
+struct Shown {
+    engine: Vec<u8>,
+    seats: u16,
+    receipts: usize,
 }
 
-/// Makes a call, at first with no memory, then with one more block each time, until it is answered,
-/// and gives how many growths were refused. Each refusal leaves the book and the seat as they were.
+impl Shown {
+    fn new<L: Naming, A: Allocator>(
+        alloc: Global,
+        book: &Book<L, A>,
+        seat: &Seat<L, A>,
+    ) -> Result<Self, AllocError> {
+        Ok(Shown {
+            engine: shown(alloc, book.engine())?,
+            seats: book.seat_count(),
+            receipts: seat.receipts().len(),
+        })
+    }
+
+    /// Whether they still show it.
+    fn is_left<L: Naming, A: Allocator>(
+        &self,
+        alloc: Global,
+        book: &Book<L, A>,
+        seat: &Seat<L, A>,
+    ) -> bool {
+        book.seat_count() == self.seats
+            && seat.receipts().len() == self.receipts
+            && is_as_before(alloc, book.engine(), self.engine.as_slice())
+    }
+}
+
+/// Makes a call, at first with no memory, then with one more block each time, until it is answered
+/// as wanted, and gives how many growths were refused: none where it is not, or a refusal changed
+/// the book or the seat.
 fn refused<L: Naming, A: Allocator + Copy>(
     heap: &Refusing<Global>,
     refusing: A,
@@ -129,81 +151,94 @@ fn refused<L: Naming, A: Allocator + Copy>(
     book: &mut Book<L, A>,
     seat: &mut Seat<L, A>,
     asked: Asked,
-) -> Result<u64, Fail> {
-    let before = all_shown(alloc, book, seat)?;
+) -> Option<u64> {
+    let before = Shown::new(alloc, book, seat).ok()?;
     for growths in 0..MOST {
         heap.allow(growths);
-        match answers(refusing, book, seat, asked) {
-            None => {}
-            Some(true) => return Ok(growths),
-            Some(false) => return Err("another answer".into()),
+        if let Some(is_wanted) = answers(refusing, book, seat, asked) {
+            return is_wanted.then_some(growths);
         }
-        if all_shown(alloc, book, seat)?.as_slice() != before.as_slice() {
-            return Err("a refused call changed the book".into());
+        if !before.is_left(alloc, book, seat) {
+            return None;
         }
     }
-    Err("growths without end".into())
+    None
 }
 
-/// A second seat, then the requests of the first, which keeps a receipt for each, and between its
-/// activation and its suspension procedure 4. A request takes at least two blocks for its octets,
-/// which journal and seat share, two for each report, and one for what those share who keep all.
-fn requests_refused<L: Naming, A: Allocator + Copy>(
+/// The requests of a seat, which keeps a receipt for each, and between its activation and its
+/// suspension procedure 4. A request takes at least two blocks for its octets, which journal and
+/// seat share, two for each report, and one for what those share who keep all.
+fn are_requests_refused<L: Naming, A: Allocator + Copy>(
     heap: &Refusing<Global>,
     refusing: A,
     alloc: Global,
     book: &mut Book<L, A>,
     seat: &mut Seat<L, A>,
-) -> Result<(), Fail> {
-    if refused(heap, refusing, alloc, book, seat, Asked::Seat)? != 1 {
-        return Err("other growths of a seat".into());
-    }
+) -> bool {
     for (index, (octets, wanted)) in REQUESTED.iter().zip(ANSWERED.iter()).enumerate() {
         let asked = Asked::Request(octets, wanted);
         let blocks = 2u64.saturating_mul(wanted.len() as u64).saturating_add(3);
-        if refused(heap, refusing, alloc, book, seat, asked)? < blocks {
-            return Err("a request with fewer blocks".into());
+        if refused(heap, refusing, alloc, book, seat, asked).unwrap_or(0) < blocks {
+            return false;
         }
-        if index == 1 && refused(heap, refusing, alloc, book, seat, Asked::Take)? == 0 {
-            return Err("a ticket without memory".into());
+        if index == 1 && refused(heap, refusing, alloc, book, seat, Asked::Take).unwrap_or(0) == 0 {
+            return false;
         }
     }
-    Ok(())
+    true
 }
 
-/// The procedure's four instructions up to the end of step 2, then a drain of the two completions,
-/// whose reports the journal's last entry and the seat's last receipt share with the answer: two
-/// blocks for each report, one for their list, and one for what those share who keep it.
-fn drain_refused<L: Naming, A: Allocator + Copy>(
+/// Whether the procedure's four instructions are done up to the end of step 2.
+fn is_sliced<L: Naming, A: Allocator>(book: &mut Book<L, A>, seat: &mut Seat<L, A>) -> bool {
+    let slice = book.slice(seat, 4, 9);
+    slice.count == 4 && slice.last == StepOutcome::Called
+}
+
+/// Whether the journal's last entry and the seat's last receipt are the drain, of so many of each,
+/// and two seats are handed out.
+fn is_drained<L: Naming, A: Allocator>(book: &Book<L, A>, seat: &Seat<L, A>) -> bool {
+    let receipts = seat.receipts();
+    receipts.len() == 6
+        && is_drain(receipts.last())
+        && is_drain(book.engine().journal().entries().last())
+        && book.seat_count() == 2
+        && book.engine().events() == 9
+}
+
+/// A second seat, the requests of the first, the procedure's instructions, and then a drain of the
+/// two completions, whose reports the journal's last entry and the seat's last receipt share with
+/// the answer: two blocks for each report, one for their list, and one for what those share who
+/// keep it.
+fn are_refused<L: Naming, A: Allocator + Copy>(
     heap: &Refusing<Global>,
     refusing: A,
     alloc: Global,
     book: &mut Book<L, A>,
     seat: &mut Seat<L, A>,
-) -> Result<(), Fail> {
-    let slice = book.slice(seat, 4, 9);
-    if slice.count != 4 || slice.last != StepOutcome::Called {
-        return Err("four instructions".into());
-    }
-    if refused(heap, refusing, alloc, book, seat, Asked::Drain)? != 6 {
-        return Err("other growths of a drain".into());
-    }
-    let receipts = seat.receipts();
-    let entries = book.engine().journal().entries();
-    if receipts.len() != 6 || !is_drain(receipts.last()) || !is_drain(entries.last()) {
-        return Err("other entries".into());
-    }
-    if book.seat_count() != 2 || book.engine().events() != 9 {
-        return Err("other seats or events".into());
-    }
-    Ok(())
+) -> bool {
+    refused(heap, refusing, alloc, book, seat, Asked::Seat) == Some(1)
+        && are_requests_refused(heap, refusing, alloc, book, seat)
+        && is_sliced(book, seat)
+        && refused(heap, refusing, alloc, book, seat, Asked::Drain) == Some(6)
+        && is_drained(book, seat)
 }
 
 #[test]
-fn each_growth_of_a_book_is_refused(rt: HostRuntime) -> Result<(), Fail> {
+fn each_growth_of_a_book_is_refused(rt: HostRuntime) {
     let heap = Refusing::new(rt.alloc(), AMPLE);
-    let engine = Engine::new(&heap, Profile::One, 0x123, 16, 20)?;
-    by_a_seat(&heap, &heap, rt.alloc(), engine)
+    assert!(rt; are_refused_by_a_new_one(&heap, &heap, rt.alloc()));
+}
+
+/// The same by a book over a new engine.
+fn are_refused_by_a_new_one<A: Allocator + Copy>(
+    heap: &Refusing<Global>,
+    refusing: A,
+    alloc: Global,
+) -> bool {
+    match Engine::new(refusing, Profile::One, 0x123, 16, 20) {
+        Ok(engine) => by_a_seat(heap, refusing, alloc, engine),
+        Err(_) => false,
+    }
 }
 
 /// The same by a book with a name of its own.
@@ -212,7 +247,7 @@ fn by_a_seat<A: Allocator + Copy>(
     refusing: A,
     alloc: Global,
     engine: Engine<A>,
-) -> Result<(), Fail> {
+) -> bool {
     let _length = engine.journal().len();
     through::<Brand, A>(heap, refusing, alloc, engine, Blank::new(65))
 }
@@ -224,7 +259,7 @@ fn through<L: Naming, A: Allocator + Copy>(
     alloc: Global,
     engine: Engine<A>,
     blank: Blank,
-) -> Result<(), Fail>
+) -> bool
     requires name { blank.name ≡ L.name }
     requires parts { blank.parts ≡ L.parts }
     requires seats { blank.parts ≡ 65 }
@@ -232,7 +267,8 @@ fn through<L: Naming, A: Allocator + Copy>(
     requires log { L.log ≡ engine }
 {
     let mut book = Book::<L, A>::new(engine, blank);
-    let mut seat = book.seat(refusing)?;
-    requests_refused(heap, refusing, alloc, &mut book, &mut seat)?;
-    drain_refused(heap, refusing, alloc, &mut book, &mut seat)
+    match book.seat(refusing) {
+        Ok(mut seat) => are_refused(heap, refusing, alloc, &mut book, &mut seat),
+        Err(_) => false,
+    }
 }

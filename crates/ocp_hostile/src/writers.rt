@@ -10,14 +10,13 @@ use ocp_profile::Profile;
 use ocp_table::StepOutcome;
 use pus_fields::{Ack, Tc, Tm, write_tc, write_tm};
 use space_packet::{Apid, Primary, SequenceCount, SequenceFlags, write};
-use std::alloc::{Allocator, Global};
-use std::test::Fail;
+use std::alloc::{AllocError, Allocator, Global};
 
 /// How many growths are refused at most before a call has to succeed.
 const MOST: u64 = 100;
 
 /// The calls, by what they append.
-#[derive(Clone, Copy, Debug)]
+#[derive(Clone, Copy)]
 enum Text {
     Packet,
     Telecommand,
@@ -154,35 +153,59 @@ const BEFORE: &[u8] = b"abc";
 
 /// Whether the vector has these octets behind what it had before.
 fn is_appended<A: Allocator>(out: &Vec<u8, A>, octets: &[u8]) -> bool {
-    out.strip_prefix(BEFORE) == Some(octets)
+    match out.strip_prefix(BEFORE) {
+        Some(behind) => behind == octets,
+        None => false,
+    }
 }
 
-/// Appends a text to a vector without room, at first with no memory, then with one more block each
-/// time, until it is done, and gives how many growths were refused. Each refusal leaves the vector
-/// and its capacity as they were.
-fn refused(heap: &Refusing<Global>, alloc: Global, text: Text, octets: &[u8]) -> Result<u64, Fail> {
+/// A vector without room that has some octets.
+fn before<A: Allocator>(alloc: A) -> Result<Vec<u8, A>, AllocError> {
+    let mut out = Vec::with_capacity(alloc, BEFORE.len())?;
+    out.extend_from_slice(BEFORE)?;
+    Ok(out)
+}
+
+/// Appends a text to a vector, and tells whether it is as wanted: none where memory was refused,
+/// which leaves the vector and its capacity as they were.
+fn appends<A: Allocator>(
+    alloc: Global,
+    text: Text,
+    octets: &[u8],
+    out: &mut Vec<u8, A>,
+) -> Option<bool> {
+    let capacity = out.capacity();
+    match append(alloc, text, out) {
+        Some(()) => Some(is_appended(out, octets)),
+        None if is_appended(out, &[]) && out.capacity() == capacity => None,
+        None => Some(false),
+    }
+}
+
+/// Appends a text to vectors without room, at first with no memory, then with one more block each
+/// time, until it is done, and tells whether growths were refused, and the text is as wanted.
+fn is_refused<A: Allocator + Copy>(
+    heap: &Refusing<Global>,
+    refusing: A,
+    alloc: Global,
+    text: Text,
+    octets: &[u8],
+) -> Result<bool, AllocError> {
     for growths in 0..MOST {
         heap.allow(1);
-        let mut out = Vec::with_capacity(heap, BEFORE.len())?;
-        out.extend_from_slice(BEFORE)?;
-        let capacity = out.capacity();
+        let mut out = before(refusing)?;
         heap.allow(growths);
-        match append(alloc, text, &mut out) {
-            Some(()) if is_appended(&out, octets) => return Ok(growths),
-            Some(()) => return Err("other octets".into()),
-            None if is_appended(&out, &[]) && out.capacity() == capacity => {}
-            None => return Err("a refusal changed the vector".into()),
+        if let Some(is_wanted) = appends(alloc, text, octets, &mut out) {
+            return Ok(is_wanted && growths > 0);
         }
     }
-    Err("growths without end".into())
+    Ok(false)
 }
 
 #[test]
-fn each_growth_of_a_vector_is_refused(rt: HostRuntime) -> Result<(), Fail> {
+fn each_growth_of_a_vector_is_refused(rt: HostRuntime) {
     let heap = Refusing::new(rt.alloc(), 0);
     for (text, octets) in TEXTS {
-        let count = refused(&heap, rt.alloc(), text, octets)?;
-        assert!(rt; count > 0, "{text:?}");
+        assert!(rt; is_refused(&heap, &heap, rt.alloc(), text, octets).unwrap_or(false));
     }
-    Ok(())
 }

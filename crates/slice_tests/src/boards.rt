@@ -3,8 +3,7 @@
 
 ghost use Rattle.std.specs.Prelude.{◌≡◌, ◌+◌, length};
 
-use crate::packets::{STATUS, takes_loops};
-use ocp_profile::Profile;
+use crate::packets::{STATUS, with_loops};
 use ocp_slices::{
     Board, Book, CommitOutcome, DebugFault, Engine, EngineFault, Entry, Gate, Input, Naming, Seat,
     SeatFault, SharedEngine, Slice, StepOutcome, TakeFault, Ticket, Turn, Work,
@@ -12,14 +11,12 @@ use ocp_slices::{
 use std::alloc::Global;
 use std::cell::Cell;
 use std::marker::Brand;
-use std::process::Abort;
 use std::sync::Wait;
 use std::sync::atomic::{AtomicU64, Ordering};
 use std::sync::ledger::Blank;
-use std::test::Fail;
 
 // How a board meets a turn.
-#[derive(Clone, Copy, PartialEq, Eq, Debug)]
+#[derive(Clone, Copy)]
 pub(crate) enum Meets {
     AsItsBook,
     NothingRuns,
@@ -107,20 +104,21 @@ impl<L: Naming> Board<L> for Counting<'_, L> {
 }
 
 #[test]
-fn answers_are_the_boards(rt: HostRuntime) -> Result<(), Fail> {
-    let mut engine = Engine::new(rt.alloc(), Profile::One, 0x123, 16, 100)?;
-    assert!(rt; takes_loops(rt.alloc(), &mut engine, 1));
-    let _length = engine.journal().len();
-    through::<Brand, _>(&rt, rt.alloc(), engine, Blank::new(65))
+fn answers_are_the_boards(rt: HostRuntime) {
+    assert!(rt; are_the_boards(&rt, rt.alloc()));
 }
 
-// Every call through the lock is one call of the board, and each third event is refused.
-fn through<L: Naming, R: Wait + Abort>(
-    rt: &R,
-    alloc: Global,
-    engine: Engine,
-    blank: Blank,
-) -> Result<(), Fail>
+// Whether the answers are those of a board over a new engine.
+fn are_the_boards<R: Wait>(rt: &R, alloc: Global) -> bool {
+    let Some(engine) = with_loops(alloc, 100, 1) else {
+        return false;
+    };
+    let _length = engine.journal().len();
+    through::<Brand, _>(rt, alloc, engine, Blank::new(65))
+}
+
+// Whether every call through the lock is one call of the board, and each third event is refused.
+fn through<L: Naming, R: Wait>(rt: &R, alloc: Global, engine: Engine, blank: Blank) -> bool
     requires name { blank.name ≡ L.name }
     requires parts { blank.parts ≡ L.parts }
     requires seats { blank.parts ≡ 65 }
@@ -130,44 +128,92 @@ fn through<L: Naming, R: Wait + Abort>(
     let taken = AtomicU64::new(0);
     let board = Counting::new(Book::<L>::new(engine, blank), &[], &taken);
     let shared = SharedEngine::over(board);
-    let mut seat = shared.seat(rt, alloc)?;
-    let work = shared.take(rt, alloc)?.run(10);
-    assert_eq!(rt;
-        shared.commit(rt, &mut seat, work),
-        CommitOutcome::Committed(10)
-    );
-    assert!(rt; shared.request(rt, alloc, &mut seat, 0, &STATUS).is_ok());
-    assert_eq!(rt;
-        shared.drain(rt, alloc, &mut seat, 0).err(),
-        Some(EngineFault::NothingDue)
-    );
+    if !is_answered(rt, alloc, &shared) {
+        return false;
+    }
+    let board = shared.into_inner();
+    board.calls == 18 && board.asked == 14 && board.book.engine().journal().len() == 12
+}
+
+// All calls, by a first seat.
+fn is_answered<L: Naming, B: Board<L>, R: Wait>(
+    rt: &R,
+    alloc: Global,
+    shared: &SharedEngine<L, B>,
+) -> bool {
+    let Ok(mut seat) = shared.seat(rt, alloc) else {
+        return false;
+    };
+    is_worked(rt, alloc, shared, &mut seat)
+        && is_requested(rt, alloc, shared, &mut seat)
+        && is_stepped(rt, shared, &mut seat)
+        && is_debugged(rt, shared, &mut seat)
+}
+
+// A work of ten instructions.
+fn is_worked<L: Naming, B: Board<L>, R: Wait>(
+    rt: &R,
+    alloc: Global,
+    shared: &SharedEngine<L, B>,
+    seat: &mut Seat<L>,
+) -> bool {
+    match shared.take(rt, alloc) {
+        Ok(ticket) => { shared.commit(rt, seat, ticket.run(10)) == CommitOutcome::Committed(10) }
+        Err(_) => false,
+    }
+}
+
+// The first two events: a request, and a drain of nothing.
+fn is_requested<L: Naming, B: Board<L>, R: Wait>(
+    rt: &R,
+    alloc: Global,
+    shared: &SharedEngine<L, B>,
+    seat: &mut Seat<L>,
+) -> bool {
+    shared.request(rt, alloc, seat, 0, &STATUS).is_ok()
+        && matches!(
+            shared.drain(rt, alloc, seat, 0),
+            Err(EngineFault::NothingDue)
+        )
+}
+
+// The events 3 to 8, single instructions, and then five at once.
+fn is_stepped<L: Naming, B: Board<L>, R: Wait>(
+    rt: &R,
+    shared: &SharedEngine<L, B>,
+    seat: &mut Seat<L>,
+) -> bool {
     for call in 3..9 {
         let wanted = if call % 3 == 0 {
             StepOutcome::JournalFull
         } else {
             StepOutcome::Ran
         };
-        assert_eq!(rt; shared.step(rt, &mut seat, 1), wanted, "event {call}");
+        if shared.step(rt, seat, 1) != wanted {
+            return false;
+        }
     }
-    assert_eq!(rt; shared.slice(rt, &mut seat, 1, 5).count, 5);
+    shared.slice(rt, seat, 1, 5).count == 5
+}
+
+// The events 9 to 14: the first and the fourth are refused as for a full journal, and the fifth
+// since the breakpoint is there.
+fn is_debugged<L: Naming, B: Board<L>, R: Wait>(
+    rt: &R,
+    shared: &SharedEngine<L, B>,
+    seat: &mut Seat<L>,
+) -> bool {
     let full = Err(DebugFault::JournalFull);
-    assert_eq!(rt; shared.trace(rt, &mut seat, 1, true), full);
-    assert_eq!(rt; shared.trace(rt, &mut seat, 1, true), Ok(()));
-    assert_eq!(rt; shared.set_break(rt, &mut seat, 1, 2), Ok(()));
-    assert_eq!(rt; shared.set_break(rt, &mut seat, 1, 2), full);
-    assert_eq!(rt;
-        shared.set_break(rt, &mut seat, 1, 2),
-        Err(DebugFault::AlreadySet)
-    );
-    assert_eq!(rt; shared.clear_break(rt, &mut seat, 1, 2), Ok(()));
-    let board = shared.into_inner();
-    assert_eq!(rt; (board.calls, board.asked), (18, 14));
-    assert_eq!(rt; board.book.engine().journal().len(), 12);
-    Ok(())
+    shared.trace(rt, seat, 1, true) == full
+        && shared.trace(rt, seat, 1, true).is_ok()
+        && shared.set_break(rt, seat, 1, 2).is_ok()
+        && shared.set_break(rt, seat, 1, 2) == full
+        && shared.set_break(rt, seat, 1, 2) == Err(DebugFault::AlreadySet)
+        && shared.clear_break(rt, seat, 1, 2).is_ok()
 }
 
 // What a gate heard of a turn: a call before and one after it, of the same seat and procedure.
-#[derive(Clone, Copy, PartialEq, Eq, Debug)]
+#[derive(Clone, Copy, PartialEq, Eq)]
 enum Heard {
     Nothing,
     // The seat, the procedure and the count.
@@ -250,31 +296,44 @@ const TURNS: [(u32, Turn, Heard); 9] = [
 // The procedure and the count of each entry that seat 2 gains.
 const GAINS: [(u16, u32); 4] = [(1, 10), (2, 1), (1, 1), (1, 3)];
 
+// Whether an entry is that of seat 2 for this procedure and count.
+fn is_gain(entry: &Entry, gain: (u16, u32)) -> bool {
+    match entry {
+        Entry::Steps { by, id, count, .. } => *by == 2 && *id == gain.0 && *count == gain.1,
+        _ => false,
+    }
+}
+
 // Whether seat 2 has the receipts of these.
 fn is_receipted<L: Naming>(seat: &Seat<L>) -> bool {
     let receipts = seat.receipts();
-    receipts.len() == GAINS.len()
-        && receipts.iter().zip(GAINS.iter()).all(|(entry, gain)| match entry {
-            Entry::Steps { by, id, count, .. } => *by == 2 && (*id, *count) == *gain,
-            _ => false,
-        })
+    if receipts.len() != GAINS.len() {
+        return false;
+    }
+    for (entry, gain) in receipts.iter().zip(GAINS) {
+        if !is_gain(entry, gain) {
+            return false;
+        }
+    }
+    true
 }
 
 #[test]
-fn turns_answer_and_tell_their_gate(rt: HostRuntime) -> Result<(), Fail> {
-    let mut engine = Engine::new(rt.alloc(), Profile::One, 0x123, 16, 100)?;
-    assert!(rt; takes_loops(rt.alloc(), &mut engine, 2));
+fn turns_answer_and_tell_their_gate(rt: HostRuntime) {
+    assert!(rt; are_told(&rt, rt.alloc()));
+}
+
+// Whether the turns on a new engine are answered and told so.
+fn are_told<R: Wait>(rt: &R, alloc: Global) -> bool {
+    let Some(engine) = with_loops(alloc, 100, 2) else {
+        return false;
+    };
     let _length = engine.journal().len();
-    by_script::<Brand, _>(&rt, rt.alloc(), engine, Blank::new(65))
+    by_script::<Brand, _>(rt, alloc, engine, Blank::new(65))
 }
 
 // The turns of seat 2 over a board that meets them so.
-fn by_script<L: Naming, R: Wait + Abort>(
-    rt: &R,
-    alloc: Global,
-    engine: Engine,
-    blank: Blank,
-) -> Result<(), Fail>
+fn by_script<L: Naming, R: Wait>(rt: &R, alloc: Global, engine: Engine, blank: Blank) -> bool
     requires name { blank.name ≡ L.name }
     requires parts { blank.parts ≡ L.parts }
     requires seats { blank.parts ≡ 65 }
@@ -283,16 +342,38 @@ fn by_script<L: Naming, R: Wait + Abort>(
 {
     let taken = AtomicU64::new(0);
     let board = Counting::new(Book::<L>::new(engine, blank), &MEETS, &taken);
-    let shared = SharedEngine::over(board);
-    let _one = shared.seat(rt, alloc)?;
-    let mut two = shared.seat(rt, alloc)?;
+    are_met(rt, alloc, &SharedEngine::over(board))
+}
+
+// The turns of the second of two seats, and its receipts.
+fn are_met<L: Naming, B: Board<L>, R: Wait>(
+    rt: &R,
+    alloc: Global,
+    shared: &SharedEngine<L, B>,
+) -> bool {
+    let (Ok(_one), Ok(mut two)) = (shared.seat(rt, alloc), shared.seat(rt, alloc)) else {
+        return false;
+    };
     for (budget, wanted, heard) in TURNS {
-        let gate = Listening {
-            heard: Cell::new(Heard::Nothing),
-        };
-        let turn = shared.turn(rt, alloc, &mut two, budget, &gate);
-        assert_eq!(rt; (turn, gate.heard.get()), (wanted, heard));
+        if !is_met(rt, alloc, shared, &mut two, budget, wanted, heard) {
+            return false;
+        }
     }
-    assert!(rt; is_receipted(&two));
-    Ok(())
+    is_receipted(&two)
+}
+
+// Whether a turn answers so, and its gate hears so.
+fn is_met<L: Naming, B: Board<L>, R: Wait>(
+    rt: &R,
+    alloc: Global,
+    shared: &SharedEngine<L, B>,
+    seat: &mut Seat<L>,
+    budget: u32,
+    wanted: Turn,
+    heard: Heard,
+) -> bool {
+    let gate = Listening {
+        heard: Cell::new(Heard::Nothing),
+    };
+    shared.turn(rt, alloc, seat, budget, &gate) == wanted && gate.heard.get() == heard
 }

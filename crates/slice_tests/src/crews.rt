@@ -1,38 +1,56 @@
 //! Workers: one thread for each seat.
 
-ghost use Rattle.std.specs.Prelude.{◌≡◌, ◌+◌, length};
+ghost use Rattle.std.specs.Prelude.{◌≡◌, ◌≤◌, ◌+◌, length};
 
-use crate::packets::{STATUS, activate_loop, is_done, suspend_loop, takes_loops};
+use crate::packets::{STATUS, activate_loop, is_done, is_taken, suspend_loop, with_loops};
 use ocp_core::replay_one;
-use ocp_profile::Profile;
-use ocp_slices::{CommitOutcome, Engine, Gate, Naming, Open, Seat, SharedEngine, work};
-use std::alloc::{AllocError, Global};
+use ocp_slices::{
+    CommitOutcome, Engine, Gate, Naming, Open, Seat, SharedEngine, StepOutcome, work,
+};
+use std::alloc::Global;
 use std::marker::Brand;
-use std::process::Abort;
 use std::sync::Wait;
 use std::sync::atomic::{AtomicU64, Ordering};
 use std::sync::ledger::Blank;
-use std::test::Fail;
 use std::thread;
 use std::thread::Threads;
 
 const LIMIT: u32 = 1_000_000_000;
 
-#[test]
-fn three_loops_end_under_any_number_of_workers(rt: HostRuntime) -> Result<(), Fail> {
-    for workers in [1, 2, 16] {
-        let mut engine = Engine::new(rt.alloc(), Profile::One, 0x123, 16, 10_000)?;
-        assert!(rt; takes_loops(rt.alloc(), &mut engine, 3));
-        let engine = work(&rt, rt.alloc(), engine, workers, 100, 1000, &Open)?;
-        for id in 1..4 {
-            assert!(rt;
-                is_done(engine.view(id)),
-                "{workers} workers, procedure {id}"
-            );
+// A new engine with loops, on which so many workers made that number of turns.
+fn worked<R: Threads + Wait + Sync, G: Gate + Sync>(
+    rt: &R,
+    alloc: Global,
+    loops: u8,
+    workers: u16,
+    turns: u32,
+    gate: &G,
+) -> Option<Engine>
+    requires loops { loops ≤ 16 }
+    requires workers { workers ≤ 64 }
+{
+    let engine = with_loops(alloc, 10_000, loops)?;
+    work(rt, alloc, engine, workers, 100, turns, gate).ok()
+}
+
+// Whether three loops are at their end, after so many events.
+fn are_done(engine: Option<Engine>) -> bool {
+    match engine {
+        Some(engine) => {
+            is_done(engine.view(1))
+                && is_done(engine.view(2))
+                && is_done(engine.view(3))
+                && engine.events() == 3_006
         }
-        assert_eq!(rt; engine.events(), 3_006);
+        None => false,
     }
-    Ok(())
+}
+
+#[test]
+fn three_loops_end_under_any_number_of_workers(rt: HostRuntime) {
+    assert!(rt; are_done(worked(&rt, rt.alloc(), 3, 1, 1000, &Open)));
+    assert!(rt; are_done(worked(&rt, rt.alloc(), 3, 2, 1000, &Open)));
+    assert!(rt; are_done(worked(&rt, rt.alloc(), 3, 16, 1000, &Open)));
 }
 
 // Holds each seat's first call until the other's has begun, and seat 1's on until a commit of seat 2 was answered.
@@ -87,17 +105,22 @@ impl Gate for Meeting {
     }
 }
 
-#[test]
-fn two_workers_run_at_once(rt: HostRuntime) -> Result<(), Fail> {
-    let mut engine = Engine::new(rt.alloc(), Profile::One, 0x123, 16, 10_000)?;
-    assert!(rt; takes_loops(rt.alloc(), &mut engine, 2));
-    let gate = Meeting::new();
-    let engine = work(&rt, rt.alloc(), engine, 2, 100, 5, &gate)?;
-    assert_eq!(rt; gate.missed.load(Ordering::SeqCst), 0);
+// Whether there were more than four events, and the two seats met at two procedures.
+fn are_met(engine: Option<Engine>, gate: &Meeting) -> bool {
     let [one, two] = &gate.first;
-    assert!(rt; one.load(Ordering::SeqCst) != two.load(Ordering::SeqCst));
-    assert!(rt; engine.events() > 4);
-    Ok(())
+    let is_met = gate.missed.load(Ordering::SeqCst) == 0
+        && one.load(Ordering::SeqCst) != two.load(Ordering::SeqCst);
+    match engine {
+        Some(engine) => is_met && engine.events() > 4,
+        None => false,
+    }
+}
+
+#[test]
+fn two_workers_run_at_once(rt: HostRuntime) {
+    let gate = Meeting::new();
+    let engine = worked(&rt, rt.alloc(), 2, 2, 5, &gate);
+    assert!(rt; are_met(engine, &gate));
 }
 
 // Holds each call until as many have begun as there are seats. Each of these is another seat's, since no seat goes on before.
@@ -123,46 +146,50 @@ impl Gate for Gathering {
     fn after(&self, _seat: u16, _id: u16, _outcome: CommitOutcome) {}
 }
 
-#[test]
-fn each_seat_has_a_thread_of_its_own(rt: HostRuntime) -> Result<(), Fail> {
-    for workers in [3, 16] {
-        let mut engine = Engine::new(rt.alloc(), Profile::One, 0x123, 16, 10_000)?;
-        assert!(rt; takes_loops(rt.alloc(), &mut engine, 16));
-        let gate = Gathering {
-            seats: u64::from(workers),
-            begun: AtomicU64::new(0),
-            missed: AtomicU64::new(0),
-        };
-        let _engine = work(&rt, rt.alloc(), engine, workers, 100, 2, &gate)?;
-        let (begun, missed) = (
-            gate.begun.load(Ordering::SeqCst),
-            gate.missed.load(Ordering::SeqCst),
-        );
-        assert_eq!(rt; (begun, missed), (2 * u64::from(workers), 0));
-    }
-    Ok(())
+// Whether so many seats each had a thread of its own.
+fn are_gathered<R: Threads + Wait + Sync>(rt: &R, alloc: Global, workers: u16) -> bool
+    requires { workers ≤ 64 }
+{
+    let gate = Gathering {
+        seats: u64::from(workers),
+        begun: AtomicU64::new(0),
+        missed: AtomicU64::new(0),
+    };
+    worked(rt, alloc, 16, workers, 2, &gate).is_some()
+        && gate.begun.load(Ordering::SeqCst) == 2 * u64::from(workers)
+        && gate.missed.load(Ordering::SeqCst) == 0
 }
 
 #[test]
-fn sixteen_workers_with_all_calls_between(rt: HostRuntime) -> Result<(), Fail> {
-    let mut engine = Engine::new(rt.alloc(), Profile::One, 0x123, 16, 4_000)?;
-    assert!(rt; takes_loops(rt.alloc(), &mut engine, 16));
+fn each_seat_has_a_thread_of_its_own(rt: HostRuntime) {
+    assert!(rt; are_gathered(&rt, rt.alloc(), 3));
+    assert!(rt; are_gathered(&rt, rt.alloc(), 16));
+}
+
+#[test]
+fn sixteen_workers_with_all_calls_between(rt: HostRuntime) {
+    assert!(rt; are_mixed(&rt, rt.alloc()));
+}
+
+// Whether sixteen seats leave over 500 entries, and the machines that these have.
+fn are_mixed<R: Threads + Wait + Sync>(rt: &R, alloc: Global) -> bool {
+    let Some(engine) = with_loops(alloc, 4_000, 16) else {
+        return false;
+    };
     let _length = engine.journal().len();
-    let engine = mixed::<Brand, _>(&rt, rt.alloc(), engine, Blank::new(65))?;
-    assert!(rt; engine.journal().len() > 500);
-    for id in 1..18 {
-        assert!(rt; is_shown(rt.alloc(), &engine, id)?, "procedure {id}");
+    match mixed::<Brand, _>(rt, alloc, engine, Blank::new(65)) {
+        Some(engine) => engine.journal().len() > 500 && are_shown(alloc, &engine),
+        None => false,
     }
-    Ok(())
 }
 
 // Sixteen seats, each with a thread that makes turns and all other calls between them; then all are closed.
-fn mixed<L: Naming + Send + Sync, R: Threads + Wait + Abort + Sync>(
+fn mixed<L: Naming + Send + Sync, R: Threads + Wait + Sync>(
     rt: &R,
     alloc: Global,
     engine: Engine,
     blank: Blank,
-) -> Result<Engine, Fail>
+) -> Option<Engine>
     requires name { blank.name ≡ L.name }
     requires parts { blank.parts ≡ L.parts }
     requires seats { blank.parts ≡ 65 }
@@ -170,68 +197,93 @@ fn mixed<L: Naming + Send + Sync, R: Threads + Wait + Abort + Sync>(
     requires log { L.log ≡ engine }
 {
     let shared = SharedEngine::<L>::new(engine, blank);
-    let mut seats = Vec::with_capacity(alloc, 16)?;
-    for _seat in 0..16 {
-        seats
-            .push(shared.seat(rt, alloc)?)
-            .map_err(AllocError::from)?;
-    }
+    let mut seats = sixteen(rt, alloc, &shared)?;
     thread::for_each_mut(
         rt,
         seats.as_mut_slice(),
         16,
         &|_, seat| calls(rt, alloc, &shared, seat),
     );
-    match shared.close(seats) {
-        Ok(engine) => Ok(engine),
-        Err(_refused) => Err(Fail::new("not closed")),
+    shared.close(seats).ok()
+}
+
+// Sixteen seats.
+fn sixteen<L: Naming, R: Wait>(
+    rt: &R,
+    alloc: Global,
+    shared: &SharedEngine<L>,
+) -> Option<Vec<Seat<L>>> {
+    let mut seats = Vec::with_capacity(alloc, 16).ok()?;
+    for _seat in 0..16 {
+        seats.push(shared.seat(rt, alloc).ok()?).ok()?;
     }
+    Some(seats)
 }
 
 // Turns of a seat, each behind a call that meets another procedure.
 fn calls<L: Naming, R: Wait>(rt: &R, alloc: Global, shared: &SharedEngine<L>, seat: &mut Seat<L>) {
     for round in 0..48 {
         let id = (seat.number().wrapping_add(round) % 16) as u8 + 1;
-        call(rt, alloc, shared, seat, round % 10, id);
+        let _ = is_called(rt, alloc, shared, seat, round % 10, id);
         shared.turn(rt, alloc, seat, 100, &Open);
     }
 }
 
-fn call<L: Naming, R: Wait>(
+// A call of the debugger, or an instruction: whether it is answered.
+fn is_debugged<L: Naming, R: Wait>(
+    rt: &R,
+    shared: &SharedEngine<L>,
+    seat: &mut Seat<L>,
+    kind: u16,
+    id: u16,
+) -> bool {
+    match kind {
+        0 => shared.set_break(rt, seat, id, 2).is_ok(),
+        2 => shared.trace(rt, seat, id, true).is_ok(),
+        4 => shared.clear_break(rt, seat, id, 2).is_ok(),
+        5 => shared.trace(rt, seat, id, false).is_ok(),
+        _ => shared.step(rt, seat, id) == StepOutcome::Ran,
+    }
+}
+
+// A call of one of ten kinds: whether it is answered.
+fn is_called<L: Naming, R: Wait>(
     rt: &R,
     alloc: Global,
     shared: &SharedEngine<L>,
     seat: &mut Seat<L>,
     kind: u16,
     id: u8,
-) {
-    let activate = activate_loop(id);
-    let suspend = suspend_loop(id);
-    let id = u16::from(id);
+) -> bool {
     match kind {
-        0 => drop(shared.set_break(rt, seat, id, 2)),
-        1 => drop(shared.request(rt, alloc, seat, 0, &STATUS)),
-        2 => drop(shared.trace(rt, seat, id, true)),
-        3 => drop(shared.slice(rt, seat, id, 10)),
-        4 => drop(shared.clear_break(rt, seat, id, 2)),
-        5 => drop(shared.trace(rt, seat, id, false)),
-        6 => drop(shared.request(rt, alloc, seat, 0, &activate)),
-        7 => drop(shared.request(rt, alloc, seat, 0, &suspend)),
-        8 => drop(shared.drain(rt, alloc, seat, 0)),
-        _ => drop(shared.step(rt, seat, id)),
+        1 => is_taken(rt, alloc, shared, seat, &STATUS),
+        3 => shared.slice(rt, seat, u16::from(id), 10).count > 0,
+        6 => is_taken(rt, alloc, shared, seat, &activate_loop(id)),
+        7 => is_taken(rt, alloc, shared, seat, &suspend_loop(id)),
+        8 => shared.drain(rt, alloc, seat, 0).is_ok(),
+        _ => is_debugged(rt, shared, seat, kind, u16::from(id)),
     }
 }
 
+// Whether the machine of each procedure by itself is the one that the engine shows.
+fn are_shown(alloc: Global, engine: &Engine) -> bool {
+    for id in 1..18 {
+        if !is_shown(alloc, engine, id) {
+            return false;
+        }
+    }
+    true
+}
+
 // Whether the machine of a procedure by itself, from the journal, is the one that the engine shows, or there is none of either.
-fn is_shown(alloc: Global, engine: &Engine, id: u16) -> Result<bool, AllocError> {
-    let machine = replay_one(alloc, engine.journal(), id)?;
-    Ok(match (machine, engine.view(id)) {
-        (Some(machine), Some(view)) => {
+fn is_shown(alloc: Global, engine: &Engine, id: u16) -> bool {
+    match (replay_one(alloc, engine.journal(), id), engine.view(id)) {
+        (Ok(Some(machine)), Some(view)) => {
             machine.registers() == view.registers
                 && machine.place() == view.place
                 && machine.depth() == view.depth
         }
-        (None, None) => true,
+        (Ok(None), None) => true,
         _ => false,
-    })
+    }
 }

@@ -3,13 +3,12 @@
 
 ghost use Rattle.std.specs.Prelude.{◌≤◌};
 
-use ocp_slices::{CloseFault, Engine, Naming, Seat, SharedEngine, StillShared};
+use ocp_profile::Profile;
+use ocp_slices::{Engine, Naming, Seat, SharedEngine};
 use ocp_table::{Cause, Status, View};
 use pus_fields::crc16;
-use std::alloc::{AllocError, Global};
-use std::process::Abort;
+use std::alloc::Global;
 use std::sync::Wait;
-use std::test::Fail;
 
 // A request for the status report by source 7, with the flags acceptance and completion.
 pub(crate) const STATUS: [u8; 13] = [
@@ -74,18 +73,35 @@ fn of_loop(mut packet: [u8; 17], id: u8) -> [u8; 17] {
     packet
 }
 
-// Whether an engine takes all these packets of seat 0.
-pub(crate) fn takes(alloc: Global, engine: &mut Engine, packets: &[&[u8]]) -> bool {
-    packets
-        .iter()
-        .all(|octets| engine.request(alloc, 0, 0, octets).is_ok())
+// Whether an engine takes a packet of seat 0.
+pub(crate) fn takes(alloc: Global, engine: &mut Engine, octets: &[u8]) -> bool {
+    engine.request(alloc, 0, 0, octets).is_ok()
 }
 
 // Whether an engine takes the loops with the ids 1 to a number, each loaded and activated.
-pub(crate) fn takes_loops(alloc: Global, engine: &mut Engine, count: u8) -> bool
+fn takes_loops(alloc: Global, engine: &mut Engine, count: u8) -> bool
     requires { count ≤ 16 }
 {
-    (1..count + 1).all(|id| takes(alloc, engine, &[&load_loop(id), &activate_loop(id)]))
+    for id in 1..count + 1 {
+        if !takes(alloc, engine, &load_loop(id)) || !takes(alloc, engine, &activate_loop(id)) {
+            return false;
+        }
+    }
+    true
+}
+
+// A new engine with room for so many entries that took the loops with the ids 1 to a number.
+pub(crate) fn with_loops(alloc: Global, capacity: u32, count: u8) -> Option<Engine>
+    requires capacity_from { 1 ≤ capacity }
+    requires capacity_to { capacity ≤ 10000 }
+    requires count { count ≤ 16 }
+{
+    let mut engine = Engine::new(alloc, Profile::One, 0x123, 16, capacity).ok()?;
+    if takes_loops(alloc, &mut engine, count) {
+        Some(engine)
+    } else {
+        None
+    }
 }
 
 // Whether a procedure is shown as a loop at its end.
@@ -110,31 +126,4 @@ pub(crate) fn is_taken<L: Naming, R: Wait>(
     octets: &[u8],
 ) -> bool {
     shared.request(rt, alloc, seat, 0, octets).is_ok()
-}
-
-// The engine that one or two seats shared: it is closed with them, and not before.
-pub(crate) fn closes<L: Naming, R: Abort>(
-    rt: &R,
-    alloc: Global,
-    shared: SharedEngine<L>,
-    one: Seat<L>,
-    two: Option<Seat<L>>,
-) -> Result<Engine, Fail> {
-    let Err(refused) = shared.close(Vec::new(alloc)) else {
-        return Err(Fail::new("closed with no seat"));
-    };
-    let StillShared {
-        why,
-        shared,
-        mut seats,
-    } = refused;
-    assert_eq!(rt; why, CloseFault::MissingSeat);
-    if let Some(two) = two {
-        seats.push(two).map_err(AllocError::from)?;
-    }
-    seats.push(one).map_err(AllocError::from)?;
-    match shared.close(seats) {
-        Ok(engine) => Ok(engine),
-        Err(_refused) => Err(Fail::new("not closed with the seats")),
-    }
 }

@@ -3,31 +3,36 @@
 ghost use Rattle.std.specs.Prelude.{◌≡◌, ◌+◌, length};
 
 use crate::boards::Counting;
-use crate::packets::{STATUS, activate_loop, closes, is_taken, load_long, takes, takes_loops};
-use ocp_profile::Profile;
+use crate::packets::{STATUS, activate_loop, is_taken, load_long, takes, with_loops};
 use ocp_slices::{
-    Board, Book, CommitOutcome, Engine, Gate, Naming, Seat, SharedEngine, StepOutcome, Turn,
+    Board, Book, CloseFault, CommitOutcome, Engine, Gate, Naming, Seat, SharedEngine, StepOutcome,
+    StillShared, Turn,
 };
 use std::alloc::Global;
 use std::marker::Brand;
-use std::process::Abort;
 use std::sync::Wait;
 use std::sync::atomic::{AtomicU64, Ordering};
 use std::sync::ledger::Blank;
-use std::test::Fail;
 use std::thread;
 use std::thread::Threads;
 
 const LIMIT: u32 = 1_000_000_000;
 
 #[test]
-fn two_threads_wait_for_each_other(rt: HostRuntime) -> Result<(), Fail> {
-    let mut engine = Engine::new(rt.alloc(), Profile::One, 0x123, 16, 100)?;
-    assert!(rt; takes_loops(rt.alloc(), &mut engine, 1));
+fn two_threads_wait_for_each_other(rt: HostRuntime) {
+    assert!(rt; are_waited_for(&rt, rt.alloc()));
+}
+
+// Whether two threads step a loop, each while the other one waits for it.
+fn are_waited_for<R: Threads + Wait + Sync>(rt: &R, alloc: Global) -> bool {
+    let Some(engine) = with_loops(alloc, 100, 1) else {
+        return false;
+    };
     let _length = engine.journal().len();
-    let engine = both::<Brand, _>(&rt, rt.alloc(), engine, Blank::new(65))?;
-    assert_eq!(rt; engine.events(), 5);
-    Ok(())
+    match both::<Brand, _>(rt, alloc, engine, Blank::new(65)) {
+        Some(engine) => engine.events() == 5,
+        None => false,
+    }
 }
 
 // One step, and then a wait until the other thread's first step was answered.
@@ -49,12 +54,12 @@ fn step_and_wait<L: Naming, R: Wait>(
 }
 
 // Each thread's first step is answered while the other one waits for it; one seat makes a request besides.
-fn both<L: Naming + Send + Sync, R: Threads + Wait + Abort + Sync>(
+fn both<L: Naming + Send + Sync, R: Threads + Wait + Sync>(
     rt: &R,
     alloc: Global,
     engine: Engine,
     blank: Blank,
-) -> Result<Engine, Fail>
+) -> Option<Engine>
     requires name { blank.name ≡ L.name }
     requires parts { blank.parts ≡ L.parts }
     requires seats { blank.parts ≡ 65 }
@@ -62,17 +67,61 @@ fn both<L: Naming + Send + Sync, R: Threads + Wait + Abort + Sync>(
     requires log { L.log ≡ engine }
 {
     let shared = SharedEngine::<L>::new(engine, blank);
-    let mut one = shared.seat(rt, alloc)?;
-    let mut two = shared.seat(rt, alloc)?;
+    let mut one = shared.seat(rt, alloc).ok()?;
+    let mut two = shared.seat(rt, alloc).ok()?;
+    if step_at_once(rt, &shared, &mut one, &mut two)
+        && is_taken(rt, alloc, &shared, &mut two, &STATUS)
+    {
+        closed(alloc, shared, one, two)
+    } else {
+        None
+    }
+}
+
+// Whether the first step of each of two seats, in a thread of its own, meets the other's.
+fn step_at_once<L: Naming + Send + Sync, R: Threads + Wait + Sync>(
+    rt: &R,
+    shared: &SharedEngine<L>,
+    one: &mut Seat<L>,
+    two: &mut Seat<L>,
+) -> bool {
     let (first, second) = (AtomicU64::new(0), AtomicU64::new(0));
     let (met, also) = thread::join(
         rt,
-        || step_and_wait(rt, &shared, &mut one, &first, &second),
-        || step_and_wait(rt, &shared, &mut two, &second, &first),
+        || step_and_wait(rt, shared, one, &first, &second),
+        || step_and_wait(rt, shared, two, &second, &first),
     );
-    assert!(rt; met && also);
-    assert!(rt; is_taken(rt, alloc, &shared, &mut two, &STATUS));
-    closes(rt, alloc, shared, one, Some(two))
+    met && also
+}
+
+// The engine that two seats shared: it is closed with them, and not before.
+fn closed<L: Naming>(
+    alloc: Global,
+    shared: SharedEngine<L>,
+    one: Seat<L>,
+    two: Seat<L>,
+) -> Option<Engine> {
+    let (shared, mut seats) = refused(shared, Vec::new(alloc))?;
+    seats.push(two).ok()?;
+    seats.push(one).ok()?;
+    shared.close(seats).ok()
+}
+
+// A shared engine that is not closed, since a seat is missing, and the seats that were handed in.
+fn refused<L: Naming>(
+    shared: SharedEngine<L>,
+    seats: Vec<Seat<L>>,
+) -> Option<(SharedEngine<L>, Vec<Seat<L>>)> {
+    match shared.close(seats) {
+        Err(
+            StillShared {
+                why: CloseFault::MissingSeat,
+                shared,
+                seats,
+            },
+        ) => Some((shared, seats)),
+        _ => None,
+    }
 }
 
 // The budgets of seat 1's one turn, one after another, until seat 2 makes all its turns meanwhile.
@@ -128,17 +177,31 @@ impl Gate for Watch {
 }
 
 #[test]
-fn no_lock_is_held_while_a_ticket_runs(rt: HostRuntime) -> Result<(), Fail> {
+fn no_lock_is_held_while_a_ticket_runs(rt: HostRuntime) {
+    assert!(rt; is_met_by_a_budget(&rt, rt.alloc()));
+}
+
+// Whether seat 2 makes all its turns while a ticket runs that has one of the budgets.
+fn is_met_by_a_budget<R: Threads + Wait + Sync>(rt: &R, alloc: Global) -> bool {
     for budget in BUDGETS {
-        let mut engine = Engine::new(rt.alloc(), Profile::One, 0x123, 16, 100)?;
-        let packets: [&[u8]; 2] = [&load_long(), &activate_loop(1)];
-        assert!(rt; takes(rt.alloc(), &mut engine, &packets));
-        let _length = engine.journal().len();
-        if meanwhile::<Brand, _>(&rt, rt.alloc(), engine, Blank::new(65), budget)? {
-            return Ok(());
+        match is_met(rt, alloc, budget) {
+            Some(false) => {}
+            Some(true) => return true,
+            None => return false,
         }
     }
-    Err(Fail::new("a ticket ran, and no turns were made meanwhile"))
+    false
+}
+
+// Whether the turns of seat 2 on a new engine were all made meanwhile: none where the work of seat
+// 1 was not stale then.
+fn is_met<R: Threads + Wait + Sync>(rt: &R, alloc: Global, budget: u32) -> Option<bool> {
+    let mut engine = with_loops(alloc, 100, 0)?;
+    if !takes(alloc, &mut engine, &load_long()) || !takes(alloc, &mut engine, &activate_loop(1)) {
+        return None;
+    }
+    let _length = engine.journal().len();
+    meanwhile::<Brand, _>(rt, alloc, engine, Blank::new(65), budget)
 }
 
 // Turns of seat 2, once a ticket was taken.
@@ -176,13 +239,13 @@ fn at_once<L: Naming + Send + Sync, B: Board<L> + Send, R: Threads + Wait + Sync
 }
 
 // Whether all turns of seat 2 came after seat 1 took its ticket, and were answered before it had run; seat 1's work is stale then.
-fn meanwhile<L: Naming + Send + Sync, R: Threads + Wait + Abort + Sync>(
+fn meanwhile<L: Naming + Send + Sync, R: Threads + Wait + Sync>(
     rt: &R,
     alloc: Global,
     engine: Engine,
     blank: Blank,
     budget: u32,
-) -> Result<bool, Fail>
+) -> Option<bool>
     requires name { blank.name ≡ L.name }
     requires parts { blank.parts ≡ L.parts }
     requires seats { blank.parts ≡ 65 }
@@ -197,10 +260,12 @@ fn meanwhile<L: Naming + Send + Sync, R: Threads + Wait + Abort + Sync>(
     };
     let board = Counting::new(Book::<L>::new(engine, blank), &[], &watch.taken);
     let shared = SharedEngine::over(board);
-    let mut one = shared.seat(rt, alloc)?;
-    let mut two = shared.seat(rt, alloc)?;
+    let mut one = shared.seat(rt, alloc).ok()?;
+    let mut two = shared.seat(rt, alloc).ok()?;
     let turn = at_once(rt, alloc, &shared, &mut one, &mut two, budget, &watch);
     let met = watch.met.load(Ordering::SeqCst) == u64::from(TURNS);
-    assert!(rt; !met || turn == Turn::Stale);
-    Ok(met)
+    if met && turn != Turn::Stale {
+        return None;
+    }
+    Some(met)
 }

@@ -1,5 +1,5 @@
 use Rattle.std.proofs.Common.{◌-◌, length}
-use Rattle.slice_tests.proofs.pairs.no_lock_is_held_while_a_ticket_runs.Given as goal
+use Rattle.slice_tests.proofs.pairs.is_met.Given as goal
 
 abbrev pub ghosts-meanwhile-L-Ledger : goal.ghosts-meanwhile-L-Ledger
 ghosts-meanwhile-L-Ledger g a = record { name = a.blank.name; parts = a.blank.parts }
