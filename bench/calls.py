@@ -1,22 +1,22 @@
-"""Proves and builds crates/bench_calls, a program that times single calls of the library, and reads what it prints."""
+"""Proves and builds crates/lib_driver, which times single calls of the library, and reads what it prints."""
 import os
 import subprocess
 
 ROOT = os.path.dirname(os.path.dirname(os.path.abspath(__file__)))
-CRATE = f"{ROOT}/crates/bench_calls"
-BELOW = f"{ROOT}/crates/ocp_core/out"
+CRATE = f"{ROOT}/crates/lib_driver"
+BELOW = f"{ROOT}/crates/ocp_seats/out"
 
 
 def built():
-    """Proves the program where it is not proved yet, and gives its path; or None where the engine below it is not proved."""
+    """Proves the program where it is not proved yet, and gives its path; or None where the seats below it are not proved."""
     if not os.path.isdir(BELOW):
-        print("calls: skipped, ocp_core is not proved yet")
+        print("calls: skipped, ocp_seats is not proved yet")
         return None
     made = subprocess.run(["rt", "run"], cwd=CRATE, stdin=subprocess.DEVNULL, capture_output=True, text=True, check=False)
     if made.returncode:
         print(f"calls: skipped, not proved:\n{made.stdout}{made.stderr}")
         return None
-    return f"{CRATE}/out/bench_calls"
+    return f"{CRATE}/out/lib_driver"
 
 
 def nanoseconds(program, rounds):

@@ -2,12 +2,12 @@
 
 ghost use Rattle.std.specs.Prelude.{◌+◌, ◌*◌, ◌≤◌, length, IsTrue};
 
+use crate::lines::{Both, Fault, Named, Octets, Text, number, octets, text_of};
 use bpf_canonical::{Mnemonic, Stem, read_mnemonic};
 use bpf_decode::{Slots, decode_at, encode};
 use bpf_listing::{disassemble, line_text};
 use bpf_text::{LineFault, TextLine};
 use bpf_types::Line;
-use call_lines::{Both, Fault, Named, Octets, Text, number, octets, text_of};
 use std::alloc::Global;
 
 /// The octets of a slot.

@@ -1,6 +1,6 @@
 //! Calls of ocp_words.
 
-use call_lines::{Both, Fault, Numbers, text_of};
+use crate::lines::{Both, Fault, text_of};
 use ocp_words::{Job, Settings, WordsFault, read_words};
 use std::alloc::Global;
 
@@ -29,11 +29,7 @@ fn show(alloc: Global, job: Job) -> Result<String, Fault> {
 }
 
 fn show_settings(alloc: Global, settings: &Settings) -> Result<String, Fault> {
-    let numbers = [
-        settings.profile.number().into(),
-        settings.apid.into(),
-        settings.pool_words.into(),
-        settings.capacity.into(),
-    ];
-    text_of(alloc, Both("Run", Numbers(&numbers)))
+    let first = Both(settings.profile.number(), settings.apid);
+    let second = Both(settings.pool_words, settings.capacity);
+    text_of(alloc, Both("Run", Both(first, second)))
 }

@@ -1,7 +1,7 @@
 //! Calls of obcp_types and of verification.
 
+use crate::lines::{Both, Fault, Named, add_text, dash_if_empty, number, text_of, value_of};
 use bitflags::Flags;
-use call_lines::{Both, Fault, Named, Numbers, add_text, dash_if_empty, number, text_of, value_of};
 use obcp_types::{AcceptanceFailure, CompletionFailure, RequestFault, StartFailure};
 use pus_fields::{Ack, Rejection};
 use std::alloc::Global;
@@ -45,27 +45,20 @@ const COMPLETION: &[(&str, CompletionFailure)] = &[("Overtaken", CompletionFailu
 /// The answer of a call.
 pub(crate) fn answer(alloc: Global, name: &str, words: &[&str]) -> Result<String, Fault> {
     match name {
-        "obcp_types.acceptance_code" => acceptance_code(alloc, words),
-        "obcp_types.start_code" => text_of(alloc, start_failure(words)?.code()),
-        "obcp_types.completion_code" => completion_code(alloc, words),
         "verification.completion" => show_completion(alloc, words),
         "verification.notices" => show_notices(alloc, words),
-        _ => Err(Fault::Syntax),
+        _ => text_of(alloc, code_of(name, words)?),
     }
 }
 
-fn acceptance_code(alloc: Global, words: &[&str]) -> Result<String, Fault> {
-    let [name] = *words else {
-        return Err(Fault::Syntax);
-    };
-    text_of(alloc, value_of(ACCEPTANCE, name)?.code())
-}
-
-fn completion_code(alloc: Global, words: &[&str]) -> Result<String, Fault> {
-    let [name] = *words else {
-        return Err(Fault::Syntax);
-    };
-    text_of(alloc, value_of(COMPLETION, name)?.code())
+/// The code of a failure in words.
+fn code_of(name: &str, words: &[&str]) -> Result<u16, Fault> {
+    match (name, words) {
+        ("obcp_types.acceptance_code", [failure]) => Ok(value_of(ACCEPTANCE, failure)?.code()),
+        ("obcp_types.completion_code", [failure]) => Ok(value_of(COMPLETION, failure)?.code()),
+        ("obcp_types.start_code", failure) => Ok(start_failure(failure)?.code()),
+        _ => Err(Fault::Syntax),
+    }
 }
 
 fn flags(word: &str) -> Result<Ack, Fault> {
@@ -119,8 +112,7 @@ fn show_acceptance(alloc: Global, failure: AcceptanceFailure) -> Result<String, 
 fn show_start(alloc: Global, failure: StartFailure) -> Result<String, Fault> {
     match failure {
         StartFailure::BadCode { fault, slot } => {
-            let numbers = [fault.into(), slot.into()];
-            text_of(alloc, Both("NotStarted BadCode", Numbers(&numbers)))
+            text_of(alloc, Both("NotStarted BadCode", Both(fault, slot)))
         }
         failure => text_of(alloc, Both("NotStarted", Named(failure))),
     }

@@ -1,8 +1,8 @@
 //! Calls of pus_fields.
 
+use crate::lines::{Both, Fault, Named, Octets, number, octets, text_of};
 use crate::packets::{apid_of, count_of, show_written};
 use bitflags::Flags;
-use call_lines::{Both, Fault, Named, Numbers, Octets, number, octets, text_of};
 use pus_fields::{Ack, Tc, TcFault, Tm, crc16, read_tc, read_tm, write_tc, write_tm};
 use space_packet::IDLE_APID;
 use std::alloc::Global;
@@ -50,20 +50,16 @@ fn read_telecommand(alloc: Global, number: &str, packet: &[u8]) -> Result<String
 
 fn show_telecommand(alloc: Global, tc: &Tc) -> Result<String, Fault> {
     let id = tc.id();
-    let numbers = telecommand_numbers(tc);
-    let fields = Both(Numbers(&numbers), Octets(tc.payload()));
+    let origin = Both(tc.apid().number(), tc.count().number());
+    let kind = Both(tc.ack().bits(), Both(tc.service(), tc.subtype()));
+    let rest = Both(tc.source(), Octets(tc.payload()));
+    let fields = Both(Both(origin, kind), rest);
     text_of(alloc, Both("Ok", Both(Octets(&id), fields)))
 }
 
-fn telecommand_numbers(tc: &Tc) -> [u64; 6] {
-    [
-        tc.apid().number().into(),
-        tc.count().number().into(),
-        tc.ack().bits().into(),
-        tc.service().into(),
-        tc.subtype().into(),
-        tc.source().into(),
-    ]
+/// The service and the subtype of these words.
+fn kind_of(service: &str, subtype: &str) -> Result<(u8, u8), Fault> {
+    Ok((number(service)?, number(subtype)?))
 }
 
 /// Writes the telecommand of these words and this data behind the octets.
@@ -84,32 +80,17 @@ fn telecommand_of<'a>(words: &[&str], data: &'a [u8]) -> Result<Option<Tc<'a>>, 
     let [apid, count, ack, service, subtype, source] = *words else {
         return Err(Fault::Syntax);
     };
-    Ok(Tc::new(
-        apid_of(apid)?,
-        count_of(count)?,
-        Ack::from_bits_retain(number(ack)?),
-        number(service)?,
-        number(subtype)?,
-        number(source)?,
-        data,
-    ))
+    let (apid, count) = (apid_of(apid)?, count_of(count)?);
+    let ack = Ack::from_bits_retain(number(ack)?);
+    let (service, subtype) = kind_of(service, subtype)?;
+    Ok(Tc::new(apid, count, ack, service, subtype, number(source)?, data))
 }
 
 fn show_telemetry(alloc: Global, tm: &Tm) -> Result<String, Fault> {
-    let numbers = telemetry_numbers(tm);
-    let fields = Both(Numbers(&numbers), Octets(tm.payload()));
-    text_of(alloc, Both("Ok", fields))
-}
-
-fn telemetry_numbers(tm: &Tm) -> [u64; 6] {
-    [
-        tm.apid().number().into(),
-        tm.count().number().into(),
-        tm.service().into(),
-        tm.subtype().into(),
-        tm.destination().into(),
-        tm.time().into(),
-    ]
+    let origin = Both(tm.apid().number(), tm.count().number());
+    let kind = Both(tm.service(), tm.subtype());
+    let rest = Both(Both(tm.destination(), tm.time()), Octets(tm.payload()));
+    text_of(alloc, Both("Ok", Both(Both(origin, kind), rest)))
 }
 
 fn read_telemetry(alloc: Global, packet: &[u8]) -> Result<String, Fault> {
@@ -135,13 +116,8 @@ fn telemetry_of<'a>(words: &[&str], data: &'a [u8]) -> Result<Tm<'a>, Fault> {
     let [apid, count, service, subtype, destination, time] = *words else {
         return Err(Fault::Syntax);
     };
-    Ok(Tm::new(
-        apid_of(apid)?,
-        count_of(count)?,
-        number(service)?,
-        number(subtype)?,
-        number(destination)?,
-        number(time)?,
-        data,
-    ))
+    let (apid, count) = (apid_of(apid)?, count_of(count)?);
+    let (service, subtype) = kind_of(service, subtype)?;
+    let (destination, time) = (number(destination)?, number(time)?);
+    Ok(Tm::new(apid, count, service, subtype, destination, time, data))
 }

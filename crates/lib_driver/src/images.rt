@@ -1,7 +1,7 @@
 //! Calls of bpf_assembler and ocp_loader.
 
+use crate::lines::{Both, Fault, Named, Octets, Text, number, octets, profile_of, text_of};
 use bpf_assembler::{AsmFault, Why, assemble, write_canonical};
-use call_lines::{Both, Fault, Named, Octets, Text, number, octets, profile_of, text_of};
 use ocp_loader::{LoadFault, Program, load};
 use ocp_profile::Profile;
 use std::alloc::Global;
@@ -21,10 +21,10 @@ fn call(alloc: Global, name: &str, profile: Profile, words: &[&str]) -> Result<S
             canonical(alloc, profile, before, text)
         }
         ("ocp_loader.load", [code]) => show_load(alloc, profile, code),
-        ("ocp_loader.slots", [code]) => slots(alloc, profile, code),
-        ("ocp_loader.line_at", [code, slot]) => line_at(alloc, profile, code, slot),
-        ("ocp_loader.listing", [before, code]) => listing(alloc, profile, before, code),
-        ("ocp_loader.is_same", [code, other]) => is_same(alloc, profile, code, other),
+        ("ocp_loader.listing", [before, code]) => {
+            program_call(alloc, profile, code, name, &[*before])
+        }
+        (_, [code, others @ ..]) => program_call(alloc, profile, code, name, others),
         _ => Err(Fault::Syntax),
     }
 }
@@ -75,23 +75,46 @@ fn program_of(alloc: Global, profile: Profile, code: &str) -> Result<Program, Fa
         .ok_or(Fault::Syntax)
 }
 
-fn slots(alloc: Global, profile: Profile, code: &str) -> Result<String, Fault> {
-    text_of(alloc, program_of(alloc, profile, code)?.slots())
-}
-
-fn line_at(alloc: Global, profile: Profile, code: &str, slot: &str) -> Result<String, Fault> {
+/// The answer of a call on the program of an image that is admitted.
+fn program_call(
+    alloc: Global,
+    profile: Profile,
+    code: &str,
+    name: &str,
+    words: &[&str],
+) -> Result<String, Fault> {
     let program = program_of(alloc, profile, code)?;
-    text_of(alloc, Named(program.line_at(number(slot)?)))
+    program_answer(alloc, profile, &program, name, words)
 }
 
-fn listing(alloc: Global, profile: Profile, before: &str, code: &str) -> Result<String, Fault> {
-    let mut out = octets(alloc, before)?;
-    program_of(alloc, profile, code)?.listing(&mut out)?;
-    text_of(alloc, Both("Ok", Text(&out)))
+fn program_answer(
+    alloc: Global,
+    profile: Profile,
+    program: &Program,
+    name: &str,
+    words: &[&str],
+) -> Result<String, Fault> {
+    match (name, words) {
+        ("ocp_loader.slots", []) => text_of(alloc, program.slots()),
+        ("ocp_loader.line_at", [slot]) => text_of(alloc, Named(program.line_at(number(slot)?))),
+        ("ocp_loader.listing", [before]) => listing(alloc, program, before),
+        ("ocp_loader.is_same", [other]) => is_same(alloc, profile, program, other),
+        _ => Err(Fault::Syntax),
+    }
 }
 
-fn is_same(alloc: Global, profile: Profile, code: &str, other: &str) -> Result<String, Fault> {
-    let program = program_of(alloc, profile, code)?;
+fn is_same(
+    alloc: Global,
+    profile: Profile,
+    program: &Program,
+    other: &str,
+) -> Result<String, Fault> {
     let other = program_of(alloc, profile, other)?;
     text_of(alloc, program.is_same(&other))
+}
+
+fn listing(alloc: Global, program: &Program, before: &str) -> Result<String, Fault> {
+    let mut out = octets(alloc, before)?;
+    program.listing(&mut out)?;
+    text_of(alloc, Both("Ok", Text(&out)))
 }

@@ -1,9 +1,9 @@
 //! What lines before made, and calls of ocp_regions and bpf_step on its memories and machines.
 
+use crate::lines::{Both, Fault, Named, Numbers, number, octets, profile_of, text_of, value_of};
 use crate::packets::show_written;
 use bpf_step::{MAX_SLOTS, Machine};
 use bpf_types::Size;
-use call_lines::{Both, Fault, Named, Numbers, number, octets, profile_of, text_of, value_of};
 use ocp_pool::{Mailbox, Pool};
 use ocp_profile::Profile;
 use ocp_regions::{ARGUMENT_OCTETS, Regions};

@@ -1,6 +1,6 @@
 //! Calls of space_packet.
 
-use call_lines::{Both, Fault, Named, Octets, flag, number, octets, text_of, value_of};
+use crate::lines::{Both, Fault, Named, Octets, flag, number, octets, text_of, value_of};
 use space_packet::{Apid, Primary, SequenceCount, SequenceFlags, read, write};
 use std::alloc::Global;
 use std::fmt;

@@ -1,8 +1,8 @@
 //! Calls of ocp_pool: a pool and a mailbox that lines before made, at a machine of theirs.
 
+use crate::lines::{Both, Fault, Named, number, text_of};
 use crate::machines::{Made, place_of};
 use bpf_step::{MAX_SLOTS, Machine};
-use call_lines::{Both, Fault, Named, Numbers, number, text_of};
 use ocp_pool::{Called, MAX_POOL_WORDS, Mailbox, Pool, PoolOperation, engine_call};
 use std::alloc::Global;
 
@@ -125,9 +125,9 @@ fn show_operation(alloc: Global, operation: PoolOperation) -> Result<String, Fau
             index,
             expected,
             value,
-        } => {
-            let numbers = [index, expected, value];
-            text_of(alloc, Both("CompareSet", Numbers(&numbers)))
-        }
+        } => text_of(
+            alloc,
+            Both("CompareSet", Both(index, Both(expected, value))),
+        ),
     }
 }

@@ -1,7 +1,7 @@
 //! Calls of obcp_messages for reports.
 
+use crate::lines::{Both, Fault, Named, Octets, number, octets, text_of, value_of};
 use arrayvec::ArrayVec;
-use call_lines::{Both, Fault, Named, Numbers, Octets, number, octets, text_of, value_of};
 use obcp_messages::{
     BAD_CODE, MAX_ROWS, PlainCode, Report, StartFault, Status, StatusRow, StatusRows, read_report,
     write_report,
@@ -65,8 +65,8 @@ fn show_start_fault(alloc: Global, request: &[u8], fault: StartFault) -> Result<
     let request = Both("NotStarted", Octets(request));
     match fault {
         StartFault::BadCode { fault, slot } => {
-            let numbers = [BAD_CODE.into(), fault.into(), slot.into()];
-            text_of(alloc, Both(request, Numbers(&numbers)))
+            let code = Both(BAD_CODE, Both(fault, slot));
+            text_of(alloc, Both(request, code))
         }
         StartFault::Plain(code) => text_of(alloc, Both(request, code.code())),
     }

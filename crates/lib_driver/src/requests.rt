@@ -1,8 +1,8 @@
 //! Calls of obcp_messages for requests.
 
+use crate::lines::{Both, Fault, Named, Numbers, Octets, number, octets, profile_of, text_of};
 use arrayvec::ArrayVec;
 use bitflags::Flags;
-use call_lines::{Both, Fault, Named, Numbers, Octets, number, octets, profile_of, text_of};
 use obcp_messages::{Arguments, Code, MAX_WORDS, Request, Words, read_request, write_request};
 use obcp_types::RequestFault;
 use ocp_profile::Profile;
@@ -24,9 +24,9 @@ fn call(alloc: Global, name: &str, profile: Profile, words: &[&str]) -> Result<S
             read(alloc, profile, number(service)?, number(subtype)?, data)
         }
         ("obcp_messages.write_request", [before, request @ ..]) => {
-            write(alloc, profile, before, request)
+            made_answer(alloc, profile, Some(*before), request)
         }
-        ("obcp_messages.has_fitting_budget", request) => fits(alloc, profile, request),
+        ("obcp_messages.has_fitting_budget", request) => made_answer(alloc, profile, None, request),
         _ => Err(Fault::Syntax),
     }
 }
@@ -174,20 +174,19 @@ fn message<'a>(id: u16, numbers: &[&str]) -> Result<Option<Request<'a>>, Fault> 
     }
 }
 
-fn fits(alloc: Global, profile: Profile, words: &[&str]) -> Result<String, Fault> {
+/// Writes the request of these words behind the octets, or says whether its budget fits where there
+/// are no octets.
+fn made_answer(
+    alloc: Global,
+    profile: Profile,
+    before: Option<&str>,
+    words: &[&str],
+) -> Result<String, Fault> {
     let carried = payload_of(alloc, words)?;
-    match request_of(words, &carried)? {
-        Some(request) => text_of(alloc, request.has_fitting_budget(profile)),
-        None => text_of(alloc, "None"),
-    }
-}
-
-/// Writes the request of these words behind the octets.
-fn write(alloc: Global, profile: Profile, before: &str, words: &[&str]) -> Result<String, Fault> {
-    let carried = payload_of(alloc, words)?;
-    match request_of(words, &carried)? {
-        Some(request) => show_written(alloc, profile, &request, before),
-        None => text_of(alloc, "None"),
+    match (request_of(words, &carried)?, before) {
+        (Some(request), Some(before)) => show_written(alloc, profile, &request, before),
+        (Some(request), None) => text_of(alloc, request.has_fitting_budget(profile)),
+        (None, _) => text_of(alloc, "None"),
     }
 }
 

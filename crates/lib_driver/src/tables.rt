@@ -1,10 +1,10 @@
 //! Calls of ocp_table and of ocp_debug, on the table that a line before made.
 
 use crate::answers::{Outcome, show_done};
-use crate::views::show_view;
-use call_lines::{
+use crate::lines::{
     Both, Fault, Named, add_text, dash_if_empty, flag, number, octets, profile_of, text_of,
 };
+use crate::views::show_view;
 use ocp_debug::{clear_break, set_break, set_trace, view};
 use ocp_profile::MAX_POOL_WORDS;
 use ocp_regions::ARGUMENT_OCTETS;

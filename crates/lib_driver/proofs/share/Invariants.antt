@@ -1,5 +1,5 @@
 use Rattle.std.proofs.Common.{◌-◌, length}
-use Rattle.engine_driver.proofs.share.Given as goal
+use Rattle.lib_driver.proofs.share.Given as goal
 
 abbrev pub ghosts-answer_seats-L-Ledger : goal.ghosts-answer_seats-L-Ledger
 ghosts-answer_seats-L-Ledger a = record { name = a.blank.name; parts = a.blank.parts }

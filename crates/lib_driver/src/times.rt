@@ -1,7 +1,6 @@
-//! Times single calls of the library. Each line has what was called, for how many units at a time,
-//! the nanoseconds of the least of many blocks of calls, and how many calls a block has. With no
-//! argument each block is done once, and no nanoseconds are printed.
-#![tactic(auto)]
+//! Single calls of the library by the clock. Each line has what was called, for how many units at
+//! a time, the nanoseconds of the least of many blocks of calls, and how many calls a block has.
+//! Where each block is done once, it has what the calls gave, in the place of the nanoseconds.
 
 ghost use Rattle.std.specs.Prelude.{◌≤◌};
 
@@ -9,8 +8,8 @@ use ocp_core::Engine;
 use ocp_profile::{MAX_CAPACITY, Profile};
 use pus_fields::crc16;
 use std::alloc::AllocError;
+use std::io;
 use std::time::Instant;
-use std::{env, io};
 
 /// A load of procedure 3: `add64 r0, 1` and a jump back to it.
 const LOAD: [u8; 33] = [
@@ -32,9 +31,6 @@ const POOL_WORDS: u16 = 16;
 
 /// The octets of which the error control is taken: a full image.
 const OCTETS: usize = 16_384;
-
-/// How often a block of calls is done where it is timed.
-const BLOCKS: u32 = 200;
 
 /// The sum of the error controls of the octets, so many times.
 #[inline(never)]
@@ -133,11 +129,8 @@ fn time_engine(rt: &HostRuntime, blocks: u32) -> io::Result<()> {
     time_slices(rt, blocks, &mut engine, 1_000_000, 1)
 }
 
-fn main(rt: HostRuntime) -> io::Result<()> {
-    let blocks = match env::args(&rt) {
-        Ok(words) if words.len() > 1 => BLOCKS,
-        _ => 1,
-    };
-    time_error_control(&rt, blocks)?;
-    time_engine(&rt, blocks)
+/// Times the error control of a full image, and slices, over so many blocks of calls.
+pub(crate) fn time_calls(rt: &HostRuntime, blocks: u32) -> io::Result<()> {
+    time_error_control(rt, blocks)?;
+    time_engine(rt, blocks)
 }

@@ -4,9 +4,9 @@ ghost use Rattle.std.specs.Prelude.{◌≤◌, IfOk};
 
 use crate::answers::{Outcome, show_commit, show_done, show_reports, show_slice};
 use crate::events::run;
+use crate::lines::{Fault, flag, number, octets, profile_of, text_of};
 use crate::runs::Runs;
 use crate::views;
-use call_lines::{Fault, flag, number, octets, profile_of, text_of};
 use ocp_core::{Engine, Work};
 use ocp_profile::{MAX_APID, MAX_CAPACITY, MAX_POOL_WORDS, Profile};
 use std::alloc::Global;

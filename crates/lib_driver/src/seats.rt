@@ -4,9 +4,9 @@ ghost use Rattle.std.specs.Prelude.{◌≡◌, ◌+◌, length};
 
 use crate::answers::{Outcome, show_all, show_commit, show_done, show_reports, show_slice};
 use crate::engines::budget_of;
+use crate::lines::{Calls, Fault, Named, Reply, flag, number, octets, text_of};
 use crate::runs::Runs;
 use crate::views;
-use call_lines::{Calls, Fault, Named, Reply, flag, number, octets, text_of};
 use ocp_core::Work;
 use ocp_seats::input::{DebuggerCommand, Drain, Request, Step};
 use ocp_seats::{Book, Command, Engine, Naming, NotClosed, Seat, SeatFault, TakeFault};
@@ -62,10 +62,7 @@ impl<L: Naming> Shared<L> {
         let NotClosed { why, book, seats } = refused;
         self.book = Some(book);
         for seat in seats {
-            let index = usize::from(seat.number()).saturating_sub(1);
-            if let Some(place) = self.seats.get_mut(index) {
-                *place = Some(seat);
-            }
+            put_seat(&mut self.seats, seat);
         }
         Ok(Reply::Text(text_of(alloc, Named(why))?))
     }
@@ -78,6 +75,14 @@ impl<L: Naming> Calls for Shared<L> {
         }
         let book = self.book.as_mut().ok_or(Fault::Syntax)?;
         Ok(Reply::Text(book_answer(book, &mut self.seats, &mut self.runs, alloc, words)?))
+    }
+}
+
+/// Puts a seat back in its place.
+fn put_seat<L: Naming>(seats: &mut [Option<Seat<L>>], seat: Seat<L>) {
+    let index = usize::from(seat.number()).saturating_sub(1);
+    if let Some(place) = seats.get_mut(index) {
+        *place = Some(seat);
     }
 }
 

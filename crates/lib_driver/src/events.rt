@@ -1,7 +1,7 @@
 //! A list of events in words, and the run of it.
 
 use crate::answers::{Outcome, Shown, show_all, show_done, show_reports};
-use call_lines::{Both, Fault, flag, number, octets, text_of};
+use crate::lines::{Both, Fault, flag, number, octets, text_of};
 use ocp_core::{Answer, Engine, Event, RunFault, RunRefusal};
 use std::alloc::Global;
 

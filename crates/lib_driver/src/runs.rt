@@ -1,6 +1,6 @@
 //! Tickets, and their works, that lines before made.
 
-use call_lines::{Both, Fault, number, text_of};
+use crate::lines::{Both, Fault, number, text_of};
 use ocp_core::{Ticket, Work};
 use std::alloc::Global;
 

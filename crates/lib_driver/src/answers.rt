@@ -1,6 +1,6 @@
 //! How answers are shown.
 
-use call_lines::{Both, Fault, Named, Octets, add_text, dash_if_empty, text_of};
+use crate::lines::{Both, Fault, Named, Octets, add_text, dash_if_empty, text_of};
 use ocp_core::{CommitOutcome, DebugFault, EngineFault, Reports, Slice, StepOutcome};
 use std::alloc::Global;
 use std::fmt;
@@ -13,10 +13,11 @@ impl fmt::Display for Packets<'_> {
     fn fmt<W: fmt::Write>(&self, f: &mut fmt::Formatter<W>) -> fmt::Result {
         let mut before = "";
         for packet in self.0.packets() {
-            write!(f, "{before}{}", Octets(packet.as_slice()))?;
+            f.write_str(before)?;
+            Octets(packet.as_slice()).fmt(f)?;
             before = " ";
         }
-        write!(f, "{}", if before.is_empty() { "-" } else { "" })
+        f.write_str(if before.is_empty() { "-" } else { "" })
     }
 }
 

@@ -1,6 +1,6 @@
 //! Words that are looked up, and answers as texts.
 
-use crate::reading::Fault;
+use crate::lines::reading::Fault;
 use std::alloc::Global;
 use std::fmt::{self, Debug, Display};
 use std::num::ParseIntError;

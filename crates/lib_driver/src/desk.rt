@@ -1,9 +1,9 @@
 //! What lines before made: an engine, its tickets and works, and a table.
 
 use crate::engines::{answer, engine_of};
+use crate::lines::{Calls, Fault, Reply, text_of};
 use crate::runs::Runs;
 use crate::tables::{Tables, table_answer};
-use call_lines::{Calls, Fault, Reply, text_of};
 use ocp_core::Engine;
 use std::alloc::Global;
 

@@ -1,9 +1,9 @@
 //! Calls of an engine that change nothing of it.
 
 use crate::answers::show_all;
+use crate::lines::{Both, Fault, Named, Numbers, number, text_of};
 use crate::runs::Runs;
 use bpf_step::Machine;
-use call_lines::{Both, Fault, Named, Numbers, number, text_of};
 use ocp_core::{Engine, replay_one};
 use ocp_table::{Cause, Pending, View};
 use std::alloc::Global;
@@ -20,7 +20,9 @@ pub(crate) fn answer(
         ["ocp_core.events"] => text_of(alloc, engine.events()),
         ["ocp_core.room"] => text_of(alloc, engine.room()),
         ["ocp_core.entries"] => show_all(alloc, engine.journal().entries()),
-        ["ocp_core.pool_word", index] => show_word(alloc, engine.pool_word(number(index)?)),
+        ["ocp_core.pool_word", index] => {
+            text_of(alloc, OrNone(engine.pool_word(number(index)?)))
+        }
         ["ocp_core.view", id] => show_view(alloc, engine.view(number(id)?)),
         ["ocp_core.registers", id] => show_registers(alloc, engine.view(number(id)?)),
         ["ocp_core.replay_one", id] => {
@@ -35,13 +37,6 @@ pub(crate) fn answer(
     }
 }
 
-fn show_word(alloc: Global, word: Option<u64>) -> Result<String, Fault> {
-    match word {
-        Some(word) => text_of(alloc, word),
-        None => text_of(alloc, "None"),
-    }
-}
-
 /// The status, why it is inactive, the place, the depth, what is pending, and what remains of the
 /// budget.
 pub(crate) fn show_view(alloc: Global, view: Option<View>) -> Result<String, Fault> {
@@ -49,7 +44,7 @@ pub(crate) fn show_view(alloc: Global, view: Option<View>) -> Result<String, Fau
         Some(view) => {
             let status = Both(Named(view.status), Why(view.cause));
             let place = Both(view.place, view.depth);
-            let rest = Both(Waiting(view.pending), Remaining(view.remaining));
+            let rest = Both(Waiting(view.pending), OrNone(view.remaining));
             text_of(alloc, Both(status, Both(place, rest)))
         }
         None => text_of(alloc, "None"),
@@ -76,22 +71,22 @@ struct Waiting(Pending);
 impl fmt::Display for Waiting {
     fn fmt<W: fmt::Write>(&self, f: &mut fmt::Formatter<W>) -> fmt::Result {
         match self.0 {
-            Pending::Nothing => write!(f, "Nothing"),
+            Pending::Nothing => f.write_str("Nothing"),
             Pending::Stop(step, _) => write!(f, "Stop {step}"),
             Pending::Suspend(step, _) => write!(f, "Suspend {step}"),
         }
     }
 }
 
-/// What remains of a budget.
+/// A value, or that there is none.
 #[derive(Clone, Copy)]
-struct Remaining(Option<u32>);
+struct OrNone<D>(Option<D>);
 
-impl fmt::Display for Remaining {
+impl<D: fmt::Display> fmt::Display for OrNone<D> {
     fn fmt<W: fmt::Write>(&self, f: &mut fmt::Formatter<W>) -> fmt::Result {
         match self.0 {
-            Some(count) => write!(f, "{count}"),
-            None => write!(f, "None"),
+            Some(ref value) => value.fmt(f),
+            None => f.write_str("None"),
         }
     }
 }

@@ -10,7 +10,6 @@
 //! `\n`, `\r` and `\t` are a line feed, a carriage return and a tab; behind a piece `*20` says that
 //! it stands twenty times. Answers have the same forms; `None` is answered where the library makes
 //! no value of the arguments.
-#![tactic(auto)]
 
 mod reading;
 mod script;

@@ -1,7 +1,7 @@
 //! How entries of a journal, and receipts of a seat, are shown.
 
 use crate::answers::{Outcome, Packets, Shown};
-use call_lines::{Both, Fault, Octets, text_of};
+use crate::lines::{Both, Fault, Octets, text_of};
 use ocp_core::{Entry, Reports};
 use std::alloc::Global;
 

@@ -1,6 +1,6 @@
 //! A script, and its lines answered one after another.
 
-use crate::reading::{Fault, words};
+use crate::lines::reading::{Fault, words};
 use std::alloc::{AllocError, Global};
 use std::io;
 use std::process::ExitCode;
