@@ -1,0 +1,15 @@
+use Rattle.std.proofs.Common.{arith}
+use Rattle.std.proofs.lemmas.Grind.{common_steps}
+use Rattle.ocp_c.proofs.ocp_slice.Goals as goal
+
+pub returns-clause-status : goal.returns-clause-status
+returns-clause-status c = grind (arith, common_steps)
+
+pub returns-clause-engine : goal.returns-clause-engine
+returns-clause-engine c = grind (arith, common_steps)
+
+pub returns-clause-count : goal.returns-clause-count
+returns-clause-count c = grind (arith, common_steps)
+
+pub returns-clause-last : goal.returns-clause-last
+returns-clause-last c = grind (arith, common_steps)
