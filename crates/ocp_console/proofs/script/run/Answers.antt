@@ -94,3 +94,6 @@ returns-in_default-clause-work g c =
 pub returns-in_default-clause-transcript : goal.returns-in_default-clause-transcript
 returns-in_default-clause-transcript g c =
     without_work (g.R.Source.remaining c.args.reader.now) (g.W.Sink.contents c.args.writer.now) (g.W.Sink.contents c.loop-count.writer) (g.C.Crew.answers c.args.crew.now) c.args.settings (Err faults.Read) (returns-in_default-clause-work g c)
+
+pub returns-in_default-clause-read : goal.returns-in_default-clause-read
+returns-in_default-clause-read g c = (λ _. omega (arith, c.in_default.ensures.count, c.loop-count.invariant.reads), λ _. refl)

@@ -1,4 +1,5 @@
 use Rattle.std.proofs.Common.{arith, sym, ◌∙◌}
+use Rattle.std.proofs.lemmas.Grind.{common_steps}
 use Rattle.text_lines.proofs.Digits.{no_octets}
 use Rattle.text_lines.proofs.pairs.octets_of.Goals.{then-digits-ne0-via-then-digits-ne0, then-digits-ne0-via-else-digits-ne0+then-not-are_digits}
 use Rattle.text_lines.proofs.pairs.octets_of.Goals as goal
@@ -11,3 +12,6 @@ returns-then-digits-ne0 g c = record {
   ]);
   memory = tt;
 }
+
+pub returns : goal.returns
+returns g c = grind (arith, common_steps)
