@@ -16,7 +16,7 @@ mod script;
 mod shown;
 mod texts;
 
-pub use reading::{Fault, flag, octets, profile_of, words};
+pub use reading::{Fault, flag, octets, profile_of};
 pub use script::{Calls, End, Reply, Script, answer_lines, exit_code};
 pub use shown::{Numbers, Octets, Text};
 pub use texts::{Both, Named, add_text, dash_if_empty, number, text_of, value_of};

@@ -50,12 +50,12 @@ const BLOCKS: u32 = 200;
 
 /// What lines before made.
 #[derive(Drop)]
-struct Bench {
+struct Things {
     desk: Desk,
     made: Made,
 }
 
-impl Calls for Bench {
+impl Calls for Things {
     fn answer(&mut self, alloc: Global, words: &[&str]) -> Result<Reply, Fault> {
         let [name, ..] = words else {
             return Err(Fault::Syntax);
@@ -119,11 +119,11 @@ fn share(rt: &HostRuntime, script: &mut Script, desk: &mut Desk) -> io::Result<E
 }
 
 /// Answers the lines that are left.
-fn answer_all(rt: &HostRuntime, script: &mut Script, bench: &mut Bench) -> io::Result<End> {
+fn answer_all(rt: &HostRuntime, script: &mut Script, things: &mut Things) -> io::Result<End> {
     for _line in 0..script.len() {
-        let mut end = answer_lines(rt, script, bench)?;
+        let mut end = answer_lines(rt, script, things)?;
         if end == End::Others {
-            end = share(rt, script, &mut bench.desk)?;
+            end = share(rt, script, &mut things.desk)?;
         }
         if end != End::Others {
             return Ok(end);
@@ -135,11 +135,11 @@ fn answer_all(rt: &HostRuntime, script: &mut Script, bench: &mut Bench) -> io::R
 /// Answers a script.
 fn answer_script(rt: &HostRuntime) -> io::Result<End> {
     let mut script = Script::read(rt)?;
-    let mut bench = Bench {
+    let mut things = Things {
         desk: Desk::new(rt.alloc()),
         made: Made::new(rt.alloc()),
     };
-    answer_all(rt, &mut script, &mut bench)
+    answer_all(rt, &mut script, &mut things)
 }
 
 /// How many blocks of calls these words have timed; none where they are no `time`.
