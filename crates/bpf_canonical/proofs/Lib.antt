@@ -1,4 +1,5 @@
 pub mod Digits
+pub mod Tables
 pub mod Words
 pub mod Rooms
 pub mod Unique

@@ -1,6 +1,8 @@
 //! The first word of an instruction's text. Each table of words stands once, as a macro that is
 //! read both ways.
 ghost use Rattle.std.specs.Prelude.{◌≡◌, ◌≤◌, ◌+◌, ◌++◌, IfSome, Some, length};
+ghost use Rattle.std.specs.Map.{lookup};
+ghost use Rattle.std.specs.Str.{bytes_eq};
 ghost use Rattle.bpf_types.specs.declared.line.Width.{Width};
 ghost use Rattle.bpf_canonical.specs.declared.mnemonic.Mnemonic.{Mnemonic};
 ghost use Rattle.bpf_canonical.specs.declared.mnemonic.Stem.{Stem};
@@ -122,54 +124,54 @@ macro_rules! plain {
     };
 }
 
-/// From a word to what it says.
-macro_rules! meaning {
+/// The rows of a table of words, each with what it says.
+macro_rules! rows {
+    ((), $([$($meaning:tt)*] $word:literal),*) => {
+        [$(($word, $($meaning)*)),*]
+    };
+}
+
+/// The classes.
+static WIDTHS: [(&[u8], Width); 2] = widths!(rows());
+
+/// The stems.
+static STEMS: [(&[u8], Stem); 27] = stems!(rows());
+
+/// The mnemonics that have no class.
+static PLAIN: [(&[u8], Mnemonic); 23] = plain!(rows());
+
+/// From what a word says to the word.
+macro_rules! word {
     ($value:expr, $([$($meaning:tt)*] $word:literal),*) => {
         match $value {
-            $($word => Some($($meaning)*),)*
-            _ => None,
+            $($($meaning)* => $word,)*
         }
     };
 }
 
-/// Appends the word of a class or of a stem to a text.
-macro_rules! push {
-    (($text:ident, $value:expr), $([$($meaning:tt)*] $word:literal),*) => {
+/// From a mnemonic that has no class to its word.
+macro_rules! plain_word {
+    ($value:expr, $([$($meaning:tt)*] $word:literal),*) => {
         match $value {
-            $($($meaning)* => $text.push_all($word),)*
-        }
-    };
-}
-
-/// Appends the word of a mnemonic to a text.
-macro_rules! push_whole {
-    (($text:ident, $value:expr), $([$($meaning:tt)*] $word:literal),*) => {
-        match $value {
-            Mnemonic::Classed(stem, width) => $text.push_classed(stem, width),
-            $($($meaning)* => $text.push_all($word),)*
+            Mnemonic::Classed(..) => unreachable!(),
+            $($($meaning)* => $word,)*
         }
     };
 }
 
 impl<const ROOM: usize> Text<ROOM> {
-    /// Appends the word of a stem.
+    /// Appends a word. One of three or four octets, as most are, is copied without a call.
     #[inline(always)]
-    fn push_stem(&mut self, stem: Stem)
-        requires { length self.old + 5 ≤ ROOM }
-        ensures items { self.new ≡ self.old ++ stem_name stem }
-        ensures len { length self.new ≤ length self.old + 5 }
+    fn push_word(&mut self, word: &[u8])
+        requires { length self.old + length word.now ≤ ROOM }
+        ensures items { self.new ≡ self.old ++ word.now }
+        ensures len { length self.new ≡ length self.old + length word.now }
     {
-        stems!(push(self, stem))
-    }
-
-    /// Appends the word of a class.
-    #[inline(always)]
-    fn push_width(&mut self, width: Width)
-        requires { length self.old + 2 ≤ ROOM }
-        ensures items { self.new ≡ self.old ++ width_name width }
-        ensures len { length self.new ≡ length self.old + 2 }
-    {
-        widths!(push(self, width))
+        match word.len() {
+            3 => self.push_all(&word[..3]),
+            4 => self.push_all(&word[..4]),
+            _ => self.push_all(word),
+        }
     }
 
     /// Appends the word of a stem, and the class that it ends in.
@@ -178,8 +180,8 @@ impl<const ROOM: usize> Text<ROOM> {
         ensures items { self.new ≡ self.old ++ (stem_name stem ++ width_name width) }
         ensures len { length self.new ≤ length self.old + 7 }
     {
-        self.push_stem(stem);
-        self.push_width(width);
+        self.push_word(word_of_stem(stem));
+        self.push_all(word_of_width(width));
     }
 
     /// Appends a mnemonic.
@@ -188,8 +190,50 @@ impl<const ROOM: usize> Text<ROOM> {
         ensures items { self.new ≡ self.old ++ mnemonic_name mnemonic }
         ensures len { length self.new ≤ length self.old + 7 }
     {
-        plain!(push_whole(self, mnemonic))
+        match mnemonic {
+            Mnemonic::Classed(stem, width) => self.push_classed(stem, width),
+            _ => self.push_word(word_of_plain(mnemonic)),
+        }
     }
+}
+
+/// The word of a stem.
+#[inline(always)]
+fn word_of_stem(stem: Stem) -> &'static [u8]
+    ensures word { result.now ≡ stem_name stem }
+    ensures len { length result.now ≤ 5 }
+{
+    stems!(word stem)
+}
+
+/// The word of a class.
+#[inline(always)]
+fn word_of_width(width: Width) -> &'static [u8]
+    ensures word { result.now ≡ width_name width }
+    ensures len { length result.now ≡ 2 }
+{
+    widths!(word width)
+}
+
+/// The word of a mnemonic that has no class.
+fn word_of_plain(mnemonic: Mnemonic) -> &'static [u8]
+    requires { IsPlain mnemonic }
+    ensures word { result.now ≡ mnemonic_name mnemonic }
+    ensures len { length result.now ≤ 5 }
+{
+    plain!(plain_word mnemonic)
+}
+
+/// What the row of this word says: the first one, where there are several.
+fn meaning_of<M: Copy>(word: &[u8], rows: &[(&'static [u8], M)]) -> Option<M>
+    ensures { result ≡ lookup (λ known. bytes_eq known.now word.now) rows.now }
+{
+    for (known, meaning) in rows {
+        if *known == word {
+            return Some(*meaning);
+        }
+    }
+    None
 }
 
 /// The stem that is this text.
@@ -197,7 +241,15 @@ fn stem_of(word: &[u8]) -> Option<Stem>
     ensures some { IfSome result (λ s. word.now ≡ stem_name s) }
     ensures only { (s : Stem) → word.now ≡ stem_name s → result ≡ Some s }
 {
-    stems!(meaning word)
+    meaning_of(word, &STEMS)
+}
+
+/// The class that is this text.
+fn width_of(word: &[u8]) -> Option<Width>
+    ensures some { IfSome result (λ w. word.now ≡ width_name w) }
+    ensures only { (w : Width) → word.now ≡ width_name w → result ≡ Some w }
+{
+    meaning_of(word, &WIDTHS)
 }
 
 /// The stem and the class that are this text.
@@ -206,9 +258,9 @@ fn stem_and_width(word: &[u8]) -> Option<(Stem, Width)>
     ensures only { (s : Stem) (w : Width) → word.now ≡ stem_name s ++ width_name w →
         result ≡ Some (s, w) }
 {
-    let end = word.len().saturating_sub(2);
-    let width = widths!(meaning(&word[end..]))?;
-    Some((stem_of(&word[..end])?, width))
+    let (stem, width) = word.split_at(word.len().saturating_sub(2));
+    let width = width_of(width)?;
+    Some((stem_of(stem)?, width))
 }
 
 /// The mnemonic without a class that is this text.
@@ -216,7 +268,7 @@ fn plain_of(word: &[u8]) -> Option<Mnemonic>
     ensures some { IfSome result (λ m. word.now ≡ mnemonic_name m) }
     ensures only { (m : Mnemonic) → IsPlain m → word.now ≡ mnemonic_name m → result ≡ Some m }
 {
-    plain!(meaning word)
+    meaning_of(word, &PLAIN)
 }
 
 /// The mnemonic of an instruction.

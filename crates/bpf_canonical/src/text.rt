@@ -73,7 +73,6 @@ impl<const ROOM: usize> Text<ROOM> {
     }
 
     /// Appends a number in decimal digits, with a sign where it is negative.
-    #[tactic(auto, using(crate::proofs::Rooms::few_digits))]
     pub(crate) fn push_signed(&mut self, number: i32)
         requires { length self.old + 11 ≤ ROOM }
         ensures items { self.new ≡ self.old ++ signed_decimal number }
@@ -86,7 +85,6 @@ impl<const ROOM: usize> Text<ROOM> {
     }
 
     /// Appends a number in decimal digits, always with its sign.
-    #[tactic(auto, using(crate::proofs::Rooms::few_digits))]
     pub(crate) fn push_with_sign(&mut self, number: i32)
         requires { length self.old + 11 ≤ ROOM }
         ensures items { self.new ≡ self.old ++ with_sign number }
@@ -97,7 +95,6 @@ impl<const ROOM: usize> Text<ROOM> {
     }
 
     /// Appends a distance of 16 bits in decimal digits, always with its sign.
-    #[tactic(auto, using(crate::proofs::Rooms::short_digits))]
     pub(crate) fn push_distance(&mut self, distance: i16)
         requires { length self.old + 6 ≤ ROOM }
         ensures items { self.new ≡ self.old ++ with_sign distance }

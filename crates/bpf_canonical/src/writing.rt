@@ -1,7 +1,8 @@
 //! Instructions as text: their one spelling.
-ghost use Rattle.std.specs.Prelude.{◌≡◌, ◌++◌, ◌≤◌, ◌<◌, ◌+◌, length, OnOk, OnErr, vec_capacity};
+ghost use Rattle.std.specs.Prelude.{◌≡◌, ◌++◌, ◌≤◌, ◌<◌, ◌+◌, codes, length, OnOk, OnErr, vec_capacity};
 ghost use Rattle.bpf_canonical.specs.Mirror.Rooms.{operands_room};
-ghost use Rattle.bpf_canonical.specs.Canonical.{canonical, operands_text, operand_text, place_text, register};
+ghost use Rattle.std.specs.Fmt.{decimal};
+ghost use Rattle.bpf_canonical.specs.Canonical.{canonical, hex_digits, operands_text, operand_text, place_text, register, with_sign};
 
 use crate::mnemonic::mnemonic_of;
 use crate::text::{MAX_TEXT_LENGTH, Text};
@@ -47,68 +48,127 @@ impl<const ROOM: usize> Text<ROOM> {
         self.push_all(b"]");
     }
 
+    /// Appends a register as the first of several operands.
+    #[inline(always)]
+    fn push_first_register(&mut self, reg: Reg)
+        requires { length self.old + 6 ≤ ROOM }
+        ensures items { self.new ≡ self.old ++ (codes " " ++ register reg ++ codes ", ") }
+        ensures len { length self.new ≤ length self.old + 6 }
+    {
+        self.push_all(b" ");
+        self.push_register(reg);
+        self.push_all(b", ");
+    }
+
+    /// Appends a place in memory as the first of two operands.
+    #[inline(always)]
+    fn push_first_place(&mut self, base: Reg, offset: i16)
+        requires { length self.old + 14 ≤ ROOM }
+        ensures items { self.new ≡ self.old ++ (codes " " ++ place_text base offset ++ codes ", ") }
+        ensures len { length self.new ≤ length self.old + 14 }
+    {
+        self.push_all(b" ");
+        self.push_place(base, offset);
+        self.push_all(b", ");
+    }
+
+    /// Appends the operands of a move that extends the sign of so many bits.
+    fn push_move(&mut self, dst: Reg, src: Reg, bits: u8)
+        requires { length self.old + 14 ≤ ROOM }
+        ensures items { self.new ≡ self.old
+            ++ (codes " " ++ register dst ++ codes ", " ++ register src ++ codes ", "
+            ++ decimal bits) }
+        ensures len { length self.new ≤ length self.old + 14 }
+    {
+        self.push_first_register(dst);
+        self.push_register(src);
+        self.push_all(b", ");
+        self.push_integer(bits);
+    }
+
+    /// Appends the operands of a wide load.
+    fn push_wide(&mut self, dst: Reg, value: u64)
+        requires { length self.old + 24 ≤ ROOM }
+        ensures items { self.new ≡ self.old
+            ++ (codes " " ++ register dst ++ codes ", 0x" ++ hex_digits 16 value) }
+        ensures len { length self.new ≤ length self.old + 24 }
+    {
+        self.push_first_register(dst);
+        self.push_all(b"0x");
+        self.push_hex(value);
+    }
+
+    /// Appends the operands of a load.
+    #[inline(always)]
+    fn push_load(&mut self, dst: Reg, base: Reg, offset: i16)
+        requires { length self.old + 17 ≤ ROOM }
+        ensures items { self.new ≡ self.old
+            ++ (codes " " ++ register dst ++ codes ", " ++ place_text base offset) }
+        ensures len { length self.new ≤ length self.old + 17 }
+    {
+        self.push_first_register(dst);
+        self.push_place(base, offset);
+    }
+
+    /// Appends the operands of a conditional jump.
+    fn push_jump(&mut self, dst: Reg, operand: Operand, distance: i16)
+        requires { length self.old + 25 ≤ ROOM }
+        ensures items { self.new ≡ self.old
+            ++ (codes " " ++ register dst ++ codes ", " ++ operand_text operand ++ codes ", "
+            ++ with_sign distance) }
+        ensures len { length self.new ≤ length self.old + 25 }
+    {
+        self.push_first_register(dst);
+        self.push_operand(operand);
+        self.push_all(b", ");
+        self.push_distance(distance);
+    }
+
     /// Appends the operands of an instruction, behind a space.
-    #[tactic(auto, using(crate::proofs::Rooms::room_least, crate::proofs::Rooms::few_digits))]
+    #[tactic(auto, using(crate::proofs::Rooms::room_least))]
     fn push_operands(&mut self, line: &Line)
         requires { length self.old + operands_room line.now ≤ ROOM }
         ensures items { self.new ≡ self.old ++ operands_text line.now }
         ensures len { length self.new ≤ length self.old + operands_room line.now }
     {
-        if !matches!(line, Line::Exit) {
-            self.push_all(b" ");
-        }
         match *line {
             Line::Arithmetic { dst, operand, .. } => {
-                self.push_register(dst);
-                self.push_all(b", ");
+                self.push_first_register(dst);
                 self.push_operand(operand);
             }
-            Line::Negate { dst, .. } => self.push_register(dst),
+            Line::Negate { dst, .. } => {
+                self.push_all(b" ");
+                self.push_register(dst);
+            }
             Line::MoveExtended {
                 extension,
                 dst,
                 src,
-            } => {
-                self.push_register(dst);
-                self.push_all(b", ");
-                self.push_register(src);
-                self.push_all(b", ");
-                self.push_number(u32::from(extension.bits()));
-            }
+            } => self.push_move(dst, src, extension.bits()),
             Line::ByteOrder { width, dst, .. } => {
-                self.push_register(dst);
-                self.push_all(b", ");
-                self.push_number(u32::from(width.bits()));
+                self.push_first_register(dst);
+                self.push_integer(width.bits());
             }
-            Line::LoadWide { dst, value } => {
-                self.push_register(dst);
-                self.push_all(b", 0x");
-                self.push_hex(value);
-            }
+            Line::LoadWide { dst, value } => self.push_wide(dst, value),
             Line::Load {
                 dst,
                 base,
                 offset,
                 ..
-            }
-            | Line::LoadExtended {
+            } => self.push_load(dst, base, offset),
+            Line::LoadExtended {
                 dst,
                 base,
                 offset,
                 ..
-            } => {
-                self.push_register(dst);
-                self.push_all(b", ");
-                self.push_place(base, offset);
-            }
+            } => self.push_load(dst, base, offset),
             Line::StoreImmediate {
                 base,
                 offset,
                 value,
                 ..
             } => {
-                self.push_place(base, offset);
-                self.push_all(b", ");
+                self.push_first_place(base, offset);
                 self.push_signed(value);
             }
             Line::Store {
@@ -117,8 +177,7 @@ impl<const ROOM: usize> Text<ROOM> {
                 src,
                 ..
             } => {
-                self.push_place(base, offset);
-                self.push_all(b", ");
+                self.push_first_place(base, offset);
                 self.push_register(src);
             }
             Line::JumpIf {
@@ -126,18 +185,21 @@ impl<const ROOM: usize> Text<ROOM> {
                 operand,
                 distance,
                 ..
-            } => {
-                self.push_register(dst);
-                self.push_all(b", ");
-                self.push_operand(operand);
-                self.push_all(b", ");
+            } => self.push_jump(dst, operand, distance),
+            Line::Jump { distance } => {
+                self.push_all(b" ");
                 self.push_distance(distance);
             }
-            Line::Jump { distance } => self.push_distance(distance),
-            Line::LongJump { distance } => self.push_with_sign(distance),
-            Line::Call { number } => self.push_signed(number),
+            Line::LongJump { distance } => {
+                self.push_all(b" ");
+                self.push_with_sign(distance);
+            }
+            Line::Call { number } => {
+                self.push_all(b" ");
+                self.push_signed(number);
+            }
             Line::CallLocal { distance } => {
-                self.push_all(b"local ");
+                self.push_all(b" local ");
                 self.push_with_sign(distance);
             }
             Line::Exit => (),
@@ -145,7 +207,6 @@ impl<const ROOM: usize> Text<ROOM> {
     }
 
     /// Appends the canonical text of an instruction.
-    #[tactic(auto, using(crate::proofs::Rooms::word_and_room))]
     pub fn push_line(&mut self, line: &Line)
         requires { length self.old + MAX_TEXT_LENGTH ≤ ROOM }
         ensures items { self.new ≡ self.old ++ canonical line.now }

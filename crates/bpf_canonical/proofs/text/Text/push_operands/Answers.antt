@@ -1,16 +1,82 @@
-use Rattle.std.proofs.Common.{rules, ◌≡◌, ◌++◌, ◌∙◌, sym, ap, ℕ, List, append_assoc}
+use Rattle.std.proofs.Common.{◌≡◌, ◌++◌, ◌∙◌, List, ℕ, sym, ap, append_assoc, rules}
 use Rattle.std.specs.Prelude.{codes}
-use Rattle.std.specs.Fmt.{signed_decimal}
-use Rattle.bpf_canonical.specs.Canonical.{place_text, operands_text}
+use Rattle.std.specs.Fmt.{decimal, signed_decimal}
+use Rattle.bpf_types.specs.declared.line.Line.{Line}
+use Rattle.bpf_types.specs.Line.{swap_width_bits}
+use Rattle.bpf_canonical.specs.Canonical.{operands_text, operand_text, place_text, register, with_sign}
 use Rattle.bpf_canonical.proofs.text.Text.push_operands.Goals as goal
 
-regroup : (s a b c d : List ℕ) → s ++ a ++ b ++ c ++ d ≡ s ++ (a ++ b ++ c ++ d)
-regroup s a b c d = simp append_assoc
+-- what is written of a line of this form
+of_line : {new : List ℕ} (old : List ℕ) {l m : Line} → l ≡ m → new ≡ old ++ operands_text m → new ≡ old ++ operands_text l
+of_line old is e = e ∙ ap (λ k. old ++ operands_text k) (sym is)
+
+-- what two calls write
+twice : {mid new : List ℕ} (old a b : List ℕ) → mid ≡ old ++ a → new ≡ mid ++ b → new ≡ old ++ (a ++ b)
+twice old a b first second = second ∙ ap (λ t. t ++ b) first ∙ append_assoc old a b
+
+pub returns-in-Arithmetic-clause-items : goal.returns-in-Arithmetic-clause-items
+returns-in-Arithmetic-clause-items g c =
+    of_line c.args.self.now c.in-Arithmetic.is (twice c.args.self.now (codes " " ++ register c.in-Arithmetic.dst ++ codes ", ") (operand_text c.in-Arithmetic.operand) c.push_first_register.ensures.items c.push_operand.ensures.items)
+
+pub returns-in-Negate-clause-items : goal.returns-in-Negate-clause-items
+returns-in-Negate-clause-items g c =
+    of_line c.args.self.now c.in-Negate.is (twice c.args.self.now (codes " ") (register c.in-Negate.dst) c.push_all.ensures.items c.push_register.ensures.items)
+
+pub returns-in-MoveExtended-clause-items : goal.returns-in-MoveExtended-clause-items
+returns-in-MoveExtended-clause-items g c =
+    of_line c.args.self.now c.in-MoveExtended.is (rw (sym c.bits.ensures) c.push_move.ensures.items)
+
+pub returns-in-ByteOrder-clause-items : goal.returns-in-ByteOrder-clause-items
+returns-in-ByteOrder-clause-items g c =
+    of_line c.args.self.now c.in-ByteOrder.is (twice c.args.self.now (codes " " ++ register c.in-ByteOrder.dst ++ codes ", ") (decimal (swap_width_bits c.in-ByteOrder.width)) c.push_first_register-in-ByteOrder.ensures.items (c.push_integer.ensures.items ∙ ap (λ n. c.push_first_register-in-ByteOrder.new.self ++ decimal n) c.bits-in-ByteOrder.ensures))
+
+pub returns-in-LoadWide-clause-items : goal.returns-in-LoadWide-clause-items
+returns-in-LoadWide-clause-items g c =
+    of_line c.args.self.now c.in-LoadWide.is c.push_wide.ensures.items
+
+pub returns-in-Load-clause-items : goal.returns-in-Load-clause-items
+returns-in-Load-clause-items g c =
+    let written : c.push_load.new.self ≡ c.args.self.now ++ (codes " " ++ register c.in-Load.dst ++ codes ", " ++ place_text c.in-Load.base c.in-Load.offset) = search rules in
+    of_line c.args.self.now c.in-Load.is written
+
+pub returns-in-LoadExtended-clause-items : goal.returns-in-LoadExtended-clause-items
+returns-in-LoadExtended-clause-items g c =
+    let written : c.push_load-in-LoadExtended.new.self ≡ c.args.self.now ++ (codes " " ++ register c.in-LoadExtended.dst ++ codes ", " ++ place_text c.in-LoadExtended.base c.in-LoadExtended.offset) = search rules in
+    of_line c.args.self.now c.in-LoadExtended.is written
+
+pub returns-in-JumpIf-clause-items : goal.returns-in-JumpIf-clause-items
+returns-in-JumpIf-clause-items g c =
+    let jump = c.in-JumpIf in
+    let written : c.push_jump.new.self ≡ c.args.self.now ++ (codes " " ++ register jump.dst ++ codes ", " ++ operand_text jump.operand ++ codes ", " ++ with_sign jump.distance) = search rules in
+    of_line c.args.self.now c.in-JumpIf.is written
 
 pub returns-in-StoreImmediate-clause-items : goal.returns-in-StoreImmediate-clause-items
 returns-in-StoreImmediate-clause-items g c =
-    let a = c.args.self.now in
-    let base = c.in-StoreImmediate.base in let offset = c.in-StoreImmediate.offset in let value = c.in-StoreImmediate.value in
-    let written : c.push_signed.new.self ≡ a ++ codes " " ++ place_text base offset ++ codes ", " ++ signed_decimal value = search rules in
-    written ∙ regroup a (codes " ") (place_text base offset) (codes ", ") (signed_decimal value)
-    ∙ ap (λ l. a ++ operands_text l) (sym c.in-StoreImmediate.is)
+    let place : c.push_first_place.new.self ≡ c.args.self.now ++ (codes " " ++ place_text c.in-StoreImmediate.base c.in-StoreImmediate.offset ++ codes ", ") = search rules in
+    let value : c.push_signed.new.self ≡ c.push_first_place.new.self ++ signed_decimal c.in-StoreImmediate.value = search rules in
+    of_line c.args.self.now c.in-StoreImmediate.is (twice c.args.self.now (codes " " ++ place_text c.in-StoreImmediate.base c.in-StoreImmediate.offset ++ codes ", ") (signed_decimal c.in-StoreImmediate.value) place value)
+
+pub returns-in-Store-clause-items : goal.returns-in-Store-clause-items
+returns-in-Store-clause-items g c =
+    let place : c.push_first_place-in-Store.new.self ≡ c.args.self.now ++ (codes " " ++ place_text c.in-Store.base c.in-Store.offset ++ codes ", ") = search rules in
+    of_line c.args.self.now c.in-Store.is (twice c.args.self.now (codes " " ++ place_text c.in-Store.base c.in-Store.offset ++ codes ", ") (register c.in-Store.src) place c.push_register-in-Store.ensures.items)
+
+pub returns-in-Jump-clause-items : goal.returns-in-Jump-clause-items
+returns-in-Jump-clause-items g c =
+    let value : c.push_distance.new.self ≡ c.push_all-in-Jump.new.self ++ with_sign c.in-Jump.distance = search rules in
+    of_line c.args.self.now c.in-Jump.is (twice c.args.self.now (codes " ") (with_sign c.in-Jump.distance) c.push_all-in-Jump.ensures.items value)
+
+pub returns-in-LongJump-clause-items : goal.returns-in-LongJump-clause-items
+returns-in-LongJump-clause-items g c =
+    let value : c.push_with_sign.new.self ≡ c.push_all-in-LongJump.new.self ++ with_sign c.in-LongJump.distance = search rules in
+    of_line c.args.self.now c.in-LongJump.is (twice c.args.self.now (codes " ") (with_sign c.in-LongJump.distance) c.push_all-in-LongJump.ensures.items value)
+
+pub returns-in-Call-clause-items : goal.returns-in-Call-clause-items
+returns-in-Call-clause-items g c =
+    let value : c.push_signed-in-Call.new.self ≡ c.push_all-in-Call.new.self ++ signed_decimal c.in-Call.number = search rules in
+    of_line c.args.self.now c.in-Call.is (twice c.args.self.now (codes " ") (signed_decimal c.in-Call.number) c.push_all-in-Call.ensures.items value)
+
+pub returns-in-CallLocal-clause-items : goal.returns-in-CallLocal-clause-items
+returns-in-CallLocal-clause-items g c =
+    let value : c.push_with_sign-in-CallLocal.new.self ≡ c.push_all-in-CallLocal.new.self ++ with_sign c.in-CallLocal.distance = search rules in
+    of_line c.args.self.now c.in-CallLocal.is (twice c.args.self.now (codes " local ") (with_sign c.in-CallLocal.distance) c.push_all-in-CallLocal.ensures.items value)
