@@ -1,12 +1,16 @@
 //! Hostile use, by tests alone: growths of memory that are refused one after another, named
-//! refusals where there is no memory, and devices that fail. Beside the tests the crate has the
-//! allocator that refuses.
+//! refusals where there is no memory, devices that fail, threads that share one engine, and another
+//! board behind their lock. Beside the tests the crate has the allocator that refuses.
 #![tactic(auto)]
 
+#[cfg(test)]
+mod boards;
 #[cfg(test)]
 mod calls;
 #[cfg(test)]
 mod console;
+#[cfg(test)]
+mod crews;
 #[cfg(test)]
 mod devices;
 #[cfg(test)]
@@ -16,6 +20,10 @@ mod engine;
 pub mod heap;
 #[cfg(test)]
 mod makers;
+#[cfg(test)]
+mod packets;
+#[cfg(test)]
+mod pairs;
 #[cfg(test)]
 mod refusals;
 #[cfg(test)]
