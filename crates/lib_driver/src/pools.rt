@@ -24,7 +24,8 @@ fn begin(alloc: Global, pool: &mut Option<Pool>, count: &str) -> Result<String, 
     text_of(alloc, "Ok")
 }
 
-fn pool_of(alloc: Global, count: u16) -> Result<Pool, Fault> {
+/// A pool of so many words.
+pub(crate) fn pool_of(alloc: Global, count: u16) -> Result<Pool, Fault> {
     if count == 0 || count > MAX_POOL_WORDS {
         return Err(Fault::Syntax);
     }
@@ -41,7 +42,8 @@ fn append(alloc: Global, mailbox: &mut Mailbox, words: &[&str]) -> Result<String
     text_of(alloc, "Ok")
 }
 
-fn numbers_of(alloc: Global, words: &[&str]) -> Result<Vec<u64>, Fault> {
+/// The numbers that words say.
+pub(crate) fn numbers_of(alloc: Global, words: &[&str]) -> Result<Vec<u64>, Fault> {
     let mut numbers = Vec::new(alloc);
     for word in words {
         numbers.push(number(word)?)?;

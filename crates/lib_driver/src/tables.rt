@@ -4,9 +4,9 @@ use crate::answers::{Outcome, show_done};
 use crate::lines::{
     Both, Fault, Named, add_text, dash_if_empty, flag, number, octets, profile_of, text_of,
 };
+use crate::pools::{numbers_of, pool_of};
 use crate::views::show_view;
 use ocp_debug::{clear_break, set_break, set_trace, view};
-use ocp_profile::MAX_POOL_WORDS;
 use ocp_regions::ARGUMENT_OCTETS;
 use ocp_table::{LoadFailure, PendingOrigin, Pool, Profile, StartFailure, Table};
 use std::alloc::Global;
@@ -54,13 +54,6 @@ pub(crate) fn table_answer(
         ["ocp_table.instruction", id] => tables.instruction(alloc, number(id)?),
         _ => call(tables.table.as_mut().ok_or(Fault::Syntax)?, alloc, words),
     }
-}
-
-fn pool_of(alloc: Global, count: u16) -> Result<Pool, Fault> {
-    if count == 0 || count > MAX_POOL_WORDS {
-        return Err(Fault::Syntax);
-    }
-    Ok(Pool::new(alloc, count)?)
 }
 
 /// The answer of a table's call.
@@ -137,14 +130,6 @@ fn activate(
 fn communicate(table: &mut Table, alloc: Global, id: u16, words: &[&str]) -> Result<String, Fault> {
     let numbers = numbers_of(alloc, words)?;
     show_start(alloc, table.communicate(id, &numbers))
-}
-
-fn numbers_of(alloc: Global, words: &[&str]) -> Result<Vec<u64>, Fault> {
-    let mut numbers = Vec::new(alloc);
-    for word in words {
-        numbers.push(number(word)?)?;
-    }
-    Ok(numbers)
 }
 
 /// The status of each procedure, with a comma between two; `-` for none.

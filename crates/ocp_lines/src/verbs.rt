@@ -3,7 +3,7 @@
 ghost use Rattle.std.specs.Prelude.{◌≡◌, ◌≤◌, None, Some, length, IfOk, IfSome, MatchOption, OnErr, IsTrue};
 ghost use Rattle.ocp_profile.specs.declared.profile.Profile.{Profile};
 ghost use Rattle.ocp_lines.specs.Words.{words_of};
-ghost use Rattle.ocp_lines.specs.Grammar.{IsCarried, parameters_in, load_in, budget_in, activation_words, activate_in, communicate_in, verb_in, verb_takes_octets};
+ghost use Rattle.ocp_lines.specs.Grammar.{IsCarried, parameters_in, load_in, budget_in, activation_words, activate_in, communicate_in, plain_verb_in, verb_in, verb_takes_octets};
 
 use crate::command::MAX_OCTETS_LENGTH;
 use crate::words::{last_octets, long, next_word, number, one_short, short, two_shorts};
@@ -103,6 +103,32 @@ fn communicate(arguments: &[u8]) -> Option<Request<'_>>
     Some(Request::Communicate { id, words })
 }
 
+/// The request of this name with these arguments, which are no octets.
+fn plain_request<'a>(name: &[u8], arguments: &'a [u8]) -> Option<Request<'a>>
+    ensures request { result ≡ plain_verb_in name.now (words_of arguments.now) }
+    ensures fits { (profile : Profile) → IfSome result (IsCarried profile) }
+{
+    if name == b"unload".as_slice() {
+        Some(Request::Unload { id: one_short(arguments)? })
+    } else if name == b"stop".as_slice() {
+        let (id, step) = two_shorts(arguments)?;
+        Some(Request::Stop { id, step })
+    } else if name == b"suspend".as_slice() {
+        let (id, step) = two_shorts(arguments)?;
+        Some(Request::Suspend { id, step })
+    } else if name == b"resume".as_slice() {
+        Some(Request::Resume { id: one_short(arguments)? })
+    } else if name == b"abort".as_slice() {
+        Some(Request::Abort { id: one_short(arguments)? })
+    } else if name == b"communicate".as_slice() {
+        communicate(arguments)
+    } else if name == b"status".as_slice() {
+        next_word(arguments).is_none().then_some(Request::Status)
+    } else {
+        None
+    }
+}
+
 /// The request of this name with these arguments. The scratch vector holds its octets.
 pub(crate) fn request<'a, A: Allocator>(
     scratch: &'a mut Vec<u8, A>,
@@ -120,21 +146,7 @@ pub(crate) fn request<'a, A: Allocator>(
         load(scratch, arguments)
     } else if name == b"activate".as_slice() {
         activate(scratch, profile, arguments)
-    } else if name == b"unload".as_slice() {
-        Ok(one_short(arguments).map(|id| Request::Unload { id }))
-    } else if name == b"stop".as_slice() {
-        Ok(two_shorts(arguments).map(|(id, step)| Request::Stop { id, step }))
-    } else if name == b"suspend".as_slice() {
-        Ok(two_shorts(arguments).map(|(id, step)| Request::Suspend { id, step }))
-    } else if name == b"resume".as_slice() {
-        Ok(one_short(arguments).map(|id| Request::Resume { id }))
-    } else if name == b"abort".as_slice() {
-        Ok(one_short(arguments).map(|id| Request::Abort { id }))
-    } else if name == b"communicate".as_slice() {
-        Ok(communicate(arguments))
-    } else if name == b"status".as_slice() {
-        Ok(next_word(arguments).is_none().then_some(Request::Status))
     } else {
-        Ok(None)
+        Ok(plain_request(name, arguments))
     }
 }
