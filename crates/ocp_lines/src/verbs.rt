@@ -109,7 +109,9 @@ fn plain_request<'a>(name: &[u8], arguments: &'a [u8]) -> Option<Request<'a>>
     ensures fits { (profile : Profile) → IfSome result (IsCarried profile) }
 {
     if name == b"unload".as_slice() {
-        Some(Request::Unload { id: one_short(arguments)? })
+        Some(Request::Unload {
+            id: one_short(arguments)?,
+        })
     } else if name == b"stop".as_slice() {
         let (id, step) = two_shorts(arguments)?;
         Some(Request::Stop { id, step })
@@ -117,9 +119,13 @@ fn plain_request<'a>(name: &[u8], arguments: &'a [u8]) -> Option<Request<'a>>
         let (id, step) = two_shorts(arguments)?;
         Some(Request::Suspend { id, step })
     } else if name == b"resume".as_slice() {
-        Some(Request::Resume { id: one_short(arguments)? })
+        Some(Request::Resume {
+            id: one_short(arguments)?,
+        })
     } else if name == b"abort".as_slice() {
-        Some(Request::Abort { id: one_short(arguments)? })
+        Some(Request::Abort {
+            id: one_short(arguments)?,
+        })
     } else if name == b"communicate".as_slice() {
         communicate(arguments)
     } else if name == b"status".as_slice() {
