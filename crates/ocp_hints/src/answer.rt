@@ -11,16 +11,19 @@ pub struct Answer<'a> {
     pub name: &'a [u8],
 }
 
+/// The fault whose number and name these words are, with the newline behind them.
+fn answer_of_words(words: Words<'_>) -> Option<Answer<'_>> {
+    let (count, behind) = words.next_word()?;
+    match (decimal(count.text), behind.rest()) {
+        (Some(number), [b' ', name @ .., b'\n']) => Some(Answer { number, name }),
+        _ => None,
+    }
+}
+
 /// The fault that an output says, if it is nothing but the line of one.
 pub fn answer_in(output: &[u8]) -> Option<Answer<'_>> {
-    let (front, behind) = Words::new(output).next_word()?;
-    if front.text != b"error".as_slice() {
-        return None;
-    }
-    let (count, behind) = behind.next_word()?;
-    let number = decimal(count.text)?;
-    match behind.rest() {
-        [b' ', name @ .., b'\n'] => Some(Answer { number, name }),
+    match Words::new(output).next_word() {
+        Some((front, behind)) if front.text == b"error".as_slice() => answer_of_words(behind),
         _ => None,
     }
 }

@@ -1,6 +1,6 @@
 //! Hints on images in hexadecimal digits.
 
-ghost use Rattle.std.specs.Prelude.{◌≤◌, IfSome, length};
+ghost use Rattle.std.specs.Prelude.{◌≤◌, length};
 ghost use Rattle.ocp_hints.specs.Columns.{IsWithin};
 
 use crate::hint::{BYTE_ORDER_MARK, ELF_FILE, Hint};
@@ -47,20 +47,14 @@ pub(crate) fn digits_of(text: &[u8]) -> &[u8]
     }
 }
 
-/// What no image may have at this column.
-fn hint_at(digits: &[u8], column: usize) -> Option<Hint<'static>>
-    ensures within { IfSome result (λ hint. IsWithin digits.now hint.column) }
-{
-    let sentence = sentence_of_octets(digits.get(column..)?)?;
-    Some(Hint::sentence(column, sentence))
-}
-
 /// What does not fit in the digits of an image that is `Hex`.
 pub(crate) fn hint_of_digits(digits: &[u8]) -> Hint<'_>
     ensures within { IsWithin digits.now result.column }
 {
-    let odd = Hint::sentence(digits.len(), "the number of hexadecimal digits is even");
-    (0..digits.len())
-        .find_map(|column| hint_at(digits, column))
-        .unwrap_or(odd)
+    for column in 0..digits.len() {
+        if let Some(sentence) = sentence_of_octets(&digits[column..]) {
+            return Hint::sentence(column, sentence);
+        }
+    }
+    Hint::sentence(digits.len(), "the number of hexadecimal digits is even")
 }

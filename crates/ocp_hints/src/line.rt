@@ -7,7 +7,7 @@ use crate::form::{Form, form_of_request, form_of_verb};
 use crate::hint::{BYTE_ORDER_MARK, C_TEXT, FAULT_LINE, Hint, Misfit, Says, WORDS_OF_C};
 use crate::number::{decimal, is_hexadecimal};
 use crate::part::Part;
-use crate::sentences::{entry_on, hint_at};
+use crate::sentences::{entry_on, hint_of_octets};
 use crate::slot::SLOT_DIGITS;
 use crate::words::{Word, Words};
 use ocp_profile::Profile;
@@ -47,13 +47,6 @@ static FRONTS: [(&[&[u8]], &str); 6] = [
     (&[b"\t"], "this is a tab, and words are parted by spaces"),
     (&[b"\r"], "this is a carriage return inside of the line"),
 ];
-
-/// What no line may have at this column, if it is a mistake by itself.
-fn hint_at_column(line: &[u8], column: usize) -> Option<Hint<'static>>
-    ensures within { IfSome result (λ hint. IsWithin line.now hint.column) }
-{
-    hint_at(line, column, &FRONTS, "this is no plain ASCII")
-}
 
 /// Why a word is no octets in hexadecimal digits.
 fn misfit_of_octets(word: &[u8]) -> Option<Misfit<'_>> {
@@ -157,19 +150,23 @@ fn at<'a>(word: Word<'a>, says: Says<'a>) -> Option<Hint<'a>>
     })
 }
 
-/// What does not fit in the words behind `send`.
-fn hint_of_send<'a>(profile: Profile, words: Words<'a>) -> Option<Hint<'a>>
+/// The hint on a line that ends in front of the verb of a request.
+fn hint_of_missing_word<'a>(words: Words<'a>) -> Option<Hint<'a>>
     ensures within { IfSome result (λ hint. IsWithin words.entry.line.now hint.column) }
 {
-    let missing = Some(Hint::sentence(
+    Some(Hint::sentence(
         words.line.len(),
         "send <flags> <verb> .. wants another word here",
-    ));
-    let Some((flags, behind)) = words.next_word() else {
-        return missing;
-    };
-    let Some((verb, behind)) = behind.next_word() else {
-        return missing;
+    ))
+}
+
+/// What does not fit in the words behind the flags of a request, or in the flags.
+fn hint_of_request<'a>(profile: Profile, flags: Word<'a>, words: Words<'a>) -> Option<Hint<'a>>
+    requires { IsWithin words.line.now flags.column }
+    ensures within { IfSome result (λ hint. IsWithin words.entry.line.now hint.column) }
+{
+    let Some((verb, behind)) = words.next_word() else {
+        return hint_of_missing_word(words);
     };
     if misfit_of(Part::Flags, flags.text).is_some() {
         return at(flags, Says::Flags(flags.text));
@@ -180,11 +177,24 @@ fn hint_of_send<'a>(profile: Profile, words: Words<'a>) -> Option<Hint<'a>>
     }
 }
 
+/// What does not fit in the words behind `send`.
+fn hint_of_send<'a>(profile: Profile, words: Words<'a>) -> Option<Hint<'a>>
+    ensures within { IfSome result (λ hint. IsWithin words.entry.line.now hint.column) }
+{
+    match words.next_word() {
+        Some((flags, behind)) => hint_of_request(profile, flags, behind),
+        None => hint_of_missing_word(words),
+    }
+}
+
 /// The verb that a word is in other letters.
 fn verb_in_other_letters(word: &[u8]) -> Option<&'static str> {
-    VERBS
-        .into_iter()
-        .find(|verb| word.eq_ignore_ascii_case(verb.as_bytes()))
+    for verb in &VERBS {
+        if word.eq_ignore_ascii_case(verb.as_bytes()) {
+            return Some(verb);
+        }
+    }
+    None
 }
 
 /// Whether a word has the digits of one slot of an image, or more.
@@ -253,8 +263,8 @@ pub fn hint_of_line<'a>(profile: Profile, line: &'a [u8]) -> Option<Hint<'a>>
     if let [b'#', ..] = line {
         return None;
     }
-    if let Some(hint) = (0..line.len()).find_map(|column| hint_at_column(line, column)) {
-        return Some(hint);
+    match hint_of_octets(line, &FRONTS, "this is no plain ASCII") {
+        Some(hint) => Some(hint),
+        None => hint_of_command(profile, line),
     }
-    hint_of_command(profile, line)
 }

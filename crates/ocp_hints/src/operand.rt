@@ -97,7 +97,7 @@ fn fit_to(number: Option<u128>, greatest: u128, says: &'static str) -> Fit {
 fn fit_among(number: Option<u128>, widths: &[u128], says: &'static str) -> Fit {
     match number {
         None => Fit::Misfit,
-        Some(number) if widths.iter().any(|width| *width == number) => Fit::Fits,
+        Some(number) if widths.contains(&number) => Fit::Fits,
         Some(_) => Fit::Beyond(says),
     }
 }

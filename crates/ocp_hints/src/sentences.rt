@@ -33,20 +33,31 @@ pub(crate) fn entry_at_front<T: Copy>(
     None
 }
 
-/// What no line may have at this column, if it is a mistake by itself: what a table has for the
-/// front of the octets there, or the sentence on an octet that is no ASCII.
-pub(crate) fn hint_at(
+/// What no line may have at the front of these octets: what a table has for it, or the sentence on
+/// an octet that is no ASCII.
+fn sentence_at_front(
+    octets: &[u8],
+    fronts: &[(&'static [&'static [u8]], &'static str)],
+    not_ascii: &'static str,
+) -> Option<&'static str> {
+    entry_at_front(octets, fronts).or(match octets {
+        [0x80..=0xff, ..] => Some(not_ascii),
+        _ => None,
+    })
+}
+
+/// The first octet that no line may have, if it is a mistake by itself.
+pub(crate) fn hint_of_octets(
     line: &[u8],
-    column: usize,
     fronts: &[(&'static [&'static [u8]], &'static str)],
     not_ascii: &'static str,
 ) -> Option<Hint<'static>>
     ensures within { IfSome result (λ hint. IsWithin line.now hint.column) }
 {
-    let octets = line.get(column..)?;
-    let sentence = entry_at_front(octets, fronts).or(match octets {
-        [0x80..=0xff, ..] => Some(not_ascii),
-        _ => None,
-    })?;
-    Some(Hint::sentence(column, sentence))
+    for column in 0..line.len() {
+        if let Some(sentence) = sentence_at_front(&line[column..], fronts, not_ascii) {
+            return Some(Hint::sentence(column, sentence));
+        }
+    }
+    None
 }

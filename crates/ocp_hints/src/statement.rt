@@ -10,7 +10,7 @@ use crate::operand::Operand::{
     ShortExtension, SwapWidth, Target, Wide,
 };
 use crate::operand::{Fit, Operand, is_name};
-use crate::sentences::{entry_on, hint_at};
+use crate::sentences::{entry_on, hint_of_octets};
 use crate::tokens::Tokens;
 use crate::words::Word;
 use bpf_canonical::{Mnemonic, Stem, Text, read_mnemonic};
@@ -133,6 +133,8 @@ fn says_of_no_mnemonic(word: &[u8]) -> Says<'_> {
     Says::Sentence(entry_on(word, &NO_MNEMONICS).unwrap_or(other))
 }
 
+const NOT_ASCII: &str = "outside of comments a text is plain ASCII";
+
 /// What no statement may have at a place, where it is a mistake by itself.
 static FRONTS: [(&[&[u8]], &str); 11] = [
     (&[b"\xef\xbb\xbf"], BYTE_ORDER_MARK),
@@ -167,27 +169,14 @@ static FRONTS: [(&[&[u8]], &str); 11] = [
     ),
 ];
 
-/// What no statement may have at this column, if it is a mistake by itself.
-fn hint_at_column(line: &[u8], column: usize) -> Option<Hint<'static>>
-    ensures within { IfSome result (λ hint. IsWithin line.now hint.column) }
+/// A line without its comment.
+fn without_comment(line: &[u8]) -> &[u8]
+    ensures { length result.now ≤ length line.now }
 {
-    hint_at(
-        line,
-        column,
-        &FRONTS,
-        "outside of comments a text is plain ASCII",
-    )
-}
-
-/// The first octet in front of the comment that no statement may have.
-fn hint_of_octets(line: &[u8]) -> Option<Hint<'static>>
-    ensures within { IfSome result (λ hint. IsWithin line.now hint.column) }
-{
-    let end = line
-        .iter()
-        .position(|octet| *octet == b';')
-        .unwrap_or(line.len());
-    (0..end).find_map(|column| hint_at_column(line, column))
+    match line.iter().position(|octet| *octet == b';') {
+        Some(end) => &line[..end],
+        None => line,
+    }
 }
 
 /// What in the operands of a statement does not fit.
@@ -320,8 +309,8 @@ pub fn hint_of_statement(line: &[u8]) -> Hint<'_>
     ensures within { IsWithin line.now result.column }
 {
     let hint = hint_of_labels(line).unwrap_or(hint_of_words(line));
-    let is_binary = line.iter().any(|octet| *octet == 0);
-    match hint_of_octets(line) {
+    let is_binary = line.contains(&0);
+    match hint_of_octets(without_comment(line), &FRONTS, NOT_ASCII) {
         Some(octet) if is_binary || octet.column <= hint.column => octet,
         _ => hint,
     }
@@ -332,9 +321,14 @@ fn hint_of_range(line: &[u8]) -> Hint<'_>
     ensures within { IsWithin line.now result.column }
 {
     let (mnemonic, behind) = behind_label(line).next_token();
-    let range = statement_of(mnemonic.text, behind).and_then(|statement| statement.misfits.range);
-    let (column, sentence) = range.unwrap_or((behind.last_token().column, LABEL));
-    Hint::sentence(column, sentence)
+    let range = match statement_of(mnemonic.text, behind) {
+        Some(statement) => statement.misfits.range,
+        None => None,
+    };
+    match range {
+        Some((column, sentence)) => Hint::sentence(column, sentence),
+        None => Hint::sentence(behind.last_token().column, LABEL),
+    }
 }
 
 /// The token of a line that a fault is about.
