@@ -12,14 +12,14 @@ use std::io;
 use std::time::Instant;
 
 /// A load of procedure 3: `add64 r0, 1` and a jump back to it.
-const LOAD: [u8; 33] = [
+static LOAD: [u8; 33] = [
     0x19, 0x23, 0xc0, 0x00, 0x00, 0x1a, 0x29, 0x12, 0x01, 0x00, 0x00, 0x00, 0x03, 0x00, 0x10, 0x07,
     0x00, 0x00, 0x00, 0x01, 0x00, 0x00, 0x00, 0x05, 0x00, 0xfe, 0xff, 0x00, 0x00, 0x00, 0x00, 0x5a,
     0x04,
 ];
 
 /// Its activation, with no arguments.
-const ACTIVATE: [u8; 17] = [
+static ACTIVATE: [u8; 17] = [
     0x19, 0x23, 0xc0, 0x01, 0x00, 0x0a, 0x29, 0x12, 0x03, 0x00, 0x00, 0x00, 0x03, 0x00, 0x00, 0xb7,
     0xb8,
 ];
@@ -113,20 +113,28 @@ fn time_slices(
     say(rt, blocks, "slice", budget, calls, timed)
 }
 
-fn time_engine(rt: &HostRuntime, blocks: u32) -> io::Result<()> {
-    let alloc = rt.alloc();
-    let mut engine: Engine = Engine::new(alloc, Profile::One, APID, POOL_WORDS, MAX_CAPACITY)?;
-    for packet in [LOAD.as_slice(), ACTIVATE.as_slice()] {
-        let reports = engine.request(alloc, 0, 0, packet);
-        if reports.is_err() {
-            return Err(AllocError.into());
-        }
+/// Has an engine do a request of these octets.
+fn request(rt: &HostRuntime, engine: &mut Engine, packet: &[u8]) -> io::Result<()> {
+    match engine.request(rt.alloc(), 0, 0, packet) {
+        Ok(_) => Ok(()),
+        Err(_) => Err(AllocError.into()),
     }
-    time_slices(rt, blocks, &mut engine, 1, 1_000)?;
-    time_slices(rt, blocks, &mut engine, 10, 1_000)?;
-    time_slices(rt, blocks, &mut engine, 100, 1_000)?;
-    time_slices(rt, blocks, &mut engine, 1_000, 200)?;
-    time_slices(rt, blocks, &mut engine, 1_000_000, 1)
+}
+
+/// Times slices of procedure 3, which it loads and activates.
+fn time_procedure(rt: &HostRuntime, blocks: u32, engine: &mut Engine) -> io::Result<()> {
+    request(rt, engine, &LOAD)?;
+    request(rt, engine, &ACTIVATE)?;
+    time_slices(rt, blocks, engine, 1, 1_000)?;
+    time_slices(rt, blocks, engine, 10, 1_000)?;
+    time_slices(rt, blocks, engine, 100, 1_000)?;
+    time_slices(rt, blocks, engine, 1_000, 200)?;
+    time_slices(rt, blocks, engine, 1_000_000, 1)
+}
+
+fn time_engine(rt: &HostRuntime, blocks: u32) -> io::Result<()> {
+    let mut engine = Engine::new(rt.alloc(), Profile::One, APID, POOL_WORDS, MAX_CAPACITY)?;
+    time_procedure(rt, blocks, &mut engine)
 }
 
 /// Times the error control of a full image, and slices, over so many blocks of calls.
