@@ -56,7 +56,7 @@ impl Calls for Desk {
     fn answer(&mut self, alloc: Global, words: &[&str]) -> Result<Reply, Fault> {
         match words {
             ["ocp_seats.new"] if self.engine.is_some() => Ok(Reply::Last(text_of(alloc, "Ok")?)),
-            _ => Ok(Reply::Text(self.text(alloc, words)?)),
+            _ => self.text(alloc, words).map(Reply::Text),
         }
     }
 }

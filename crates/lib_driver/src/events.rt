@@ -17,14 +17,9 @@ pub(crate) fn run(engine: &mut Engine, alloc: Global, words: &[&str]) -> Result<
 /// The words of each event.
 fn groups<'a, 'b>(alloc: Global, words: &'b [&'a str]) -> Result<Vec<&'b [&'a str]>, Fault> {
     let mut groups = Vec::new(alloc);
-    let mut start = 0usize;
-    for (place, word) in words.iter().enumerate() {
-        if *word == "," {
-            groups.push(words.get(start..place).ok_or(Fault::Syntax)?)?;
-            start = place.saturating_add(1);
-        }
+    for group in words.split(|word| *word == ",") {
+        groups.push(group)?;
     }
-    groups.push(words.get(start..).ok_or(Fault::Syntax)?)?;
     Ok(groups)
 }
 

@@ -96,16 +96,24 @@ pub(crate) fn answer<T: Kept>(
         ["ocp_regions.new" | "bpf_step.new", profile] => {
             add(alloc, kept, T::make(alloc, profile_of(profile)?))
         }
-        ["ocp_regions.copy" | "bpf_step.copy", number] => {
-            let copied = at(kept, number)?.duplicate(alloc);
-            add(alloc, kept, copied)
-        }
+        ["ocp_regions.copy" | "bpf_step.copy", number] => copy(alloc, kept, number),
         ["ocp_regions.is_same" | "bpf_step.is_same", one, other] => {
-            text_of(alloc, at(kept, one)?.equals(at(kept, other)?))
+            is_same(alloc, kept, one, other)
         }
         [name, number, arguments @ ..] => place_of(kept, number)?.call(alloc, name, arguments),
         _ => Err(Fault::Syntax),
     }
+}
+
+/// Adds a copy of a memory or of a machine, and says its number.
+fn copy<T: Kept>(alloc: Global, kept: &mut Vec<T>, number: &str) -> Result<String, Fault> {
+    let copied = at(kept, number)?.duplicate(alloc);
+    add(alloc, kept, copied)
+}
+
+/// Whether two memories or two machines are the same.
+fn is_same<T: Kept>(alloc: Global, kept: &[T], one: &str, other: &str) -> Result<String, Fault> {
+    text_of(alloc, at(kept, one)?.equals(at(kept, other)?))
 }
 
 /// The memory or the machine of a number.
@@ -208,10 +216,7 @@ fn machine_answer(
             machine_octets(alloc, machine, address, before)
         }
         ("bpf_step.start", [arguments]) => start(alloc, machine, arguments),
-        ("bpf_step.finish_call", [r0]) => finish_call(alloc, machine, number(r0)?, None),
-        ("bpf_step.finish_call", [r0, r1]) => {
-            finish_call(alloc, machine, number(r0)?, Some(number(r1)?))
-        }
+        ("bpf_step.finish_call", results) => finish_call(alloc, machine, results),
         _ => Err(Fault::Syntax),
     }
 }
@@ -236,12 +241,17 @@ fn start(alloc: Global, machine: &mut Machine, word: &str) -> Result<String, Fau
     text_of(alloc, "Ok")
 }
 
-fn finish_call(
-    alloc: Global,
-    machine: &mut Machine,
-    r0: u64,
-    r1: Option<u64>,
-) -> Result<String, Fault> {
+/// The results of a call in words: that of r0, and that of r1 where there is one.
+fn results_of(words: &[&str]) -> Result<(u64, Option<u64>), Fault> {
+    match *words {
+        [r0] => Ok((number(r0)?, None)),
+        [r0, r1] => Ok((number(r0)?, Some(number(r1)?))),
+        _ => Err(Fault::Syntax),
+    }
+}
+
+fn finish_call(alloc: Global, machine: &mut Machine, words: &[&str]) -> Result<String, Fault> {
+    let (r0, r1) = results_of(words)?;
     if usize::from(machine.place()) >= MAX_SLOTS {
         return Err(Fault::Syntax);
     }

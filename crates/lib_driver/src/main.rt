@@ -60,10 +60,12 @@ impl Calls for Things {
         let [name, ..] = words else {
             return Err(Fault::Syntax);
         };
-        let (library, _) = name.split_once('.').ok_or(Fault::Syntax)?;
+        let Some((library, _)) = name.split_once('.') else {
+            return Err(Fault::Syntax);
+        };
         match library {
             "ocp_table" | "ocp_debug" | "ocp_core" | "ocp_seats" => self.desk.answer(alloc, words),
-            _ => Ok(Reply::Text(answer(&mut self.made, alloc, library, words)?)),
+            _ => answer(&mut self.made, alloc, library, words).map(Reply::Text),
         }
     }
 }

@@ -47,7 +47,9 @@ impl<L: Naming> Shared<L> {
     /// Closes the book with the seats of these numbers.
     fn close(&mut self, alloc: Global, numbers: &[&str]) -> Result<Reply, Fault> {
         let seats = take_seats(alloc, &mut self.seats, numbers)?;
-        let book = self.book.take().ok_or(Fault::Syntax)?;
+        let Some(book) = self.book.take() else {
+            return Err(Fault::Syntax);
+        };
         match book.close(seats) {
             Ok(engine) => {
                 self.closed = Some(engine);

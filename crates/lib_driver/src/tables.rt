@@ -80,13 +80,21 @@ fn request(
             activate(table, alloc, id, number(budget)?, arguments)
         }
         ("ocp_table.communicate", numbers) => communicate(table, alloc, id, numbers),
-        ("ocp_table.unload", []) => show_start(alloc, table.unload(id)),
-        ("ocp_table.resume", []) => show_start(alloc, table.resume(id)),
-        ("ocp_table.abort", []) => show_start(alloc, table.abort(id)),
         ("ocp_table.stop", [step]) => stop(table, alloc, id, number(step)?),
         ("ocp_table.suspend", [step]) => suspend(table, alloc, id, number(step)?),
-        ("ocp_debug.view", []) => show_view(alloc, view(table, id)),
+        (_, []) => plain_request(table, alloc, name, id),
         (_, [argument]) => debug(table, alloc, name, id, argument),
+        _ => Err(Fault::Syntax),
+    }
+}
+
+/// The answer of a call that has no arguments.
+fn plain_request(table: &mut Table, alloc: Global, name: &str, id: u16) -> Result<String, Fault> {
+    match name {
+        "ocp_table.unload" => show_start(alloc, table.unload(id)),
+        "ocp_table.resume" => show_start(alloc, table.resume(id)),
+        "ocp_table.abort" => show_start(alloc, table.abort(id)),
+        "ocp_debug.view" => show_view(alloc, view(table, id)),
         _ => Err(Fault::Syntax),
     }
 }

@@ -23,16 +23,25 @@ pub(crate) fn answer(
         ["ocp_core.pool_word", index] => {
             text_of(alloc, OrNone(engine.pool_word(number(index)?)))
         }
-        ["ocp_core.view", id] => show_view(alloc, engine.view(number(id)?)),
-        ["ocp_core.registers", id] => show_registers(alloc, engine.view(number(id)?)),
-        ["ocp_core.replay_one", id] => {
-            show_machine(alloc, replay_one(alloc, engine.journal(), number(id)?)?)
-        }
-        ["ocp_core.ticket", id] => {
-            let ticket = engine.ticket(alloc, number(id)?)?;
-            runs.add(alloc, ticket)
-        }
         ["ocp_core.run_ticket", ticket, budget] => runs.run(alloc, ticket, number(budget)?),
+        [name, id] => procedure_answer(engine, runs, alloc, name, number(id)?),
+        _ => Err(Fault::Syntax),
+    }
+}
+
+/// The answer of a call for a procedure.
+fn procedure_answer(
+    engine: &Engine,
+    runs: &mut Runs,
+    alloc: Global,
+    name: &str,
+    id: u16,
+) -> Result<String, Fault> {
+    match name {
+        "ocp_core.view" => show_view(alloc, engine.view(id)),
+        "ocp_core.registers" => show_registers(alloc, engine.view(id)),
+        "ocp_core.replay_one" => show_machine(alloc, replay_one(alloc, engine.journal(), id)?),
+        "ocp_core.ticket" => runs.add(alloc, engine.ticket(alloc, id)?),
         _ => Err(Fault::Syntax),
     }
 }

@@ -16,10 +16,19 @@ use std::alloc::{AllocError, Allocator, Global};
 use std::marker::Model;
 
 /// The engine, seen as its journal. Its state is the replay of the journal.
-#[derive(Drop)]
 pub struct Engine<A: Allocator = Global> {
     pub(crate) journal: Journal<A>,
     pub(crate) state: State<A>,
+}
+
+/// One call wherever an engine ends, in place of a drop of each of its parts there.
+impl<A: Allocator> Drop for Engine<A> {
+    fn drop(self) {
+        let Self {
+            journal: _,
+            state: _,
+        } = self;
+    }
 }
 
 impl<A: Allocator> Model for Engine<A> {

@@ -22,10 +22,16 @@ pub(crate) struct Parts<A: Allocator> {
 /// A copy of a running procedure: its machine, which is to compare with, another machine with the
 /// same addresses, which is to become like it and to run, the shared program, the breakpoints, the
 /// pass flag, the trace flag and what remains of the budget.
-#[derive(Drop)]
 pub struct Ticket<A: Allocator = Global> {
     pub(crate) id: u16,
     pub(crate) parts: Box<Parts<A>, A>,
+}
+
+/// One call wherever a ticket ends, in place of a drop of each of its parts there.
+impl<A: Allocator> Drop for Ticket<A> {
+    fn drop(self) {
+        let Self { id: _, parts: _ } = self;
+    }
 }
 
 impl<A: Allocator> Model for Ticket<A> {
@@ -40,11 +46,21 @@ impl<A: Allocator> Model for Ticket<A> {
 
 /// What a ticket did: its machine is the one that it began with after that many instructions that
 /// need no engine.
-#[derive(Drop)]
 pub struct Work<A: Allocator = Global> {
     pub(crate) id: u16,
     pub(crate) parts: Box<Parts<A>, A>,
     pub(crate) count: u32,
+}
+
+/// One call wherever a work ends, in place of a drop of each of its parts there.
+impl<A: Allocator> Drop for Work<A> {
+    fn drop(self) {
+        let Self {
+            id: _,
+            parts: _,
+            count: _,
+        } = self;
+    }
 }
 
 impl<A: Allocator> Model for Work<A> {
@@ -75,7 +91,7 @@ impl<A: Allocator> Ticket<A> {
         ensures count { result.count ≡ count_of self.base budget }
         ensures ran { IsRun result }
     {
-        let Ticket { id, mut parts } = self;
+        let Self { id, mut parts } = self;
         let run = &mut *parts;
         let count = run.base.run(&mut run.machine, budget);
         Work { id, parts, count }
@@ -95,7 +111,11 @@ impl<A: Allocator> Work<A> {
         ensures { result ≡ record { id = self.id; base = self.base } }
     {
         runs_keep_the_addresses();
-        let Work { id, parts, .. } = self;
+        let Self {
+            id,
+            parts,
+            count: _,
+        } = self;
         Ticket { id, parts }
     }
 

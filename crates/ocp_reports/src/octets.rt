@@ -100,9 +100,15 @@ impl<A: Allocator> Packets<A> {
 
 /// The reports of one request, each a whole telemetry packet, in the order in which they are sent.
 /// All handles of the same reports share one memory.
-#[derive(Drop)]
 pub struct Reports<A: Allocator = Global> {
     packets: Arc<Packets<A>, A>,
+}
+
+/// One call wherever reports end, in place of a drop of their parts there.
+impl<A: Allocator> Drop for Reports<A> {
+    fn drop(self) {
+        let Self { packets: _ } = self;
+    }
 }
 
 impl<A: Allocator> Model for Reports<A> {

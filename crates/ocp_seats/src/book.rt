@@ -16,7 +16,6 @@ use std::sync::ledger::{Blank, Share};
 /// An engine with what its seats are counted by: the procedure taken last by any seat, the number
 /// of its entries at the start, the number of seats handed out, the count of the entries since, and
 /// the share that is not handed out. What each turn writes comes first, beside the lock.
-#[derive(Drop)]
 pub struct Book<L: Naming, A: Allocator = Global> {
     taken: Option<u16>,
     pub(crate) engine: Engine<A>,
@@ -24,6 +23,13 @@ pub struct Book<L: Naming, A: Allocator = Global> {
     seats: u16,
     pub(crate) tally: ledger::Book<L>,
     rest: Share<L>,
+}
+
+/// One call wherever a book ends, in place of a drop of each of its parts there.
+impl<L: Naming, A: Allocator> Drop for Book<L, A> {
+    fn drop(self) {
+        let _engine = self.into_engine();
+    }
 }
 
 impl<L: Naming, A: Allocator> Model for Book<L, A> {
@@ -163,7 +169,15 @@ impl<L: Naming, A: Allocator> Book<L, A> {
     pub fn into_engine(self) -> Engine<A>
         ensures { result ≡ self.engine }
     {
-        self.engine
+        let Self {
+            engine,
+            taken: _,
+            start: _,
+            seats: _,
+            tally: _,
+            rest: _,
+        } = self;
+        engine
     }
 }
 

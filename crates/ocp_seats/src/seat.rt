@@ -30,11 +30,21 @@ impl Naming for Brand {
 
 /// A seat at a shared engine: its number, its part in the count of the engine's entries, and a
 /// receipt for each entry that its calls appended.
-#[derive(Drop)]
 pub struct Seat<L: Naming, A: Allocator = Global> {
     pub(crate) number: u16,
     pub(crate) share: Share<L>,
     pub(crate) receipts: Vec<Entry<A>, A>,
+}
+
+/// One call wherever a seat ends, in place of a drop of each of its parts there.
+impl<L: Naming, A: Allocator> Drop for Seat<L, A> {
+    fn drop(self) {
+        let Self {
+            number: _,
+            share: _,
+            receipts: _,
+        } = self;
+    }
 }
 
 impl<L: Naming, A: Allocator> Model for Seat<L, A> {
