@@ -4,80 +4,159 @@ use crate::number::decimal;
 use crate::sentences::entry_on;
 use crate::words::Words;
 
-/// A fault that ends an output: the number of its line or slot, or 0, and its name.
+/// A fault of an assembly text or of an image, as far as it decides what is said and where the mark
+/// stands.
 #[derive(Clone, Copy)]
-pub struct Answer<'a> {
+pub(crate) enum Fault {
+    Syntax,
+    Range,
+    Hex,
+    TooLong,
+    Ragged,
+    DuplicateLabel,
+    UnknownLabel,
+    WritesFramePointer,
+    BadCall,
+    BadTarget,
+    CutWide,
+    BadRegister,
+    ReservedField,
+    Other,
+}
+
+/// A fault that ends an output.
+#[derive(Clone, Copy)]
+pub struct Answer {
+    /// The number of its line or slot, or 0.
     pub number: u64,
-    pub name: &'a [u8],
+    pub(crate) fault: Fault,
+    /// What the fault means.
+    pub(crate) sentence: &'static str,
+}
+
+/// What is said of a fault that has no sentence of its own.
+const MISFIT: &str = "this does not fit";
+
+/// The faults of an assembly text or of an image by name, and what each means. What is said of the
+/// first three comes from the input.
+static FAULTS: [(&[&str], (Fault, &str)); 17] = [
+    (&["Syntax"], (Fault::Syntax, MISFIT)),
+    (&["Range"], (Fault::Range, MISFIT)),
+    (&["Hex"], (Fault::Hex, MISFIT)),
+    (
+        &["DuplicateLabel"],
+        (
+            Fault::DuplicateLabel,
+            "this label stands in front of another line already",
+        ),
+    ),
+    (
+        &["UnknownLabel"],
+        (Fault::UnknownLabel, "no line of the text has this label"),
+    ),
+    (
+        &["TooLong"],
+        (Fault::TooLong, "an input has at most 1048576 octets"),
+    ),
+    (
+        &["Ragged"],
+        (Fault::Ragged, "an image is whole slots of 16 digits"),
+    ),
+    (
+        &["Load 1"],
+        (
+            Fault::Other,
+            "EmptyCode: a procedure has at least one instruction",
+        ),
+    ),
+    (
+        &["Load 3"],
+        (
+            Fault::Other,
+            "TooLong: an image has at most 2048 slots, and lddw takes two",
+        ),
+    ),
+    (
+        &["Load 8", "Decode 5"],
+        (
+            Fault::WritesFramePointer,
+            "WritesFramePointer: r10 is read and never written",
+        ),
+    ),
+    (
+        &["Load 9"],
+        (
+            Fault::BadCall,
+            "BadCall: engine calls are 1 to 5, and 6 under profile 2",
+        ),
+    ),
+    (
+        &["Load 10"],
+        (
+            Fault::BadTarget,
+            "BadTarget: a jump or a local call ends at an instruction of the image",
+        ),
+    ),
+    (
+        &["Load 11"],
+        (
+            Fault::Other,
+            "FallsOffEnd: the last instruction is exit, ja or ja32",
+        ),
+    ),
+    (
+        &["Decode 1"],
+        (
+            Fault::CutWide,
+            "CutWide: the second slot of lddw is missing",
+        ),
+    ),
+    (
+        &["Decode 2"],
+        (
+            Fault::Other,
+            "UnknownOpcode: no instruction has the opcode in the first octet",
+        ),
+    ),
+    (
+        &["Decode 3"],
+        (
+            Fault::BadRegister,
+            "BadRegister: registers are 0 to 10, in the halves of the second octet",
+        ),
+    ),
+    (
+        &["Decode 4"],
+        (
+            Fault::ReservedField,
+            "ReservedField: a field has a value that its instruction does not allow",
+        ),
+    ),
+];
+
+/// The fault of this number and name.
+fn answer_of(number: u64, name: &[u8]) -> Answer {
+    let (fault, sentence) = entry_on(name, &FAULTS).unwrap_or((Fault::Other, MISFIT));
+    Answer {
+        number,
+        fault,
+        sentence,
+    }
 }
 
 /// The fault whose number and name these words are, with the newline behind them.
-fn answer_of_words(words: Words<'_>) -> Option<Answer<'_>> {
+fn answer_of_words(words: Words<'_>) -> Option<Answer> {
     let (count, behind) = words.next_word()?;
     match (decimal(count.text), behind.rest()) {
-        (Some(number), [b' ', name @ .., b'\n']) => Some(Answer { number, name }),
+        (Some(number), [b' ', name @ .., b'\n']) => Some(answer_of(number, name)),
         _ => None,
     }
 }
 
 /// The fault that an output says, if it is nothing but the line of one.
-pub fn answer_in(output: &[u8]) -> Option<Answer<'_>> {
+pub fn answer_in(output: &[u8]) -> Option<Answer> {
     match Words::new(output).next_word() {
         Some((front, behind)) if front.text == b"error".as_slice() => answer_of_words(behind),
         _ => None,
     }
-}
-
-/// The faults of an assembly text or of an image, `Syntax`, `Range` and `Hex` aside, and what each
-/// means.
-static FAULTS: [(&[&str], &str); 14] = [
-    (
-        &["DuplicateLabel"],
-        "this label stands in front of another line already",
-    ),
-    (&["UnknownLabel"], "no line of the text has this label"),
-    (&["TooLong"], "an input has at most 1048576 octets"),
-    (&["Ragged"], "an image is whole slots of 16 digits"),
-    (
-        &["Load 1"],
-        "EmptyCode: a procedure has at least one instruction",
-    ),
-    (
-        &["Load 3"],
-        "TooLong: an image has at most 2048 slots, and lddw takes two",
-    ),
-    (
-        &["Load 8", "Decode 5"],
-        "WritesFramePointer: r10 is read and never written",
-    ),
-    (
-        &["Load 9"],
-        "BadCall: engine calls are 1 to 5, and 6 under profile 2",
-    ),
-    (
-        &["Load 10"],
-        "BadTarget: a jump or a local call ends at an instruction of the image",
-    ),
-    (
-        &["Load 11"],
-        "FallsOffEnd: the last instruction is exit, ja or ja32",
-    ),
-    (&["Decode 1"], "CutWide: the second slot of lddw is missing"),
-    (
-        &["Decode 2"],
-        "UnknownOpcode: no instruction has the opcode in the first octet",
-    ),
-    (
-        &["Decode 3"],
-        "BadRegister: registers are 0 to 10, in the halves of the second octet",
-    ),
-    (
-        &["Decode 4"],
-        "ReservedField: a field has a value that its instruction does not allow",
-    ),
-];
-
-/// What such a fault means.
-pub(crate) fn sentence_of_fault(name: &[u8]) -> &'static str {
-    entry_on(name, &FAULTS).unwrap_or("this does not fit")
 }

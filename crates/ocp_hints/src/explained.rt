@@ -2,12 +2,12 @@
 
 ghost use Rattle.ocp_hints.specs.Columns.{IsWithin};
 
-use crate::answer::{Answer, sentence_of_fault};
+use crate::answer::{Answer, Fault};
 use crate::hint::{Hint, write_octets};
 use crate::image::{digits_of, hint_of_digits};
 use crate::line::hint_of_line;
 use crate::slot::{SLOT_DIGITS, column_of_fault};
-use crate::statement::{hint_of_fault, hint_of_statement};
+use crate::statement::hint_of_fault;
 use ocp_profile::Profile;
 use std::fmt;
 use text_lines::without_carriage_return;
@@ -109,14 +109,11 @@ impl<'a> Explained<'a> {
     }
 
     /// What did not fit in an assembly text.
-    pub fn of_text(text: &'a [u8], answer: Answer<'_>) -> Explained<'a>
+    pub fn of_text(text: &'a [u8], answer: Answer) -> Explained<'a>
         ensures within { IsWithin result.line.now result.hint.column }
     {
         let line = line_at(text, answer.number);
-        let hint = match answer.name {
-            b"Syntax" => hint_of_statement(line),
-            name => hint_of_fault(line, name),
-        };
+        let hint = hint_of_fault(line, answer);
         match answer.number {
             0 => Explained {
                 place: Place::Input,
@@ -135,36 +132,41 @@ impl<'a> Explained<'a> {
     }
 
     /// What did not fit in the digits of an image.
-    pub fn of_image(text: &'a [u8], answer: Answer<'_>) -> Explained<'a>
+    pub fn of_image(text: &'a [u8], answer: Answer) -> Explained<'a>
         ensures within { IsWithin result.line.now result.hint.column }
     {
         let digits = digits_of(text);
-        match answer.name {
-            b"Hex" => Explained {
+        match answer.fault {
+            Fault::Hex => Explained {
                 place: Place::Input,
                 line: digits,
                 hint: hint_of_digits(digits),
             },
-            b"TooLong" => Explained {
+            Fault::TooLong => Explained {
                 place: Place::Input,
                 line: &[],
-                hint: Hint::sentence(0, sentence_of_fault(answer.name)),
+                hint: Hint::sentence(0, answer.sentence),
             },
-            name => {
-                let number = match name {
-                    b"Ragged" => (digits.len() / SLOT_DIGITS) as u64,
-                    _ => answer.number,
-                };
-                let shown = digits_of_instruction(slots_from(digits, number));
-                Explained {
-                    place: Place::Slot(number),
-                    line: shown,
-                    hint: Hint::sentence(
-                        column_of_fault(name, shown).min(shown.len()),
-                        sentence_of_fault(name),
-                    ),
-                }
+            Fault::Ragged => {
+                let number = (digits.len() / SLOT_DIGITS) as u64;
+                Explained::of_slot(digits, number, answer)
             }
+            _ => Explained::of_slot(digits, answer.number, answer),
+        }
+    }
+
+    /// What did not fit in the slot of this number.
+    fn of_slot(digits: &'a [u8], number: u64, answer: Answer) -> Explained<'a>
+        ensures within { IsWithin result.line.now result.hint.column }
+    {
+        let shown = digits_of_instruction(slots_from(digits, number));
+        Explained {
+            place: Place::Slot(number),
+            line: shown,
+            hint: Hint::sentence(
+                column_of_fault(answer.fault, shown).min(shown.len()),
+                answer.sentence,
+            ),
         }
     }
 }

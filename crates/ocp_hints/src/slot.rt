@@ -1,5 +1,6 @@
 //! Where a slot of an image does not fit.
 
+use crate::answer::Fault;
 use crate::sentences::entry_at_front;
 
 /// How many digits a slot has.
@@ -68,17 +69,17 @@ fn reserved_column(digits: &[u8]) -> usize {
 }
 
 /// How many digits of an instruction stand before what is at fault.
-pub(crate) fn column_of_fault(name: &[u8], digits: &[u8]) -> usize {
-    match name {
-        b"Decode 1" | b"Ragged" => digits.len(),
-        b"Decode 3" => {
+pub(crate) fn column_of_fault(fault: Fault, digits: &[u8]) -> usize {
+    match fault {
+        Fault::CutWide | Fault::Ragged => digits.len(),
+        Fault::BadRegister => {
             match digits {
                 [_, _, _, b'b'..=b'f' | b'B'..=b'F', ..] => DESTINATION.0,
                 _ => SOURCE.0,
             }
         }
-        b"Decode 4" => reserved_column(digits),
-        b"Decode 5" => DESTINATION.0,
+        Fault::ReservedField => reserved_column(digits),
+        Fault::WritesFramePointer => DESTINATION.0,
         _ => 0,
     }
 }

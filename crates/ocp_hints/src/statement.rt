@@ -3,7 +3,7 @@
 ghost use Rattle.std.specs.Prelude.{◌+◌, ◌≤◌, IfSome, length};
 ghost use Rattle.ocp_hints.specs.Columns.{IsWithin};
 
-use crate::answer::sentence_of_fault;
+use crate::answer::{Answer, Fault};
 use crate::hint::{BYTE_ORDER_MARK, C_TEXT, ELF_FILE, FAULT_LINE, Hint, Says, WORDS_OF_C};
 use crate::operand::Operand::{
     Closes, Comma, Extension, Immediate, LongTarget, Offset, Opens, Register, Second,
@@ -32,22 +32,34 @@ struct Shape {
     operands: &'static [Operand],
 }
 
-/// What stands behind a mnemonic; of `call` the word behind it decides.
-fn shape_of(mnemonic: Mnemonic, is_local: bool) -> Shape {
-    let (text, operands): (&str, &[Operand]) = match mnemonic {
-        Mnemonic::Classed(Stem::Arithmetic(_), _) => (
+/// What stands behind a mnemonic of two widths.
+fn shape_of_classed(stem: Stem, width: Width) -> Shape {
+    let (text, operands): (&str, &[Operand]) = match (stem, width) {
+        (Stem::Arithmetic(_), _) => (
             "<register>, <register or number>",
             &[Register, Comma, Second],
         ),
-        Mnemonic::Classed(Stem::Negate, _) => ("<register>", &[Register]),
-        Mnemonic::Classed(Stem::MoveExtended, Width::W64) => (
+        (Stem::Negate, _) => ("<register>", &[Register]),
+        (Stem::MoveExtended, Width::W64) => (
             "<register>, <register>, 8 or 16 or 32",
             &[Register, Comma, Register, Comma, Extension],
         ),
-        Mnemonic::Classed(Stem::MoveExtended, Width::W32) => (
+        (Stem::MoveExtended, Width::W32) => (
             "<register>, <register>, 8 or 16",
             &[Register, Comma, Register, Comma, ShortExtension],
         ),
+        (Stem::JumpIf(_), _) => (
+            "<register>, <register or number>, <distance with its sign, or label>",
+            &[Register, Comma, Second, Comma, Target],
+        ),
+    };
+    Shape { text, operands }
+}
+
+/// What stands behind a mnemonic; of `call` the word behind it decides.
+fn shape_of(mnemonic: Mnemonic, is_local: bool) -> Shape {
+    let (text, operands): (&str, &[Operand]) = match mnemonic {
+        Mnemonic::Classed(stem, width) => return shape_of_classed(stem, width),
         Mnemonic::ByteOrder(_) => { ("<register>, 16 or 32 or 64", &[Register, Comma, SwapWidth]) }
         Mnemonic::LoadWide => (
             "<register>, <number without a sign>",
@@ -64,10 +76,6 @@ fn shape_of(mnemonic: Mnemonic, is_local: bool) -> Shape {
         Mnemonic::StoreImmediate(_) => (
             "[<register>+<distance>], <number>",
             &[Opens, Register, Offset, Closes, Comma, Immediate],
-        ),
-        Mnemonic::Classed(Stem::JumpIf(_), _) => (
-            "<register>, <register or number>, <distance with its sign, or label>",
-            &[Register, Comma, Second, Comma, Target],
         ),
         Mnemonic::Jump => (TARGET, &[Target]),
         Mnemonic::LongJump => (TARGET, &[LongTarget]),
@@ -133,6 +141,7 @@ fn says_of_no_mnemonic(word: &[u8]) -> Says<'_> {
     Says::Sentence(entry_on(word, &NO_MNEMONICS).unwrap_or(other))
 }
 
+/// What is said of an octet that is no ASCII.
 const NOT_ASCII: &str = "outside of comments a text is plain ASCII";
 
 /// What no statement may have at a place, where it is a mistake by itself.
@@ -331,41 +340,27 @@ fn hint_of_range(line: &[u8]) -> Hint<'_>
     }
 }
 
-/// The token of a line that a fault is about.
-#[derive(Clone, Copy)]
-enum About {
-    Label,
-    FirstOperand,
-    LastToken,
-}
-
-/// What a fault is about, where it isn't the mnemonic.
-static ABOUT: [(&[&str], About); 3] = [
-    (&["DuplicateLabel"], About::Label),
-    (&["Load 8"], About::FirstOperand),
-    (&["UnknownLabel", "Load 9", "Load 10"], About::LastToken),
-];
-
 /// Where the token stands that a fault is about.
-fn column_of_fault(line: &[u8], name: &[u8]) -> usize
+fn column_of_fault(line: &[u8], fault: Fault) -> usize
     ensures { IsWithin line.now result }
 {
     let (mnemonic, behind) = behind_label(line).next_token();
-    let token = match entry_on(name, &ABOUT) {
-        Some(About::Label) => Tokens::new(line).next_token().0,
-        Some(About::FirstOperand) => behind.next_token().0,
-        Some(About::LastToken) => behind.last_token(),
-        None => mnemonic,
+    let token = match fault {
+        Fault::DuplicateLabel => Tokens::new(line).next_token().0,
+        Fault::WritesFramePointer => behind.next_token().0,
+        Fault::UnknownLabel | Fault::BadCall | Fault::BadTarget => behind.last_token(),
+        _ => mnemonic,
     };
     token.column
 }
 
-/// A fault of a line of assembly text, `Syntax` aside, with the token that it is about.
-pub(crate) fn hint_of_fault<'a>(line: &'a [u8], name: &[u8]) -> Hint<'a>
+/// A fault of a line of assembly text.
+pub(crate) fn hint_of_fault(line: &[u8], answer: Answer) -> Hint<'_>
     ensures within { IsWithin line.now result.column }
 {
-    if name == b"Range".as_slice() {
-        return hint_of_range(line);
+    match answer.fault {
+        Fault::Syntax => hint_of_statement(line),
+        Fault::Range => hint_of_range(line),
+        fault => Hint::sentence(column_of_fault(line, fault), answer.sentence),
     }
-    Hint::sentence(column_of_fault(line, name), sentence_of_fault(name))
 }

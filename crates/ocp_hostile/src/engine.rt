@@ -126,7 +126,7 @@ fn are_refused<A: Allocator + Copy>(
 }
 
 /// The requests to a new engine.
-fn are_refused_by_a_new_one<A: Allocator + Copy>(
+fn are_refused_by_a_new_engine<A: Allocator + Copy>(
     heap: &Refusing<Global>,
     refusing: A,
     alloc: Global,
@@ -140,5 +140,5 @@ fn are_refused_by_a_new_one<A: Allocator + Copy>(
 #[test]
 fn each_growth_of_a_request_is_refused(rt: HostRuntime) {
     let heap = Refusing::new(rt.alloc(), AMPLE);
-    assert!(rt; are_refused_by_a_new_one(&heap, &heap, rt.alloc()));
+    assert!(rt; are_refused_by_a_new_engine(&heap, &heap, rt.alloc()));
 }

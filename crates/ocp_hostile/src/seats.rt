@@ -226,11 +226,11 @@ fn are_refused<L: Naming, A: Allocator + Copy>(
 #[test]
 fn each_growth_of_a_book_is_refused(rt: HostRuntime) {
     let heap = Refusing::new(rt.alloc(), AMPLE);
-    assert!(rt; are_refused_by_a_new_one(&heap, &heap, rt.alloc()));
+    assert!(rt; are_refused_by_a_new_book(&heap, &heap, rt.alloc()));
 }
 
 /// The same by a book over a new engine.
-fn are_refused_by_a_new_one<A: Allocator + Copy>(
+fn are_refused_by_a_new_book<A: Allocator + Copy>(
     heap: &Refusing<Global>,
     refusing: A,
     alloc: Global,

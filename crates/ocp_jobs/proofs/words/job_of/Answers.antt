@@ -1,4 +1,4 @@
-use Rattle.std.proofs.Common.{rules, ◌≡◌, ◌∙◌, List, ℕ, [], ◌∷◌, map, take, ap, refl, subst, Result, Ok, Err}
+use Rattle.std.proofs.Common.{rules, ◌≡◌, List, ℕ, [], ◌∷◌, map, take, refl, subst, Result, Ok, Err}
 use Rattle.std.specs.Prelude.{◌≢◌, IfOk, string_bytes}
 use Rattle.std.proofs.lemmas.List.{take_all}
 use Rattle.clap.specs.Words.{subcommand_of}
