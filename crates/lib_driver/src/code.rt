@@ -2,7 +2,7 @@
 
 ghost use Rattle.std.specs.Prelude.{◌+◌, ◌*◌, ◌≤◌, length, IsTrue};
 
-use crate::lines::{Both, Fault, Named, Octets, Text, number, octets, text_of};
+use crate::lines::{Both, Fault, Named, Octets, Output, Text, number, octets, or_memory, text_of};
 use bpf_canonical::{Mnemonic, Stem, read_mnemonic};
 use bpf_decode::{Slots, decode_at, encode};
 use bpf_listing::{disassemble, line_text};
@@ -26,7 +26,8 @@ fn call(alloc: Global, name: &str, words: &[&str], text: &[u8]) -> Result<String
     match (name, words) {
         ("bpf_decode.encode", []) => spell(alloc, text),
         ("bpf_listing.disassemble", [before]) => list(alloc, text, before),
-        ("bpf_listing.read_line", []) => read_canonical(alloc, text),
+        ("bpf_listing.read_line", []) => read_canonical(alloc, text, "-"),
+        ("bpf_listing.read_line", [before]) => read_canonical(alloc, text, before),
         ("bpf_canonical.read_mnemonic", []) => mnemonic(alloc, text),
         ("bpf_text.read_line", []) => read_line(alloc, text),
         _ => Err(Fault::Syntax),
@@ -51,6 +52,17 @@ fn decode(alloc: Global, code: &[u8], slot: &str) -> Result<String, Fault> {
     }
 }
 
+/// The instruction that these octets begin with.
+pub(crate) fn line_of(code: &[u8]) -> Result<Line, Fault> {
+    if !has_slot(code, 0) {
+        return Err(Fault::Syntax);
+    }
+    match decode_at(code, 0) {
+        Ok(line) => Ok(line),
+        Err(_) => Err(Fault::Syntax),
+    }
+}
+
 fn spell(alloc: Global, code: &[u8]) -> Result<String, Fault> {
     if !has_slot(code, 0) {
         return Err(Fault::Syntax);
@@ -67,25 +79,23 @@ fn show_spelling(alloc: Global, line: Line) -> Result<String, Fault> {
 }
 
 fn list(alloc: Global, code: &[u8], before: &str) -> Result<String, Fault> {
-    let mut out = octets(alloc, before)?;
-    match disassemble(code, &mut out) {
-        Ok(()) => text_of(alloc, Both("Ok", Text(&out))),
-        Err(fault) => text_of(alloc, Both(Named(fault), Text(&out))),
-    }
+    let mut output = Output::before(alloc, before)?;
+    let done = disassemble(code, &mut output.octets);
+    output.show(alloc, done, Text(&output.octets))
 }
 
-/// Reads a canonical text, and writes the line that it means.
-fn read_canonical(alloc: Global, text: &[u8]) -> Result<String, Fault> {
+/// Reads a canonical text, and writes the line that it means behind the octets.
+fn read_canonical(alloc: Global, text: &[u8], before: &str) -> Result<String, Fault> {
     match bpf_listing::read_line(text) {
-        Some(line) => write_canonical(alloc, line),
+        Some(line) => write_canonical(alloc, line, before),
         None => text_of(alloc, "None"),
     }
 }
 
-fn write_canonical(alloc: Global, line: Line) -> Result<String, Fault> {
-    let mut out = Vec::new(alloc);
-    line_text(line, &mut out)?;
-    text_of(alloc, Both("Ok", Text(&out)))
+fn write_canonical(alloc: Global, line: Line, before: &str) -> Result<String, Fault> {
+    let mut output = Output::before(alloc, before)?;
+    let done = or_memory(line_text(line, &mut output.octets));
+    output.show(alloc, done, Text(&output.octets))
 }
 
 fn mnemonic(alloc: Global, text: &[u8]) -> Result<String, Fault> {

@@ -4,7 +4,7 @@ ghost use Rattle.std.specs.Prelude.{◌≤◌, IfOk};
 
 use crate::answers::{Outcome, show_commit, show_done, show_reports, show_slice};
 use crate::events::run;
-use crate::lines::{Fault, flag, number, octets, profile_of, text_of};
+use crate::lines::{Fault, flag, number, octets, or_memory, profile_of, text_of};
 use crate::runs::Runs;
 use crate::views;
 use ocp_core::{Engine, Work};
@@ -34,7 +34,7 @@ fn new_engine(
     if capacity == 0 || capacity > MAX_CAPACITY {
         return Err(Fault::Syntax);
     }
-    Ok(Engine::new(alloc, profile, apid, words, capacity)?)
+    or_memory(Engine::new(alloc, profile, apid, words, capacity))
 }
 
 /// The budget of a word: at least one instruction.
@@ -57,7 +57,9 @@ pub(crate) fn answer(
     match words {
         ["ocp_core.run", events @ ..] => run(engine, alloc, events),
         ["ocp_core.commit", by, work] => commit(engine, alloc, number(by)?, runs.work(work)?),
-        ["ocp_core.run_ticket", ..] | [_] | [_, _] => views::answer(engine, runs, alloc, words),
+        ["ocp_core.run_ticket" | "ocp_core.memory", ..] | [_] | [_, _] => {
+            views::answer(engine, runs, alloc, words)
+        }
         [name, by, arguments @ ..] => event(engine, alloc, name, number(by)?, arguments),
         _ => Err(Fault::Syntax),
     }

@@ -2,7 +2,7 @@
 
 use crate::answers::{Outcome, Shown, show_all, show_done, show_reports};
 use crate::lines::{Both, Fault, flag, number, octets, text_of};
-use ocp_core::{Answer, Engine, Event, RunFault, RunRefusal};
+use ocp_core::{Answer, Engine, Event, RunFault};
 use std::alloc::Global;
 
 /// Does the events of these words, with a comma between two, and shows the answers; where the run
@@ -102,9 +102,6 @@ fn show_answers(alloc: Global, answers: &[Answer]) -> Result<String, Fault> {
 }
 
 fn show_run_fault(alloc: Global, fault: &RunFault) -> Result<String, Fault> {
-    if fault.refusal == RunRefusal::Memory {
-        return Err(Fault::Memory);
-    }
     let texts = show_all(alloc, &fault.answers)?;
     Ok(format!(in alloc; "{:?} {}: {texts}", fault.refusal, fault.index)?)
 }

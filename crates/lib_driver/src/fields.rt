@@ -1,7 +1,7 @@
 //! Calls of pus_fields.
 
-use crate::lines::{Both, Fault, Named, Octets, number, octets, text_of};
-use crate::packets::{apid_of, count_of, show_written};
+use crate::lines::{Both, Fault, Named, Octets, Output, number, octets, text_of};
+use crate::packets::{apid_of, count_of};
 use bitflags::Flags;
 use pus_fields::{Ack, Tc, TcFault, Tm, crc16, read_tc, read_tm, write_tc, write_tm};
 use space_packet::IDLE_APID;
@@ -69,11 +69,12 @@ fn write_telecommand(
     words: &[&str],
     data: &[u8],
 ) -> Result<String, Fault> {
-    let mut out = octets(alloc, before)?;
-    match telecommand_of(words, data)? {
-        Some(tc) => show_written(alloc, write_tc(&tc, &mut out), &out),
-        None => text_of(alloc, "None"),
-    }
+    let mut output = Output::before(alloc, before)?;
+    let Some(tc) = telecommand_of(words, data)? else {
+        return text_of(alloc, "None");
+    };
+    let done = write_tc(&tc, &mut output.octets);
+    output.show(alloc, done, Octets(&output.octets))
 }
 
 fn telecommand_of<'a>(words: &[&str], data: &'a [u8]) -> Result<Option<Tc<'a>>, Fault> {
@@ -107,9 +108,9 @@ fn write_telemetry(
     words: &[&str],
     data: &[u8],
 ) -> Result<String, Fault> {
-    let mut out = octets(alloc, before)?;
-    let tm = telemetry_of(words, data)?;
-    show_written(alloc, write_tm(&tm, &mut out), &out)
+    let mut output = Output::before(alloc, before)?;
+    let done = write_tm(&telemetry_of(words, data)?, &mut output.octets);
+    output.show(alloc, done, Octets(&output.octets))
 }
 
 fn telemetry_of<'a>(words: &[&str], data: &'a [u8]) -> Result<Tm<'a>, Fault> {

@@ -1,6 +1,8 @@
 //! Calls of bpf_assembler and ocp_loader.
 
-use crate::lines::{Both, Fault, Named, Octets, Text, number, octets, profile_of, text_of};
+use crate::lines::{
+    Both, Fault, Named, Octets, Output, Text, number, octets, or_memory, profile_of, text_of,
+};
 use bpf_assembler::{AsmFault, Why, assemble, write_canonical};
 use ocp_loader::{LoadFault, Program, load};
 use ocp_profile::Profile;
@@ -48,10 +50,10 @@ fn show_fault(alloc: Global, fault: AsmFault) -> Result<String, Fault> {
 }
 
 fn canonical(alloc: Global, profile: Profile, before: &str, text: &str) -> Result<String, Fault> {
-    let mut out = octets(alloc, before)?;
-    match write_canonical(alloc, profile, &octets(alloc, text)?, &mut out) {
-        Ok(()) => text_of(alloc, Both("Ok", Text(&out))),
-        Err(fault) => show_fault(alloc, fault),
+    let mut output = Output::before(alloc, before)?;
+    match write_canonical(alloc, profile, &octets(alloc, text)?, &mut output.octets) {
+        Err(AsmFault::At { line, why }) => show_fault(alloc, AsmFault::At { line, why }),
+        done => output.show(alloc, done, Text(&output.octets)),
     }
 }
 
@@ -70,9 +72,11 @@ fn show_program(alloc: Global, program: &Program) -> Result<String, Fault> {
 
 /// The program of an image that is admitted.
 fn program_of(alloc: Global, profile: Profile, code: &str) -> Result<Program, Fault> {
-    load(alloc, profile, &octets(alloc, code)?)
-        .ok()
-        .ok_or(Fault::Syntax)
+    match load(alloc, profile, &octets(alloc, code)?) {
+        Ok(program) => Ok(program),
+        Err(LoadFault::Memory) => Err(Fault::Memory),
+        Err(_) => Err(Fault::Syntax),
+    }
 }
 
 /// The answer of a call on the program of an image that is admitted.
@@ -114,7 +118,7 @@ fn is_same(
 }
 
 fn listing(alloc: Global, program: &Program, before: &str) -> Result<String, Fault> {
-    let mut out = octets(alloc, before)?;
-    program.listing(&mut out)?;
-    text_of(alloc, Both("Ok", Text(&out)))
+    let mut output = Output::before(alloc, before)?;
+    let done = or_memory(program.listing(&mut output.octets));
+    output.show(alloc, done, Text(&output.octets))
 }

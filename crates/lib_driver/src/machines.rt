@@ -1,6 +1,8 @@
 //! What lines before made, and calls of ocp_regions and bpf_step on its memories and machines.
 
-use crate::lines::{Both, Fault, Named, Numbers, number, octets, profile_of, text_of, value_of};
+use crate::lines::{
+    Both, Fault, Named, Numbers, number, octets, or_memory, profile_of, text_of, value_of,
+};
 use crate::packets::show_written;
 use bpf_step::{MAX_SLOTS, Machine};
 use bpf_types::Size;
@@ -133,7 +135,7 @@ fn add<T: Drop>(
     one: Result<T, AllocError>,
 ) -> Result<String, Fault> {
     let number = made.len();
-    made.push(one?)?;
+    made.push(or_memory(one)?)?;
     text_of(alloc, number)
 }
 

@@ -30,6 +30,7 @@ mod runs;
 mod seats;
 mod tables;
 mod times;
+mod traces;
 mod views;
 
 ghost use Rattle.std.specs.Prelude.{◌≡◌, ◌+◌, length};

@@ -1,6 +1,6 @@
 //! Calls of space_packet.
 
-use crate::lines::{Both, Fault, Named, Octets, flag, number, octets, text_of, value_of};
+use crate::lines::{Both, Fault, Named, Octets, Output, flag, number, octets, text_of, value_of};
 use space_packet::{Apid, Primary, SequenceCount, SequenceFlags, read, write};
 use std::alloc::Global;
 use std::fmt;
@@ -61,8 +61,9 @@ fn next(alloc: Global, word: &str) -> Result<String, Fault> {
 /// Writes the packet of this header and this data behind the octets.
 fn write_packet(alloc: Global, before: &str, header: &[&str], data: &str) -> Result<String, Fault> {
     let header = header_of(header)?;
-    let mut out = octets(alloc, before)?;
-    show_written(alloc, write(&header, &octets(alloc, data)?, &mut out), &out)
+    let mut output = Output::before(alloc, before)?;
+    let done = write(&header, &octets(alloc, data)?, &mut output.octets);
+    output.show(alloc, done, Octets(&output.octets))
 }
 
 fn header_of(words: &[&str]) -> Result<Primary, Fault> {

@@ -1,6 +1,6 @@
 //! Calls of ocp_pool: a pool and a mailbox that lines before made, at a machine of theirs.
 
-use crate::lines::{Both, Fault, Named, number, text_of};
+use crate::lines::{Both, Fault, Named, number, or_memory, text_of};
 use crate::machines::{Made, place_of};
 use bpf_step::{MAX_SLOTS, Machine};
 use ocp_pool::{Called, MAX_POOL_WORDS, Mailbox, Pool, PoolOperation, engine_call};
@@ -29,7 +29,7 @@ pub(crate) fn pool_of(alloc: Global, count: u16) -> Result<Pool, Fault> {
     if count == 0 || count > MAX_POOL_WORDS {
         return Err(Fault::Syntax);
     }
-    Ok(Pool::new(alloc, count)?)
+    or_memory(Pool::new(alloc, count))
 }
 
 /// Appends words to the mailbox, where it has room for them.

@@ -1,6 +1,8 @@
 //! Calls of obcp_messages for reports.
 
-use crate::lines::{Both, Fault, Named, Octets, number, octets, text_of, value_of};
+use crate::lines::{
+    Both, Fault, Named, Octets, Output, number, octets, or_memory, text_of, value_of,
+};
 use arrayvec::ArrayVec;
 use obcp_messages::{
     BAD_CODE, MAX_ROWS, PlainCode, Report, StartFault, Status, StatusRow, StatusRows, read_report,
@@ -170,7 +172,7 @@ fn status_row(words: &[&str]) -> Result<StatusRow, Fault> {
 }
 
 fn write(alloc: Global, report: &Report, before: &str) -> Result<String, Fault> {
-    let mut out = octets(alloc, before)?;
-    write_report(report, &mut out)?;
-    text_of(alloc, Both("Ok", Octets(&out)))
+    let mut output = Output::before(alloc, before)?;
+    let done = or_memory(write_report(report, &mut output.octets));
+    output.show(alloc, done, Octets(&output.octets))
 }

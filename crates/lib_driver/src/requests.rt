@@ -1,6 +1,8 @@
 //! Calls of obcp_messages for requests.
 
-use crate::lines::{Both, Fault, Named, Numbers, Octets, number, octets, profile_of, text_of};
+use crate::lines::{
+    Both, Fault, Named, Numbers, Octets, Output, number, octets, or_memory, profile_of, text_of,
+};
 use arrayvec::ArrayVec;
 use bitflags::Flags;
 use obcp_messages::{Arguments, Code, MAX_WORDS, Request, Words, read_request, write_request};
@@ -199,7 +201,7 @@ fn show_written(
     if !request.has_fitting_budget(profile) {
         return Err(Fault::Syntax);
     }
-    let mut out = octets(alloc, before)?;
-    write_request(profile, request, &mut out)?;
-    text_of(alloc, Both("Ok", Octets(&out)))
+    let mut output = Output::before(alloc, before)?;
+    let done = or_memory(write_request(profile, request, &mut output.octets));
+    output.show(alloc, done, Octets(&output.octets))
 }

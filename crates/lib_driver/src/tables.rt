@@ -2,11 +2,13 @@
 
 use crate::answers::{Outcome, show_done};
 use crate::lines::{
-    Both, Fault, Named, add_text, dash_if_empty, flag, number, octets, profile_of, text_of,
+    Both, Fault, Named, Output, Text, add_text, dash_if_empty, flag, number, octets, or_memory,
+    profile_of, text_of,
 };
 use crate::pools::{numbers_of, pool_of};
+use crate::traces::write_trace;
 use crate::views::show_view;
-use ocp_debug::{clear_break, set_break, set_trace, view};
+use ocp_debug::{clear_break, set_break, set_trace, view, view_text};
 use ocp_regions::ARGUMENT_OCTETS;
 use ocp_table::{LoadFailure, PendingOrigin, Pool, Profile, StartFailure, Table};
 use std::alloc::Global;
@@ -28,8 +30,9 @@ impl Tables {
 
     /// Makes a table, and a pool of so many words.
     fn begin(&mut self, alloc: Global, profile: Profile, count: u16) -> Result<String, Fault> {
-        self.pool = Some(pool_of(alloc, count)?);
-        self.table = Some(Table::new(alloc, profile)?);
+        let pool = pool_of(alloc, count)?;
+        self.table = Some(or_memory(Table::new(alloc, profile))?);
+        self.pool = Some(pool);
         text_of(alloc, "Ok")
     }
 
@@ -51,6 +54,7 @@ pub(crate) fn table_answer(
         ["ocp_table.new", profile, count] => {
             tables.begin(alloc, profile_of(profile)?, number(count)?)
         }
+        ["ocp_debug.trace_text", before, record @ ..] => write_trace(alloc, before, record),
         ["ocp_table.instruction", id] => tables.instruction(alloc, number(id)?),
         _ => call(tables.table.as_mut().ok_or(Fault::Syntax)?, alloc, words),
     }
@@ -174,6 +178,14 @@ fn debug(
         "ocp_debug.set_break" => show_done(alloc, set_break(table, id, number(argument)?)),
         "ocp_debug.clear_break" => show_done(alloc, clear_break(table, id, number(argument)?)),
         "ocp_debug.set_trace" => show_done(alloc, set_trace(table, id, flag(argument)?)),
+        "ocp_debug.view_text" => write_view(table, alloc, id, argument),
         _ => Err(Fault::Syntax),
     }
+}
+
+/// Writes the view of a procedure behind the octets.
+fn write_view(table: &Table, alloc: Global, id: u16, before: &str) -> Result<String, Fault> {
+    let mut output = Output::before(alloc, before)?;
+    let done = or_memory(view_text(id, view(table, id), &mut output.octets));
+    output.show(alloc, done, Text(&output.octets))
 }

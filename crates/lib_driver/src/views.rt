@@ -1,7 +1,8 @@
 //! Calls of an engine that change nothing of it.
 
 use crate::answers::show_all;
-use crate::lines::{Both, Fault, Named, Numbers, number, text_of};
+use crate::lines::{Both, Fault, Named, Numbers, Output, Text, number, octets, or_memory, text_of};
+use crate::packets::show_written;
 use crate::runs::Runs;
 use bpf_step::Machine;
 use ocp_core::{Engine, replay_one};
@@ -23,6 +24,8 @@ pub(crate) fn answer(
         ["ocp_core.pool_word", index] => {
             text_of(alloc, OrNone(engine.pool_word(number(index)?)))
         }
+        ["ocp_core.memory", id, address, before] => memory(engine, alloc, id, address, before),
+        ["ocp_core.trace_lines", before] => trace_lines(engine, alloc, before),
         ["ocp_core.run_ticket", ticket, budget] => runs.run(alloc, ticket, number(budget)?),
         [name, id] => procedure_answer(engine, runs, alloc, name, number(id)?),
         _ => Err(Fault::Syntax),
@@ -40,10 +43,34 @@ fn procedure_answer(
     match name {
         "ocp_core.view" => show_view(alloc, engine.view(id)),
         "ocp_core.registers" => show_registers(alloc, engine.view(id)),
-        "ocp_core.replay_one" => show_machine(alloc, replay_one(alloc, engine.journal(), id)?),
-        "ocp_core.ticket" => runs.add(alloc, engine.ticket(alloc, id)?),
+        "ocp_core.replay_one" => replay(engine, alloc, id),
+        "ocp_core.ticket" => runs.add(alloc, or_memory(engine.ticket(alloc, id))?),
         _ => Err(Fault::Syntax),
     }
+}
+
+fn replay(engine: &Engine, alloc: Global, id: u16) -> Result<String, Fault> {
+    show_machine(alloc, or_memory(replay_one(alloc, engine.journal(), id))?)
+}
+
+/// Reads octets of a procedure's memory, as many as are handed in.
+fn memory(
+    engine: &Engine,
+    alloc: Global,
+    id: &str,
+    address: &str,
+    before: &str,
+) -> Result<String, Fault> {
+    let mut out = octets(alloc, before)?;
+    let done = engine.memory(number(id)?, number(address)?, &mut out);
+    show_written(alloc, done, &out)
+}
+
+/// Writes the lines of the trace behind the octets.
+fn trace_lines(engine: &Engine, alloc: Global, before: &str) -> Result<String, Fault> {
+    let mut output = Output::before(alloc, before)?;
+    let done = or_memory(engine.trace_lines(&mut output.octets));
+    output.show(alloc, done, Text(&output.octets))
 }
 
 /// The status, why it is inactive, the place, the depth, what is pending, and what remains of the

@@ -10,19 +10,21 @@ use std::num::ParseIntError;
 pub enum Fault {
     /// It is no call, or an argument is none of this call's.
     Syntax,
-    /// Memory ran out.
+    /// The library's call was refused memory.
     Memory,
+    /// The program was refused memory, for the line's words or for its answer.
+    Program,
 }
 
 impl From<AllocError> for Fault {
     fn from(_error: AllocError) -> Fault {
-        Fault::Memory
+        Fault::Program
     }
 }
 
 impl<T: Drop> From<AllocFailed<T>> for Fault {
     fn from(_error: AllocFailed<T>) -> Fault {
-        Fault::Memory
+        Fault::Program
     }
 }
 
@@ -35,9 +37,17 @@ impl From<ParseIntError> for Fault {
 impl From<FromHexError> for Fault {
     fn from(error: FromHexError) -> Fault {
         match error {
-            FromHexError::OutOfMemory => Fault::Memory,
+            FromHexError::OutOfMemory => Fault::Program,
             _ => Fault::Syntax,
         }
+    }
+}
+
+/// What a library's call gave whose one refusal is that of memory.
+pub fn or_memory<T: Drop>(done: Result<T, AllocError>) -> Result<T, Fault> {
+    match done {
+        Ok(value) => Ok(value),
+        Err(_) => Err(Fault::Memory),
     }
 }
 

@@ -8,7 +8,7 @@ use std::process::ExitCode;
 /// The exit status of a line that is no call.
 const SYNTAX: u8 = 1;
 
-/// The exit status of memory that was refused, or of a device that failed.
+/// The exit status of memory that the program was refused, or of a device that failed.
 const MACHINE: u8 = 3;
 
 /// The lines of a script, and how many of them were taken.
@@ -107,7 +107,11 @@ fn print_reply(
             println!(rt; "error {number} Syntax")?;
             Ok(Some(End::Syntax))
         }
-        Err(Fault::Memory) => Err(AllocError.into()),
+        Err(Fault::Memory) => {
+            println!(rt; "Memory")?;
+            Ok(None)
+        }
+        Err(Fault::Program) => Err(AllocError.into()),
     }
 }
 
