@@ -1,10 +1,8 @@
 //! Growths that an engine's other calls ask for, refused one after another: an engine, tickets,
 //! machines by themselves, trace lines and lists of events.
-use crate::drains::REQUESTED;
-use crate::engine::is_traced;
 use crate::heap::Refusing;
-use crate::requests::{ACTIVATE, LOAD};
-use ocp_core::{Engine, Event, RunRefusal, replay_one};
+use crate::requests::{ACTIVATE, LOAD, REQUESTED};
+use ocp_core::{Engine, Event, RunRefusal, StepOutcome, replay_one};
 use ocp_profile::Profile;
 use std::alloc::{Allocator, Global};
 
@@ -71,6 +69,11 @@ fn make<A: Allocator + Copy>(alloc: A, engine: &Engine<A>, made: Made) -> Option
         Made::Machine => is_machine(alloc, engine),
         Made::Trace => traces(alloc, engine),
     }
+}
+
+/// Does one traced instruction of procedure 7.
+fn is_traced<A: Allocator>(engine: &mut Engine<A>, by: u16) -> bool {
+    engine.trace(by, 7, true).is_ok() && engine.step(by, 7) == StepOutcome::Ran
 }
 
 /// Hands in the load and the activation of procedure 7, and does one traced instruction.

@@ -1,6 +1,6 @@
-//! Hostile use, by tests alone: growths of memory that are refused one after another, named
-//! refusals where there is no memory, devices that fail, threads that share one engine, and another
-//! board behind their lock. Beside the tests the crate has the allocator that refuses.
+//! Hostile use, by tests alone: growths of memory that are refused one after another, devices that
+//! fail, threads that share one engine, and another board behind their lock. Beside the tests the
+//! crate has the allocator that refuses.
 #![tactic(auto)]
 
 #[cfg(test)]
@@ -13,22 +13,10 @@ mod console;
 mod crews;
 #[cfg(test)]
 mod devices;
-#[cfg(test)]
-mod drains;
-#[cfg(test)]
-mod engine;
 pub mod heap;
-#[cfg(test)]
-mod makers;
 #[cfg(test)]
 mod packets;
 #[cfg(test)]
 mod pairs;
 #[cfg(test)]
-mod refusals;
-#[cfg(test)]
 mod requests;
-#[cfg(test)]
-mod seats;
-#[cfg(test)]
-mod writers;
