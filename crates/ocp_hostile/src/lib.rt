@@ -6,8 +6,6 @@
 #[cfg(test)]
 mod boards;
 #[cfg(test)]
-mod calls;
-#[cfg(test)]
 mod console;
 #[cfg(test)]
 mod crews;
@@ -18,5 +16,3 @@ pub mod heap;
 mod packets;
 #[cfg(test)]
 mod pairs;
-#[cfg(test)]
-mod requests;
