@@ -14,7 +14,7 @@ use crate::text::Text;
 use bpf_types::{Comparison, Line, Operation, Order, SignedSize, Size, Width};
 
 /// What the first word of an instruction's text says: `canonical` begins with it.
-#[derive(Clone, Copy, PartialEq, Eq, Debug)]
+#[derive(Clone, Copy)]
 pub enum Mnemonic {
     /// A word that ends in its class: `add32`, .. `jsle64`.
     Classed(Stem, Width),
@@ -41,7 +41,7 @@ pub enum Mnemonic {
 }
 
 /// A mnemonic without the class that it ends in.
-#[derive(Clone, Copy, PartialEq, Eq, Debug)]
+#[derive(Clone, Copy)]
 pub enum Stem {
     /// `add`, .. `arsh`, of two operands.
     Arithmetic(Operation),

@@ -36,7 +36,7 @@ impl From<AccessFault> for MachineFault {
 }
 
 /// What an instruction needs of the engine.
-#[derive(Clone, Copy, PartialEq, Eq, Debug)]
+#[derive(Clone, Copy)]
 pub enum Need {
     /// An engine call, by its number.
     Call(i32),
@@ -47,7 +47,7 @@ pub enum Need {
 }
 
 /// What became of an instruction.
-#[derive(Clone, Copy, PartialEq, Eq, Debug)]
+#[derive(Clone, Copy)]
 pub enum Local {
     /// The machine did it.
     Stepped,

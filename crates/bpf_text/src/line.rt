@@ -3,14 +3,14 @@
 use bpf_types::Line;
 
 /// An instruction, and the label's name that stands in place of its distance, which is 0 then.
-#[derive(Clone, Copy, PartialEq, Eq, Debug)]
+#[derive(Clone, Copy)]
 pub struct Statement<'a> {
     pub line: Line,
     pub name: Option<&'a [u8]>,
 }
 
 /// The label and the instruction of a line, each if there is one.
-#[derive(Clone, Copy, PartialEq, Eq, Debug)]
+#[derive(Clone, Copy)]
 pub struct TextLine<'a> {
     pub label: Option<&'a [u8]>,
     pub body: Option<Statement<'a>>,

@@ -5,14 +5,14 @@ use crate::reg::Reg;
 
 /// How many bits an arithmetic instruction or a jump works on: W32 for the classes ALU and JMP32,
 /// W64 for ALU64 and JMP (RFC 9669, section 3.3).
-#[derive(Clone, Copy, PartialEq, Eq, Debug)]
+#[derive(Clone, Copy, Debug)]
 pub enum Width {
     W32,
     W64,
 }
 
 /// Arithmetic with two operands (RFC 9669, section 4.1).
-#[derive(Clone, Copy, PartialEq, Eq, Debug)]
+#[derive(Clone, Copy, Debug)]
 pub enum Operation {
     Add,
     Sub,
@@ -34,7 +34,7 @@ pub enum Operation {
 }
 
 /// The second operand: the imm field, or the register of the src field.
-#[derive(Clone, Copy, PartialEq, Eq, Debug)]
+#[derive(Clone, Copy, Debug)]
 pub enum Operand {
     Immediate(i32),
     Register(Reg),
@@ -42,7 +42,7 @@ pub enum Operand {
 
 /// The moves that extend the sign, from so many bits to the width of their class (RFC 9669, section
 /// 4.1).
-#[derive(Clone, Copy, PartialEq, Eq, Debug)]
+#[derive(Clone, Copy, Debug)]
 pub enum Extension {
     From8To32,
     From16To32,
@@ -101,7 +101,7 @@ impl Extension {
 
 /// What a byte order instruction does: to little-endian, to big-endian, or swap (RFC 9669, section
 /// 4.2).
-#[derive(Clone, Copy, PartialEq, Eq, Debug)]
+#[derive(Clone, Copy, Debug)]
 pub enum Order {
     Little,
     Big,
@@ -109,7 +109,7 @@ pub enum Order {
 }
 
 /// How many bits a byte order instruction keeps.
-#[derive(Clone, Copy, PartialEq, Eq, Debug)]
+#[derive(Clone, Copy, Debug)]
 pub enum SwapWidth {
     Bits16,
     Bits32,
@@ -151,7 +151,7 @@ impl SwapWidth {
 
 /// What a jump tests of its two operands (RFC 9669, section 4.3). `Set` asks whether they have a
 /// bit in common.
-#[derive(Clone, Copy, PartialEq, Eq, Debug)]
+#[derive(Clone, Copy, Debug)]
 pub enum Comparison {
     Equal,
     Greater,
@@ -167,7 +167,7 @@ pub enum Comparison {
 }
 
 /// How many octets a load or a store moves: 4, 2, 1 or 8 (RFC 9669, section 5).
-#[derive(Clone, Copy, PartialEq, Eq, Debug)]
+#[derive(Clone, Copy, Debug)]
 pub enum Size {
     Word,
     Half,
@@ -195,7 +195,7 @@ impl Size {
 }
 
 /// How many octets a load that extends the sign reads: 4, 2 or 1 (RFC 9669, section 5.2).
-#[derive(Clone, Copy, PartialEq, Eq, Debug)]
+#[derive(Clone, Copy, Debug)]
 pub enum SignedSize {
     Word,
     Half,
@@ -205,7 +205,7 @@ pub enum SignedSize {
 /// One typed instruction of RFC 9669, in the conformance groups base32, base64, divmul32 and
 /// divmul64, but for what speaks of a host: wide loads of maps and their like (src 1 to 6), and
 /// calls by BTF id. A distance counts slots from the instruction that follows.
-#[derive(Clone, Copy, PartialEq, Eq, Debug)]
+#[derive(Clone, Copy, Debug)]
 pub enum Line {
     /// `dst = dst operation operand`.
     Arithmetic {
@@ -293,7 +293,7 @@ pub enum Line {
 }
 
 /// The fields of one slot (RFC 9669, section 3.1), with registers that are there.
-#[derive(Clone, Copy, PartialEq, Eq, Debug)]
+#[derive(Clone, Copy)]
 pub struct Fields {
     pub opcode: u8,
     pub dst: Reg,

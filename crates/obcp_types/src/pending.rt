@@ -5,7 +5,7 @@ use bitflags::Flags;
 use pus_fields::Ack;
 
 /// Where the completion of a pending stop or suspend goes: the request that asked for it.
-#[derive(Clone, Copy, PartialEq, Eq, Debug)]
+#[derive(Clone, Copy)]
 pub struct PendingOrigin {
     /// How many accepted events were before that of the request.
     pub event: u64,
@@ -30,7 +30,7 @@ impl Default for PendingOrigin {
 }
 
 /// A completion that waits to be reported.
-#[derive(Clone, Copy, PartialEq, Eq, Debug, Default)]
+#[derive(Clone, Copy, Default)]
 pub struct Due {
     /// The request that is completed.
     pub origin: PendingOrigin,

@@ -22,7 +22,7 @@ impl Status {
 }
 
 /// A row of a status report: a loaded procedure and its status.
-#[derive(Clone, Copy, PartialEq, Eq, Debug, Default)]
+#[derive(Clone, Copy, Default)]
 pub struct StatusRow {
     pub id: u16,
     pub status: Status,

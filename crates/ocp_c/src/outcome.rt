@@ -7,7 +7,7 @@ use ocp_core::StepOutcome;
 
 /// Its kind as the header numbers them, and the number of the fault where it faulted.
 #[repr(C)]
-#[derive(Clone, Copy, PartialEq, Eq, Debug)]
+#[derive(Clone, Copy)]
 pub struct Outcome {
     pub kind: u32,
     pub fault: u32,

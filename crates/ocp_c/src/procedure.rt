@@ -7,7 +7,7 @@ use ocp_table::{Cause, Pending, View};
 
 /// Its fields are numbers as the header says.
 #[repr(C)]
-#[derive(Clone, Copy, PartialEq, Eq, Debug)]
+#[derive(Clone, Copy)]
 pub struct Procedure {
     pub status: u32,
     pub cause: u32,

@@ -1,7 +1,7 @@
 //! What a debugger asks of a loaded procedure.
 
 /// A command that changes a procedure's breakpoints or its trace flag, and nothing else.
-#[derive(Clone, Copy, PartialEq, Eq, Debug)]
+#[derive(Clone, Copy, PartialEq, Eq)]
 pub enum Command {
     /// A breakpoint at the slot of an instruction.
     SetBreak(u16),

@@ -7,7 +7,7 @@ use ocp_table::StepOutcome;
 pub const TRACE_RECORDS: usize = 256;
 
 /// What is kept of one instruction of a traced procedure.
-#[derive(Clone, Copy, PartialEq, Eq, Debug)]
+#[derive(Clone, Copy)]
 pub struct Trace {
     pub id: u16,
     /// The slot of the instruction.

@@ -39,7 +39,7 @@ pub enum StepOutcome {
 }
 
 /// What became of a slice.
-#[derive(Clone, Copy, PartialEq, Eq, Debug)]
+#[derive(Clone, Copy)]
 pub struct Slice {
     /// How many instruction events there were.
     pub count: u32,

@@ -16,7 +16,7 @@ pub enum Cause {
 
 /// What is done at the end of a step: of any step where the number is 0, and else of that one. It
 /// has the origin of its request, to which its completion is reported.
-#[derive(Clone, Copy, PartialEq, Eq, Debug)]
+#[derive(Clone, Copy)]
 pub enum Pending {
     Nothing,
     Stop(u16, PendingOrigin),

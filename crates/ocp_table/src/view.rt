@@ -3,7 +3,7 @@ use crate::{Cause, Pending};
 use obcp_types::Status;
 
 /// What is shown of a procedure.
-#[derive(Clone, Copy, PartialEq, Eq, Debug)]
+#[derive(Clone, Copy)]
 pub struct View {
     pub status: Status,
     pub cause: Cause,

@@ -7,7 +7,7 @@ use obcp_types::{AcceptanceFailure, CompletionFailure, StartFailure};
 use std::marker::Model;
 
 /// A report to send, or the place of one.
-#[derive(Clone, Copy, Debug, PartialEq, Eq, Default)]
+#[derive(Clone, Copy, Debug, Default)]
 pub enum Notice {
     /// Successful acceptance: service 1, subtype 1.
     Accepted,
