@@ -1,7 +1,7 @@
 -- What a command is once something is added to it.
-use Rattle.std.proofs.Common.{◌≡◌, Result, Ok, Err, Option, ap, ap₂, refl, ◌∙◌, true, false}
+use Rattle.std.proofs.Common.{◌≡◌, Result, Ok, Err, ap, ap₂, refl, ◌∙◌, false}
 use Rattle.std.specs.Prelude.{IfOk}
-use Rattle.clap.specs.Words.{App, Rule, app_of, rule_of, shape_of, with_rule, with_subcommand}
+use Rattle.clap.specs.Words.{App, Rule, app_of, rule_of, with_rule, with_subcommand}
 use Rattle.clap.specs.Simple.{app_of_fields}
 use Rattle.clap.specs.Built.{AddsArg, AddsSubcommand}
 use Rattle.clap.specs.declared.builder.arg.Arg.{Arg}

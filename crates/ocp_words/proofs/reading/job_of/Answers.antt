@@ -1,5 +1,5 @@
 use Rattle.std.proofs.Common.{ap, refl, codes, ◌≡◌, ◌∙◌, sym, subst, Option, Some, List}
-use Rattle.clap.specs.Words.{Row, Text, rows_of, found_of}
+use Rattle.clap.specs.Words.{Row, Text}
 use Rattle.ocp_words.specs.Jobs.{IsJob}
 use Rattle.ocp_words.specs.declared.job.Job.TheVariants.{Assemble, Run}
 use Rattle.ocp_words.proofs.Options.{both_parts, name_part}

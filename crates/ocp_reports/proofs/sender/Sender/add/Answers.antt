@@ -1,4 +1,4 @@
-use Rattle.std.proofs.Common.{◌≡◌, ◌++◌, Err, length, ap, ◌∙◌, arith}
+use Rattle.std.proofs.Common.{◌≡◌, Err, length, ap, ◌∙◌, arith}
 use Rattle.obcp_messages.specs.Report.{report_data}
 use Rattle.ocp_reports.proofs.Packets.{short}
 use Rattle.ocp_reports.proofs.sender.Sender.add.Goals as goal
