@@ -15,11 +15,17 @@ pub(crate) fn number_in(base: u8, digits: &[u8]) -> Option<u128> {
     if digits.is_empty() {
         return None;
     }
-    digits.iter().try_fold(0u128, |value, octet| {
+    let mut number = 0u128;
+    for octet in digits {
         let digit = value_of(*octet);
-        let greater = value.saturating_mul(u128::from(base));
-        (digit < base).then_some(greater.saturating_add(u128::from(digit)))
-    })
+        if digit >= base {
+            return None;
+        }
+        number = number
+            .saturating_mul(u128::from(base))
+            .saturating_add(u128::from(digit));
+    }
+    Some(number)
 }
 
 /// The number of 64 bits that decimal digits say.
@@ -29,5 +35,10 @@ pub(crate) fn decimal(word: &[u8]) -> Option<u64> {
 
 /// Whether these are hexadecimal digits alone.
 pub(crate) fn is_hexadecimal(digits: &[u8]) -> bool {
-    digits.iter().all(u8::is_ascii_hexdigit)
+    for digit in digits {
+        if !digit.is_ascii_hexdigit() {
+            return false;
+        }
+    }
+    true
 }

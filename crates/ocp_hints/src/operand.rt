@@ -1,32 +1,37 @@
 //! What may stand behind a mnemonic, and whether it does.
 
 use crate::number::number_in;
+use crate::rest::is_part_of_name;
 use crate::sentences::is_one_of;
 
 /// What may stand at one place behind a mnemonic.
 #[derive(Clone, Copy)]
 pub(crate) enum Operand {
-    Comma,
-    Opens,
-    Closes,
+    /// This sign.
+    Sign(u8),
     Register,
     /// A register or an immediate number.
     Second,
-    Immediate,
-    /// The number of `lddw`.
-    Wide,
-    /// The bits of `movsx64`.
-    Extension,
-    /// The bits of `movsx32`.
-    ShortExtension,
-    /// The bits of a byte order instruction.
-    SwapWidth,
+    /// A number.
+    Number(Range),
+    /// The bits of an extension or of a byte order instruction: one of these, and what is said of
+    /// others.
+    Width(&'static [u128], &'static str),
     /// The distance in an address, which may be left out.
     Offset,
-    /// A label, or a distance of 16 bits.
-    Target,
-    /// A label, or a distance of 32 bits.
-    LongTarget,
+    /// A label, or a distance.
+    Target(Range),
+}
+
+/// Which numbers may stand at a place: the greatest without a sign, with `+` and with `-`, where
+/// such numbers may.
+#[derive(Clone, Copy)]
+pub(crate) struct Range {
+    plain: Option<u64>,
+    plus: Option<u64>,
+    minus: Option<u64>,
+    /// What is said of a number out of the range.
+    says: &'static str,
 }
 
 /// How a token stands to an operand.
@@ -40,39 +45,52 @@ pub(crate) enum Fit {
     Misfit,
 }
 
-const IMMEDIATE: &str = "this number is out of its range, -2147483648 to 4294967295";
+pub(crate) const IMMEDIATE: Range = Range {
+    plain: Some(u32::MAX as u64),
+    plus: None,
+    minus: Some(0x8000_0000),
+    says: "this number is out of its range, -2147483648 to 4294967295",
+};
 
-const WIDE: &str = "this number is out of its range, 0 to 18446744073709551615";
+/// The number of `lddw`.
+pub(crate) const WIDE: Range = Range {
+    plain: Some(u64::MAX),
+    plus: None,
+    minus: None,
+    says: "this number is out of its range, 0 to 18446744073709551615",
+};
 
-const EXTENSION: &str = "this width is out of its range, which is 8, 16 and 32";
+/// A distance of 16 bits.
+pub(crate) const DISTANCE: Range = Range {
+    plain: None,
+    plus: Some(0x7fff),
+    minus: Some(0x8000),
+    says: "this distance is out of its range, -32768 to +32767",
+};
 
-const SHORT_EXTENSION: &str = "this width is out of its range, which is 8 and 16";
+/// A distance of 32 bits.
+pub(crate) const LONG_DISTANCE: Range = Range {
+    plain: None,
+    plus: Some(0x7fff_ffff),
+    minus: Some(0x8000_0000),
+    says: "this distance is out of its range, -2147483648 to +2147483647",
+};
 
-const SWAP_WIDTH: &str = "this width is out of its range, which is 16, 32 and 64";
+const REGISTERS: &[u8] = b"r0 r1 r2 r3 r4 r5 r6 r7 r8 r9 r10";
 
-const DISTANCE: &str = "this distance is out of its range, -32768 to +32767";
-
-const LONG_DISTANCE: &str = "this distance is out of its range, -2147483648 to +2147483647";
-
-static REGISTERS: [&str; 11] = [
-    "r0", "r1", "r2", "r3", "r4", "r5", "r6", "r7", "r8", "r9", "r10",
-];
-
-/// Whether the token is the name of a register.
-fn is_register(token: &[u8]) -> bool {
-    is_one_of(&REGISTERS, token)
-}
+/// How many octets a label has at most.
+const LABEL_LENGTH: usize = 32;
 
 /// Whether the token is the name of a label.
 pub(crate) fn is_name(token: &[u8]) -> bool {
-    match token {
-        [b'A'..=b'Z' | b'a'..=b'z' | b'_', ..] => {
-            token.len() <= 32
-                && token
-                    .iter()
-                    .all(|octet| octet.is_ascii_alphanumeric() || *octet == b'_')
+    for octet in token {
+        if !is_part_of_name(*octet) {
+            return false;
         }
-        _ => false,
+    }
+    match token {
+        [] | [b'0'..=b'9', ..] => false,
+        _ => token.len() <= LABEL_LENGTH,
     }
 }
 
@@ -84,68 +102,52 @@ fn number_of(token: &[u8]) -> Option<u128> {
     }
 }
 
-/// Whether a number is at most this one.
-fn fit_to(number: Option<u128>, greatest: u128, says: &'static str) -> Fit {
-    match number {
-        None => Fit::Misfit,
-        Some(number) if number <= greatest => Fit::Fits,
-        Some(_) => Fit::Beyond(says),
+/// How a token stands to a range of numbers.
+fn fit_in_range(range: Range, token: &[u8]) -> Fit {
+    let (greatest, digits) = match token {
+        [b'+', digits @ ..] => (range.plus, digits),
+        [b'-', digits @ ..] => (range.minus, digits),
+        _ => (range.plain, token),
+    };
+    match (greatest, number_of(digits)) {
+        (Some(greatest), Some(number)) if number <= u128::from(greatest) => Fit::Fits,
+        (Some(_), Some(_)) => Fit::Beyond(range.says),
+        _ => Fit::Misfit,
     }
 }
 
-/// Whether a number is one of these.
-fn fit_among(number: Option<u128>, widths: &[u128], says: &'static str) -> Fit {
-    match number {
+/// How a token stands to the widths that may stand at a place.
+fn fit_among(widths: &[u128], says: &'static str, token: &[u8]) -> Fit {
+    match number_of(token) {
         None => Fit::Misfit,
         Some(number) if widths.contains(&number) => Fit::Fits,
         Some(_) => Fit::Beyond(says),
     }
 }
 
-/// How a token stands to an immediate number.
-fn fit_of_immediate(token: &[u8]) -> Fit {
-    match token {
-        [b'-', digits @ ..] => fit_to(number_of(digits), 0x8000_0000, IMMEDIATE),
-        _ => fit_to(number_of(token), u128::from(u32::MAX), IMMEDIATE),
-    }
-}
-
-/// How a token stands to a distance that goes so far on, and one slot further back.
-fn fit_of_distance(token: &[u8], greatest: u64, says: &'static str) -> Fit {
-    let greatest = u128::from(greatest);
-    match token {
-        [b'+', digits @ ..] => fit_to(number_of(digits), greatest, says),
-        [b'-', digits @ ..] => fit_to(number_of(digits), greatest + 1, says),
-        _ => Fit::Misfit,
-    }
-}
-
-/// How a token stands to a mark.
-fn fit_of_mark(token: &[u8], mark: u8) -> Fit {
-    match token {
-        [octet] if *octet == mark => Fit::Fits,
-        _ => Fit::Misfit,
+/// Whether a token stands for an operand that is no number.
+fn is_named(operand: Operand, token: &[u8]) -> bool {
+    match operand {
+        Operand::Sign(sign) => token == [sign].as_slice(),
+        Operand::Register | Operand::Second => is_one_of(REGISTERS, token),
+        Operand::Target(_) => is_name(token),
+        _ => false,
     }
 }
 
 impl Operand {
     /// How a token stands to the operand.
     pub fn fit(self, token: &[u8]) -> Fit {
+        if is_named(self, token) {
+            return Fit::Fits;
+        }
         match self {
-            Operand::Comma => fit_of_mark(token, b','),
-            Operand::Opens => fit_of_mark(token, b'['),
-            Operand::Closes => fit_of_mark(token, b']'),
-            Operand::Register | Operand::Second if is_register(token) => Fit::Fits,
-            Operand::Register => Fit::Misfit,
-            Operand::Second | Operand::Immediate => fit_of_immediate(token),
-            Operand::Wide => fit_to(number_of(token), u128::from(u64::MAX), WIDE),
-            Operand::Extension => fit_among(number_of(token), &[8, 16, 32], EXTENSION),
-            Operand::ShortExtension => fit_among(number_of(token), &[8, 16], SHORT_EXTENSION),
-            Operand::SwapWidth => fit_among(number_of(token), &[16, 32, 64], SWAP_WIDTH),
+            Operand::Sign(_) | Operand::Register => Fit::Misfit,
             Operand::Offset if token == b"]".as_slice() => Fit::Absent,
-            Operand::Target | Operand::LongTarget if is_name(token) => Fit::Fits,
-            Operand::Offset | Operand::Target => fit_of_distance(token, 0x7fff, DISTANCE),
-            Operand::LongTarget => fit_of_distance(token, 0x7fff_ffff, LONG_DISTANCE),
+            Operand::Offset => fit_in_range(DISTANCE, token),
+            Operand::Second => fit_in_range(IMMEDIATE, token),
+            Operand::Number(range) | Operand::Target(range) => fit_in_range(range, token),
+            Operand::Width(widths, says) => fit_among(widths, says, token),
         }
     }
 }

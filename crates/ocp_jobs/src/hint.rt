@@ -2,7 +2,7 @@
 
 use crate::kept::{Keeps, Text};
 use ocp_console::MAX_LINES;
-use ocp_hints::{Explained, answer_in};
+use ocp_hints::{Explained, LineFault, Refused, answer_in};
 use ocp_ports::ConsoleFault;
 use ocp_profile::Profile;
 use ocp_words::Job;
@@ -18,47 +18,40 @@ pub(crate) fn keeps_of(job: Job) -> Keeps {
     }
 }
 
-/// What did not fit in a script, if it can be said; the octets are the script without so many lines
-/// at its front.
-fn explanation_of_script<'a>(
+/// The line of a script that is refused, if it is a line; the octets are the script without so many
+/// lines at its front.
+fn refused_line<'a>(
     profile: Profile,
-    octets: &'a [u8],
+    text: &'a [u8],
     before: u64,
     fault: &ConsoleFault,
-) -> Option<Explained<'a>> {
-    match fault {
-        ConsoleFault::Syntax(number) => {
-            let number = u64::from(*number);
-            let among = number.saturating_sub(before);
-            Some(Explained::of_script(profile, number, octets, among))
-        }
-        ConsoleFault::LineTooLong(number) => {
-            let number = u64::from(*number);
-            let among = number.saturating_sub(before);
-            Some(Explained::of_long_line(number, octets, among))
-        }
-        ConsoleFault::TooManyLines => {
-            let among = FIRST_LINE_TOO_MANY.saturating_sub(before);
-            Some(Explained::of_many_lines(FIRST_LINE_TOO_MANY, octets, among))
-        }
-        _ => None,
-    }
+) -> Option<Refused<'a>> {
+    let (fault, number) = match fault {
+        ConsoleFault::Syntax(number) => (LineFault::Syntax(profile), u64::from(*number)),
+        ConsoleFault::LineTooLong(number) => (LineFault::TooLong, u64::from(*number)),
+        ConsoleFault::TooManyLines => (LineFault::TooMany, FIRST_LINE_TOO_MANY),
+        _ => return None,
+    };
+    Some(Refused::Line {
+        fault,
+        number,
+        text,
+        among: number.saturating_sub(before),
+    })
 }
 
-/// What did not fit in the input of a job, if it can be said.
-fn explanation_of<'a>(
+/// What of the input of a job is refused, if it can be said.
+fn refusal_of<'a>(
     job: Job,
     octets: &'a [u8],
     before: u64,
     fault: Option<&ConsoleFault>,
     output: &[u8],
-) -> Option<Explained<'a>> {
+) -> Option<Refused<'a>> {
     match (job, fault) {
-        (Job::Run(settings), Some(fault)) => {
-            explanation_of_script(settings.profile, octets, before, fault)
-        }
-        (Job::Assemble(_), None) => Some(Explained::of_text(octets, answer_in(output)?)),
-        (Job::List, None) => Some(Explained::of_image(octets, answer_in(output)?)),
+        (Job::Run(settings), Some(fault)) => refused_line(settings.profile, octets, before, fault),
+        (Job::Assemble(_), None) => Some(Refused::Text(octets, answer_in(output)?)),
+        (Job::List, None) => Some(Refused::Image(octets, answer_in(output)?)),
         _ => None,
     }
 }
@@ -74,7 +67,8 @@ pub(crate) fn say_hint<E: Eprint>(
     let Some(octets) = text.octets() else {
         return;
     };
-    if let Some(explained) = explanation_of(job, octets, text.before(), fault, output) {
+    if let Some(refused) = refusal_of(job, octets, text.before(), fault, output) {
+        let explained = Explained::of(refused);
         let _ = eprint!(rt; "{explained}");
     }
 }
