@@ -8,6 +8,7 @@ pub const SCRIPT_HELP: &str = "Console lines:
   up [<hex>]                              a packet from outside
   time <seconds>                          sets the time of later reports
   step <id> <n>                           does up to n instructions of a procedure
+  round <id> <n>                          the same, at most to the end of a step
   view <id>                               shows its status, place and registers
   mem <id> 0x<digits> <length>            shows octets of its memory
   break <id> <place>                      sets a breakpoint
@@ -15,6 +16,7 @@ pub const SCRIPT_HELP: &str = "Console lines:
   trace <id> on, trace <id> off           whether its instructions are recorded
   trace                                   shows the last 256 records
   pool <index>                            shows a word of the pool
+  put <index> <value>                     writes a word of the pool from outside
   journal                                 shows how many events there were
   drain                                   sends the reports of completions that wait
   work <workers> <budget> <turns>         workers take turns of up to budget instructions
@@ -25,7 +27,7 @@ Verbs of send:
   resume <id>, abort <id>, communicate <id> <number> .., status
   With --profile 2: activate <id> <budget> [<hex>], where budget 0 is none
 
-Outcomes of step:
+Outcomes of step and round:
   Ran, Called, Broke, Ended, Faulted <n>, NotLoaded, NotRunning, JournalFull
 
 Faults of a procedure:
