@@ -268,7 +268,9 @@ impl<A: Allocator> Engine<A> {
         ensures journal { self.new ≡ log_after self.old (Put by index value) }
         ensures word { OnOk result (index < MAX_POOL_WORDS) }
     {
-        let index = self.state.word_index(index)?;
+        let Some(index) = self.state.word_index(index) else {
+            return Err(PutFault::BadPoolIndex);
+        };
         if self.journal.is_full() {
             return Err(PutFault::JournalFull);
         }

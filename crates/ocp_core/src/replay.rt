@@ -30,7 +30,7 @@ fn write<A: Allocator>(state: &mut State<A>, index: u16, value: u64)
         IsWorld (after w (Put by index value)).world state.new }
 {
     refused_events_change_nothing();
-    if let Ok(index) = state.word_index(u64::from(index)) {
+    if let Some(index) = state.word_index(u64::from(index)) {
         state.put_word(index, value);
     }
 }

@@ -169,8 +169,8 @@ kept_put true index value w h = absurd (true_false h)
 kept_put false index value w h = untouched w
 
 -- an index that is there, and one that is not
-pub put_there : (w : World) (by index value : ℕ) → nat_lt index (length w.pool) ≡ true → is_accepted (after w (Put by index value)).answer ≡ true
-put_there w by index value is = ap (λ b. is_accepted (answer_by (put_effect_if b index value).reply w)) is
+pub put_there : (w : World) (by index value : ℕ) → nat_lt index (length w.pool) ≡ true → (after w (Put by index value)).answer ≡ Written (Ok tt)
+put_there w by index value is = ap (λ b. answer_by (put_effect_if b index value).reply w) is
 
 pub put_nowhere : (w : World) (by index value : ℕ) → nat_lt index (length w.pool) ≡ false → (after w (Put by index value)).answer ≡ Written (Err put.BadPoolIndex)
 put_nowhere w by index value is = ap (λ b. answer_by (put_effect_if b index value).reply w) is

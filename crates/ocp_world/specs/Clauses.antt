@@ -16,7 +16,7 @@ pub use Rattle.ocp_world.specs.World.{World, Request, Drain, Event, Step, Debug,
 pub use Rattle.ocp_world.specs.After.{after, effect_of, Requested, Stepped, Commanded, Written}
 pub use Rattle.ocp_world.specs.After.{is_accepted}
 pub use Rattle.ocp_world.specs.Mirror.Answering.{discard_of, IsDiscard, IsUndue, IsRefusal}
-pub use Rattle.ocp_world.specs.Mirror.Answering.{IsDebugFault, IsPutFault}
+pub use Rattle.ocp_world.specs.Mirror.Answering.{IsDebugFault, IsPutAt}
 pub use Rattle.ocp_world.specs.Mirror.State.{IsWorld, DoesIn, Does}
 pub use Rattle.ocp_world.specs.Replay.{replay_from, answers}
 pub use Rattle.ocp_world.specs.Laws.{may_change_machine, IsAppended}

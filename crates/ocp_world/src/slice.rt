@@ -37,10 +37,7 @@ impl<A: Allocator> State<A> {
         ensures step { (w : World) (by : ℕ) → IsWorld w self.old → extent ≡ extents.Round →
             result.step ≡ step_at w by id result.count }
     {
-        if let Some(round) = self
-            .table
-            .instructions(id, &mut self.pool, budget, extent)
-        {
+        if let Some(round) = self.table.instructions(id, &mut self.pool, budget, extent) {
             return round;
         }
         // Each instruction of a traced procedure makes a trace record.

@@ -1,20 +1,18 @@
 //! What the engine keeps of its world.
 
-ghost use Rattle.std.specs.Prelude.{◌≡◌, ◌≤◌, ◌<◌, ℕ, List, true, false, None, Ok, Err, IfOk, length};
-ghost use Rattle.ocp_world.specs.Clauses.{Commanded, Debug, Does, DoesIn, Failed, FindsPlace, HasFewArguments, IsDebugFault, IsLoadInto, IsPutFault, IsRefusal, IsWorld, Kept, Put, Request as Asked, Sends, Step, Stepped, TakesRecord, Unasked, World, after, command_effect, directive_effect, directive_of, effect_of, has_no_place, opening, option_to_list, reports_of, step_ended, telecommand_of};
+ghost use Rattle.std.specs.Prelude.{◌≡◌, ◌≤◌, ◌<◌, ℕ, List, true, false, None, Ok, Err, IfOk, IfSome, length};
+ghost use Rattle.ocp_world.specs.Clauses.{Commanded, Debug, Does, DoesIn, Failed, FindsPlace, HasFewArguments, IsDebugFault, IsLoadInto, IsPutAt, IsRefusal, IsWorld, Kept, Put, Request as Asked, Sends, Step, Stepped, TakesRecord, Unasked, World, after, command_effect, directive_effect, directive_of, effect_of, has_no_place, opening, option_to_list, reports_of, step_ended, telecommand_of};
 ghost use Rattle.ocp_table.specs.RequestTable as directive;
 ghost use Rattle.ocp_world.specs.declared.answers.EngineFault.TheVariants as engine;
 
-use crate::{EngineFault, Heap, PutFault};
+use crate::{EngineFault, Heap};
 use obcp_messages::{Report, Request, StatusRows, read_request};
 use obcp_types::{AcceptanceFailure, PendingOrigin};
 use ocp_debug::{Command, DebugFault, TraceRing};
 use ocp_pool::{MAX_POOL_WORDS, Pool};
 use ocp_profile::Profile;
 use ocp_reports::{Origin, Sender, SharedReports, count_after};
-use ocp_table::{
-    Change, Decision, Directive, InstructionAnswer, LoadFailure, StepOutcome, Table,
-};
+use ocp_table::{Change, Decision, Directive, InstructionAnswer, LoadFailure, StepOutcome, Table};
 use pus_fields::{Tc, TcFault};
 use space_packet::{Apid, SequenceCount};
 use std::alloc::{AllocError, Allocator};
@@ -69,15 +67,16 @@ impl<A: Allocator> State<A> {
     }
 
     /// The pool word at an index, if there is one: else it can't be written.
-    pub fn word_index(&self, index: u64) -> Result<u16, PutFault>
-        ensures word { IfOk result (λ word. (word ≡ index) × (word < length self.now.pool)) }
+    pub fn word_index(&self, index: u64) -> Option<u16>
+        ensures word { IfSome result (λ word. (word ≡ index) × (word < length self.now.pool)) }
+        ensures few { IfSome result (λ word. word < MAX_POOL_WORDS) }
         ensures answer { (w : World) (by value : ℕ) → IsWorld w self.now →
-            IsPutFault (after w (Put by index value)).answer result }
+            IsPutAt (after w (Put by index value)).answer result }
     {
         if index < self.pool.words() as u64 {
-            Ok(index as u16)
+            Some(index as u16)
         } else {
-            Err(PutFault::BadPoolIndex)
+            None
         }
     }
 

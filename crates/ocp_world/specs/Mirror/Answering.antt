@@ -7,7 +7,7 @@ use Rattle.pus_fields.specs.Telecommand.{Telecommand}
 use Rattle.ocp_table.specs.declared.answers.StepOutcome.{StepOutcome}
 use Rattle.ocp_debug.specs.declared.command.DebugFault.{DebugFault}
 use Rattle.ocp_world.specs.declared.answers.EngineFault.TheVariants as engine
-use Rattle.ocp_world.specs.declared.answers.PutFault.{PutFault}
+use Rattle.ocp_world.specs.declared.answers.PutFault.TheVariants as put
 use Rattle.ocp_world.specs.After.{Answer, Requested, Stepped, Commanded, Written, is_accepted}
 
 -- why octets are discarded, where they are
@@ -36,7 +36,7 @@ abbrev pub IsUndue : Answer → Bool → Type 0
 IsUndue answer true = is_accepted answer ≡ true
 IsUndue answer false = answer ≡ Requested (Err engine.NothingDue)
 
--- a write of a pool word finds its index, or is refused so
-abbrev pub IsPutFault : Answer → Result ℕ PutFault → Type 0
-IsPutFault answer (Ok index) = is_accepted answer ≡ true
-IsPutFault answer (Err fault) = answer ≡ Written (Err fault)
+-- a write of a pool word finds the word and is done, or it is refused
+abbrev pub IsPutAt : Answer → Option ℕ → Type 0
+IsPutAt answer (Some word) = answer ≡ Written (Ok tt)
+IsPutAt answer None = answer ≡ Written (Err put.BadPoolIndex)

@@ -11,7 +11,7 @@ pub returns-in-Some-clause-world : goal.returns-in-Some-clause-world
 returns-in-Some-clause-world g c = sliced c.args.self.now _ c.args.id c.in-Some.round.count c.in-Some.ensures.untraced c.in-Some.ensures.store c.in-Some.ensures.profile refl refl refl
 
 pub returns-in-Some-clause-events : goal.returns-in-Some-clause-events
-returns-in-Some-clause-events g c w by stands first = 
+returns-in-Some-clause-events g c w by stands first =
     slice_counted by c.args.id w (most_events c.args.extent w by c.args.id c.args.budget) c.in-Some.round.count c.in-Some.round.last
     (table_count c.args.extent c.args.self.now c.args.id c.args.budget c.in-Some.round.count c.in-Some.ensures.count w by stands)
     (table_last c.args.extent c.args.self.now c.args.id c.args.budget _ c.in-Some.round.last c.in-Some.ensures.last w by stands)
@@ -48,12 +48,12 @@ pub returns-then-ends_with-clause-events : goal.returns-then-ends_with-clause-ev
 returns-then-ends_with-clause-events g c w by stands = sliced_events c.args.extent c.args.self.now c.loop-done.self c.instruction-answer.new.self c.args.id c.loop-done.done c.loop-done.last c.instruction-answer.result.outcome c.instruction-answer.result.step c.goes_on.result c.loop-done.invariant (record { world = c.instruction-answer.ensures.world; answer = c.instruction-answer.ensures.answer; ended = c.instruction-answer.ensures.step; goes = c.goes_on.ensures.goes; accepted = c.goes_on.ensures.accepted }) w by stands
 
 pub returns-then-ends_with-clause-count : goal.returns-then-ends_with-clause-count
-returns-then-ends_with-clause-count g c w by stands = 
+returns-then-ends_with-clause-count g c w by stands =
     let ends = round_ends c.args.extent c.instruction-answer.result.step (sym c.ends_with.ensures ∙ c.if-ends_with.true) in
     rounded_count c.args.extent c.args.self.now c.loop-done.self c.instruction-answer.new.self c.args.id c.loop-done.done c.loop-done.last c.instruction-answer.result.outcome c.instruction-answer.result.step c.goes_on.result c.loop-done.invariant (record { world = c.instruction-answer.ensures.world; answer = c.instruction-answer.ensures.answer; ended = c.instruction-answer.ensures.step; goes = c.goes_on.ensures.goes; accepted = c.goes_on.ensures.accepted }) w by stands c.args.budget c.loop-done-test.true ends.0 ends.1
 
 pub returns-then-ends_with-clause-last : goal.returns-then-ends_with-clause-last
-returns-then-ends_with-clause-last g c w by stands = 
+returns-then-ends_with-clause-last g c w by stands =
     let ends = round_ends c.args.extent c.instruction-answer.result.step (sym c.ends_with.ensures ∙ c.if-ends_with.true) in
     rounded_last c.args.extent c.args.self.now c.loop-done.self c.instruction-answer.new.self c.args.id c.loop-done.done c.loop-done.last c.instruction-answer.result.outcome c.instruction-answer.result.step c.goes_on.result c.loop-done.invariant (record { world = c.instruction-answer.ensures.world; answer = c.instruction-answer.ensures.answer; ended = c.instruction-answer.ensures.step; goes = c.goes_on.ensures.goes; accepted = c.goes_on.ensures.accepted }) w by stands c.args.budget c.loop-done-test.true ends.0 ends.1
 
@@ -65,7 +65,7 @@ loop-done-preserved g c = IsSliced-more c.args.extent c.args.self.now c.loop-don
     (round_none c.args.extent c.instruction-answer.result.step (sym c.ends_with.ensures ∙ c.if-ends_with.false))
 
 pub loop-done-init : goal.loop-done-init
-loop-done-init g c = 
+loop-done-init g c =
     let kept = c.in_default.ensures.kept refl in
     subst (λ s. IsSliced c.args.extent c.args.self.now s c.args.id 0 Ran) (λ i. record c.args.self.now { table = sym kept.0 i; pool = sym kept.1 i }) (IsSliced-none c.args.extent c.args.self.now c.args.id)
 
