@@ -289,7 +289,7 @@ class Asked:
         wanted = [name for flag, name in ((ACCEPTANCE, "accepted"), (START, "started"), (COMPLETION, "completed")) if self.flags & flag]
         missing = [name for name in wanted if name not in self.stages]
         came = f"{_listed(self.stages)} came" if self.stages else "nothing came"
-        return f"{came}, {_listed(missing)} is open" if missing else came
+        return f"{came}, {_listed(missing)} {'is' if len(missing) == 1 else 'are'} open" if missing else came
 
     def is_pending(self):
         """Whether it may well wait for the end of a step: a stop or a suspend that was taken, and is not completed."""
