@@ -620,17 +620,22 @@ TWICE = {"load": "is refused", "unload": "is refused", "activate": "is refused w
 
 
 def asked(ground, request, options, shown):
-    """Asks, and repeats a request that was not answered as often as the options say. A stop or suspend that waits for its
-    step is not repeated."""
+    """Asks, and repeats as often as the options say a request that was not answered or was changed on the way. A stop or
+    suspend that waits for its step is not repeated."""
     for repeat in range(1, options.retry + 1):
+        name = ground.name()
         try:
-            return ground.ask(request, options.flags, options.seconds, shown.report)
+            came = ground.ask(request, options.flags, options.seconds, shown.report)
+            if not any(isinstance(one, Verification) and one.request == name and one.code in UNTRUSTED for one in came):
+                return
+            why = "the first one was changed on the way"
         except Unanswered as fault:
             if not fault.may_repeat:
                 raise
             say(fault)
-            say(f"repeats {request.name}, {repeat} of {options.retry}; if the first one has arrived, this one {TWICE[request.name]}")
-    return ground.ask(request, options.flags, options.seconds, shown.report)
+            why = f"if the first one has arrived, this one {TWICE[request.name]}"
+        say(f"repeats {request.name}, {repeat} of {options.retry}; {why}")
+    ground.ask(request, options.flags, options.seconds, shown.report)
 
 
 def options_of(words):
