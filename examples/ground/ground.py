@@ -280,7 +280,7 @@ class Asked:
     """A request that was sent, with the stages of it that were reported."""
 
     def __init__(self, request, flags):
-        self.request, self.flags, self.stages = request, flags, []
+        self.request, self.flags, self.stages = request, flags & ALL_FLAGS, []
 
     def __repr__(self):
         return f"{self.request.name}: {self}"
@@ -316,8 +316,8 @@ def _listed(names):
 
 
 class Ground:
-    """One side of a link: counts requests, and keeps those whose last report has not come. Where other clients have the
-    engine too, `shared`, the reports that are missing in the count may be theirs, and nothing is said of them."""
+    """One side of a link: counts requests, and keeps those whose last report has not come. If the engine is `shared` with other
+    clients, the reports that are missing in the count may be theirs, and there are no gaps."""
 
     def __init__(self, link, source=0, apid=291, count=0, shared=False):
         self.link, self.source, self.apid, self.count, self.shared = link, source, apid, count, shared
@@ -360,8 +360,13 @@ class Ground:
                 break
         return self._take(self.waiting.popleft()) if self.waiting else None
 
+    def rest(self):
+        """What has come and was not given yet."""
+        while self.waiting:
+            yield self._take(self.waiting.popleft())
+
     def _keep(self, reports):
-        """Puts them behind those that wait, each after the gap before it."""
+        """Adds them to those that wait, each after the gap before it."""
         for report in reports:
             if not isinstance(report, PacketFault):
                 missing = 0 if self.last is None else (report.count - self.last - 1) % COUNTS
@@ -385,8 +390,8 @@ class Ground:
         asked, came, title = self.open.get(name), [], f"{request.name} (request {name.hex()})"
         ends = time.monotonic() + seconds
         try:
-            while name in self.open and len(came) < KEPT and (left := ends - time.monotonic()) > 0:
-                report = self.next(left)
+            while name in self.open and len(came) < KEPT and (self.waiting or time.monotonic() < ends):
+                report = self.next(max(0.0, ends - time.monotonic()))
                 if report is not None:
                     came.append(report)
                     if each:
@@ -682,6 +687,8 @@ def run(options, commands):
             else:
                 asked(ground, what, options, shown)
     finally:
+        for report in ground.rest():
+            shown.report(report)
         ground.link.close()
     return shown.good
 
