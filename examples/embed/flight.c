@@ -165,7 +165,7 @@ static void take(size_t length)
     case OCP_MEMORY:
         fprintf(stderr, "flight: cycle %lu: no memory for a request\n", (unsigned long)cycle);
         break;
-    default: /* discarded: what comes behind it is read */
+    default: /* discarded: what comes after it is read */
         broken++;
         fprintf(stderr, "flight: cycle %lu: a packet is discarded, status %lu\n", (unsigned long)cycle, (unsigned long)status);
     }

@@ -154,7 +154,7 @@ def abort(procedure):
 # ---- reports
 
 class Verification(NamedTuple):
-    """A report of service 1. `stage` is accepted, started, completed, or where it failed acceptance, start, completion."""
+    """A report of service 1. `stage` is accepted, started or completed; after a failure acceptance, start or completion."""
     apid: int
     count: int
     destination: int

@@ -49,7 +49,7 @@ class Parting:
         self.kind = kind
         self.rest = b""
         self.at = 0  # where the next packet begins in the rest
-        self.looked = 1  # how far behind it no other packet begins
+        self.looked = 1  # no other packet begins between there and this many octets later
         self.lost = b""  # octets without a header that are not given yet
         self.found = []
         first = kind.type << 4 | 0x08
@@ -86,7 +86,7 @@ class Parting:
         return self.found
 
     def _advance(self, quiet, ended):
-        """Takes what stands first; answers false if more octets have to come."""
+        """Takes what comes first; answers false if more octets are needed."""
         here = len(self.rest) - self.at
         if here and not self._may_begin(here):
             return self._pass_over(self._first_header(here))
@@ -124,7 +124,7 @@ class Parting:
         return error_control(self.rest[at:at + size]) == 0
 
     def _first_header(self, here):
-        """Where behind the first octet the next plausible header begins, or may begin; else the end of what is here."""
+        """Where after the first octet the next plausible header begins, or may begin; else the end of what is here."""
         for header in self.headers.finditer(self.rest, self.at + 1):
             if self._plausible(header.start()) is not None:
                 return header.start() - self.at
@@ -136,7 +136,7 @@ class Parting:
         return next((at for at in range(start, ends) if self.begins[here - at - 1].match(self.rest, self.at + at)), None)
 
     def _next(self, limit, quiet):
-        """Where behind the first octet and before the limit the next packet begins, and whether that is sure: an unfinished
+        """Where after the first octet and before the limit the next packet begins, and whether that is sure: an unfinished
         one may still turn out to be none. After a quiet time unfinished ones do not count."""
         whole_headers = min(limit, len(self.rest) - self.at - PRIMARY + 1)
         for header in self.headers.finditer(self.rest, self.at + self.looked):

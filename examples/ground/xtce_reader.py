@@ -61,7 +61,7 @@ class Database:
         if self.containers[last].get("abstract") == "true":
             raise Refused(f"it is no more than {last}: {values}")
         if bits.left:
-            raise Refused(f"{bits.left} bits are left behind {last}")
+            raise Refused(f"{bits.left} bits are left after {last}")
         return last, values
 
     def extends(self, container, base, values):
@@ -69,7 +69,7 @@ class Database:
         return of is not None and of.get("containerRef") == base and all(self.holds(one, values) for one in of.iter("Comparison"))
 
     def holds(self, comparison, values):
-        """Whether a comparison holds: by the number where it says so, else by the label."""
+        """Whether a comparison holds: by the number if it says so, else by the label."""
         name, wanted = comparison.get("parameterRef"), comparison.get("value")
         if comparison.get("useCalibratedValue", "true") == "true":
             return name in values and str(values[name]) == wanted
@@ -145,7 +145,7 @@ class Database:
         return number.to_bytes(size // 8, "big")
 
     def chain(self, command):
-        """The command behind those that it extends."""
+        """The command, after those that it extends."""
         if command not in self.commands or self.commands[command].get("abstract") == "true":
             raise Refused(f"there is no telecommand {command}")
         chain = [self.commands[command]]
@@ -158,12 +158,12 @@ class Database:
         made = self.argument_types[type_name]
         if made.tag == "ArrayArgumentType":
             if len(value) != self.length(made, values):
-                raise Refused(f"{len(value)} elements where {self.length(made, values)} are announced")
+                raise Refused(f"{len(value)} elements, not {self.length(made, values)} as announced")
             return [pair for one in value for pair in self.write(made.get("arrayTypeRef"), one, values)]
         if made.tag == "BinaryArgumentType":
             size = self.dynamic(made.find("BinaryDataEncoding/SizeInBits/DynamicValue"), values)
             if size != 8 * len(value):
-                raise Refused(f"{8 * len(value)} bits where {size} are announced")
+                raise Refused(f"{8 * len(value)} bits, not {size} as announced")
             return [(int.from_bytes(value, "big"), size)]
         bits = int(made.find("IntegerDataEncoding").get("sizeInBits"))
         if made.tag == "BooleanArgumentType":
