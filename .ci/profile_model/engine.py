@@ -278,7 +278,7 @@ class Engine:
             del self.records[:-RECORDS]
         return outcome, step
 
-    def steps(self, name, most, is_round=False):
+    def steps(self, name, most, is_round):
         """Instructions up to a number of them; a round also ends with a step, and says which."""
         if name not in self.procedures:
             raise Refused("NotLoaded")
