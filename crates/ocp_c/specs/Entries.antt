@@ -20,8 +20,8 @@ command_octets by id (SetTrace on) =
     5 ∷ big_bytes 2 by ++ big_bytes 2 id ++ big_bytes 2 (number_of_flag on)
 
 -- its kind (8 bits) and its seat (16), and then, of a request, its time (32) and its packet; of
--- instructions, the procedure (16) and how many they are (32); of a drain, its time (32); of a write of
--- a pool word, its index (16) and its value (64); a command is as above
+-- instructions, the procedure (16) and how many they are (32); of a drain, its time (32); of a
+-- write of a pool word, its index (16) and its value (64); a command is as above
 abbrev pub entry_octets : Entry → List ℕ
 entry_octets (Asked by time packet) = 1 ∷ big_bytes 2 by ++ big_bytes 4 time ++ packet
 entry_octets (Steps by id count) = 2 ∷ big_bytes 2 by ++ big_bytes 2 id ++ big_bytes 4 count

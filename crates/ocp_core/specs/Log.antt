@@ -13,8 +13,8 @@ use Rattle.ocp_world.specs.After.{Answer, Requested, Stepped, Commanded, Written
 use Rattle.ocp_world.specs.Replay.{replay}
 
 -- a request with its seat and time; so many instructions of one procedure with their seat; a
--- debugger's command to a procedure with its seat; a drain with its seat and time; or a write of the
--- pool word at an index with its seat and value
+-- debugger's command to a procedure with its seat; a drain with its seat and time; or a write of
+-- the pool word at an index with its seat and value
 pub data Entry : Type 0 where
   Asked : ℕ → ℕ → List ℕ → Entry
   Steps : ℕ → ℕ → ℕ → Entry

@@ -45,8 +45,8 @@ with_operation (Some operation) operations = operations ++ operation ∷ []
 abbrev pub add_operation : Effect → List PoolOperation → List PoolOperation
 add_operation effect operations = with_operation (operation_by effect) operations
 
--- the operations of all procedures, and the writes from outside, each of which sets its word, in the
--- order of the events
+-- the operations of all procedures, and the writes from outside, each of which sets its word, in
+-- the order of the events
 abbrev pub operations : Profile → ℕ → ℕ → List Event → List PoolOperation
 operations profile apid words es = gather add_operation [] (history profile apid words es)
 

@@ -198,6 +198,7 @@ impl<A: Allocator> Engine<A> {
     }
 
     // Does instructions of one procedure as far as a slice or a round goes.
+    #[inline(always)]
     fn instructions(&mut self, by: u16, id: u16, budget: u32, extent: Extent) -> Round
         requires { 1 ≤ budget }
         ensures slice { slice_of result ≡
@@ -247,8 +248,8 @@ impl<A: Allocator> Engine<A> {
         Slice { count, last }
     }
 
-    /// Does instructions of one procedure as `slice` does, which also end with the first that ends a
-    /// step. The round answers the number of that step, if one ended. Its instructions are one
+    /// Does instructions of one procedure as `slice` does, which also end with the first that ends
+    /// a step. The round answers the number of that step, if one ended. Its instructions are one
     /// journal entry, or none if none was done.
     pub fn round(&mut self, by: u16, id: u16, budget: u32) -> Round
         requires { 1 ≤ budget }

@@ -18,10 +18,10 @@ use Rattle.ocp_lines.specs.declared.command.Command.TheVariants as command
 -- ---- what a line can say
 
 -- nothing, a packet's octets, a request with its acknowledgement flags, a time, some steps of a
--- procedure, a round of it; a breakpoint that is set or cleared at a place of a procedure, whether a procedure is
--- traced, the trace records that are kept, a view of a procedure, so many octets of its memory from
--- an address on; a word of the pool, a word and the value that it gets, the number of events; the reports of the completions that
--- wait; so many workers with a budget and turns
+-- procedure, a round of it; a breakpoint that is set or cleared at a place of a procedure, whether
+-- a procedure is traced, the trace records that are kept, a view of a procedure, so many octets of
+-- its memory from an address on; a word of the pool, a word and the value that it gets, the number
+-- of events; the reports of the completions that wait; so many workers with a budget and turns
 pub data Meaning : Type 0 where
   Nothing : Meaning
   Up : List ℕ → Meaning

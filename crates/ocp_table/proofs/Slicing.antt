@@ -31,7 +31,7 @@ use Rattle.obcp_types.specs.declared.pending.Due.{Due}
 use Rattle.std.proofs.lemmas.List.{append-nil}
 use Rattle.ocp_table.specs.declared.answers.Extent.{Extent}
 use Rattle.ocp_table.specs.declared.answers.Extent.TheVariants as extents
-use Rattle.ocp_table.specs.Slices.{IsSlice, Store, store_after, store_after_events, answer_to, effect_of_event, goes_on, is_running, is_running_status, is_on, slice_count, slice_last, control_after, with_machine, RunsBy, last_ran, Leads, Unended, step_ended, step_at, round_budget, most_events, ends_with}
+use Rattle.ocp_table.specs.Slices.{IsSlice, Store, store_after, store_after_events, answer_to, effect_of_event, goes_on, is_running, is_running_status, is_on, slice_count, slice_last, control_after, with_machine, RunsBy, last_ran, Leads, EndNoStep, step_ended, step_at, round_budget, most_events, ends_with}
 use Rattle.ocp_table.proofs.Budgets.{less-none, less-next, within-fewer, not-spent}
 use Rattle.ocp_table.proofs.ContentsLemmas.{insert-same}
 use Rattle.ocp_table.proofs.Tables.{absent-step, same_step, records_after_step, outbox_after_step}
@@ -72,20 +72,20 @@ leads-on id n k s t u a b c first more = record {
 
 -- ---- events that end no step
 
-pub unended-none : (id : ℕ) (s : Store) → Unended id 0 s
+pub unended-none : (id : ℕ) (s : Store) → EndNoStep id 0 s
 unended-none id s k low = absurd (omega (arith, low))
 
-pub unended-one : (id : ℕ) (s : Store) → step_ended (effect_of_event id s) ≡ None → Unended id 1 s
+pub unended-one : (id : ℕ) (s : Store) → step_ended (effect_of_event id s) ≡ None → EndNoStep id 1 s
 unended-one id s is zero low = is
 unended-one id s is (suc k) low = absurd (omega (arith, low))
 
-pub unended-on : (id n k : ℕ) (s t : Store) → store_after_events id n s ≡ t → Unended id n s → Unended id k t → Unended id (n + k) s
+pub unended-on : (id n k : ℕ) (s t : Store) → store_after_events id n s ≡ t → EndNoStep id n s → EndNoStep id k t → EndNoStep id (n + k) s
 unended-on id zero k s t at first more j low = subst (λ x. step_ended (effect_of_event id (store_after_events id j x)) ≡ None) (sym at) (more j (omega (arith, low)))
 unended-on id (suc n) k s t at first more zero low = first zero (omega arith)
 unended-on id (suc n) k s t at first more (suc j) low = unended-on id n k (store_after id s) t at (λ i under. first (suc i) (omega (arith, under))) more j (omega (arith, low))
 
 -- they take as many from a round's budget
-round_budget-on : (id n b : ℕ) (s : Store) → Unended id n s → round_budget id s (n + b) ≡ n + round_budget id (store_after_events id n s) b
+round_budget-on : (id n b : ℕ) (s : Store) → EndNoStep id n s → round_budget id s (n + b) ≡ n + round_budget id (store_after_events id n s) b
 round_budget-on id zero b s still = let none : 0 + b ≡ b = omega arith in ap (round_budget id s) none ∙ omega arith
 round_budget-on id (suc n) b s still =
     let more : suc n + b ≡ suc (n + b) = omega arith in
@@ -100,7 +100,7 @@ one_of true x = refl
 one_of false x = refl
 
 -- the next event is within what is left
-pub most-split : (extent : Extent) (id n budget : ℕ) (s : Store) → (extent ≡ extents.Round → Unended id n s) → n < budget → (rest : ℕ) × (most_events extent id s budget ≡ n + suc rest)
+pub most-split : (extent : Extent) (id n budget : ℕ) (s : Store) → (extent ≡ extents.Round → EndNoStep id n s) → n < budget → (rest : ℕ) × (most_events extent id s budget ≡ n + suc rest)
 most-split extents.Slice id n budget s still within = (budget - (n + 1), omega (arith, within))
 most-split extents.Round id n budget s still within =
     let rest : ℕ = budget - (n + 1) in
@@ -112,14 +112,14 @@ most-split extents.Round id n budget s still within =
     )
 
 -- all of the budget was used
-pub most-whole : (extent : Extent) (id n : ℕ) (s : Store) → (extent ≡ extents.Round → Unended id n s) → most_events extent id s n ≡ n
+pub most-whole : (extent : Extent) (id n : ℕ) (s : Store) → (extent ≡ extents.Round → EndNoStep id n s) → most_events extent id s n ≡ n
 most-whole extents.Slice id n s still = refl
 most-whole extents.Round id n s still =
     let all : n ≡ n + 0 = omega arith in
     ap (round_budget id s) all ∙ round_budget-on id n 0 s (still refl) ∙ omega arith
 
 -- the next event ends a step
-pub most-ended : (extent : Extent) (id n budget : ℕ) (s : Store) → extent ≡ extents.Round → Unended id n s → n < budget → is_some (step_ended (effect_of_event id (store_after_events id n s))) ≡ true → most_events extent id s budget ≡ n + 1
+pub most-ended : (extent : Extent) (id n budget : ℕ) (s : Store) → extent ≡ extents.Round → EndNoStep id n s → n < budget → is_some (step_ended (effect_of_event id (store_after_events id n s))) ≡ true → most_events extent id s budget ≡ n + 1
 most-ended extents.Slice id n budget s is still within some = absurd (cc)
 most-ended extents.Round id n budget s is still within some =
     let rest : ℕ = budget - (n + 1) in
@@ -128,7 +128,7 @@ most-ended extents.Round id n budget s is still within some =
     ap (round_budget id s) split ∙ round_budget-on id n (suc rest) s still ∙ ap (λ b. n + cond b 1 (suc (round_budget id (store_after id t) rest))) some
 
 -- the step that the last of them ends
-pub step-none : (id n : ℕ) (s : Store) → Unended id n s → step_at id n s ≡ None
+pub step-none : (id n : ℕ) (s : Store) → EndNoStep id n s → step_at id n s ≡ None
 step-none id zero s still = refl
 step-none id (suc n) s still = still n (omega arith)
 
@@ -161,7 +161,7 @@ pub record Comes (extent : Extent) (id budget : ℕ) (s : Store) (n : ℕ) (o : 
   pub count : slice_count id s (most_events extent id s budget) ≡ n
   pub last : slice_last id s S.Ran (most_events extent id s budget) ≡ o
 
-module _ (extent : Extent) (id n budget : ℕ) (s t : Store) (last : StepOutcome) (led : Leads id n s S.Ran t last) (still : extent ≡ extents.Round → Unended id n s) where
+module _ (extent : Extent) (id n budget : ℕ) (s t : Store) (last : StepOutcome) (led : Leads id n s S.Ran t last) (still : extent ≡ extents.Round → EndNoStep id n s) where
   -- all of the budget was used
   pub comes-whole : n ≡ budget → Comes extent id budget s n last
   comes-whole used =
@@ -256,7 +256,7 @@ module _ (m : Records) (outbox : List Due) (pool : List ℕ) (id : ℕ) where
         ∙ ap (λ s. effect_by (transition (Step pool) (Some s) r.control.pending (length r.mailbox)) id (Some r) (is_full m)) running
         ∙ ap (λ o. effect_of_step o id) (ran_in r pool t left next).0
 
-    pub unended_ran : Unended id 1 here
+    pub unended_ran : EndNoStep id 1 here
     unended_ran = unended-one id here (ap step_ended effect_ran)
 
     store_ran : store_after id here ≡ at (ran_on r t)
@@ -334,19 +334,19 @@ module _ (m : Records) (outbox : List Due) (pool : List ℕ) (id : ℕ) (r : Rec
             (leads-on id n 1 (record { records = m; outbox = outbox; pool = pool }) (after n s) (after (suc n) t) last (last_ran n last) S.Ran (local_leads n s (within-fewer r.remaining n (suc n) fewer inside) is) (one_more n s t inside k))
       ] refl h
 
-  one_more_unended : (n : ℕ) (s t : State) → IsWithin r.remaining (suc n) → local_next r.image r.breakpoints (r.control.pass && (n == 0)) s ≡ Some t → Unended id 1 (after n s)
+  one_more_unended : (n : ℕ) (s t : State) → IsWithin r.remaining (suc n) → local_next r.image r.breakpoints (r.control.pass && (n == 0)) s ≡ Some t → EndNoStep id 1 (after n s)
   one_more_unended n s t inside next =
       let q = with_machine n s r in
       unended_ran (map.insert m id q) outbox pool id q t (get-put m id q) (status_after n r.control ∙ running) (not-spent r.remaining n inside) (ap (λ b. local_next r.image r.breakpoints b s) (pass_after n r.control) ∙ next)
 
-  pub local_unended : (n : ℕ) (t : State) → IsWithin r.remaining n → ran_for n ≡ Some t → Unended id n (record { records = m; outbox = outbox; pool = pool })
+  pub local_unended : (n : ℕ) (t : State) → IsWithin r.remaining n → ran_for n ≡ Some t → EndNoStep id n (record { records = m; outbox = outbox; pool = pool })
   local_unended zero t inside h = unended-none id (record { records = m; outbox = outbox; pool = pool })
   local_unended (suc n) t inside h =
       let fewer : n ≤ suc n = omega arith in
       let start : Store = record { records = m; outbox = outbox; pool = pool } in
-      elim (ran_for n) as (λ o. ran_for n ≡ o → option_and_then (local_next r.image r.breakpoints (r.control.pass && (n == 0))) o ≡ Some t → Unended id (suc n) start) [
+      elim (ran_for n) as (λ o. ran_for n ≡ o → option_and_then (local_next r.image r.breakpoints (r.control.pass && (n == 0))) o ≡ Some t → EndNoStep id (suc n) start) [
         | None ↦ λ is k. absurd (cc)
-        | Some s ↦ λ is k. subst (λ x. Unended id x start) (add-one n)
+        | Some s ↦ λ is k. subst (λ x. EndNoStep id x start) (add-one n)
             (unended-on id n 1 start (after n s) (local_leads n s (within-fewer r.remaining n (suc n) fewer inside) is).store
             (local_unended n s (within-fewer r.remaining n (suc n) fewer inside) is) (one_more_unended n s t inside k))
       ] refl h
@@ -380,7 +380,7 @@ module _ {A : Type 0} where
     pub running : now.control.status ≡ Running
     pub named : now.id ≡ old.id
     pub leads : (m : Records) → map.get m old.id ≡ Some (record_of old) → Leads old.id n (record { records = m; outbox = outbox; pool = pool }) S.Ran (record { records = map.insert m old.id (record_of now); outbox = filed; pool = left }) last
-    pub unended : (m : Records) → map.get m old.id ≡ Some (record_of old) → extent ≡ extents.Round → Unended old.id n (record { records = m; outbox = outbox; pool = pool })
+    pub unended : (m : Records) → map.get m old.id ≡ Some (record_of old) → extent ≡ extents.Round → EndNoStep old.id n (record { records = m; outbox = outbox; pool = pool })
 
   pub sliced-none : (extent : Extent) (r : Record A) (outbox : List Due) (pool : List ℕ) → r.control.status ≡ Running → IsSliced extent r r outbox outbox pool pool 0 S.Ran
   sliced-none extent r outbox pool running = record {

@@ -51,8 +51,8 @@ pub data Why : Type 0 where
   Failed : StartFailure → Why
 
 -- what an event does to the records, to the outbox and to the pool: a procedure is loaded, by a
--- profile and an image, unloaded or changed, the outbox is emptied, the pool word at an index becomes
--- a value, written from outside, or all of it stays
+-- profile and an image, unloaded or changed, the outbox is emptied, the pool word at an index
+-- becomes a value, written from outside, or all of it stays
 pub data Effect : Type 0 where
   Loaded : Profile → ℕ → List ℕ → Effect
   Unloaded : ℕ → Effect

@@ -155,8 +155,8 @@ abbrev pub slice_of : Round → Slice
 slice_of round = record { count = round.count; last = round.last }
 
 -- none of so many events ends a step
-abbrev pub Unended : ℕ → ℕ → Store → Type 0
-Unended id n s =
+abbrev pub EndNoStep : ℕ → ℕ → Store → Type 0
+EndNoStep id n s =
     (k : ℕ) → k < n → step_ended (effect_of_event id (store_after_events id k s)) ≡ None
 
 -- ---- instructions that a machine does by itself

@@ -6,7 +6,7 @@ use Rattle.ocp_table.specs.declared.answers.Extent.{Extent}
 use Rattle.ocp_table.specs.declared.answers.Extent.TheVariants as extents
 use Rattle.ocp_table.specs.declared.answers.StepOutcome.{StepOutcome}
 use Rattle.ocp_table.specs.declared.answers.StepOutcome.TheVariants.{Ran}
-use Rattle.ocp_table.specs.Slices.{Leads, Unended, answer_to}
+use Rattle.ocp_table.specs.Slices.{Leads, EndNoStep, answer_to}
 use Rattle.ocp_table.specs.Slices as table
 use Rattle.ocp_table.proofs.Slicing.{leads-none, leads-one, leads-on, unended-none, unended-one, unended-on, step-none, Comes, comes-whole, comes-end, comes-round}
 use Rattle.ocp_world.specs.World.{World, Step}
@@ -43,7 +43,7 @@ module _ {A : Type 0} where
     pub ready : (w : World) (by : ℕ) → IsWorld w old → is_accepted (after w (Step by id)).answer ≡ true → is_accepted (after (replay_from w (replicate n (Step by id))) (Step by id)).answer ≡ true
     pub events : (w : World) (by : ℕ) → IsWorld w old → is_accepted (after w (Step by id)).answer ≡ true → (replay_from w (replicate n (Step by id))).events ≡ w.events + n
     pub leads : (w : World) (by : ℕ) → IsWorld w old → Leads id n (store_of w) Ran (store_of (replay_from w (replicate n (Step by id)))) last
-    pub unended : (w : World) → IsWorld w old → extent ≡ extents.Round → Unended id n (store_of w)
+    pub unended : (w : World) → IsWorld w old → extent ≡ extents.Round → EndNoStep id n (store_of w)
 
   -- one more step, as the calls ensure it
   pub record IsOneMore (now next : State A) (id : ℕ) (o : StepOutcome) (step : Option ℕ) (on : Bool) : Type 0 where

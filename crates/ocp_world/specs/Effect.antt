@@ -8,8 +8,8 @@ use Rattle.ocp_reports.specs.Origin.{Dispatch}
 use Rattle.ocp_world.specs.declared.answers.PutFault.{PutFault}
 
 -- octets are discarded; reports are sent, each to its destination at its time; an instruction was
--- asked for; a debugger's command was; no completion waits to be reported; or a write of a pool word
--- was asked for
+-- asked for; a debugger's command was; no completion waits to be reported; or a write of a pool
+-- word was asked for
 pub data Reply : Type 0 where
   Discards : Discard → Reply
   Sends : List Dispatch → Reply

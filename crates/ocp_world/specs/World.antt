@@ -36,8 +36,8 @@ opening profile apid words = record {
 
 -- the octets of a request, with the seat that handed them in and the time; one instruction of a
 -- procedure, with the seat; a debugger's command to a procedure, with the seat; the sending of the
--- completions that wait, with the seat that asked for it and the time; or a write of the pool word at
--- an index from outside, with the seat, the index and the value
+-- completions that wait, with the seat that asked for it and the time; or a write of the pool word
+-- at an index from outside, with the seat, the index and the value
 pub data Event : Type 0 where
   Request : ℕ → ℕ → List ℕ → Event
   Step : ℕ → ℕ → Event

@@ -66,9 +66,9 @@ pub fn a_drain_empties_the_outbox_alone()
     ensures traces { (w : World) (by time : ℕ) → (after w (Drain by time)).world.traces ≡ w.traces }
 {}
 
-/// A write of a pool word from outside is accepted exactly if the pool has a word at its index. Then
-/// that word is the value; every other word, all procedures, the completions that wait, the count of
-/// reports and the trace records stay.
+/// A write of a pool word from outside is accepted exactly if the pool has a word at its index.
+/// Then that word is the value; every other word, all procedures, the completions that wait, the
+/// count of reports and the trace records stay.
 #[tactic(auto, using(crate::proofs::Putting::put_accepted, crate::proofs::Putting::put_word_set, crate::proofs::Putting::put_keeps_records, crate::proofs::Putting::put_keeps_outbox, crate::proofs::Putting::put_keeps_reports, crate::proofs::Putting::put_keeps_traces))]
 pub fn a_write_from_outside_changes_its_word_alone()
     ensures accepted { (w : World) (by index value : ℕ) →
