@@ -1,9 +1,9 @@
 //! What is printed of reports, steps, rounds, the pool and the journal.
 
-ghost use Rattle.std.specs.Prelude.{◌≡◌, ◌≢◌, ◌≤◌, ◌++◌, Err, length, OnOk};
+ghost use Rattle.std.specs.Prelude.{◌≡◌, ◌≢◌, ◌≤◌, ◌+◌, ◌++◌, Err, length, OnOk};
 ghost use Rattle.ocp_world.specs.After.{Requested};
 ghost use Rattle.ocp_console.specs.Answering.{answer_text};
-ghost use Rattle.ocp_console.specs.Texts.{report_line, discard_name, discard_line, refusal_line, step_line, round_line, pool_line, put_ending, put_line, journal_line, work_line};
+ghost use Rattle.ocp_console.specs.Texts.{report_line, discard_name, discard_line, refusal_line, step_line, step_end_text, round_line, pool_line, put_ending, put_line, journal_line, work_line};
 
 use crate::text::{Text, write_text};
 use ocp_core::{EngineFault, PutFault, Reports, Round, Slice};
@@ -115,6 +115,18 @@ pub(crate) fn step_text<A: Allocator>(
     write_text(&text, output)
 }
 
+/// Appends the number of the step that ended, if one did.
+fn push_step_end(text: &mut Text, step: Option<u16>)
+    requires { length text.old + 11 ≤ 64 }
+    ensures items { text.new ≡ text.old ++ step_end_text step }
+    ensures len { length text.new ≤ length text.old + 11 }
+{
+    if let Some(step) = step {
+        text.push_all(b" step ");
+        text.push_integer(step);
+    }
+}
+
 /// Writes the line of a round.
 pub(crate) fn round_text<A: Allocator>(
     id: u16,
@@ -130,10 +142,7 @@ pub(crate) fn round_text<A: Allocator>(
     text.push_integer(round.count);
     text.push_all(b" ");
     push_outcome(&mut text, round.last);
-    if let Some(step) = round.step {
-        text.push_all(b" step ");
-        text.push_integer(step);
-    }
+    push_step_end(&mut text, round.step);
     text.push_all(b"\n");
     write_text(&text, output)
 }
