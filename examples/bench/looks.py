@@ -6,7 +6,8 @@ import sys
 from pathlib import Path
 
 from bounds import Refused, Talk, run
-from passes import STEP, mark_of, touched
+from console import step_of, words_of
+from passes import mark_of, touched
 
 sys.path.insert(0, str(Path(__file__).resolve().parent.parent / "ground"))
 import ground  # noqa: E402
@@ -15,8 +16,8 @@ KEPT = 256                  # records that the program keeps
 VISITS = 2_000
 
 
-def words_of(found):
-    """The words of a run whose journal has room for the lines of the look."""
+def command_of(found):
+    """The command of a run whose journal has room for the lines of the look."""
     return [found.program, "run", *(word for name, value in dict(found.options, journal=1_000_000).items()
                                     for word in (f"--{name}", str(value)))]
 
@@ -28,21 +29,21 @@ def does_nothing(row):
 
 def records(found, done, count, number):
     """The records of a procedure's last instructions before a moment, each with place, outcome, registers and text."""
-    begin, enough = done, count if count and int(STEP.match(found.lines[done])[1]) == number else 0
+    begin, enough = done, count if count and step_of(found.lines[done])[0] == number else 0
     while begin > 0 and enough < KEPT and not found.rows[begin - 1].get("free"):
         begin -= 1
-        step = STEP.match(found.lines[begin])
-        if step and int(step[1]) == number:
+        step = step_of(found.lines[begin])
+        if step and step[0] == number:
             enough += found.rows[begin]["events"]
     line, mark = mark_of()
     on = f"trace {number} on"
     asked = [text for text, row in zip(found.lines[:begin], found.rows) if not does_nothing(row)] + [on]
     for text, row in zip(found.lines[begin:done], found.rows[begin:done]):
         if not does_nothing(row):
-            again = touched(text)[0] == number and text.split()[0] in ("send", "up", "trace")
+            again = touched(text)[0] == number and words_of(text)[0] in ("send", "up", "trace")
             asked += [text, on] if again else [text]
     asked += found.prefix(done, count)[done:]
-    output = run(words_of(found), "".join(f"{text}\n" for text in [*asked, line, "trace", line, f"view {number}"]))[0]
+    output = run(command_of(found), "".join(f"{text}\n" for text in [*asked, line, "trace", line, f"view {number}"]))[0]
     parts = output.split(f"{mark}\n")
     if len(parts) != 3 or parts[2].splitlines() != found.state(done, count, number)["views"].get(number, []):
         raise Refused("the records of this moment can't be had")
@@ -85,15 +86,15 @@ def visits(found, number, places):
     """The events at which a running procedure comes to one of these places, whether a breakpoint holds it there or not."""
     events = []
     resume = f"up {ground.resume(number).packet(0, 0, 0, found.options['apid']).hex()}"
-    with Talk(words_of(found), *mark_of()) as talk:
+    with Talk(command_of(found), *mark_of()) as talk:
         begin = 0
         waiting = []
         for text, row in zip(found.lines, found.rows):
-            step = STEP.match(text)
+            step = step_of(text)
             if row.get("fault") or len(events) >= VISITS:
                 break
-            if step and int(step[1]) == number and row["events"]:
-                events += [begin + each for each in visits_of_line(talk, waiting, number, places, int(step[2]), resume)]
+            if step and step[0] == number and row["events"]:
+                events += [begin + each for each in visits_of_line(talk, waiting, number, places, step[1], resume)]
                 waiting = []
             elif not does_nothing(row):
                 waiting.append(text)

@@ -7,6 +7,8 @@ import re
 import sys
 from pathlib import Path
 
+from console import decimal, words_of
+
 sys.path.insert(0, str(Path(__file__).resolve().parent.parent / "ground"))
 import ground  # noqa: E402
 
@@ -128,23 +130,24 @@ def report_fields(fields, names):
 
 def telecommand(line, count, apid, profile):
     """The octets that a `send` or an `up` line gives to the engine; None where it gives none."""
-    words = line.split()
+    words = words_of(line)
     if words[:1] == ["up"]:
         return bytes.fromhex("".join(words[1:])) if re.fullmatch("([0-9a-fA-F]{2})*", "".join(words[1:])) else None
     if words[:1] != ["send"] or len(words) < 3:
         return None
     verb, given = words[2], words[3:]
-    makers = {"load": lambda: ground.load(int(given[0]), bytes.fromhex("".join(given[1:]))),
-              "unload": lambda: ground.unload(int(given[0])),
-              "activate": lambda: ground.activate(int(given[0]), bytes.fromhex("".join(given[profile:])),
-                                                  int(given[1]) if profile == 2 else None),
-              "stop": lambda: ground.stop(*map(int, given)), "suspend": lambda: ground.suspend(*map(int, given)),
-              "resume": lambda: ground.resume(int(given[0])), "abort": lambda: ground.abort(int(given[0])),
-              "communicate": lambda: ground.communicate(int(given[0]), [int(word) for word in given[1:]]),
+    numbers = [-1 if (number := decimal(word)) is None else number for word in given]
+    makers = {"load": lambda: ground.load(numbers[0], bytes.fromhex("".join(given[1:]))),
+              "unload": lambda: ground.unload(numbers[0]),
+              "activate": lambda: ground.activate(numbers[0], bytes.fromhex("".join(given[profile:])),
+                                                  numbers[1] if profile == 2 else None),
+              "stop": lambda: ground.stop(*numbers), "suspend": lambda: ground.suspend(*numbers),
+              "resume": lambda: ground.resume(numbers[0]), "abort": lambda: ground.abort(numbers[0]),
+              "communicate": lambda: ground.communicate(numbers[0], numbers[1:]),
               "status": ground.status}
     try:
-        return makers[verb]().packet(count, int(words[1]), 0, apid)
-    except (KeyError, ValueError, IndexError, TypeError):
+        return makers[verb]().packet(count, decimal(words[1], 15), 0, apid)
+    except (KeyError, ValueError, IndexError, TypeError, ArithmeticError):
         return None
 
 
@@ -165,9 +168,10 @@ def packets_of(found, index, names):
     if not 0 <= index < len(found.rows):
         raise ValueError
     apid = found.options["apid"]
-    before = [line.split() for line in found.lines[:index + 1]]
+    before = [words_of(line) for line in found.lines[:index + 1]]
     count = sum(words[:1] == ["send"] for words in before[:-1]) % 0x4000
-    times = [int(words[1]) for words in before if words[:1] == ["time"] and len(words) == 2 and words[1].isdigit()]
+    times = [time for words in before if words[:1] == ["time"] and len(words) == 2
+             and (time := decimal(words[1], 2**32 - 1)) is not None]
     packets = [("request", telecommand(found.lines[index], count, apid, found.profile))]
     packets += [(shown, telemetry(shown, times[-1] if times else 0, apid)) for shown in found.rows[index]["printed"][:80]]
     return [{"name": name, "octets": octets.hex(), "fields": dissected(octets, found.profile, names)}

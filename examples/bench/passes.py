@@ -10,12 +10,12 @@ import secrets
 from collections import OrderedDict
 
 from bounds import OCTETS, Refused, run, sentence
+from console import decimal, step_of, words_of
 
 LINES = 20_000              # of a script
 REGIONS = (("stack", 0x10000000, 4096), ("arguments", 0x20000000, 256))
 WORK = {1: 1024, 2: 4096}
 ROOM = 16                   # words of a mailbox
-STEP = re.compile(r"^ *step +(\d+) +(\d+) *\r?$")
 FAILED = re.compile(r"tm 1 [24] |refused |discarded ")
 
 
@@ -27,7 +27,7 @@ def mark_of():
 
 def touched(line):
     """The identifier that a line names, to look at it afterwards; and the image that it would load."""
-    words = line.split()
+    words = words_of(line)
     if not words:
         return None, None
     if words[0] == "up" and len(words) == 2 and re.fullmatch("([0-9a-fA-F]{2}){15,}", words[1]):
@@ -35,17 +35,18 @@ def touched(line):
         return int(octets[22:26], 16), octets[30:-4] if octets[14:18] == "1201" else None
     at = 3 if words[0] == "send" else 1
     if words[0] in ("send", "step", "break", "unbreak", "trace", "view", "mem") and len(words) > at:
-        if re.fullmatch(r"\d{1,9}", words[at]) and int(words[at]) < 65_536:
+        number = decimal(words[at], 65_535)
+        if number is not None:
             loads = words[0] == "send" and words[2] == "load" and len(words) == 5
-            return int(words[at]), words[4].lower() if loads else None
+            return number, words[4].lower() if loads else None
     return None, None
 
 
 def words_put(line):
     """The words that a line would put into a mailbox."""
-    words = line.split()
-    if words[:1] == ["send"] and words[2:3] == ["communicate"] and all(word.isdigit() for word in words[4:]):
-        return [int(word) for word in words[4:]]
+    words = words_of(line)
+    if words[:1] == ["send"] and words[2:3] == ["communicate"]:
+        return [number for word in words[4:] if (number := decimal(word)) is not None]
     if words[:1] == ["up"] and len(words) == 2 and words[1][14:18] == "1207":
         octets = words[1][28:-4]
         return [int(octets[at:at + 16], 16) for at in range(0, len(octets), 16)]
@@ -111,7 +112,7 @@ class Pass:
             number, image = touched(text)
             if image is not None:
                 named.add(number)
-            looks.append(sorted(named) if text.split()[:1] == ["work"] else [] if number is None else [number])
+            looks.append(sorted(named) if words_of(text)[:1] == ["work"] else [] if number is None else [number])
             asked += [text, line, "journal", *(f"view {each}" for each in looks[-1])]
         if len(asked) > 99_000:
             raise Refused("the pass is too long for the bench: work lines with many procedures")
@@ -153,7 +154,7 @@ class Pass:
                 row["image"] = [number, image]
             loaded[number] = [first[2], first[3]] if is_loaded else None
             row["status"][number] = loaded[number]
-        if text.split()[:1] == ["work"]:
+        if words_of(text)[:1] == ["work"]:
             row["free"] = True
         words = words_put(text)
         if words and not any(FAILED.match(shown) for shown in printed):
@@ -182,20 +183,20 @@ class Pass:
                 "hint": self.hint()}
 
     def check(self, done, count):
-        step = STEP.match(self.lines[done]) if 0 <= done < len(self.rows) else None
-        if not 0 <= done <= len(self.rows) or count < 0 or count and (not step or count > int(step[2])):
+        step = step_of(self.lines[done]) if 0 <= done < len(self.rows) else None
+        if not 0 <= done <= len(self.rows) or count < 0 or count and (not step or count > step[1]):
             raise Refused("there is no such moment in this pass")
 
     def prefix(self, done, count):
         """The lines of a moment."""
         self.check(done, count)
-        last = [f"step {STEP.match(self.lines[done])[1]} {count}"] if count else []
+        last = [f"step {step_of(self.lines[done])[0]} {count}"] if count else []
         return self.lines[:done] + last
 
     def state(self, done, count, number):
         """What the program prints for the lines of a moment: `view`, `pool`, `mem`, and what a drain would send."""
         self.check(done, count)
-        key = (self.names[done], (self.lines[done].split()[1], count) if count else None, number)
+        key = (self.names[done], (step_of(self.lines[done])[0], count) if count else None, number)
         if found := self.states.get(key):
             return found
         line, mark = mark_of()

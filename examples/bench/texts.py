@@ -1,14 +1,20 @@
 """What a text gives: its image and listing by the program, its faults at their lines, and which line made which slot."""
 import os
 import re
+import shutil
+import sys
 import tempfile
+import time
 from pathlib import Path
 
+import bounds
+import shield
 from bounds import OCTETS, Refused, run, sentence
 
 HERE = Path(__file__).resolve().parent
 BUILD = HERE.parent / "c" / "build"
 LINES = HERE.parent / "c" / "lines"
+FAULTS, SAID = 200, 20_000  # of one text: how many are answered, and characters of the compiler's words
 CLANG = {"CLANG": "clang", "LLVM_OBJCOPY": "llvm-objcopy", "LLVM_READELF": "llvm-readelf", "LLVM_OBJDUMP": "llvm-objdump"}
 SAYS = {"Syntax": "this is no instruction of the assembly: docs/CARD.md has them all",
         "Range": "a number is outside of its range, a width does not exist, or a label is too far away",
@@ -18,18 +24,34 @@ SAYS = {"Syntax": "this is no instruction of the assembly: docs/CARD.md has them
 
 def newest(name):
     """The program under this name, the newest of those with a version behind it; None where there is none."""
-    files = {file.name for folder in os.get_exec_path() for file in Path(folder).glob(f"{name}*")}
-    versions = {int(found[1] or 0): file for file in files if (found := re.fullmatch(rf"{name}(?:-(\d+))?", file))}
+    versions = {}
+    for folder in os.get_exec_path():
+        for file in Path(folder).glob(f"{name}*"):
+            if found := re.fullmatch(rf"{name}(?:-([0-9]+))?", file.name):
+                versions.setdefault(int(found[1] or 0), os.fspath(file))
     return versions[max(versions)] if versions else None
 
 
+def programs():
+    """The programs of the compiler by their variables, None where one is missing."""
+    return {name: shutil.which(given) if (given := os.environ.get(name)) else newest(program) for name, program in CLANG.items()}
+
+
 def has_clang():
-    return BUILD.exists() and all(os.environ.get(name) or newest(program) for name, program in CLANG.items())
+    return BUILD.exists() and all(programs().values())
 
 
-def with_clang():
-    """The words in front of a command that is to take these programs of the compiler, and no others."""
-    return ["env", *(f"{name}={os.environ.get(name) or newest(program)}" for name, program in CLANG.items())]
+def is_done(words):
+    """Whether a command ends with status 0."""
+    try:
+        return run(words, "", 16_000)[2] == 0
+    except (Refused, OSError):
+        return False
+
+
+def is_shielded():
+    """Whether a build reads the compiler and the text alone."""
+    return shield.way_of(is_done) is not None
 
 
 def listing_of(program, image):
@@ -50,25 +72,64 @@ def places_of_assembly(text, listing):
     return {slot: line for (slot, _), line in zip(listing, lines)} if len(lines) == len(listing) else {}
 
 
-def places_of_c(file):
-    """Slot to line by examples/c/lines; what stands in a header belongs to the line that brought it in."""
-    try:
-        table, _, status = run([*with_clang(), LINES, file], "", 16_000)
-    except Refused:
-        return {}
-    places, line = {}, None
-    for row in table.splitlines() if status == 0 else []:
-        slot, place = row.split(" ", 2)[:2]
-        if place.startswith("text.c:"):
-            line = int(place.removeprefix("text.c:"))
-        if line:
-            places[int(slot)] = line
-    return places
+class Build:
+    """A text in C in a folder of its own, and the commands over it, which have one time for all."""
+
+    def __init__(self, text, room):
+        found, way = programs(), shield.way_of(is_done)
+        self.file, self.until = room / "text.c", time.monotonic() + bounds.SECONDS
+        self.file.write_text(text)
+        self.words = way(room, found.values()) if way else []
+        kept = {name: value for name, value in os.environ.items() if name in ("PATH", "LANG", "LC_ALL", "OCP_CPU")}
+        self.surroundings = {**kept, **found, "HOME": os.fspath(room), "TMPDIR": os.fspath(room)}
+
+    def run(self, *words):
+        return run([*self.words, *words, self.file], "", 16_000, self.file.parent, self.surroundings, self.until)
+
+    def places(self):
+        """Slot to line by examples/c/lines; what stands in a header belongs to the line that brought it in."""
+        try:
+            table, _, status = self.run(os.path.realpath(sys.executable), "-I", "-B", LINES)
+        except Refused:
+            return {}
+        places, line = {}, None
+        for row in table.splitlines() if status == 0 else []:
+            if not (found := re.match(r"([0-9]+) (?:text\.c:([0-9]{1,9})(?= |$))?", row)):
+                continue
+            line = int(found[2]) if found[2] else line
+            if line:
+                places[int(found[1])] = line
+        return places
+
+
+def faults_of_c(said):
+    """Line and words of what the compiler says."""
+    return [[int(found[1]), found[2]] for line in said.split("\n")
+            if (found := re.match(r"[^:]*:([0-9]{1,9}):(?:[0-9]+:)? *(?:fatal )?((?:error|warning): .*)", line))]
+
+
+def built(program, text):
+    """Image, listing, places, faults and words of a text in C."""
+    if not has_clang():
+        raise Refused("there is no clang for BPF on this machine: a text in C can be kept, and not built")
+    with tempfile.TemporaryDirectory(prefix="ocp-bench-", ignore_cleanup_errors=True) as folder, bounds.keeping(folder):
+        build = Build(text, shield.room_in(folder))
+        output, said, status = build.run(BUILD)
+        said = said.replace(os.fspath(build.file), "text").replace(os.fspath(build.file.parent), "")
+        image = output.strip() if status == 0 else ""
+        places = build.places() if image else {}
+    faults = faults_of_c(said)
+    if len(faults) > FAULTS:
+        faults[FAULTS:] = [[0, "and more"]]
+        said = said[:SAID]
+    if status and not faults:
+        faults.append([0, said.strip() or "it was not built"])
+    return image, listing_of(program, image) if image else [], places, faults, said
 
 
 def fault_of(output, said, names):
     """The line of a refused text, and why: the program's own sentence, else its word in other words."""
-    found = re.match(r"error (\d+) (\w+)(?: (\d+))?", output)
+    found = re.match(r"error ([0-9]+) ([A-Za-z]+)(?: ([0-9]+))?", output)
     if not found:
         return [0, said.strip() or "it was not assembled"]
     why = names.get(f"load {found[3]}") if found[2] == "Load" else SAYS.get(found[2])
@@ -78,28 +139,12 @@ def fault_of(output, said, names):
 def assembled(program, language, text, profile, names):
     if len(text.encode()) > OCTETS:
         raise Refused(f"the text has over {OCTETS:,} octets")
-    faults = []
     if language == "c":
-        if not has_clang():
-            raise Refused("there is no clang for BPF on this machine: a text in C can be kept, and not built")
-        with tempfile.TemporaryDirectory(prefix="ocp-bench-") as room:
-            file = Path(room) / "text.c"
-            file.write_text(text)
-            output, said, status = run([*with_clang(), BUILD, file], "", 16_000)
-            said = said.replace(str(file), "text").replace(room, "")
-            for line in said.splitlines():
-                if found := re.match(r"[^:]*:(\d+):(?:\d+:)? *(?:fatal )?((?:error|warning): .*)", line):
-                    faults.append([int(found[1]), found[2]])
-            image = output.strip() if status == 0 else ""
-            places = places_of_c(file) if image else {}
-        if status and not faults:
-            faults.append([0, said.strip() or "it was not built"])
-        listing = listing_of(program, image) if image else []
+        image, listing, places, faults, said = built(program, text)
     else:
         output, said, status = run([program, "asm", "--profile", str(profile)], text)
         image = output.strip() if status == 0 else ""
-        if status:
-            faults.append(fault_of(output, said, names))
+        faults = [fault_of(output, said, names)] if status else []
         listing = listing_of(program, image) if image else []
         places = places_of_assembly(text, listing)
     return {"image": image, "listing": listing, "places": places, "faults": faults, "said": said}
