@@ -6,6 +6,9 @@ import tempfile
 import time
 from pathlib import Path
 
+import fields
+import texts
+
 LOADS = "b7010000010000008500000005000000b70100000200000085000000050000009500000000000000"
 
 
@@ -450,6 +453,10 @@ def page(address, ocp, check, pictures):
         example(shown)
         newcomer(shown, ocp)
         second_profile(shown)
+        fields.numbers(shown)
+        fields.shield(shown, texts.is_shielded() if texts.has_clang() else None)
+        fields.profiles(shown)
+        fields.words(shown)
         nothing_overlaps(shown)
         by_keyboard(shown)
         with tempfile.TemporaryDirectory() as folder:

@@ -1,7 +1,7 @@
 """How the console reads a line: words are parted by spaces alone, and a number has the digits 0 to 9 alone."""
 import re
 
-STEP = re.compile(r" *step +([0-9]+) +([0-9]+) *\r?")
+STEP = re.compile(r" *(?:step|round) +([0-9]+) +([0-9]+) *\r?")
 
 
 def words_of(line):
@@ -19,7 +19,7 @@ def decimal(word, most=2**64 - 1):
 
 
 def step_of(line):
-    """Identifier and count of a `step` line, or None."""
+    """Identifier and count of a `step` or a `round` line, which does instructions of one procedure; None of another line."""
     found = STEP.fullmatch(line)
     number, count = (decimal(found[1]), decimal(found[2])) if found else (None, None)
     return None if number is None or count is None else (number, count)

@@ -94,7 +94,8 @@ def visits(found, number, places):
             if row.get("fault") or len(events) >= VISITS:
                 break
             if step and step[0] == number and row["events"]:
-                events += [begin + each for each in visits_of_line(talk, waiting, number, places, step[1], resume)]
+                again = f"{words_of(text)[0]} {number}"
+                events += [begin + each for each in visits_of_line(talk, waiting, number, places, step[1], again, resume)]
                 waiting = []
             elif not does_nothing(row):
                 waiting.append(text)
@@ -102,8 +103,8 @@ def visits(found, number, places):
     return {"events": sorted(set(events))[:VISITS], "more": len(events) >= VISITS}
 
 
-def visits_of_line(talk, before, number, places, count, resume):
-    """The same of one `step` line, counted from its begin."""
+def visits_of_line(talk, before, number, places, count, again, resume):
+    """The same of one `step` or `round` line, counted from its begin; `again` are its first words."""
     events, done = [], 0
     view = talk.ask([*before, f"view {number}"])[-12].split()
     if view[2] == "running" and int(view[5]) in places:
@@ -113,7 +114,7 @@ def visits_of_line(talk, before, number, places, count, resume):
         raise Refused("8 breakpoints stand already in this procedure: take one away to look for other places")
     mine = [place for place, answer in zip(places, answers) if answer.endswith(" set")]
     while done < count:
-        shown = talk.ask([f"step {number} {count - done}", f"view {number}"])
+        shown = talk.ask([f"{again} {count - done}", f"view {number}"])
         outcome = shown[0].split()
         if outcome[3] != "Broke":
             break

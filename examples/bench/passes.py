@@ -34,7 +34,7 @@ def touched(line):
         octets = words[1].lower()
         return int(octets[22:26], 16), octets[30:-4] if octets[14:18] == "1201" else None
     at = 3 if words[0] == "send" else 1
-    if words[0] in ("send", "step", "break", "unbreak", "trace", "view", "mem") and len(words) > at:
+    if words[0] in ("send", "step", "round", "break", "unbreak", "trace", "view", "mem") and len(words) > at:
         number = decimal(words[at], 65_535)
         if number is not None:
             loads = words[0] == "send" and words[2] == "load" and len(words) == 5

@@ -1,5 +1,5 @@
 // The page: puts its parts together, and hears keys, clicks and files.
-import { at, bringBack, caughtUp, guarded, it, question, say } from "./shared.js";
+import { at, bringBack, caughtUp, guarded, it, numberIn, question, say } from "./shared.js";
 import * as texts from "./texts.js";
 import * as script from "./script.js";
 import { KEYS, here, mark, passRead, walk, walkTo } from "./walk.js";
@@ -24,7 +24,7 @@ for (const [name, key] of [["zoom-in", "+"], ["zoom-out", "-"], ["zoom-all", "0"
     at(name).onclick = () => press(key);
 }
 at("listing").onclick = guarded(event => event.target.dataset.slot !== undefined && mark(Number(event.target.dataset.slot)));
-at("mark").onclick = guarded(() => mark(Number(at("number").value)));
+at("mark").onclick = guarded(() => mark(numberIn("number", "A place")));
 at("more-records").ontoggle = guarded(() => showHistory(it.moment, walkTo));
 addEventListener("resize", () => draw(here()));
 // What is reached by Tab, or written, is scrolled until it stands above the foot.
@@ -35,13 +35,14 @@ matchMedia("(prefers-color-scheme: dark)").onchange = () => draw(here());
 for (const name of ["apid", "pool", "journal", "profile"]) {
     at(name).onchange = async () => {
         it.stay = true;
+        if (name === "profile") script.sayProfile();
         await Promise.all([texts.readText(), script.readScript()]);
         it.stay = false;
     };
 }
 at("example").onclick = guarded(async () => {
     await texts.example();
-    const id = Number(at("id").value);
+    const id = numberIn("id", "A procedure");
     await script.insert(script.MAKERS.Load(id), script.MAKERS.Activate(id), `step ${id} 100`);
 });
 
@@ -65,8 +66,9 @@ document.ondrop = guarded(async event => {
 guarded(async () => {
     at("help").open = localStorage.getItem("bench texts") === null;
     bringBack();
-    ({ names: it.names, clang: it.clang, ranges: it.ranges } = await question("names", {}));
-    for (const name of ["apid", "pool", "journal"]) [at(name).min, at(name).max] = it.ranges[name];
+    let shielded;
+    ({ names: it.names, clang: it.clang, knows: it.knows, shielded } = await question("names", {}));
+    at("unshielded").hidden = !it.clang || shielded;
     script.whenRead((place, from) => from === undefined ? walk(place) : passRead(place, from));
     script.start();
     texts.start();

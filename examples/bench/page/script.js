@@ -1,5 +1,5 @@
 // The script of a pass: by hand or by buttons, with what each line printed behind it, and the packets of one line.
-import { at, button, caughtUp, guarded, it, keep, keepInView, later, make, options, question, save, say } from "./shared.js";
+import { at, button, caughtUp, guarded, it, keep, keepInView, later, make, numberIn, options, question, save, say } from "./shared.js";
 import { editor } from "./editor.js";
 import { imageShown } from "./texts.js";
 import { inWords, readRequests } from "./words.js";
@@ -47,6 +47,16 @@ function showCommand() {
     const words = Object.entries(options()).filter(([name, value]) => value !== USUAL[name]).map(([name, value]) => ` --${name} ${value}`);
     at("command").textContent = `./ocp run${words.join("")} < pass.ocp`;
     at("budget").hidden = options().profile !== 2;
+}
+
+// What a change of the profile does to lines that are there: both profiles take them, and read them in different ways.
+export function sayProfile() {
+    const lines = at("script").value.split("\n").flatMap((line, index) => /^ *send +\S+ +activate /.test(line) ? [index + 1] : []);
+    const where = lines.length ? ` The script activates in line${lines.length > 1 ? "s" : ""} ${lines.slice(0, 5).join(", ")}${lines.length > 5 ? " .." : ""}.` : "";
+    at("other-profile").hidden = false;
+    at("other-profile").textContent = (options().profile === 2 ?
+        "Profile 2: activate 7 10 gives a budget of 10 instructions. Under profile 1 it gave the argument 10, in hexadecimal." :
+        "Profile 1: activate 7 10 gives the argument 10, in hexadecimal. Under profile 2 it gave a budget of 10 instructions.") + where;
 }
 
 function rowOf(index) {
@@ -146,15 +156,20 @@ export const MAKERS = {
     "Stop at step": (id, n) => `send 9 stop ${id} ${n}`, Resume: id => `send 1 resume ${id}`, Abort: id => `send 9 abort ${id}`,
     Unload: id => `send 9 unload ${id}`, Communicate: (id, n) => `send 9 communicate ${id} ${n}`,
     "Break at place": (id, n) => `break ${id} ${n}`, Work: (_, n) => `work 2 ${n} 100`, Drain: () => "drain",
+    Round: (id, n) => `round ${id} ${n}`, "Put word": (_, n, word) => `put ${word} ${n}`,
 };
+// The lines of those that an older program does not have.
+const NEEDED = { Round: "round", "Put word": "put" };
 
 export function start() {
     for (const [name, made] of Object.entries(MAKERS)) {
-        const maker = button(name, async () => { await caughtUp(); await insert(made(at("id").value, at("number").value)); });
-        maker.title = name === "Load" ? "send 9 load <procedure> <image of the text>" : made("<procedure>", "<number>");
+        if (NEEDED[name] && !it.knows.includes(NEEDED[name])) continue;
+        const maker = button(name, async () => { await caughtUp(); await insert(made(...["id", "number", "word"].map(field => at(field).value.trim()))); });
+        maker.title = name === "Load" ? "send 9 load <procedure> <image of the text>" : made("<procedure>", "<number>", "<pool word>");
         at("makers").append(maker, " ");
     }
-    at("reload").onclick = guarded(async () => { await caughtUp(); await reload(Number(at("id").value)); });
+    at("index-of-word").hidden = !it.knows.includes("put");
+    at("reload").onclick = guarded(async () => { await caughtUp(); await reload(numberIn("id", "A procedure")); });
     at("script").addEventListener("input", () => { behind = -1; });
     at("script").addEventListener("input", later(() => readScript()));
     at("save-script").onclick = () => save("pass.ocp", at("script").value);

@@ -1,13 +1,17 @@
 // What all parts of the page share: its state, the questions to the server, and what it says of faults.
 export const at = name => document.getElementById(name);
 export const it = {
-    names: {}, clang: false, ranges: {},
+    names: {}, clang: false, knows: [],
     texts: [], tab: 0,                                  // the texts, and the one that is shown
     key: null, lines: [], rows: [], starts: [0], total: 0,  // the pass as the program ran it
     moment: [0, 0], chosen: null, state: null,          // where the walk stands
     marks: new Map(),                                   // identifier to the places that the page marks
     stay: false,                                        // whether the text in view stays, whatever procedure is
 };
+
+// A line that steps a procedure, with its identifier, and how such a line ends.
+export const STEPS = /^ *(?:step|round) +([0-9]+) /;
+export const BROKE = /^(?:step|round) .* Broke$/, FAULTED = /^(?:step|round) .* Faulted /, ENDED = /^(?:step|round) .* Ended(?: step [0-9]+)?$/;
 
 export function say(text) { at("message").textContent = text; }
 
@@ -27,8 +31,18 @@ export function guarded(work) {
     };
 }
 
+// A number of decimal digits as a number, and anything else as it was written, for the bench to refuse.
+export const numberOf = text => /^[0-9]{1,15}$/.test(text.trim()) ? Number(text) : text;
+
 export function options() {
-    return Object.fromEntries(["apid", "pool", "journal", "profile"].map(name => [name, Number(at(name).value)]));
+    return Object.fromEntries(["apid", "pool", "journal", "profile"].map(name => [name, numberOf(at(name).value)]));
+}
+
+// The number in a field of which the page itself has to make use.
+export function numberIn(name, what) {
+    const number = numberOf(at(name).value);
+    if (typeof number !== "number") throw new Error(`${what} is decimal digits, and stands here as ${number || "nothing"}.`);
+    return number;
 }
 
 export function make(tag, text = "", name = "") {
@@ -45,7 +59,7 @@ export function button(text, work, name = "") {
     return element;
 }
 
-const KEPT = ["script", "id", "number", "profile", "apid", "pool", "journal"];
+const KEPT = ["script", "id", "number", "word", "profile", "apid", "pool", "journal"];
 export function keep() {
     try {
         KEPT.forEach(name => localStorage.setItem(`bench ${name}`, at(name).value));

@@ -1,5 +1,5 @@
 // The state at a moment: procedures, registers, memory, frames, mailbox, records, pool, and what a drain would print.
-import { at, button, it, keepInView, make } from "./shared.js";
+import { at, BROKE, button, it, keepInView, make, STEPS } from "./shared.js";
 import { askPass } from "./script.js";
 
 const drawn = new Map();
@@ -150,11 +150,11 @@ export async function showHistory(moment, walkTo) {
 function eventsBack([done, count], id) {
     const events = [];
     for (let line = done; line >= 0 && events.length < 256; line -= 1) {
-        const row = it.rows[line], step = /^ *step +(\d+) /.exec(it.lines[line] || "");
+        const row = it.rows[line], step = STEPS.exec(it.lines[line] || "");
         if (!row || line === done && !count) continue;
         if (row.free) break;
         if (!step || Number(step[1]) !== id) continue;
-        const all = line === done ? count : row.events - (row.printed.some(shown => / Broke$/.test(shown)) ? 1 : 0);
+        const all = line === done ? count : row.events - (row.printed.some(shown => BROKE.test(shown)) ? 1 : 0);
         for (let each = all; each > 0 && events.length < 256; each -= 1) events.push(it.starts[line] + each);
     }
     return events;

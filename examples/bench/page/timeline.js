@@ -1,5 +1,5 @@
 // The timeline: a lane for each procedure, its status by colour, marks for what happened, and a part that can be chosen.
-import { at, it } from "./shared.js";
+import { at, BROKE, ENDED, FAULTED, it } from "./shared.js";
 
 const LEFT = 64, LANE = 14, TOP = 16, LANES = 200;
 let lanes = [], marks = [], part = [0, 1], shape = null;
@@ -19,8 +19,8 @@ export function readTimeline() {
             if (name) now.set(id, { name, begin: end, end }); else now.delete(id);
         }
         const own = lane.get(Number(Object.keys(row.status)[0]));
-        const sign = row.printed.some(shown => /^step .* Faulted /.test(shown)) ? "x" : row.printed.some(shown => /^step .* Broke$/.test(shown)) ? "b" :
-            row.printed.some(shown => /^step .* Ended$/.test(shown)) ? "e" : row.printed.some(shown => /^tm 1 [248] /.test(shown)) ? "!" :
+        const sign = row.printed.some(shown => FAULTED.test(shown)) ? "x" : row.printed.some(shown => BROKE.test(shown)) ? "b" :
+            row.printed.some(shown => ENDED.test(shown)) ? "e" : row.printed.some(shown => /^put .* set$/.test(shown)) ? "w" : row.printed.some(shown => /^tm 1 [248] /.test(shown)) ? "!" :
             row.printed.some(shown => /^tm /.test(shown)) ? "r" : /^ *(send|up)/.test(it.lines[line]) ? "|" : "";
         if (sign) marks.push({ event: end, lane: own === undefined ? lanes.length : own, sign });
     });

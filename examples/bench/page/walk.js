@@ -1,5 +1,5 @@
 // The walk: a moment is so many whole lines, and then so many instructions of the next one. Every state is the program's.
-import { at, guarded, it, say } from "./shared.js";
+import { at, BROKE, FAULTED, guarded, it, say, STEPS } from "./shared.js";
 import { askPass, showPackets, showReports, showRows } from "./script.js";
 import { instructionAt, readListing, showPlace } from "./texts.js";
 import { addressOf, changesOf, reasonOf, showHistory, showState } from "./state.js";
@@ -104,10 +104,10 @@ function cameTo(row, line) {
 function lastEvent(moment, line, image, was) {
     const row = it.rows[line];
     if (event0(moment) || !row) return "";
-    if (row.free || !/^ *step /.test(it.lines[line])) return cameTo(row, line);
+    if (row.free || !STEPS.test(it.lines[line])) return cameTo(row, line);
     if (!row.events || !was) return `Line ${line + 1} did nothing.`;
-    const place = Number(was[0].split(" ")[5]), held = !moment[1] && row.printed.some(shown => / Broke$/.test(shown));
-    const faulted = !moment[1] && row.printed.some(shown => / Faulted /.test(shown));
+    const place = Number(was[0].split(" ")[5]), held = !moment[1] && row.printed.some(shown => BROKE.test(shown));
+    const faulted = !moment[1] && row.printed.some(shown => FAULTED.test(shown));
     const instruction = instructionAt(image, place);
     if (faulted) return `The last event is the fault of ${instruction}${reasonOf(it.state.views[it.chosen] || was, instruction)}.`;
     return held ? `A breakpoint held it before ${instruction}.` : `The last event did ${instruction}${addressOf(was, instruction)}.`;
@@ -168,8 +168,8 @@ export const KEYS = {
     ArrowRight: () => walkTo(here() + 1), ArrowLeft: () => walkTo(here() - 1),
     ArrowDown: () => walk([Math.min(last(), it.moment[0] + 1), 0]), ArrowUp: () => walk([Math.max(0, it.moment[0] - (it.moment[1] ? 0 : 1)), 0]),
     b: () => breakpoint(false), B: () => breakpoint(true),
-    h: () => jump(/^step .* Broke$/, false, "breakpoint that held"), H: () => jump(/^step .* Broke$/, true, "breakpoint that held"),
-    f: () => jump(/^step .* Faulted /, false, "fault"), F: () => jump(/^step .* Faulted /, true, "fault"),
+    h: () => jump(BROKE, false, "breakpoint that held"), H: () => jump(BROKE, true, "breakpoint that held"),
+    f: () => jump(FAULTED, false, "fault"), F: () => jump(FAULTED, true, "fault"),
     m: async () => { await settled(); if (placeNow() >= 0) await mark(placeNow()); },
     "+": () => { zoom(1 / 4, here()); draw(here()); }, "-": () => { zoom(4, here()); draw(here()); }, 0: () => { zoom(Infinity, here()); draw(here()); },
     Home: () => walk([0, 0]), End: () => walk([last(), 0]),
