@@ -4,9 +4,11 @@ import re
 import selectors
 import signal
 import subprocess
+import tempfile
 import threading
 import time
 from contextlib import contextmanager
+from pathlib import Path
 
 OCTETS = 4_000_000          # of a text, a script or a request
 PRINTED = 32_000_000        # octets of one run
@@ -29,15 +31,16 @@ class Refused(Exception):
 
 
 @contextmanager
-def keeping(what):
-    """Has the keeper, where there is one, end a process group or take away a folder if the server is gone before."""
-    if KEEPER:
-        KEEPER.add(what)
-    try:
-        yield
-    finally:
+def folder():
+    """A folder for a while; the keeper takes it away if the server is gone before."""
+    with tempfile.TemporaryDirectory(prefix="ocp-bench-", ignore_cleanup_errors=True) as path:
         if KEEPER:
-            KEEPER.remove(what)
+            KEEPER.add(path)
+        try:
+            yield Path(path)
+        finally:
+            if KEEPER:
+                KEEPER.remove(path)
 
 
 class Child:

@@ -112,7 +112,7 @@ def servers_end(check, script):
                     # Another build may not begin before the run has ended, so that it is asked of a server of its own.
                     other, its = client.serve(folder)
                     answers.append(pool.submit(client.ask, its, "text", text=SLOW, language="c"))
-                    check("a slow build has begun", waited(lambda: running(f"{folder}/ocp-bench-")))
+                    check("a slow build has begun", waited(lambda: any("/clang" in _command(each) for each in running(f"{folder}/ocp-bench-"))))
                     other.send_signal(number)
                     other.wait(5)
                     check(f"no build outlives its server, {number.name}", waited(lambda: not running(f"{folder}/ocp-bench-"), 2))
@@ -130,6 +130,13 @@ def _parent(process):
         return int(Path(f"/proc/{process}/stat").read_text().rpartition(")")[2].split()[1])
     except OSError:
         return None
+
+
+def _command(process):
+    try:
+        return Path(f"/proc/{process}/cmdline").read_text(errors="replace").partition("\0")[0]
+    except OSError:
+        return ""
 
 
 def _is_there(process):

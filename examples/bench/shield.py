@@ -7,8 +7,9 @@ import functools
 import os
 import shutil
 import sys
-import tempfile
 from pathlib import Path
+
+import bounds
 
 SYSTEM = ("/usr", "/bin", "/sbin", "/lib", "/lib32", "/lib64", "/libx32")
 PIECES = ("/etc/alternatives", "/etc/ld.so.cache")
@@ -40,8 +41,8 @@ exec chroot "$root" /bin/sh -c 'cd "$0" && exec "$@"' "$begin" "$@"
 def room_in(folder):
     """The folder of the text, in a folder that was made for one build."""
     for name in ("room", "root"):
-        (Path(folder) / name).mkdir()
-    return Path(folder) / "room"
+        (folder / name).mkdir()
+    return folder / "room"
 
 
 def folder_of(program):
@@ -83,8 +84,8 @@ def by_unshare(room, programs):
 
 def holds(way, run):
     """Whether a way works here: the file of the room is read, and one beside the room is not."""
-    with tempfile.TemporaryDirectory(prefix="ocp-bench-") as folder:
-        room, outside = room_in(folder), Path(folder) / "outside"
+    with bounds.folder() as folder:
+        room, outside = room_in(folder), folder / "outside"
         for file in (room / "inside", outside):
             file.write_text("x")
         look = 'test -r "$0" && ! test -e "$1" && ! test -e /etc/passwd'

@@ -3,7 +3,6 @@ import os
 import re
 import shutil
 import sys
-import tempfile
 import time
 from pathlib import Path
 
@@ -26,9 +25,13 @@ def newest(name):
     """The program under this name, the newest of those with a version behind it; None where there is none."""
     versions = {}
     for folder in os.get_exec_path():
-        for file in Path(folder).glob(f"{name}*"):
-            if found := re.fullmatch(rf"{name}(?:-([0-9]+))?", file.name):
-                versions.setdefault(int(found[1] or 0), os.fspath(file))
+        try:
+            names = os.listdir(folder)
+        except OSError:
+            continue
+        for each in names:
+            if found := re.fullmatch(rf"{name}(?:-([0-9]+))?", each):
+                versions.setdefault(int(found[1] or 0), os.path.join(folder, each))
     return versions[max(versions)] if versions else None
 
 
@@ -112,7 +115,7 @@ def built(program, text):
     """Image, listing, places, faults and words of a text in C."""
     if not has_clang():
         raise Refused("there is no clang for BPF on this machine: a text in C can be kept, and not built")
-    with tempfile.TemporaryDirectory(prefix="ocp-bench-", ignore_cleanup_errors=True) as folder, bounds.keeping(folder):
+    with bounds.folder() as folder:
         build = Build(text, shield.room_in(folder))
         output, said, status = build.run(BUILD)
         said = said.replace(os.fspath(build.file), "text").replace(os.fspath(build.file.parent), "")
