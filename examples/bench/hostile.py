@@ -67,7 +67,8 @@ def files_that_are_read(check, program):
                 image, _, _, faults, _ = with_way(way, lambda text=text: texts.built(program, text))
                 is_read = image == IMAGE and not faults
                 check(f"a file of another text, {way.__name__ if way else 'no shield'}", is_read == (way is None))
-            image, listing, places, faults, said = with_way(way, lambda: texts.built(program, '#include "ocp.h"\n' + ENTRY))
+            text = '#include "ocp.h"\n' + ENTRY.replace("3;", "/* \f0 text.c:99 */ 3;")
+            image, _, places, faults, said = with_way(way, lambda: texts.built(program, text))
             check("a text of its own behind the shield", (image, faults, said) == (IMAGE, [], "") and places == {0: 3, 1: 3})
     if not ways():
         print("skipped: no bubblewrap or unshare that a user may use")

@@ -96,7 +96,7 @@ class Build:
         except Refused:
             return {}
         places, line = {}, None
-        for row in table.splitlines() if status == 0 else []:
+        for row in table.split("\n") if status == 0 else []:
             if not (found := re.match(r"([0-9]+) (?:text\.c:([0-9]{1,9})(?= |$))?", row)):
                 continue
             line = int(found[2]) if found[2] else line
