@@ -152,11 +152,11 @@ function reload(id) {
 export const MAKERS = {
     Load: id => `send 9 load ${id} ${imageOrRefusal()}`,
     Activate: id => at("profile").value === "2" ? `send 1 activate ${id} 0` : `send 1 activate ${id}`,
-    Step: (id, n) => `step ${id} ${n}`, "Suspend at step": (id, n) => `send 9 suspend ${id} ${n}`,
+    Step: (id, n) => `step ${id} ${n}`, Round: (id, n) => `round ${id} ${n}`, "Suspend at step": (id, n) => `send 9 suspend ${id} ${n}`,
     "Stop at step": (id, n) => `send 9 stop ${id} ${n}`, Resume: id => `send 1 resume ${id}`, Abort: id => `send 9 abort ${id}`,
     Unload: id => `send 9 unload ${id}`, Communicate: (id, n) => `send 9 communicate ${id} ${n}`,
+    "Put word": (_, n, word) => `put ${word} ${n}`,
     "Break at place": (id, n) => `break ${id} ${n}`, Work: (_, n) => `work 2 ${n} 100`, Drain: () => "drain",
-    Round: (id, n) => `round ${id} ${n}`, "Put word": (_, n, word) => `put ${word} ${n}`,
 };
 // The lines of those that an older program does not have.
 const NEEDED = { Round: "round", "Put word": "put" };
