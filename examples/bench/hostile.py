@@ -123,7 +123,7 @@ def servers_end(check, script):
                 check(f"no run outlives its server, {number.name}", waited(lambda: not any(map(_is_there, found)), 2))
                 check(f"no folder outlives its server, {number.name}", waited(lambda: not list(Path(folder).iterdir()), 2))
                 for answer in answers:
-                    check("the question is cut", answer.exception(10) is not None)
+                    check("the question is cut or refused", answer.exception(10) is not None or answer.result()[0] == 422)
 
 
 def _parent(process):
