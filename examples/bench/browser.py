@@ -165,7 +165,7 @@ def walk_back(page, ocp, pictures):
     page.check("page: the whole region", page.shown("memory-stack").count("\n") == 256 and "10000ff0  00" in page.shown("memory-stack"))
     page.check("page: what changed is in view", page.in_view("#memory-stack", ".changed") and page.in_view("#rows", ".here"))
     if pictures:
-        page.picture(pictures / "bench-fault.png", 800, 1200, "dark", "section[aria-label=Text] h3")
+        page.picture(pictures / "bench-fault.png", 800, 1280, "dark", "section[aria-label=Text] h3")
 
 
 def breakpoints(page, ocp):
