@@ -43,14 +43,22 @@ def folder():
                 KEEPER.remove(path)
 
 
+class Allowance:
+    """The seconds of one run, or of several that belong together. A run that waits for others uses none."""
+
+    def __init__(self):
+        self.left = SECONDS
+
+
 class Child:
     """A command in a process group of its own, under the bounds; the whole group is killed at its end."""
 
-    def __init__(self, words, blocks=0, directory=None, environment=None, until=None):
+    def __init__(self, words, blocks=0, directory=None, environment=None, allowance=None):
         if not TURNS.acquire(timeout=3 * SECONDS):
             raise Refused(f"the bench is busy with {AT_ONCE} other runs; ask again")
         try:
-            self.until = time.monotonic() + SECONDS if until is None else until
+            self.allowance, self.begun = allowance or Allowance(), time.monotonic()
+            self.until = self.begun + self.allowance.left
             limits = f'ulimit -c 0; ulimit -t {SECONDS}; ulimit -v {MEMORY}; ulimit -f "$0"; exec "$@"'
             self.process = subprocess.Popen(
                 ["/bin/sh", "-c", limits, str(blocks), *map(str, words)], stdin=subprocess.PIPE, stdout=subprocess.PIPE,
@@ -133,6 +141,7 @@ class Child:
         return self
 
     def __exit__(self, *_):
+        self.allowance.left -= time.monotonic() - self.begun
         try:
             self.end_group()
             self.drain()
@@ -155,13 +164,9 @@ class Child:
                     self.pipes.unregister(key.fileobj)
 
 
-def run(words, text, blocks=0, directory=None, environment=None, until=None):
-    """Standard output, standard error and status of a command.
-
-    `blocks` of 512 octets is the longest file that it may write, and `until` when it has to have ended, if that is not given
-    by SECONDS.
-    """
-    with Child(words, blocks, directory, environment, until) as child:
+def run(words, text, blocks=0, directory=None, environment=None, allowance=None):
+    """Standard output, standard error and status of a command; `blocks` of 512 octets is the longest file that it may write."""
+    with Child(words, blocks, directory, environment, allowance) as child:
         child.give(text.encode())
         output = b"".join(child.pieces())
         status = child.status()

@@ -3,7 +3,6 @@ import os
 import re
 import shutil
 import sys
-import time
 from pathlib import Path
 
 import bounds
@@ -80,14 +79,14 @@ class Build:
 
     def __init__(self, text, room):
         found, way = programs(), shield.way_of(is_done)
-        self.file, self.until = room / "text.c", time.monotonic() + bounds.SECONDS
+        self.file, self.allowance = room / "text.c", bounds.Allowance()
         self.file.write_text(text)
         self.words = way(room, found.values()) if way else []
         kept = {name: value for name, value in os.environ.items() if name in ("PATH", "LANG", "LC_ALL", "OCP_CPU")}
         self.surroundings = {**kept, **found, "HOME": os.fspath(room), "TMPDIR": os.fspath(room)}
 
     def run(self, *words):
-        return run([*self.words, *words, self.file], "", 16_000, self.file.parent, self.surroundings, self.until)
+        return run([*self.words, *words, self.file], "", 16_000, self.file.parent, self.surroundings, self.allowance)
 
     def places(self):
         """Slot to line by examples/c/lines; what stands in a header belongs to the line that brought it in."""
