@@ -4,6 +4,7 @@ import os
 import signal
 import socket
 import subprocess
+import sys
 import tempfile
 import threading
 import time
@@ -159,6 +160,27 @@ def runs_together(check):
     check(f"{most} runs at a time", most <= 2)
 
 
+# Answers each line by itself, in pieces that chance cuts, so that a read may end anywhere.
+IN_PIECES = """
+import os, random, sys
+chance = random.Random(77)
+for line in sys.stdin:
+    said = ("answer to " + line + "-\\n") if line != "mark\\n" else "end\\n"
+    while said:
+        size = chance.randrange(1, 9)
+        os.write(1, said[:size].encode())
+        said = said[size:]
+"""
+
+
+def cut_reads(check):
+    """What a run answers is the same however it is cut into reads."""
+    with bounds.Talk([sys.executable, "-c", IN_PIECES], "mark", "end") as talk:
+        for count in (0, 1, 2, 50, 3):
+            lines = [f"line {number}" for number in range(count)]
+            check(f"{count} answers in pieces", talk.ask(lines) == [said for line in lines for said in (f"answer to {line}", "-")])
+
+
 def strangers(check, address):
     """Connections that say little and slowly keep nobody out, and each address has its share."""
     host, port, _ = client.place_of(address)
@@ -274,6 +296,7 @@ def all_of(check, program, address, ocp):
     long_pass(check, address, counts)
     two_servers(check, address)
     runs_together(check)
+    cut_reads(check)
     servers_end(check, f"send 0 load 1 {loop}\nsend 0 activate 1\n" + "step 1 1000000\n" * 19_000)
     if not texts.has_clang():
         return print("skipped: no clang")
