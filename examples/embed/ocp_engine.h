@@ -11,6 +11,7 @@
  *   is not null. A buffer of length 0 is still given by a pointer that is not null; nothing is read or written there.
  * - A handle is used by one thread, one call at a time, and not from a signal handler. It is not copied, and its field is
  *   neither read nor written.
+ * - Two threads may each use a handle of its own if the heap functions allow it: malloc does, fixed_heap.c does not.
  * - Requests, commands and drains are those of seat 0.
  * - Numbers in packets are big-endian.
  */
@@ -20,6 +21,22 @@
 #include <stdbool.h>
 #include <stddef.h>
 #include <stdint.h>
+
+/* The library is code for little-endian processors with pointers of 8 octets. For any other target the header is refused. */
+#if defined __cplusplus && __cplusplus < 201103L
+#define OCP_TARGET(holds, why) extern char ocp_target_is_refused[(holds) ? 1 : -1]
+#elif defined __cplusplus
+#define OCP_TARGET(holds, why) static_assert(holds, why)
+#else
+#define OCP_TARGET(holds, why) _Static_assert(holds, why)
+#endif
+
+OCP_TARGET(sizeof(void *) == 8 && sizeof(size_t) == 8, "libocp_c.a needs a target with pointers of 8 octets");
+#if defined __BYTE_ORDER__
+OCP_TARGET(__BYTE_ORDER__ == __ORDER_LITTLE_ENDIAN__, "libocp_c.a needs a little-endian target");
+#endif
+
+#undef OCP_TARGET
 
 #ifdef __cplusplus
 extern "C" {
@@ -157,7 +174,9 @@ uint32_t ocp_set_break(struct ocp_engine *engine, uint16_t id, uint16_t place);
  * Refusals: OCP_NOT_OPEN, OCP_NOT_LOADED, OCP_NOT_SET, OCP_JOURNAL_FULL. */
 uint32_t ocp_clear_break(struct ocp_engine *engine, uint16_t id, uint16_t place);
 
-/* Sets whether each instruction of a procedure leaves a trace record.
+/* Sets whether each instruction of a procedure leaves a trace record. It is for ground: no call reads trace records, but the
+ * switch is a journal entry, so the console that runs the journal again has the records, and shows them by its line `trace`.
+ * While the trace is on, an instruction takes several times as long (docs/EMBED.md, "What a call costs, at most").
  * Refusals: OCP_NOT_OPEN, OCP_NOT_LOADED, OCP_JOURNAL_FULL. */
 uint32_t ocp_trace(struct ocp_engine *engine, uint16_t id, bool on);
 
