@@ -1,0 +1,370 @@
+/* The library under libFuzzer. From this folder, with clang and the built library; it ends after a minute, or at a fault:
+ *
+ *   mkdir -p ../out && clang -std=c11 -g -O1 -fsanitize=fuzzer,address,undefined -I.. fuzz.c ../../../crates/ocp_c/out/libocp_c.a -o ../out/fuzz && ../out/fuzz -max_total_time=60
+ *
+ * An input is a list of calls: an octet says which, the next ones are its numbers. Requests are raw octets, or get a header and
+ * their error control here. Growths of memory are refused where the input says so. What is asked of the library:
+ *
+ * - it stays within its arguments and its heap, which the sanitizer sees;
+ * - a status is one that the call lists, and a refusal changes neither events, room, view nor pool;
+ * - the journal, run again by a second engine, gives the same reports, events, views and pool. */
+#include "error_control.h"
+#include "fixed_heap.h"
+#include "ocp_engine.h"
+
+#include <stdio.h>
+#include <stdlib.h>
+#include <string.h>
+
+enum { APID = 291, POOL_WORDS = 4, PROCEDURES = 4, REPORTS = 1 << 20 };
+
+/* ---- a heap that refuses one growth */
+
+static size_t growths, refused = SIZE_MAX;
+
+static struct fixed_heap_answer answer_of(void *piece)
+{
+    static unsigned char nothing;
+    return (struct fixed_heap_answer){piece != NULL, piece != NULL ? piece : &nothing};
+}
+
+struct fixed_heap_answer rattle_alloc(size_t octets, size_t align)
+{
+    return answer_of(growths++ == refused ? NULL : malloc(octets == 0 ? align : octets));
+}
+
+struct fixed_heap_answer rattle_realloc(void *piece, size_t kept, size_t octets, size_t align)
+{
+    (void)kept;
+    return answer_of(growths++ == refused ? NULL : realloc(piece, octets == 0 ? align : octets));
+}
+
+void rattle_dealloc(void *piece)
+{
+    free(piece);
+}
+
+/* ---- the input */
+
+static const uint8_t *input;
+static size_t left;
+
+static uint32_t number(size_t octets)
+{
+    uint32_t value = 0;
+    for (; octets > 0 && left > 0; octets--, left--)
+        value = value << 8 | *input++;
+    return value;
+}
+
+static uint16_t procedure(void)
+{
+    uint32_t one = number(1);
+    return (uint16_t)(one < 250 ? one % PROCEDURES : one);
+}
+
+#define HOLDS(fact) ((fact) ? (void)0 : fail(__LINE__, #fact))
+
+static void fail(int line, const char *fact)
+{
+    fprintf(stderr, "fuzz.c:%d: not so: %s\n", line, fact);
+    abort();
+}
+
+/* ---- an engine and what is seen of it */
+
+struct seen {
+    uint64_t events, room, pool[POOL_WORDS];
+    uint32_t status[PROCEDURES];
+    struct ocp_view view[PROCEDURES];
+    uint64_t registers[PROCEDURES][11];
+};
+
+static void see(struct ocp_engine *engine, struct seen *seen)
+{
+    memset(seen, 0, sizeof *seen);
+    HOLDS(ocp_events(engine, &seen->events) == OCP_DONE && ocp_room(engine, &seen->room) == OCP_DONE);
+    for (uint64_t word = 0; word < POOL_WORDS; word++)
+        HOLDS(ocp_pool_word(engine, word, &seen->pool[word]) == OCP_DONE);
+    for (uint16_t id = 0; id < PROCEDURES; id++)
+        seen->status[id] = ocp_view(engine, id, &seen->view[id], seen->registers[id], 11);
+}
+
+/* All reports of an engine, one after another. */
+struct told {
+    uint8_t octets[REPORTS];
+    size_t length;
+};
+
+static struct told flown, again;
+
+static uint32_t request(struct ocp_engine *engine, struct told *told, uint32_t time, const uint8_t *packet, size_t length)
+{
+    uint8_t reports[OCP_REQUEST_REPORTS];
+    size_t written = 0;
+    uint32_t status = ocp_request(engine, time, packet, length, reports, sizeof reports, &written);
+    HOLDS(written <= sizeof reports && (status == OCP_DONE || written == 0) && told->length + written <= REPORTS);
+    memcpy(told->octets + told->length, reports, written);
+    told->length += written;
+    return status;
+}
+
+static uint32_t drain(struct ocp_engine *engine, struct told *told, uint32_t time)
+{
+    uint8_t reports[OCP_DRAIN_REPORTS];
+    size_t written = 0;
+    uint32_t status = ocp_drain(engine, time, reports, sizeof reports, &written);
+    HOLDS(written <= sizeof reports && (status == OCP_DONE || written == 0) && told->length + written <= REPORTS);
+    memcpy(told->octets + told->length, reports, written);
+    told->length += written;
+    return status;
+}
+
+/* ---- requests of the input */
+
+static uint8_t packet[65542];
+
+static uint32_t raw_request(struct ocp_engine *engine)
+{
+    size_t length = number(1) % 64;
+    length = length < left ? length : left;
+    uint8_t *own = malloc(length + 1); /* the sanitizer sees what lies after it */
+    memcpy(own, input, length);
+    input += length;
+    left -= length;
+    uint32_t status = request(engine, &flown, 1, own, length);
+    free(own);
+    return status;
+}
+
+/* An instruction of the input: one that is admitted in most places, or any octets. */
+static void put_slot(uint8_t *slot)
+{
+    static const uint8_t opcodes[] = {0x07, 0x1f, 0xb7, 0xbf, 0x34, 0x3f, 0x61, 0x79, 0x7b, 0x62, 0x15, 0x1d, 0x05, 0x85, 0x85, 0x85, 0x95};
+    uint32_t which = number(1);
+    memset(slot, 0, 8);
+    if (which >= 240) {
+        for (int at = 0; at < 8; at++)
+            slot[at] = (uint8_t)number(1);
+        return;
+    }
+    slot[0] = opcodes[which % sizeof opcodes];
+    uint32_t rest = number(1);
+    switch (slot[0]) {
+    case 0x85: /* an engine call */
+        slot[4] = (uint8_t)(1 + rest % 6);
+        break;
+    case 0x95:
+        break;
+    case 0x05:
+        slot[2] = (uint8_t)rest;
+        slot[3] = (uint8_t)-(rest >> 7);
+        break;
+    case 0x79:
+    case 0x61: /* from the stack */
+        slot[1] = (uint8_t)(10 << 4 | rest % 10);
+        slot[2] = (uint8_t)-8;
+        slot[3] = 0xff;
+        break;
+    case 0x7b:
+        slot[1] = (uint8_t)((rest % 10) << 4 | 10);
+        slot[2] = (uint8_t)-8;
+        slot[3] = 0xff;
+        break;
+    case 0x62:
+        slot[1] = 10;
+        slot[2] = (uint8_t)-4;
+        slot[3] = 0xff;
+        slot[4] = (uint8_t)rest;
+        break;
+    case 0x1f:
+    case 0xbf:
+    case 0x3f:
+    case 0x1d:
+        slot[1] = (uint8_t)((rest % 11) << 4 | (rest >> 4) % 10);
+        break;
+    default:
+        slot[1] = rest % 10;
+        slot[4] = (uint8_t)(rest >> 4);
+    }
+}
+
+/* A telecommand of service 18, whose data begin with a procedure. */
+static uint32_t whole_request(struct ocp_engine *engine)
+{
+    static const uint8_t subtypes[] = {1, 1, 2, 3, 3, 4, 5, 6, 7, 8, 12, 13};
+    uint8_t subtype = subtypes[number(1) % sizeof subtypes], flags = (uint8_t)number(1);
+    size_t length = subtype == 8 ? 0 : 2, more = number(1) % 128;
+    memset(packet, 0, 400);
+    packet[12] = (uint8_t)procedure();
+    if (subtype == 1) { /* the code, in whole slots */
+        more = more / 8 * 8;
+        packet[13] = 0;
+        packet[14] = (uint8_t)more;
+        length = 4;
+    }
+    if (subtype == 8 || subtype == 2 || subtype == 6 || subtype == 12)
+        more = 0;
+    for (; subtype == 1 && more > 0; more -= 8, length += 8)
+        put_slot(packet + 11 + length);
+    for (; more > 0; more--)
+        packet[11 + length++] = (uint8_t)number(1);
+    const uint8_t head[11] = {0x18 | APID >> 8, APID & 255, 0xc0, 0, (uint8_t)((5 + length + 1) >> 8), (uint8_t)(5 + length + 1),
+                              (uint8_t)(0x20 | (flags & 15)), 18, subtype, 0, 9};
+    memcpy(packet, head, sizeof head);
+    uint16_t control = error_control(packet, 11 + length);
+    packet[11 + length] = (uint8_t)(control >> 8);
+    packet[12 + length] = (uint8_t)control;
+    return request(engine, &flown, number(1), packet, 13 + length);
+}
+
+/* ---- calls */
+
+static bool is_listed(uint32_t status, const uint8_t *statuses, size_t count)
+{
+    return memchr(statuses, (int)status, count) != NULL;
+}
+
+#define LISTED(status, ...) \
+    HOLDS(is_listed(status, (const uint8_t[]){__VA_ARGS__}, sizeof((const uint8_t[]){__VA_ARGS__})))
+
+/* One call of the input; gives its status. */
+static uint32_t call(struct ocp_engine *engine)
+{
+    uint32_t which = number(1), status, count, id32;
+    struct ocp_outcome outcome;
+    uint16_t id;
+    uint8_t octets[64];
+    size_t length;
+    switch (which % 16) {
+    case 0:
+        return raw_request(engine);
+    case 1:
+        status = drain(engine, &flown, number(1));
+        LISTED(status, OCP_DONE, OCP_NOTHING_DUE, OCP_JOURNAL_FULL, OCP_MEMORY);
+        return status;
+    case 2:
+        status = ocp_set_break(engine, procedure(), (uint16_t)number(1));
+        LISTED(status, OCP_DONE, OCP_NOT_LOADED, OCP_NOT_AN_INSTRUCTION, OCP_ALREADY_SET, OCP_BREAKS_FULL, OCP_JOURNAL_FULL);
+        return status;
+    case 3:
+        status = ocp_clear_break(engine, procedure(), (uint16_t)number(1));
+        LISTED(status, OCP_DONE, OCP_NOT_LOADED, OCP_NOT_SET, OCP_JOURNAL_FULL);
+        return status;
+    case 4:
+        status = ocp_trace(engine, procedure(), number(1) & 1);
+        LISTED(status, OCP_DONE, OCP_NOT_LOADED, OCP_JOURNAL_FULL);
+        return status;
+    case 5:
+        id = procedure();
+        length = number(1) % sizeof octets;
+        status = ocp_memory(engine, id, number(4), octets, length);
+        LISTED(status, OCP_DONE, OCP_NOT_LOADED, OCP_OUTSIDE_MEMORY);
+        return status;
+    case 6:
+        id32 = number(3);
+        status = ocp_next_running(engine, id32, &id);
+        LISTED(status, OCP_DONE, OCP_NONE_RUNNING);
+        return status;
+    case 7:
+        status = ocp_step(engine, procedure(), &outcome);
+        LISTED(status, OCP_DONE, OCP_NOT_LOADED, OCP_NOT_RUNNING, OCP_JOURNAL_FULL);
+        return status;
+    case 8:
+    case 9:
+    case 10:
+        id = procedure();
+        id32 = number(2) % 2000;
+        status = ocp_slice(engine, id, id32, &count, &outcome);
+        LISTED(status, OCP_DONE, OCP_NO_BUDGET, OCP_NOT_LOADED, OCP_NOT_RUNNING, OCP_JOURNAL_FULL);
+        HOLDS(status != OCP_DONE || (count >= 1 && count <= id32));
+        return status;
+    default:
+        return whole_request(engine);
+    }
+}
+
+/* ---- the journal again */
+
+static uint32_t big(const uint8_t *octets, size_t length)
+{
+    uint32_t value = 0;
+    while (length-- > 0)
+        value = value << 8 | *octets++;
+    return value;
+}
+
+static void run_entry(struct ocp_engine *engine, const uint8_t *entry, size_t length)
+{
+    uint32_t count, many = length >= 9 ? big(entry + 5, 4) : 0;
+    struct ocp_outcome last;
+    uint16_t id = (uint16_t)big(entry + 3, 2), other = (uint16_t)big(entry + 5, 2);
+    switch (entry[0]) {
+    case OCP_ENTRY_REQUEST:
+        HOLDS(request(engine, &again, big(entry + 3, 4), entry + 7, length - 7) == OCP_DONE);
+        break;
+    case OCP_ENTRY_STEPS:
+        for (uint32_t done = 0; done < many; done += count)
+            HOLDS(ocp_slice(engine, id, many - done, &count, &last) == OCP_DONE);
+        break;
+    case OCP_ENTRY_SET_BREAK:
+        HOLDS(ocp_set_break(engine, id, other) == OCP_DONE);
+        break;
+    case OCP_ENTRY_CLEAR_BREAK:
+        HOLDS(ocp_clear_break(engine, id, other) == OCP_DONE);
+        break;
+    case OCP_ENTRY_TRACE:
+        HOLDS(ocp_trace(engine, id, other == 1) == OCP_DONE);
+        break;
+    case OCP_ENTRY_DRAIN:
+        HOLDS(drain(engine, &again, big(entry + 3, 4)) == OCP_DONE);
+        break;
+    default:
+        fail(__LINE__, "an entry is of a kind that is listed");
+    }
+}
+
+/* A second engine does the entries of the first one. */
+static void run_again(struct ocp_engine *first, uint32_t profile)
+{
+    static uint8_t entry[OCP_LONGEST_ENTRY];
+    static struct seen one, other;
+    struct ocp_engine second = OCP_CLOSED;
+    size_t length;
+    refused = SIZE_MAX;
+    again.length = 0;
+    HOLDS(ocp_open(&second, profile, APID, POOL_WORDS, 1000) == OCP_DONE);
+    for (uint64_t index = 0; ocp_entry(first, index, entry, sizeof entry, &length) == OCP_DONE; index++)
+        run_entry(&second, entry, length);
+    see(first, &one);
+    see(&second, &other);
+    one.room = other.room = 0; /* the capacities differ */
+    HOLDS(memcmp(&one, &other, sizeof one) == 0);
+    HOLDS(flown.length == again.length && memcmp(flown.octets, again.octets, flown.length) == 0);
+    HOLDS(ocp_close(&second) == OCP_DONE);
+}
+
+int LLVMFuzzerTestOneInput(const uint8_t *octets, size_t length)
+{
+    static struct seen before, after;
+    struct ocp_engine engine = OCP_CLOSED;
+    input = octets;
+    left = length;
+    flown.length = 0;
+    uint32_t profile = 1 + (number(1) & 1), capacity = number(1) % 4 == 0 ? 8 : 900;
+    refused = SIZE_MAX;
+    HOLDS(ocp_open(&engine, profile, APID, POOL_WORDS, capacity) == OCP_DONE);
+    for (int calls = 0; left > 0 && calls < 900; calls++) {
+        uint32_t refusal = number(1);
+        growths = 0;
+        refused = refusal < 32 ? refusal : SIZE_MAX;
+        see(&engine, &before);
+        uint32_t status = call(&engine);
+        HOLDS(status != OCP_MEMORY || refused != SIZE_MAX);
+        see(&engine, &after);
+        HOLDS(status == OCP_DONE || memcmp(&before, &after, sizeof before) == 0);
+    }
+    run_again(&engine, profile);
+    HOLDS(ocp_close(&engine) == OCP_DONE);
+    return 0;
+}
