@@ -4,10 +4,11 @@
  * the library's alone. `counted` and the functions `outside_..` are in worst_x86_64.S and worst_aarch64.S; the library is linked
  * with its calls of `memcpy` and the others renamed to those. A line for each call that the plan marks:
  *
- *   status instructions stack copied calls-of-memory alloc realloc dealloc left most reach
+ *   status instructions stack copied calls-of-memory alloc realloc dealloc asked left most reach
  *
- * `instructions` is 0 where the processor does not count them (callgrind does, for x86-64). `left` is what the call leaves taken
- * of the heap, `most` what it took in between, `reach` the octets of the block that were ever used. */
+ * `instructions` is 0 where the processor does not count them (callgrind does, for x86-64). `asked` is the octets of all pieces
+ * that the call asks the heap for, `left` what it leaves taken, `most` what it took in between, `reach` the octets of the block
+ * that were ever used. */
 #include "ocp_engine.h"
 
 #define memcpy heap_memcpy
@@ -23,15 +24,17 @@
 #include <unistd.h>
 #endif
 
-enum { STACK = 65536, PATTERN = 0xa5 };
+enum { STACK = 16384 / sizeof(uint64_t) };
 
-/* What one call asks of the functions outside of the library. */
+static const uint64_t PATTERN = 0xa5a5a5a5a5a5a5a5;
+
+/* What one call asks of the functions outside of the library. `asked` is the octets of all pieces, heads with them. */
 static struct {
-    size_t copied, calls, alloc, realloc, dealloc;
+    size_t copied, calls, alloc, realloc, dealloc, asked;
 } outside;
 
 /* The outside functions' stack lies below that of the call. */
-_Alignas(16) uint8_t stacks[2 * STACK];
+_Alignas(16) uint64_t stacks[2 * STACK];
 
 /* Calls words[0] with the arguments words[1] to words[7]: the status is words[0] then, and it gives the instructions between. */
 uint64_t counted(uint64_t *words);
@@ -81,16 +84,25 @@ void *own_memset(void *to, int octet, size_t octets)
     return to;
 }
 
+/* A piece that was asked for, with its head. */
+static struct fixed_heap_answer noted(struct fixed_heap_answer got)
+{
+    if (got.ok)
+        outside.asked += sizeof(struct head) + ((struct head *)got.piece - 1)->octets;
+    return got;
+}
+
 struct fixed_heap_answer own_alloc(size_t octets, size_t align)
 {
     outside.alloc++;
-    return fixed_alloc(octets, align);
+    return noted(fixed_alloc(octets, align));
 }
 
 struct fixed_heap_answer own_realloc(void *piece, size_t kept, size_t octets, size_t align)
 {
     outside.realloc++;
-    return fixed_realloc(piece, kept, octets, align);
+    struct fixed_heap_answer got = fixed_realloc(piece, kept, octets, align);
+    return got.ok && got.piece != piece ? noted(got) : got;
 }
 
 void own_dealloc(void *piece)
@@ -149,7 +161,7 @@ struct step {
 };
 
 enum { END, OPEN, CLOSE, REQUEST, DRAIN, SLICE, STEP, NEXT, SET_BREAK, CLEAR_BREAK, TRACE, MEMORY, VIEW, POOL_WORD, EVENTS, ROOM,
-       ENTRY, NOTHING, BLOCK };
+       ENTRY, NOTHING, BLOCK, PUT_WORD };
 
 extern const uint8_t plan[];
 
@@ -188,6 +200,10 @@ static void words_of(const struct step *step, uint64_t *words)
         [EVENTS] = {WORD(ocp_events), own, WORD(&wide)},
         [ROOM] = {WORD(ocp_room), own, WORD(&wide)},
         [ENTRY] = {WORD(ocp_entry), own, step->a, WORD(octets), sizeof octets, WORD(&written)},
+#ifdef HAS_PUT_WORD
+        [PUT_WORD] = {WORD(ocp_put_word), own, step->a, step->b},
+#endif
+        /* A further call of the header has its row here, its number in the enumeration and in `CALLS` of the script. */
         [NOTHING] = {step->a == 0 ? WORD(nothing) : WORD(copies_nothing)},
     };
     for (int at = 0; at < 8; at++)
@@ -212,19 +228,20 @@ static bool make(const struct step *step)
         return true;
     }
     words_of(step, words);
-    for (size_t at = 0; step->marked && at < STACK; at++)
-        stacks[STACK + at] = PATTERN;
     size_t before = in_use;
     most_in_use = in_use;
-    outside.copied = outside.calls = outside.alloc = outside.realloc = outside.dealloc = 0;
+    outside.copied = outside.calls = outside.alloc = outside.realloc = outside.dealloc = outside.asked = 0;
     uint64_t instructions = step->marked ? counted(words) : uncounted(words);
     uint32_t status = (uint32_t)words[0];
     if (step->marked) {
         size_t untouched = 0;
         while (stacks[STACK + untouched] == PATTERN)
             untouched++;
-        const uint64_t said[] = {status, instructions, STACK - untouched, outside.copied, outside.calls, outside.alloc,
-                                 outside.realloc, outside.dealloc, in_use - before, most_in_use - before, reach};
+        for (size_t at = untouched; at < STACK; at++)
+            stacks[STACK + at] = PATTERN;
+        const uint64_t said[] = {status, instructions, (STACK - untouched) * sizeof *stacks, outside.copied, outside.calls,
+                                 outside.alloc, outside.realloc, outside.dealloc, outside.asked, in_use - before,
+                                 most_in_use - before, reach};
         for (size_t at = 0; at < sizeof said / sizeof *said; at++)
             put_number(said[at]);
         end_line();
@@ -237,6 +254,8 @@ int main(void)
 #ifdef BARE
     uart_begin();
 #endif
+    for (size_t at = 0; at < STACK; at++)
+        stacks[STACK + at] = PATTERN;
     const struct step *step = (const struct step *)plan;
     for (uint64_t number = 0; step->call != END; number++) {
         if (!make(step)) {

@@ -1,6 +1,6 @@
 /* For worst.c on a bare aarch64: a call on a stack of its own with its instructions counted, and functions outside of the
  * library on another one, uncounted. The counter is that of the performance monitors (event INST_RETIRED). */
-    .set STACK, 65536
+    .set STACK, 16384
 
     .macro address register, name
     adrp \register, \name

@@ -1,5 +1,5 @@
 /* For worst.c on x86-64: a call on a stack of its own, and functions outside of the library on another one. */
-    .set STACK, 65536
+    .set STACK, 16384
 
     .text
     .globl counted
