@@ -163,6 +163,8 @@ struct step {
 enum { END, OPEN, CLOSE, REQUEST, DRAIN, SLICE, STEP, NEXT, SET_BREAK, CLEAR_BREAK, TRACE, MEMORY, VIEW, POOL_WORD, EVENTS, ROOM,
        ENTRY, NOTHING, BLOCK, PUT_WORD };
 
+enum { ANY = 255 }; /* in place of a status: each is right */
+
 extern const uint8_t plan[];
 
 static struct ocp_engine engine = OCP_CLOSED;
@@ -246,7 +248,7 @@ static bool make(const struct step *step)
             put_number(said[at]);
         end_line();
     }
-    return step->call == NOTHING || status == step->status;
+    return step->call == NOTHING || step->status == ANY || status == step->status;
 }
 
 int main(void)
