@@ -11,7 +11,7 @@
  *   is not null. A buffer of length 0 is still given by a pointer that is not null; nothing is read or written there.
  * - A handle is used by one thread, one call at a time, and not from a signal handler. It is not copied, and its field is
  *   neither read nor written.
- * - Two threads may each use a handle of its own if the heap functions allow it: malloc does, fixed_heap.c does not.
+ * - Two threads may each use a handle of their own if the heap functions allow it: malloc does, fixed_heap.c does not.
  * - Requests, commands and drains are those of seat 0.
  * - Numbers in packets are big-endian.
  */
@@ -176,7 +176,7 @@ uint32_t ocp_clear_break(struct ocp_engine *engine, uint16_t id, uint16_t place)
 
 /* Sets whether each instruction of a procedure leaves a trace record. It is for ground: no call reads trace records, but the
  * switch is a journal entry, so the console that runs the journal again has the records, and shows them by its line `trace`.
- * While the trace is on, an instruction takes several times as long (docs/EMBED.md, "What a call costs, at most").
+ * While the trace is on, an instruction takes many times as long (docs/EMBED.md, "What a call costs, at most").
  * Refusals: OCP_NOT_OPEN, OCP_NOT_LOADED, OCP_JOURNAL_FULL. */
 uint32_t ocp_trace(struct ocp_engine *engine, uint16_t id, bool on);
 

@@ -2,7 +2,8 @@
  *
  *   mkdir -p ../out && clang -std=c11 -g -O1 -fsanitize=fuzzer,address,undefined -I.. fuzz.c ../../../crates/ocp_c/out/libocp_c.a -o ../out/fuzz && ../out/fuzz -max_total_time=60
  *
- * An input is a list of calls: an octet says which, the next ones are its numbers. Requests are raw octets, or get a header and
+ * An input is a list of calls: an octet says which, the next ones are its numbers. The library is not instrumented, so an input
+ * counts as new when a call answers or a procedure is as none before. Requests are raw octets, or get a header and
  * their error control here. Growths of memory are refused where the input says so. What is asked of the library:
  *
  * - it stays within its arguments and its heap, which the sanitizer sees;
@@ -71,6 +72,15 @@ static void fail(int line, const char *fact)
     abort();
 }
 
+/* ---- what libFuzzer is told: an input that makes a call answer what none did before is kept */
+
+__attribute__((section("__libfuzzer_extra_counters"))) static uint8_t seen_answers[65536];
+
+static void tell(uint32_t what, uint32_t one, uint32_t other)
+{
+    seen_answers[(what * 4096 + one * 128 + other) % sizeof seen_answers] = 1;
+}
+
 /* ---- an engine and what is seen of it */
 
 struct seen {
@@ -106,6 +116,8 @@ static uint32_t request(struct ocp_engine *engine, struct told *told, uint32_t t
     HOLDS(written <= sizeof reports && (status == OCP_DONE || written == 0) && told->length + written <= REPORTS);
     memcpy(told->octets + told->length, reports, written);
     told->length += written;
+    for (size_t at = 0; at < written; at += 7 + reports[at + 5])
+        tell(1, reports[at + 8], reports[at + 8] % 2 == 0 ? reports[at + 22] : 0); /* the subtype, and a failure's code */
     return status;
 }
 
@@ -189,33 +201,93 @@ static void put_slot(uint8_t *slot)
     }
 }
 
-/* A telecommand of service 18, whose data begin with a procedure. */
-static uint32_t whole_request(struct ocp_engine *engine)
+static uint8_t *const data = packet + 11; /* of a request */
+static size_t data_length;
+
+static void put(uint32_t value, size_t octets)
 {
-    static const uint8_t subtypes[] = {1, 1, 2, 3, 3, 4, 5, 6, 7, 8, 12, 13};
-    uint8_t subtype = subtypes[number(1) % sizeof subtypes], flags = (uint8_t)number(1);
-    size_t length = subtype == 8 ? 0 : 2, more = number(1) % 128;
-    memset(packet, 0, 400);
-    packet[12] = (uint8_t)procedure();
-    if (subtype == 1) { /* the code, in whole slots */
-        more = more / 8 * 8;
-        packet[13] = 0;
-        packet[14] = (uint8_t)more;
-        length = 4;
+    while (octets-- > 0)
+        data[data_length++] = (uint8_t)(value >> (8 * octets));
+}
+
+static void put_octets(size_t octets)
+{
+    while (octets-- > 0)
+        put(number(1), 1);
+}
+
+/* Up to sixteen slots, the last of them an exit in most cases. */
+static void put_code(void)
+{
+    size_t slots = 1 + number(1) % 16;
+    put((uint32_t)slots * 8, 2);
+    for (size_t slot = 1; slot < slots; slot++, data_length += 8)
+        put_slot(data + data_length);
+    put(number(1) < 240 ? 0x95 : 0x07, 1);
+    put(0, 4);
+    put(0, 3);
+}
+
+/* The data of a request, laid out as its subtype wants them, or any octets. */
+static void put_data(uint8_t subtype, uint32_t profile)
+{
+    data_length = 0;
+    if (number(1) >= 245) {
+        put_octets(number(1) % 64);
+        return;
     }
-    if (subtype == 8 || subtype == 2 || subtype == 6 || subtype == 12)
-        more = 0;
-    for (; subtype == 1 && more > 0; more -= 8, length += 8)
-        put_slot(packet + 11 + length);
-    for (; more > 0; more--)
-        packet[11 + length++] = (uint8_t)number(1);
-    const uint8_t head[11] = {0x18 | APID >> 8, APID & 255, 0xc0, 0, (uint8_t)((5 + length + 1) >> 8), (uint8_t)(5 + length + 1),
+    if (subtype != 8)
+        put(procedure(), 2);
+    size_t count = 0;
+    switch (subtype) {
+    case 1:
+        put_code();
+        break;
+    case 3:
+        if (profile == 2)
+            put(number(1), 4);
+        put((uint32_t)(count = number(1) % 8), 2);
+        put_octets(count);
+        break;
+    case 4:
+    case 5:
+        put(number(1) % 4, 2);
+        break;
+    case 7:
+        put((uint32_t)(count = 1 + number(1) % 8), 1);
+        put_octets(8 * count);
+    }
+}
+
+/* A telecommand of service 18. */
+static uint32_t whole_request(struct ocp_engine *engine, uint32_t profile)
+{
+    static const uint8_t subtypes[] = {1, 1, 1, 2, 3, 3, 3, 3, 4, 5, 6, 6, 7, 8, 12, 13};
+    uint8_t subtype = subtypes[number(1) % sizeof subtypes], flags = (uint8_t)number(1);
+    put_data(subtype, profile);
+    size_t field = 5 + data_length + 2;
+    const uint8_t head[11] = {0x18 | APID >> 8, APID & 255, 0xc0, 0, (uint8_t)((field - 1) >> 8), (uint8_t)(field - 1),
                               (uint8_t)(0x20 | (flags & 15)), 18, subtype, 0, 9};
     memcpy(packet, head, sizeof head);
-    uint16_t control = error_control(packet, 11 + length);
-    packet[11 + length] = (uint8_t)(control >> 8);
-    packet[12 + length] = (uint8_t)control;
-    return request(engine, &flown, number(1), packet, 13 + length);
+    put(error_control(packet, sizeof head + data_length), 2);
+    return request(engine, &flown, number(1), packet, sizeof head + data_length);
+}
+
+/* Loads and starts a procedure that ends steps for ever. */
+static void begin_procedure(struct ocp_engine *engine, uint32_t profile)
+{
+    static const uint8_t code[] = {0, 0, 0, 16, 0x85, 0, 0, 0, 5, 0, 0, 0, 0x05, 0, 0xfe, 0xff, 0, 0, 0, 0};
+    for (int activates = 0; activates < 2; activates++) {
+        const uint8_t head[11] = {0x18 | APID >> 8, APID & 255, 0xc0, 0, 0, 0, 0x20, 18, activates ? 3 : 1, 0, 9};
+        data_length = activates ? (profile == 2 ? 8 : 4) : sizeof code;
+        memcpy(packet, head, sizeof head);
+        memset(data, 0, data_length);
+        if (!activates)
+            memcpy(data, code, sizeof code);
+        packet[5] = (uint8_t)(5 + data_length + 1);
+        put(error_control(packet, sizeof head + data_length), 2);
+        HOLDS(request(engine, &flown, 0, packet, sizeof head + data_length) == OCP_DONE);
+    }
 }
 
 /* ---- calls */
@@ -229,7 +301,7 @@ static bool is_listed(uint32_t status, const uint8_t *statuses, size_t count)
     HOLDS(is_listed(status, (const uint8_t[]){__VA_ARGS__}, sizeof((const uint8_t[]){__VA_ARGS__})))
 
 /* One call of the input; gives its status. */
-static uint32_t call(struct ocp_engine *engine)
+static uint32_t call(struct ocp_engine *engine, uint32_t profile)
 {
     uint32_t which = number(1), status, count, id32;
     struct ocp_outcome outcome;
@@ -278,9 +350,11 @@ static uint32_t call(struct ocp_engine *engine)
         status = ocp_slice(engine, id, id32, &count, &outcome);
         LISTED(status, OCP_DONE, OCP_NO_BUDGET, OCP_NOT_LOADED, OCP_NOT_RUNNING, OCP_JOURNAL_FULL);
         HOLDS(status != OCP_DONE || (count >= 1 && count <= id32));
+        if (status == OCP_DONE)
+            tell(2, outcome.kind, outcome.fault * 16 + (count > 15 ? 15 : count));
         return status;
     default:
-        return whole_request(engine);
+        return whole_request(engine, profile);
     }
 }
 
@@ -354,15 +428,21 @@ int LLVMFuzzerTestOneInput(const uint8_t *octets, size_t length)
     uint32_t profile = 1 + (number(1) & 1), capacity = number(1) % 4 == 0 ? 8 : 900;
     refused = SIZE_MAX;
     HOLDS(ocp_open(&engine, profile, APID, POOL_WORDS, capacity) == OCP_DONE);
-    for (int calls = 0; left > 0 && calls < 900; calls++) {
+    if (number(1) & 1)
+        begin_procedure(&engine, profile);
+    for (int calls = 0; left > 0 && calls < 890; calls++) {
         uint32_t refusal = number(1);
         growths = 0;
         refused = refusal < 32 ? refusal : SIZE_MAX;
         see(&engine, &before);
-        uint32_t status = call(&engine);
+        uint32_t which = left > 0 ? *input : 0;
+        uint32_t status = call(&engine, profile);
         HOLDS(status != OCP_MEMORY || refused != SIZE_MAX);
         see(&engine, &after);
         HOLDS(status == OCP_DONE || memcmp(&before, &after, sizeof before) == 0);
+        for (int id = 0; id < PROCEDURES; id++)
+            tell(3, after.view[id].status * 8 + after.view[id].cause, after.view[id].pending * 8 + after.view[id].depth);
+        tell(4, which % 16, status);
     }
     run_again(&engine, profile);
     HOLDS(ocp_close(&engine) == OCP_DONE);
