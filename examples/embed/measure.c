@@ -7,6 +7,7 @@
 #include "fixed_heap.c"
 #include "ocp_engine.h"
 
+#include <inttypes.h>
 #include <stdio.h>
 #include <stdlib.h>
 #include <time.h>
@@ -158,20 +159,16 @@ static void make_long_load(void)
     make_load(7, SLOTS);
 }
 
-static void time_rows(void)
-{
-    printf("a request: microseconds\n\n");
-    printf("| status | %.2f |\n", request_nanoseconds(make_status, 100) / 1000);
-    printf("| load of 2,048 slots | %.2f |\n", request_nanoseconds(make_long_load, 1) / 1000);
-    printf("\na slice: instructions, microseconds, nanoseconds of each instruction\n\n");
-    for (uint32_t budget = 1; budget <= 100000; budget *= 10) {
-        double taken = slice_nanoseconds(budget, budget < 1000 ? 20000 : 20000000 / budget);
-        printf("| %u | %.2f | %.2f |\n", budget, taken / 1000, taken / budget);
-    }
-}
-
 int main(void)
 {
-    time_rows();
+    printf("| What | Microseconds | Nanoseconds of each instruction |\n|---|---|---|\n");
+    printf("| status request | %.2f | |\n", request_nanoseconds(make_status, 100) / 1000);
+    printf("| load of 2,048 slots | %.2f | |\n", request_nanoseconds(make_long_load, 1) / 1000);
+    for (uint32_t budget = 1; budget <= 100000; budget *= 10) {
+        double taken = slice_nanoseconds(budget, budget < 1000 ? 20000 : 20000000 / budget);
+        const char *thousands = budget < 1000 ? "" : ",000";
+        uint32_t rest = budget < 1000 ? budget : budget / 1000;
+        printf("| slice of %" PRIu32 "%s | %.2f | %.2f |\n", rest, thousands, taken / 1000, taken / budget);
+    }
     return 0;
 }
