@@ -161,7 +161,7 @@ struct step {
 };
 
 enum { END, OPEN, CLOSE, REQUEST, DRAIN, SLICE, STEP, NEXT, SET_BREAK, CLEAR_BREAK, TRACE, MEMORY, VIEW, POOL_WORD, EVENTS, ROOM,
-       ENTRY, NOTHING, BLOCK, PUT_WORD };
+       ENTRY, NOTHING, BLOCK, PUT_WORD, ROUND };
 
 enum { ANY = 255 }; /* in place of a status: each is right */
 
@@ -174,6 +174,9 @@ static uint64_t registers[11], wide;
 static struct ocp_outcome outcome;
 static struct ocp_view view;
 static uint32_t count;
+#ifdef HAS_ROUND
+static uint32_t ended; /* the step that ended a round */
+#endif
 static uint16_t id;
 
 void nothing(void);
@@ -204,6 +207,9 @@ static void words_of(const struct step *step, uint64_t *words)
         [ENTRY] = {WORD(ocp_entry), own, step->a, WORD(octets), sizeof octets, WORD(&written)},
 #ifdef HAS_PUT_WORD
         [PUT_WORD] = {WORD(ocp_put_word), own, step->a, step->b},
+#endif
+#ifdef HAS_ROUND
+        [ROUND] = {WORD(ocp_round), own, step->a, step->b, WORD(&count), WORD(&outcome), WORD(&ended)},
 #endif
         /* A further call of the header has its row here, its number in the enumeration and in `CALLS` of the script. */
         [NOTHING] = {step->a == 0 ? WORD(nothing) : WORD(copies_nothing)},

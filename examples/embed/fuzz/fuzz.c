@@ -308,6 +308,22 @@ static uint32_t call(struct ocp_engine *engine, uint32_t profile)
     uint16_t id;
     uint8_t octets[64];
     size_t length;
+#ifdef OCP_NO_STEP /* the header has rounds, and words from outside */
+    if (which >= 240) {
+        status = ocp_put_word(engine, number(1) % (POOL_WORDS + 1), number(4));
+        LISTED(status, OCP_DONE, OCP_NO_WORD, OCP_JOURNAL_FULL);
+        return status;
+    }
+    if (which >= 208) {
+        uint32_t step = 0, budget = number(2) % 2000;
+        status = ocp_round(engine, procedure(), budget, &count, &outcome, &step);
+        LISTED(status, OCP_DONE, OCP_NO_BUDGET, OCP_NOT_LOADED, OCP_NOT_RUNNING, OCP_JOURNAL_FULL);
+        HOLDS(status != OCP_DONE || (count >= 1 && count <= budget && step <= OCP_NO_STEP));
+        if (status == OCP_DONE)
+            tell(5, outcome.kind, step == OCP_NO_STEP);
+        return status;
+    }
+#endif
     switch (which % 16) {
     case 0:
         return raw_request(engine);
@@ -393,6 +409,11 @@ static void run_entry(struct ocp_engine *engine, const uint8_t *entry, size_t le
     case OCP_ENTRY_DRAIN:
         HOLDS(drain(engine, &again, big(entry + 3, 4)) == OCP_DONE);
         break;
+#ifdef OCP_NO_STEP
+    case 7: /* a word from outside */
+        HOLDS(length == 13 && ocp_put_word(engine, big(entry + 3, 2), (uint64_t)big(entry + 5, 4) << 32 | big(entry + 9, 4)) == OCP_DONE);
+        break;
+#endif
     default:
         fail(__LINE__, "an entry is of a kind that is listed");
     }
