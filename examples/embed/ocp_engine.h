@@ -67,7 +67,7 @@ enum {
     OCP_NOT_SET = 23,            /* the place has no breakpoint */
     OCP_OUTSIDE_MEMORY = 24,     /* some octets are outside the procedure's memory */
 
-    /* readers */
+    /* the pool and the journal */
     OCP_NO_WORD = 25, /* the pool has no word at this index */
     OCP_NO_ENTRY = 26 /* the journal has no entry at this index */
 };
@@ -110,6 +110,13 @@ uint32_t ocp_request(struct ocp_engine *engine, uint32_t time, const uint8_t *pa
  * Refusals: OCP_NOT_OPEN, OCP_BUFFER_TOO_SMALL (under OCP_DRAIN_REPORTS), OCP_NOTHING_DUE, OCP_JOURNAL_FULL, OCP_MEMORY. */
 uint32_t ocp_drain(struct ocp_engine *engine, uint32_t time, uint8_t *reports, size_t reports_length, size_t *written);
 
+/* ---- inputs */
+
+/* Writes the pool word at an index: it is the value from now on, for all procedures. Nothing else of the engine changes. It is
+ * one event and one journal entry, and asks for no memory. ocp_pool_word reads a word.
+ * Refusals: OCP_NOT_OPEN, OCP_NO_WORD, OCP_JOURNAL_FULL. */
+uint32_t ocp_put_word(struct ocp_engine *engine, uint64_t index, uint64_t value);
+
 /* ---- instructions */
 
 /* What an instruction did. */
@@ -135,6 +142,16 @@ uint32_t ocp_step(struct ocp_engine *engine, uint16_t id, struct ocp_outcome *ou
  * runs. Writes how many there were and what the last one did. They are one journal entry.
  * Refusals: OCP_NOT_OPEN, OCP_NO_BUDGET, OCP_NOT_LOADED, OCP_NOT_RUNNING, OCP_JOURNAL_FULL. */
 uint32_t ocp_slice(struct ocp_engine *engine, uint16_t id, uint32_t budget, uint32_t *count, struct ocp_outcome *last);
+
+/* For `step`: no step ended. */
+#define OCP_NO_STEP ((uint32_t)65536)
+
+/* Executes instructions of one procedure as ocp_slice does, and also stops after the first one that ends a step (engine call
+ * 5). Writes how many there were, what the last one did, and the number of the step that ended, or OCP_NO_STEP. They are one
+ * journal entry. A stop or suspend that waits for this step takes effect here: the procedure is then inactive or held.
+ * Refusals: OCP_NOT_OPEN, OCP_NO_BUDGET, OCP_NOT_LOADED, OCP_NOT_RUNNING, OCP_JOURNAL_FULL. */
+uint32_t ocp_round(struct ocp_engine *engine, uint16_t id, uint32_t budget, uint32_t *count, struct ocp_outcome *last,
+                   uint32_t *step);
 
 /* For `after`: no procedure had a turn yet. */
 #define OCP_NO_PROCEDURE ((uint32_t)65536)
@@ -193,7 +210,8 @@ uint32_t ocp_view(struct ocp_engine *engine, uint16_t id, struct ocp_view *view,
  * Refusals: OCP_NOT_OPEN, OCP_NO_WORD. */
 uint32_t ocp_pool_word(struct ocp_engine *engine, uint64_t index, uint64_t *word);
 
-/* Writes the number of accepted events: each request, instruction, command of the debugger and drain is one.
+/* Writes the number of accepted events: each request, instruction, command of the debugger, drain and write of a pool word is
+ * one.
  * Refusal: OCP_NOT_OPEN. */
 uint32_t ocp_events(struct ocp_engine *engine, uint64_t *events);
 
@@ -210,7 +228,8 @@ enum {
     OCP_ENTRY_SET_BREAK = 3,   /* the procedure (2), the place (2) */
     OCP_ENTRY_CLEAR_BREAK = 4, /* the procedure (2), the place (2) */
     OCP_ENTRY_TRACE = 5,       /* the procedure (2), 1 for on and 0 for off (2) */
-    OCP_ENTRY_DRAIN = 6        /* the time (4) */
+    OCP_ENTRY_DRAIN = 6,       /* the time (4) */
+    OCP_ENTRY_PUT_WORD = 7     /* the index of the pool word (2), its value (8) */
 };
 
 /* The greatest length of an entry: packets of more than 65,542 octets are discarded. */
