@@ -176,12 +176,13 @@ static void change_set_point(uint8_t tenths)
 static void send_telecommands(void)
 {
     static const uint8_t step_1[] = {0, 1};
+    uint8_t nothing = 0;
     if (cycle == FIRST_CHANGE)
         change_set_point(FIRST_SET_POINT);
     else if (cycle == SUSPENSION)
         send(SUSPEND, step_1, sizeof step_1);
     else if (cycle == RESUMPTION)
-        send(RESUME, NULL, 0);
+        send(RESUME, &nothing, 0);
     else if (cycle == SECOND_CHANGE)
         change_set_point(SECOND_SET_POINT);
 }

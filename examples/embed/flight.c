@@ -3,9 +3,9 @@
  *   flight [MILLISECONDS [JOURNAL]]
  *
  * Time goes by in cycles. In each one every running procedure does a round in its turn: instructions up to the end of a step,
- * or SLICE of them. Every so many cycles the completions that wait are reported. The time in reports is the number of the cycle. A cycle takes so many
- * milliseconds; with 0, the default, one follows each packet, and the same packets give the same reports. The engine's
- * journal is written to the file JOURNAL, if one is named, for the tool `journal`.
+ * or SLICE of them. Every so many cycles the completions that wait are reported. The time in reports is the number of the
+ * cycle. A cycle takes so many milliseconds; with 0, the default, one follows each packet, and the same packets give the same
+ * reports. The engine's journal is written to the file JOURNAL, if one is named, for the tool `journal`.
  *
  * A packet is as long as it says. If its error control is wrong, the next plausible header within it whose packet has the
  * right error control begins the next packet, and the octets before it are passed over; if there is none, the engine is given
