@@ -112,8 +112,8 @@ uint32_t ocp_drain(struct ocp_engine *engine, uint32_t time, uint8_t *reports, s
 
 /* ---- inputs */
 
-/* Writes the pool word at an index: it is the value from now on, for all procedures. Nothing else of the engine changes. It is
- * one event and one journal entry, and asks for no memory. ocp_pool_word reads a word.
+/* Sets the pool word at an index to a value; procedures and ocp_pool_word read it. Nothing else of the engine changes. It is one
+ * event and one journal entry, and asks for no memory.
  * Refusals: OCP_NOT_OPEN, OCP_NO_WORD, OCP_JOURNAL_FULL. */
 uint32_t ocp_put_word(struct ocp_engine *engine, uint64_t index, uint64_t value);
 
