@@ -233,7 +233,7 @@ static void drain(void)
 
 static double farthest; /* from the set point, in tenths of a degree, after settling */
 
-static void look_at_temperature(bool has_run)
+static void check_cycle(bool has_run)
 {
     bool suspended = cycle >= SUSPENSION && cycle < RESUMPTION;
     uint32_t changed = cycle >= SECOND_CHANGE ? SECOND_CHANGE : cycle >= RESUMPTION ? RESUMPTION
@@ -265,7 +265,7 @@ static void run_cycles(uint32_t cycles)
         drain();
         keep_journal(&engine);
         pass_a_second(heater_is_on);
-        look_at_temperature(has_run);
+        check_cycle(has_run);
         if (cycle % CYCLES_OF_ROW == 0)
             printf("cycle %" PRIu32 ": %.1f degrees, set point %.1f, outside %.1f, heater %s\n", cycle, air,
                    (double)set_point / 10, outside(), heater_is_on ? "on" : "off");
@@ -294,7 +294,7 @@ static void give_entry(struct ocp_engine *second, const uint8_t *entry, size_t l
         must(ocp_put_word(second, number_at(entry + 3, 2), number_at(entry + 5, 8)), "ocp_put_word");
         break;
     default:
-        fail("an entry is none that this program makes");
+        fail("the journal has an entry of another kind");
     }
 }
 

@@ -58,7 +58,7 @@ enum {
     OCP_NOT_LOADED = 16,   /* no procedure has this identifier */
     OCP_NOT_RUNNING = 17,  /* the procedure is not running */
     OCP_NONE_RUNNING = 18, /* no procedure is running */
-    OCP_NO_BUDGET = 19,    /* the budget of a slice is 0 */
+    OCP_NO_BUDGET = 19,    /* the budget of a slice or round is 0 */
 
     /* the debugger */
     OCP_NOT_AN_INSTRUCTION = 20, /* the place is not the first slot of an instruction */
