@@ -1,10 +1,15 @@
 # Completion of ocp and ./ocp for bash:  . docs/ocp.bash
 _ocp() {
-    local words
-    case ${COMP_WORDS[1]} in
+    local words command=${COMP_WORDS[1]}
+    [ "$command" != try ] || [ "$COMP_CWORD" = 2 ] || command=${COMP_WORDS[2]}
+    case $command in
         asm) words='--profile --help' ;;
+        bench) words='--port --program --help' ;;
+        build) words='--cores --times --help' ;;
         list) words='--help' ;;
+        live) words='--profile --apid --pool --journal --help' ;;
         run) words='--profile --apid --pool --journal --help' ;;
+        try) words='asm list run help --help --version' ;;
         help) words='asm list run' ;;
         *) words='' ;;
     esac

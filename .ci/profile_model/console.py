@@ -23,7 +23,7 @@ class Console:
         if not words or text.startswith(b"#"):
             return []
         verb, words = text_of(words[0]), words[1:]
-        if not re.fullmatch("send|up|time|step|view|mem|break|unbreak|trace|pool|journal|drain|work", verb):
+        if not re.fullmatch("send|up|time|step|round|view|mem|break|unbreak|trace|pool|put|journal|drain|work", verb):
             raise Syntax
         return getattr(self, verb)(words)
 
@@ -45,13 +45,19 @@ class Console:
         decimal(seconds, 2**32 - 1)
         return []
 
-    def step(self, words):
+    def instructions(self, verb, words):
         name, most = exactly(words, 2)
         name, most = short(name), positive(most, 1000000)
         try:
-            return [f"step {name} {self.engine.steps(name, most)}"]
+            return [f"{verb} {name} {self.engine.steps(name, most, verb == 'round')}"]
         except Refused as refused:
-            return [f"step {name} 0 {refused}"]
+            return [f"{verb} {name} 0 {refused}"]
+
+    def step(self, words):
+        return self.instructions("step", words)
+
+    def round(self, words):
+        return self.instructions("round", words)
 
     def view(self, words):
         (name,) = exactly(words, 1)
@@ -102,6 +108,15 @@ class Console:
         if index >= len(self.engine.pool):
             return [f"pool {index} BadPoolIndex"]
         return [f"pool {index} {self.engine.pool[index]:016x}"]
+
+    def put(self, words):
+        index, value = exactly(words, 2)
+        index, value = decimal(index, MASK), decimal(value, MASK)
+        try:
+            self.engine.put_word(index, value)
+            return [f"put {index} {value} set"]
+        except Refused as refused:
+            return [f"put {index} {value} {refused}"]
 
     def journal(self, words):
         exactly(words, 0)

@@ -212,15 +212,17 @@ class Engine:
     # -- instructions
 
     def engine_call(self, it):
+        """Does the call; the step that it ends, or None."""
         r, which = it.machine.registers, it.code[it.machine.place].number
+        step = None
         if which == 4:
             if it.mailbox:
                 r[0], r[1] = 1, it.mailbox.pop(0)
             else:
                 r[0] = 0
         elif which == 5:
-            r[0] = 0
-            self.step_end(it, r[1] & 65535)
+            r[0], step = 0, r[1] & 65535
+            self.step_end(it, step)
         else:
             if r[1] >= len(self.pool):
                 raise Fault(BAD_POOL_INDEX)
@@ -234,6 +236,7 @@ class Engine:
             else:
                 self.pool[r[1]], r[0] = (r[3] if old == r[2] else old), old
         it.machine.place += 1
+        return step
 
     def step_end(self, it, step):
         if it.pending is None or it.pending.step not in (0, step):
@@ -247,17 +250,17 @@ class Engine:
             it.status = "held"
 
     def event(self, name, it):
-        """An instruction event of a running procedure: its outcome."""
-        place = it.machine.place
+        """An instruction event of a running procedure: its outcome, and the step that it ends, or None."""
+        place, step = it.machine.place, None
         if place in it.breaks and not it.passes:
             it.status = "held"
-            return "Broke"
+            return "Broke", step
         found = it.code[place]
         try:
             if it.is_spent():
                 raise Fault(BUDGET_SPENT)
             if found.kind == "call":
-                self.engine_call(it)
+                step = self.engine_call(it)
                 outcome = "Called"
             elif instruction(it.machine, it.code):
                 outcome = "Ran"
@@ -273,9 +276,10 @@ class Engine:
             registers = " ".join(f"{value:016x}" for value in it.machine.registers)
             self.records.append(f"trace {name} {place} {outcome} {registers} {found.text}")
             del self.records[:-RECORDS]
-        return outcome
+        return outcome, step
 
-    def steps(self, name, most):
+    def steps(self, name, most, is_round):
+        """Instructions up to a number of them; a round also ends with a step, and says which."""
         if name not in self.procedures:
             raise Refused("NotLoaded")
         it = self.procedures[name]
@@ -285,10 +289,23 @@ class Engine:
             raise Refused("JournalFull")
         done = 0
         while done < most and it.status == "running":
-            outcome = self.event(name, it)
+            outcome, step = self.event(name, it)
             done += 1
+            if is_round and step is not None:
+                outcome += f" step {step}"
+                break
         self.enter(done)
         return f"{done} {outcome}"
+
+    # -- words from outside
+
+    def put_word(self, index, value):
+        if index >= len(self.pool):
+            raise Refused("BadPoolIndex")
+        if not self.has_room():
+            raise Refused("JournalFull")
+        self.pool[index] = value
+        self.enter()
 
     # -- turns of workers
 

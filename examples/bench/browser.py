@@ -59,14 +59,16 @@ class Page:
                            "[Math.round((parseFloat(bar.style.top) - 4) / 18) + first, bar.textContent])", area, kind)
 
     def picture(self, file, width, height, scheme, first):
-        """The page as it is seen, from a part on; the help is closed meanwhile."""
+        """The page as it is seen, from a part on; the help is closed and no scroll bar is shown meanwhile."""
         scheme_of = lambda name: self.driver.execute_cdp_cmd("Emulation.setEmulatedMedia", {"features": [
             {"name": "prefers-color-scheme", "value": name}]})
         scheme_of(scheme)
+        self.driver.execute_cdp_cmd("Emulation.setScrollbarsHidden", {"hidden": True})
         self.driver.set_window_size(width, height)
         self.script("document.getElementById('help').open = false; document.querySelector(arguments[0]).scrollIntoView()", first)
         time.sleep(0.5)
         self.driver.save_screenshot(str(file))
+        self.driver.execute_cdp_cmd("Emulation.setScrollbarsHidden", {"hidden": False})
         self.driver.set_window_size(1280, 1000)
         scheme_of("light")
 
@@ -94,6 +96,7 @@ def walks(page, pictures):
     page.until("the next line is marked in the text", lambda: page.marks("text", "next") == [[2, ""]])
     if pictures:
         page.picture(pictures / "bench-walk.png", 1280, 1150, "light", "h1")
+        page.picture(pictures / "bench-front.png", 800, 672, "light", "#procedures")
     page.driver.refresh()
     page.until("a reload loses nothing", lambda: "Ended" in page.shown("rows") and "add64 r0, 2" in page.shown("listing"))
     page.key(keys.HOME, keys.ARROW_DOWN)

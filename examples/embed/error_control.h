@@ -1,17 +1,19 @@
-/* The error control of packets: x^16 + x^12 + x^5 + 1, preset all ones, bit by bit. */
+/* The error control of packets: x^16 + x^12 + x^5 + 1, preset all ones, four bits at a time. */
 #ifndef ERROR_CONTROL_H
 #define ERROR_CONTROL_H
 
-#include <stdbool.h>
 #include <stddef.h>
 #include <stdint.h>
 
 static inline uint16_t error_control(const uint8_t *octets, size_t length)
 {
+    /* the remainder of each four bits, followed by 16 zeros */
+    static const uint16_t remainders[16] = {0x0000, 0x1021, 0x2042, 0x3063, 0x4084, 0x50a5, 0x60c6, 0x70e7,
+                                            0x8108, 0x9129, 0xa14a, 0xb16b, 0xc18c, 0xd1ad, 0xe1ce, 0xf1ef};
     uint16_t rest = 0xffff;
-    for (size_t at = 0; at < length * 8; at++) {
-        bool high = ((rest >> 15) ^ (octets[at / 8] >> (7 - at % 8))) & 1;
-        rest = (uint16_t)(rest << 1 ^ (high ? 0x1021 : 0));
+    for (size_t at = 0; at < length; at++) {
+        rest = (uint16_t)(rest << 4 ^ remainders[rest >> 12 ^ octets[at] >> 4]);
+        rest = (uint16_t)(rest << 4 ^ remainders[rest >> 12 ^ (octets[at] & 15)]);
     }
     return rest;
 }

@@ -2,13 +2,18 @@
  *
  *   flight [MILLISECONDS [JOURNAL]]
  *
- * Time goes by in cycles. In each one every running procedure does a slice of instructions in its turn, and every so many
- * cycles the completions that wait are reported. The time in reports is the number of the cycle. A cycle takes so many
- * milliseconds; with 0, the default, one follows each packet, and the same packets give the same reports. The engine's
- * journal is written to the file JOURNAL, if one is named, for the tool `journal`.
+ * Time goes by in cycles. In each one every running procedure does a round in its turn: instructions up to the end of a step,
+ * or SLICE of them. Every so many cycles the completions that wait are reported. The time in reports is the number of the
+ * cycle. A cycle takes so many milliseconds; with 0, the default, one follows each packet, and the same packets give the same
+ * reports. The engine's journal is written to the file JOURNAL, if one is named, for the tool `journal`.
+ *
+ * A packet is as long as it says. If its error control is wrong, the next plausible header within it whose packet has the
+ * right error control begins the next packet, and the octets before it are passed over; if there is none, the engine is given
+ * the packet and answers it. After a second without an octet an unfinished packet holds no whole one back.
  *
  * Status: 0 the input has ended, 2 wrong words, 3 no engine, no room in the journal, or no output; one line says which. */
 #define _POSIX_C_SOURCE 200809L
+#include "error_control.h"
 #include "journal_file.h"
 #include "ocp_engine.h"
 
@@ -21,7 +26,7 @@
 #include <unistd.h>
 
 #ifndef SLICE
-#define SLICE 1000 /* instructions of each running procedure in a cycle */
+#define SLICE 1000 /* the most instructions of each running procedure in a cycle */
 #endif
 
 enum {
@@ -32,15 +37,21 @@ enum {
     CYCLES_OF_DRAIN = 1, /* from drain to drain */
     HEADER = 6,          /* octets of a primary header */
     LONGEST = HEADER + 65536,
+    SHORTEST_OF_PROFILE = HEADER + 5 + 2,                /* a telecommand without data */
+    LONGEST_OF_PROFILE = HEADER + 5 + 4 + 2048 * 8 + 2, /* a load of 2,048 slots */
+    QUIET = 1000, /* milliseconds */
     FAILED = 3
 };
 
 static struct ocp_engine engine = OCP_CLOSED;
 static uint32_t cycle;
 static uint32_t broken; /* packets that were discarded */
+static uint32_t passed; /* octets that were passed over */
 
-static uint8_t input[LONGEST];
-static size_t held; /* octets of the input that are not taken yet */
+static uint8_t input[LONGEST + LONGEST_OF_PROFILE];
+static size_t held;       /* octets of the input that are not taken yet */
+static size_t looked = 1; /* no packet begins between the first of them and this one */
+static int64_t heard;     /* when octets came last, in milliseconds */
 
 static uint8_t reports[OCP_DRAIN_REPORTS > OCP_REQUEST_REPORTS ? OCP_DRAIN_REPORTS : OCP_REQUEST_REPORTS];
 
@@ -65,10 +76,80 @@ static void send_reports(size_t length)
 
 /* ---- telecommands in */
 
-/* How long the packet is that the input begins with, or 0 where too little of it is here to tell. */
-static size_t packet_length(void)
+static int64_t milliseconds(void)
 {
-    return held < HEADER ? 0 : HEADER + 1 + ((size_t)input[4] << 8 | input[5]);
+    struct timespec now;
+    clock_gettime(CLOCK_MONOTONIC, &now);
+    return (int64_t)now.tv_sec * 1000 + now.tv_nsec / 1000000;
+}
+
+static size_t length_at(size_t at)
+{
+    return HEADER + 1 + ((size_t)input[at + 4] << 8 | input[at + 5]);
+}
+
+/* Whether the octets from a place on, as far as they are held, are a plausible header of a telecommand. */
+static bool is_plausible(size_t at)
+{
+    size_t here = held - at;
+    bool is_ours = input[at] == (0x18 | APID >> 8) && (here < 2 || input[at + 1] == (APID & 0xff));
+    bool is_alone = here < 3 || input[at + 2] >> 6 == 3;
+    bool is_of_profile = here < HEADER || (length_at(at) >= SHORTEST_OF_PROFILE && length_at(at) <= LONGEST_OF_PROFILE);
+    return is_ours && is_alone && is_of_profile;
+}
+
+static bool is_whole(size_t at)
+{
+    return held - at >= HEADER && length_at(at) <= held - at;
+}
+
+/* Where the next packet begins after the first octet and before the limit, or 0. One that is not whole yet may still turn out
+ * to be none; after a quiet time it does not count. */
+static size_t next_start(size_t limit, bool quiet)
+{
+    for (size_t at = looked; at < limit; at++) {
+        bool here = is_whole(at);
+        if (is_plausible(at) && (here ? error_control(input + at, length_at(at)) == 0 : !quiet)) {
+            looked = here || quiet ? looked : at;
+            return at;
+        }
+    }
+    looked = quiet ? looked : limit;
+    return 0;
+}
+
+static void drop_front(size_t length)
+{
+    held -= length;
+    memmove(input, input + length, held);
+    looked = 1;
+}
+
+static void pass_over(size_t length)
+{
+    passed += (uint32_t)length;
+    fprintf(stderr, "flight: cycle %lu: %lu octets are passed over\n", (unsigned long)cycle, (unsigned long)length);
+    drop_front(length);
+}
+
+/* How long the packet is that the input begins with, after octets that begin none are passed over; 0 if more have to come. */
+static size_t next_packet(bool quiet)
+{
+    while (held >= HEADER) {
+        size_t length = length_at(0);
+        bool here = length <= held, is_header = input[0] >> 5 == 0;
+        if (here && is_header && error_control(input, length) == 0)
+            return length;
+        if (!here && is_header && !quiet)
+            return 0;
+        size_t start = next_start(here ? length : held, quiet);
+        if (start == 0)
+            return here ? length : 0;
+        if (!is_whole(start))
+            return 0;
+        pass_over(start);
+    }
+    return 0;
 }
 
 static void take(size_t length)
@@ -84,16 +165,10 @@ static void take(size_t length)
     case OCP_MEMORY:
         fprintf(stderr, "flight: cycle %lu: no memory for a request\n", (unsigned long)cycle);
         break;
-    default: /* discarded: what comes behind it is read */
+    default: /* discarded: what comes after it is read */
         broken++;
         fprintf(stderr, "flight: cycle %lu: a packet is discarded, status %lu\n", (unsigned long)cycle, (unsigned long)status);
     }
-}
-
-static void drop_front(size_t length)
-{
-    held -= length;
-    memmove(input, input + length, held);
 }
 
 /* Reads what is there; gives whether the input goes on. */
@@ -103,20 +178,21 @@ static bool read_input(void)
     if (got < 0 && errno != EINTR)
         end("the input can't be read");
     held += got > 0 ? (size_t)got : 0;
+    heard = milliseconds();
     return got != 0;
 }
 
 /* ---- a cycle */
 
-/* A slice of each running procedure, by rising identifier. */
-static void give_slices(void)
+/* A round of each running procedure, by rising identifier. */
+static void give_rounds(void)
 {
     uint32_t before = OCP_NO_PROCEDURE;
     uint16_t id;
     while (ocp_next_running(&engine, before, &id) == OCP_DONE && (before == OCP_NO_PROCEDURE || id > before)) {
-        uint32_t count;
+        uint32_t count, step;
         struct ocp_outcome last;
-        if (ocp_slice(&engine, id, SLICE, &count, &last) != OCP_DONE)
+        if (ocp_round(&engine, id, SLICE, &count, &last, &step) != OCP_DONE)
             end("the journal is full");
         if (last.kind == OCP_FAULTED)
             fprintf(stderr, "flight: cycle %lu: procedure %u faulted: %lu\n", (unsigned long)cycle, id, (unsigned long)last.fault);
@@ -141,7 +217,7 @@ static void drain(void)
 static void run_cycle(void)
 {
     cycle++;
-    give_slices();
+    give_rounds();
     if (cycle % CYCLES_OF_DRAIN == 0)
         drain();
     keep_journal(&engine);
@@ -149,33 +225,49 @@ static void run_cycle(void)
 
 /* ---- the two ways of time */
 
-static void cycles_by_packets(void)
+/* Takes the packets that are here, in the first way of time with a cycle after each. */
+static void take_packets(bool quiet, bool by_packets)
 {
-    while (read_input())
-        for (size_t length; (length = packet_length()) != 0 && length <= held; drop_front(length)) {
-            take(length);
+    for (size_t length; (length = next_packet(quiet)) != 0; drop_front(length)) {
+        take(length);
+        if (by_packets)
             run_cycle();
-        }
+    }
 }
 
-static int64_t milliseconds(void)
+/* Waits for octets, with a time below 0 as long as it takes, and takes the packets that have come, or that a quiet second
+ * leaves. Gives whether the input goes on. */
+static bool attend_input(int64_t wait, bool by_packets)
 {
-    struct timespec now;
-    clock_gettime(CLOCK_MONOTONIC, &now);
-    return (int64_t)now.tv_sec * 1000 + now.tv_nsec / 1000000;
+    struct pollfd ready = {.fd = STDIN_FILENO, .events = POLLIN};
+    int64_t quiet = held > 0 ? heard + QUIET - milliseconds() : -1;
+    bool open = true;
+    if (held > 0 && (wait < 0 || quiet < wait))
+        wait = quiet > 0 ? quiet : 0;
+    if (poll(&ready, 1, (int)wait) > 0) {
+        open = read_input();
+        take_packets(!open, by_packets);
+    } else if (held > 0 && milliseconds() >= heard + QUIET) {
+        heard = milliseconds();
+        take_packets(true, by_packets);
+    }
+    return open;
+}
+
+static void cycles_by_packets(void)
+{
+    while (attend_input(-1, true)) {
+    }
 }
 
 static void cycles_by_clock(int64_t period)
 {
-    struct pollfd ready = {.fd = STDIN_FILENO, .events = POLLIN};
     int64_t due = milliseconds() + period;
     for (bool open = true; open;) {
         int64_t wait = due - milliseconds();
-        if (wait > 0 && poll(&ready, 1, (int)wait) > 0) {
-            open = read_input();
-            for (size_t length; (length = packet_length()) != 0 && length <= held; drop_front(length))
-                take(length);
-        } else if (wait <= 0) {
+        if (wait > 0) {
+            open = attend_input(wait, false);
+        } else {
             run_cycle();
             due += period;
         }
@@ -204,6 +296,8 @@ int main(int words, char **word)
     }
     if (!end_journal(&engine))
         end("the journal can't be written");
+    if (passed > 0)
+        fprintf(stderr, "flight: %lu octets passed over\n", (unsigned long)passed);
     fprintf(stderr, "flight: %lu cycles, %lu packets discarded\n", (unsigned long)cycle, (unsigned long)broken);
     return ocp_close(&engine) == OCP_DONE ? 0 : FAILED;
 }

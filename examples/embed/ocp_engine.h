@@ -1,18 +1,17 @@
-/* The engine of on-board control procedures, as a library for C and C++.
+/* An engine for on-board control procedures: the library libocp_c.a for C and C++.
  *
- * Link libocp_c.a, and either liblibc_c.a of the toolchain, by which the engine takes memory from malloc, or fixed_heap.c,
- * by which it takes memory from one block of the program's own.
+ * Link libocp_c.a and one heap: liblibc_c.a of the toolchain takes memory from malloc, fixed_heap.c takes it from one block
+ * of the program.
  *
  * Rules for all calls:
- * - A call answers a status, OCP_DONE or a refusal. A refusal changes nothing: neither the engine nor what the call's
- *   pointers point to (but for a length that ocp_entry tells). Where several refusals apply, the answer is the first one in
- *   the order that the call lists.
- * - Each pointer points to memory of the program that the call may write, which overlaps no other argument of the call, and
- *   is not null. A buffer of length 0 is still given by a pointer that is not null; nothing is read or written there.
- * - A handle is used by one thread, one call at a time, and not from a signal handler. It is not copied, and its field is
- *   neither read nor written.
+ * - A call returns a status: OCP_DONE or a refusal. A refused call changes neither the engine nor what its pointers point to;
+ *   only ocp_entry still writes the length. If several refusals apply, the call returns the first one of its list.
+ * - A pointer is not null, also for a buffer of length 0. It points to memory that lasts through the call and overlaps no
+ *   other argument.
+ * - One thread at a time uses a handle, one call at a time, never from a signal handler. The program does not copy a handle,
+ *   and neither reads nor writes its field.
  * - Two threads may each use a handle of their own if the heap functions allow it: malloc does, fixed_heap.c does not.
- * - Requests, commands and drains are those of seat 0.
+ * - Journal entries of this library have seat 0.
  * - Numbers in packets are big-endian.
  */
 #ifndef OCP_ENGINE_H
@@ -58,115 +57,130 @@ enum {
     OCP_BAD_CAPACITY = 6,
 
     /* room */
-    OCP_MEMORY = 7,           /* a growth of memory was refused */
-    OCP_BUFFER_TOO_SMALL = 8, /* the buffer is shorter than the call asks for */
-    OCP_JOURNAL_FULL = 9,     /* there is no room for a further journal entry */
+    OCP_MEMORY = 7,           /* out of memory */
+    OCP_BUFFER_TOO_SMALL = 8, /* the buffer is shorter than the call requires */
+    OCP_JOURNAL_FULL = 9,     /* the journal has no room for another entry */
 
-    /* the octets of a request, which are discarded: nobody is told */
+    /* discarded packets: the engine drops them without a report */
     OCP_DISCARDED_SHORT = 10,           /* fewer than 7 octets */
     OCP_DISCARDED_VERSION = 11,         /* the packet version number is not 0 */
-    OCP_DISCARDED_LENGTH = 12,          /* the data field is not as long as the header says */
+    OCP_DISCARDED_LENGTH = 12,          /* the packet is not as long as its header says */
     OCP_DISCARDED_NOT_TELECOMMAND = 13, /* the packet is telemetry */
     OCP_DISCARDED_OTHER_APID = 14,      /* the packet is for another application process */
 
     /* drains */
-    OCP_NOTHING_DUE = 15, /* no completion waits to be reported */
+    OCP_NOTHING_DUE = 15, /* no completion waits for its report */
 
     /* procedures */
     OCP_NOT_LOADED = 16,   /* no procedure has this identifier */
     OCP_NOT_RUNNING = 17,  /* the procedure is not running */
     OCP_NONE_RUNNING = 18, /* no procedure is running */
-    OCP_NO_BUDGET = 19,    /* the budget of a slice is 0 */
+    OCP_NO_BUDGET = 19,    /* the budget of a slice or round is 0 */
 
     /* the debugger */
     OCP_NOT_AN_INSTRUCTION = 20, /* the place is not the first slot of an instruction */
-    OCP_ALREADY_SET = 21,        /* a breakpoint stands there already */
-    OCP_BREAKS_FULL = 22,        /* eight breakpoints are set */
-    OCP_NOT_SET = 23,            /* no breakpoint stands there */
-    OCP_OUTSIDE_MEMORY = 24,     /* not all octets lie in the procedure's memory */
+    OCP_ALREADY_SET = 21,        /* the place has a breakpoint already */
+    OCP_BREAKS_FULL = 22,        /* the procedure has eight breakpoints already */
+    OCP_NOT_SET = 23,            /* the place has no breakpoint */
+    OCP_OUTSIDE_MEMORY = 24,     /* some octets are outside the procedure's memory */
 
-    /* readers */
-    OCP_NO_WORD = 25, /* the pool has no word of this index */
-    OCP_NO_ENTRY = 26 /* the journal has no entry of this index */
+    /* the pool and the journal */
+    OCP_NO_WORD = 25, /* the pool has no word at this index */
+    OCP_NO_ENTRY = 26 /* the journal has no entry at this index */
 };
 
 /* ---- the handle */
 
-/* What the program holds of an engine. It begins as OCP_CLOSED, or with all its octets 0. */
+/* A handle of one engine. Initialise it with OCP_CLOSED, or with zeros. */
 struct ocp_engine {
     void *at;
 };
 
 #define OCP_CLOSED {0}
 
-/* An engine without procedures, of profile 1 or 2, for the application process 0 to 2,046, with 1 to 256 pool words and room
- * for 1 to 1,000,000 journal entries. All room of the journal is taken here.
+/* Opens an engine without procedures: profile 1 or 2, application process identifier 0 to 2,046, 1 to 256 pool words (all 0),
+ * room for 1 to 1,000,000 journal entries. Allocates the whole journal.
  * Refusals: OCP_ALREADY_OPEN, OCP_BAD_PROFILE, OCP_BAD_APID, OCP_BAD_POOL_WORDS, OCP_BAD_CAPACITY, OCP_MEMORY. */
 uint32_t ocp_open(struct ocp_engine *engine, uint32_t profile, uint32_t apid, uint32_t pool_words, uint32_t capacity);
 
-/* Gives back all memory of the engine; the handle is closed.
+/* Frees all memory of the engine and closes the handle.
  * Refusal: OCP_NOT_OPEN. */
 uint32_t ocp_close(struct ocp_engine *engine);
 
 /* ---- requests and reports */
 
-/* How long the buffer has to be that is given to a request (four reports of at most 68 octets), and to a drain (64 of at
- * most 25). */
+/* The least length of the buffer for the reports of a request (at most four of at most 68 octets), and of a drain (at most 64
+ * of at most 25). */
 #define OCP_REQUEST_REPORTS ((size_t)272)
 #define OCP_DRAIN_REPORTS ((size_t)1600)
 
-/* Takes the octets of one telecommand packet at a time in whole seconds. Its reports stand in the buffer, whole telemetry
- * packets one behind the other in the order in which they are sent, and the last argument says how many octets they are (0
- * where the request wants no report). What is behind them in the buffer stays as it was.
- * A request that is rejected or fails is done: its reports say so.
+/* Executes one telecommand packet, at a time in whole seconds. Writes its reports to the buffer: whole telemetry packets, one
+ * after the other, in the order in which they are sent. Writes their length in octets to the last argument (0 if there are
+ * none). The rest of the buffer stays as it was.
+ * A request that is rejected or that fails returns OCP_DONE: its reports say so.
  * Refusals: OCP_NOT_OPEN, OCP_BUFFER_TOO_SMALL (under OCP_REQUEST_REPORTS), the five OCP_DISCARDED_.. in their order,
  * OCP_JOURNAL_FULL, OCP_MEMORY. */
 uint32_t ocp_request(struct ocp_engine *engine, uint32_t time, const uint8_t *packet, size_t packet_length,
                      uint8_t *reports, size_t reports_length, size_t *written);
 
-/* Reports the completions that wait, the oldest first, at a time in whole seconds; none waits then. The reports stand in the
- * buffer as those of a request.
+/* Reports all completions that wait, the oldest first, at a time in whole seconds. Writes the reports as ocp_request does.
  * Refusals: OCP_NOT_OPEN, OCP_BUFFER_TOO_SMALL (under OCP_DRAIN_REPORTS), OCP_NOTHING_DUE, OCP_JOURNAL_FULL, OCP_MEMORY. */
 uint32_t ocp_drain(struct ocp_engine *engine, uint32_t time, uint8_t *reports, size_t reports_length, size_t *written);
+
+/* ---- inputs */
+
+/* Sets the pool word at an index to a value; procedures and ocp_pool_word read it. Nothing else of the engine changes. It is one
+ * event and one journal entry, and asks for no memory.
+ * Refusals: OCP_NOT_OPEN, OCP_NO_WORD, OCP_JOURNAL_FULL. */
+uint32_t ocp_put_word(struct ocp_engine *engine, uint64_t index, uint64_t value);
 
 /* ---- instructions */
 
 /* What an instruction did. */
 enum {
-    OCP_BROKE = 0,  /* a breakpoint stands at the place: the procedure is held, and nothing was run;
-                       it is an event as the others are, and counted, but takes nothing of a budget */
+    OCP_BROKE = 0,  /* a breakpoint held the procedure before the instruction, which did not run; this
+                       is an event and is counted, but takes nothing from the budget of an activation */
     OCP_RAN = 1,
-    OCP_CALLED = 2, /* an engine call was answered */
-    OCP_ENDED = 3,  /* the last exit: the procedure is inactive */
-    OCP_FAULTED = 4 /* the procedure is inactive */
+    OCP_CALLED = 2, /* it was an engine call */
+    OCP_ENDED = 3,  /* it was the last exit: the procedure is inactive */
+    OCP_FAULTED = 4 /* it faulted: the procedure is inactive */
 };
 
 struct ocp_outcome {
     uint32_t kind;
-    uint32_t fault; /* the number of the fault where it is OCP_FAULTED, else 0 */
+    uint32_t fault; /* the number of the fault if the kind is OCP_FAULTED, else 0 */
 };
 
-/* Does one instruction of a running procedure, and says what it did.
+/* Executes one instruction of a running procedure and writes what it did.
  * Refusals: OCP_NOT_OPEN, OCP_NOT_LOADED, OCP_NOT_RUNNING, OCP_JOURNAL_FULL. */
 uint32_t ocp_step(struct ocp_engine *engine, uint16_t id, struct ocp_outcome *outcome);
 
-/* Does instructions of one procedure, at least one and at most so many as the budget says: until the budget is used, the
- * procedure no longer runs, or an instruction breaks, ends it or faults. Says how many they were, and what the last one did.
- * They are one journal entry.
+/* Executes instructions of one procedure, at least one and at most `budget`. Stops early when the procedure no longer
+ * runs. Writes how many there were and what the last one did. They are one journal entry.
  * Refusals: OCP_NOT_OPEN, OCP_NO_BUDGET, OCP_NOT_LOADED, OCP_NOT_RUNNING, OCP_JOURNAL_FULL. */
 uint32_t ocp_slice(struct ocp_engine *engine, uint16_t id, uint32_t budget, uint32_t *count, struct ocp_outcome *last);
 
-/* In place of an identifier, where no procedure had a turn yet. */
+/* For `step`: no step ended. */
+#define OCP_NO_STEP ((uint32_t)65536)
+
+/* Executes instructions of one procedure as ocp_slice does, and also stops after the first one that ends a step (engine call
+ * 5). Writes how many there were, what the last one did, and the number of the step that ended, or OCP_NO_STEP. They are one
+ * journal entry. A stop or suspend that waits for this step takes effect here: the procedure is then inactive or held.
+ * Refusals: OCP_NOT_OPEN, OCP_NO_BUDGET, OCP_NOT_LOADED, OCP_NOT_RUNNING, OCP_JOURNAL_FULL. */
+uint32_t ocp_round(struct ocp_engine *engine, uint16_t id, uint32_t budget, uint32_t *count, struct ocp_outcome *last,
+                   uint32_t *step);
+
+/* For `after`: no procedure had a turn yet. */
 #define OCP_NO_PROCEDURE ((uint32_t)65536)
 
-/* The procedure whose turn is next: the least running one above the one before, or where there is none the least running
- * one. Of 65,536 on, `after` names none: the next one is then the least running one.
+/* Writes the identifier of the procedure whose turn is next: the least running one above `after`, or the least running one if
+ * there is none above. If `after` is 65,536 or more, it is the least running one.
  * Refusals: OCP_NOT_OPEN, OCP_NONE_RUNNING. */
 uint32_t ocp_next_running(struct ocp_engine *engine, uint32_t after, uint16_t *id);
 
 /* ---- the debugger */
 
-/* Sets a breakpoint at the slot of an instruction.
+/* Sets a breakpoint at an instruction, given by its slot.
  * Refusals: OCP_NOT_OPEN, OCP_NOT_LOADED, OCP_NOT_AN_INSTRUCTION, OCP_ALREADY_SET, OCP_BREAKS_FULL, OCP_JOURNAL_FULL. */
 uint32_t ocp_set_break(struct ocp_engine *engine, uint16_t id, uint16_t place);
 
@@ -174,13 +188,13 @@ uint32_t ocp_set_break(struct ocp_engine *engine, uint16_t id, uint16_t place);
  * Refusals: OCP_NOT_OPEN, OCP_NOT_LOADED, OCP_NOT_SET, OCP_JOURNAL_FULL. */
 uint32_t ocp_clear_break(struct ocp_engine *engine, uint16_t id, uint16_t place);
 
-/* Sets whether each instruction of a procedure leaves a trace record. It is for ground: no call reads trace records, but the
+/* Switches on or off that each instruction of a procedure leaves a trace record. It is for ground: no call reads trace records, but the
  * switch is a journal entry, so the console that runs the journal again has the records, and shows them by its line `trace`.
  * While the trace is on, an instruction takes many times as long (docs/EMBED.md, "What a call costs, at most").
  * Refusals: OCP_NOT_OPEN, OCP_NOT_LOADED, OCP_JOURNAL_FULL. */
 uint32_t ocp_trace(struct ocp_engine *engine, uint16_t id, bool on);
 
-/* Reads octets of a procedure's memory from an address on, one into each octet of the buffer.
+/* Copies a procedure's memory, from an address on, to the whole buffer.
  * Refusals: OCP_NOT_OPEN, OCP_NOT_LOADED, OCP_OUTSIDE_MEMORY. */
 uint32_t ocp_memory(struct ocp_engine *engine, uint16_t id, uint64_t address, uint8_t *octets, size_t length);
 
@@ -189,58 +203,59 @@ uint32_t ocp_memory(struct ocp_engine *engine, uint16_t id, uint64_t address, ui
 /* The status of a procedure, with the numbers of a status report. */
 enum { OCP_INACTIVE = 0, OCP_RUNNING = 1, OCP_HELD = 2 };
 
-/* Why a procedure is inactive; OCP_NO_CAUSE where it was not started, or is active. */
+/* Why a procedure is inactive; OCP_NO_CAUSE if it was never started, or is active. */
 enum { OCP_NO_CAUSE = 0, OCP_EXITED = 1, OCP_STOPPED = 2, OCP_ABORTED = 3, OCP_FAULT = 4 };
 
-/* What is done at the end of a step. */
+/* What happens to the procedure at the end of a step. */
 enum { OCP_NOTHING_PENDING = 0, OCP_STOP_PENDING = 1, OCP_SUSPEND_PENDING = 2 };
 
 struct ocp_view {
     uint32_t status;       /* OCP_INACTIVE, OCP_RUNNING or OCP_HELD */
     uint32_t cause;        /* OCP_NO_CAUSE to OCP_FAULT */
-    uint32_t fault;        /* the number of the fault where the cause is OCP_FAULT, else 0 */
+    uint32_t fault;        /* the number of the fault if the cause is OCP_FAULT, else 0 */
     uint32_t place;        /* the slot of the next instruction */
-    uint32_t depth;        /* how many local calls have not returned */
+    uint32_t depth;        /* the number of local calls that have not returned */
     uint32_t pending;      /* OCP_NOTHING_PENDING to OCP_SUSPEND_PENDING */
-    uint32_t pending_step; /* the step at whose end it is done, 0 for any step and where nothing is pending */
-    uint32_t has_budget;   /* 1 where a budget is set, else 0 */
-    uint32_t remaining;    /* how many instructions are left of the budget, 0 where none is set */
+    uint32_t pending_step; /* the step at whose end it happens; 0 for any step, or if nothing is pending */
+    uint32_t has_budget;   /* 1 if a budget is set, else 0 */
+    uint32_t remaining;    /* the instructions left of the budget, 0 if none is set */
 };
 
-/* What is shown of a procedure, and its registers: R0 to R10, at the indices of the buffer, which has 11 words or more.
- * What is behind them in the buffer stays as it was.
+/* Writes the state of a procedure, and R0 to R10 to the buffer's first 11 words. The rest of the buffer stays as it was.
  * Refusals: OCP_NOT_OPEN, OCP_BUFFER_TOO_SMALL (under 11 registers), OCP_NOT_LOADED. */
 uint32_t ocp_view(struct ocp_engine *engine, uint16_t id, struct ocp_view *view, uint64_t *registers, size_t count);
 
-/* The pool word at an index.
+/* Reads the pool word at an index.
  * Refusals: OCP_NOT_OPEN, OCP_NO_WORD. */
 uint32_t ocp_pool_word(struct ocp_engine *engine, uint64_t index, uint64_t *word);
 
-/* How many events there were: each request, each instruction, each command of the debugger and each drain is one.
+/* Writes the number of accepted events: each request, instruction, command of the debugger, drain and write of a pool word is
+ * one.
  * Refusal: OCP_NOT_OPEN. */
 uint32_t ocp_events(struct ocp_engine *engine, uint64_t *events);
 
-/* How many journal entries are still free.
+/* Writes the number of free journal entries.
  * Refusal: OCP_NOT_OPEN. */
 uint32_t ocp_room(struct ocp_engine *engine, uint64_t *entries);
 
 /* ---- the journal */
 
-/* What a journal entry is: its first octet. The two octets behind it are the seat, which is 0. Then: */
+/* The kind of a journal entry: its first octet. The seat follows (2 octets), which is 0. Then: */
 enum {
     OCP_ENTRY_REQUEST = 1,     /* the time (4 octets), and the packet to the end of the entry */
-    OCP_ENTRY_STEPS = 2,       /* the procedure (2), and how many instructions it did, one after the other (4) */
+    OCP_ENTRY_STEPS = 2,       /* the procedure (2), and the number of its instructions in a row (4) */
     OCP_ENTRY_SET_BREAK = 3,   /* the procedure (2), the place (2) */
     OCP_ENTRY_CLEAR_BREAK = 4, /* the procedure (2), the place (2) */
     OCP_ENTRY_TRACE = 5,       /* the procedure (2), 1 for on and 0 for off (2) */
-    OCP_ENTRY_DRAIN = 6        /* the time (4) */
+    OCP_ENTRY_DRAIN = 6,       /* the time (4) */
+    OCP_ENTRY_PUT_WORD = 7     /* the index of the pool word (2), its value (8) */
 };
 
-/* No entry is longer: a packet of more than 65,542 octets is discarded. */
+/* The greatest length of an entry: packets of more than 65,542 octets are discarded. */
 #define OCP_LONGEST_ENTRY ((size_t)65549)
 
-/* The journal entry at an index, the oldest at 0, as octets; what is behind them in the buffer stays as it was. The last
- * argument says how many they are, also where the buffer is too small for them.
+/* Copies the journal entry at an index, the oldest at 0, to the buffer, whose rest stays as it was. Writes its length to the
+ * last argument, also if the buffer is too small.
  * Refusals: OCP_NOT_OPEN, OCP_NO_ENTRY, OCP_BUFFER_TOO_SMALL (under the entry's length). */
 uint32_t ocp_entry(struct ocp_engine *engine, uint64_t index, uint8_t *entry, size_t room, size_t *length);
 

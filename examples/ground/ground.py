@@ -2,7 +2,8 @@
 """Makes requests as packets, reads report packets, and drives an engine over pipes or a loopback socket.
 
 As a module: `Request` and its functions (`load`, `activate`, ..) make telecommands; `Stream` parts octets into reports
-(`Verification`, `Status`) and named faults; `Ground` keeps each request until its last report has come. As a command:
+(`Verification`, `Status`) and named faults; `Ground` keeps each request until its last report has come, and counts the
+reports that are missing. As a command:
 
     ground.py --tcp 10018 load 7 procedure.hex      one request, or several with `then` between them
     ground.py --pipe 'examples/ground/engine' load 7 procedure.hex then activate 7 0414 then status
@@ -12,16 +13,23 @@ The formats are those of docs/PROFILE.md: CCSDS 133.0-B space packets, ECSS-E-ST
 Status: 0 done, 1 a request failed or a bad packet came, 2 a command line that is refused, 3 no engine or no answer.
 """
 import argparse
-import binascii
+import math
+import os
 import select
 import shlex
+import signal
 import socket
 import struct
 import subprocess
 import sys
 import time
+from collections import deque
 from pathlib import Path
 from typing import NamedTuple, Optional, Tuple, Union
+
+if __name__ == "__main__":
+    sys.dont_write_bytecode = True
+from parting import PRIMARY, REPORTS, Parting, error_control
 
 ACCEPTANCE, START, PROGRESS, COMPLETION = 1, 2, 4, 8
 ALL_FLAGS = ACCEPTANCE | START | COMPLETION
@@ -32,12 +40,19 @@ CODES = {1: "Segmented", 2: "NoSecondary", 3: "NoRoom", 4: "Pec", 5: "PusVersion
          8: "Layout", 16: "AlreadyLoaded", 17: "TableFull", 18: "BadCode", 19: "NotLoaded", 20: "NotInactive",
          21: "NotActive", 22: "NotRunning", 23: "NotHeld", 24: "StopPending", 25: "MailboxFull", 26: "Overtaken",
          27: "OutboxFull"}
+UNTRUSTED = range(1, 6)  # failures of acceptance that go to destination 0, because no source can be trusted
 LOAD_FAULTS = {1: "EmptyCode", 2: "RaggedCode", 3: "TooLong", 4: "CutWide", 5: "UnknownOpcode", 6: "BadRegister",
                7: "ReservedField", 8: "WritesFramePointer", 9: "BadCall", 10: "BadTarget", 11: "FallsOffEnd"}
-PRIMARY, SECONDARY, ERROR_CONTROL = 6, 11, 2
-LEAST = PRIMARY + SECONDARY + 1 + ERROR_CONTROL
-MOST = PRIMARY + SECONDARY + 1 + 16 * 3 + ERROR_CONTROL
+ERROR_CONTROL = 2
 BLOCK = 65536
+COUNTS = 16384
+# seconds without an octet after which an unfinished packet holds no whole one back
+QUIET = 0.5
+# reports that `ask` keeps for its caller
+KEPT = 10000
+# seconds that an engine has to take a telecommand, and to end when its input has ended
+PATIENCE = 3.0
+LONGEST_WAIT = 86400
 
 
 class PacketFault(Exception):
@@ -53,9 +68,12 @@ class LinkFault(Exception):
     """An engine that is not there, does not answer, or has closed."""
 
 
-def error_control(octets):
-    """The 16 bits of CCSDS packet error control: x^16 + x^12 + x^5 + 1, preset all ones."""
-    return binascii.crc_hqx(octets, 0xFFFF)
+class Unanswered(LinkFault):
+    """A request whose last report did not come: `reports` are those that came, `stages` those of the request."""
+
+    def __init__(self, text, reports, asked, may_repeat):
+        super().__init__(text)
+        self.reports, self.request, self.stages, self.may_repeat = reports, asked.request, asked.stages, may_repeat
 
 
 def with_error_control(octets):
@@ -136,7 +154,7 @@ def abort(procedure):
 # ---- reports
 
 class Verification(NamedTuple):
-    """A report of service 1. `stage` is accepted, started, completed, or where it failed acceptance, start, completion."""
+    """A report of service 1. `stage` is accepted, started or completed; after a failure acceptance, start or completion."""
     apid: int
     count: int
     destination: int
@@ -168,6 +186,18 @@ class Status(NamedTuple):
         return "status " + (", ".join(f"{one} {name}" for one, name in self.procedures) or "nothing loaded")
 
 
+class Gap(NamedTuple):
+    """What the sequence count of a report tells about those before it."""
+    missing: int
+    before: int
+    count: int
+
+    def __str__(self):
+        if self.missing < COUNTS // 2:
+            return f"{self.missing} report{'s' * (self.missing != 1)} missing before count {self.count}"
+        return f"count {self.count} comes after count {self.before}: out of order, repeated, or of another engine"
+
+
 Report = Union[Verification, Status]
 
 
@@ -190,7 +220,7 @@ def read(packet):
     """The report of one whole telemetry packet, or PacketFault."""
     if len(packet) < PRIMARY or len(packet) != int.from_bytes(packet[4:6], "big") + 7:
         raise PacketFault("Cut", f"{len(packet)} octets are not the packet's length", packet)
-    if packet[0] >> 3 != 1 or packet[2] >> 6 != 3 or len(packet) < LEAST:
+    if packet[0] >> 3 != 1 or packet[2] >> 6 != 3 or len(packet) < REPORTS.least:
         raise PacketFault("Header", f"{packet[:6].hex()} is not the header of a report", packet)
     said, right = int.from_bytes(packet[-2:], "big"), error_control(packet[:-2])
     if said != right:
@@ -215,117 +245,162 @@ def read(packet):
 
 
 class Stream:
-    """Octets in, in any pieces; reports and faults out. What stands behind a bad packet is found again."""
+    """Octets in, in any pieces; reports and faults out. What comes after a bad packet is found again."""
 
-    def __init__(self):
-        self.rest = b""
+    def __init__(self, apid=None):
+        self.parting = Parting(REPORTS, apid)
 
     def feed(self, octets):
         """The reports and faults that these octets complete."""
-        self.rest += octets
-        return list(self._parted(False))
+        return [_report(piece) for piece in self.parting.feed(octets)]
+
+    def quiet(self):
+        """The reports that an unfinished one holds back, if no more octets come for now."""
+        return [_report(piece) for piece in self.parting.quiet()]
 
     def close(self):
         """What the end of the stream leaves: a cut packet is a fault."""
-        return list(self._parted(True))
+        return [_report(piece) for piece in self.parting.close()]
 
-    def _parted(self, ended):
-        while self.rest:
-            size = self._size(0)
-            if size is None:
-                if len(self.rest) < PRIMARY and not ended:
-                    return
-                yield self._skip("Header" if len(self.rest) >= PRIMARY else "Cut", self._start(1))
-            elif len(self.rest) < size:
-                whole = self._whole(1)
-                if whole is None and not ended:
-                    return
-                yield self._skip("Cut", whole or (self._start(1) if ended else len(self.rest)))
-            else:
-                packet = self.rest[:size]
-                try:
-                    report = read(packet)
-                except PacketFault as fault:
-                    inside = self._start(1) if fault.name == "Pec" else size
-                    self.rest = self.rest[min(size, inside):]
-                    yield fault
-                else:
-                    self.rest = self.rest[size:]
-                    yield report
 
-    def _skip(self, name, octets):
-        lost, self.rest = self.rest[:octets], self.rest[octets:]
-        return PacketFault(name, f"{len(lost)} octets are no whole report", lost)
-
-    def _size(self, at):
-        """The length of the report whose header stands there, or None where none does."""
-        head = self.rest[at:at + PRIMARY]
-        size = int.from_bytes(head[4:6], "big") + 7
-        return size if len(head) == PRIMARY and head[0] >> 3 == 1 and head[2] >> 6 == 3 and LEAST <= size <= MOST else None
-
-    def _start(self, at):
-        """Where the next header of a report stands, or may stand when more has come."""
-        ends = len(self.rest)
-        return next((i for i in range(at, ends) if self._size(i) or (ends - i < PRIMARY and self.rest[i] >> 3 == 1)), ends)
-
-    def _whole(self, at):
-        """Where the next whole report with the right error control stands, or None."""
-        for start in range(at, len(self.rest)):
-            size = self._size(start)
-            packet = self.rest[start:start + size] if size else b""
-            if size and len(packet) == size and error_control(packet[:-2]) == int.from_bytes(packet[-2:], "big"):
-                return start
-        return None
+def _report(piece):
+    """The report of a packet, or the fault of it and of octets that are none."""
+    if piece.fault:
+        said = f"{len(piece.octets)} octets are no whole report and are passed over"
+        return PacketFault(piece.fault, said, piece.octets[:REPORTS.most])
+    try:
+        return read(piece.octets)
+    except PacketFault as fault:
+        return fault
 
 
 # ---- an engine, and what was asked of it
 
-class Ground:
-    """One side of a link: counts requests, and keeps those whose last report has not come."""
+class Asked:
+    """A request that was sent, with the stages of it that were reported."""
 
-    def __init__(self, link, source=0, apid=291, count=0):
-        self.link, self.source, self.apid, self.count = link, source, apid, count
-        self.stream = Stream()
-        self.waiting = []
+    def __init__(self, request, flags):
+        self.request, self.flags, self.stages = request, flags & ALL_FLAGS, []
+
+    def __repr__(self):
+        return f"{self.request.name}: {self}"
+
+    def __str__(self):
+        wanted = [name for flag, name in ((ACCEPTANCE, "accepted"), (START, "started"), (COMPLETION, "completed")) if self.flags & flag]
+        missing = [name for name in wanted if name not in self.stages]
+        came = f"{_listed(self.stages)} came" if self.stages else "nothing came"
+        return f"{came}, {_listed(missing)} {'is' if len(missing) == 1 else 'are'} open" if missing else came
+
+    def is_pending(self):
+        """Whether it may well wait for the end of a step: a stop or a suspend that was taken, and is not completed."""
+        taken = "started" if self.flags & START else "accepted"
+        return self.request.name in ("stop", "suspend") and taken in self.stages and "completed" not in self.stages
+
+    def why(self):
+        if self.is_pending():
+            return f"the {self.request.name} waits for its step, or the report was lost"
+        if self.stages:
+            return "the telecommand has arrived, a report was lost"
+        return "the telecommand or its reports were lost, or the engine has another APID"
+
+    def take(self, report):
+        """Whether that report of it is its last one."""
+        if report.succeeded:
+            self.stages.append(report.stage)
+        last = {"accepted": self.flags < START, "started": self.flags < COMPLETION, "completed": True}
+        return last.get(report.stage, True)
+
+
+def _listed(names):
+    return " and ".join(", ".join(names).rsplit(", ", 1))
+
+
+class Ground:
+    """One side of a link: counts requests, and keeps those whose last report has not come. If the engine is `shared` with other
+    clients, the reports that are missing in the count may be theirs, and there are no gaps."""
+
+    def __init__(self, link, source=0, apid=291, count=0, shared=False):
+        self.link, self.source, self.apid, self.count, self.shared = link, source, apid, count, shared
+        self.stream = Stream(apid)
+        self.waiting = deque()
         self.open = {}
+        self.last = None  # the sequence count of the last report
+        self.heard = time.monotonic()
+
+    def name(self):
+        """The request ID of the next request: the first four octets of its packet."""
+        return status().packet(self.count, 0, self.source, self.apid)[:4]
 
     def send(self, request, flags=ALL_FLAGS):
         """Sends it; gives its request ID, by which the reports name it."""
         packet = request.packet(self.count, flags, self.source, self.apid)
-        self.count = (self.count + 1) & 0x3FFF
+        self.count = (self.count + 1) % COUNTS
         if flags & ALL_FLAGS:
-            self.open[packet[:4]] = (request, flags)
+            self.open[packet[:4]] = Asked(request, flags)
         self.link.send(packet)
         return packet[:4]
 
     def next(self, seconds):
-        """The next report or fault, or None where none came in that time."""
+        """The next report, gap or fault, or None if none came in that time."""
         ends = time.monotonic() + seconds
         while not self.waiting:
-            octets = self.link.receive(max(0.0, ends - time.monotonic()))
-            if octets is None:
-                return None
-            self.waiting += self.stream.feed(octets) if octets else self.stream.close()
-            if not octets and not self.waiting:
-                raise LinkFault("the engine has closed the link")
-        report = self.waiting.pop(0)
-        if isinstance(report, Verification):
-            _, flags = self.open.get(report.request, (None, 0))
-            last = {"accepted": flags < START, "started": flags < COMPLETION, "completed": True}
-            if last.get(report.stage, True):
-                self.open.pop(report.request, None)
+            octets = self.link.receive(min(QUIET, max(0.0, ends - time.monotonic())))
+            if octets:
+                self.heard = time.monotonic()
+                self._keep(self.stream.feed(octets))
+            elif octets is not None:
+                self._keep(self.stream.close())
+                if not self.waiting:
+                    raise LinkFault("the engine has closed the link")
+            elif time.monotonic() - self.heard >= QUIET:
+                self._keep(self.stream.quiet())
+            if time.monotonic() >= ends:
+                if seconds > 0:
+                    self._keep(self.stream.quiet())
+                break
+        return self._take(self.waiting.popleft()) if self.waiting else None
+
+    def rest(self):
+        """What has come and was not given yet."""
+        while self.waiting:
+            yield self._take(self.waiting.popleft())
+
+    def _keep(self, reports):
+        """Adds them to those that wait, each after the gap before it."""
+        for report in reports:
+            if not isinstance(report, PacketFault):
+                missing = 0 if self.last is None else (report.count - self.last - 1) % COUNTS
+                if missing and not self.shared:
+                    self.waiting.append(Gap(missing, self.last, report.count))
+                self.last = report.count
+            self.waiting.append(report)
+
+    def _take(self, report):
+        """Notes to which request it belongs. Another client's may have the same request ID, so the destination counts too."""
+        if isinstance(report, Verification) and (report.destination == self.source or report.code in UNTRUSTED):
+            asked = self.open.get(report.request)
+            if asked and asked.take(report):
+                del self.open[report.request]
         return report
 
-    def ask(self, request, flags=ALL_FLAGS, seconds=10.0):
-        """Sends it and gives all that came until its last report. LinkFault where that did not come."""
+    def ask(self, request, flags=ALL_FLAGS, seconds=10.0, each=None):
+        """Sends it and gives all that came until its last report, each also to `each` as it comes. If that did not come in
+        time, Unanswered carries the reports."""
         name = self.send(request, flags)
-        came = []
+        asked, came, title = self.open.get(name), [], f"{request.name} (request {name.hex()})"
         ends = time.monotonic() + seconds
-        while name in self.open:
-            report = self.next(max(0.0, ends - time.monotonic()))
-            if report is None:
-                raise LinkFault(f"no last report of {request.name} (request {name.hex()}) within {seconds:g} seconds")
-            came.append(report)
+        try:
+            while name in self.open and len(came) < KEPT and (self.waiting or time.monotonic() < ends):
+                report = self.next(max(0.0, ends - time.monotonic()))
+                if report is not None:
+                    came.append(report)
+                    if each:
+                        each(report)
+        except LinkFault as fault:
+            raise Unanswered(f"{fault}: {title}: {asked}", came, asked, False) from None
+        if name in self.open:
+            limit = f"within {seconds:g} seconds" if len(came) < KEPT else f"among {KEPT} reports"
+            raise Unanswered(f"no last report of {title} {limit}: {asked}: {asked.why()}", came, asked, not asked.is_pending())
         return came
 
 
@@ -334,24 +409,36 @@ class Pipes:
 
     def __init__(self, words):
         try:
-            self.process = subprocess.Popen(words, stdin=subprocess.PIPE, stdout=subprocess.PIPE, bufsize=0)
+            self.process = subprocess.Popen(words, stdin=subprocess.PIPE, stdout=subprocess.PIPE, bufsize=0, start_new_session=True)
         except OSError as fault:
             raise LinkFault(f"{words[0]}: {fault.strerror}") from None
+        os.set_blocking(self.process.stdin.fileno(), False)
 
     def send(self, packet):
+        ends = time.monotonic() + PATIENCE
         try:
-            self.process.stdin.write(packet)
+            while packet and select.select([], [self.process.stdin], [], max(0.0, ends - time.monotonic()))[1]:
+                packet = packet[os.write(self.process.stdin.fileno(), packet):]
         except OSError:
             raise LinkFault("the engine has closed the link") from None
+        if packet:
+            raise LinkFault(f"the engine has not taken the telecommand in {PATIENCE:g} seconds")
 
     def receive(self, seconds):
         ready = select.select([self.process.stdout], [], [], seconds)[0]
         return self.process.stdout.read(BLOCK) if ready else None
 
     def close(self):
+        """Ends its input; an engine that goes on is ended with all that it has started."""
         self.process.stdin.close()
         self.process.stdout.close()
-        self.process.wait(10)
+        for signal_number in (signal.SIGTERM, signal.SIGKILL):
+            try:
+                self.process.wait(PATIENCE)
+                return
+            except subprocess.TimeoutExpired:
+                os.killpg(self.process.pid, signal_number)
+        self.process.wait()
 
 
 class Socket:
@@ -366,10 +453,13 @@ class Socket:
         except OSError as fault:
             self.socket.close()
             raise LinkFault(f"{kind} port {port}: {fault.strerror}") from None
+        self.socket.settimeout(PATIENCE)
 
     def send(self, packet):
         try:
             self.socket.sendall(packet)
+        except socket.timeout:
+            raise LinkFault(f"the engine has not taken the telecommand in {PATIENCE:g} seconds") from None
         except OSError:
             raise LinkFault("the engine has closed the link") from None
 
@@ -460,36 +550,97 @@ def commands_of(words):
             found[-1].append(word)
     if not all(found):
         raise ValueError("a command is empty")
-    return [(one[0], float(one[1]) if one[1:] else 5.0) if one[0] == "watch" else (one[0], request_of(one)) for one in found]
+    return [("watch", seconds_of("watch", one[1:])) if one[0] == "watch" else (one[0], request_of(one)) for one in found]
 
 
-def show(report):
-    """Prints it, a fault on standard error; gives whether it is good news."""
-    if isinstance(report, PacketFault):
-        print(f"ground: bad packet, {report}", file=sys.stderr)
-        return False
-    print(f"time {report.time} {report}", flush=True)
-    return not isinstance(report, Verification) or report.succeeded
+def seconds_of(name, words):
+    """A number of seconds, 5 if there is none."""
+    if len(words) > 1:
+        raise ValueError(f"{name} is written `{name} {FORMS[name]}`")
+    seconds = float(words[0]) if words else 5.0
+    if not (math.isfinite(seconds) and 0 <= seconds <= LONGEST_WAIT):
+        raise ValueError(f"{name}: seconds are 0 to {LONGEST_WAIT}, not {words[0]}")
+    return seconds
 
 
-def watched(ground, seconds):
-    """Asks for the status each second, and prints it where it changed, and every other report."""
-    ends = time.monotonic() + seconds
-    before, good = None, True
-    while time.monotonic() < ends:
-        asked = time.monotonic()
-        for report in ground.ask(status(), COMPLETION):
-            if isinstance(report, Status):
-                if report.procedures != before:
-                    good &= show(report)
-                before = report.procedures
-            elif not isinstance(report, Verification) or not report.succeeded:
-                good &= show(report)
-        while (left := min(ends, asked + 1.0) - time.monotonic()) > 0:
-            report = ground.next(left)
-            if report is not None:
-                good &= show(report)
-    return good
+def say(text):
+    print(f"ground: {text}", file=sys.stderr, flush=True)
+
+
+class Shown:
+    """Prints what comes, a fault and a gap on standard error, and knows whether all of it was good news. A report to another
+    source is printed with that source, and is no news of ours."""
+
+    def __init__(self, source):
+        self.source, self.good = source, True
+
+    def is_own(self, report):
+        return report.destination == self.source or (isinstance(report, Verification) and report.code in UNTRUSTED)
+
+    def report(self, report):
+        if isinstance(report, PacketFault):
+            say(f"bad packet, {report}")
+            self.good = False
+        elif isinstance(report, Gap):
+            say(report)
+        elif self.is_own(report):
+            print(f"time {report.time} {report}", flush=True)
+            self.good &= not isinstance(report, Verification) or report.succeeded
+        else:
+            print(f"time {report.time} to source {report.destination}: {report}", flush=True)
+
+
+class Watch:
+    """Prints the status if it changed, and every other report but the good ones of its own requests."""
+
+    def __init__(self, shown):
+        self.shown, self.before, self.own = shown, None, None
+
+    def report(self, report):
+        if isinstance(report, Status) and self.shown.is_own(report):
+            if report.procedures != self.before:
+                self.shown.report(report)
+            self.before = report.procedures
+        elif not isinstance(report, Verification) or not report.succeeded or report.request != self.own:
+            self.shown.report(report)
+
+    def run(self, ground, seconds):
+        """Asks for the status each second."""
+        ends = time.monotonic() + seconds
+        while time.monotonic() < ends:
+            asked = time.monotonic()
+            self.own = ground.name()
+            ground.ask(status(), COMPLETION, each=self.report)
+            while (left := min(ends, asked + 1.0) - time.monotonic()) > 0:
+                report = ground.next(left)
+                if report is not None:
+                    self.shown.report(report)
+
+
+# what becomes of a request that arrives twice
+TWICE = {"load": "is refused", "unload": "is refused", "activate": "is refused while the procedure is active, else done twice",
+         "stop": "replaces the first one, or is refused", "suspend": "replaces the first one, or is refused",
+         "resume": "is refused, or done twice", "communicate": "is done twice: the words come twice",
+         "abort": "is refused", "status": "is done twice"}
+
+
+def asked(ground, request, options, shown):
+    """Asks, and repeats as often as the options say a request that was not answered or was changed on the way. A stop or
+    suspend that waits for its step is not repeated."""
+    for repeat in range(1, options.retry + 1):
+        name = ground.name()
+        try:
+            came = ground.ask(request, options.flags, options.seconds, shown.report)
+            if not any(isinstance(one, Verification) and one.request == name and one.code in UNTRUSTED for one in came):
+                return
+            why = "the first one was changed on the way"
+        except Unanswered as fault:
+            if not fault.may_repeat:
+                raise
+            say(fault)
+            why = f"if the first one has arrived, this one {TWICE[request.name]}"
+        say(f"repeats {request.name}, {repeat} of {options.retry}; {why}")
+    ground.ask(request, options.flags, options.seconds, shown.report)
 
 
 def options_of(words):
@@ -502,61 +653,79 @@ def options_of(words):
     parser.add_argument("--own", type=int, default=0, metavar="PORT", help="own UDP port (default: any)")
     parser.add_argument("--apid", type=int, default=291)
     parser.add_argument("--source", type=int, default=0, help="source ID, to which reports come (default 0)")
+    parser.add_argument("--shared", action="store_true", help="other clients have reports too: say nothing of gaps in the count")
     parser.add_argument("--count", type=int, default=0, help="count of the first request (default 0)")
     parser.add_argument("--flags", type=int, default=ALL_FLAGS, help="1 accepted, 2 started, 8 completed (default 11)")
     parser.add_argument("--seconds", type=float, default=10.0, help="how long a last report is waited for (default 10)")
+    parser.add_argument("--retry", type=int, default=0, metavar="N", help="repeat an unanswered request up to N times (default 0)")
     parser.add_argument("--capture", metavar="FILE", help="also keep the packets in a file that Wireshark reads")
     parser.add_argument("words", nargs="+", metavar="COMMAND", help=", ".join(f"{k} {v}".strip() for k, v in FORMS.items()))
-    return parser.parse_args(words)
+    options = parser.parse_args(words)
+    if not (math.isfinite(options.seconds) and 0 < options.seconds <= LONGEST_WAIT and 0 <= options.retry <= 100):
+        parser.error(f"--seconds is above 0 and at most {LONGEST_WAIT}, --retry is 0 to 100")
+    return options
 
 
 def link_of(options):
     """The engine that the options name; its packets are kept where they say so."""
+    kept = open(options.capture, "wb") if options.capture else None
     if options.pipe is not None:
         link = Pipes(shlex.split(options.pipe) or [""])
     else:
         link = Socket("tcp", options.tcp) if options.tcp is not None else Socket("udp", options.udp, options.own)
-    return Capture(link, open(options.capture, "wb")) if options.capture else link
+    return Capture(link, kept) if kept else link
 
 
 def run(options, commands):
     """Does the commands over the link; gives whether all went well."""
-    ground = Ground(link_of(options), options.source, options.apid, options.count)
-    good = True
+    ground = Ground(link_of(options), options.source, options.apid, options.count, options.shared)
+    shown = Shown(options.source)
     try:
         for verb, what in commands:
             if verb == "watch":
-                good &= watched(ground, what)
+                Watch(shown).run(ground, what)
             else:
-                good &= all([show(report) for report in ground.ask(what, options.flags, options.seconds)])
+                asked(ground, what, options, shown)
     finally:
+        for report in ground.rest():
+            shown.report(report)
         ground.link.close()
-    return good
+    return shown.good
+
+
+def done(words):
+    """Does what the words say; gives the status."""
+    options = options_of(words)
+    commands = commands_of(options.words)
+    Request("", 8, b"").packet(options.count, options.flags, options.source, options.apid)
+    if not options.print:
+        return 0 if run(options, commands) else 1
+    for count, (_, request) in enumerate(commands):
+        if not isinstance(request, Request):
+            raise ValueError("watch is no packet")
+        print(request.packet((options.count + count) % COUNTS, options.flags, options.source, options.apid).hex())
+    sys.stdout.flush()
+    return 0
 
 
 def main(words):
-    options = options_of(words)
+    sys.stderr = sys.stderr or open(os.devnull, "w")
+    if sys.stdout is None:
+        say("standard output is closed")
+        return 3
     try:
-        commands = commands_of(options.words)
-        if options.print:
-            for count, (_, request) in enumerate(commands):
-                if not isinstance(request, Request):
-                    raise ValueError("watch is no packet")
-                print(request.packet((options.count + count) & 0x3FFF, options.flags, options.source, options.apid).hex())
-            return 0
-        Request("", 8, b"").packet(options.count, options.flags, options.source, options.apid)
-        return 0 if run(options, commands) else 1
+        return done(words)
     except (ValueError, OverflowError) as fault:
-        print(f"ground: {fault}", file=sys.stderr)
+        say(fault)
         return 2
     except LinkFault as fault:
-        print(f"ground: {fault}", file=sys.stderr)
-        return 3
+        say(fault)
     except OSError as fault:
-        print(f"ground: {fault.filename or 'output'}: {fault.strerror}", file=sys.stderr)
-        return 3
+        say(f"{fault.filename or 'output'}: {fault.strerror}")
+        os.dup2(os.open(os.devnull, os.O_WRONLY), sys.stdout.fileno())  # what could not be written is not tried again
     except KeyboardInterrupt:
-        return 3
+        pass
+    return 3
 
 
 if __name__ == "__main__":

@@ -12,7 +12,7 @@ use Rattle.ocp_reports.specs.Due.{drain_dispatches}
 use Rattle.ocp_reports.proofs.Packets.{length-packets}
 use Rattle.ocp_table.specs.Outbox.{pendings}
 use Rattle.ocp_world.specs.World.{World, Event, Request, Drain}
-use Rattle.ocp_world.specs.Effect.{Reply, Discards, Sends, Steps, Commands, Undue}
+use Rattle.ocp_world.specs.Effect.{Reply, Discards, Sends, Steps, Commands, Undue, Puts}
 use Rattle.ocp_world.specs.Drains.{drain_effect}
 use Rattle.ocp_world.specs.Replay.{replay}
 use Rattle.ocp_world.specs.After.{Requested, after, answer_by, effect_of, is_accepted}
@@ -53,6 +53,7 @@ sent w (Discards cause) is = none 4 68
 sent w (Steps outcome) is = none 4 68
 sent w (Commands result) is = none 4 68
 sent w Undue is = none 4 68
+sent w (Puts result) is = none 4 68
 
 few_of : (log : Log) → len (world_of log).records ≤ 16
 unfolding world_of

@@ -1,6 +1,6 @@
 -- At most 16 procedures are loaded after every list of events.
 use Rattle.std.proofs.Common.{◌≡◌, ◌≤◌, ◌<◌, ℕ, ◌+◌, Bool, true, false, cond, List, [], ◌∷◌, length, Option, Some, None, refl, sym, ap, subst, ◌∙◌, arith}
-use Rattle.std.specs.Prelude.{◌-◌, Result, Ok, Err, is_some}
+use Rattle.std.specs.Prelude.{◌-◌, Result, Ok, Err, is_some, nat_lt}
 use Rattle.std.proofs.lemmas.List.{length-map}
 use Rattle.std.specs.Ordering.{nat_cmp}
 use Rattle.std.specs.Cmp.{nat_cmp_total}
@@ -15,7 +15,7 @@ use Rattle.obcp_types.specs.declared.failure.RequestFault.{RequestFault}
 use Rattle.obcp_types.specs.declared.pending.Due.{Due}
 use Rattle.obcp_messages.specs.declared.request.Request.{Request as Command}
 use Rattle.ocp_table.specs.Records.{Rec, Records}
-use Rattle.ocp_table.specs.Effects.{Change, Effect, Loaded, Unloaded, Changed, Drained, Kept, new_record, record_by, with_change, records_by}
+use Rattle.ocp_table.specs.Effects.{Change, Effect, Loaded, Unloaded, Changed, Drained, WordPut, Kept, new_record, record_by, with_change, records_by}
 use Rattle.ocp_table.specs.RequestTable.{Directive, Step}
 use Rattle.ocp_table.specs.Deciding.{effect_in, is_full}
 use Rattle.ocp_table.specs.Shown.{row_of, statuses_of}
@@ -27,6 +27,7 @@ use Rattle.ocp_reports.specs.declared.origin.Origin.{Origin}
 use Rattle.ocp_reports.specs.Origin.{origin_of}
 use Rattle.ocp_world.specs.World as world
 use Rattle.ocp_world.specs.World.{World, Event, opening}
+use Rattle.ocp_world.specs.Puts.{put_effect_if}
 use Rattle.ocp_world.specs.Requests.{command_effect, command_of, service_effect, request_effect}
 use Rattle.ocp_world.specs.Drains.{drain_effect}
 use Rattle.ocp_world.specs.After.{effect_of, after}
@@ -54,6 +55,10 @@ module _ (m : Records) where
   room_set (SetTrace on) id None = tt
   room_set c id (Some fault) = tt
 
+  room_put : (there : Bool) (index value : ℕ) → HasRoom m (put_effect_if there index value).on_records
+  room_put true index value = tt
+  room_put false index value = tt
+
   room_drain : (time : ℕ) (dues : List Due) → HasRoom m (drain_effect time dues).on_records
   room_drain time [] = tt
   room_drain time (d ∷ ds) = tt
@@ -76,6 +81,7 @@ room w (world.Request by time octets) = room_request w (telecommand_of w.apid oc
 room w (world.Step by id) = room_in w.records (Step w.pool) id
 room w (world.Debug by id c) = room_set w.records c id (commands.fault_on c (get w.records id))
 room w (world.Drain by time) = room_drain w.records time w.outbox
+room w (world.Put by index value) = room_put w.records (nat_lt index (length w.pool)) index value
 
 -- ---- how many there are
 
@@ -100,6 +106,7 @@ module _ (m : Records) (few : len m ≤ 16) where
   few_after (Unloaded id) free = shrunk (contains_key m id) (len m) _ (len-remove nat_cmp_total m id) few
   few_after (Changed id change) free = few_changed id change (get m id) refl
   few_after Drained free = few
+  few_after (WordPut index value) free = few
   few_after (Kept why) free = few
 
 -- ---- every list of events

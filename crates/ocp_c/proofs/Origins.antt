@@ -1,6 +1,6 @@
 -- What waits to be reported repeats a request identifier of four octets at most, after every list of events.
 use Rattle.std.proofs.Common.{◌≡◌, ◌≤◌, ℕ, ◌+◌, Bool, true, false, cond, List, [], ◌∷◌, length, Option, Some, None, refl, ap, ◌∙◌, arith}
-use Rattle.std.specs.Prelude.{Result, Ok, Err, nat_le}
+use Rattle.std.specs.Prelude.{Result, Ok, Err, nat_le, nat_lt}
 use Rattle.std.specs.FinMap.{get}
 use Rattle.ocp_profile.specs.declared.profile.Profile.{Profile}
 use Rattle.pus_fields.specs.declared.fault.TcFault.{TcFault}
@@ -28,6 +28,7 @@ use Rattle.ocp_world.specs.World as world
 use Rattle.ocp_world.specs.World.{World, Event, opening}
 use Rattle.ocp_world.specs.Requests.{command_effect, command_of, service_effect, request_effect, next_origin}
 use Rattle.ocp_world.specs.Drains.{drain_effect}
+use Rattle.ocp_world.specs.Puts.{put_effect_if}
 use Rattle.ocp_world.specs.After.{effect_of, after}
 use Rattle.ocp_world.specs.Replay.{replay}
 use Rattle.ocp_world.proofs.Asked.{IsAskedIn, each_asked}
@@ -103,11 +104,16 @@ module _ (w : World) where
   light_drain time [] = refl
   light_drain time (d ∷ ds) = refl
 
+  light_put : (there : Bool) (index value : ℕ) → Pends (put_effect_if there index value).on_records
+  light_put true index value = refl
+  light_put false index value = refl
+
 light : (w : World) (e : Event) → pended_by excess (effect_of w e).on_records w.records ≡ 0
 light w (world.Request by time octets) = light_request w (telecommand_of w.apid octets) time
 light w (world.Step by id) = light_in (Step w.pool) id w.records tt
 light w (world.Debug by id c) = light_set w c id (commands.fault_on c (get w.records id))
 light w (world.Drain by time) = light_drain w time w.outbox
+light w (world.Put by index value) = light_put w (nat_lt index (length w.pool)) index value
 
 -- ---- every list of events
 

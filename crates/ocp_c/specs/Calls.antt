@@ -2,11 +2,14 @@
 -- the engine's call does to the log that it holds.
 use Rattle.std.specs.Prelude.{ℕ, Option, Some, None, Result, Err}
 use Rattle.ocp_table.specs.declared.answers.Slice.{Slice}
+use Rattle.ocp_table.specs.declared.answers.Round.{Round}
+use Rattle.ocp_world.specs.declared.answers.PutFault.{PutFault}
+use Rattle.ocp_world.specs.declared.answers.PutFault.TheVariants as put
 use Rattle.ocp_table.specs.declared.answers.StepOutcome.{StepOutcome}
 use Rattle.ocp_table.specs.declared.answers.StepOutcome.TheVariants as S
 use Rattle.ocp_debug.specs.declared.command.DebugFault.{DebugFault}
 use Rattle.ocp_debug.specs.declared.command.DebugFault.TheVariants as debug
-use Rattle.ocp_world.specs.After.{Answer, Requested, Stepped, Commanded}
+use Rattle.ocp_world.specs.After.{Answer, Requested, Stepped, Commanded, Written}
 use Rattle.ocp_core.specs.Log.{Log}
 use Rattle.ocp_c.specs.declared.outcome.Outcome.{Outcome}
 use Rattle.ocp_c.specs.declared.status.Status.{Status}
@@ -35,6 +38,7 @@ abbrev pub outcome_of : Answer → StepOutcome
 outcome_of (Stepped outcome) = outcome
 outcome_of (Requested reports) = S.JournalFull
 outcome_of (Commanded result) = S.JournalFull
+outcome_of (Written result) = S.JournalFull
 
 -- an outcome as C sees it; a refusal leaves what stood there
 abbrev pub outcome_or : StepOutcome → Outcome → Outcome
@@ -54,23 +58,40 @@ abbrev pub result_of : Answer → Result (Unit {0}) DebugFault
 result_of (Commanded result) = result
 result_of (Requested reports) = Err debug.JournalFull
 result_of (Stepped outcome) = Err debug.JournalFull
+result_of (Written result) = Err debug.JournalFull
 
--- a count where the last instruction was done; a refusal leaves what stood there
-abbrev pub count_by_outcome : StepOutcome → ℕ → ℕ → ℕ
-count_by_outcome S.Broke count before = count
-count_by_outcome S.Ran count before = count
-count_by_outcome S.Called count before = count
-count_by_outcome S.Ended count before = count
-count_by_outcome (S.Faulted number) count before = count
-count_by_outcome S.NotLoaded count before = before
-count_by_outcome S.NotRunning count before = before
-count_by_outcome S.JournalFull count before = before
+-- a number of a slice whose last instruction was done; a refusal leaves the one before
+abbrev pub number_by_outcome : StepOutcome → ℕ → ℕ → ℕ
+number_by_outcome S.Broke count before = count
+number_by_outcome S.Ran count before = count
+number_by_outcome S.Called count before = count
+number_by_outcome S.Ended count before = count
+number_by_outcome (S.Faulted number) count before = count
+number_by_outcome S.NotLoaded count before = before
+number_by_outcome S.NotRunning count before = before
+number_by_outcome S.JournalFull count before = before
 
 -- how many instructions C is told of
 abbrev pub count_of_slice : Slice → ℕ → ℕ
-count_of_slice slice before = count_by_outcome slice.last slice.count before
+count_of_slice slice before = number_by_outcome slice.last slice.count before
+
+-- the number of the step that ended, and 65,536 if none did
+abbrev pub step_number : Option ℕ → ℕ
+step_number None = 65536
+step_number (Some step) = step
+
+-- what C is told of the step of a round
+abbrev pub step_of_round : Round → ℕ → ℕ
+step_of_round round before = number_by_outcome round.last (step_number round.step) before
 
 -- ---- the pool
+
+-- the result of a write of a pool word
+abbrev pub put_result_of : Answer → Result (Unit {0}) PutFault
+put_result_of (Written result) = result
+put_result_of (Requested reports) = Err put.JournalFull
+put_result_of (Stepped outcome) = Err put.JournalFull
+put_result_of (Commanded result) = Err put.JournalFull
 
 abbrev pub word_status : Option ℕ → Status
 word_status None = status.NoWord

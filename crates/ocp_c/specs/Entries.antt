@@ -3,7 +3,7 @@ use Rattle.std.specs.Prelude.{◌≡◌, ◌<◌, ℕ, ◌^◌, ◌==◌, nat_le
 use Rattle.byteorder.specs.Endian.{big_bytes, big_number}
 use Rattle.ocp_debug.specs.declared.command.Command.{Command}
 use Rattle.ocp_debug.specs.declared.command.Command.TheVariants.{SetBreak, ClearBreak, SetTrace}
-use Rattle.ocp_core.specs.Log.{Entry, Asked, Steps, Debugged, Drained}
+use Rattle.ocp_core.specs.Log.{Entry, Asked, Steps, Debugged, Drained, Wrote}
 use Rattle.ocp_c.specs.declared.status.Status.{Status}
 use Rattle.ocp_c.specs.declared.status.Status.TheVariants as status
 
@@ -19,13 +19,15 @@ command_octets by id (ClearBreak place) = 4 ∷ big_bytes 2 by ++ big_bytes 2 id
 command_octets by id (SetTrace on) =
     5 ∷ big_bytes 2 by ++ big_bytes 2 id ++ big_bytes 2 (number_of_flag on)
 
--- a request: its time (32 bits) and its packet; instructions: the procedure (16) and how many they
--- are (32); a command; a drain: its time (32); each behind its kind (8) and its seat (16)
+-- its kind (8 bits) and its seat (16), and then, of a request, its time (32) and its packet; of
+-- instructions, the procedure (16) and how many they are (32); of a drain, its time (32); of a
+-- write of a pool word, its index (16) and its value (64); a command is as above
 abbrev pub entry_octets : Entry → List ℕ
 entry_octets (Asked by time packet) = 1 ∷ big_bytes 2 by ++ big_bytes 4 time ++ packet
 entry_octets (Steps by id count) = 2 ∷ big_bytes 2 by ++ big_bytes 2 id ++ big_bytes 4 count
 entry_octets (Debugged by id command) = command_octets by id command
 entry_octets (Drained by time) = 6 ∷ big_bytes 2 by ++ big_bytes 4 time
+entry_octets (Wrote by index value) = 7 ∷ big_bytes 2 by ++ big_bytes 2 index ++ big_bytes 8 value
 
 -- ---- what a call makes of an entry
 
@@ -62,6 +64,7 @@ IsEntryInRange (Steps by id count) = (by < 2 ^ 16) × (id < 2 ^ 16) × (count < 
 IsEntryInRange (Debugged by id command) =
     (by < 2 ^ 16) × (id < 2 ^ 16) × IsCommandInRange command
 IsEntryInRange (Drained by time) = (by < 2 ^ 16) × (time < 2 ^ 32)
+IsEntryInRange (Wrote by index value) = (by < 2 ^ 16) × (index < 2 ^ 16) × (value < 2 ^ 64)
 
 -- the entry that octets are, by their kind
 abbrev pub entry_in : List ℕ → Option Entry
@@ -77,6 +80,7 @@ entry_in octets =
     else if kind == 4 then Some (Debugged by id (ClearBreak number))
     else if kind == 5 then Some (Debugged by id (SetTrace (number == 1)))
     else if kind == 6 then Some (Drained by time)
+    else if kind == 7 then Some (Wrote by id (big_number 8 (drop 5 octets)))
     else None
 
 -- the law: the octets of an entry say which it is

@@ -3,7 +3,7 @@ use Rattle.std.specs.Prelude.{ℕ, nat_le, if◌then◌else◌, List, [], Ok, Er
 use Rattle.pus_fields.specs.declared.fault.Discard.{Discard}
 use Rattle.pus_fields.specs.declared.fault.Discard.TheVariants as discard
 use Rattle.ocp_world.specs.declared.answers.EngineFault.TheVariants as engine
-use Rattle.ocp_world.specs.After.{Answer, Requested, Stepped, Commanded}
+use Rattle.ocp_world.specs.After.{Answer, Requested, Stepped, Commanded, Written}
 use Rattle.ocp_c.specs.declared.status.Status.{Status}
 use Rattle.ocp_c.specs.declared.status.Status.TheVariants as status
 use Rattle.ocp_c.specs.Packets.{together}
@@ -24,6 +24,7 @@ status_of_reply (Requested (Err engine.Memory)) = status.Memory
 status_of_reply (Requested (Err engine.NothingDue)) = status.NothingDue
 status_of_reply (Stepped outcome) = status.Done
 status_of_reply (Commanded result) = status.Done
+status_of_reply (Written result) = status.Done
 
 -- a buffer that is too short is refused before anything else
 abbrev pub replies : ℕ → ℕ → Answer → Status
@@ -36,6 +37,7 @@ packets_in (Requested (Ok reports)) = reports
 packets_in (Requested (Err fault)) = []
 packets_in (Stepped outcome) = []
 packets_in (Commanded result) = []
+packets_in (Written result) = []
 
 -- their octets, one report behind the other
 abbrev pub reports_in : Answer → List ℕ

@@ -3,6 +3,8 @@ use Rattle.std.specs.Prelude.{ℕ, Result, Ok, Err}
 use Rattle.ocp_table.specs.declared.answers.StepOutcome.{StepOutcome}
 use Rattle.ocp_table.specs.declared.answers.StepOutcome.TheVariants as S
 use Rattle.ocp_debug.specs.declared.command.DebugFault.{DebugFault}
+use Rattle.ocp_world.specs.declared.answers.PutFault.{PutFault}
+use Rattle.ocp_world.specs.declared.answers.PutFault.TheVariants as put
 use Rattle.ocp_debug.specs.declared.command.DebugFault.TheVariants as debug
 use Rattle.ocp_c.specs.declared.status.Status.{Status}
 use Rattle.ocp_c.specs.declared.status.Status.TheVariants as status
@@ -47,6 +49,12 @@ status_of (S.Faulted number) = status.Done
 status_of S.NotLoaded = status.NotLoaded
 status_of S.NotRunning = status.NotRunning
 status_of S.JournalFull = status.JournalFull
+
+-- that of a write of a pool word
+abbrev pub status_of_put : Result (Unit {0}) PutFault → Status
+status_of_put (Ok done) = status.Done
+status_of_put (Err put.BadPoolIndex) = status.NoWord
+status_of_put (Err put.JournalFull) = status.JournalFull
 
 -- that of a debugger's command
 abbrev pub status_of_command : Result (Unit {0}) DebugFault → Status

@@ -41,6 +41,18 @@ fn command(kind: u8, by: u16, id: u16, number: u16) -> [u8; 7]
     [kind, by_high, by_low, id_high, id_low, high, low]
 }
 
+// The fields of a write of a pool word.
+fn word(by: u16, index: u16, value: u64) -> [u8; 13]
+    ensures { result ≡ 7 ∷ big_bytes 2 by ++ big_bytes 2 index ++ big_bytes 8 value }
+{
+    let [by_high, by_low] = by.to_be_bytes();
+    let [high, low] = index.to_be_bytes();
+    let [first, second, third, fourth, fifth, sixth, seventh, eighth] = value.to_be_bytes();
+    [
+        7, by_high, by_low, high, low, first, second, third, fourth, fifth, sixth, seventh, eighth,
+    ]
+}
+
 // Writes octets from the front on.
 fn put(octets: &[u8], buffer: &mut [u8])
     requires { length octets.now ≤ length buffer.old }
@@ -71,6 +83,7 @@ fn length_of(entry: &Entry) -> usize
         Entry::ClearBreak { .. } => 7,
         Entry::Trace { .. } => 7,
         Entry::Drain { .. } => 7,
+        Entry::PutWord { .. } => 13,
     }
 }
 
@@ -92,6 +105,7 @@ fn write_entry(entry: &Entry, buffer: &mut [u8])
         Entry::ClearBreak { by, id, place } => put(&command(4, *by, *id, *place), buffer),
         Entry::Trace { by, id, on } => put(&command(5, *by, *id, u16::from(*on)), buffer),
         Entry::Drain { by, time, .. } => put(&time_fields(6, *by, *time), buffer),
+        Entry::PutWord { by, index, value } => put(&word(*by, *index, *value), buffer),
     }
 }
 

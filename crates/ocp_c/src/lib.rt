@@ -5,13 +5,15 @@
 ghost use Rattle.std.specs.Prelude.{◌≡◌, ◌-◌, ◌==◌, if◌then◌else◌, length, slice_get, Ok, Err};
 ghost use Rattle.std.specs.declared.option.Option.TheVariants.{None, Some};
 ghost use Rattle.ocp_debug.specs.declared.command.Command.TheVariants as command;
-ghost use Rattle.ocp_world.specs.World.{Step, Debug};
+ghost use Rattle.ocp_table.specs.Slices.{slice_of};
+ghost use Rattle.ocp_world.specs.World.{Step, Debug, Put};
 ghost use Rattle.ocp_core.specs.Log.{Log, expand, world_of, answer_in, log_after};
 ghost use Rattle.ocp_core.specs.Slice.{slice_in, slice_log};
+ghost use Rattle.ocp_core.specs.Round.{round_in, round_log};
 ghost use Rattle.ocp_c.specs.declared.status.Status.{Status as Refusal};
 ghost use Rattle.ocp_c.specs.declared.status.Status.TheVariants as status;
-ghost use Rattle.ocp_c.specs.Statuses.{number_of, status_of, status_of_command};
-ghost use Rattle.ocp_c.specs.Calls.{answers, leaves, writes, outcome_of, outcome_or, count_of_slice, result_of, word_status, word_or};
+ghost use Rattle.ocp_c.specs.Statuses.{number_of, status_of, status_of_command, status_of_put};
+ghost use Rattle.ocp_c.specs.Calls.{answers, leaves, writes, outcome_of, outcome_or, count_of_slice, number_by_outcome, put_result_of, result_of, step_number, step_of_round, word_status, word_or};
 ghost use Rattle.ocp_c.specs.Opening.{opening, IsOpened};
 
 mod entry;
@@ -28,7 +30,7 @@ mod status;
 
 pub use handle::Handle;
 pub use laws::{entries_are_read_back, reports_are_few};
-use ocp_core::{Slice, StepOutcome};
+use ocp_core::StepOutcome;
 use opening::open;
 pub use outcome::Outcome;
 pub use procedure::Procedure;
@@ -133,19 +135,66 @@ pub extern "C" fn ocp_slice(
     }
     let slice = engine.slice(SEAT, id, budget);
     handle.put(engine);
-    tell(slice, count);
+    tell(slice.last, slice.count, count);
     last.show(slice.last);
     Status::of_outcome(slice.last).number()
 }
 
-// Tells the count of a slice whose last instruction was done.
-fn tell(slice: Slice, count: &mut u32)
-    ensures { count.new ≡ count_of_slice slice count.old }
+// Tells a number of a slice whose last instruction was done.
+fn tell(last: StepOutcome, number: u32, told: &mut u32)
+    ensures { told.new ≡ number_by_outcome last number told.old }
 {
-    match slice.last {
+    match last {
         StepOutcome::NotLoaded | StepOutcome::NotRunning | StepOutcome::JournalFull => {}
-        _ => *count = slice.count,
+        _ => *told = number,
     }
+}
+
+// The number of the step that ended, or 65,536 if none did.
+fn step_number(step: Option<u16>) -> u32
+    ensures { result ≡ step_number step }
+{
+    match step {
+        Some(step) => u32::from(step),
+        None => 65536,
+    }
+}
+
+/// Does instructions of one procedure, up to a budget or to the first that ends a step.
+#[unsafe(no_mangle)]
+pub extern "C" fn ocp_round(
+    alloc: Global,
+    handle: &mut Handle,
+    id: u16,
+    budget: u32,
+    count: &mut u32,
+    last: &mut Outcome,
+    step: &mut u32,
+) -> u32
+    ensures status { result ≡ answers handle.old.held (λ log. if budget == 0
+        then status.NoBudget else status_of (round_in log 0 id budget).last) }
+    ensures engine { handle.new.held ≡ leaves handle.old.held (λ log. if budget == 0
+        then log else round_log log 0 id budget) }
+    ensures count { count.new ≡ writes handle.old.held count.old (λ log. if budget == 0
+        then count.old else count_of_slice (slice_of (round_in log 0 id budget)) count.old) }
+    ensures last { last.new ≡ writes handle.old.held last.old (λ log. if budget == 0
+        then last.old else outcome_or (round_in log 0 id budget).last last.old) }
+    ensures step { step.new ≡ writes handle.old.held step.old (λ log. if budget == 0
+        then step.old else step_of_round (round_in log 0 id budget) step.old) }
+{
+    let Some(mut engine) = handle.take(alloc) else {
+        return Status::NotOpen.number();
+    };
+    if budget == 0 {
+        handle.put(engine);
+        return Status::NoBudget.number();
+    }
+    let round = engine.round(SEAT, id, budget);
+    handle.put(engine);
+    tell(round.last, round.count, count);
+    tell(round.last, step_number(round.step), step);
+    last.show(round.last);
+    Status::of_outcome(round.last).number()
 }
 
 /// Sets a breakpoint at the slot of an instruction.
@@ -222,6 +271,22 @@ pub extern "C" fn ocp_pool_word(
         }
         None => Status::NoWord.number(),
     }
+}
+
+/// Writes the pool word at an index from outside.
+#[unsafe(no_mangle)]
+pub extern "C" fn ocp_put_word(alloc: Global, handle: &mut Handle, index: u64, value: u64) -> u32
+    ensures status { result ≡ answers handle.old.held (λ log.
+        status_of_put (put_result_of (answer_in log (Put 0 index value)))) }
+    ensures engine { handle.new.held ≡ leaves handle.old.held (λ log.
+        log_after log (Put 0 index value)) }
+{
+    let Some(mut engine) = handle.take(alloc) else {
+        return Status::NotOpen.number();
+    };
+    let given = engine.put_word(SEAT, index, value);
+    handle.put(engine);
+    Status::of_put(given).number()
 }
 
 /// How many events there were.

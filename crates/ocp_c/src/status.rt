@@ -1,9 +1,9 @@
 //! What calls answer to C.
 
 ghost use Rattle.std.specs.Prelude.{◌≡◌, Ok, Err};
-ghost use Rattle.ocp_c.specs.Statuses.{number_of, status_of, status_of_command};
+ghost use Rattle.ocp_c.specs.Statuses.{number_of, status_of, status_of_command, status_of_put};
 
-use ocp_core::{DebugFault, StepOutcome};
+use ocp_core::{DebugFault, PutFault, StepOutcome};
 
 /// The statuses of the header, in its order.
 #[derive(Clone, Copy, PartialEq, Eq, Debug)]
@@ -82,6 +82,17 @@ impl Status {
             StepOutcome::NotRunning => Status::NotRunning,
             StepOutcome::JournalFull => Status::JournalFull,
             _ => Status::Done,
+        }
+    }
+
+    /// That of a write of a pool word.
+    pub fn of_put(given: Result<(), PutFault>) -> Status
+        ensures { result ≡ status_of_put given }
+    {
+        match given {
+            Ok(()) => Status::Done,
+            Err(PutFault::BadPoolIndex) => Status::NoWord,
+            Err(PutFault::JournalFull) => Status::JournalFull,
         }
     }
 

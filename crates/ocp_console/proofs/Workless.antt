@@ -7,7 +7,7 @@ use Rattle.text_lines.specs.Lines.{Line, lines_of, text_of, octets_of}
 use Rattle.ocp_ports.specs.declared.fault.ConsoleFault.{ConsoleFault}
 use Rattle.ocp_ports.specs.declared.fault.ConsoleFault.TheVariants as faults
 use Rattle.ocp_ports.specs.Printing.{error_line}
-use Rattle.ocp_lines.specs.Grammar.{Meaning, Nothing, Up, Send, Time, Step, Break, Unbreak, Trace, Traces, View, Memory, Pool, Journal, Drain, Work, command_of}
+use Rattle.ocp_lines.specs.Grammar.{Meaning, Nothing, Up, Send, Time, Step, Round, Break, Unbreak, Trace, Traces, View, Memory, Pool, Put, Journal, Drain, Work, command_of}
 use Rattle.ocp_words.specs.declared.job.Settings.{Settings}
 use Rattle.ocp_console.specs.Answering.{State, Effect, Does, Works, effect_of, response, respond}
 use Rattle.ocp_console.specs.Crew.{CrewAnswers}
@@ -43,6 +43,7 @@ works state (Up o) w b t e = absurd cc
 works state (Send a r) w b t e = absurd cc
 works state (Time n) w b t e = absurd cc
 works state (Step i n) w b t e = absurd cc
+works state (Round i n) w b t e = absurd cc
 works state (Break i p) w b t e = absurd cc
 works state (Unbreak i p) w b t e = absurd cc
 works state (Trace i o) w b t e = absurd cc
@@ -50,6 +51,7 @@ works state Traces w b t e = absurd cc
 works state (View i) w b t e = absurd cc
 works state (Memory i a n) w b t e = absurd cc
 works state (Pool i) w b t e = absurd cc
+works state (Put i v) w b t e = absurd cc
 works state Journal w b t e = absurd cc
 works state Drain w b t e = absurd cc
 works state (Work x y z) w b t e = cc

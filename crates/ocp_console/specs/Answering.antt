@@ -16,14 +16,16 @@ use Rattle.ocp_debug.specs.Memory.{memory_at}
 use Rattle.ocp_debug.specs.Traces.{last_traces}
 use Rattle.ocp_debug.specs.Texts.{view_lines, trace_line}
 use Rattle.ocp_world.specs.declared.answers.EngineFault.TheVariants as fault
-use Rattle.ocp_world.specs.After.{Answer, Requested, Stepped, Commanded}
+use Rattle.ocp_world.specs.declared.answers.PutFault.{PutFault}
+use Rattle.ocp_world.specs.After.{Answer, Requested, Stepped, Commanded, Written}
 use Rattle.ocp_world.specs.World as event
 use Rattle.ocp_core.specs.Log.{Log, empty_log, expand, world_of, answer_in, log_after}
 use Rattle.ocp_core.specs.Slice.{slice_in, slice_log}
-use Rattle.ocp_lines.specs.Grammar.{Meaning, Nothing, Up, Send, Time, Step, Break, Unbreak, Trace, Traces, View, Memory, Pool, Journal, Drain, Work, command_of}
+use Rattle.ocp_core.specs.Round.{round_in, round_log}
+use Rattle.ocp_lines.specs.Grammar.{Meaning, Nothing, Up, Send, Time, Step, Round, Break, Unbreak, Trace, Traces, View, Memory, Pool, Put, Journal, Drain, Work, command_of}
 use Rattle.ocp_words.specs.declared.job.Settings.{Settings}
 use Rattle.ocp_console.specs.declared.console.Console.{Console}
-use Rattle.ocp_console.specs.Texts.{report_line, discard_line, refusal_line, step_line, break_line, unbreak_line, switch_line, memory_line, pool_line, journal_line}
+use Rattle.ocp_console.specs.Texts.{report_line, discard_line, refusal_line, step_line, round_line, break_line, unbreak_line, switch_line, memory_line, pool_line, put_line, journal_line}
 
 -- What a console keeps from line to line: the profile of its lines and telecommands; the engine,
 -- which is its journal; the application process identifier of the ground's telecommands; the time
@@ -66,6 +68,7 @@ answer_text (Requested (Err fault.JournalFull)) = refusal_line (codes "JournalFu
 answer_text (Requested (Err fault.Memory)) = []
 answer_text (Stepped outcome) = []
 answer_text (Commanded result) = []
+answer_text (Written result) = []
 
 -- the journal after an answer: a refused request or drain leaves no entry
 abbrev pub log_by_answer : Answer → Log → Log → Log
@@ -73,6 +76,7 @@ log_by_answer (Requested (Ok reports)) old new = new
 log_by_answer (Requested (Err fault)) old new = old
 log_by_answer (Stepped outcome) old new = old
 log_by_answer (Commanded result) old new = old
+log_by_answer (Written result) old new = old
 
 -- a request or a drain reaches the engine
 abbrev pub on_event : State → event.Event → State × List ℕ
@@ -118,6 +122,7 @@ abbrev pub command_text : (Result (Unit {0}) DebugFault → List ℕ) → Answer
 command_text line (Commanded result) = line result
 command_text line (Requested result) = []
 command_text line (Stepped outcome) = []
+command_text line (Written result) = []
 
 -- a command to a procedure, by the console's seat 0, with the line of its result
 abbrev pub on_debug :
@@ -150,6 +155,27 @@ on_steps state id budget =
       step_line id slice.count slice.last,
     )
 
+abbrev pub on_round : State → ℕ → ℕ → State × List ℕ
+on_round state id budget = (
+  record state { engine = round_log state.engine 0 id budget },
+  round_line id (round_in state.engine 0 id budget),
+)
+
+-- what is printed of a write of a pool word: the line of its result
+abbrev pub put_text : (Result (Unit {0}) PutFault → List ℕ) → Answer → List ℕ
+put_text line (Written result) = line result
+put_text line (Requested result) = []
+put_text line (Stepped outcome) = []
+put_text line (Commanded result) = []
+
+-- a write of a pool word, by the console's seat 0
+abbrev pub on_put : State → ℕ → ℕ → State × List ℕ
+on_put state index value =
+    let event = event.Put 0 index value in (
+      record state { engine = log_after state.engine event },
+      put_text (put_line index value) (answer_in state.engine event),
+    )
+
 -- ---- each line
 
 -- what a line asks for: that this is the next state, and this is printed; or that so many workers
@@ -164,6 +190,7 @@ effect_of state (Up octets) = Does (on_octets state octets)
 effect_of state (Send ack request) = Does (on_request state ack request)
 effect_of state (Time time) = Does (record state { time = time }, [])
 effect_of state (Step id budget) = Does (on_steps state id budget)
+effect_of state (Round id budget) = Does (on_round state id budget)
 effect_of state (Break id place) = Does (on_debug state id (SetBreak place) (break_line id place))
 effect_of state (Unbreak id place) =
     Does (on_debug state id (ClearBreak place) (unbreak_line id place))
@@ -173,6 +200,7 @@ effect_of state (View id) = Does (state, view_text state id)
 effect_of state (Memory id address count) = Does (state, memory_text state id address count)
 effect_of state (Pool index) =
     Does (state, pool_line index (slice_get (world_of state.engine).pool index))
+effect_of state (Put index value) = Does (on_put state index value)
 effect_of state Journal = Does (state, journal_line (length (expand state.engine.entries)))
 effect_of state Drain = Does (on_drain state)
 effect_of state (Work workers budget turns) = Works workers budget turns

@@ -7,9 +7,12 @@ use Rattle.pus_fields.specs.TelemetryFaults.{telemetry_of}
 use Rattle.pus_fields.specs.declared.fault.TmFault.{TmFault}
 use Rattle.pus_fields.specs.declared.fault.Discard.{Discard}
 use Rattle.pus_fields.specs.declared.fault.Discard.TheVariants as discard
+use Rattle.ocp_table.specs.declared.answers.Round.{Round}
 use Rattle.ocp_table.specs.declared.answers.StepOutcome.{StepOutcome}
 use Rattle.ocp_debug.specs.declared.command.DebugFault.{DebugFault}
 use Rattle.ocp_debug.specs.Texts.{word_text, outcome_text, debug_fault_name}
+use Rattle.ocp_world.specs.declared.answers.PutFault.{PutFault}
+use Rattle.ocp_world.specs.declared.answers.PutFault.TheVariants as put
 
 -- ---- reports
 
@@ -55,6 +58,17 @@ abbrev pub step_line : ℕ → ℕ → StepOutcome → List ℕ
 step_line id count last =
     codes "step " ++ decimal id ++ codes " " ++ decimal count ++ codes " " ++ outcome_text last
     ++ codes "\n"
+
+-- ` step <k>` if a step ended
+abbrev pub step_end_text : Option ℕ → List ℕ
+step_end_text None = []
+step_end_text (Some step) = codes " step " ++ decimal step
+
+-- `round <id> <count> <outcome>`, and the step that ended
+abbrev pub round_line : ℕ → Round → List ℕ
+round_line id round =
+    codes "round " ++ decimal id ++ codes " " ++ decimal round.count ++ codes " "
+    ++ outcome_text round.last ++ step_end_text round.step ++ codes "\n"
 
 -- ---- the debugger
 
@@ -114,3 +128,15 @@ abbrev pub pool_line : ℕ → Option ℕ → List ℕ
 pool_line index None = codes "pool " ++ decimal index ++ codes " BadPoolIndex\n"
 pool_line index (Some word) =
     codes "pool " ++ decimal index ++ codes " " ++ word_text word ++ codes "\n"
+
+-- how a write of a word ended: it was done, or the name of its refusal
+abbrev pub put_ending : Result (Unit {0}) PutFault → List ℕ
+put_ending (Ok done) = codes "set"
+put_ending (Err put.BadPoolIndex) = codes "BadPoolIndex"
+put_ending (Err put.JournalFull) = codes "JournalFull"
+
+-- `put <index> <value> set`, or with the refusal's name
+abbrev pub put_line : ℕ → ℕ → Result (Unit {0}) PutFault → List ℕ
+put_line index value result =
+    codes "put " ++ decimal index ++ codes " " ++ decimal value ++ codes " " ++ put_ending result
+    ++ codes "\n"

@@ -4,7 +4,7 @@ ghost use Rattle.std.specs.Prelude.{◌≡◌, ◌<◌, length, IfOk, IfErr, OnO
 ghost use Rattle.space_packet.specs.declared.range.TheConstants.{IDLE_APID};
 
 use crate::debugging::{break_text, no_octets_text, octets_text, switch_text, unbreak_text};
-use crate::texts::{answer_text, journal_text, pool_text, step_text};
+use crate::texts::{answer_text, journal_text, pool_text, put_text, round_text, step_text};
 use ocp_core::Engine;
 use ocp_debug::view_text;
 use ocp_lines::{Command, Count, MAX_MEMORY_LENGTH, Shift};
@@ -143,6 +143,10 @@ impl<A: Allocator + Copy> Console<A> {
                 let slice = self.engine.slice(0, id, steps.number);
                 step_text(id, slice, &mut self.output)?;
             }
+            Command::Round { id, steps } => {
+                let round = self.engine.round(0, id, steps.number);
+                round_text(id, round, &mut self.output)?;
+            }
             Command::Break { id, place } => {
                 let answer = self.engine.set_break(0, id, place);
                 break_text(id, place, answer, &mut self.output)?;
@@ -165,6 +169,10 @@ impl<A: Allocator + Copy> Console<A> {
             Command::Pool(index) => {
                 let word = self.engine.pool_word(index);
                 pool_text(index, word, &mut self.output)?;
+            }
+            Command::Put { index, value } => {
+                let answer = self.engine.put_word(0, index, value);
+                put_text(index, value, answer, &mut self.output)?;
             }
             Command::Journal => journal_text(self.engine.events(), &mut self.output)?,
             Command::Drain => self.drain(alloc)?,

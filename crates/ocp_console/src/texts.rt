@@ -1,12 +1,12 @@
-//! What is printed of reports, steps, the pool and the journal.
+//! What is printed of reports, steps, rounds, the pool and the journal.
 
-ghost use Rattle.std.specs.Prelude.{◌≡◌, ◌≢◌, ◌≤◌, ◌++◌, Err, length, OnOk};
+ghost use Rattle.std.specs.Prelude.{◌≡◌, ◌≢◌, ◌≤◌, ◌+◌, ◌++◌, Err, length, OnOk};
 ghost use Rattle.ocp_world.specs.After.{Requested};
 ghost use Rattle.ocp_console.specs.Answering.{answer_text};
-ghost use Rattle.ocp_console.specs.Texts.{report_line, discard_name, discard_line, refusal_line, step_line, pool_line, journal_line, work_line};
+ghost use Rattle.ocp_console.specs.Texts.{report_line, discard_name, discard_line, refusal_line, step_line, step_end_text, round_line, pool_line, put_ending, put_line, journal_line, work_line};
 
 use crate::text::{Text, write_text};
-use ocp_core::{EngineFault, Reports, Slice};
+use ocp_core::{EngineFault, PutFault, Reports, Round, Slice};
 use ocp_debug::{push_outcome, push_spaced_word};
 use pus_fields::{Discard, read_tm};
 use std::alloc::{AllocError, Allocator};
@@ -111,6 +111,69 @@ pub(crate) fn step_text<A: Allocator>(
     text.push_integer(slice.count);
     text.push_all(b" ");
     push_outcome(&mut text, slice.last);
+    text.push_all(b"\n");
+    write_text(&text, output)
+}
+
+/// Appends the number of the step that ended, if one did.
+fn push_step_end(text: &mut Text, step: Option<u16>)
+    requires { length text.old + 11 ≤ 64 }
+    ensures items { text.new ≡ text.old ++ step_end_text step }
+    ensures len { length text.new ≤ length text.old + 11 }
+{
+    if let Some(step) = step {
+        text.push_all(b" step ");
+        text.push_integer(step);
+    }
+}
+
+/// Writes the line of a round.
+pub(crate) fn round_text<A: Allocator>(
+    id: u16,
+    round: Round,
+    output: &mut Vec<u8, A>,
+) -> Result<(), AllocError>
+    ensures { OnOk result (output.new.items ≡ round_line id round) }
+{
+    let mut text = Text::new();
+    text.push_all(b"round ");
+    text.push_integer(id);
+    text.push_all(b" ");
+    text.push_integer(round.count);
+    text.push_all(b" ");
+    push_outcome(&mut text, round.last);
+    push_step_end(&mut text, round.step);
+    text.push_all(b"\n");
+    write_text(&text, output)
+}
+
+/// How a write of a word ended.
+fn put_ending(answer: Result<(), PutFault>) -> &'static str
+    ensures { result.now ≡ put_ending answer }
+{
+    match answer {
+        Ok(()) => "set",
+        Err(PutFault::BadPoolIndex) => "BadPoolIndex",
+        Err(PutFault::JournalFull) => "JournalFull",
+    }
+}
+
+/// Writes the line of a word of the pool that is to get a value.
+pub(crate) fn put_text<A: Allocator>(
+    index: u64,
+    value: u64,
+    answer: Result<(), PutFault>,
+    output: &mut Vec<u8, A>,
+) -> Result<(), AllocError>
+    ensures { OnOk result (output.new.items ≡ put_line index value answer) }
+{
+    let mut text = Text::new();
+    text.push_all(b"put ");
+    text.push_integer(index);
+    text.push_all(b" ");
+    text.push_integer(value);
+    text.push_all(b" ");
+    text.push_all(put_ending(answer).as_bytes());
     text.push_all(b"\n");
     write_text(&text, output)
 }

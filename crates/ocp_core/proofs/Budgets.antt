@@ -1,6 +1,6 @@
 -- With a budget above 0 no more instructions are done than that.
-use Rattle.std.proofs.Common.{◌≡◌, ◌≤◌, ℕ, ◌+◌, ◌-◌, Option, Some, None, Bool, true, false, cond, List, refl, sym, ap, subst, ◌∙◌, arith}
-use Rattle.std.specs.Prelude.{◌==◌, ◌&&◌}
+use Rattle.std.proofs.Common.{◌≡◌, ◌≤◌, ℕ, ◌+◌, ◌-◌, Option, Some, None, Bool, true, false, cond, List, length, refl, sym, ap, subst, ◌∙◌, arith}
+use Rattle.std.specs.Prelude.{◌==◌, ◌&&◌, nat_lt}
 use Rattle.std.proofs.lemmas.Bool.{eqb-true, eqb-false}
 use Rattle.std.specs.Ordering.{nat_cmp}
 use Rattle.std.specs.FinMap.{get, get-empty}
@@ -22,9 +22,9 @@ use Rattle.ocp_table.specs.declared.fault.ProcedureFault.TheVariants.{BudgetSpen
 use Rattle.ocp_table.specs.Budgets.{budget_of, one_less, less, is_spent}
 use Rattle.ocp_table.specs.Records.{Rec}
 use Rattle.ocp_table.specs.Effects as table
-use Rattle.ocp_table.specs.Effects.{Effect, Loaded, Unloaded, Changed, Kept, Drained, Change, Started, Failed, remaining_by, step_outcome, step_outcome_of, new_record}
+use Rattle.ocp_table.specs.Effects.{Effect, Loaded, Unloaded, Changed, Kept, Drained, WordPut, Change, Started, Failed, remaining_by, step_outcome, step_outcome_of, new_record}
 use Rattle.ocp_table.specs.Deciding.{outcome_of, outcome_of_call, outcome_unheld}
-use Rattle.ocp_world.specs.World.{World, Event, Request, Step, Debug, Drain, opening}
+use Rattle.ocp_world.specs.World.{World, Event, Request, Step, Debug, Drain, Put, opening}
 use Rattle.ocp_world.specs.After.{Stepped, effect_of, after}
 use Rattle.ocp_world.specs.Replay.{replay}
 use Rattle.ocp_world.proofs.Calm.{IsIdle}
@@ -32,7 +32,7 @@ use Rattle.ocp_core.specs.Budget.{given_budget_by, given_budget, begins_anew, is
 use Rattle.ocp_core.proofs.Owned.{changed_if_there, own_by, get-records_by}
 use Rattle.ocp_core.proofs.Carried.{carried_along}
 use Rattle.ocp_core.proofs.Honest.{IsNext}
-use Rattle.ocp_core.proofs.Idle.{idle_request, idle_debug, idle_drain}
+use Rattle.ocp_core.proofs.Idle.{idle_request, idle_debug, idle_drain, idle_put}
 use Rattle.ocp_core.proofs.Pools.{next_of, does_next}
 use Rattle.ocp_core.proofs.Turns.{Turn, Refuses, Makes, by_turn, turn_of, turn_by, turn, turn_in, effect-turn}
 
@@ -93,6 +93,7 @@ module _ (q : ℕ) (o : Option Rec) (given used : ℕ) (is : IsKeptOf o given us
   kept_apart (Changed id (table.Stepped outcome)) idle = absurd idle
   kept_apart (Changed id change) idle = kept_changed id change (λ r. refl)
   kept_apart Drained idle = is
+  kept_apart (WordPut index value) idle = is
   kept_apart (Kept why) idle = is
 
 -- ---- an instruction
@@ -178,6 +179,7 @@ module _ (q : ℕ) (w : World) (given used : ℕ) (is : IsKeptOf (get w.records 
   kept_event (Request by time octets) = there (Request by time octets) (kept_apart q (get w.records q) given used is (effect_of w (Request by time octets)).on_records (idle_request w (telecommand_of w.apid octets) time))
   kept_event (Debug by id command) = there (Debug by id command) (kept_apart q (get w.records q) given used is (effect_of w (Debug by id command)).on_records (idle_debug w command id))
   kept_event (Drain by time) = there (Drain by time) (kept_apart q (get w.records q) given used is (effect_of w (Drain by time)).on_records (idle_drain time w.outbox))
+  kept_event (Put by index value) = there (Put by index value) (kept_apart q (get w.records q) given used is (effect_of w (Put by index value)).on_records (idle_put (nat_lt index (length w.pool)) index value))
 
 kept : (profile : Profile) (apid words : ℕ) (es : List Event) (q : ℕ) → IsKeptOf (get (replay profile apid words es).records q) (given_budget profile apid words es q) (use_count profile apid words es q)
 kept profile apid words es q =

@@ -1,7 +1,7 @@
 -- Each stop or suspend that became pending stands in one place, its completion is reported once at most, and its place was
 -- free.
 use Rattle.std.proofs.Common.{◌≡◌, ◌≤◌, ℕ, ◌+◌, List, [], ◌∷◌, ◌++◌, map, length, Option, Some, None, Bool, true, false, cond, refl, sym, ap, subst, ◌∙◌, arith, ⊎_elim}
-use Rattle.std.specs.Prelude.{◌==◌, ◌||◌, ◌&&◌}
+use Rattle.std.specs.Prelude.{◌==◌, ◌||◌, ◌&&◌, nat_lt}
 use Rattle.std.specs.List.{sum_by, flat_map, list_all}
 use Rattle.std.specs.Option.{option_map_or}
 use Rattle.std.specs.FinMap.{get, values}
@@ -22,7 +22,7 @@ use Rattle.ocp_table.specs.declared.control.Pending.{Pending}
 use Rattle.ocp_table.specs.declared.control.Pending.TheVariants as pending
 use Rattle.ocp_table.specs.Records.{Rec, Records}
 use Rattle.ocp_table.specs.Effects as table
-use Rattle.ocp_table.specs.Effects.{Change, Started, Pended, Quit, Stepped, Loaded, Unloaded, Changed, Drained, Kept, matches, failed_completion, due_completion, dues_at_step_end, dues_by_change, dues_of, failed_completion_of, outbox_by}
+use Rattle.ocp_table.specs.Effects.{Change, Started, Pended, Quit, Stepped, Loaded, Unloaded, Changed, Drained, WordPut, Kept, matches, failed_completion, due_completion, dues_at_step_end, dues_by_change, dues_of, failed_completion_of, outbox_by}
 use Rattle.ocp_table.specs.Outbox.{HasPlaces}
 use Rattle.ocp_table.proofs.Weighing as weight
 use Rattle.ocp_table.proofs.Weighing.{entry, entry_in, waiting, waiting-empty, due, balance, files, drained_by}
@@ -39,7 +39,7 @@ use Rattle.ocp_world.specs.After.{effect_of, after, world_after, events_by}
 use Rattle.ocp_world.specs.Replay.{replay_from, replay}
 use Rattle.ocp_core.specs.Outbox.{count, is_in, number_in, pending_by, becomes_pending, all_pending, pending_numbers, due_numbers, report_numbers, drain_numbers, all_drain_numbers, unless_asked, silent_at_step_end, silent_by_change, silent_by, silent_in, all_silent, places, gives_one_report, EachStandsOnce, IsReportedOnceAtMost, EachGivesOneReport, PlacesSuffice}
 use Rattle.ocp_core.proofs.Carried.{carried_along}
-use Rattle.ocp_core.proofs.Numbered.{IsNumberedChange, IsNumbered, numbered_request, numbered_step, numbered_debug, counts}
+use Rattle.ocp_core.proofs.Numbered.{IsNumberedChange, IsNumbered, numbered_request, numbered_step, numbered_debug, numbered_put, counts}
 
 -- ---- each completion that waits gives one report
 
@@ -96,6 +96,7 @@ module _ (time : ℕ) where
   gives_outbox (Unloaded id) m outbox is = gives_filed outbox _ is (gives_gone (get m id))
   gives_outbox (Changed id change) m outbox is = gives_filed outbox _ is (gives_of change (get m id))
   gives_outbox Drained m outbox is = refl
+  gives_outbox (WordPut index value) m outbox is = gives_filed outbox [] is refl
   gives_outbox (Kept why) m outbox is = gives_filed outbox [] is refl
 
   -- so a drain reports each of them once
@@ -216,6 +217,7 @@ module _ (f : ℕ → ℕ) where
   undrained w (Unloaded id) is = refl
   undrained w (Changed id change) is = refl
   undrained w Drained is = absurd is
+  undrained w (WordPut index value) is = refl
   undrained w (Kept why) is = refl
 
   balanced_apart : (w : World) (effect : Effect) (ps rs ss : List ℕ) → IsNumbered w effect.on_records → Balanced w ps rs ss → Balanced (world_after effect w) (ps ++ pending_by effect.on_records w.events) (rs ++ []) (ss ++ silent_by effect.on_records w.records)
@@ -234,6 +236,7 @@ module _ (f : ℕ → ℕ) where
   balanced_step w ps rs ss (world.Request by time octets) one is = balanced_apart w (effect_of w (world.Request by time octets)) ps rs ss (numbered_request w (telecommand_of w.apid octets) time) is
   balanced_step w ps rs ss (world.Step by id) one is = balanced_apart w (effect_of w (world.Step by id)) ps rs ss (numbered_step w id) is
   balanced_step w ps rs ss (world.Debug by id c) one is = balanced_apart w (effect_of w (world.Debug by id c)) ps rs ss (numbered_debug w c id) is
+  balanced_step w ps rs ss (world.Put by index value) one is = balanced_apart w (effect_of w (world.Put by index value)) ps rs ss (numbered_put w (nat_lt index (length w.pool)) index value) is
   balanced_step w ps rs ss (world.Drain by time) one is =
       balanced_by w (drain_effect time w.outbox) ps rs ss (becomes_pending w (world.Drain by time)) (drain_numbers w (world.Drain by time)) is
       (weigh-pended_drain w time w.outbox) (weigh-drained time w.outbox (one time))
@@ -356,6 +359,7 @@ roomy_event w (world.Request by time octets) = roomy w _ (numbered_request w (te
 roomy_event w (world.Step by id) = roomy w _ (numbered_step w id)
 roomy_event w (world.Debug by id c) = roomy w _ (numbered_debug w c id)
 roomy_event w (world.Drain by time) = roomy_drain (has_no_place w) time w.outbox
+roomy_event w (world.Put by index value) = roomy w _ (numbered_put w (nat_lt index (length w.pool)) index value)
 
 places_step : (w : World) (e : Event) → HasPlaces w.records w.outbox → HasPlaces (after w e).world.records (after w e).world.outbox
 places_step w e fits = outbox_fits w.records w.outbox fits (effect_of w e).on_records (roomy_event w e)

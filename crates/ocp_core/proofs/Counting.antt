@@ -4,7 +4,7 @@ use Rattle.std.specs.Prelude.{Ok, Err, drop}
 use Rattle.std.proofs.lemmas.List.{length-replicate, take-append-drop, map-append}
 use Rattle.std.proofs.lemmas.Grind.{flat_map-append}
 use Rattle.ocp_world.specs.World.{World, Event, Step}
-use Rattle.ocp_world.specs.Effect.{Reply, Discards, Sends, Steps, Commands, Undue}
+use Rattle.ocp_world.specs.Effect.{Reply, Discards, Sends, Steps, Commands, Undue, Puts}
 use Rattle.ocp_world.specs.After.{after, answer_by, events_by, effect_of, is_accepted}
 use Rattle.ocp_world.specs.Replay.{replay_from, replay}
 use Rattle.ocp_core.specs.Log.{Entry, Log, events_of, expand, with_entry, world_of}
@@ -20,6 +20,8 @@ counted_by (Steps outcome) w taken = ap (λ b. cond b (w.events + 1) w.events) t
 counted_by (Commands (Ok done)) w taken = refl
 counted_by (Commands (Err fault)) w taken = cc
 counted_by Undue w taken = cc
+counted_by (Puts (Ok done)) w taken = refl
+counted_by (Puts (Err fault)) w taken = cc
 
 -- an accepted event is one more
 pub counted : (w : World) (e : Event) → is_accepted (after w e).answer ≡ true → AreCounted w (e ∷ [])
@@ -37,6 +39,8 @@ one_more (Steps outcome) n = at_most _ n
 one_more (Commands (Ok done)) n = omega arith
 one_more (Commands (Err fault)) n = omega arith
 one_more Undue n = omega arith
+one_more (Puts (Ok done)) n = omega arith
+one_more (Puts (Err fault)) n = omega arith
 
 -- ---- events of a list
 

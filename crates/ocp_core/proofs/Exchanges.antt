@@ -30,8 +30,8 @@ use Rattle.obcp_types.specs.declared.pending.Due.{Due}
 use Rattle.ocp_table.specs.Deciding.{outcome_unheld, outcome_of, outcome_of_call}
 use Rattle.ocp_debug.specs.declared.trace.Trace.{Trace}
 use Rattle.ocp_debug.specs.Traces.{traces_by, traces_by_change}
-use Rattle.ocp_world.specs.World.{World, Event, Request, Step, Debug, Drain}
-use Rattle.ocp_world.specs.Effect.{Reply, Discards, Sends, Steps, Commands, Undue}
+use Rattle.ocp_world.specs.World.{World, Event, Request, Step, Debug, Drain, Put}
+use Rattle.ocp_world.specs.Effect.{Reply, Discards, Sends, Steps, Commands, Undue, Puts}
 use Rattle.ocp_reports.specs.declared.origin.Origin.{Origin}
 use Rattle.ocp_reports.specs.Origin.{origin_of}
 use Rattle.ocp_world.specs.Requests.{command_effect, command_of, service_effect, request_effect}
@@ -71,6 +71,7 @@ effect-retraced w traces (Request by time octets) = request-retraced w traces (t
 effect-retraced w traces (Step by id) = refl
 effect-retraced w traces (Debug by id command) = refl
 effect-retraced w traces (Drain by time) = refl
+effect-retraced w traces (Put by index value) = refl
 
 answer_by-retraced : (reply : Reply) (w : World) (traces : List Trace) → answer_by reply (retraced w traces) ≡ answer_by reply w
 answer_by-retraced (Discards cause) w traces = refl
@@ -78,6 +79,7 @@ answer_by-retraced (Sends dispatches) w traces = refl
 answer_by-retraced (Steps outcome) w traces = refl
 answer_by-retraced (Commands result) w traces = refl
 answer_by-retraced Undue w traces = refl
+answer_by-retraced (Puts result) w traces = refl
 
 answer-retraced : (w : World) (traces : List Trace) (e : Event) → (after (retraced w traces) e).answer ≡ (after w e).answer
 answer-retraced w traces e = answer_by-retraced (effect_of (retraced w traces) e).reply w traces ∙ ap (λ effect. answer_by effect.reply w) (effect-retraced w traces e)

@@ -8,7 +8,7 @@ use Rattle.bpf_step.specs.Machine.{State, machine_at_start}
 use Rattle.ocp_table.specs.declared.answers.InstructionOutcome.{InstructionOutcome}
 use Rattle.ocp_table.specs.declared.answers.InstructionOutcome.TheVariants.{Ran, Called}
 use Rattle.ocp_table.specs.Records.{Rec, Records}
-use Rattle.ocp_table.specs.Effects.{Effect, Loaded, Unloaded, Changed, Kept, Drained, Change, Started, Stepped, machine_by, machine_by_outcome, new_record}
+use Rattle.ocp_table.specs.Effects.{Effect, Loaded, Unloaded, Changed, Kept, Drained, WordPut, Change, Started, Stepped, machine_by, machine_by_outcome, new_record}
 use Rattle.ocp_table.specs.Laws.{machine_of}
 use Rattle.ocp_world.specs.World.{opening}
 use Rattle.ocp_core.specs.Own.{Own, own_by_outcome, own_by_change, add_own, add_image}
@@ -48,6 +48,7 @@ IsAlone-own_by profile m pool q (Unloaded id) o image own honest is = elim (q ==
 IsAlone-own_by profile m pool q (Changed id change) o image own honest is = elim (q == id) as (λ b. IsAlone profile (cond b (changed_if_there change o) o) image (cond b (own ++ own_by_change change) own)) [ true ↦ IsAlone-changed profile change o image own is | false ↦ is ]
 IsAlone-own_by profile m pool q (Kept why) o image own honest is = is
 IsAlone-own_by profile m pool q Drained o image own honest is = is
+IsAlone-own_by profile m pool q (WordPut index value) o image own honest is = is
 
 IsAlone-machine : (profile : Profile) {o : Option Rec} {image : Option (List ℕ)} {own : List Own} → IsAlone profile o image own → machine_of o ≡ alone_if profile image own
 IsAlone-machine profile missing = refl

@@ -4,9 +4,9 @@ use Rattle.std.specs.Prelude.{Ok, Err, Option, Some, None}
 use Rattle.std.proofs.lemmas.List.{append-nil}
 use Rattle.ocp_table.specs.declared.answers.StepOutcome.TheVariants as S
 use Rattle.ocp_table.specs.declared.answers.Slice.{Slice}
-use Rattle.ocp_world.specs.World.{World, Event, Request, Step, Debug, Drain}
+use Rattle.ocp_world.specs.World.{World, Event, Request, Step, Debug, Drain, Put}
 use Rattle.ocp_world.specs.Slice.{goes_on, next_outcome, slice_count, slice_last}
-use Rattle.ocp_world.specs.After.{Answer, Requested, Stepped, Commanded, After, after, is_accepted}
+use Rattle.ocp_world.specs.After.{Answer, Requested, Stepped, Commanded, Written, After, after, is_accepted}
 use Rattle.ocp_core.specs.Log.{Log, Entry, Steps, world_of, is_full, with_entry, entry_for, full_answer, answer_in, log_after}
 use Rattle.ocp_core.specs.Slice.{slice_in, slice_log}
 use Rattle.ocp_core.specs.Marks.{MarkedEntry, mark_in, entries_with_marks}
@@ -39,6 +39,7 @@ none_full (Request by time octets) = refl
 none_full (Step by id) = refl
 none_full (Debug by id command) = refl
 none_full (Drain by time) = refl
+none_full (Put by index value) = refl
 
 none_refused : (e : Event) (a : Answer) → is_accepted a ≡ false → event_entries e a ≡ []
 none_refused e a refused = ap (λ b. cond b (record { entry = entry_for e; mark = a } ∷ []) []) refused
@@ -70,6 +71,7 @@ grows_entered log new e (Requested (Ok reports)) is = grows_event log new e (Req
 grows_entered log new e (Requested (Err fault)) is = grows_none log new [] is.2 refl
 grows_entered log new e (Stepped outcome) is = grows_event log new e (Stepped outcome) is.0 is.1
 grows_entered log new e (Commanded result) is = grows_event log new e (Commanded result) is.0 is.1
+grows_entered log new e (Written result) is = grows_event log new e (Written result) is.0 is.1
 
 -- the entry that is handed out is the one that the journal gained
 pub grows_receipt : {A : Type 0} (log new : Log) (e : Event) (a : Answer) (entry : Option (N.Entry A)) → Enters log new e a → entries_in entry ≡ event_entries e a → Grows log new (entries_in entry)

@@ -1,6 +1,6 @@
 -- The walk through what an event does: an instruction that is done is the next one of its procedure, which runs.
-use Rattle.std.proofs.Common.{◌≡◌, ℕ, List, [], ◌∷◌, Option, Some, None, refl, sym, ap, ◌∙◌}
-use Rattle.std.specs.Prelude.{Result, Ok, Err}
+use Rattle.std.proofs.Common.{◌≡◌, ℕ, Bool, true, false, List, [], ◌∷◌, length, Option, Some, None, refl, sym, ap, ◌∙◌}
+use Rattle.std.specs.Prelude.{Result, Ok, Err, nat_lt}
 use Rattle.std.specs.FinMap.{get}
 use Rattle.ocp_profile.specs.declared.profile.Profile.{Profile}
 use Rattle.pus_fields.specs.declared.fault.TcFault.{TcFault}
@@ -26,6 +26,7 @@ use Rattle.ocp_world.specs.World as world
 use Rattle.ocp_world.specs.World.{World, Event}
 use Rattle.ocp_world.specs.Requests.{command_effect, command_of, service_effect, request_effect}
 use Rattle.ocp_world.specs.Drains.{drain_effect}
+use Rattle.ocp_world.specs.Puts.{put_effect_if}
 use Rattle.ocp_world.specs.After.{effect_of}
 use Rattle.ocp_world.proofs.Asked.{IsAskedIn, each_asked}
 use Rattle.ocp_world.proofs.ByKind.{IsPlain, each_kind}
@@ -106,8 +107,13 @@ module _ (w : World) where
   honest_drain time [] = tt
   honest_drain time (d ∷ ds) = tt
 
+  honest_put : (there : Bool) (index value : ℕ) → IsHonest profile m pool (put_effect_if there index value).on_records
+  honest_put true index value = tt
+  honest_put false index value = tt
+
 pub honest : (w : World) (e : Event) → IsHonest w.profile w.records w.pool (effect_of w e).on_records
 honest w (world.Request by time octets) = honest_request w (telecommand_of w.apid octets) time
 honest w (world.Step by id) = honest_in w.profile w.records w.pool (Step w.pool) id refl
 honest w (world.Debug by id c) = honest_set w c id (commands.fault_on c (get w.records id))
 honest w (world.Drain by time) = honest_drain w time w.outbox
+honest w (world.Put by index value) = honest_put w (nat_lt index (length w.pool)) index value

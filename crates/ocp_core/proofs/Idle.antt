@@ -1,5 +1,5 @@
 -- No event but an instruction event does an instruction.
-use Rattle.std.proofs.Common.{ℕ, List, [], ◌∷◌, Option, Some, None}
+use Rattle.std.proofs.Common.{ℕ, Bool, true, false, List, [], ◌∷◌, Option, Some, None}
 use Rattle.std.specs.Prelude.{Result, Ok, Err}
 use Rattle.std.specs.FinMap.{get}
 use Rattle.pus_fields.specs.declared.fault.TcFault.{TcFault}
@@ -18,6 +18,7 @@ use Rattle.ocp_world.specs.World.{World}
 use Rattle.ocp_world.specs.Requests.{command_effect, command_of, service_effect, request_effect}
 use Rattle.ocp_world.specs.Instructions.{debug_effect}
 use Rattle.ocp_world.specs.Drains.{drain_effect}
+use Rattle.ocp_world.specs.Puts.{put_effect_if}
 use Rattle.ocp_world.proofs.Asked.{is_request, each_asked}
 use Rattle.ocp_world.proofs.Calm.{IsIdle, idle_in}
 
@@ -46,3 +47,7 @@ module _ (w : World) where
 pub idle_drain : (time : ℕ) (dues : List Due) → IsIdle (drain_effect time dues).on_records
 idle_drain time [] = tt
 idle_drain time (d ∷ ds) = tt
+
+pub idle_put : (there : Bool) (index value : ℕ) → IsIdle (put_effect_if there index value).on_records
+idle_put true index value = tt
+idle_put false index value = tt

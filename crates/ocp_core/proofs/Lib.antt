@@ -18,6 +18,7 @@ pub mod Exchanges
 pub mod Committing
 pub mod Marking
 pub mod Growing
+pub mod Rounds
 pub mod Replaying
 pub mod Requesting
 pub mod Draining

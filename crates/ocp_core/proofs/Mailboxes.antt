@@ -13,7 +13,7 @@ use Rattle.ocp_pool.specs.Call.{engine_call, pool_get, pool_set, pool_add, pool_
 use Rattle.ocp_table.specs.declared.answers.InstructionOutcome.{InstructionOutcome}
 use Rattle.ocp_table.specs.declared.answers.InstructionOutcome.TheVariants.{Called}
 use Rattle.ocp_table.specs.Records.{Rec}
-use Rattle.ocp_table.specs.Effects.{Effect, Loaded, Unloaded, Changed, Kept, Drained, Change, Started, Sent, Stepped, mailbox_by_outcome, new_record}
+use Rattle.ocp_table.specs.Effects.{Effect, Loaded, Unloaded, Changed, Kept, Drained, WordPut, Change, Started, Sent, Stepped, mailbox_by_outcome, new_record}
 use Rattle.ocp_world.specs.World.{World, Event, opening}
 use Rattle.ocp_world.specs.Replay.{replay}
 use Rattle.ocp_core.specs.Pool.{IsAnswered}
@@ -103,6 +103,7 @@ module _ (q : ℕ) where
   ] refl
   posted_by w (Kept why) ts ss h is = is
   posted_by w Drained ts ss h is = is
+  posted_by w (WordPut index value) ts ss h is = is
 
   posted : (profile : Profile) (apid words : ℕ) (es : List Event) → IsPosted (get (replay profile apid words es).records q) (taken_words profile apid words es q) (sent_words profile apid words es q)
   posted profile apid words es =

@@ -13,7 +13,7 @@ use Rattle.ocp_core.proofs.Committing.{last_of_run, runs_answered}
 use Rattle.ocp_table.specs.declared.answers.StepOutcome.{StepOutcome}
 use Rattle.ocp_table.specs.declared.answers.StepOutcome.TheVariants as S
 use Rattle.ocp_profile.specs.declared.profile.Profile.{Profile}
-use Rattle.ocp_world.specs.World.{World, Event, Request, Step, Debug, Drain, opening}
+use Rattle.ocp_world.specs.World.{World, Event, Request, Step, Debug, Drain, Put, opening}
 use Rattle.ocp_world.specs.After.{Answer, Stepped, Commanded, After, after, is_accepted}
 use Rattle.ocp_world.specs.Replay.{replay_from, answers}
 use Rattle.ocp_world.specs.Slice.{next_outcome, goes_on, slice_count, slice_last}
@@ -32,6 +32,7 @@ event_mark w (Request by time octets) = refl
 event_mark w (Step by id) = refl
 event_mark w (Debug by id command) = refl
 event_mark w (Drain by time) = refl
+event_mark w (Put by index value) = refl
 
 -- the mark of a slice is its last outcome
 pub slice_mark : (w : World) (by id : ℕ) (last : StepOutcome) (budget : ℕ) → last_outcome w by id last (slice_count w by id budget) ≡ slice_last w by id last budget

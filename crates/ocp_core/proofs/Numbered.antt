@@ -1,7 +1,7 @@
 -- What an event makes pending has that event's number, its procedure is loaded, and a place was free for it; and the event
 -- is accepted.
-use Rattle.std.proofs.Common.{◌≡◌, ◌≤◌, ℕ, ◌+◌, List, [], ◌∷◌, Option, Some, None, Bool, true, false, cond, inl, inr, refl, sym, ap, ◌∙◌, arith}
-use Rattle.std.specs.Prelude.{◌⊎◌, Result, Ok, Err}
+use Rattle.std.proofs.Common.{◌≡◌, ◌≤◌, ℕ, ◌+◌, List, [], ◌∷◌, length, Option, Some, None, Bool, true, false, cond, inl, inr, refl, sym, ap, ◌∙◌, arith}
+use Rattle.std.specs.Prelude.{◌⊎◌, Result, Ok, Err, nat_lt}
 use Rattle.std.specs.FinMap.{get}
 use Rattle.pus_fields.specs.declared.fault.TcFault.{TcFault}
 use Rattle.pus_fields.specs.declared.fault.TcFault.TheVariants.{Discarded, Rejected}
@@ -30,6 +30,7 @@ use Rattle.ocp_world.specs.Effect.{Effect, Commands}
 use Rattle.ocp_world.specs.Requests.{start_effect, command_effect, command_of, service_effect, request_effect, has_no_place}
 use Rattle.ocp_world.specs.Instructions.{instruction_effect, debug_effect}
 use Rattle.ocp_world.specs.Drains.{drain_effect}
+use Rattle.ocp_world.specs.Puts.{put_effect_if}
 use Rattle.ocp_world.specs.After.{effect_of, events_by, is_done}
 use Rattle.ocp_world.proofs.Asked.{IsAskedIn, each_asked}
 use Rattle.ocp_core.specs.Outbox.{number_in, pending_by}
@@ -97,6 +98,10 @@ module _ (w : World) where
   pub numbered_debug : (c : debug.Command) (id : ℕ) → IsNumbered w (debug_effect c id w.records).on_records
   numbered_debug c id = numbered_set c id (commands.fault_on c (get w.records id))
 
+  pub numbered_put : (there : Bool) (index value : ℕ) → IsNumbered w (put_effect_if there index value).on_records
+  numbered_put true index value = tt
+  numbered_put false index value = tt
+
 -- ---- what becomes pending is counted
 
 -- an event makes nothing pending, or its own number, and then is counted
@@ -142,8 +147,13 @@ module _ (n : ℕ) where
   counts_drain time [] = inl (refl, omega arith)
   counts_drain time (due ∷ dues) = inl (refl, omega arith)
 
+  counts_put : (there : Bool) (index value : ℕ) → Counts n (put_effect_if there index value)
+  counts_put true index value = inl (refl, omega arith)
+  counts_put false index value = inl (refl, omega arith)
+
 pub counts : (w : World) (e : Event) → Counts w.events (effect_of w e)
 counts w (world.Request by time octets) = counts_request w.events w (telecommand_of w.apid octets) time
 counts w (world.Step by id) = counts_step w.events w.records w.pool id
 counts w (world.Debug by id c) = counts_set w.events c id (commands.fault_on c (get w.records id))
 counts w (world.Drain by time) = counts_drain w.events time w.outbox
+counts w (world.Put by index value) = counts_put w.events (nat_lt index (length w.pool)) index value

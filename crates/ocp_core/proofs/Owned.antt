@@ -5,7 +5,7 @@ use Rattle.std.proofs.lemmas.Bool.{eqb-true}
 use Rattle.std.specs.Cmp.{nat_cmp_total, unsigned_tied}
 use Rattle.std.specs.FinMap as map
 use Rattle.ocp_table.specs.Records.{Rec, Records}
-use Rattle.ocp_table.specs.Effects.{Effect, Loaded, Unloaded, Changed, Kept, Drained, Change, record_by, new_record, with_change, records_by}
+use Rattle.ocp_table.specs.Effects.{Effect, Loaded, Unloaded, Changed, Kept, Drained, WordPut, Change, record_by, new_record, with_change, records_by}
 
 abbrev pub changed_if_there : Change → Option Rec → Option Rec
 changed_if_there change None = None
@@ -18,6 +18,7 @@ own_by q (Unloaded id) o = cond (q == id) None o
 own_by q (Changed id change) o = cond (q == id) (changed_if_there change o) o
 own_by q (Kept why) o = o
 own_by q Drained o = o
+own_by q (WordPut index value) o = o
 
 get-insert : (m : Records) (k : ℕ) (r : Rec) (q : ℕ) → map.get (map.insert m k r) q ≡ cond (q == k) (Some r) (map.get m q)
 get-insert m k r q = map.get-insert nat_cmp_total m k r q ∙ ap (λ b. cond b (Some r) (map.get m q)) (unsigned_tied q k)
@@ -42,3 +43,4 @@ get-records_by (Unloaded id) m q = get-remove m id q
 get-records_by (Changed id change) m q = get-with_change id change m q (map.get m id) refl
 get-records_by (Kept why) m q = refl
 get-records_by Drained m q = refl
+get-records_by (WordPut index value) m q = refl

@@ -19,7 +19,7 @@ use Rattle.ocp_table.specs.declared.answers.InstructionOutcome.TheVariants.{Brok
 use Rattle.ocp_table.specs.declared.fault.ProcedureFault.TheVariants.{BudgetSpent, Pool}
 use Rattle.ocp_table.specs.Budgets.{is_spent}
 use Rattle.ocp_table.specs.Records.{Rec}
-use Rattle.ocp_table.specs.Effects.{Effect, Changed, Change, Stepped, pool_by, pool_by_change, pool_by_outcome}
+use Rattle.ocp_table.specs.Effects.{Effect, Changed, WordPut, Change, Stepped, pool_by, pool_by_change, pool_by_outcome}
 use Rattle.ocp_table.specs.RequestTable.{Step, transition}
 use Rattle.ocp_table.specs.Deciding.{outcome_in, outcome_unheld, outcome_of, outcome_of_call, effect_on, effect_by, effect_of_step, is_full}
 use Rattle.ocp_world.specs.World.{World, opening}
@@ -45,6 +45,7 @@ pool_by_change-operation change pool = refl
 
 pool_by-operation : (effect : Effect) (pool : List ℕ) → pool_by effect pool ≡ pool_after_operation (operation_by effect) pool
 pool_by-operation (Changed id change) pool = pool_by_change-operation change pool
+pool_by-operation (WordPut index value) pool = refl
 pool_by-operation effect pool = refl
 
 one_more : (start pool : List ℕ) (os : List PoolOperation) (o : Option PoolOperation) → pool ≡ pool_from start os → pool_after_operation o pool ≡ pool_from start (with_operation o os)

@@ -10,8 +10,9 @@ use Rattle.ocp_world.specs.declared.answers.EngineFault.{EngineFault}
 use Rattle.ocp_world.specs.declared.answers.EngineFault.TheVariants as engine
 use Rattle.ocp_debug.specs.declared.command.DebugFault.{DebugFault}
 use Rattle.ocp_debug.specs.declared.command.DebugFault.TheVariants as debug
-use Rattle.ocp_world.specs.World.{World, Event, Request, Step, Debug, Drain}
-use Rattle.ocp_world.specs.After.{Answer, Requested, Stepped, Commanded, after, is_accepted}
+use Rattle.ocp_world.specs.declared.answers.PutFault.TheVariants as put
+use Rattle.ocp_world.specs.World.{World, Event, Request, Step, Debug, Drain, Put}
+use Rattle.ocp_world.specs.After.{Answer, Requested, Stepped, Commanded, Written, after, is_accepted}
 use Rattle.ocp_world.specs.Replay.{answers, replay_from}
 use Rattle.ocp_core.specs.Log.{Log, world_of, is_full, with_entry, entry_for, full_answer, answer_in, log_after}
 use Rattle.ocp_core.specs.declared.answers.RunRefusal.{RunRefusal}
@@ -48,6 +49,9 @@ is_full_answer (Commanded (Err debug.AlreadySet)) = false
 is_full_answer (Commanded (Err debug.BreaksFull)) = false
 is_full_answer (Commanded (Err debug.NotSet)) = false
 is_full_answer (Commanded (Err debug.OutsideMemory)) = false
+is_full_answer (Written (Ok done)) = false
+is_full_answer (Written (Err put.BadPoolIndex)) = false
+is_full_answer (Written (Err put.JournalFull)) = true
 
 pub not_full : (o : StepOutcome) → (o ≡ S.JournalFull → ⊥) → is_full_answer (Stepped o) ≡ false
 not_full S.Broke h = refl
@@ -73,18 +77,21 @@ is_full_answer-full (Request by time octets) = refl
 is_full_answer-full (Step by id) = refl
 is_full_answer-full (Debug by id command) = refl
 is_full_answer-full (Drain by time) = refl
+is_full_answer-full (Put by index value) = refl
 
 is_accepted-full : (e : Event) → is_accepted (full_answer e) ≡ false
 is_accepted-full (Request by time octets) = refl
 is_accepted-full (Step by id) = refl
 is_accepted-full (Debug by id command) = refl
 is_accepted-full (Drain by time) = refl
+is_accepted-full (Put by index value) = refl
 
 world_of-entry : (log : Log) (e : Event) → world_of (with_entry log (entry_for e)) ≡ (after (world_of log) e).world
 world_of-entry log (Request by time octets) = world_of-with_entry log (entry_for (Request by time octets))
 world_of-entry log (Step by id) = world_of-with_entry log (entry_for (Step by id))
 world_of-entry log (Debug by id command) = world_of-with_entry log (entry_for (Debug by id command))
 world_of-entry log (Drain by time) = world_of-with_entry log (entry_for (Drain by time))
+world_of-entry log (Put by index value) = world_of-with_entry log (entry_for (Put by index value))
 
 module _ (log : Log) (e : Event) where
   abbrev answer : Answer

@@ -8,8 +8,10 @@ pub use Rattle.ocp_table.specs.Shown.{view_at}
 pub use Rattle.ocp_table.specs.Snapshots.{count_of}
 pub use Rattle.ocp_debug.specs.Traces.{last_traces}
 pub use Rattle.ocp_debug.specs.Texts.{trace_line}
-pub use Rattle.ocp_world.specs.World.{World, Event, Step, Debug}
-pub use Rattle.ocp_world.specs.After.{Answer, Requested, Stepped, Commanded, after, is_accepted}
+pub use Rattle.ocp_world.specs.World.{World, Event, Step, Debug, Put}
+pub use Rattle.ocp_world.specs.After.{Answer, Requested, Stepped, Commanded, Written, after}
+pub use Rattle.ocp_world.specs.After.{is_accepted}
+pub use Rattle.ocp_world.specs.Round.{most_events, step_at}
 pub use Rattle.ocp_world.specs.Answers.{Answers}
 pub use Rattle.ocp_world.specs.Loading.{TakesRecordIn}
 pub use Rattle.ocp_world.specs.NextRunning.{IsNextRunning, Runs}
@@ -18,6 +20,7 @@ pub use Rattle.ocp_core.specs.declared.answers.CommitOutcome.{CommitOutcome}
 pub use Rattle.ocp_core.specs.Log.{Log, Debugged, events_of, expand, empty_log, world_of, is_full}
 pub use Rattle.ocp_core.specs.Log.{with_entry, full_answer, answer_in, log_after}
 pub use Rattle.ocp_core.specs.Slice.{slice_in, slice_log}
+pub use Rattle.ocp_core.specs.Round.{round_in, round_log}
 pub use Rattle.ocp_core.specs.Marks.{by_of, command_of, mark_in, entries_with_marks}
 pub use Rattle.ocp_core.specs.Journal.{event_of, entry_of, mark_of, entry_with_mark, answer_of}
 pub use Rattle.ocp_core.specs.Receipts.{Enters, Grows, reports_in, entries_in, event_entries}

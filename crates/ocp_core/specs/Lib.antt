@@ -1,6 +1,7 @@
 pub mod Log
 pub mod Marks
 pub mod Slice
+pub mod Round
 pub mod Journal
 pub mod Receipts
 pub mod Running

@@ -5,25 +5,29 @@ use Rattle.std.specs.List.{flat_map}
 use Rattle.ocp_profile.specs.declared.profile.Profile.{Profile}
 use Rattle.ocp_table.specs.declared.answers.StepOutcome.TheVariants as S
 use Rattle.ocp_world.specs.declared.answers.EngineFault.TheVariants as engine
+use Rattle.ocp_world.specs.declared.answers.PutFault.TheVariants as put
 use Rattle.ocp_debug.specs.declared.command.Command.{Command}
 use Rattle.ocp_debug.specs.declared.command.DebugFault.TheVariants as debug
-use Rattle.ocp_world.specs.World.{World, Event, Request, Step, Debug, Drain}
-use Rattle.ocp_world.specs.After.{Answer, Requested, Stepped, Commanded, after, is_accepted}
+use Rattle.ocp_world.specs.World.{World, Event, Request, Step, Debug, Drain, Put}
+use Rattle.ocp_world.specs.After.{Answer, Requested, Stepped, Commanded, Written, after, is_accepted}
 use Rattle.ocp_world.specs.Replay.{replay}
 
 -- a request with its seat and time; so many instructions of one procedure with their seat; a
--- debugger's command to a procedure with its seat; or a drain with its seat and time
+-- debugger's command to a procedure with its seat; a drain with its seat and time; or a write of
+-- the pool word at an index with its seat and value
 pub data Entry : Type 0 where
   Asked : ℕ → ℕ → List ℕ → Entry
   Steps : ℕ → ℕ → ℕ → Entry
   Debugged : ℕ → ℕ → Command → Entry
   Drained : ℕ → ℕ → Entry
+  Wrote : ℕ → ℕ → ℕ → Entry
 
 abbrev pub events_of : Entry → List Event
 events_of (Asked by time octets) = Request by time octets ∷ []
 events_of (Steps by id count) = replicate count (Step by id)
 events_of (Debugged by id command) = Debug by id command ∷ []
 events_of (Drained by time) = Drain by time ∷ []
+events_of (Wrote by index value) = Put by index value ∷ []
 
 -- the single events of a journal
 abbrev pub expand : List Entry → List Event
@@ -63,12 +67,14 @@ entry_for (Request by time octets) = Asked by time octets
 entry_for (Step by id) = Steps by id 1
 entry_for (Debug by id command) = Debugged by id command
 entry_for (Drain by time) = Drained by time
+entry_for (Put by index value) = Wrote by index value
 
 abbrev pub full_answer : Event → Answer
 full_answer (Request by time octets) = Requested (Err engine.JournalFull)
 full_answer (Step by id) = Stepped S.JournalFull
 full_answer (Debug by id command) = Commanded (Err debug.JournalFull)
 full_answer (Drain by time) = Requested (Err engine.JournalFull)
+full_answer (Put by index value) = Written (Err put.JournalFull)
 
 -- an event that would be accepted is refused where the journal is full
 abbrev pub answer_in : Log → Event → Answer

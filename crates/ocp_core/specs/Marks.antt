@@ -3,11 +3,11 @@ use Rattle.std.specs.Prelude.{ℕ, zero, suc, ◌==◌, List, [], ◌∷◌, fil
 use Rattle.ocp_table.specs.declared.answers.StepOutcome.{StepOutcome}
 use Rattle.ocp_debug.specs.declared.command.Command.{Command}
 use Rattle.ocp_table.specs.declared.answers.StepOutcome.TheVariants as S
-use Rattle.ocp_world.specs.World.{World, Request, Step, Debug, Drain, opening}
+use Rattle.ocp_world.specs.World.{World, Request, Step, Debug, Drain, Put, opening}
 use Rattle.ocp_world.specs.After.{Answer, Stepped, after}
 use Rattle.ocp_world.specs.Replay.{replay_from}
 use Rattle.ocp_world.specs.Slice.{next_outcome}
-use Rattle.ocp_core.specs.Log.{Entry, Asked, Steps, Debugged, Drained, Log, events_of}
+use Rattle.ocp_core.specs.Log.{Entry, Asked, Steps, Debugged, Drained, Wrote, Log, events_of}
 
 -- the outcome of the last of so many instructions, or the one before them
 abbrev pub last_outcome : World → ℕ → ℕ → StepOutcome → ℕ → StepOutcome
@@ -22,6 +22,7 @@ mark_in w (Asked by time octets) = (after w (Request by time octets)).answer
 mark_in w (Steps by id count) = Stepped (last_outcome w by id S.Ran count)
 mark_in w (Debugged by id command) = (after w (Debug by id command)).answer
 mark_in w (Drained by time) = (after w (Drain by time)).answer
+mark_in w (Wrote by index value) = (after w (Put by index value)).answer
 
 -- an entry with its mark: the answer that was given with it
 pub record MarkedEntry : Type 0 where
@@ -45,6 +46,7 @@ by_of (Asked by time octets) = by
 by_of (Steps by id count) = by
 by_of (Debugged by id command) = by
 by_of (Drained by time) = by
+by_of (Wrote by index value) = by
 
 -- the debugger's command that an entry is, where it is one, with the id of its procedure
 abbrev pub command_of : Entry → Option (ℕ × Command)

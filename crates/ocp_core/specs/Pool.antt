@@ -9,7 +9,7 @@ use Rattle.bpf_step.specs.Step.{one_step}
 use Rattle.ocp_pool.specs.declared.call.Called.{Called as Call}
 use Rattle.ocp_pool.specs.declared.call.Called.TheVariants.{PoolGet, PoolSet, PoolAdd, PoolCompareSet}
 use Rattle.ocp_pool.specs.declared.call.PoolOperation.{PoolOperation}
-use Rattle.ocp_pool.specs.declared.call.PoolOperation.TheVariants.{Add}
+use Rattle.ocp_pool.specs.declared.call.PoolOperation.TheVariants.{Add, Set}
 use Rattle.ocp_pool.specs.declared.call.PoolFault.TheVariants.{BadPoolIndex}
 use Rattle.ocp_pool.specs.Call.{engine_call, operation_of, pool_with}
 use Rattle.ocp_table.specs.declared.answers.InstructionOutcome.{InstructionOutcome}
@@ -17,7 +17,7 @@ use Rattle.ocp_table.specs.declared.answers.InstructionOutcome.TheVariants.{Call
 use Rattle.ocp_table.specs.declared.fault.ProcedureFault.TheVariants as fault
 use Rattle.ocp_table.specs.Budgets.{is_spent}
 use Rattle.ocp_table.specs.Records.{Rec}
-use Rattle.ocp_table.specs.Effects.{Effect, Changed, Change, Stepped}
+use Rattle.ocp_table.specs.Effects.{Effect, Changed, Change, Stepped, WordPut}
 use Rattle.bpf_step.specs.Runs.{breaks_at}
 use Rattle.ocp_world.specs.World.{Event}
 use Rattle.ocp_world.specs.Replay.{replay}
@@ -35,6 +35,7 @@ operation_by_change change = None
 
 abbrev pub operation_by : Effect → Option PoolOperation
 operation_by (Changed id change) = operation_by_change change
+operation_by (WordPut index value) = Some (Set index value)
 operation_by effect = None
 
 abbrev pub with_operation : Option PoolOperation → List PoolOperation → List PoolOperation
@@ -44,7 +45,8 @@ with_operation (Some operation) operations = operations ++ operation ∷ []
 abbrev pub add_operation : Effect → List PoolOperation → List PoolOperation
 add_operation effect operations = with_operation (operation_by effect) operations
 
--- the operations of all procedures, in the order of the events
+-- the operations of all procedures, and the writes from outside, each of which sets its word, in
+-- the order of the events
 abbrev pub operations : Profile → ℕ → ℕ → List Event → List PoolOperation
 operations profile apid words es = gather add_operation [] (history profile apid words es)
 
@@ -54,7 +56,8 @@ abbrev pub pool_from : List ℕ → List PoolOperation → List ℕ
 pool_from pool [] = pool
 pool_from pool (operation ∷ operations) = pool_from (pool_with operation pool) operations
 
--- the pool of so many words, all of them 0 at first, after operations
+-- the pool of so many words, all of them 0 at first, after operations: engine calls of procedures
+-- and writes from outside
 abbrev pub pool_after : ℕ → List PoolOperation → List ℕ
 pool_after words operations = pool_from (replicate words 0) operations
 

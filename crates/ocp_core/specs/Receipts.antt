@@ -5,7 +5,7 @@ use Rattle.ocp_table.specs.declared.answers.StepOutcome.TheVariants as S
 use Rattle.ocp_table.specs.declared.answers.Slice.{Slice}
 use Rattle.ocp_world.specs.declared.answers.EngineFault.{EngineFault}
 use Rattle.ocp_world.specs.World.{Event, Step}
-use Rattle.ocp_world.specs.After.{Answer, Requested, Stepped, Commanded, is_accepted}
+use Rattle.ocp_world.specs.After.{Answer, Requested, Stepped, Commanded, Written, is_accepted}
 use Rattle.ocp_world.specs.Answers.{Answers}
 use Rattle.ocp_core.specs.declared.answers.CommitOutcome.{CommitOutcome}
 use Rattle.ocp_core.specs.declared.answers.CommitOutcome.TheVariants as C
@@ -29,6 +29,7 @@ Enters old new e (Requested result) =
     × OnErr result (new ≡ old)
 Enters old new e (Stepped outcome) = (Stepped outcome ≡ answer_in old e) × (new ≡ log_after old e)
 Enters old new e (Commanded result) = (Commanded result ≡ answer_in old e) × (new ≡ log_after old e)
+Enters old new e (Written result) = (Written result ≡ answer_in old e) × (new ≡ log_after old e)
 
 -- what an event that is answered so adds to the journal: its entry with the answer as its mark
 -- where the answer accepts, and nothing where it refuses

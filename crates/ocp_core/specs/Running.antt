@@ -1,6 +1,6 @@
 -- What an event of a run does, and where a run ends.
 use Rattle.std.specs.Prelude.{◌≡◌, ℕ, zero, Bool, true, false, if◌then◌else◌, List, [], ◌∷◌, Option, Some, None, Result, Ok, Err}
-use Rattle.ocp_world.specs.World.{Event, Request, Step, Debug, Drain}
+use Rattle.ocp_world.specs.World.{Event, Request, Step, Debug, Drain, Put}
 use Rattle.ocp_world.specs.After.{Answer, after, is_accepted}
 use Rattle.ocp_world.specs.declared.answers.EngineFault.{EngineFault}
 use Rattle.ocp_world.specs.declared.answers.EngineFault.TheVariants as engine
@@ -25,14 +25,15 @@ abbrev pub HasRoom : Log → List Event → Type 0
 HasRoom log [] = Unit {0}
 HasRoom log (e ∷ es) = (finds_full log e ≡ false) × HasRoom (log_after log e) es
 
--- memory is taken for a request that is accepted, and for a drain that is; an instruction and a
--- debugger's command take none
+-- memory is taken for a request that is accepted, and for a drain that is; an instruction, a
+-- debugger's command and a write of a pool word take none
 abbrev pub TakesMemory : Log → Event → Type 0
 TakesMemory log (Request by time octets) =
     is_accepted (answer_in log (Request by time octets)) ≡ true
 TakesMemory log (Step by id) = ⊥
 TakesMemory log (Debug by id command) = ⊥
 TakesMemory log (Drain by time) = is_accepted (answer_in log (Drain by time)) ≡ true
+TakesMemory log (Put by index value) = ⊥
 
 -- the event is refused so
 abbrev pub IsRefusedBy : Log → Event → RunRefusal → Type 0

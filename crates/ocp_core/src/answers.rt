@@ -1,6 +1,6 @@
 //! What a run answers.
 
-use crate::{DebugFault, EngineFault, Reports, StepOutcome};
+use crate::{DebugFault, EngineFault, PutFault, Reports, StepOutcome};
 use std::alloc::{Allocator, Global};
 
 /// What an event of a run was answered.
@@ -10,6 +10,7 @@ pub enum Answer<A: Allocator = Global> {
     Requested(Result<Reports<A>, EngineFault>),
     Stepped(StepOutcome),
     Commanded(Result<(), DebugFault>),
+    Written(Result<(), PutFault>),
 }
 
 /// Why a run ended before an event.

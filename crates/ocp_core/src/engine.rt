@@ -2,14 +2,18 @@
 
 ghost use Rattle.std.specs.Prelude.{◌≡◌, ◌↔◌, ◌≤◌, ◌<◌, ◌-◌, ◌^◌, ℕ, false, Err, None, IfOk, IfSome, OnOk, OnErr, length, slice_get};
 ghost use Rattle.ocp_world.specs.World as world;
-ghost use Rattle.ocp_core.specs.Clauses.{MAX_APID, MAX_POOL_WORDS, MAX_CAPACITY, Answers, Enters, Grows, IsNextRunning, Log, Runs, Stepped, TakesRecordIn, answer_in, empty_log, entries_in, entry_with_mark, event_entries, expand, get, is_accepted, log_after, marked_drain, marked_request, reports_in, slice_entries, slice_in, slice_log, view_at, world_of};
+ghost use Rattle.ocp_table.specs.Slices.{slice_of};
+ghost use Rattle.ocp_table.specs.declared.answers.Extent.TheVariants as extents;
+ghost use Rattle.ocp_core.specs.Clauses.{MAX_APID, MAX_POOL_WORDS, MAX_CAPACITY, Answers, Enters, Grows, IsNextRunning, Log, Runs, Stepped, TakesRecordIn, answer_in, empty_log, entries_in, entry_with_mark, event_entries, expand, get, is_accepted, log_after, marked_drain, marked_request, reports_in, Put, Written, most_events, round_in, round_log, slice_entries, slice_in, slice_log, step_at, view_at, world_of};
 ghost use Rattle.ocp_core.specs.Mirror.Codes.{log_code};
 ghost use Rattle.ocp_world.specs.Mirror.State.{IsWorld};
 
-use crate::{EngineFault, Entry, Input, Journal, Octets, Reports, Slice, StepOutcome};
+use crate::{
+    EngineFault, Entry, Input, Journal, Octets, PutFault, Reports, Round, Slice, StepOutcome,
+};
 use ocp_profile::Profile;
 use ocp_table::View;
-use ocp_world::{Heap, State, discard_of};
+use ocp_world::{Extent, Heap, State, discard_of};
 use pus_fields::read_tc;
 use space_packet::Apid;
 use std::alloc::{AllocError, Allocator, Global};
@@ -193,6 +197,43 @@ impl<A: Allocator> Engine<A> {
         self.slice(by, id, 1).last
     }
 
+    // Does instructions of one procedure as far as a slice or a round goes.
+    #[inline(always)]
+    fn instructions(&mut self, by: u16, id: u16, budget: u32, extent: Extent) -> Round
+        requires { 1 ≤ budget }
+        ensures slice { slice_of result ≡
+            slice_in self.old by id (most_events extent (world_of self.old) by id budget) }
+        ensures step { extent ≡ extents.Round →
+            result.step ≡ step_at (world_of self.old) by id result.count }
+        ensures journal { self.new ≡
+            slice_log self.old by id (most_events extent (world_of self.old) by id budget) }
+        ensures gain { Grows self.old self.new (slice_entries by id (slice_of result)) }
+        ensures within { result.count ≤ budget }
+    {
+        if let Some(last) = self.state.refusal(id) {
+            return Round {
+                count: 0,
+                last,
+                step: None,
+            };
+        }
+        if self.journal.is_full() {
+            return Round {
+                count: 0,
+                last: StepOutcome::JournalFull,
+                step: None,
+            };
+        }
+        let round = self.state.instructions(id, budget, extent);
+        self.journal.push(Entry::Steps {
+            by,
+            id,
+            count: round.count,
+            mark: round.last,
+        });
+        round
+    }
+
     /// Does instructions of one procedure, at least one, until the budget is used, the procedure no
     /// longer runs, or an instruction is refused, ends it or faults. They are one journal entry, or
     /// none where none was done.
@@ -203,21 +244,40 @@ impl<A: Allocator> Engine<A> {
         ensures journal { self.new ≡ slice_log self.old by id budget }
         ensures gain { Grows self.old self.new (slice_entries by id result) }
     {
-        if let Some(last) = self.state.refusal(id) {
-            return Slice { count: 0, last };
-        }
+        let Round { count, last, .. } = self.instructions(by, id, budget, Extent::Slice);
+        Slice { count, last }
+    }
+
+    /// Does instructions of one procedure as `slice` does, which also end with the first that ends
+    /// a step. The round answers the number of that step, if one ended. Its instructions are one
+    /// journal entry, or none if none was done.
+    pub fn round(&mut self, by: u16, id: u16, budget: u32) -> Round
+        requires { 1 ≤ budget }
+        ensures within { result.count ≤ budget }
+        ensures round { result ≡ round_in self.old by id budget }
+        ensures journal { self.new ≡ round_log self.old by id budget }
+        ensures gain { Grows self.old self.new (slice_entries by id (slice_of result)) }
+    {
+        self.instructions(by, id, budget, Extent::Round)
+    }
+
+    /// Writes the pool word at an index from outside: nothing else changes, and no memory is taken.
+    /// Refused, in this order, if the pool has no such word, and if the journal is full; then
+    /// nothing is changed.
+    pub fn put_word(&mut self, by: u16, index: u64, value: u64) -> Result<(), PutFault>
+        ensures answer { Written result ≡ answer_in self.old (Put by index value) }
+        ensures journal { self.new ≡ log_after self.old (Put by index value) }
+        ensures word { OnOk result (index < MAX_POOL_WORDS) }
+    {
+        let Some(index) = self.state.word_index(index) else {
+            return Err(PutFault::BadPoolIndex);
+        };
         if self.journal.is_full() {
-            let last = StepOutcome::JournalFull;
-            return Slice { count: 0, last };
+            return Err(PutFault::JournalFull);
         }
-        let slice = self.state.slice(id, budget);
-        self.journal.push(Entry::Steps {
-            by,
-            id,
-            count: slice.count,
-            mark: slice.last,
-        });
-        slice
+        self.state.put_word(index, value);
+        self.journal.push(Entry::PutWord { by, index, value });
+        Ok(())
     }
 
     /// The procedure whose turn is next: the least running one above the one before, or where there

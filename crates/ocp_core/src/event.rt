@@ -40,11 +40,17 @@ pub enum Event<'a> {
         by: u16,
         time: u32,
     },
+    /// The pool word at the index becomes the value.
+    PutWord {
+        by: u16,
+        index: u64,
+        value: u64,
+    },
 }
 
-/// What the journal keeps: a request, so many instructions of one procedure, done one after the
-/// other, a debugger's command, or a drain. The mark of an entry is the answer that was given with
-/// it.
+/// What the journal keeps: a request, a number of instructions of one procedure, done one after the
+/// other, a debugger's command, a drain, or a write of a pool word. The mark of an entry is the
+/// answer that was given with it.
 #[derive(Drop)]
 pub enum Entry<A: Allocator = Global> {
     /// Its mark is a copy of the reports that were answered.
@@ -82,6 +88,11 @@ pub enum Entry<A: Allocator = Global> {
         time: u32,
         mark: Reports<A>,
     },
+    PutWord {
+        by: u16,
+        index: u16,
+        value: u64,
+    },
 }
 
 impl<A: Allocator> Entry<A> {
@@ -111,6 +122,7 @@ impl<A: Allocator> Entry<A> {
             Entry::ClearBreak { by, .. } => *by,
             Entry::Trace { by, .. } => *by,
             Entry::Drain { by, .. } => *by,
+            Entry::PutWord { by, .. } => *by,
         }
     }
 
@@ -133,7 +145,10 @@ impl<A: Allocator> Entry<A> {
             Entry::SetBreak { id, place, .. } => Some((*id, Command::SetBreak(*place))),
             Entry::ClearBreak { id, place, .. } => Some((*id, Command::ClearBreak(*place))),
             Entry::Trace { id, on, .. } => Some((*id, Command::SetTrace(*on))),
-            Entry::Request { .. } | Entry::Steps { .. } | Entry::Drain { .. } => None,
+            Entry::Request { .. }
+            | Entry::Steps { .. }
+            | Entry::Drain { .. }
+            | Entry::PutWord { .. } => None,
         }
     }
 
@@ -186,6 +201,14 @@ impl<A: Allocator> Entry<A> {
                     mark: other_mark,
                 },
             ) => by == other_by && time == other_time && mark.is_same(other_mark),
+            (
+                Entry::PutWord { by, index, value },
+                Entry::PutWord {
+                    by: other_by,
+                    index: other_index,
+                    value: other_value,
+                },
+            ) => by == other_by && index == other_index && value == other_value,
             _ => false,
         }
     }

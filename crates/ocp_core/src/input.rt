@@ -5,7 +5,7 @@ ghost use Rattle.ocp_world.specs.World as world;
 ghost use Rattle.ocp_world.specs.After as after;
 ghost use Rattle.ocp_core.specs.Clauses.{Enters, entries_in, event_entries, full_answer};
 
-use crate::{Command, DebugFault, Engine, EngineFault, Entry, Reports, StepOutcome};
+use crate::{Command, DebugFault, Engine, EngineFault, Entry, PutFault, Reports, StepOutcome};
 use ocp_world::Heap;
 use std::alloc::{Allocator, Global};
 
@@ -55,6 +55,13 @@ pub struct DebuggerCommand {
 pub struct Drain<A: Allocator = Global> {
     pub alloc: A,
     pub time: u32,
+}
+
+/// The pool word at an index becomes a value.
+#[derive(Clone, Copy)]
+pub struct PutWord {
+    pub index: u64,
+    pub value: u64,
 }
 
 impl<'a, A: Allocator + Copy> Input<A> for Request<'a, A> {
@@ -147,6 +154,29 @@ impl<A: Allocator + Copy> Input<A> for Drain<A> {
         let Drain { alloc, time } = self;
         match engine.receipted_drain(alloc, by, time) {
             Ok((reports, receipt)) => (Ok(reports), Some(receipt)),
+            Err(fault) => (Err(fault), None),
+        }
+    }
+}
+
+impl<A: Allocator> Input<A> for PutWord {
+    type Answer = Result<(), PutFault>;
+
+    ghost event = { λ by p. world.Put by p.index p.value };
+
+    ghost answer = { after.Written };
+
+    fn full(self) -> Result<(), PutFault> {
+        Err(PutFault::JournalFull)
+    }
+
+    fn enter(self, engine: &mut Engine<A>, by: u16) -> (Result<(), PutFault>, Option<Entry<A>>) {
+        let PutWord { index, value } = self;
+        match engine.put_word(by, index, value) {
+            Ok(()) => {
+                let index = index as u16;
+                (Ok(()), Some(Entry::PutWord { by, index, value }))
+            }
             Err(fault) => (Err(fault), None),
         }
     }

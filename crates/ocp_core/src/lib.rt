@@ -21,6 +21,6 @@ pub use event::{Entry, Event};
 pub use input::Input;
 pub use journal::Journal;
 pub use ocp_reports::{Octets, Reports};
-pub use ocp_world::{Command, DebugFault, EngineFault, Heap, Slice, StepOutcome};
+pub use ocp_world::{Command, DebugFault, EngineFault, Heap, PutFault, Round, Slice, StepOutcome};
 pub use replay::replay_one;
 pub use ticket::{Ticket, Work};

@@ -2,7 +2,7 @@
 
 ghost use Rattle.std.specs.Prelude.{◌≡◌, ◌≤◌, ◌<◌, ℕ, IfOk, OnOk, replicate};
 ghost use Rattle.ocp_world.specs.Mirror.State.{IsWorld};
-ghost use Rattle.ocp_core.specs.Clauses.{MAX_APID, Step, World, alone_after, entry_of, events_of, expand, get, machine_of, replay_from, world_of};
+ghost use Rattle.ocp_core.specs.Clauses.{MAX_APID, Put, Step, World, after, alone_after, entry_of, events_of, expand, get, machine_of, replay_from, world_of};
 ghost use Rattle.ocp_core.specs.Mirror.Admitted.{HasMemory};
 
 use crate::laws::{machines_follow_from_their_own_events, refused_events_change_nothing};
@@ -24,13 +24,24 @@ fn memory_of<A: Allocator>(given: Result<SharedReports<A>, EngineFault>) -> Resu
     }
 }
 
-// Does so many instructions of a procedure.
+// Writes the pool word at an index, if there is one.
+fn write<A: Allocator>(state: &mut State<A>, index: u16, value: u64)
+    ensures { (w : World) (by : ℕ) → IsWorld w state.old →
+        IsWorld (after w (Put by index value)).world state.new }
+{
+    refused_events_change_nothing();
+    if let Some(index) = state.word_index(u64::from(index)) {
+        state.put_word(index, value);
+    }
+}
+
+// Does a number of instructions of a procedure.
 fn steps<A: Allocator>(state: &mut State<A>, id: u16, count: u32)
     ensures { (w : World) (by : ℕ) → IsWorld w state.old →
         IsWorld (replay_from w (replicate count (Step by id))) state.new }
 {
     for _done in 0..count {
-        state.step(id);
+        state.instruction(id);
     }
 }
 
@@ -63,6 +74,7 @@ fn enter<A: Allocator + Copy, B: Allocator>(
             let _result = state.command(*id, Command::SetTrace(*on));
         }
         Entry::Drain { time, .. } => memory_of(state.drain(alloc, *time))?,
+        Entry::PutWord { index, value, .. } => write(state, *index, *value),
     }
     Ok(())
 }

@@ -1,12 +1,12 @@
 //! Lists of events.
 
 ghost use Rattle.std.specs.Prelude.{◌≡◌, IfOk, IfErr, OnOk, map, take, slice_get};
-ghost use Rattle.ocp_core.specs.Clauses.{Applies, Debug, HasRoom, StopsAt, answer_of, answers, event_of, log_after_all, replay_from, reply_of, world_of};
+ghost use Rattle.ocp_core.specs.Clauses.{Applies, Debug, HasRoom, Put, StopsAt, answer_of, answers, event_of, log_after_all, replay_from, reply_of, world_of};
 
 use crate::laws::{refused_events_change_nothing, worlds_have_no_full_journal};
 use crate::{
-    Answer, Command, DebugFault, Engine, EngineFault, Event, Reports, RunFault, RunRefusal,
-    StepOutcome,
+    Answer, Command, DebugFault, Engine, EngineFault, Event, PutFault, Reports, RunFault,
+    RunRefusal, StepOutcome,
 };
 use std::alloc::Allocator;
 
@@ -43,6 +43,7 @@ impl<A: Allocator + Copy> Engine<A> {
                 self.apply_command(by, id, Command::ClearBreak(place))
             }
             Event::Trace { by, id, on } => self.apply_command(by, id, Command::SetTrace(on)),
+            Event::PutWord { by, index, value } => self.apply_put(by, index, value),
         }
     }
 
@@ -56,6 +57,19 @@ impl<A: Allocator + Copy> Engine<A> {
             Ok(()) => Ok(Answer::Commanded(Ok(()))),
             Err(DebugFault::JournalFull) => Err(RunRefusal::JournalFull),
             Err(fault) => Ok(Answer::Commanded(Err(fault))),
+        }
+    }
+
+    // Writes a pool word as an event.
+    fn apply_put(&mut self, by: u16, index: u64, value: u64) -> Result<Answer<A>, RunRefusal>
+        ensures { Applies self.old self.new (Put by index value) result }
+    {
+        refused_events_change_nothing();
+        worlds_have_no_full_journal();
+        match self.put_word(by, index, value) {
+            Ok(()) => Ok(Answer::Written(Ok(()))),
+            Err(PutFault::JournalFull) => Err(RunRefusal::JournalFull),
+            Err(fault) => Ok(Answer::Written(Err(fault))),
         }
     }
 

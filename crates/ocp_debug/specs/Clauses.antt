@@ -8,6 +8,7 @@ pub use Rattle.ocp_table.specs.Laws.{run_of}
 pub use Rattle.ocp_table.specs.Shown.{view_at}
 pub use Rattle.ocp_table.specs.RequestTable.{Step}
 pub use Rattle.ocp_table.specs.Deciding.{effect_in, ExecutesStep}
+pub use Rattle.ocp_table.specs.Slices.{step_ended}
 pub use Rattle.ocp_debug.specs.Commands.{is_set, fault_on, command_result, table_by_command}
 pub use Rattle.ocp_debug.specs.Commands.{command_effect}
 pub use Rattle.ocp_debug.specs.Mirror.Breakpoints.{rank}

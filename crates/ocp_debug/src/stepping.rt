@@ -1,9 +1,9 @@
 //! The instruction event, and the trace record that it makes.
 ghost use Rattle.std.specs.Prelude.{◌≡◌, ◌++◌, option_to_list};
-ghost use Rattle.ocp_debug.specs.Clauses.{ExecutesStep, Step, effect_in, get, last_traces, trace_after, traced_place, traces_by};
+ghost use Rattle.ocp_debug.specs.Clauses.{ExecutesStep, Step, effect_in, get, last_traces, step_ended, trace_after, traced_place, traces_by};
 
 use crate::{StepOutcome, Trace, TraceRing};
-use ocp_table::{Place, Pool, Table};
+use ocp_table::{InstructionAnswer, Place, Pool, Table};
 use std::alloc::Allocator;
 
 /// The place of the next instruction, where the procedure is traced.
@@ -66,15 +66,16 @@ pub fn instruction<A: Allocator>(
     id: u16,
     pool: &mut Pool<A>,
     ring: &mut TraceRing<A>,
-) -> StepOutcome
-    ensures step { ExecutesStep id table.old table.new pool.old pool.new result }
+) -> InstructionAnswer
+    ensures event { ExecutesStep id table.old table.new pool.old pool.new result.outcome }
+    ensures step { result.step ≡ step_ended (effect_in (Step pool.old) id table.old.records) }
     ensures ring { ring.new ≡
         last_traces (ring.old
         ++ traces_by (effect_in (Step pool.old) id table.old.records) table.old.records) }
 {
     let at = table.place(id);
     let place = traced_place(table, id, at);
-    let outcome = table.instruction_at(id, at, pool);
-    note(ring, table, id, at, place, outcome);
-    outcome
+    let answer = table.instruction_at(id, at, pool);
+    note(ring, table, id, at, place, answer.outcome);
+    answer
 }

@@ -11,7 +11,7 @@ pub(crate) struct Form {
 }
 
 /// The forms of lines, each with the verb that they begin with, `send` aside.
-static FORMS: [(&str, Form); 12] = [
+static FORMS: [(&str, Form); 14] = [
     (
         "up",
         Form {
@@ -30,6 +30,13 @@ static FORMS: [(&str, Form); 12] = [
         "step",
         Form {
             text: "step <id> <n>: ",
+            parts: &[Part::Identifier, Part::Count, Part::End],
+        },
+    ),
+    (
+        "round",
+        Form {
+            text: "round <id> <n>: ",
             parts: &[Part::Identifier, Part::Count, Part::End],
         },
     ),
@@ -73,6 +80,13 @@ static FORMS: [(&str, Form); 12] = [
         Form {
             text: "pool <index>: ",
             parts: &[Part::Index, Part::End],
+        },
+    ),
+    (
+        "put",
+        Form {
+            text: "put <index> <value>: ",
+            parts: &[Part::Index, Part::Value, Part::End],
         },
     ),
     (

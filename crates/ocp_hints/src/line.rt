@@ -13,9 +13,9 @@ use crate::slot::SLOT_DIGITS;
 use ocp_profile::Profile;
 
 /// The verbs that a line may begin with.
-static VERBS: [&str; 13] = [
-    "send", "up", "time", "step", "view", "mem", "break", "unbreak", "trace", "pool", "journal",
-    "drain", "work",
+static VERBS: [&str; 15] = [
+    "send", "up", "time", "step", "round", "view", "mem", "break", "unbreak", "trace", "pool",
+    "put", "journal", "drain", "work",
 ];
 
 /// How many digits an address has at most.
@@ -23,8 +23,8 @@ const ADDRESS_DIGITS: usize = 16;
 
 const UNKNOWN: &str = "this is no line of the console";
 
-const NO_COMMAND: &str = "a line begins with send, up, time, step, view, mem, break, unbreak, \
-                          trace, pool, journal, drain, work";
+const NO_COMMAND: &str = "a line begins with send, up, time, step, round, view, mem, break, \
+                          unbreak, trace, pool, put, journal, drain, work";
 
 const NO_WORD: &str = "send <flags> <verb> .. wants another word here";
 

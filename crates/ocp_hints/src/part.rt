@@ -13,6 +13,8 @@ pub(crate) enum Part {
     Seconds,
     Length,
     Index,
+    /// The value that a word of the pool gets.
+    Value,
     Number,
     /// A number behind others.
     NextNumber,
@@ -73,6 +75,7 @@ impl Part {
             Part::Seconds => Takes::Number("seconds is 0 to 4294967295", 0, LONG_WORD),
             Part::Length => Takes::Number("length is 1 to 256", 1, MAX_MEMORY_LENGTH as u64),
             Part::Index => Takes::Number("index is 0 to 18446744073709551615", 0, u64::MAX),
+            Part::Value => Takes::Number("value is 0 to 18446744073709551615", 0, u64::MAX),
             Part::Number | Part::NextNumber => {
                 Takes::Number("number is 0 to 18446744073709551615", 0, u64::MAX)
             }
@@ -101,6 +104,7 @@ impl Part {
             Part::Seconds => "<seconds> is missing",
             Part::Length => "<length> is missing",
             Part::Index => "<index> is missing",
+            Part::Value => "<value> is missing",
             Part::Number => "<number> is missing",
             Part::Budget | Part::TurnBudget => "<budget> is missing",
             Part::Workers => "<workers> is missing",

@@ -18,16 +18,17 @@ use Rattle.ocp_lines.specs.declared.command.Command.TheVariants as command
 -- ---- what a line can say
 
 -- nothing, a packet's octets, a request with its acknowledgement flags, a time, some steps of a
--- procedure; a breakpoint that is set or cleared at a place of a procedure, whether a procedure is
--- traced, the trace records that are kept, a view of a procedure, so many octets of its memory from
--- an address on; a word of the pool, the number of events; the reports of the completions that
--- wait; so many workers with a budget and turns
+-- procedure, a round of it; a breakpoint that is set or cleared at a place of a procedure, whether
+-- a procedure is traced, the trace records that are kept, a view of a procedure, so many octets of
+-- its memory from an address on; a word of the pool, a word and the value that it gets, the number
+-- of events; the reports of the completions that wait; so many workers with a budget and turns
 pub data Meaning : Type 0 where
   Nothing : Meaning
   Up : List ℕ → Meaning
   Send : ℕ → Request → Meaning
   Time : ℕ → Meaning
   Step : ℕ → ℕ → Meaning
+  Round : ℕ → ℕ → Meaning
   Break : ℕ → ℕ → Meaning
   Unbreak : ℕ → ℕ → Meaning
   Trace : ℕ → Bool → Meaning
@@ -35,6 +36,7 @@ pub data Meaning : Type 0 where
   View : ℕ → Meaning
   Memory : ℕ → ℕ → ℕ → Meaning
   Pool : ℕ → Meaning
+  Put : ℕ → ℕ → Meaning
   Journal : Meaning
   Drain : Meaning
   Work : ℕ → ℕ → ℕ → Meaning
@@ -45,6 +47,7 @@ meaning_of (command.Up octets) = Up octets.now
 meaning_of (command.Send flags request) = Send flags.number request
 meaning_of (command.Time time) = Time time
 meaning_of (command.Step id steps) = Step id steps.number
+meaning_of (command.Round id steps) = Round id steps.number
 meaning_of (command.Break id place) = Break id place
 meaning_of (command.Unbreak id place) = Unbreak id place
 meaning_of (command.Trace id on) = Trace id on
@@ -52,6 +55,7 @@ meaning_of command.Traces = Traces
 meaning_of (command.View id) = View id
 meaning_of (command.Memory id address count) = Memory id address count.number
 meaning_of (command.Pool index) = Pool index
+meaning_of (command.Put index value) = Put index value
 meaning_of command.Journal = Journal
 meaning_of command.Drain = Drain
 meaning_of (command.Work shift) =
@@ -235,6 +239,10 @@ time_in words = one_word (λ word. option_map Time (long word)) words
 abbrev pub step_in : List Word → Option Meaning
 step_in words = two_words (λ id count. both (short id) (steps count) Step) words
 
+-- `round <id> <n>`
+abbrev pub round_in : List Word → Option Meaning
+round_in words = two_words (λ id count. both (short id) (steps count) Round) words
+
 -- the identifier and the switch of `trace <id> on` and `trace <id> off`
 abbrev pub switch_in : List Word → Option (ℕ × Bool)
 switch_in words = two_words (λ id word. both (short id) (switch word) (λ i on. (i, on))) words
@@ -252,6 +260,14 @@ memory_in words = three_words (λ id address count.
 -- `pool <index>`
 abbrev pub pool_in : List Word → Option Meaning
 pool_in words = one_word (λ word. option_map Pool (number_up_to (2 ^ 64 - 1) word)) words
+
+-- a pool index or a pool word
+abbrev pub pool_number : Word → Option ℕ
+pool_number word = number_up_to (2 ^ 64 - 1) word
+
+-- `put <index> <value>`
+abbrev pub put_in : List Word → Option Meaning
+put_in words = two_words (λ index value. both (pool_number index) (pool_number value) Put) words
 
 -- `work <workers> <budget> <turns>`
 abbrev pub work_in : List Word → Option Meaning
@@ -274,7 +290,9 @@ abbrev pub plain_command_in : Word → List Word → Option Meaning
 plain_command_in name words =
     if bytes_eq name (codes "time") then time_in words
     else if bytes_eq name (codes "step") then step_in words
+    else if bytes_eq name (codes "round") then round_in words
     else if bytes_eq name (codes "pool") then pool_in words
+    else if bytes_eq name (codes "put") then put_in words
     else if bytes_eq name (codes "journal") then no_word Journal words
     else if bytes_eq name (codes "drain") then no_word Drain words
     else if bytes_eq name (codes "work") then work_in words

@@ -9,7 +9,7 @@ use pus_fields::MAX_TELECOMMAND_DATA;
 /// length take four octets before it.
 pub const MAX_OCTETS_LENGTH: usize = MAX_TELECOMMAND_DATA - 4;
 
-/// The most instructions of a `step` line.
+/// The most instructions of a `step` or a `round` line.
 pub const MAX_STEPS: u32 = 1_000_000;
 
 /// The most octets of a `mem` line.
@@ -67,6 +67,11 @@ pub enum Command<'a> {
         id: u16,
         steps: Count<MAX_STEPS>,
     },
+    /// `round <id> <n>`: up to so many instructions of a procedure, or as far as its step ends.
+    Round {
+        id: u16,
+        steps: Count<MAX_STEPS>,
+    },
     /// `break <id> <place>`: a breakpoint at the slot of an instruction.
     Break {
         id: u16,
@@ -94,6 +99,11 @@ pub enum Command<'a> {
     },
     /// `pool <index>`: a word of the pool.
     Pool(u64),
+    /// `put <index> <value>`: a word of the pool gets a value from outside.
+    Put {
+        index: u64,
+        value: u64,
+    },
     /// `journal`: how many events there were.
     Journal,
     /// `drain`: the reports of the completions that wait.

@@ -4,7 +4,7 @@ ghost use Rattle.std.specs.Prelude.{◌≡◌, length, IfOk, IfSome, OnErr, IsTr
 ghost use Rattle.std.specs.Option.{option_map};
 ghost use Rattle.ocp_profile.specs.declared.profile.Profile.{Profile};
 ghost use Rattle.ocp_lines.specs.Words.{words_of, number_up_to};
-ghost use Rattle.ocp_lines.specs.Grammar.{Fits, meaning_of, from_one, up_in, send_in, step_in, memory_in, work_in, switch, trace_in, debugger_command_in, plain_command_in, command_of, takes_octets, send_takes_octets};
+ghost use Rattle.ocp_lines.specs.Grammar.{Fits, meaning_of, from_one, up_in, send_in, step_in, round_in, put_in, memory_in, work_in, switch, trace_in, debugger_command_in, plain_command_in, command_of, takes_octets, send_takes_octets};
 
 use crate::command::{Command, Count, Flags, MAX_OCTETS_LENGTH, Shift};
 use crate::verbs::request;
@@ -78,6 +78,26 @@ fn step(arguments: &[u8]) -> Option<Command<'_>>
     let id = short(id)?;
     let steps = count(steps)?;
     Some(Command::Step { id, steps })
+}
+
+fn round(arguments: &[u8]) -> Option<Command<'_>>
+    ensures command { option_map meaning_of result ≡ round_in (words_of arguments.now) }
+    ensures fits { (profile : Profile) → IfSome result (Fits profile) }
+{
+    let (id, steps) = two_words(arguments)?;
+    let id = short(id)?;
+    let steps = count(steps)?;
+    Some(Command::Round { id, steps })
+}
+
+fn put(arguments: &[u8]) -> Option<Command<'_>>
+    ensures command { option_map meaning_of result ≡ put_in (words_of arguments.now) }
+    ensures fits { (profile : Profile) → IfSome result (Fits profile) }
+{
+    let (index, value) = two_words(arguments)?;
+    let index = number(index, u64::MAX)?;
+    let value = number(value, u64::MAX)?;
+    Some(Command::Put { index, value })
 }
 
 /// Whether a word is `on` or `off`.
@@ -169,8 +189,12 @@ fn plain_command<'a>(name: &[u8], arguments: &'a [u8]) -> Option<Command<'a>>
         Some(Command::Time(long(one_word(arguments)?)?))
     } else if name == b"step".as_slice() {
         step(arguments)
+    } else if name == b"round".as_slice() {
+        round(arguments)
     } else if name == b"pool".as_slice() {
         Some(Command::Pool(number(one_word(arguments)?, u64::MAX)?))
+    } else if name == b"put".as_slice() {
+        put(arguments)
     } else if name == b"journal".as_slice() {
         next_word(arguments).is_none().then_some(Command::Journal)
     } else if name == b"drain".as_slice() {

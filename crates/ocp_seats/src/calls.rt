@@ -8,9 +8,10 @@ use crate::{Book, CommitOutcome, Entry, Input, Naming, Seat, Slice, StepOutcome,
 use std::alloc::Allocator;
 
 impl<L: Naming, A: Allocator> Book<L, A> {
-    /// `Engine::apply` with the seat's number: a request, an instruction, a debugger's command or a
-    /// drain. The seat keeps the receipt of the entry that the journal gained. The memory of the
-    /// reports and of what journal and seat keep is taken before anything is changed.
+    /// `Engine::apply` with the seat's number: a request, an instruction, a debugger's command, a
+    /// drain or a write of a pool word. The seat keeps the receipt of the entry that the journal
+    /// gained. The memory of the reports and of what journal and seat keep is taken before anything
+    /// is changed.
     #[tactic(auto, using(crate::proofs::Going::goes_on_further))]
     pub fn apply<I: Input<A>>(&mut self, seat: &mut Seat<L, A>, input: I) -> I::Answer
         ensures served { Serves self.old self.new seat.old seat.new

@@ -10,7 +10,7 @@ mod seat;
 pub use book::{Book, TakeFault};
 pub use close::{CloseFault, NotClosed};
 pub use ocp_core::{
-    Command, CommitOutcome, DebugFault, Engine, EngineFault, Entry, Input, Octets, Reports, Slice,
-    StepOutcome, Ticket, Work, input,
+    Command, CommitOutcome, DebugFault, Engine, EngineFault, Entry, Input, Octets, PutFault,
+    Reports, Slice, StepOutcome, Ticket, Work, input,
 };
 pub use seat::{MAX_SEATS, Naming, Seat, SeatFault};

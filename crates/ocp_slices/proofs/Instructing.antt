@@ -10,7 +10,7 @@ use Rattle.ocp_world.specs.After.{After, after, is_accepted, is_done}
 use Rattle.ocp_world.specs.Replay.{replay_from}
 use Rattle.ocp_world.specs.Slice.{is_running, next_outcome}
 use Rattle.ocp_world.specs.NextRunning.{Runs}
-use Rattle.ocp_core.specs.Log.{Log, Entry, Asked, Steps, Debugged, Drained, events_of, expand, world_of}
+use Rattle.ocp_core.specs.Log.{Log, Entry, Asked, Steps, Debugged, Drained, Wrote, events_of, expand, world_of}
 use Rattle.ocp_core.specs.Marks.{MarkedEntry, last_outcome, mark_in, entries_with_marks_from, entries_with_marks}
 use Rattle.ocp_core.proofs.Replays.{replay_from-append}
 use Rattle.ocp_slices.specs.Closed.{IsWorked, HasWorked}
@@ -68,6 +68,7 @@ module _ (refused : (w : World) (e : Event) → is_accepted (after w e).answer �
     entry crew budget w (Steps by id count) worked done = steps crew by id worked.0 worked.1 count w S.Ran done
     entry crew budget w (Debugged by id command) worked done = absurd worked
     entry crew budget w (Drained by time) worked done = absurd worked
+    entry crew budget w (Wrote by index value) worked done = absurd worked
 
     entries : (crew budget : ℕ) (w : World) (es : List Entry) → All (λ (e : Entry). IsWorked crew budget e) es → All (λ (m : MarkedEntry). is_accepted m.mark ≡ true) (entries_with_marks_from w es) → AreInstructions crew w (expand es)
     entries crew budget w [] worked done = tt

@@ -2,7 +2,7 @@
 use Rattle.std.proofs.Common.{◌≡◌, ◌≤◌, ◌<◌, ◌==◌, ℕ, zero, suc, Bool, true, false, cond, List, [], ◌∷◌, ◌++◌, length, drop, filter, get_or, All, refl, ap, sym, subst, ◌∙◌, arith}
 use Rattle.std.proofs.lemmas.List.Elements.{All-nil, All-head, All-tail, All-push, All-same, All-map}
 use Rattle.ocp_world.specs.After.{is_accepted}
-use Rattle.ocp_core.specs.Log.{Log, Entry, Asked, Steps, Debugged, Drained}
+use Rattle.ocp_core.specs.Log.{Log, Entry, Asked, Steps, Debugged, Drained, Wrote}
 use Rattle.ocp_core.specs.Marks.{MarkedEntry, by_of, entries_with_marks, entries_by}
 use Rattle.ocp_seats.specs.Seats.{SeatContents}
 use Rattle.ocp_slices.specs.Continuing.{IsShift, Continues, AllContinue}
@@ -34,6 +34,7 @@ worked_of_shift crew budget number (Asked by time octets) low high shift = absur
 worked_of_shift crew budget number (Steps by id count) low high shift = (omega (arith, shift.0), omega (arith, shift.0), shift.1)
 worked_of_shift crew budget number (Debugged by id command) low high shift = absurd shift
 worked_of_shift crew budget number (Drained by time) low high shift = absurd shift
+worked_of_shift crew budget number (Wrote by index value) low high shift = absurd shift
 
 -- the receipts of a seat that had none are what it gained
 gained : (turns budget : ℕ) (old new : SeatContents) (one : Continues turns budget old new) → old.receipts ≡ [] → new.receipts ≡ one.more

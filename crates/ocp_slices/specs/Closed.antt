@@ -1,7 +1,7 @@
 -- What is known of an engine that seats closed.
 use Rattle.std.specs.Prelude.{◌≡◌, ◌≤◌, ℕ, true, List, All, length, drop}
 use Rattle.ocp_world.specs.After.{is_accepted}
-use Rattle.ocp_core.specs.Log.{Log, Entry, Asked, Steps, Debugged, Drained}
+use Rattle.ocp_core.specs.Log.{Log, Entry, Asked, Steps, Debugged, Drained, Wrote}
 use Rattle.ocp_core.specs.Marks.{MarkedEntry, entries_with_marks}
 use Rattle.ocp_seats.specs.declared.close.CloseFault.{CloseFault}
 use Rattle.ocp_seats.specs.declared.close.CloseFault.TheVariants.{MissingSeat, ReceiptMismatch}
@@ -30,6 +30,7 @@ IsWorked crew budget (Steps by id count) =
     (1 ≤ by) × (by ≤ crew) × IsWithin budget count
 IsWorked crew budget (Debugged by id command) = ⊥
 IsWorked crew budget (Drained by time) = ⊥
+IsWorked crew budget (Wrote by index value) = ⊥
 
 -- so many workers have worked: the journal is the one at the start, followed by one history of as
 -- many seats, whose entries are instructions alone, within the budget, the last of each done, and

@@ -1,7 +1,7 @@
 -- How a seat goes on over many turns.
 use Rattle.std.specs.Prelude.{◌≡◌, ◌≤◌, ◌<◌, ◌⊎◌, ℕ, true, List, ◌++◌, All, length, slice_index_or}
 use Rattle.ocp_world.specs.After.{is_accepted}
-use Rattle.ocp_core.specs.Log.{Entry, Asked, Steps, Debugged, Drained}
+use Rattle.ocp_core.specs.Log.{Entry, Asked, Steps, Debugged, Drained, Wrote}
 use Rattle.ocp_core.specs.Marks.{MarkedEntry}
 use Rattle.ocp_seats.specs.Seats.{SeatContents}
 
@@ -16,6 +16,7 @@ IsShift number budget (Asked by time octets) = ⊥
 IsShift number budget (Steps by id count) = (by ≡ number) × IsWithin budget count
 IsShift number budget (Debugged by id command) = ⊥
 IsShift number budget (Drained by time) = ⊥
+IsShift number budget (Wrote by index value) = ⊥
 
 -- the seat keeps its number, and its old receipts begin its new ones; those that came are so many
 -- at most, each of instructions of the seat within the budget, of which the last was done

@@ -1,6 +1,6 @@
 -- What workers do to a world.
 use Rattle.std.specs.Prelude.{◌≡◌, ◌≤◌, ℕ, true, List, [], ◌∷◌, ◌++◌}
-use Rattle.ocp_world.specs.World.{World, Event, Request, Step, Debug, Drain}
+use Rattle.ocp_world.specs.World.{World, Event, Request, Step, Debug, Drain, Put}
 use Rattle.ocp_world.specs.After.{after, is_accepted}
 use Rattle.ocp_world.specs.Replay.{replay_from}
 use Rattle.ocp_world.specs.NextRunning.{Runs}
@@ -13,6 +13,7 @@ IsInstruction crew w (Step by id) =
     (1 ≤ by) × (by ≤ crew) × Runs w.records id × (is_accepted (after w (Step by id)).answer ≡ true)
 IsInstruction crew w (Debug by id command) = ⊥
 IsInstruction crew w (Drain by time) = ⊥
+IsInstruction crew w (Put by index value) = ⊥
 
 -- each event is an instruction of a procedure that runs, by one of so many workers, in the world
 -- that the events before it leave, and it is done

@@ -15,8 +15,8 @@ pub use close::StillShared;
 pub use crew::{WorkFault, work, workers};
 pub use ocp_seats::{
     Book, CloseFault, Command, CommitOutcome, DebugFault, Engine, EngineFault, Entry, Input,
-    MAX_SEATS, Naming, Reports, Seat, SeatFault, Slice, StepOutcome, TakeFault, Ticket, Work,
-    input,
+    MAX_SEATS, Naming, PutFault, Reports, Seat, SeatFault, Slice, StepOutcome, TakeFault, Ticket,
+    Work, input,
 };
 pub use shared::SharedEngine;
 pub use threaded::Threaded;

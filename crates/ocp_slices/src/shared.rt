@@ -3,13 +3,13 @@
 ghost use Rattle.std.specs.Prelude.{◌≡◌, ◌≤◌, ◌+◌, [], length, IfOk};
 ghost use Rattle.ocp_debug.specs.declared.command.Command.TheVariants as command;
 ghost use Rattle.ocp_world.specs.World as world;
-ghost use Rattle.ocp_core.specs.Clauses.{Commanded, Requested, Stepped};
+ghost use Rattle.ocp_core.specs.Clauses.{Commanded, Requested, Stepped, Written};
 ghost use Rattle.ocp_slices.specs.Replies.{SeatReply, TakeReply, IsServed, IsSliced, IsHandedIn};
 
-use crate::input::{DebuggerCommand, Drain, Request, Step};
+use crate::input::{DebuggerCommand, Drain, PutWord, Request, Step};
 use crate::{
-    Board, Book, Command, CommitOutcome, DebugFault, Engine, EngineFault, Naming, Reports, Seat,
-    SeatFault, Slice, StepOutcome, TakeFault, Ticket, Work,
+    Board, Book, Command, CommitOutcome, DebugFault, Engine, EngineFault, Naming, PutFault,
+    Reports, Seat, SeatFault, Slice, StepOutcome, TakeFault, Ticket, Work,
 };
 use std::alloc::Global;
 use std::hint::spin_loop;
@@ -156,6 +156,20 @@ impl<L: Naming, B: Board<L>> SharedEngine<L, B> {
         ensures sliced { IsSliced B.answers seat.old seat.new id budget result }
     {
         self.lock(rt).slice(seat, id, budget)
+    }
+
+    /// Writes the pool word at an index from outside, as the engine's call with the seat's number.
+    pub fn put_word<R: Wait>(
+        &self,
+        rt: &R,
+        seat: &mut Seat<L>,
+        index: u64,
+        value: u64,
+    ) -> Result<(), PutFault>
+        ensures served { IsServed B.answers seat.old seat.new
+            (world.Put seat.old.number index value) (Written result) }
+    {
+        self.lock(rt).apply(seat, PutWord { index, value })
     }
 
     /// Sets a breakpoint, as the engine's call with the seat's number.

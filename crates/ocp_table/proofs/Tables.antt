@@ -15,7 +15,7 @@ use Rattle.ocp_loader.specs.declared.fault.LoadFault.{LoadFault}
 use Rattle.ocp_loader.specs.LoadResult.{load_result}
 use Rattle.ocp_profile.specs.declared.profile.Profile.{Profile}
 use Rattle.ocp_table.specs.Records.{Rec, Records, Procedures}
-use Rattle.ocp_table.specs.Effects.{Change, Effect, Loaded, Unloaded, Changed, Drained, Kept, Failed, record_by, record_after, records_by, outbox_by, dues_by_change, failed_completion, failed_completion_of, dues_of, with_change}
+use Rattle.ocp_table.specs.Effects.{Change, Effect, Loaded, Unloaded, Changed, Drained, WordPut, Kept, Failed, record_by, record_after, records_by, outbox_by, dues_by_change, failed_completion, failed_completion_of, dues_of, with_change}
 use Rattle.ocp_table.specs.RequestTable.{Load, Step, transition}
 use Rattle.ocp_table.specs.Deciding.{outcome_in, effect_of_load, effect_of_step, effect_by, effect_on, effect_in, is_full}
 use Rattle.ocp_table.specs.Loading.{IsCodeFailure, IsLoadFailure}
@@ -83,6 +83,7 @@ IsAbout q (Loaded profile id image) = ⊥
 IsAbout q (Unloaded id) = ⊥
 IsAbout q (Changed id change) = id ≡ q
 IsAbout q Drained = ⊥
+IsAbout q (WordPut index value) = ⊥
 IsAbout q (Kept why) = Unit {0}
 
 -- the record that is there, changed, is all that the effect changed
@@ -91,6 +92,7 @@ records_by-held m id r (Loaded profile i image) here is = absurd is
 records_by-held m id r (Unloaded i) here is = absurd is
 records_by-held m id r (Changed i change) here is = sym (ap (λ k. with_change (map.get m k) k change m) is ∙ ap (λ o. with_change o id change m) here)
 records_by-held m id r Drained here is = absurd is
+records_by-held m id r (WordPut index value) here is = absurd is
 records_by-held m id r (Kept why) here is = insert-same m id r here
 
 -- what it files is all that the effect files
@@ -99,6 +101,7 @@ outbox_by-held m id r outbox (Loaded profile i image) here is = absurd is
 outbox_by-held m id r outbox (Unloaded i) here is = absurd is
 outbox_by-held m id r outbox (Changed i change) here is = sym (ap (λ k. outbox ++ dues_of change (map.get m k)) is ∙ ap (λ o. outbox ++ dues_of change o) here)
 outbox_by-held m id r outbox Drained here is = absurd is
+outbox_by-held m id r outbox (WordPut index value) here is = absurd is
 outbox_by-held m id r outbox (Kept why) here is = refl
 
 about_step : (q : ℕ) (o : Option InstructionOutcome) → IsAbout q (effect_of_step o q)

@@ -13,7 +13,7 @@ use Rattle.ocp_table.specs.declared.control.Pending.{Pending}
 use Rattle.ocp_table.specs.declared.control.Pending.TheVariants as pending
 use Rattle.ocp_table.specs.declared.answers.InstructionOutcome.TheVariants.{Broke, Ran, Called, Ended, Faulted}
 use Rattle.ocp_table.specs.Records.{Rec, Records}
-use Rattle.ocp_table.specs.Effects.{Change, Started, Sent, Pended, Quit, Resumed, Stepped, BreakSet, BreakCleared, TraceSet, Effect, Loaded, Unloaded, Changed, Drained, Kept, matches, inactive, control_on_hold, without_pass, control_at_step_end, control_by, record_by, new_record, with_change, records_by, failed_completion, due_completion, dues_at_step_end, dues_by_change, dues_of, failed_completion_of, dues_by, outbox_by}
+use Rattle.ocp_table.specs.Effects.{Change, Started, Sent, Pended, Quit, Resumed, Stepped, BreakSet, BreakCleared, TraceSet, Effect, Loaded, Unloaded, Changed, Drained, WordPut, Kept, matches, inactive, control_on_hold, without_pass, control_at_step_end, control_by, record_by, new_record, with_change, records_by, failed_completion, due_completion, dues_at_step_end, dues_by_change, dues_of, failed_completion_of, dues_by, outbox_by}
 use Rattle.ocp_table.proofs.Totals.{of, total, total-insert, total-remove, total-empty}
 
 -- what a drain takes
@@ -161,6 +161,7 @@ module _ (f : PendingOrigin → ℕ) where
       omega (arith, dropped, old)
   balance (Changed id change) m = balance_there m id change (get m id) refl
   balance Drained m = refl
+  balance (WordPut index value) m = refl
   balance (Kept why) m = refl
 
   filed_after : (outbox ds : List Due) → 0 + due (outbox ++ ds) ≡ due outbox + due ds
@@ -172,4 +173,5 @@ module _ (f : PendingOrigin → ℕ) where
   files (Unloaded id) m outbox = filed_after outbox (dues_by (Unloaded id) m)
   files (Changed id change) m outbox = filed_after outbox (dues_by (Changed id change) m)
   files Drained m outbox = refl
+  files (WordPut index value) m outbox = filed_after outbox []
   files (Kept why) m outbox = filed_after outbox []

@@ -28,6 +28,8 @@ pub use Rattle.ocp_table.specs.Effects.{with_trace_flag, Loaded, Drained, refusa
 pub use Rattle.ocp_table.specs.Slices.{is_on, is_done, Store, RunsBy, Leads, with_machine, last_ran}
 pub use Rattle.ocp_table.specs.Slices.{is_running_status, IsSlice, is_traced, is_running}
 pub use Rattle.ocp_table.specs.Slices.{slice_count, slice_last, store_of, store_after_events}
+pub use Rattle.ocp_table.specs.Slices.{step_ended_by, step_ended, step_at, most_events, ends_with}
+pub use Rattle.ocp_table.specs.Slices.{slice_of}
 pub use Rattle.ocp_table.specs.Budgets.{less, within, IsWithin}
 pub use Rattle.ocp_table.specs.Outbox.{HasPlaceBeside, pendings, has_no_place}
 pub use Rattle.ocp_table.specs.Deciding.{decision_on, outcome_of, effect_in, status_of, outcome_in}

@@ -1,6 +1,6 @@
 -- What an event does to the records, with all values that it writes. Each part of a record follows
 -- from it by cases.
-use Rattle.std.specs.Prelude.{ℕ, ◌==◌, ◌||◌, Bool, true, false, not, nat_lt, if◌then◌else◌, List, [], ◌∷◌, ◌++◌, Option, Some, None, Result, Ok, Err}
+use Rattle.std.specs.Prelude.{ℕ, ◌==◌, ◌||◌, Bool, true, false, not, nat_lt, if◌then◌else◌, List, [], ◌∷◌, ◌++◌, slice_set, Option, Some, None, Result, Ok, Err}
 use Rattle.std.specs.List.{filter}
 use Rattle.std.specs.FinMap.{get, insert, remove}
 use Rattle.obcp_types.specs.declared.failure.CompletionFailure.TheVariants.{Overtaken}
@@ -50,13 +50,15 @@ pub data Why : Type 0 where
   Unasked : Why
   Failed : StartFailure → Why
 
--- what an event does to the records and to the outbox: a procedure is loaded, by a profile and an
--- image, unloaded or changed, the outbox is emptied, or all of it stays
+-- what an event does to the records, to the outbox and to the pool: a procedure is loaded, by a
+-- profile and an image, unloaded or changed, the outbox is emptied, the pool word at an index
+-- becomes a value, written from outside, or all of it stays
 pub data Effect : Type 0 where
   Loaded : Profile → ℕ → List ℕ → Effect
   Unloaded : ℕ → Effect
   Changed : ℕ → Change → Effect
   Drained : Effect
+  WordPut : ℕ → ℕ → Effect
   Kept : Why → Effect
 
 -- ---- the parts of a record after a change
@@ -215,6 +217,7 @@ records_by (Loaded profile id image) m = insert m id (new_record profile image)
 records_by (Unloaded id) m = remove m id
 records_by (Changed id change) m = with_change (get m id) id change m
 records_by Drained m = m
+records_by (WordPut index value) m = m
 records_by (Kept why) m = m
 
 -- ---- the outbox after an effect
@@ -275,6 +278,7 @@ dues_by (Loaded profile id image) m = failed_completion_of (get m id)
 dues_by (Unloaded id) m = failed_completion_of (get m id)
 dues_by (Changed id change) m = dues_of change (get m id)
 dues_by Drained m = []
+dues_by (WordPut index value) m = []
 dues_by (Kept why) m = []
 
 abbrev pub outbox_by : Effect → Records → List Due → List Due
@@ -322,6 +326,7 @@ pool_by_change change pool = pool
 
 abbrev pub pool_by : Effect → List ℕ → List ℕ
 pool_by (Changed id change) pool = pool_by_change change pool
+pool_by (WordPut index value) pool = slice_set pool index value
 pool_by effect pool = pool
 
 -- ---- answers

@@ -1,6 +1,6 @@
 -- A slice: instruction events of one procedure, one after another, up to a budget, until it no
 -- longer runs.
-use Rattle.std.specs.Prelude.{◌≡◌, ◌+◌, ℕ, zero, suc, Bool, true, false, if◌then◌else◌, List, Option, Some, None}
+use Rattle.std.specs.Prelude.{◌≡◌, ◌+◌, ◌<◌, ℕ, zero, suc, Bool, true, false, if◌then◌else◌, List, Option, Some, None, is_some}
 use Rattle.std.specs.FinMap.{get, insert}
 use Rattle.obcp_types.specs.declared.pending.Due.{Due}
 use Rattle.obcp_types.specs.declared.status.Status.{Status}
@@ -8,12 +8,18 @@ use Rattle.obcp_types.specs.declared.status.Status.TheVariants.{Inactive, Runnin
 use Rattle.bpf_step.specs.Machine.{State}
 use Rattle.bpf_step.specs.Runs.{local_run}
 use Rattle.ocp_table.specs.declared.control.Control.{Control}
+use Rattle.ocp_pool.specs.declared.call.Called.TheVariants as call
 use Rattle.ocp_table.specs.declared.answers.Slice.{Slice}
+use Rattle.ocp_table.specs.declared.answers.Round.{Round}
+use Rattle.ocp_table.specs.declared.answers.Extent.{Extent}
+use Rattle.ocp_table.specs.declared.answers.Extent.TheVariants as extents
+use Rattle.ocp_table.specs.declared.answers.InstructionOutcome.{InstructionOutcome}
+use Rattle.ocp_table.specs.declared.answers.InstructionOutcome.TheVariants.{Called}
 use Rattle.ocp_table.specs.declared.answers.StepOutcome.{StepOutcome}
 use Rattle.ocp_table.specs.declared.answers.StepOutcome.TheVariants as S
 use Rattle.ocp_table.specs.Budgets.{less, IsWithin}
 use Rattle.ocp_table.specs.Records.{Rec, Records, Procedures}
-use Rattle.ocp_table.specs.Effects.{Effect, without_pass, records_by, outbox_by, pool_by, step_outcome}
+use Rattle.ocp_table.specs.Effects.{Effect, Changed, Stepped, without_pass, records_by, outbox_by, pool_by, step_outcome}
 use Rattle.ocp_table.specs.RequestTable.{Step}
 use Rattle.ocp_table.specs.Deciding.{effect_in}
 
@@ -109,6 +115,49 @@ pub record IsSlice (id : ℕ) (s : Store) (budget : ℕ) (slice : Slice) (r : Re
   pub last : slice.last ≡ slice_last id s S.Ran budget
   pub store : store_after_events id slice.count s ≡
       record { records = insert s.records id r; outbox = outbox; pool = pool }
+
+-- ---- a round: a slice that also ends with the first event that ends a step
+
+-- the step that an instruction of this outcome ends, if it ends one
+abbrev pub step_ended_by : InstructionOutcome → Option ℕ
+step_ended_by (Called (call.StepEnd step)) = Some step
+step_ended_by outcome = None
+
+-- that of an event
+abbrev pub step_ended : Effect → Option ℕ
+step_ended (Changed id (Stepped outcome)) = step_ended_by outcome
+step_ended effect = None
+
+-- that of the last of so many events
+abbrev pub step_at : ℕ → ℕ → Store → Option ℕ
+step_at id zero s = None
+step_at id (suc n) s = step_ended (effect_of_event id (store_after_events id n s))
+
+-- how many events a round has at most: its budget, or those up to the first that ends a step
+abbrev pub round_budget : ℕ → Store → ℕ → ℕ
+round_budget id s zero = 0
+round_budget id s (suc budget) =
+    if is_some (step_ended (effect_of_event id s)) then 1
+    else suc (round_budget id (store_after id s) budget)
+
+-- how many events there are at most, by how far they go
+abbrev pub most_events : Extent → ℕ → Store → ℕ → ℕ
+most_events extents.Slice id s budget = budget
+most_events extents.Round id s budget = round_budget id s budget
+
+-- whether events that go so far end with one that ends this step
+abbrev pub ends_with : Extent → Option ℕ → Bool
+ends_with extents.Slice step = false
+ends_with extents.Round step = is_some step
+
+-- a round without the step that it ended
+abbrev pub slice_of : Round → Slice
+slice_of round = record { count = round.count; last = round.last }
+
+-- none of so many events ends a step
+abbrev pub EndNoStep : ℕ → ℕ → Store → Type 0
+EndNoStep id n s =
+    (k : ℕ) → k < n → step_ended (effect_of_event id (store_after_events id k s)) ≡ None
 
 -- ---- instructions that a machine does by itself
 

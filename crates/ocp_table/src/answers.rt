@@ -1,6 +1,6 @@
 //! What became of an event of a procedure.
 ghost use Rattle.std.specs.Prelude.{◌≡◌, true};
-ghost use Rattle.ocp_table.specs.Clauses.{is_done, is_on, step_outcome_of};
+ghost use Rattle.ocp_table.specs.Clauses.{ends_with, is_done, is_on, step_ended_by, step_outcome_of};
 
 use crate::ProcedureFault;
 use obcp_types::StartFailure;
@@ -38,6 +38,22 @@ pub enum StepOutcome {
     JournalFull,
 }
 
+/// What became of an instruction event, and the number of the step that it ended, if it ended one.
+#[derive(Clone, Copy)]
+pub struct InstructionAnswer {
+    pub outcome: StepOutcome,
+    pub step: Option<u16>,
+}
+
+/// How far instruction events of one procedure go before their budget is used.
+#[derive(Clone, Copy)]
+pub enum Extent {
+    /// Until it no longer runs, or one of them is refused, held, ends it or faults.
+    Slice,
+    /// As far as a slice, or until one of them ends a step.
+    Round,
+}
+
 /// What became of a slice.
 #[derive(Clone, Copy)]
 pub struct Slice {
@@ -47,11 +63,48 @@ pub struct Slice {
     pub last: StepOutcome,
 }
 
+/// What became of a round.
+#[derive(Clone, Copy)]
+pub struct Round {
+    /// How many instruction events there were.
+    pub count: u32,
+    /// The outcome of the last one.
+    pub last: StepOutcome,
+    /// The number of the step that it ended, if it ended one.
+    pub step: Option<u16>,
+}
+
 /// Why nothing is loaded: the start of the request failed, or memory was refused.
 #[derive(Clone, Copy, PartialEq, Eq, Debug)]
 pub enum LoadFailure {
     Failed(StartFailure),
     Memory,
+}
+
+impl InstructionOutcome {
+    /// The number of the step that it ended, if it ended one.
+    #[inline(always)]
+    pub(crate) fn step_ended(self) -> Option<u16>
+        ensures { result ≡ step_ended_by self }
+    {
+        match self {
+            InstructionOutcome::Called(Called::StepEnd(step)) => Some(step),
+            _ => None,
+        }
+    }
+}
+
+impl Extent {
+    /// Whether events that go so far end with one that ended this step.
+    #[inline(always)]
+    pub fn ends_with(self, step: Option<u16>) -> bool
+        ensures { result ≡ ends_with self step }
+    {
+        match self {
+            Extent::Slice => false,
+            Extent::Round => step.is_some(),
+        }
+    }
 }
 
 impl StepOutcome {

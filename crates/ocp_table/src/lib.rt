@@ -18,7 +18,9 @@ mod snapshot;
 mod table;
 mod view;
 
-pub use answers::{InstructionOutcome, LoadFailure, Slice, StepOutcome};
+pub use answers::{
+    Extent, InstructionAnswer, InstructionOutcome, LoadFailure, Round, Slice, StepOutcome,
+};
 pub use change::{Change, Decided, Decision};
 pub use control::{Cause, Control, Pending};
 pub use directive::Directive;

@@ -1,10 +1,11 @@
-//! A slice of a procedure that is found once.
+//! Instructions of a procedure that is found once.
 ghost use Rattle.std.specs.Prelude.{◌≡◌, ◌≤◌, ◌+◌, ◌++◌, Some, true, false};
-ghost use Rattle.ocp_table.specs.Clauses.{HasPlaceBeside, IsSlice, IsWithin, Records, Running, Step, dues_of_effect, effect_of_record, get, is_done, is_on, is_running_status, local_run, pool_by, record_after, record_of, step_outcome, with_machine};
+ghost use Rattle.ocp_table.specs.Clauses.{HasPlaceBeside, IsSlice, IsWithin, Records, Running, Step, dues_of_effect, effect_of_record, get, is_done, is_on, is_running_status, local_run, most_events, pool_by, record_after, record_of, slice_of, step_at, step_ended, step_outcome, Store, with_machine};
+ghost use Rattle.ocp_table.specs.declared.answers.Extent.TheVariants as extents;
 
 use crate::budget::{less, within};
 use crate::outbox::Outbox;
-use crate::{Pool, Record, Slice, Status, StepOutcome};
+use crate::{Extent, InstructionAnswer, Pool, Record, Round, Status, StepOutcome};
 use std::alloc::Allocator;
 
 impl<A: Allocator> Record<A> {
@@ -43,10 +44,11 @@ impl<A: Allocator> Record<A> {
 
     /// One instruction event.
     #[inline(never)]
-    pub(crate) fn event(&mut self, pool: &mut Pool<A>, outbox: &mut Outbox) -> StepOutcome
+    pub(crate) fn event(&mut self, pool: &mut Pool<A>, outbox: &mut Outbox) -> InstructionAnswer
         requires { HasPlaceBeside outbox.old.items self.old.control.pending }
-        ensures answer { result ≡ step_outcome (effect_of_record (Step pool.old) self.old) }
-        ensures done { self.old.control.status ≡ Running → is_done result ≡ true }
+        ensures answer { result.outcome ≡ step_outcome (effect_of_record (Step pool.old) self.old) }
+        ensures step { result.step ≡ step_ended (effect_of_record (Step pool.old) self.old) }
+        ensures done { self.old.control.status ≡ Running → is_done result.outcome ≡ true }
         ensures record { record_of self.new ≡
             record_after (effect_of_record (Step pool.old) self.old) (record_of self.old) }
         ensures outbox { outbox.new.items ≡ outbox.old.items
@@ -57,29 +59,49 @@ impl<A: Allocator> Record<A> {
         ensures id { self.new.id ≡ self.old.id }
     {
         match self.control.status {
-            Status::Running => StepOutcome::of(self.instruction(pool, outbox)),
-            Status::Inactive | Status::Held => StepOutcome::NotRunning,
+            Status::Running => {
+                let outcome = self.instruction(pool, outbox);
+                InstructionAnswer {
+                    outcome: StepOutcome::of(outcome),
+                    step: outcome.step_ended(),
+                }
+            }
+            Status::Inactive | Status::Held => InstructionAnswer {
+                outcome: StepOutcome::NotRunning,
+                step: None,
+            },
         }
     }
 
-    /// Does instructions until the budget is used or the procedure no longer goes on: what needs no
-    /// engine is done in stretches, and what does as an event.
-    pub(crate) fn slice(&mut self, pool: &mut Pool<A>, outbox: &mut Outbox, budget: u32) -> Slice
+    /// Does instructions until the budget is used or they go no further: what needs no engine is
+    /// done in stretches, and what does as an event.
+    pub(crate) fn instructions(
+        &mut self,
+        pool: &mut Pool<A>,
+        outbox: &mut Outbox,
+        budget: u32,
+        extent: Extent,
+    ) -> Round
         requires budget { 1 ≤ budget }
         requires place { HasPlaceBeside outbox.old.items self.old.control.pending }
         ensures slice { (m : Records) → get m self.old.id ≡ Some (record_of self.old) →
-            IsSlice self.old.id
-            (record { records = m; outbox = outbox.old.items; pool = pool.old })
-            budget result (record_of self.new) outbox.new.items pool.new }
+            let s : Store = record { records = m; outbox = outbox.old.items; pool = pool.old } in
+            IsSlice self.old.id s (most_events extent self.old.id s budget) (slice_of result)
+            (record_of self.new) outbox.new.items pool.new }
+        ensures step { extent ≡ extents.Round →
+            (m : Records) → get m self.old.id ≡ Some (record_of self.old) →
+            let s : Store = record { records = m; outbox = outbox.old.items; pool = pool.old } in
+            result.step ≡ step_at self.old.id result.count s }
         ensures done { is_running_status self.old.control.status ≡ true →
             is_done result.last ≡ true }
         ensures place { HasPlaceBeside outbox.new.items self.new.control.pending }
         ensures id { self.new.id ≡ self.old.id }
     {
         if !self.is_running() {
-            return Slice {
+            return Round {
                 count: 1,
                 last: StepOutcome::NotRunning,
+                step: None,
             };
         }
         let mut count = 0;
@@ -87,18 +109,28 @@ impl<A: Allocator> Record<A> {
         while count < budget {
             count += self.run(budget - count);
             if count == budget {
-                return Slice {
+                return Round {
                     count,
                     last: StepOutcome::Ran,
+                    step: None,
                 };
             }
-            last = self.event(pool, outbox);
+            let answer = self.event(pool, outbox);
+            let step = answer.step;
+            last = answer.outcome;
             count += 1;
             let goes_on = last.is_on() && self.is_running();
             if !goes_on {
-                return Slice { count, last };
+                return Round { count, last, step };
+            }
+            if extent.ends_with(step) {
+                return Round { count, last, step };
             }
         }
-        Slice { count, last }
+        Round {
+            count,
+            last,
+            step: None,
+        }
     }
 }

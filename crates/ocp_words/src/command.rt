@@ -61,7 +61,7 @@ fn apid_option<'a>(alloc: Global) -> Arg<'a>
     ensures rule { rule_of result ≡ apid_rule }
     ensures global { result.global ≡ false }
 {
-    let help = "The engine's application process identifier, 0 to 2046";
+    let help = "Application process identifier of the engine, 0 to 2046";
     option(
         alloc,
         "apid",
@@ -75,7 +75,7 @@ fn pool_option<'a>(alloc: Global) -> Arg<'a>
     ensures rule { rule_of result ≡ pool_rule }
     ensures global { result.global ≡ false }
 {
-    let help = "Words of the pool, 1 to 256";
+    let help = "Number of pool words, 1 to 256";
     option(
         alloc,
         "pool",
@@ -89,7 +89,7 @@ fn journal_option<'a>(alloc: Global) -> Arg<'a>
     ensures rule { rule_of result ≡ journal_rule }
     ensures global { result.global ≡ false }
 {
-    let help = "Entries that the journal takes, 1 to 1000000";
+    let help = "Room of the journal, 1 to 1000000 entries";
     option(
         alloc,
         "journal",

@@ -9,20 +9,20 @@ pub(crate) const OCP_USAGE: &str = "ocp [COMMAND] < FILE";
 pub(crate) const OCP: &str = "On-board control procedures: engine, assembler and ground console";
 
 pub(crate) const OCP_HELP: &str = "Each command reads standard input and writes standard output.
-With no command, ocp does what run does with its defaults.
+Without a command, ocp does what run does with its defaults.
 
 Exit status:
-  0  done; also help and version
-  1  a fault of the input: the last line of the output says which
-  2  a mistake in the words: standard error says which
-  3  reading, writing, memory or workers failed: standard error says 'fault <name>'
+  0  done, also after help and version
+  1  the input has a fault: the last line of the output names it
+  2  the command line is refused: standard error says why
+  3  a read, a write, memory or the workers failed: standard error says 'fault <name>'
 
-Manuals: docs/MANUAL.md, docs/AUTHOR.md. On one page: docs/CARD.md";
+Manuals: docs/MANUAL.md, docs/AUTHOR.md. Everything on one page: docs/CARD.md";
 
 pub(crate) const ASM_USAGE: &str = "ocp asm [OPTIONS] < TEXT";
 
 pub(crate) const ASM: &str =
-    "Reads assembly text, and writes its image as one line of hexadecimal digits";
+    "Reads assembly text and writes its image as one line of hexadecimal digits";
 
 pub(crate) const ASM_HELP: &str = "A line of the text: [label:] [instruction] [; comment]
   again: sub64 r1, 1 ; one less
@@ -33,17 +33,18 @@ Fault lines:
 
 Load faults:
   1 EmptyCode, 3 TooLong, 8 WritesFramePointer, 9 BadCall, 10 BadTarget, 11 FallsOffEnd
-  With --profile 2 call 6 is no BadCall
+  With --profile 2, call 6 is allowed
 
 Exit status:
-  0 done, 1 a fault line is the output, 2 a mistake in the words, 3 a device or memory failed
+  0 done, 1 the output is a fault line, 2 the command line is refused,
+  3 a read, a write or memory failed
 
 Example: `echo exit | ocp asm` writes 9500000000000000
-Manual: docs/AUTHOR.md, sections 2 and 3; Why Syntax?: 5. Every mnemonic: docs/CARD.md";
+Manual: docs/AUTHOR.md, sections 2 and 3; causes of Syntax: section 5. Mnemonics: docs/CARD.md";
 
 pub(crate) const LIST_USAGE: &str = "ocp list < IMAGE";
 
-pub(crate) const LIST: &str = "Reads an image in hexadecimal digits, and writes its listing";
+pub(crate) const LIST: &str = "Reads an image in hexadecimal digits and writes its listing";
 
 pub(crate) const LIST_HELP: &str = "Fault lines:
   error 0 TooLong, error 0 Hex, error 0 Ragged, error <slot> Decode <n>
@@ -52,11 +53,12 @@ Decode faults:
   1 CutWide, 2 UnknownOpcode, 3 BadRegister, 4 ReservedField, 5 WritesFramePointer
 
 Exit status:
-  0 done, 1 a fault line is the output, 2 a mistake in the words, 3 a device or memory failed
+  0 done, 1 the output is a fault line, 2 the command line is refused,
+  3 a read, a write or memory failed
 
 Example: `echo 9500000000000000 | ocp list` writes exit
 Manual: docs/AUTHOR.md, section 3";
 
 pub(crate) const RUN_USAGE: &str = "ocp run [OPTIONS] < SCRIPT";
 
-pub(crate) const RUN: &str = "Reads a script of console lines, and writes its transcript";
+pub(crate) const RUN: &str = "Reads a script of console lines and writes its transcript";

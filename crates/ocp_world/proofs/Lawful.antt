@@ -26,16 +26,17 @@ use Rattle.ocp_debug.specs.Traces.{traces_by}
 use Rattle.ocp_debug.specs.Commands.{change_of, effect_by as debug_effect_by, fault_on}
 use Rattle.ocp_reports.specs.declared.origin.Origin.{Origin}
 use Rattle.ocp_reports.specs.Origin.{origin_of}
-use Rattle.ocp_world.specs.World.{World, Event, Request, Step, Debug, Drain}
+use Rattle.ocp_world.specs.World.{World, Event, Request, Step, Debug, Drain, Put}
 use Rattle.ocp_world.specs.Requests.{directive_by, effect_asked, command_effect, service_effect, request_effect, command_of, next_origin, has_no_place}
 use Rattle.ocp_world.specs.Drains.{drain_effect}
-use Rattle.ocp_world.specs.Effect.{Reply, Discards, Sends, Steps, Commands, Undue}
+use Rattle.ocp_world.specs.Effect.{Reply, Discards, Sends, Steps, Commands, Undue, Puts}
 use Rattle.ocp_world.specs.After.{after, effect_of, answer_by, events_by, is_accepted}
 use Rattle.ocp_world.specs.Replay.{replay_from}
 use Rattle.ocp_world.specs.Laws.{is_start_of, is_start_in, is_start_by, may_change_machine, IsAppended}
 use Rattle.ocp_world.specs.Slice.{is_running, is_running_status}
 use Rattle.ocp_world.proofs.Refusals.{is_instruction, refused_step, refused_keeps}
 use Rattle.ocp_world.proofs.Calm.{request_makes_no_trace, no_more}
+use Rattle.ocp_world.proofs.Putting.{put_keeps_records}
 use Rattle.ocp_world.proofs.Asked.{is_request, each_asked}
 
 -- ---- only a running procedure steps
@@ -180,6 +181,7 @@ module _ (debugs : (change : Change) (id q : ℕ) (m : Records) → IsDebugging 
     machines_stay w (Step by own) id h = stays_by_step w by own id (own == id) refl h
     machines_stay w (Debug by own command) id h = machine_kept (fault_on command (get w.records own)) command own id w.records
     machines_stay w (Drain by time) id h = ap (λ m. machine_of (get m id)) (drain_keeps_records w by time)
+    machines_stay w (Put by index value) id h = ap (λ m. machine_of (get m id)) (put_keeps_records w by index value)
 
 -- ---- what a debugger's command leaves
 
@@ -224,6 +226,8 @@ counted_by (Steps outcome) w = refl
 counted_by (Commands (Ok done)) w = refl
 counted_by (Commands (Err fault)) w = refl
 counted_by Undue w = refl
+counted_by (Puts (Ok done)) w = refl
+counted_by (Puts (Err fault)) w = refl
 
 pub counted : (w : World) (e : Event) → (after w e).world.events ≡ cond (is_accepted (after w e).answer) (w.events + 1) w.events
 counted w e = counted_by (effect_of w e).reply w

@@ -3,11 +3,11 @@ pub mod Refusals
 pub mod ByKind
 pub mod Calm
 pub mod Asked
-pub mod Slices
 pub mod Slicing
 pub mod Lawful
 pub mod Stretches
 pub mod Settling
 pub mod Sending
+pub mod Putting
 pub mod NextRunning
 pub mod Counting

@@ -1,6 +1,6 @@
 -- Which events are refused, and that a refused one leaves the world.
 use Rattle.std.proofs.Common.{◌≡◌, ℕ, Bool, true, false, ◌+◌, cond, List, [], ◌∷◌, ◌++◌, length, Option, Some, None, refl, sym, ap, subst, ◌∙◌}
-use Rattle.std.specs.Prelude.{Result, Ok, Err, is_some, not, nat_le}
+use Rattle.std.specs.Prelude.{Result, Ok, Err, is_some, not, nat_le, nat_lt}
 use Rattle.std.proofs.lemmas.List.{append-nil}
 use Rattle.pus_fields.specs.declared.fault.Discard.{Discard}
 use Rattle.pus_fields.specs.declared.fault.TcFault.{TcFault}
@@ -19,7 +19,7 @@ use Rattle.ocp_table.specs.declared.answers.InstructionOutcome.TheVariants as di
 use Rattle.ocp_table.specs.declared.answers.StepOutcome.{StepOutcome}
 use Rattle.ocp_table.specs.declared.answers.StepOutcome.TheVariants as S
 use Rattle.ocp_table.specs.Records.{Rec, Records}
-use Rattle.ocp_table.specs.Effects.{Loaded, Unloaded, Changed, Kept, Drained, Started, Stepped as Instructed, Unasked, Failed, step_outcome, failure_of, refusal_of}
+use Rattle.ocp_table.specs.Effects.{Loaded, Unloaded, Changed, Kept, Drained, WordPut, Started, Stepped as Instructed, Unasked, Failed, step_outcome, failure_of, refusal_of}
 use Rattle.ocp_table.specs.Effects as table
 use Rattle.ocp_table.specs.RequestTable as directive
 use Rattle.ocp_table.specs.RequestTable.{transition}
@@ -35,13 +35,15 @@ use Rattle.ocp_debug.specs.declared.command.DebugFault.TheVariants as debug
 use Rattle.ocp_debug.specs.Commands.{is_set, fault_on, effect_by as debug_effect_by, result_of}
 use Rattle.ocp_reports.specs.declared.origin.Origin.{Origin}
 use Rattle.ocp_reports.specs.Origin.{origin_of}
-use Rattle.ocp_world.specs.World.{World, Event, Request, Step, Debug, Drain}
+use Rattle.ocp_world.specs.World.{World, Event, Request, Step, Debug, Drain, Put}
 use Rattle.ocp_world.specs.Effect.{Effect, Commands}
 use Rattle.ocp_world.specs.Requests.{command_effect, service_effect, request_effect, command_of}
 use Rattle.ocp_world.specs.Instructions.{instruction_effect}
 use Rattle.ocp_world.specs.Drains.{drain_effect}
+use Rattle.ocp_world.specs.Puts.{put_effect_if}
 use Rattle.ocp_world.specs.declared.answers.EngineFault.TheVariants as engine
-use Rattle.ocp_world.specs.After.{Answer, Requested, Stepped, Commanded, after, world_after, answer_by, is_accepted}
+use Rattle.ocp_world.specs.declared.answers.PutFault.TheVariants as put
+use Rattle.ocp_world.specs.After.{Answer, Requested, Stepped, Commanded, Written, after, world_after, answer_by, is_accepted}
 use Rattle.ocp_world.specs.Mirror.Answering.{discard_of, IsDiscard, IsRefusal, IsDebugFault, IsUndue}
 
 true_false : true ≡ false → ⊥
@@ -94,6 +96,7 @@ IsInstruction (Unloaded id) = ⊥
 IsInstruction (Changed id (Instructed outcome)) = Unit {0}
 IsInstruction (Changed id change) = ⊥
 IsInstruction Drained = ⊥
+IsInstruction (WordPut index value) = ⊥
 IsInstruction (Kept Unasked) = ⊥
 IsInstruction (Kept (Failed failure)) = Unit {0}
 
@@ -124,6 +127,7 @@ kept_step (Changed id (Instructed (did.Faulted number))) is w h = absurd (true_f
 kept_step (Changed id (Started budget arguments)) is w h = absurd is
 kept_step (Changed id change) is w h = absurd is
 kept_step Drained is w h = absurd is
+kept_step (WordPut index value) is w h = absurd is
 kept_step (Kept Unasked) is w h = absurd is
 kept_step (Kept (Failed failure)) is w h = λ i. record w { outbox = append-nil w.outbox i; events = cond (h i) (w.events + 1) w.events; traces = append-nil w.traces i }
 
@@ -158,6 +162,19 @@ pub due_accepted : (answer : Answer) (due : Bool) → IsUndue answer due → due
 due_accepted answer true is on = is
 due_accepted answer false is on = absurd (true_false (sym on))
 
+-- ---- a write of a pool word
+
+kept_put : (there : Bool) (index value : ℕ) (w : World) → is_accepted (answer_by (put_effect_if there index value).reply w) ≡ false → world_after (put_effect_if there index value) w ≡ w
+kept_put true index value w h = absurd (true_false h)
+kept_put false index value w h = untouched w
+
+-- an index that is there, and one that is not
+pub put_there : (w : World) (by index value : ℕ) → nat_lt index (length w.pool) ≡ true → (after w (Put by index value)).answer ≡ Written (Ok tt)
+put_there w by index value is = ap (λ b. answer_by (put_effect_if b index value).reply w) is
+
+pub put_nowhere : (w : World) (by index value : ℕ) → nat_lt index (length w.pool) ≡ false → (after w (Put by index value)).answer ≡ Written (Err put.BadPoolIndex)
+put_nowhere w by index value is = ap (λ b. answer_by (put_effect_if b index value).reply w) is
+
 -- ---- any event
 
 pub refused_keeps : (w : World) (e : Event) → is_accepted (after w e).answer ≡ false → (after w e).world ≡ w
@@ -165,6 +182,7 @@ refused_keeps w (Request by time octets) h = kept_octets (telecommand_of w.apid 
 refused_keeps w (Step by id) h = kept_step (effect_in (directive.Step w.pool) id w.records) (is_instruction w.pool w.records id) w h
 refused_keeps w (Debug by id command) h = kept_debug (fault_on command (get w.records id)) command id w h
 refused_keeps w (Drain by time) h = kept_drain time w.outbox w h
+refused_keeps w (Put by index value) h = kept_put (nat_lt index (length w.pool)) index value w h
 
 -- ---- why an instruction event is refused
 
@@ -178,6 +196,7 @@ refused_step (Unloaded id) is h = absurd is
 refused_step (Changed id (Instructed outcome)) is h = absurd (true_false (sym h))
 refused_step (Changed id change) is h = absurd is
 refused_step Drained is h = absurd is
+refused_step (WordPut index value) is h = absurd is
 refused_step (Kept Unasked) is h = absurd is
 refused_step (Kept (Failed failure)) is h = failed_outcome failure
 
@@ -193,6 +212,7 @@ refused_on (Changed id (Instructed (did.Faulted number))) is = refl
 refused_on (Changed id (Started budget arguments)) is = absurd is
 refused_on (Changed id change) is = absurd is
 refused_on Drained is = absurd is
+refused_on (WordPut index value) is = absurd is
 refused_on (Kept Unasked) is = absurd is
 refused_on (Kept (Failed failure)) is = (failed_outcome failure, refl)
 
@@ -207,6 +227,7 @@ abbrev is_full : Answer → Bool
 is_full (Requested (Err engine.JournalFull)) = true
 is_full (Stepped S.JournalFull) = true
 is_full (Commanded (Err debug.JournalFull)) = true
+is_full (Written (Err put.JournalFull)) = true
 is_full answer = false
 
 roomy_octets : (r : Result Telecommand TcFault) (time : ℕ) (w : World) → is_full (answer_by (request_effect r time w).reply w) ≡ false
@@ -233,6 +254,7 @@ roomy_step (Changed id (Instructed (did.Faulted number))) is = refl
 roomy_step (Changed id (Started budget arguments)) is = absurd is
 roomy_step (Changed id change) is = absurd is
 roomy_step Drained is = absurd is
+roomy_step (WordPut index value) is = absurd is
 roomy_step (Kept Unasked) is = absurd is
 roomy_step (Kept (Failed failure)) is = roomy_failure failure
 
@@ -256,11 +278,16 @@ roomy_fault (SetBreak place) (Some r) = roomy_place (is_some (line_of r.image pl
 roomy_fault (ClearBreak place) (Some r) = roomy_unset (is_set place r.breakpoints)
 roomy_fault (SetTrace on) (Some r) = refl
 
+roomy_put : (there : Bool) (index value : ℕ) (w : World) → is_full (answer_by (put_effect_if there index value).reply w) ≡ false
+roomy_put true index value w = refl
+roomy_put false index value w = refl
+
 roomy : (w : World) (e : Event) → is_full (after w e).answer ≡ false
 roomy w (Request by time octets) = roomy_octets (telecommand_of w.apid octets) time w
 roomy w (Step by id) = roomy_step (effect_in (directive.Step w.pool) id w.records) (is_instruction w.pool w.records id)
 roomy w (Debug by id command) = roomy_fault command (get w.records id)
 roomy w (Drain by time) = roomy_drain time w.outbox w
+roomy w (Put by index value) = roomy_put (nat_lt index (length w.pool)) index value w
 
 pub request_has_room : (w : World) (e : Event) → (after w e).answer ≡ Requested (Err engine.JournalFull) → ⊥
 request_has_room w e is = true_false (ap is_full (sym is) ∙ roomy w e)
@@ -270,3 +297,6 @@ step_has_room w e is = true_false (ap is_full (sym is) ∙ roomy w e)
 
 pub command_has_room : (w : World) (e : Event) → (after w e).answer ≡ Commanded (Err debug.JournalFull) → ⊥
 command_has_room w e is = true_false (ap is_full (sym is) ∙ roomy w e)
+
+pub put_has_room : (w : World) (e : Event) → (after w e).answer ≡ Written (Err put.JournalFull) → ⊥
+put_has_room w e is = true_false (ap is_full (sym is) ∙ roomy w e)

@@ -1,5 +1,6 @@
 -- A slice of a procedure that the table finds once, against steps of the world.
 use Rattle.std.proofs.Common.{◌≡◌, ℕ, zero, suc, true, false, cond, List, [], ◌++◌, ◌%◌, replicate, length, Option, Some, None, refl, sym, ap, ◌∙◌, arith}
+use Rattle.std.specs.Prelude.{is_some}
 use Rattle.std.proofs.lemmas.List.{append-nil}
 use Rattle.std.proofs.lemmas.Bool.Decides.{nat_tests}
 use Rattle.std.specs.Ordering.{nat_cmp, eq_by_cmp}
@@ -23,7 +24,10 @@ use Rattle.ocp_world.specs.Mirror.State.{IsWorld}
 use Rattle.ocp_world.specs.World.{World, Step}
 use Rattle.ocp_world.specs.After.{after}
 use Rattle.ocp_world.specs.Replay.{replay_from}
+use Rattle.ocp_table.specs.declared.answers.Extent.{Extent}
+use Rattle.ocp_table.specs.declared.answers.Extent.TheVariants as extents
 use Rattle.ocp_world.specs.Slice.{slice_count, slice_last, goes_on, next_outcome}
+use Rattle.ocp_world.specs.Round.{step_ended, step_at, round_budget, most_events}
 
 abbrev pub store_of : World → Store
 store_of w = record { records = w.records; outbox = w.outbox; pool = w.pool }
@@ -39,6 +43,22 @@ same_last w by id last zero = refl
 same_last w by id last (suc budget) =
     ap (λ o. cond (goes_on w by id) o (next_outcome w id)) (same_last (after w (Step by id)).world by id (next_outcome w id) budget)
 
+same_round : (w : World) (by id budget : ℕ) → round_budget w by id budget ≡ table.round_budget id (store_of w) budget
+same_round w by id zero = refl
+same_round w by id (suc budget) =
+    ap (λ n. cond (is_some (step_ended w id)) 1 (suc n)) (same_round (after w (Step by id)).world by id budget)
+
+pub same_most : (extent : Extent) (w : World) (by id budget : ℕ) → most_events extent w by id budget ≡ table.most_events extent id (store_of w) budget
+same_most extents.Slice w by id budget = refl
+same_most extents.Round w by id budget = same_round w by id budget
+
+-- by how far they go
+pub whole_count : (extent : Extent) (w : World) (by id budget : ℕ) → slice_count w by id (most_events extent w by id budget) ≡ table.slice_count id (store_of w) (table.most_events extent id (store_of w) budget)
+whole_count extent w by id budget = ap (slice_count w by id) (same_most extent w by id budget) ∙ same_count w by id (table.most_events extent id (store_of w) budget)
+
+pub whole_last : (extent : Extent) (w : World) (by id : ℕ) (last : StepOutcome) (budget : ℕ) → slice_last w by id last (most_events extent w by id budget) ≡ table.slice_last id (store_of w) last (table.most_events extent id (store_of w) budget)
+whole_last extent w by id last budget = ap (slice_last w by id last) (same_most extent w by id budget) ∙ same_last w by id last (table.most_events extent id (store_of w) budget)
+
 -- ---- the world after its steps
 
 module _ (by id : ℕ) where
@@ -48,6 +68,10 @@ module _ (by id : ℕ) where
   pub same_store : (n : ℕ) (w : World) → store_of (steps n w) ≡ store_after_events id n (store_of w)
   same_store zero w = refl
   same_store (suc n) w = same_store n (after w (Step by id)).world
+
+  pub same_step : (n : ℕ) (w : World) → step_at w by id n ≡ table.step_at id n (store_of w)
+  same_step zero w = refl
+  same_step (suc n) w = ap (λ s. table.step_ended (table.effect_of_event id s)) (same_store n w)
 
   pub same_profile : (n : ℕ) (w : World) → (steps n w).profile ≡ w.profile
   same_profile zero w = refl
@@ -131,10 +155,13 @@ module _ {A : Type 0} where
         ring = ring ∙ stands.ring ∙ ap last_traces (sym (same_traces by id n w same_off));
       }
 
-  pub sliced_count : (old : State A) (id budget k : ℕ) → k ≡ table.slice_count id (store_in old) budget → (w : World) (by : ℕ) → IsWorld w old → k ≡ slice_count w by id budget
-  sliced_count old id budget k is w by stands =
-      is ∙ ap (λ s. table.slice_count id s budget) (same_start old w stands) ∙ sym (same_count w by id budget)
+  pub sliced_count : (extent : Extent) (old : State A) (id budget k : ℕ) → k ≡ table.slice_count id (store_in old) (table.most_events extent id (store_in old) budget) → (w : World) (by : ℕ) → IsWorld w old → k ≡ slice_count w by id (most_events extent w by id budget)
+  sliced_count extent old id budget k is w by stands =
+      is ∙ ap (λ s. table.slice_count id s (table.most_events extent id s budget)) (same_start old w stands) ∙ sym (whole_count extent w by id budget)
 
-  pub sliced_last : (old : State A) (id budget : ℕ) (last o : StepOutcome) → o ≡ table.slice_last id (store_in old) last budget → (w : World) (by : ℕ) → IsWorld w old → o ≡ slice_last w by id last budget
-  sliced_last old id budget last o is w by stands =
-      is ∙ ap (λ s. table.slice_last id s last budget) (same_start old w stands) ∙ sym (same_last w by id last budget)
+  pub sliced_last : (extent : Extent) (old : State A) (id budget : ℕ) (last o : StepOutcome) → o ≡ table.slice_last id (store_in old) last (table.most_events extent id (store_in old) budget) → (w : World) (by : ℕ) → IsWorld w old → o ≡ slice_last w by id last (most_events extent w by id budget)
+  sliced_last extent old id budget last o is w by stands =
+      is ∙ ap (λ s. table.slice_last id s last (table.most_events extent id s budget)) (same_start old w stands) ∙ sym (whole_last extent w by id last budget)
+
+  pub sliced_step : (old : State A) (id n : ℕ) (step : Option ℕ) → step ≡ table.step_at id n (store_in old) → (w : World) (by : ℕ) → IsWorld w old → step ≡ step_at w by id n
+  sliced_step old id n step is w by stands = is ∙ ap (table.step_at id n) (same_start old w stands) ∙ sym (same_step by id n w)

@@ -11,11 +11,13 @@ use Rattle.ocp_debug.specs.Traces.{traces_by}
 use Rattle.ocp_reports.specs.Packets.{packets}
 use Rattle.ocp_world.specs.declared.answers.EngineFault.{EngineFault}
 use Rattle.ocp_world.specs.declared.answers.EngineFault.TheVariants as engine
-use Rattle.ocp_world.specs.World.{World, Event, Request, Step, Debug, Drain}
-use Rattle.ocp_world.specs.Effect.{Effect, Reply, Discards, Sends, Steps, Commands, Undue}
+use Rattle.ocp_world.specs.declared.answers.PutFault.{PutFault}
+use Rattle.ocp_world.specs.World.{World, Event, Request, Step, Debug, Drain, Put}
+use Rattle.ocp_world.specs.Effect.{Effect, Reply, Discards, Sends, Steps, Commands, Undue, Puts}
 use Rattle.ocp_world.specs.Requests.{request_effect}
 use Rattle.ocp_world.specs.Instructions.{instruction_effect, debug_effect}
 use Rattle.ocp_world.specs.Drains.{drain_effect}
+use Rattle.ocp_world.specs.Puts.{put_effect}
 
 -- what an event does in a world
 abbrev pub effect_of : World → Event → Effect
@@ -23,13 +25,15 @@ effect_of w (Request by time octets) = request_effect (telecommand_of w.apid oct
 effect_of w (Step by id) = instruction_effect (effect_in (directive.Step w.pool) id w.records)
 effect_of w (Debug by id command) = debug_effect command id w.records
 effect_of w (Drain by time) = drain_effect time w.outbox
+effect_of w (Put by index value) = put_effect index value w.pool
 
--- the reports of a request or of a drain, each a whole packet; the outcome of an instruction; or
--- the result of a debugger's command
+-- the reports of a request or of a drain, each a whole packet; the outcome of an instruction; the
+-- result of a debugger's command; or that of a write of a pool word
 pub data Answer : Type 0 where
   Requested : Result (List (List ℕ)) EngineFault → Answer
   Stepped : StepOutcome → Answer
   Commanded : Result (Unit {0}) DebugFault → Answer
+  Written : Result (Unit {0}) PutFault → Answer
 
 abbrev pub answer_by : Reply → World → Answer
 answer_by (Discards cause) w = Requested (Err (engine.Discarded cause))
@@ -37,6 +41,7 @@ answer_by (Sends dispatches) w = Requested (Ok (packets w.apid w.reports dispatc
 answer_by (Steps outcome) w = Stepped outcome
 answer_by (Commands result) w = Commanded result
 answer_by Undue w = Requested (Err engine.NothingDue)
+answer_by (Puts result) w = Written result
 
 -- the reports so far
 abbrev pub reports_by : Reply → ℕ → ℕ
@@ -45,6 +50,7 @@ reports_by (Sends dispatches) n = n + length dispatches
 reports_by (Steps outcome) n = n
 reports_by (Commands result) n = n
 reports_by Undue n = n
+reports_by (Puts result) n = n
 
 -- whether an instruction is done
 abbrev pub is_done : StepOutcome → Bool
@@ -58,6 +64,8 @@ events_by (Steps outcome) n = if is_done outcome then n + 1 else n
 events_by (Commands (Ok done)) n = n + 1
 events_by (Commands (Err fault)) n = n
 events_by Undue n = n
+events_by (Puts (Ok done)) n = n + 1
+events_by (Puts (Err fault)) n = n
 
 abbrev pub world_after : Effect → World → World
 world_after effect w = record w {
@@ -86,3 +94,5 @@ is_accepted (Requested (Err fault)) = false
 is_accepted (Stepped outcome) = is_done outcome
 is_accepted (Commanded (Ok done)) = true
 is_accepted (Commanded (Err fault)) = false
+is_accepted (Written (Ok done)) = true
+is_accepted (Written (Err fault)) = false

@@ -12,14 +12,16 @@ pub use Rattle.ocp_table.specs.Shown.{directive_of, HasFewArguments}
 pub use Rattle.ocp_debug.specs.declared.command.Command.{Command}
 pub use Rattle.ocp_reports.specs.Reports.{reports_of}
 pub use Rattle.ocp_world.specs.declared.answers.EngineFault.TheVariants.{Memory, JournalFull}
-pub use Rattle.ocp_world.specs.World.{World, Request, Drain, Event, Step, Debug, opening}
-pub use Rattle.ocp_world.specs.After.{after, effect_of, Requested, Stepped, Commanded, is_accepted}
+pub use Rattle.ocp_world.specs.World.{World, Request, Drain, Event, Step, Debug, Put, opening}
+pub use Rattle.ocp_world.specs.After.{after, effect_of, Requested, Stepped, Commanded, Written}
+pub use Rattle.ocp_world.specs.After.{is_accepted}
 pub use Rattle.ocp_world.specs.Mirror.Answering.{discard_of, IsDiscard, IsUndue, IsRefusal}
-pub use Rattle.ocp_world.specs.Mirror.Answering.{IsDebugFault}
+pub use Rattle.ocp_world.specs.Mirror.Answering.{IsDebugFault, IsPutAt}
 pub use Rattle.ocp_world.specs.Mirror.State.{IsWorld, DoesIn, Does}
 pub use Rattle.ocp_world.specs.Replay.{replay_from, answers}
 pub use Rattle.ocp_world.specs.Laws.{may_change_machine, IsAppended}
 pub use Rattle.ocp_world.specs.Slice.{is_running, next_outcome, is_on, slice_count, slice_last}
+pub use Rattle.ocp_world.specs.Round.{step_ended, step_at, round_budget, most_events}
 pub use Rattle.ocp_world.specs.Settled.{world_after_work, RunsAlone}
 pub use Rattle.ocp_world.specs.Effect.{Sends}
 pub use Rattle.ocp_world.specs.Requests.{directive_effect, command_effect, has_no_place}

@@ -9,7 +9,7 @@ use Rattle.obcp_types.specs.declared.failure.RequestFault.{RequestFault}
 use Rattle.obcp_messages.specs.declared.request.Request.{Request as Command}
 use Rattle.obcp_messages.specs.declared.request.Request.TheVariants as command
 use Rattle.ocp_debug.specs.declared.trace.Trace.{Trace}
-use Rattle.ocp_world.specs.World.{World, Event, Request, Step, Debug, Drain}
+use Rattle.ocp_world.specs.World.{World, Event, Request, Step, Debug, Drain, Put}
 use Rattle.ocp_world.specs.Requests.{command_of}
 use Rattle.ocp_world.specs.Slice.{is_running}
 
@@ -36,6 +36,7 @@ may_change_machine w (Request by time octets) id =
 may_change_machine w (Step by own) id = (own == id) && is_running (get w.records own)
 may_change_machine w (Debug by own command) id = false
 may_change_machine w (Drain by time) id = false
+may_change_machine w (Put by index value) id = false
 
 -- the later trace records are the earlier ones and then more
 abbrev pub IsAppended : List Trace → List Trace → Type 0

@@ -3,11 +3,13 @@ pub mod Effect
 pub mod Requests
 pub mod Instructions
 pub mod Drains
+pub mod Puts
 pub mod After
 pub mod Answers
 pub mod Loading
 pub mod Replay
 pub mod Slice
+pub mod Round
 pub mod NextRunning
 pub mod Settled
 pub mod Laws

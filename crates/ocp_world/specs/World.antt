@@ -35,10 +35,12 @@ opening profile apid words = record {
 }
 
 -- the octets of a request, with the seat that handed them in and the time; one instruction of a
--- procedure, with the seat; a debugger's command to a procedure, with the seat; or the sending of
--- the completions that wait, with the seat that asked for it and the time
+-- procedure, with the seat; a debugger's command to a procedure, with the seat; the sending of the
+-- completions that wait, with the seat that asked for it and the time; or a write of the pool word
+-- at an index from outside, with the seat, the index and the value
 pub data Event : Type 0 where
   Request : ℕ → ℕ → List ℕ → Event
   Step : ℕ → ℕ → Event
   Debug : ℕ → ℕ → Command → Event
   Drain : ℕ → ℕ → Event
+  Put : ℕ → ℕ → ℕ → Event

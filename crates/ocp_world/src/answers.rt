@@ -19,6 +19,15 @@ pub enum EngineFault {
     NothingDue,
 }
 
+/// Why a pool word is not written from outside. Nothing is changed. They come in this order.
+#[derive(Clone, Copy, PartialEq, Eq, Debug)]
+pub enum PutFault {
+    /// The pool has no word at the index.
+    BadPoolIndex,
+    /// There is no room for a further journal entry.
+    JournalFull,
+}
+
 impl From<AllocError> for EngineFault {
     ghost from_gives = { λ _ r. r ≡ Memory };
 

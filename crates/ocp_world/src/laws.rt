@@ -1,8 +1,9 @@
 //! Laws on worlds and events. The functions do nothing when they run: their contracts are the laws.
-ghost use Rattle.std.specs.Prelude.{◌≡◌, ◌≢◌, ◌+◌, ℕ, false, List, [], Err, if◌then◌else◌};
-ghost use Rattle.ocp_world.specs.Clauses.{Command as Asked, Commanded, Debug, Drain, Event, IsAppended, IsKeptOrStarted, JournalFull, Request, Requested, Step, Stepped, World, after, get, is_accepted, is_running, machine_of, may_change_machine, next_outcome, replay_from, run_of};
+ghost use Rattle.std.specs.Prelude.{◌≡◌, ◌≢◌, ◌+◌, ◌<◌, ℕ, false, nat_lt, length, slice_set, List, [], Err, if◌then◌else◌};
+ghost use Rattle.ocp_world.specs.Clauses.{Command as Asked, Commanded, Debug, Drain, Event, IsAppended, IsKeptOrStarted, JournalFull, Put, Request, Requested, Step, Stepped, World, Written, after, get, is_accepted, is_running, machine_of, may_change_machine, next_outcome, replay_from, run_of};
 ghost use Rattle.ocp_debug.specs.declared.command.DebugFault.TheVariants as debug;
 ghost use Rattle.ocp_table.specs.declared.answers.StepOutcome.TheVariants as outcome;
+ghost use Rattle.ocp_world.specs.declared.answers.PutFault.TheVariants as put;
 
 use ocp_table::laws::{
     a_directive_changes_its_own_procedure, debugging_keeps_runs, other_requests_keep_machines,
@@ -65,6 +66,25 @@ pub fn a_drain_empties_the_outbox_alone()
     ensures traces { (w : World) (by time : ℕ) → (after w (Drain by time)).world.traces ≡ w.traces }
 {}
 
+/// A write of a pool word from outside is accepted exactly if the pool has a word at its index.
+/// Then that word is the value; every other word, all procedures, the completions that wait, the
+/// count of reports and the trace records stay.
+#[tactic(auto, using(crate::proofs::Putting::put_accepted, crate::proofs::Putting::put_word_set, crate::proofs::Putting::put_keeps_records, crate::proofs::Putting::put_keeps_outbox, crate::proofs::Putting::put_keeps_reports, crate::proofs::Putting::put_keeps_traces))]
+pub fn a_write_from_outside_changes_its_word_alone()
+    ensures accepted { (w : World) (by index value : ℕ) →
+        is_accepted (after w (Put by index value)).answer ≡ nat_lt index (length w.pool) }
+    ensures word { (w : World) (by index value : ℕ) → index < length w.pool →
+        (after w (Put by index value)).world.pool ≡ slice_set w.pool index value }
+    ensures procedures { (w : World) (by index value : ℕ) →
+        (after w (Put by index value)).world.records ≡ w.records }
+    ensures outbox { (w : World) (by index value : ℕ) →
+        (after w (Put by index value)).world.outbox ≡ w.outbox }
+    ensures reports { (w : World) (by index value : ℕ) →
+        (after w (Put by index value)).world.reports ≡ w.reports }
+    ensures traces { (w : World) (by index value : ℕ) →
+        (after w (Put by index value)).world.traces ≡ w.traces }
+{}
+
 /// Each event but a load, an unload and an activation leaves the machine of every procedure, apart
 /// from the instruction of a running procedure, which changes its own.
 pub fn only_starts_and_own_instructions_change_machines()
@@ -108,10 +128,11 @@ pub fn trace_records_are_appended_by_instructions()
 {}
 
 /// No world answers that the journal is full: a world has none.
-#[tactic(auto, using(crate::proofs::Refusals::request_has_room, crate::proofs::Refusals::step_has_room, crate::proofs::Refusals::command_has_room))]
+#[tactic(auto, using(crate::proofs::Refusals::request_has_room, crate::proofs::Refusals::step_has_room, crate::proofs::Refusals::command_has_room, crate::proofs::Refusals::put_has_room))]
 pub fn worlds_have_no_full_journal()
     ensures request { (w : World) (e : Event) → (after w e).answer ≢ Requested (Err JournalFull) }
     ensures step { (w : World) (e : Event) → (after w e).answer ≢ Stepped outcome.JournalFull }
     ensures command { (w : World) (e : Event) →
         (after w e).answer ≢ Commanded (Err debug.JournalFull) }
+    ensures put { (w : World) (e : Event) → (after w e).answer ≢ Written (Err put.JournalFull) }
 {}

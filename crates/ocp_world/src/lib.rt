@@ -11,9 +11,9 @@ mod slice;
 mod state;
 mod turns;
 
-pub use answers::{EngineFault, discard_of};
+pub use answers::{EngineFault, PutFault, discard_of};
 pub use heap::Heap;
 pub use ocp_debug::{Command, DebugFault};
-pub use ocp_table::{Slice, StepOutcome};
+pub use ocp_table::{Extent, Round, Slice, StepOutcome};
 pub use settle::instructions_done_alone_are_events;
 pub use state::State;

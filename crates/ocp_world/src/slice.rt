@@ -1,9 +1,10 @@
-//! Slices: instructions of one procedure, one after another.
+//! Slices and rounds: instructions of one procedure, one after another.
 
 ghost use Rattle.std.specs.Prelude.{◌≡◌, ◌≤◌, ℕ, ◌+◌, if◌then◌else◌, true, false, replicate};
-ghost use Rattle.ocp_world.specs.Clauses.{IsWorld, Step, World, after, get, is_accepted, is_on, is_running, replay_from, slice_count, slice_last};
+ghost use Rattle.ocp_world.specs.Clauses.{IsWorld, Step, World, after, get, is_accepted, is_on, is_running, most_events, replay_from, slice_count, slice_last, step_at};
+ghost use Rattle.ocp_table.specs.declared.answers.Extent.TheVariants as extents;
 
-use crate::{Slice, State};
+use crate::{Extent, Round, State};
 use ocp_table::StepOutcome;
 use std::alloc::Allocator;
 
@@ -18,9 +19,9 @@ impl<A: Allocator> State<A> {
         outcome.is_on() && self.table.refusal(id).is_none()
     }
 
-    /// Does instructions of one procedure until the budget is used or it no longer goes on. Each of
-    /// them is an accepted event, where the first is.
-    pub fn slice(&mut self, id: u16, budget: u32) -> Slice
+    /// Does instructions of one procedure until the budget is used or they go no further. Each of
+    /// them is an accepted event, if the first is.
+    pub fn instructions(&mut self, id: u16, budget: u32, extent: Extent) -> Round
         requires { 1 ≤ budget }
         ensures world { (w : World) (by : ℕ) → IsWorld w self.old →
             IsWorld (replay_from w (replicate result.count (Step by id))) self.new }
@@ -29,27 +30,34 @@ impl<A: Allocator> State<A> {
             (replay_from w (replicate result.count (Step by id))).events ≡
             w.events + result.count }
         ensures count { (w : World) (by : ℕ) → IsWorld w self.old →
-            result.count ≡ slice_count w by id budget }
+            result.count ≡ slice_count w by id (most_events extent w by id budget) }
         ensures last { (w : World) (by : ℕ) → IsWorld w self.old →
-            result.last ≡ slice_last w by id StepOutcome.Ran budget }
+            result.last ≡
+            slice_last w by id StepOutcome.Ran (most_events extent w by id budget) }
+        ensures step { (w : World) (by : ℕ) → IsWorld w self.old → extent ≡ extents.Round →
+            result.step ≡ step_at w by id result.count }
     {
-        if let Some(slice) = self.table.slice(id, &mut self.pool, budget) {
-            return slice;
+        if let Some(round) = self.table.instructions(id, &mut self.pool, budget, extent) {
+            return round;
         }
         // Each instruction of a traced procedure makes a trace record.
         let mut last = StepOutcome::Ran;
-        for count in 0..budget {
-            last = self.step(id);
+        for done in 0..budget {
+            let answer = self.instruction(id);
+            let count = done + 1;
+            let step = answer.step;
+            last = answer.outcome;
             if !self.goes_on(id, last) {
-                return Slice {
-                    count: count + 1,
-                    last,
-                };
+                return Round { count, last, step };
+            }
+            if extent.ends_with(step) {
+                return Round { count, last, step };
             }
         }
-        Slice {
+        Round {
             count: budget,
             last,
+            step: None,
         }
     }
 }

@@ -1,7 +1,7 @@
 //! What the engine keeps of its world.
 
-ghost use Rattle.std.specs.Prelude.{◌≡◌, ◌≤◌, ◌<◌, ℕ, List, true, false, None, Ok, Err, IfOk};
-ghost use Rattle.ocp_world.specs.Clauses.{Commanded, Debug, Does, DoesIn, Failed, FindsPlace, HasFewArguments, IsDebugFault, IsLoadInto, IsRefusal, IsWorld, Kept, Request as Asked, Sends, Step, Stepped, TakesRecord, Unasked, World, after, command_effect, directive_effect, directive_of, effect_of, has_no_place, opening, option_to_list, reports_of, telecommand_of};
+ghost use Rattle.std.specs.Prelude.{◌≡◌, ◌≤◌, ◌<◌, ℕ, List, true, false, None, Ok, Err, IfOk, IfSome, length};
+ghost use Rattle.ocp_world.specs.Clauses.{Commanded, Debug, Does, DoesIn, Failed, FindsPlace, HasFewArguments, IsDebugFault, IsLoadInto, IsPutAt, IsRefusal, IsWorld, Kept, Put, Request as Asked, Sends, Step, Stepped, TakesRecord, Unasked, World, after, command_effect, directive_effect, directive_of, effect_of, has_no_place, opening, option_to_list, reports_of, step_ended, telecommand_of};
 ghost use Rattle.ocp_table.specs.RequestTable as directive;
 ghost use Rattle.ocp_world.specs.declared.answers.EngineFault.TheVariants as engine;
 
@@ -12,7 +12,7 @@ use ocp_debug::{Command, DebugFault, TraceRing};
 use ocp_pool::{MAX_POOL_WORDS, Pool};
 use ocp_profile::Profile;
 use ocp_reports::{Origin, Sender, SharedReports, count_after};
-use ocp_table::{Change, Decision, Directive, LoadFailure, StepOutcome, Table};
+use ocp_table::{Change, Decision, Directive, InstructionAnswer, LoadFailure, StepOutcome, Table};
 use pus_fields::{Tc, TcFault};
 use space_packet::{Apid, SequenceCount};
 use std::alloc::{AllocError, Allocator};
@@ -37,11 +37,12 @@ impl<A: Allocator> State<A> {
     }
 
     /// Does one instruction of a procedure.
-    pub fn step(&mut self, id: u16) -> StepOutcome
+    pub fn instruction(&mut self, id: u16) -> InstructionAnswer
         ensures world { (w : World) (by : ℕ) → IsWorld w self.old →
             IsWorld (after w (Step by id)).world self.new }
         ensures answer { (w : World) (by : ℕ) → IsWorld w self.old →
-            Stepped result ≡ (after w (Step by id)).answer }
+            Stepped result.outcome ≡ (after w (Step by id)).answer }
+        ensures step { (w : World) → IsWorld w self.old → result.step ≡ step_ended w id }
     {
         ocp_debug::laws::keeping_is_kept_up();
         ocp_debug::instruction(&mut self.table, id, &mut self.pool, &mut self.ring)
@@ -63,6 +64,29 @@ impl<A: Allocator> State<A> {
             Commanded result ≡ (after w (Debug by id command)).answer }
     {
         ocp_debug::apply(&mut self.table, id, command)
+    }
+
+    /// The pool word at an index, if there is one: else it can't be written.
+    pub fn word_index(&self, index: u64) -> Option<u16>
+        ensures word { IfSome result (λ word. (word ≡ index) × (word < length self.now.pool)) }
+        ensures few { IfSome result (λ word. word < MAX_POOL_WORDS) }
+        ensures answer { (w : World) (by value : ℕ) → IsWorld w self.now →
+            IsPutAt (after w (Put by index value)).answer result }
+    {
+        if index < self.pool.words() as u64 {
+            Some(index as u16)
+        } else {
+            None
+        }
+    }
+
+    /// Writes the pool word at an index, and changes nothing else.
+    pub fn put_word(&mut self, index: u16, value: u64)
+        requires { index < length self.old.pool }
+        ensures { (w : World) (by : ℕ) → IsWorld w self.old →
+            IsWorld (after w (Put by index value)).world self.new }
+    {
+        self.pool.set(usize::from(index), value);
     }
 }
 

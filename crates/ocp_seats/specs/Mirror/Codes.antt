@@ -8,38 +8,48 @@ use Rattle.ocp_debug.specs.declared.command.DebugFault.{DebugFault}
 use Rattle.ocp_debug.specs.contracts.command.DebugFault as D
 use Rattle.ocp_world.specs.declared.answers.EngineFault.{EngineFault}
 use Rattle.ocp_world.specs.contracts.answers.EngineFault as E
-use Rattle.ocp_world.specs.After.{Answer, Requested, Stepped, Commanded}
+use Rattle.ocp_world.specs.declared.answers.PutFault.{PutFault}
+use Rattle.ocp_world.specs.contracts.answers.PutFault as P
+use Rattle.ocp_world.specs.After.{Answer, Requested, Stepped, Commanded, Written}
 use Rattle.ocp_core.specs.Log.{Log, Entry}
 use Rattle.ocp_core.specs.Mirror.Codes.{entry_code, log_code}
 use Rattle.ocp_core.specs.Marks.{MarkedEntry}
 use Rattle.ocp_seats.specs.Seats.{BookContents, SeatContents}
 
 abbrev pub AnswerForm : Type 0
-AnswerForm = Result (List (List ℕ)) EngineFault ⊎ (StepOutcome ⊎ Option DebugFault)
+AnswerForm =
+    Result (List (List ℕ)) EngineFault ⊎ (StepOutcome ⊎ (Option DebugFault ⊎ Option PutFault))
 
 abbrev pub form_of_answer : Answer → AnswerForm
 form_of_answer (Requested result) = inl result
 form_of_answer (Stepped outcome) = inr (inl outcome)
-form_of_answer (Commanded (Ok done)) = inr (inr None)
-form_of_answer (Commanded (Err fault)) = inr (inr (Some fault))
+form_of_answer (Commanded (Ok done)) = inr (inr (inl None))
+form_of_answer (Commanded (Err fault)) = inr (inr (inl (Some fault)))
+form_of_answer (Written (Ok done)) = inr (inr (inr None))
+form_of_answer (Written (Err fault)) = inr (inr (inr (Some fault)))
 
 abbrev pub answer_of_form : AnswerForm → Answer
 answer_of_form (inl result) = Requested result
 answer_of_form (inr (inl outcome)) = Stepped outcome
-answer_of_form (inr (inr None)) = Commanded (Ok tt)
-answer_of_form (inr (inr (Some fault))) = Commanded (Err fault)
+answer_of_form (inr (inr (inl None))) = Commanded (Ok tt)
+answer_of_form (inr (inr (inl (Some fault)))) = Commanded (Err fault)
+answer_of_form (inr (inr (inr None))) = Written (Ok tt)
+answer_of_form (inr (inr (inr (Some fault)))) = Written (Err fault)
 
 abbrev pub answer_round_trip : (a : Answer) → answer_of_form (form_of_answer a) ≡ a
 answer_round_trip (Requested result) = refl
 answer_round_trip (Stepped outcome) = refl
 answer_round_trip (Commanded (Ok done)) = refl
 answer_round_trip (Commanded (Err fault)) = refl
+answer_round_trip (Written (Ok done)) = refl
+answer_round_trip (Written (Err fault)) = refl
 
 abbrev pub answer_code : Coded Answer
 answer_code =
     code_by AnswerForm
     (coded⊎ (coded_result (coded_list (coded_list coded_ℕ)) (E.the_row).coded)
-    (coded⊎ (O.the_row).coded (coded_option (D.the_row).coded)))
+    (coded⊎ (O.the_row).coded
+    (coded⊎ (coded_option (D.the_row).coded) (coded_option (P.the_row).coded))))
     form_of_answer answer_of_form answer_round_trip
 
 abbrev pub marked_entry_code : Coded MarkedEntry

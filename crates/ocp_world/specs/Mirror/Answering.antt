@@ -1,5 +1,5 @@
 -- Why an event is refused, as it is decided before the event is done.
-use Rattle.std.specs.Prelude.{◌≡◌, Bool, Option, Some, None, Result, Ok, Err, false, true}
+use Rattle.std.specs.Prelude.{◌≡◌, ℕ, Bool, Option, Some, None, Result, Ok, Err, false, true}
 use Rattle.pus_fields.specs.declared.fault.Discard.{Discard}
 use Rattle.pus_fields.specs.declared.fault.TcFault.{TcFault}
 use Rattle.pus_fields.specs.declared.fault.TcFault.TheVariants as fault
@@ -7,7 +7,8 @@ use Rattle.pus_fields.specs.Telecommand.{Telecommand}
 use Rattle.ocp_table.specs.declared.answers.StepOutcome.{StepOutcome}
 use Rattle.ocp_debug.specs.declared.command.DebugFault.{DebugFault}
 use Rattle.ocp_world.specs.declared.answers.EngineFault.TheVariants as engine
-use Rattle.ocp_world.specs.After.{Answer, Requested, Stepped, Commanded, is_accepted}
+use Rattle.ocp_world.specs.declared.answers.PutFault.TheVariants as put
+use Rattle.ocp_world.specs.After.{Answer, Requested, Stepped, Commanded, Written, is_accepted}
 
 -- why octets are discarded, where they are
 abbrev pub discard_of : Result Telecommand TcFault → Option Discard
@@ -34,3 +35,8 @@ IsDebugFault answer (Some fault) = answer ≡ Commanded (Err fault)
 abbrev pub IsUndue : Answer → Bool → Type 0
 IsUndue answer true = is_accepted answer ≡ true
 IsUndue answer false = answer ≡ Requested (Err engine.NothingDue)
+
+-- a write of a pool word finds the word and is done, or it is refused
+abbrev pub IsPutAt : Answer → Option ℕ → Type 0
+IsPutAt answer (Some word) = answer ≡ Written (Ok tt)
+IsPutAt answer None = answer ≡ Written (Err put.BadPoolIndex)

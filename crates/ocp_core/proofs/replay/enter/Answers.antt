@@ -36,3 +36,8 @@ pub returns-in_ok-memory_of-in-Drain : goal.returns-in_ok-memory_of-in-Drain
 returns-in_ok-memory_of-in-Drain g c w stands same numbered =
     subst (λ e. IsWorld (replay_from w (events_of (entry_of e))) c.drain.new.self) (sym c.in-Drain.is)
     (stands_after c.refused_events_change_nothing.ensures w (Drain c.in-Drain.by c.in-Drain.time) c.drain.new.self c.drain.result c.in_ok-memory_of-in-Drain.ensures (c.drain.ensures w c.in-Drain.by stands))
+
+pub returns-in-PutWord : goal.returns-in-PutWord
+returns-in-PutWord g c w stands same numbered =
+    subst (λ e. IsWorld (replay_from w (events_of (entry_of e))) c.write.new.state) (sym c.in-PutWord.is)
+    (c.write.ensures w c.in-PutWord.by stands)

@@ -1,0 +1,180 @@
+"""Parts octets into packets, and finds the next packet after octets that are none.
+
+A packet is as long as its header says. If its error control is right, it is taken whole. If it is wrong, the next packet may
+begin within it: at the first plausible header whose packet has the right error control. A header is plausible if it has
+version 0, the type of these packets, a secondary header, sequence flags 3, the application process identifier, and a length
+that a packet of the profile can have. The octets before it are passed over. If there is none, the packet is given as it is,
+and its reader says what is wrong with it.
+
+The result depends on the octets alone, not on the pieces in which they come. `quiet` is the exception: it tells that no
+octets have come for a while, and then an unfinished packet holds no whole one back.
+"""
+import binascii
+import re
+from typing import NamedTuple
+
+PRIMARY = 6
+# why octets are passed over: a packet is not whole, they begin with no header, an error control is wrong
+CUT, HEADER, PEC = "Cut", "Header", "Pec"
+LONGEST_LOST = 4096
+
+
+def error_control(octets):
+    """The 16 bits of CCSDS packet error control: x^16 + x^12 + x^5 + 1, preset all ones."""
+    return binascii.crc_hqx(octets, 0xFFFF)
+
+
+class Kind(NamedTuple):
+    """Packets of one direction: the type bit, and the octets of the shortest and of the longest one in the profile."""
+    type: int
+    least: int
+    most: int
+
+
+# primary and secondary header, data, error control; the longest data are 2,048 slots of code and 16 statuses
+TELECOMMANDS = Kind(1, PRIMARY + 5 + 2, PRIMARY + 5 + 4 + 2048 * 8 + 2)
+REPORTS = Kind(0, PRIMARY + 11 + 1 + 2, PRIMARY + 11 + 1 + 16 * 3 + 2)
+
+
+class Piece(NamedTuple):
+    """A packet, or octets that were passed over: then `fault` says why."""
+    octets: bytes
+    fault: str = ""
+
+
+class Parting:
+    """Octets in; packets and what was passed over out. With no identifier it finds packets of any application process."""
+
+    def __init__(self, kind, apid=None):
+        self.kind = kind
+        self.rest = b""
+        self.at = 0  # where the next packet begins in the rest
+        self.looked = 1  # no other packet begins between there and this many octets later
+        self.lost = b""  # octets without a header that are not given yet
+        self.found = []
+        first = kind.type << 4 | 0x08
+        named = [f"[\\x{first:02x}-\\x{first | 7:02x}]", "."] if apid is None else [f"\\x{first | apid >> 8:02x}", f"\\x{apid & 255:02x}"]
+        parts = [*named, "[\\xc0-\\xff]", ".", ".", "."]
+        # the first octets of a header, one to six
+        self.begins = [re.compile("".join(parts[:size]).encode(), re.DOTALL) for size in range(1, PRIMARY + 1)]
+        self.headers = re.compile(f"(?={''.join(parts)})".encode(), re.DOTALL)
+
+    def feed(self, octets):
+        """What these octets complete."""
+        self.rest = self.rest[self.at:] + octets
+        self.at = 0
+        return self._parted(False, False)
+
+    def quiet(self):
+        """What is here, if no more octets come for now."""
+        return self._parted(True, False)
+
+    def close(self):
+        """What is here, if no more octets come at all."""
+        return self._parted(True, True)
+
+    def holds(self):
+        """Whether octets are held back until more come."""
+        return len(self.rest) > self.at or bool(self.lost)
+
+    def _parted(self, quiet, ended):
+        self.found = []
+        while self._advance(quiet, ended):
+            pass
+        if quiet:
+            self._give_lost()
+        return self.found
+
+    def _advance(self, quiet, ended):
+        """Takes what comes first; answers false if more octets are needed."""
+        here = len(self.rest) - self.at
+        if here and not self._may_begin(here):
+            return self._pass_over(self._first_header(here))
+        if here < PRIMARY:
+            return ended and here > 0 and self._take(here)
+        size = self._length(self.at)
+        is_whole = size <= here
+        is_header = self.rest[self.at] >> 5 == 0
+        if is_whole and is_header and self._is_right(self.at, size):
+            return self._take(size)
+        if not is_whole and is_header and not quiet:
+            return False
+        start, is_sure = self._next(min(size, here), quiet)
+        if start is not None:
+            return is_sure and self._take(start, HEADER if not is_header else PEC if is_whole else CUT)
+        return self._take(size) if is_whole else ended and self._take(here)
+
+    def _may_begin(self, here):
+        """Whether a packet may begin with the octets that are here. A telecommand may with any, so that the engine answers it
+        whatever is wrong with it; a report, as far as it is here, with a plausible header alone."""
+        if self.kind.type == 1:
+            return True
+        return self._plausible(self.at) is not None if here >= PRIMARY else self.begins[here - 1].match(self.rest, self.at)
+
+    def _length(self, at):
+        """How long the packet is that begins there, by its header."""
+        return int.from_bytes(self.rest[at + 4:at + PRIMARY], "big") + 7
+
+    def _plausible(self, at):
+        """How long the packet is whose plausible header begins there, or none."""
+        size = self._length(at)
+        return size if self.begins[-1].match(self.rest, at) and self.kind.least <= size <= self.kind.most else None
+
+    def _is_right(self, at, size):
+        return error_control(self.rest[at:at + size]) == 0
+
+    def _first_header(self, here):
+        """Where after the first octet the next plausible header begins, or may begin; else the end of what is here."""
+        for header in self.headers.finditer(self.rest, self.at + 1):
+            if self._plausible(header.start()) is not None:
+                return header.start() - self.at
+        return self._cut_header(max(1, here - PRIMARY + 1), here) or here
+
+    def _cut_header(self, start, ends):
+        """Where in the last octets a header may begin that is not whole yet, or none."""
+        here = len(self.rest) - self.at
+        return next((at for at in range(start, ends) if self.begins[here - at - 1].match(self.rest, self.at + at)), None)
+
+    def _next(self, limit, quiet):
+        """Where after the first octet and before the limit the next packet begins, and whether that is sure: an unfinished
+        one may still turn out to be none. After a quiet time unfinished ones do not count."""
+        whole_headers = min(limit, len(self.rest) - self.at - PRIMARY + 1)
+        for header in self.headers.finditer(self.rest, self.at + self.looked):
+            start = header.start() - self.at
+            if start >= whole_headers:
+                break
+            size = self._plausible(header.start())
+            if size is None:
+                continue
+            if header.start() + size <= len(self.rest):
+                if self._is_right(header.start(), size):
+                    return start, True
+            elif not quiet:
+                self.looked = start
+                return start, False
+        if quiet:
+            return None, False
+        self.looked = max(self.looked, whole_headers)
+        return self._cut_header(self.looked, limit), False
+
+    def _take(self, size, fault=""):
+        self._give_lost()
+        self.found.append(Piece(self.rest[self.at:self.at + size], fault))
+        self.at += size
+        self.looked = 1
+        return True
+
+    def _pass_over(self, size):
+        """Octets without a header become one piece, however many reads brought them; very many become several."""
+        self.lost += self.rest[self.at:self.at + size]
+        self.at += size
+        self.looked = 1
+        while len(self.lost) >= LONGEST_LOST:
+            self.found.append(Piece(self.lost[:LONGEST_LOST], HEADER))
+            self.lost = self.lost[LONGEST_LOST:]
+        return True
+
+    def _give_lost(self):
+        if self.lost:
+            self.found.append(Piece(self.lost, HEADER))
+            self.lost = b""
