@@ -54,7 +54,7 @@ static void want(int line, const char *call, uint32_t wanted, uint32_t given)
 
 /* ---- packets */
 
-enum { APID = 291, LOAD = 1, ACTIVATE = 3, STOP = 4, STATUS = 8, LONGEST = 65542 };
+enum { APID = 291, LOAD = 1, ACTIVATE = 3, STOP = 4, SUSPEND = 5, RESUME = 6, STATUS = 8, LONGEST = 65542, POOL_WORDS = 16 };
 
 static uint8_t packet[LONGEST + 1];
 static uint8_t reports[OCP_DRAIN_REPORTS];
@@ -75,6 +75,29 @@ static size_t telecommand(uint8_t subtype, const uint8_t *data, size_t length)
 
 /* mov64 r1, 1; call 5; ja -1 */
 static const uint8_t load_7[] = {0, 7, 0, 24, 0xb7, 1, 0, 0, 1, 0, 0, 0, 0x85, 0, 0, 0, 5, 0, 0, 0, 5, 0, 0xff, 0xff, 0, 0, 0, 0};
+/* Reads word 2 into r6, and ends the steps 3, 65,535 and 0, over and over. */
+static const uint8_t load_rounds[] = {
+    0, 7, 0, 88,
+    0xb7, 1, 0, 0, 2, 0, 0, 0,                         /* 0  mov64 r1, 2 */
+    0x85, 0, 0, 0, 1, 0, 0, 0,                         /* 1  call 1 */
+    0xbf, 6, 0, 0, 0, 0, 0, 0,                         /* 2  mov64 r6, r0 */
+    0xb7, 1, 0, 0, 3, 0, 0, 0,                         /* 3  mov64 r1, 3 */
+    0x85, 0, 0, 0, 5, 0, 0, 0,                         /* 4  call 5 */
+    0xb7, 1, 0, 0, 0xff, 0xff, 0xff, 0xff,             /* 5  mov64 r1, -1 */
+    0x85, 0, 0, 0, 5, 0, 0, 0,                         /* 6  call 5 */
+    0x18, 1, 0, 0, 0, 0, 1, 0, 0, 0, 0, 0, 0, 0, 0, 0, /* 7  lddw r1, 65536 */
+    0x85, 0, 0, 0, 5, 0, 0, 0,                         /* 9  call 5 */
+    0x05, 0, 0xf5, 0xff, 0, 0, 0, 0};                  /* 10 ja -11 */
+/* Reads the word that its argument names. */
+static const uint8_t load_reader[] = {
+    0, 7, 0, 24,
+    0x71, 0x11, 0, 0, 0, 0, 0, 0,  /* 0  ldxb r1, [r1+0] */
+    0x85, 0, 0, 0, 1, 0, 0, 0,     /* 1  call 1 */
+    0x95, 0, 0, 0, 0, 0, 0, 0};    /* 2  exit */
+static const uint8_t read_15[] = {0, 7, 0, 1, 15};
+static const uint8_t read_16[] = {0, 7, 0, 1, 16};
+static const uint8_t suspend_3[] = {0, 7, 0, 3};
+static const uint8_t id_7[] = {0, 7};
 static const uint8_t activate_7[] = {0, 7, 0, 0};
 static const uint8_t stop_7[] = {0, 7, 0, 0};
 
@@ -85,13 +108,14 @@ struct seen {
     struct ocp_view view;
     uint64_t registers[11];
     uint32_t view_status;
+    uint64_t pool[POOL_WORDS];
 };
 
 static struct ocp_engine engine = OCP_CLOSED;
 
 static uint32_t open_small(void)
 {
-    return ocp_open(&engine, 1, APID, 16, 4);
+    return ocp_open(&engine, 1, APID, POOL_WORDS, 4);
 }
 
 static struct seen see(void)
@@ -101,6 +125,8 @@ static struct seen see(void)
     ocp_events(&engine, &seen.events);
     ocp_room(&engine, &seen.room);
     seen.view_status = ocp_view(&engine, 7, &seen.view, seen.registers, 11);
+    for (uint64_t index = 0; index < POOL_WORDS; index++)
+        ocp_pool_word(&engine, index, &seen.pool[index]);
     return seen;
 }
 
@@ -153,7 +179,7 @@ static void each_growth(const char *name, uint32_t (*call)(void))
 static void closed_handle(void)
 {
     uint64_t wide = 77, registers[11] = {77};
-    uint32_t count = 77;
+    uint32_t count = 77, step = 77;
     uint16_t id = 77;
     uint8_t octets[4] = {77};
     struct ocp_outcome outcome = {77, 77};
@@ -164,7 +190,11 @@ static void closed_handle(void)
     WANT(OCP_NOT_OPEN, ocp_request(&engine, 0, packet, 0, reports, 0, &written));
     WANT(OCP_NOT_OPEN, ocp_drain(&engine, 0, reports, 0, &written));
     WANT(OCP_NOT_OPEN, ocp_step(&engine, 7, &outcome));
+    WANT(OCP_NOT_OPEN, ocp_put_word(&engine, 0, 1));
+    WANT(OCP_NOT_OPEN, ocp_put_word(&engine, UINT64_MAX, 1));
     WANT(OCP_NOT_OPEN, ocp_slice(&engine, 7, 0, &count, &outcome));
+    WANT(OCP_NOT_OPEN, ocp_round(&engine, 7, 0, &count, &outcome, &step));
+    WANT(OCP_NOT_OPEN, ocp_round(&engine, 7, 1, &count, &outcome, &step));
     WANT(OCP_NOT_OPEN, ocp_next_running(&engine, OCP_NO_PROCEDURE, &id));
     WANT(OCP_NOT_OPEN, ocp_set_break(&engine, 7, 0));
     WANT(OCP_NOT_OPEN, ocp_clear_break(&engine, 7, 0));
@@ -176,7 +206,7 @@ static void closed_handle(void)
     WANT(OCP_NOT_OPEN, ocp_room(&engine, &wide));
     WANT(OCP_NOT_OPEN, ocp_entry(&engine, 0, octets, 4, &written));
     HOLDS(written == 77 && wide == 77 && registers[0] == 77 && count == 77 && id == 77 && octets[0] == 77);
-    HOLDS(outcome.kind == 77 && outcome.fault == 77 && view.status == 77 && reports[0] == 77);
+    HOLDS(step == 77 && outcome.kind == 77 && outcome.fault == 77 && view.status == 77 && reports[0] == 77);
 }
 
 /* The numbers of ocp_open, each at both ends of its range, and the order of their refusals. */
@@ -222,7 +252,7 @@ static uint32_t drain(void)
 /* Octets that are no request, and buffers that are too short. */
 static void packets(void)
 {
-    WANT(OCP_DONE, ocp_open(&engine, 1, APID, 16, 20));
+    WANT(OCP_DONE, ocp_open(&engine, 1, APID, POOL_WORDS, 20));
     memset(packet, 0, sizeof packet);
     REFUSED(OCP_BUFFER_TOO_SMALL, ocp_request(&engine, 0, packet, 0, reports, OCP_REQUEST_REPORTS - 1, &written));
     REFUSED(OCP_BUFFER_TOO_SMALL, ocp_request(&engine, 0, packet, 0, reports, 0, &written));
@@ -257,7 +287,7 @@ static void procedures(void)
     uint32_t count = 77;
     uint16_t id = 77;
     uint8_t octets[512] = {77};
-    WANT(OCP_DONE, ocp_open(&engine, 1, APID, 16, 20));
+    WANT(OCP_DONE, ocp_open(&engine, 1, APID, POOL_WORDS, 20));
     REFUSED(OCP_NOT_LOADED, ocp_step(&engine, 8, &outcome));
     REFUSED(OCP_NOT_LOADED, ocp_slice(&engine, 8, 1, &count, &outcome));
     REFUSED(OCP_NO_BUDGET, ocp_slice(&engine, 8, 0, &count, &outcome));
@@ -293,11 +323,177 @@ static void procedures(void)
     WANT(OCP_DONE, ocp_close(&engine));
 }
 
+/* ---- pool words from outside */
+
+/* A write that has to be done: the word is the value, and nothing else that is seen changes but one event and one entry. */
+static void written_word(int line, uint64_t index, uint64_t value)
+{
+    char name[48];
+    snprintf(name, sizeof name, "put %" PRIu64 " %" PRIu64, index, value);
+    struct seen before = see();
+    want(line, name, OCP_DONE, ocp_put_word(&engine, index, value));
+    struct seen after = see();
+    want(line, name, true, after.pool[index] == value);
+    before.pool[index] = value;
+    before.events++;
+    before.room--;
+    want(line, name, true, is_same(&before, &after));
+}
+
+#define PUT(index, value) written_word(__LINE__, index, value)
+
+/* Each word of the pool, and indices that it has not: the next one, those whose low bits are an index, the greatest. */
+static void pool_words(void)
+{
+    uint64_t word = 77;
+    struct ocp_outcome last;
+    uint32_t count;
+    WANT(OCP_DONE, ocp_open(&engine, 1, APID, POOL_WORDS, 100));
+    for (uint64_t index = 0; index < POOL_WORDS; index++)
+        PUT(index, UINT64_MAX - index);
+    PUT(3, 0);
+    PUT(3, 0); /* also the same value again */
+    PUT(3, 0x0102030405060708);
+    static const uint64_t none[] = {POOL_WORDS, POOL_WORDS + 1, 255, 256, 65536, 65539, 0x100000000, 0x100000003, UINT64_MAX};
+    for (size_t at = 0; at < sizeof none / sizeof *none; at++)
+        REFUSED(OCP_NO_WORD, ocp_put_word(&engine, none[at], 1));
+
+    /* no memory is asked for */
+    growths = 0;
+    refused = 0;
+    PUT(0, 5);
+    refused = SIZE_MAX;
+    HOLDS(growths == 0);
+
+    /* a procedure reads what was written last, and a word that is not there is its fault 4 */
+    WANT(OCP_DONE, request(LOAD, load_reader, sizeof load_reader));
+    WANT(OCP_DONE, request(ACTIVATE, read_15, sizeof read_15));
+    PUT(15, 0x8070605040302010);
+    WANT(OCP_DONE, ocp_slice(&engine, 7, 100, &count, &last));
+    HOLDS(count == 3 && last.kind == OCP_ENDED && see().registers[0] == 0x8070605040302010);
+    WANT(OCP_DONE, ocp_close(&engine));
+
+    /* the largest pool and the smallest */
+    WANT(OCP_DONE, ocp_open(&engine, 2, APID, 256, 5));
+    WANT(OCP_DONE, ocp_put_word(&engine, 255, 9));
+    WANT(OCP_DONE, ocp_pool_word(&engine, 255, &word));
+    HOLDS(word == 9);
+    REFUSED(OCP_NO_WORD, ocp_put_word(&engine, 256, 9));
+    WANT(OCP_DONE, ocp_close(&engine));
+    WANT(OCP_DONE, ocp_open(&engine, 1, APID, 1, 5));
+    WANT(OCP_DONE, ocp_put_word(&engine, 0, 9));
+    REFUSED(OCP_NO_WORD, ocp_put_word(&engine, 1, 9));
+    WANT(OCP_DONE, ocp_close(&engine));
+}
+
+/* ---- rounds */
+
+/* A round that has to be done, and what it answers. It is one entry, and each of its instructions an event. */
+static void done_round(int line, uint32_t budget, uint32_t wanted_count, uint32_t kind, uint32_t fault, uint32_t wanted_step)
+{
+    char name[32];
+    snprintf(name, sizeof name, "round %" PRIu32, budget);
+    uint32_t count = 77, step = 77;
+    struct ocp_outcome last = {77, 77};
+    struct seen before = see();
+    want(line, name, OCP_DONE, ocp_round(&engine, 7, budget, &count, &last, &step));
+    struct seen after = see();
+    want(line, name, wanted_count, count);
+    want(line, name, kind, last.kind);
+    want(line, name, fault, last.fault);
+    want(line, name, wanted_step, step);
+    want(line, name, true, after.events == before.events + wanted_count && after.room == before.room - 1);
+}
+
+#define ROUND(budget, count, kind, fault, step) done_round(__LINE__, budget, count, kind, fault, step)
+
+/* Rounds of the procedure that ends three steps, with the counts of its instructions by hand. */
+static void rounds(void)
+{
+    struct ocp_view view;
+    uint64_t registers[11];
+    uint32_t count = 77, step = 77;
+    struct ocp_outcome last = {77, 77};
+    WANT(OCP_DONE, ocp_open(&engine, 1, APID, POOL_WORDS, 100));
+    REFUSED(OCP_NO_BUDGET, ocp_round(&engine, 8, 0, &count, &last, &step));
+    REFUSED(OCP_NOT_LOADED, ocp_round(&engine, 8, 1, &count, &last, &step));
+    WANT(OCP_DONE, request(LOAD, load_rounds, sizeof load_rounds));
+    REFUSED(OCP_NO_BUDGET, ocp_round(&engine, 7, 0, &count, &last, &step));
+    REFUSED(OCP_NOT_RUNNING, ocp_round(&engine, 7, 1, &count, &last, &step));
+    WANT(OCP_DONE, activate());
+    REFUSED(OCP_NO_BUDGET, ocp_round(&engine, 7, 0, &count, &last, &step));
+    HOLDS(count == 77 && step == 77 && last.kind == 77 && last.fault == 77);
+
+    /* it goes on over call 1, and ends with each call 5 */
+    PUT(2, 40);
+    ROUND(1000, 5, OCP_CALLED, 0, 3);
+    HOLDS(see().registers[6] == 40);
+    ROUND(1000, 2, OCP_CALLED, 0, 65535);
+    ROUND(UINT32_MAX, 2, OCP_CALLED, 0, 0);
+
+    /* the budget ends it before, and just with, the call 5 */
+    PUT(2, 41);
+    ROUND(1, 1, OCP_RAN, 0, OCP_NO_STEP);
+    ROUND(2, 2, OCP_CALLED, 0, OCP_NO_STEP);
+    ROUND(3, 3, OCP_CALLED, 0, 3);
+    HOLDS(see().registers[6] == 41);
+
+    /* a suspend waits for the end of step 3: other steps end before, then the procedure is held */
+    WANT(OCP_DONE, request(SUSPEND, suspend_3, sizeof suspend_3));
+    ROUND(1000, 2, OCP_CALLED, 0, 65535);
+    ROUND(1000, 2, OCP_CALLED, 0, 0);
+    ROUND(1000, 6, OCP_CALLED, 0, 3);
+    WANT(OCP_DONE, ocp_view(&engine, 7, &view, registers, 11));
+    HOLDS(view.status == OCP_HELD && view.place == 5);
+    REFUSED(OCP_NOT_RUNNING, ocp_round(&engine, 7, 1000, &count, &last, &step));
+    WANT(OCP_DONE, drain());
+    WANT(OCP_DONE, request(RESUME, id_7, sizeof id_7));
+
+    /* a breakpoint at a call 5 ends the round before it, and is passed then */
+    WANT(OCP_DONE, ocp_set_break(&engine, 7, 6));
+    ROUND(1000, 2, OCP_BROKE, 0, OCP_NO_STEP);
+    WANT(OCP_DONE, request(RESUME, id_7, sizeof id_7));
+    PUT(2, 42); /* which leaves the pass as it is */
+    ROUND(1000, 1, OCP_CALLED, 0, 65535);
+    WANT(OCP_DONE, ocp_clear_break(&engine, 7, 6));
+
+    /* a stop that waits for any step */
+    WANT(OCP_DONE, stop());
+    ROUND(1000, 2, OCP_CALLED, 0, 0);
+    WANT(OCP_DONE, ocp_view(&engine, 7, &view, registers, 11));
+    HOLDS(view.status == OCP_INACTIVE && view.cause == OCP_STOPPED);
+    REFUSED(OCP_NOT_RUNNING, ocp_round(&engine, 7, 1000, &count, &last, &step));
+    WANT(OCP_DONE, ocp_close(&engine));
+
+    /* the last exit, and a fault */
+    WANT(OCP_DONE, ocp_open(&engine, 1, APID, POOL_WORDS, 20));
+    WANT(OCP_DONE, request(LOAD, load_reader, sizeof load_reader));
+    WANT(OCP_DONE, request(ACTIVATE, read_15, sizeof read_15));
+    ROUND(1000, 3, OCP_ENDED, 0, OCP_NO_STEP);
+    WANT(OCP_DONE, request(ACTIVATE, read_16, sizeof read_16));
+    ROUND(1000, 2, OCP_FAULTED, 4, OCP_NO_STEP);
+    WANT(OCP_DONE, ocp_close(&engine));
+}
+
 /* A journal with room for four entries: what comes behind them is refused, and what is refused before that too. */
 static void full_journal(void)
 {
     struct ocp_outcome outcome;
-    uint32_t count;
+    uint32_t count = 77, step = 77;
+    WANT(OCP_DONE, open_small());
+    WANT(OCP_DONE, load());
+    WANT(OCP_DONE, activate());
+    PUT(15, 1);
+    PUT(15, 2);
+    REFUSED(OCP_JOURNAL_FULL, ocp_put_word(&engine, 15, 3));
+    REFUSED(OCP_JOURNAL_FULL, ocp_put_word(&engine, 0, 3));
+    REFUSED(OCP_NO_WORD, ocp_put_word(&engine, 16, 3));
+    REFUSED(OCP_JOURNAL_FULL, ocp_round(&engine, 7, 1000, &count, &outcome, &step));
+    REFUSED(OCP_NO_BUDGET, ocp_round(&engine, 7, 0, &count, &outcome, &step));
+    REFUSED(OCP_NOT_LOADED, ocp_round(&engine, 8, 1000, &count, &outcome, &step));
+    HOLDS(count == 77 && step == 77);
+    WANT(OCP_DONE, ocp_close(&engine));
+
     WANT(OCP_DONE, open_small());
     WANT(OCP_DONE, load());
     WANT(OCP_DONE, activate());
@@ -309,7 +505,9 @@ static void full_journal(void)
     REFUSED(OCP_JOURNAL_FULL, ocp_set_break(&engine, 7, 0));
     REFUSED(OCP_NOT_SET, ocp_clear_break(&engine, 7, 0));
     REFUSED(OCP_JOURNAL_FULL, ocp_trace(&engine, 7, false));
+    REFUSED(OCP_JOURNAL_FULL, ocp_put_word(&engine, 0, 3));
     REFUSED(OCP_NOT_RUNNING, ocp_step(&engine, 7, &outcome));
+    REFUSED(OCP_NOT_RUNNING, ocp_round(&engine, 7, 1000, &count, &outcome, &step));
     REFUSED(OCP_DISCARDED_SHORT, ocp_request(&engine, 0, packet, 3, reports, OCP_REQUEST_REPORTS, &written));
     WANT(OCP_DONE, ocp_close(&engine));
 }
@@ -348,7 +546,7 @@ static void entries(void)
     struct ocp_outcome last;
     uint32_t count;
     uint8_t octets[16] = {77};
-    WANT(OCP_DONE, ocp_open(&engine, 1, APID, 16, 20));
+    WANT(OCP_DONE, ocp_open(&engine, 1, APID, POOL_WORDS, 20));
     REFUSED(OCP_NO_ENTRY, ocp_entry(&engine, 0, octets, sizeof octets, &written));
     WANT(OCP_DONE, load());
     request_entry(__LINE__, 0, 5, 11 + sizeof load_7 + 2);
@@ -363,13 +561,17 @@ static void entries(void)
     WANT(OCP_DONE, ocp_slice(&engine, 7, 1000, &count, &last));
     WANT(OCP_DONE, ocp_drain(&engine, 0x01020304, reports, OCP_DRAIN_REPORTS, &written));
     WANT(OCP_DONE, ocp_trace(&engine, 7, false));
+    WANT(OCP_DONE, ocp_put_word(&engine, 15, 0x0102030405060708));
+    WANT(OCP_DONE, ocp_put_word(&engine, 0, UINT64_MAX));
     ENTRY(2, OCP_ENTRY_TRACE, 0, 0, 0, 7, 0, 1);
     ENTRY(3, OCP_ENTRY_SET_BREAK, 0, 0, 0, 7, 0, 2);
     ENTRY(4, OCP_ENTRY_CLEAR_BREAK, 0, 0, 0, 7, 0, 2);
     ENTRY(6, OCP_ENTRY_STEPS, 0, 0, 0, 7, 0, 0, 0, 2);
     ENTRY(7, OCP_ENTRY_DRAIN, 0, 0, 1, 2, 3, 4);
     ENTRY(8, OCP_ENTRY_TRACE, 0, 0, 0, 7, 0, 0);
-    REFUSED(OCP_NO_ENTRY, ocp_entry(&engine, 9, octets, sizeof octets, &written));
+    ENTRY(9, OCP_ENTRY_PUT_WORD, 0, 0, 0, 15, 1, 2, 3, 4, 5, 6, 7, 8);
+    ENTRY(10, OCP_ENTRY_PUT_WORD, 0, 0, 0, 0, 255, 255, 255, 255, 255, 255, 255, 255);
+    REFUSED(OCP_NO_ENTRY, ocp_entry(&engine, 11, octets, sizeof octets, &written));
     HOLDS(octets[0] == 77);
 
     /* the longest packet that is not discarded, and the longest entry */
@@ -379,7 +581,14 @@ static void entries(void)
     packet[4] = packet[5] = 0xff;
     WANT(OCP_DONE, ocp_request(&engine, UINT32_MAX, packet, LONGEST, reports, OCP_REQUEST_REPORTS, &written));
     HOLDS(7 + LONGEST == OCP_LONGEST_ENTRY);
-    request_entry(__LINE__, 9, UINT32_MAX, LONGEST);
+    request_entry(__LINE__, 11, UINT32_MAX, LONGEST);
+
+    /* a round is an entry as a slice is */
+    uint32_t step;
+    WANT(OCP_DONE, activate());
+    WANT(OCP_DONE, ocp_round(&engine, 7, 1000, &count, &last, &step));
+    HOLDS(count == 2 && step == 1);
+    ENTRY(13, OCP_ENTRY_STEPS, 0, 0, 0, 7, 0, 0, 0, 2);
     WANT(OCP_DONE, ocp_close(&engine));
 }
 
@@ -388,7 +597,7 @@ static void memory(void)
 {
     struct ocp_outcome outcome;
     uint32_t count;
-    WANT(OCP_DONE, ocp_open(&engine, 1, APID, 16, 20));
+    WANT(OCP_DONE, ocp_open(&engine, 1, APID, POOL_WORDS, 20));
     each_growth("load", load);
     each_growth("activate", activate);
     each_growth("stop", stop);
@@ -406,6 +615,8 @@ int main(void)
     numbers();
     packets();
     procedures();
+    pool_words();
+    rounds();
     full_journal();
     entries();
     memory();

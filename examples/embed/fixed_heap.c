@@ -2,7 +2,8 @@
  *
  * First fit. Each piece has a head of 16 octets; pieces lie one behind the other, and free neighbours are joined when a
  * search comes by. A search begins at the first piece that may be free, so that it does not pass what an engine keeps; its
- * time has no other bound than the number of pieces behind. All pieces are aligned to 16. For one thread.
+ * time has no other bound than the number of pieces behind. All pieces are aligned to 16.
+ * For one thread: there is no lock.
  * The block has FIXED_HEAP_OCTETS octets, a multiple of 16: cc -DFIXED_HEAP_OCTETS=1048576 .. */
 #include "fixed_heap.h"
 
@@ -21,7 +22,7 @@ struct head {
 
 static alignas(16) unsigned char block[FIXED_HEAP_OCTETS];
 static struct head *lowest; /* no piece before it is free */
-static size_t in_use, most_in_use;
+static size_t in_use, most_in_use, reach;
 
 _Static_assert(sizeof(struct head) == 16 && FIXED_HEAP_OCTETS % 16 == 0 && FIXED_HEAP_OCTETS >= 32, "the block's form");
 
@@ -78,6 +79,8 @@ struct fixed_heap_answer rattle_alloc(size_t octets, size_t align)
     head->used = true;
     in_use += sizeof *head + head->octets;
     most_in_use = in_use > most_in_use ? in_use : most_in_use;
+    size_t end = (size_t)((unsigned char *)(head + 1) - block) + head->octets;
+    reach = end > reach ? end : reach;
     return (struct fixed_heap_answer){true, head + 1};
 }
 
@@ -110,4 +113,9 @@ size_t fixed_heap_most_in_use(void)
 size_t fixed_heap_in_use(void)
 {
     return in_use;
+}
+
+size_t fixed_heap_reach(void)
+{
+    return reach;
 }

@@ -1,4 +1,7 @@
-/* The three functions by which the library takes memory, and what fixed_heap.c tells of its block. */
+/* The three functions by which the library takes memory, and what fixed_heap.c tells of its block.
+ *
+ * fixed_heap.c is for one thread: two threads that call the engine at the same time, each with its own handle, break the
+ * block. A program with such threads brings heap functions that take a lock, or gives all its engines to one thread. */
 #ifndef FIXED_HEAP_H
 #define FIXED_HEAP_H
 
@@ -26,6 +29,10 @@ void rattle_dealloc(void *piece);
 /* How many octets of the block are taken, heads with them, and the most that were. */
 size_t fixed_heap_in_use(void);
 size_t fixed_heap_most_in_use(void);
+
+/* How many octets from the start of the block were ever used, with those that are free between pieces: a block of this many
+ * octets serves the same calls. */
+size_t fixed_heap_reach(void);
 
 #ifdef __cplusplus
 }

@@ -2,10 +2,10 @@
  *
  *   flight [MILLISECONDS [JOURNAL]]
  *
- * Time goes by in cycles. In each one every running procedure does a slice of instructions in its turn, and every so many
- * cycles the completions that wait are reported. The time in reports is the number of the cycle. A cycle takes so many
- * milliseconds; with 0, the default, one follows each packet, and the same packets give the same reports. The engine's
- * journal is written to the file JOURNAL, if one is named, for the tool `journal`.
+ * Time goes by in cycles. In each one every running procedure does a round in its turn: instructions up to the end of a step,
+ * or SLICE of them. Every so many cycles the completions that wait are reported. The time in reports is the number of the
+ * cycle. A cycle takes so many milliseconds; with 0, the default, one follows each packet, and the same packets give the same
+ * reports. The engine's journal is written to the file JOURNAL, if one is named, for the tool `journal`.
  *
  * A packet is as long as it says. If its error control is wrong, the next plausible header within it whose packet has the
  * right error control begins the next packet, and the octets before it are passed over; if there is none, the engine is given
@@ -26,7 +26,7 @@
 #include <unistd.h>
 
 #ifndef SLICE
-#define SLICE 1000 /* instructions of each running procedure in a cycle */
+#define SLICE 1000 /* the most instructions of each running procedure in a cycle */
 #endif
 
 enum {
@@ -184,15 +184,15 @@ static bool read_input(void)
 
 /* ---- a cycle */
 
-/* A slice of each running procedure, by rising identifier. */
-static void give_slices(void)
+/* A round of each running procedure, by rising identifier. */
+static void give_rounds(void)
 {
     uint32_t before = OCP_NO_PROCEDURE;
     uint16_t id;
     while (ocp_next_running(&engine, before, &id) == OCP_DONE && (before == OCP_NO_PROCEDURE || id > before)) {
-        uint32_t count;
+        uint32_t count, step;
         struct ocp_outcome last;
-        if (ocp_slice(&engine, id, SLICE, &count, &last) != OCP_DONE)
+        if (ocp_round(&engine, id, SLICE, &count, &last, &step) != OCP_DONE)
             end("the journal is full");
         if (last.kind == OCP_FAULTED)
             fprintf(stderr, "flight: cycle %lu: procedure %u faulted: %lu\n", (unsigned long)cycle, id, (unsigned long)last.fault);
@@ -217,7 +217,7 @@ static void drain(void)
 static void run_cycle(void)
 {
     cycle++;
-    give_slices();
+    give_rounds();
     if (cycle % CYCLES_OF_DRAIN == 0)
         drain();
     keep_journal(&engine);

@@ -70,9 +70,23 @@ static bool change(struct piece *piece)
     return false;
 }
 
+/* A piece after a hole: the reach has the hole and each piece's head of 16 octets with it. */
+static void reach_of_a_hole(void)
+{
+    struct fixed_heap_answer hole = rattle_alloc(100, 8), after = rattle_alloc(17, 1);
+    rattle_dealloc(hole.piece);
+    WANT(fixed_heap_in_use() == 16 + 32 && fixed_heap_most_in_use() == 16 + 112 + 16 + 32);
+    WANT(fixed_heap_reach() == 16 + 112 + 16 + 32);
+    rattle_dealloc(after.piece);
+    struct fixed_heap_answer longer = rattle_alloc(208, 8);
+    WANT(fixed_heap_reach() == 16 + 208);
+    rattle_dealloc(longer.piece);
+}
+
 int main(void)
 {
     size_t refused = 0;
+    reach_of_a_hole();
     for (size_t at = 0; at < PIECES; at++)
         pieces[at].mark = (unsigned char)(at + 1);
     for (size_t round = 0; round < ROUNDS; round++) {
@@ -92,6 +106,7 @@ int main(void)
     WANT(!rattle_alloc(16, 32).ok);
     struct fixed_heap_answer whole = rattle_alloc(WHOLE, 16);
     WANT(whole.ok && fixed_heap_in_use() == sizeof block && fixed_heap_most_in_use() == sizeof block);
+    WANT(fixed_heap_reach() == sizeof block);
     struct fixed_heap_answer none = rattle_alloc(0, 1);
     WANT(!none.ok && none.piece != NULL);
     memset(whole.piece, 7, WHOLE);

@@ -26,7 +26,8 @@ static const char *name_of(uint32_t status)
         [OCP_DISCARDED_NOT_TELECOMMAND] = "NotTelecommand", [OCP_DISCARDED_OTHER_APID] = "OtherApid",
         [OCP_NOTHING_DUE] = "NothingDue", [OCP_NOT_LOADED] = "NotLoaded", [OCP_NOT_RUNNING] = "NotRunning",
         [OCP_NOT_AN_INSTRUCTION] = "NotAnInstruction", [OCP_ALREADY_SET] = "AlreadySet",
-        [OCP_BREAKS_FULL] = "BreaksFull", [OCP_NOT_SET] = "NotSet", [OCP_OUTSIDE_MEMORY] = "OutsideMemory"};
+        [OCP_BREAKS_FULL] = "BreaksFull", [OCP_NOT_SET] = "NotSet", [OCP_OUTSIDE_MEMORY] = "OutsideMemory",
+        [OCP_NO_WORD] = "BadPoolIndex"};
     const char *name = status < sizeof names / sizeof *names ? names[status] : NULL;
     return name != NULL ? name : "OtherStatus";
 }
@@ -89,19 +90,36 @@ static void drain(void)
 
 /* ---- instructions and the debugger */
 
-static void step(uint16_t id, uint32_t budget)
+/* Prints what instructions answered, but for the end of the line. */
+static void print_instructions(const char *name, uint16_t id, uint32_t status, uint32_t count, struct ocp_outcome last)
 {
     static const char *const kinds[] = {"Broke", "Ran", "Called", "Ended", "Faulted"};
+    printf("%s %u %" PRIu32 " %s", name, id, count, status == OCP_DONE ? kinds[last.kind] : name_of(status));
+    if (status == OCP_DONE && last.kind == OCP_FAULTED)
+        printf(" %" PRIu32, last.fault);
+}
+
+static void step(uint16_t id, uint32_t budget)
+{
     uint32_t count = 0;
     struct ocp_outcome last = {0, 0};
     uint32_t status = ocp_slice(&engine, id, budget, &count, &last);
-    printf("step %u %" PRIu32 " %s", id, count, status == OCP_DONE ? kinds[last.kind] : name_of(status));
-    if (status == OCP_DONE && last.kind == OCP_FAULTED)
-        printf(" %" PRIu32, last.fault);
+    print_instructions("step", id, status, count, last);
     printf("\n");
 }
 
-/* Prints what a command of the debugger answered. */
+static void round_of(uint16_t id, uint32_t budget)
+{
+    uint32_t count = 0, ended = OCP_NO_STEP;
+    struct ocp_outcome last = {0, 0};
+    uint32_t status = ocp_round(&engine, id, budget, &count, &last, &ended);
+    print_instructions("round", id, status, count, last);
+    if (ended != OCP_NO_STEP)
+        printf(" step %" PRIu32, ended);
+    printf("\n");
+}
+
+/* Prints what a command of the debugger or a write of a pool word answered. */
 static void command(uint32_t status, const char *done)
 {
     printf(" %s\n", status == OCP_DONE ? done : name_of(status));
@@ -141,6 +159,12 @@ static void view(uint16_t id)
         printf("r%d %016" PRIx64 "\n", at, registers[at]);
 }
 
+static void put(uint64_t index, uint64_t value)
+{
+    printf("put %" PRIu64 " %" PRIu64, index, value);
+    command(ocp_put_word(&engine, index, value), "set");
+}
+
 static void pool(uint64_t index)
 {
     uint64_t word;
@@ -175,7 +199,7 @@ static bool line_of_script(const char *line)
 {
     uint16_t id;
     uint32_t number;
-    uint64_t wide, events = 0;
+    uint64_t wide, value, events = 0;
     size_t length;
     if (strncmp(line, "up ", 3) == 0)
         return up(line + 3);
@@ -185,6 +209,10 @@ static bool line_of_script(const char *line)
         seconds = number;
     else if (sscanf(line, "step %" SCNu16 " %" SCNu32, &id, &number) == 2)
         step(id, number);
+    else if (sscanf(line, "round %" SCNu16 " %" SCNu32, &id, &number) == 2)
+        round_of(id, number);
+    else if (sscanf(line, "put %" SCNu64 " %" SCNu64, &wide, &value) == 2)
+        put(wide, value);
     else if (sscanf(line, "mem %" SCNu16 " 0x%" SCNx64 " %zu", &id, &wide, &length) == 3 && length <= MOST_MEMORY)
         memory(id, wide, length);
     else if (sscanf(line, "view %" SCNu16, &id) == 1)

@@ -10,6 +10,7 @@
  *   other argument.
  * - One thread at a time uses a handle, one call at a time, never from a signal handler. The program does not copy a handle,
  *   and neither reads nor writes its field.
+ * - Two threads may each use a handle of their own if the heap functions allow it: malloc does, fixed_heap.c does not.
  * - Journal entries of this library have seat 0.
  * - Numbers in packets are big-endian.
  */
@@ -19,6 +20,22 @@
 #include <stdbool.h>
 #include <stddef.h>
 #include <stdint.h>
+
+/* The library is code for little-endian processors with pointers of 8 octets. For any other target the header is refused. */
+#if defined __cplusplus && __cplusplus < 201103L
+#define OCP_TARGET(holds, why) extern char ocp_target_is_refused[(holds) ? 1 : -1]
+#elif defined __cplusplus
+#define OCP_TARGET(holds, why) static_assert(holds, why)
+#else
+#define OCP_TARGET(holds, why) _Static_assert(holds, why)
+#endif
+
+OCP_TARGET(sizeof(void *) == 8 && sizeof(size_t) == 8, "libocp_c.a needs a target with pointers of 8 octets");
+#if defined __BYTE_ORDER__
+OCP_TARGET(__BYTE_ORDER__ == __ORDER_LITTLE_ENDIAN__, "libocp_c.a needs a little-endian target");
+#endif
+
+#undef OCP_TARGET
 
 #ifdef __cplusplus
 extern "C" {
@@ -58,7 +75,7 @@ enum {
     OCP_NOT_LOADED = 16,   /* no procedure has this identifier */
     OCP_NOT_RUNNING = 17,  /* the procedure is not running */
     OCP_NONE_RUNNING = 18, /* no procedure is running */
-    OCP_NO_BUDGET = 19,    /* the budget of a slice is 0 */
+    OCP_NO_BUDGET = 19,    /* the budget of a slice or round is 0 */
 
     /* the debugger */
     OCP_NOT_AN_INSTRUCTION = 20, /* the place is not the first slot of an instruction */
@@ -67,7 +84,7 @@ enum {
     OCP_NOT_SET = 23,            /* the place has no breakpoint */
     OCP_OUTSIDE_MEMORY = 24,     /* some octets are outside the procedure's memory */
 
-    /* readers */
+    /* the pool and the journal */
     OCP_NO_WORD = 25, /* the pool has no word at this index */
     OCP_NO_ENTRY = 26 /* the journal has no entry at this index */
 };
@@ -110,6 +127,13 @@ uint32_t ocp_request(struct ocp_engine *engine, uint32_t time, const uint8_t *pa
  * Refusals: OCP_NOT_OPEN, OCP_BUFFER_TOO_SMALL (under OCP_DRAIN_REPORTS), OCP_NOTHING_DUE, OCP_JOURNAL_FULL, OCP_MEMORY. */
 uint32_t ocp_drain(struct ocp_engine *engine, uint32_t time, uint8_t *reports, size_t reports_length, size_t *written);
 
+/* ---- inputs */
+
+/* Sets the pool word at an index to a value; procedures and ocp_pool_word read it. Nothing else of the engine changes. It is one
+ * event and one journal entry, and asks for no memory.
+ * Refusals: OCP_NOT_OPEN, OCP_NO_WORD, OCP_JOURNAL_FULL. */
+uint32_t ocp_put_word(struct ocp_engine *engine, uint64_t index, uint64_t value);
+
 /* ---- instructions */
 
 /* What an instruction did. */
@@ -136,6 +160,16 @@ uint32_t ocp_step(struct ocp_engine *engine, uint16_t id, struct ocp_outcome *ou
  * Refusals: OCP_NOT_OPEN, OCP_NO_BUDGET, OCP_NOT_LOADED, OCP_NOT_RUNNING, OCP_JOURNAL_FULL. */
 uint32_t ocp_slice(struct ocp_engine *engine, uint16_t id, uint32_t budget, uint32_t *count, struct ocp_outcome *last);
 
+/* For `step`: no step ended. */
+#define OCP_NO_STEP ((uint32_t)65536)
+
+/* Executes instructions of one procedure as ocp_slice does, and also stops after the first one that ends a step (engine call
+ * 5). Writes how many there were, what the last one did, and the number of the step that ended, or OCP_NO_STEP. They are one
+ * journal entry. A stop or suspend that waits for this step takes effect here: the procedure is then inactive or held.
+ * Refusals: OCP_NOT_OPEN, OCP_NO_BUDGET, OCP_NOT_LOADED, OCP_NOT_RUNNING, OCP_JOURNAL_FULL. */
+uint32_t ocp_round(struct ocp_engine *engine, uint16_t id, uint32_t budget, uint32_t *count, struct ocp_outcome *last,
+                   uint32_t *step);
+
 /* For `after`: no procedure had a turn yet. */
 #define OCP_NO_PROCEDURE ((uint32_t)65536)
 
@@ -154,7 +188,9 @@ uint32_t ocp_set_break(struct ocp_engine *engine, uint16_t id, uint16_t place);
  * Refusals: OCP_NOT_OPEN, OCP_NOT_LOADED, OCP_NOT_SET, OCP_JOURNAL_FULL. */
 uint32_t ocp_clear_break(struct ocp_engine *engine, uint16_t id, uint16_t place);
 
-/* Switches on or off that each instruction of a procedure leaves a trace record.
+/* Switches on or off that each instruction of a procedure leaves a trace record. It is for ground: no call reads trace records, but the
+ * switch is a journal entry, so the console that runs the journal again has the records, and shows them by its line `trace`.
+ * While the trace is on, an instruction takes many times as long (docs/EMBED.md, "What a call costs, at most").
  * Refusals: OCP_NOT_OPEN, OCP_NOT_LOADED, OCP_JOURNAL_FULL. */
 uint32_t ocp_trace(struct ocp_engine *engine, uint16_t id, bool on);
 
@@ -193,7 +229,8 @@ uint32_t ocp_view(struct ocp_engine *engine, uint16_t id, struct ocp_view *view,
  * Refusals: OCP_NOT_OPEN, OCP_NO_WORD. */
 uint32_t ocp_pool_word(struct ocp_engine *engine, uint64_t index, uint64_t *word);
 
-/* Writes the number of accepted events: each request, instruction, command of the debugger and drain is one.
+/* Writes the number of accepted events: each request, instruction, command of the debugger, drain and write of a pool word is
+ * one.
  * Refusal: OCP_NOT_OPEN. */
 uint32_t ocp_events(struct ocp_engine *engine, uint64_t *events);
 
@@ -210,7 +247,8 @@ enum {
     OCP_ENTRY_SET_BREAK = 3,   /* the procedure (2), the place (2) */
     OCP_ENTRY_CLEAR_BREAK = 4, /* the procedure (2), the place (2) */
     OCP_ENTRY_TRACE = 5,       /* the procedure (2), 1 for on and 0 for off (2) */
-    OCP_ENTRY_DRAIN = 6        /* the time (4) */
+    OCP_ENTRY_DRAIN = 6,       /* the time (4) */
+    OCP_ENTRY_PUT_WORD = 7     /* the index of the pool word (2), its value (8) */
 };
 
 /* The greatest length of an entry: packets of more than 65,542 octets are discarded. */

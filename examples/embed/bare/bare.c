@@ -1,0 +1,112 @@
+/* A flight program without an operating system: telecommand packets in by the UART, report packets out by it.
+ *
+ * Time goes by in cycles of CYCLE milliseconds; with 0, one follows each packet, and the same packets give the same reports.
+ * In each one every running procedure does a slice of SLICE instructions in its turn, and the completions that wait are
+ * reported. The time in reports is the number of the cycle. When the journal is full, the engine begins anew, and ground
+ * loads its procedures again. A packet whose octets stop coming is dropped after SILENCE milliseconds. */
+#include "board.h"
+#include "ocp_engine.h"
+
+#ifndef CYCLE
+#define CYCLE 20
+#endif
+#ifndef SLICE
+#define SLICE 1000
+#endif
+
+enum {
+    PROFILE = 1,
+    APID = 291,
+    POOL_WORDS = 16,
+    JOURNAL_ENTRIES = 10000,
+    HEADER = 6, /* octets of a primary header */
+    LONGEST = HEADER + 65536,
+    AT_ONCE = 4096, /* octets that are read before cycles are looked at */
+    SILENCE = 1000
+};
+
+static struct ocp_engine engine = OCP_CLOSED;
+static uint32_t cycle;
+
+static uint8_t input[LONGEST];
+static size_t held; /* octets of the input that are not taken yet */
+static uint64_t heard; /* when the last one came */
+
+static uint8_t reports[OCP_DRAIN_REPORTS];
+
+static void begin_engine(void)
+{
+    if (ocp_open(&engine, PROFILE, APID, POOL_WORDS, JOURNAL_ENTRIES) != OCP_DONE)
+        switch_off();
+}
+
+/* A slice of each running procedure, by rising identifier. */
+static void give_slices(void)
+{
+    uint32_t before = OCP_NO_PROCEDURE;
+    uint16_t id;
+    while (ocp_next_running(&engine, before, &id) == OCP_DONE && (before == OCP_NO_PROCEDURE || id > before)) {
+        uint32_t count;
+        struct ocp_outcome last;
+        if (ocp_slice(&engine, id, SLICE, &count, &last) != OCP_DONE)
+            return; /* the journal is full */
+        before = id;
+    }
+}
+
+static void run_cycle(void)
+{
+    size_t written;
+    uint64_t room;
+    cycle++;
+    give_slices();
+    if (ocp_drain(&engine, cycle, reports, sizeof reports, &written) == OCP_DONE)
+        uart_send(reports, written);
+    if (ocp_room(&engine, &room) == OCP_DONE && room == 0) {
+        ocp_close(&engine);
+        begin_engine();
+    }
+}
+
+/* One packet; nobody is told of one that is discarded or that finds no memory. */
+static void take(size_t length)
+{
+    size_t written;
+    if (ocp_request(&engine, cycle, input, length, reports, sizeof reports, &written) == OCP_DONE)
+        uart_send(reports, written);
+    if (CYCLE == 0)
+        run_cycle();
+}
+
+/* How long the packet is that the input begins with, or 0 while that is not known. */
+static size_t packet_length(void)
+{
+    return held < HEADER ? 0 : HEADER + 1 + ((size_t)input[4] << 8 | input[5]);
+}
+
+static void read_input(void)
+{
+    for (int octets = 0; octets < AT_ONCE && uart_take(&input[held]); octets++) {
+        held++;
+        heard = milliseconds();
+        if (held == packet_length()) {
+            take(held);
+            held = 0;
+        }
+    }
+    if (held > 0 && milliseconds() - heard > SILENCE)
+        held = 0;
+}
+
+int main(void)
+{
+    uart_begin();
+    begin_engine();
+    for (uint64_t due = milliseconds() + CYCLE;;) {
+        read_input();
+        if (CYCLE > 0 && milliseconds() >= due) {
+            run_cycle();
+            due += CYCLE;
+        }
+    }
+}

@@ -1,0 +1,380 @@
+/* A control loop: a procedure keeps a room at a temperature, and flight software is between the two.
+ *
+ *   control IMAGE ARGUMENTS [CYCLES [JOURNAL]]
+ *
+ * IMAGE is a file with the digits of a thermostat's image, as `ocp asm` writes them. ARGUMENTS are the octets that it is
+ * activated with, as digits; the last one is the set point. Temperatures are in tenths of a degree. A cycle is a second; there
+ * are 100,000 of them if no number is given. In each one, flight software
+ *
+ *   1. passes ground's telecommands to the engine: a new set point, a suspend, a resume
+ *   2. writes the inputs: the measured temperature into word 0, the number of the cycle into word 2
+ *   3. gives each running procedure a round
+ *   4. reads the output, word 1, and switches the heater; it is off while no procedure has had a round
+ *   5. sends the completions that wait
+ *
+ * If the procedure exits, it is activated again. A second engine is given all entries of the journal in the end. The journal
+ * is written to the file JOURNAL, if one is named, for the tool `journal`. The last lines are the pool, as the console prints it.
+ *
+ * Status: 0 the loop held the temperature, and both engines end alike; 1 it did not, and one line says why; 2 wrong words. */
+#include "error_control.h"
+#include "journal_file.h"
+#include "ocp_engine.h"
+
+#include <inttypes.h>
+#include <stdio.h>
+#include <stdlib.h>
+#include <string.h>
+
+enum {
+    PROFILE = 1,
+    APID = 291,
+    PROCEDURE = 7,
+    ROUND = 1000, /* the most instructions of a round */
+
+    /* the pool */
+    TEMPERATURE = 0, /* flight software writes it */
+    HEATER = 1,      /* the procedure writes it: 1 on, 0 off */
+    CYCLE = 2,       /* flight software writes it */
+    POOL_WORDS = 3,
+
+    /* what ground sends, and when */
+    FIRST_CHANGE = 5000,
+    SUSPENSION = 19000,
+    RESUMPTION = 21000,
+    SECOND_CHANGE = 25000,
+    FIRST_SET_POINT = 240,
+    SECOND_SET_POINT = 210,
+
+    SETTLING = 3000, /* cycles from a change on in which the temperature may be anything */
+    TOLERANCE = 20,
+    CYCLES = 100000,
+    MOST_CYCLES = 300000,
+    CYCLES_OF_ROW = 10000
+};
+
+static struct ocp_engine engine = OCP_CLOSED;
+static uint32_t cycle;
+static uint32_t completions; /* that drains reported */
+static uint8_t reports[OCP_DRAIN_REPORTS > OCP_REQUEST_REPORTS ? OCP_DRAIN_REPORTS : OCP_REQUEST_REPORTS];
+
+static _Noreturn void fail(const char *why)
+{
+    fprintf(stderr, "control: cycle %" PRIu32 ": %s\n", cycle, why);
+    exit(1);
+}
+
+static void must(uint32_t status, const char *call)
+{
+    if (status != OCP_DONE) {
+        fprintf(stderr, "control: cycle %" PRIu32 ": %s answers %" PRIu32 "\n", cycle, call, status);
+        exit(1);
+    }
+}
+
+static void put_number(uint8_t *octets, uint64_t number, int length)
+{
+    for (int at = 0; at < length; at++)
+        octets[at] = (uint8_t)(number >> 8 * (length - 1 - at));
+}
+
+static uint64_t number_at(const uint8_t *octets, int length)
+{
+    uint64_t number = 0;
+    for (int at = 0; at < length; at++)
+        number = number << 8 | octets[at];
+    return number;
+}
+
+/* ---- the room, in degrees */
+
+static double air = 5, heat = 0; /* the heater warms up and cools down with a delay */
+
+static double outside(void)
+{
+    double part = (double)(cycle % 24000) / 24000;
+    return 2 + 16 * (part < 0.5 ? part : 1 - part);
+}
+
+static void pass_a_second(bool heater_is_on)
+{
+    heat += ((heater_is_on ? 40 : 0) - heat) / 20;
+    air += (outside() + heat - air) / 1500;
+}
+
+/* The sensor gives tenths of a degree. It is never below 0 in this room. */
+static uint64_t measured(void)
+{
+    return (uint64_t)(air * 10 + 0.5);
+}
+
+/* ---- ground */
+
+enum { LOAD = 1, ACTIVATE = 3, SUSPEND = 5, RESUME = 6, COMMUNICATE = 7 };
+enum { MOST_CODE = 2048 * 8, MOST_ARGUMENTS = 256, HEAD = 11, CONTROL = 2, COMPLETED = 7 };
+
+static uint8_t code[MOST_CODE], arguments[MOST_ARGUMENTS];
+static size_t code_length, argument_count;
+static uint64_t set_point;
+
+/* Looks at the reports of a call: none may be of a failure. Gives how many are of completions. */
+static uint32_t look_at_reports(size_t length)
+{
+    uint32_t completed = 0;
+    for (size_t at = 0; at < length; at += (size_t)number_at(reports + at + 4, 2) + 7) {
+        if (reports[at + 7] == 1 && reports[at + 8] % 2 == 0)
+            fail("a telecommand fails");
+        completed += reports[at + 7] == 1 && reports[at + 8] == COMPLETED;
+    }
+    return completed;
+}
+
+/* A telecommand to the procedure, which asks for reports of acceptance and completion. */
+static void send(uint8_t subtype, const uint8_t *data, size_t length)
+{
+    static uint8_t packet[HEAD + 4 + MOST_CODE + CONTROL];
+    static uint16_t count;
+    size_t written;
+    put_number(packet, 0x1800 | APID, 2);
+    put_number(packet + 2, 0xc000 | (count++ & 0x3fff), 2);
+    put_number(packet + 4, HEAD - 6 + 2 + length + CONTROL - 1, 2);
+    packet[6] = 0x29;
+    packet[7] = 18;
+    packet[8] = subtype;
+    put_number(packet + 9, 1, 2);
+    put_number(packet + HEAD, PROCEDURE, 2);
+    memcpy(packet + HEAD + 2, data, length);
+    put_number(packet + HEAD + 2 + length, error_control(packet, HEAD + 2 + length), CONTROL);
+    must(ocp_request(&engine, cycle, packet, HEAD + 2 + length + CONTROL, reports, sizeof reports, &written), "ocp_request");
+    look_at_reports(written);
+}
+
+static void load(void)
+{
+    static uint8_t data[2 + MOST_CODE];
+    put_number(data, code_length, 2);
+    memcpy(data + 2, code, code_length);
+    send(LOAD, data, 2 + code_length);
+}
+
+static void activate(void)
+{
+    uint8_t data[2 + MOST_ARGUMENTS];
+    put_number(data, argument_count, 2);
+    memcpy(data + 2, arguments, argument_count);
+    send(ACTIVATE, data, 2 + argument_count);
+}
+
+static void change_set_point(uint8_t tenths)
+{
+    uint8_t data[9] = {1};
+    put_number(data + 1, tenths, 8);
+    send(COMMUNICATE, data, sizeof data);
+    arguments[argument_count - 1] = tenths;
+    set_point = tenths;
+}
+
+static void send_telecommands(void)
+{
+    static const uint8_t step_1[] = {0, 1};
+    uint8_t nothing = 0;
+    if (cycle == FIRST_CHANGE)
+        change_set_point(FIRST_SET_POINT);
+    else if (cycle == SUSPENSION)
+        send(SUSPEND, step_1, sizeof step_1);
+    else if (cycle == RESUMPTION)
+        send(RESUME, &nothing, 0);
+    else if (cycle == SECOND_CHANGE)
+        change_set_point(SECOND_SET_POINT);
+}
+
+/* ---- flight software */
+
+static void write_inputs(void)
+{
+    must(ocp_put_word(&engine, TEMPERATURE, measured()), "ocp_put_word");
+    must(ocp_put_word(&engine, CYCLE, cycle), "ocp_put_word");
+}
+
+/* A round of each running procedure, by rising identifier. Gives whether there was one. */
+static bool give_rounds(void)
+{
+    uint32_t before = OCP_NO_PROCEDURE, count, step;
+    uint16_t id;
+    struct ocp_outcome last;
+    while (ocp_next_running(&engine, before, &id) == OCP_DONE && (before == OCP_NO_PROCEDURE || id > before)) {
+        must(ocp_round(&engine, id, ROUND, &count, &last, &step), "ocp_round");
+        if (last.kind == OCP_ENDED)
+            activate();
+        else if (step == OCP_NO_STEP)
+            fail("a round ends with no step");
+        before = id;
+    }
+    return before != OCP_NO_PROCEDURE;
+}
+
+static bool read_output(void)
+{
+    uint64_t word;
+    must(ocp_pool_word(&engine, HEATER, &word), "ocp_pool_word");
+    return word == 1;
+}
+
+static void drain(void)
+{
+    size_t written;
+    uint32_t status = ocp_drain(&engine, cycle, reports, sizeof reports, &written);
+    if (status == OCP_NOTHING_DUE)
+        return;
+    must(status, "ocp_drain");
+    completions += look_at_reports(written);
+}
+
+/* ---- what has to hold */
+
+static double farthest; /* from the set point, in tenths of a degree, after settling */
+
+static void check_cycle(bool has_run)
+{
+    bool suspended = cycle >= SUSPENSION && cycle < RESUMPTION;
+    uint32_t changed = cycle >= SECOND_CHANGE ? SECOND_CHANGE : cycle >= RESUMPTION ? RESUMPTION
+                       : cycle >= FIRST_CHANGE ? FIRST_CHANGE : 0;
+    double off = air * 10 > (double)set_point ? air * 10 - (double)set_point : (double)set_point - air * 10;
+    if (has_run == (suspended && cycle > SUSPENSION)) /* the suspend takes effect at the end of a round */
+        fail(has_run ? "a suspended procedure has run" : "the procedure has not run");
+    if (completions != (cycle >= SUSPENSION))
+        fail("the suspend is not reported once");
+    if (cycle == RESUMPTION - 1 && off <= TOLERANCE)
+        fail("the room is warm without the procedure");
+    if (!suspended && cycle >= changed + SETTLING) {
+        if (off > TOLERANCE)
+            fail("the temperature is off by more than two degrees");
+        farthest = off > farthest ? off : farthest;
+    }
+}
+
+static void run_cycles(uint32_t cycles)
+{
+    load();
+    activate();
+    while (cycle < cycles) {
+        cycle++;
+        send_telecommands();
+        write_inputs();
+        bool has_run = give_rounds();
+        bool heater_is_on = has_run && read_output();
+        drain();
+        keep_journal(&engine);
+        pass_a_second(heater_is_on);
+        check_cycle(has_run);
+        if (cycle % CYCLES_OF_ROW == 0)
+            printf("cycle %" PRIu32 ": %.1f degrees, set point %.1f, outside %.1f, heater %s\n", cycle, air,
+                   (double)set_point / 10, outside(), heater_is_on ? "on" : "off");
+    }
+}
+
+/* ---- the replay */
+
+static void give_entry(struct ocp_engine *second, const uint8_t *entry, size_t length)
+{
+    struct ocp_outcome last;
+    uint32_t count;
+    size_t written;
+    switch (entry[0]) { /* its fields begin after the kind and the seat */
+    case OCP_ENTRY_REQUEST:
+        must(ocp_request(second, (uint32_t)number_at(entry + 3, 4), entry + 7, length - 7, reports, sizeof reports, &written),
+             "ocp_request");
+        break;
+    case OCP_ENTRY_STEPS: /* a round is given as a slice */
+        must(ocp_slice(second, (uint16_t)number_at(entry + 3, 2), (uint32_t)number_at(entry + 5, 4), &count, &last), "ocp_slice");
+        break;
+    case OCP_ENTRY_DRAIN:
+        must(ocp_drain(second, (uint32_t)number_at(entry + 3, 4), reports, sizeof reports, &written), "ocp_drain");
+        break;
+    case OCP_ENTRY_PUT_WORD:
+        must(ocp_put_word(second, number_at(entry + 3, 2), number_at(entry + 5, 8)), "ocp_put_word");
+        break;
+    default:
+        fail("the journal has an entry of another kind");
+    }
+}
+
+/* What is seen of an engine: its events, the room in its journal, its pool, and the registers of the procedure. */
+enum { REGISTERS = 11, SEEN = 2 + POOL_WORDS + REGISTERS };
+
+static void see(struct ocp_engine *one, uint64_t *seen, struct ocp_view *view)
+{
+    must(ocp_events(one, seen), "ocp_events");
+    must(ocp_room(one, seen + 1), "ocp_room");
+    for (uint64_t index = 0; index < POOL_WORDS; index++)
+        must(ocp_pool_word(one, index, seen + 2 + index), "ocp_pool_word");
+    must(ocp_view(one, PROCEDURE, view, seen + 2 + POOL_WORDS, REGISTERS), "ocp_view");
+}
+
+/* Gives a second engine the entries of the first one's journal. What is seen of both has to be the same. */
+static void replay(uint32_t capacity)
+{
+    static uint8_t entry[OCP_LONGEST_ENTRY];
+    struct ocp_engine second = OCP_CLOSED;
+    struct ocp_view views[2];
+    uint64_t flown[SEEN], again[SEEN];
+    size_t length;
+    must(ocp_open(&second, PROFILE, APID, POOL_WORDS, capacity), "ocp_open of the second engine");
+    for (uint64_t index = 0; ocp_entry(&engine, index, entry, sizeof entry, &length) == OCP_DONE; index++)
+        give_entry(&second, entry, length);
+    see(&engine, flown, &views[0]);
+    see(&second, again, &views[1]);
+    if (memcmp(flown, again, sizeof flown) != 0 || memcmp(&views[0], &views[1], sizeof views[0]) != 0)
+        fail("the engines differ after the replay");
+    must(ocp_close(&second), "ocp_close");
+    printf("%" PRIu32 " cycles, %" PRIu64 " events, %" PRIu64 " entries; at most %.1f degrees off; the replay is the same\n",
+           cycle, flown[0], capacity - flown[1], farthest / 10);
+    for (int index = 0; index < POOL_WORDS; index++)
+        printf("pool %d %016" PRIx64 "\n", index, flown[2 + index]);
+}
+
+/* ---- the words */
+
+/* The octets of digits, to the end or to a newline. Gives how many they are, or 0 if they are none or too many. */
+static size_t octets_of(const char *digits, uint8_t *octets, size_t most)
+{
+    size_t length = strspn(digits, "0123456789abcdef");
+    if (length % 2 != 0 || length / 2 > most || (digits[length] != '\0' && digits[length] != '\n'))
+        return 0;
+    for (size_t at = 0; at < length / 2; at++)
+        octets[at] = (uint8_t)strtoul((char[]){digits[2 * at], digits[2 * at + 1], '\0'}, NULL, 16);
+    return length / 2;
+}
+
+static bool read_code(const char *name)
+{
+    static char digits[2 * MOST_CODE + 2];
+    FILE *file = fopen(name, "r");
+    if (file == NULL)
+        return false;
+    bool there = fgets(digits, sizeof digits, file) != NULL;
+    fclose(file);
+    code_length = there ? octets_of(digits, code, sizeof code) : 0;
+    return code_length != 0;
+}
+
+int main(int words, char **word)
+{
+    char *rest = "";
+    unsigned long cycles = words > 3 ? strtoul(word[3], &rest, 10) : CYCLES;
+    if (words < 3 || words > 5 || *rest != '\0' || cycles == 0 || cycles > MOST_CYCLES || !read_code(word[1]) ||
+        (argument_count = octets_of(word[2], arguments, sizeof arguments)) == 0) {
+        fprintf(stderr, "usage: control IMAGE ARGUMENTS [CYCLES [JOURNAL]], with digits in the file IMAGE and for ARGUMENTS\n");
+        return 2;
+    }
+    set_point = arguments[argument_count - 1];
+    uint32_t capacity = (uint32_t)(3 * cycles + cycles / 100 + 100); /* two inputs and a round in a cycle, and telecommands */
+    must(ocp_open(&engine, PROFILE, APID, POOL_WORDS, capacity), "ocp_open");
+    if (words == 5 && !begin_journal(word[4], PROFILE, APID, POOL_WORDS))
+        fail("the journal can't be written");
+    run_cycles((uint32_t)cycles);
+    if (!end_journal(&engine))
+        fail("the journal can't be written");
+    replay(capacity);
+    must(ocp_close(&engine), "ocp_close");
+    return 0;
+}

@@ -1,0 +1,471 @@
+/* The library under libFuzzer. From this folder, with clang and the built library; it ends after a minute, or at a fault:
+ *
+ *   mkdir -p ../out && clang -std=c11 -g -O1 -fsanitize=fuzzer,address,undefined -I.. fuzz.c ../../../crates/ocp_c/out/libocp_c.a -o ../out/fuzz && ../out/fuzz -max_total_time=60
+ *
+ * An input is a list of calls: an octet says which, the next ones are its numbers. The library is not instrumented, so an input
+ * counts as new when a call answers or a procedure is as none before. Requests are raw octets, or get a header and
+ * their error control here. Growths of memory are refused where the input says so. What is asked of the library:
+ *
+ * - it stays within its arguments and its heap, which the sanitizer sees;
+ * - a status is one that the call lists, and a refusal changes neither events, room, view nor pool;
+ * - the journal, run again by a second engine, gives the same reports, events, views and pool. */
+#include "error_control.h"
+#include "fixed_heap.h"
+#include "ocp_engine.h"
+
+#include <stdio.h>
+#include <stdlib.h>
+#include <string.h>
+
+enum { APID = 291, POOL_WORDS = 4, PROCEDURES = 4, REPORTS = 1 << 20 };
+
+/* ---- a heap that refuses one growth */
+
+static size_t growths, refused = SIZE_MAX;
+
+static struct fixed_heap_answer answer_of(void *piece)
+{
+    static unsigned char nothing;
+    return (struct fixed_heap_answer){piece != NULL, piece != NULL ? piece : &nothing};
+}
+
+struct fixed_heap_answer rattle_alloc(size_t octets, size_t align)
+{
+    return answer_of(growths++ == refused ? NULL : malloc(octets == 0 ? align : octets));
+}
+
+struct fixed_heap_answer rattle_realloc(void *piece, size_t kept, size_t octets, size_t align)
+{
+    (void)kept;
+    return answer_of(growths++ == refused ? NULL : realloc(piece, octets == 0 ? align : octets));
+}
+
+void rattle_dealloc(void *piece)
+{
+    free(piece);
+}
+
+/* ---- the input */
+
+static const uint8_t *input;
+static size_t left;
+
+static uint32_t number(size_t octets)
+{
+    uint32_t value = 0;
+    for (; octets > 0 && left > 0; octets--, left--)
+        value = value << 8 | *input++;
+    return value;
+}
+
+static uint16_t procedure(void)
+{
+    uint32_t one = number(1);
+    return (uint16_t)(one < 250 ? one % PROCEDURES : one);
+}
+
+#define HOLDS(fact) ((fact) ? (void)0 : fail(__LINE__, #fact))
+
+static void fail(int line, const char *fact)
+{
+    fprintf(stderr, "fuzz.c:%d: not so: %s\n", line, fact);
+    abort();
+}
+
+/* ---- what libFuzzer is told: an input that makes a call answer what none did before is kept */
+
+__attribute__((section("__libfuzzer_extra_counters"))) static uint8_t seen_answers[65536];
+
+static void tell(uint32_t what, uint32_t one, uint32_t other)
+{
+    seen_answers[(what * 4096 + one * 128 + other) % sizeof seen_answers] = 1;
+}
+
+/* ---- an engine and what is seen of it */
+
+struct seen {
+    uint64_t events, room, pool[POOL_WORDS];
+    uint32_t status[PROCEDURES];
+    struct ocp_view view[PROCEDURES];
+    uint64_t registers[PROCEDURES][11];
+};
+
+static void see(struct ocp_engine *engine, struct seen *seen)
+{
+    memset(seen, 0, sizeof *seen);
+    HOLDS(ocp_events(engine, &seen->events) == OCP_DONE && ocp_room(engine, &seen->room) == OCP_DONE);
+    for (uint64_t word = 0; word < POOL_WORDS; word++)
+        HOLDS(ocp_pool_word(engine, word, &seen->pool[word]) == OCP_DONE);
+    for (uint16_t id = 0; id < PROCEDURES; id++)
+        seen->status[id] = ocp_view(engine, id, &seen->view[id], seen->registers[id], 11);
+}
+
+/* All reports of an engine, one after another. */
+struct told {
+    uint8_t octets[REPORTS];
+    size_t length;
+};
+
+static struct told flown, again;
+
+static uint32_t request(struct ocp_engine *engine, struct told *told, uint32_t time, const uint8_t *packet, size_t length)
+{
+    uint8_t reports[OCP_REQUEST_REPORTS];
+    size_t written = 0;
+    uint32_t status = ocp_request(engine, time, packet, length, reports, sizeof reports, &written);
+    HOLDS(written <= sizeof reports && (status == OCP_DONE || written == 0) && told->length + written <= REPORTS);
+    memcpy(told->octets + told->length, reports, written);
+    told->length += written;
+    for (size_t at = 0; at < written; at += 7 + reports[at + 5])
+        tell(1, reports[at + 8], reports[at + 8] % 2 == 0 ? reports[at + 22] : 0); /* the subtype, and a failure's code */
+    return status;
+}
+
+static uint32_t drain(struct ocp_engine *engine, struct told *told, uint32_t time)
+{
+    uint8_t reports[OCP_DRAIN_REPORTS];
+    size_t written = 0;
+    uint32_t status = ocp_drain(engine, time, reports, sizeof reports, &written);
+    HOLDS(written <= sizeof reports && (status == OCP_DONE || written == 0) && told->length + written <= REPORTS);
+    memcpy(told->octets + told->length, reports, written);
+    told->length += written;
+    return status;
+}
+
+/* ---- requests of the input */
+
+static uint8_t packet[65542];
+
+static uint32_t raw_request(struct ocp_engine *engine)
+{
+    size_t length = number(1) % 64;
+    length = length < left ? length : left;
+    uint8_t *own = malloc(length + 1); /* the sanitizer sees what lies after it */
+    memcpy(own, input, length);
+    input += length;
+    left -= length;
+    uint32_t status = request(engine, &flown, 1, own, length);
+    free(own);
+    return status;
+}
+
+/* An instruction of the input: one that is admitted in most places, or any octets. */
+static void put_slot(uint8_t *slot)
+{
+    static const uint8_t opcodes[] = {0x07, 0x1f, 0xb7, 0xbf, 0x34, 0x3f, 0x61, 0x79, 0x7b, 0x62, 0x15, 0x1d, 0x05, 0x85, 0x85, 0x85, 0x95};
+    uint32_t which = number(1);
+    memset(slot, 0, 8);
+    if (which >= 240) {
+        for (int at = 0; at < 8; at++)
+            slot[at] = (uint8_t)number(1);
+        return;
+    }
+    slot[0] = opcodes[which % sizeof opcodes];
+    uint32_t rest = number(1);
+    switch (slot[0]) {
+    case 0x85: /* an engine call */
+        slot[4] = (uint8_t)(1 + rest % 6);
+        break;
+    case 0x95:
+        break;
+    case 0x05:
+        slot[2] = (uint8_t)rest;
+        slot[3] = (uint8_t)-(rest >> 7);
+        break;
+    case 0x79:
+    case 0x61: /* from the stack */
+        slot[1] = (uint8_t)(10 << 4 | rest % 10);
+        slot[2] = (uint8_t)-8;
+        slot[3] = 0xff;
+        break;
+    case 0x7b:
+        slot[1] = (uint8_t)((rest % 10) << 4 | 10);
+        slot[2] = (uint8_t)-8;
+        slot[3] = 0xff;
+        break;
+    case 0x62:
+        slot[1] = 10;
+        slot[2] = (uint8_t)-4;
+        slot[3] = 0xff;
+        slot[4] = (uint8_t)rest;
+        break;
+    case 0x1f:
+    case 0xbf:
+    case 0x3f:
+    case 0x1d:
+        slot[1] = (uint8_t)((rest % 11) << 4 | (rest >> 4) % 10);
+        break;
+    default:
+        slot[1] = rest % 10;
+        slot[4] = (uint8_t)(rest >> 4);
+    }
+}
+
+static uint8_t *const data = packet + 11; /* of a request */
+static size_t data_length;
+
+static void put(uint32_t value, size_t octets)
+{
+    while (octets-- > 0)
+        data[data_length++] = (uint8_t)(value >> (8 * octets));
+}
+
+static void put_octets(size_t octets)
+{
+    while (octets-- > 0)
+        put(number(1), 1);
+}
+
+/* Up to sixteen slots, the last of them an exit in most cases. */
+static void put_code(void)
+{
+    size_t slots = 1 + number(1) % 16;
+    put((uint32_t)slots * 8, 2);
+    for (size_t slot = 1; slot < slots; slot++, data_length += 8)
+        put_slot(data + data_length);
+    put(number(1) < 240 ? 0x95 : 0x07, 1);
+    put(0, 4);
+    put(0, 3);
+}
+
+/* The data of a request, laid out as its subtype wants them, or any octets. */
+static void put_data(uint8_t subtype, uint32_t profile)
+{
+    data_length = 0;
+    if (number(1) >= 245) {
+        put_octets(number(1) % 64);
+        return;
+    }
+    if (subtype != 8)
+        put(procedure(), 2);
+    size_t count = 0;
+    switch (subtype) {
+    case 1:
+        put_code();
+        break;
+    case 3:
+        if (profile == 2)
+            put(number(1), 4);
+        put((uint32_t)(count = number(1) % 8), 2);
+        put_octets(count);
+        break;
+    case 4:
+    case 5:
+        put(number(1) % 4, 2);
+        break;
+    case 7:
+        put((uint32_t)(count = 1 + number(1) % 8), 1);
+        put_octets(8 * count);
+    }
+}
+
+/* A telecommand of service 18. */
+static uint32_t whole_request(struct ocp_engine *engine, uint32_t profile)
+{
+    static const uint8_t subtypes[] = {1, 1, 1, 2, 3, 3, 3, 3, 4, 5, 6, 6, 7, 8, 12, 13};
+    uint8_t subtype = subtypes[number(1) % sizeof subtypes], flags = (uint8_t)number(1);
+    put_data(subtype, profile);
+    size_t field = 5 + data_length + 2;
+    const uint8_t head[11] = {0x18 | APID >> 8, APID & 255, 0xc0, 0, (uint8_t)((field - 1) >> 8), (uint8_t)(field - 1),
+                              (uint8_t)(0x20 | (flags & 15)), 18, subtype, 0, 9};
+    memcpy(packet, head, sizeof head);
+    put(error_control(packet, sizeof head + data_length), 2);
+    return request(engine, &flown, number(1), packet, sizeof head + data_length);
+}
+
+/* Loads and starts a procedure that ends steps for ever. */
+static void begin_procedure(struct ocp_engine *engine, uint32_t profile)
+{
+    static const uint8_t code[] = {0, 0, 0, 16, 0x85, 0, 0, 0, 5, 0, 0, 0, 0x05, 0, 0xfe, 0xff, 0, 0, 0, 0};
+    for (int activates = 0; activates < 2; activates++) {
+        const uint8_t head[11] = {0x18 | APID >> 8, APID & 255, 0xc0, 0, 0, 0, 0x20, 18, activates ? 3 : 1, 0, 9};
+        data_length = activates ? (profile == 2 ? 8 : 4) : sizeof code;
+        memcpy(packet, head, sizeof head);
+        memset(data, 0, data_length);
+        if (!activates)
+            memcpy(data, code, sizeof code);
+        packet[5] = (uint8_t)(5 + data_length + 1);
+        put(error_control(packet, sizeof head + data_length), 2);
+        HOLDS(request(engine, &flown, 0, packet, sizeof head + data_length) == OCP_DONE);
+    }
+}
+
+/* ---- calls */
+
+static bool is_listed(uint32_t status, const uint8_t *statuses, size_t count)
+{
+    return memchr(statuses, (int)status, count) != NULL;
+}
+
+#define LISTED(status, ...) \
+    HOLDS(is_listed(status, (const uint8_t[]){__VA_ARGS__}, sizeof((const uint8_t[]){__VA_ARGS__})))
+
+/* One call of the input; gives its status. */
+static uint32_t call(struct ocp_engine *engine, uint32_t profile)
+{
+    uint32_t which = number(1), status, count, id32;
+    struct ocp_outcome outcome;
+    uint16_t id;
+    uint8_t octets[64];
+    size_t length;
+#ifdef OCP_NO_STEP /* the header has rounds, and words from outside */
+    if (which >= 240) {
+        status = ocp_put_word(engine, number(1) % (POOL_WORDS + 1), number(4));
+        LISTED(status, OCP_DONE, OCP_NO_WORD, OCP_JOURNAL_FULL);
+        return status;
+    }
+    if (which >= 208) {
+        uint32_t step = 0, budget = number(2) % 2000;
+        status = ocp_round(engine, procedure(), budget, &count, &outcome, &step);
+        LISTED(status, OCP_DONE, OCP_NO_BUDGET, OCP_NOT_LOADED, OCP_NOT_RUNNING, OCP_JOURNAL_FULL);
+        HOLDS(status != OCP_DONE || (count >= 1 && count <= budget && step <= OCP_NO_STEP));
+        if (status == OCP_DONE)
+            tell(5, outcome.kind, step == OCP_NO_STEP);
+        return status;
+    }
+#endif
+    switch (which % 16) {
+    case 0:
+        return raw_request(engine);
+    case 1:
+        status = drain(engine, &flown, number(1));
+        LISTED(status, OCP_DONE, OCP_NOTHING_DUE, OCP_JOURNAL_FULL, OCP_MEMORY);
+        return status;
+    case 2:
+        status = ocp_set_break(engine, procedure(), (uint16_t)number(1));
+        LISTED(status, OCP_DONE, OCP_NOT_LOADED, OCP_NOT_AN_INSTRUCTION, OCP_ALREADY_SET, OCP_BREAKS_FULL, OCP_JOURNAL_FULL);
+        return status;
+    case 3:
+        status = ocp_clear_break(engine, procedure(), (uint16_t)number(1));
+        LISTED(status, OCP_DONE, OCP_NOT_LOADED, OCP_NOT_SET, OCP_JOURNAL_FULL);
+        return status;
+    case 4:
+        status = ocp_trace(engine, procedure(), number(1) & 1);
+        LISTED(status, OCP_DONE, OCP_NOT_LOADED, OCP_JOURNAL_FULL);
+        return status;
+    case 5:
+        id = procedure();
+        length = number(1) % sizeof octets;
+        status = ocp_memory(engine, id, number(4), octets, length);
+        LISTED(status, OCP_DONE, OCP_NOT_LOADED, OCP_OUTSIDE_MEMORY);
+        return status;
+    case 6:
+        id32 = number(3);
+        status = ocp_next_running(engine, id32, &id);
+        LISTED(status, OCP_DONE, OCP_NONE_RUNNING);
+        return status;
+    case 7:
+        status = ocp_step(engine, procedure(), &outcome);
+        LISTED(status, OCP_DONE, OCP_NOT_LOADED, OCP_NOT_RUNNING, OCP_JOURNAL_FULL);
+        return status;
+    case 8:
+    case 9:
+    case 10:
+        id = procedure();
+        id32 = number(2) % 2000;
+        status = ocp_slice(engine, id, id32, &count, &outcome);
+        LISTED(status, OCP_DONE, OCP_NO_BUDGET, OCP_NOT_LOADED, OCP_NOT_RUNNING, OCP_JOURNAL_FULL);
+        HOLDS(status != OCP_DONE || (count >= 1 && count <= id32));
+        if (status == OCP_DONE)
+            tell(2, outcome.kind, outcome.fault * 16 + (count > 15 ? 15 : count));
+        return status;
+    default:
+        return whole_request(engine, profile);
+    }
+}
+
+/* ---- the journal again */
+
+static uint32_t big(const uint8_t *octets, size_t length)
+{
+    uint32_t value = 0;
+    while (length-- > 0)
+        value = value << 8 | *octets++;
+    return value;
+}
+
+static void run_entry(struct ocp_engine *engine, const uint8_t *entry, size_t length)
+{
+    uint32_t count, many = length >= 9 ? big(entry + 5, 4) : 0;
+    struct ocp_outcome last;
+    uint16_t id = (uint16_t)big(entry + 3, 2), other = (uint16_t)big(entry + 5, 2);
+    switch (entry[0]) {
+    case OCP_ENTRY_REQUEST:
+        HOLDS(request(engine, &again, big(entry + 3, 4), entry + 7, length - 7) == OCP_DONE);
+        break;
+    case OCP_ENTRY_STEPS:
+        for (uint32_t done = 0; done < many; done += count)
+            HOLDS(ocp_slice(engine, id, many - done, &count, &last) == OCP_DONE);
+        break;
+    case OCP_ENTRY_SET_BREAK:
+        HOLDS(ocp_set_break(engine, id, other) == OCP_DONE);
+        break;
+    case OCP_ENTRY_CLEAR_BREAK:
+        HOLDS(ocp_clear_break(engine, id, other) == OCP_DONE);
+        break;
+    case OCP_ENTRY_TRACE:
+        HOLDS(ocp_trace(engine, id, other == 1) == OCP_DONE);
+        break;
+    case OCP_ENTRY_DRAIN:
+        HOLDS(drain(engine, &again, big(entry + 3, 4)) == OCP_DONE);
+        break;
+#ifdef OCP_NO_STEP
+    case 7: /* a word from outside */
+        HOLDS(length == 13 && ocp_put_word(engine, big(entry + 3, 2), (uint64_t)big(entry + 5, 4) << 32 | big(entry + 9, 4)) == OCP_DONE);
+        break;
+#endif
+    default:
+        fail(__LINE__, "an entry is of a kind that is listed");
+    }
+}
+
+/* A second engine does the entries of the first one. */
+static void run_again(struct ocp_engine *first, uint32_t profile)
+{
+    static uint8_t entry[OCP_LONGEST_ENTRY];
+    static struct seen one, other;
+    struct ocp_engine second = OCP_CLOSED;
+    size_t length;
+    refused = SIZE_MAX;
+    again.length = 0;
+    HOLDS(ocp_open(&second, profile, APID, POOL_WORDS, 1000) == OCP_DONE);
+    for (uint64_t index = 0; ocp_entry(first, index, entry, sizeof entry, &length) == OCP_DONE; index++)
+        run_entry(&second, entry, length);
+    see(first, &one);
+    see(&second, &other);
+    one.room = other.room = 0; /* the capacities differ */
+    HOLDS(memcmp(&one, &other, sizeof one) == 0);
+    HOLDS(flown.length == again.length && memcmp(flown.octets, again.octets, flown.length) == 0);
+    HOLDS(ocp_close(&second) == OCP_DONE);
+}
+
+int LLVMFuzzerTestOneInput(const uint8_t *octets, size_t length)
+{
+    static struct seen before, after;
+    struct ocp_engine engine = OCP_CLOSED;
+    input = octets;
+    left = length;
+    flown.length = 0;
+    uint32_t profile = 1 + (number(1) & 1), capacity = number(1) % 4 == 0 ? 8 : 900;
+    refused = SIZE_MAX;
+    HOLDS(ocp_open(&engine, profile, APID, POOL_WORDS, capacity) == OCP_DONE);
+    if (number(1) & 1)
+        begin_procedure(&engine, profile);
+    for (int calls = 0; left > 0 && calls < 890; calls++) {
+        uint32_t refusal = number(1);
+        growths = 0;
+        refused = refusal < 32 ? refusal : SIZE_MAX;
+        see(&engine, &before);
+        uint32_t which = left > 0 ? *input : 0;
+        uint32_t status = call(&engine, profile);
+        HOLDS(status != OCP_MEMORY || refused != SIZE_MAX);
+        see(&engine, &after);
+        HOLDS(status == OCP_DONE || memcmp(&before, &after, sizeof before) == 0);
+        for (int id = 0; id < PROCEDURES; id++)
+            tell(3, after.view[id].status * 8 + after.view[id].cause, after.view[id].pending * 8 + after.view[id].depth);
+        tell(4, which % 16, status);
+    }
+    run_again(&engine, profile);
+    HOLDS(ocp_close(&engine) == OCP_DONE);
+    return 0;
+}
