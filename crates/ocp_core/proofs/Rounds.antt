@@ -1,5 +1,5 @@
 -- How many instructions a slice or a round has at most.
-use Rattle.std.proofs.Common.{◌≡◌, ◌≤◌, ℕ, zero, suc, Bool, true, false, cond, arith}
+use Rattle.std.proofs.Common.{◌≤◌, ℕ, zero, suc, Bool, true, false, cond, arith}
 use Rattle.std.specs.Prelude.{is_some}
 use Rattle.ocp_table.specs.declared.answers.Extent.{Extent}
 use Rattle.ocp_table.specs.declared.answers.Extent.TheVariants as extents

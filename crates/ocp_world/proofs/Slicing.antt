@@ -1,13 +1,12 @@
 -- A slice or a round of the state, against steps of the world.
-use Rattle.std.proofs.Common.{◌≡◌, ℕ, ◌+◌, ◌<◌, Bool, true, false, Option, None, replicate, cond, refl, sym, ap, subst, ◌∙◌, add-one, arith}
+use Rattle.std.proofs.Common.{◌≡◌, ℕ, ◌+◌, ◌<◌, Bool, true, false, Option, None, replicate, cond, sym, ap, subst, ◌∙◌, add-one, arith}
 use Rattle.std.specs.Prelude.{is_some}
 use Rattle.std.specs.FinMap.{get}
 use Rattle.ocp_table.specs.declared.answers.Extent.{Extent}
 use Rattle.ocp_table.specs.declared.answers.Extent.TheVariants as extents
 use Rattle.ocp_table.specs.declared.answers.StepOutcome.{StepOutcome}
 use Rattle.ocp_table.specs.declared.answers.StepOutcome.TheVariants.{Ran}
-use Rattle.ocp_table.specs.Slices.{Leads, EndNoStep, answer_to}
-use Rattle.ocp_table.specs.Slices as table
+use Rattle.ocp_table.specs.Slices.{Leads, EndNoStep}
 use Rattle.ocp_table.proofs.Slicing.{leads-none, leads-one, leads-on, unended-none, unended-one, unended-on, step-none, Comes, comes-whole, comes-end, comes-round}
 use Rattle.ocp_world.specs.World.{World, Step}
 use Rattle.ocp_world.specs.After.{Stepped, after, is_accepted}
@@ -15,7 +14,7 @@ use Rattle.ocp_world.specs.Replay.{replay_from}
 use Rattle.ocp_world.specs.Slice.{goes_on, is_on, is_running, next_outcome, slice_count, slice_last}
 use Rattle.ocp_world.specs.Round.{step_ended, step_at, most_events}
 use Rattle.ocp_world.proofs.Replays.{replay_from-steps}
-use Rattle.ocp_world.proofs.Stretches.{store_of, same_store, same_step, whole_count, whole_last}
+use Rattle.ocp_world.proofs.Stretches.{store_of, same_step, whole_count, whole_last}
 use Rattle.ocp_world.specs.Mirror.State.{IsWorld}
 use Rattle.ocp_world.specs.declared.state.State.{State}
 

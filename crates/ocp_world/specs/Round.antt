@@ -1,5 +1,5 @@
 -- A round: a slice that also ends with the first instruction that ends a step.
-use Rattle.std.specs.Prelude.{◌≡◌, ◌<◌, ℕ, zero, suc, replicate, Option, None, is_some, if◌then◌else◌}
+use Rattle.std.specs.Prelude.{ℕ, zero, suc, replicate, Option, None, is_some, if◌then◌else◌}
 use Rattle.ocp_table.specs.declared.answers.Extent.{Extent}
 use Rattle.ocp_table.specs.declared.answers.Extent.TheVariants as extents
 use Rattle.ocp_table.specs.RequestTable as directive
