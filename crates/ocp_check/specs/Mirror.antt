@@ -1,0 +1,5 @@
+pub mod Ranges
+pub mod Callers
+pub mod Fits
+pub mod Start
+pub mod Ranks

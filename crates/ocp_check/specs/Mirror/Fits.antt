@@ -1,0 +1,60 @@
+-- What a certificate says of an image.
+use Rattle.std.specs.Prelude.{◌≡◌, ◌≤◌, ◌<◌, ℕ, ◌+◌, List, [], ◌∷◌, length, slice_get, Option, Some}
+use Rattle.ocp_profile.specs.declared.profile.Profile.{Profile}
+use Rattle.bpf_step.specs.declared.answer.Need.TheVariants as need
+use Rattle.bpf_step.specs.Machine.{State, Outcome, Next, Needs, NoInstruction, HasMemoryOf}
+use Rattle.bpf_step.specs.Calls.{state_after_engine_call}
+use Rattle.ocp_check.specs.declared.range.Range.{Range}
+use Rattle.ocp_check.specs.declared.certificate.Node.{Node}
+use Rattle.ocp_check.specs.Mirror.Ranges.{IsIn, AreIn}
+use Rattle.ocp_check.specs.Mirror.Callers.{Caller, AreSaved, known_of, node_after_return}
+
+-- what a certificate says at each slot, if the slot is ever reached
+abbrev pub Certificate : Type 0
+Certificate = List (Option Node)
+
+-- what the certificate says at the place follows from a node
+pub record Covers (certificate : Certificate) (place : ℕ) (from : Node) : Type 0 where
+  pub node : Node
+  pub found : slice_get certificate place ≡ Some (Some node)
+  pub weaker : (k : ℕ) → k < 11 → (v : ℕ) → IsIn (known_of from k) v → IsIn (known_of node k) v
+  pub deep : from.depth ≤ node.depth
+  pub kept : (v : ℕ) → IsIn node.promise v → IsIn from.promise v
+
+-- what the certificate says after an open local call follows from what is promised of R0
+pub record Resumes (certificate : Certificate) (promise : Option Range) (c : Caller) : Type 0 where
+  pub promised : Option Range
+  pub kept : (v : ℕ) → IsIn promise v → IsIn promised v
+  pub covers : Covers certificate (c.place + 1) (node_after_return c.node promised)
+
+-- so it is after each open local call, the latest of which is first
+abbrev pub Returns : Certificate → Option Range → List Caller → Type 0
+Returns certificate promise [] = Unit {0}
+Returns certificate promise (c ∷ callers) =
+    Resumes certificate promise c × (length callers ≤ c.node.depth)
+    × Returns certificate c.node.promise callers
+
+-- a machine is as a node says, and so it will be after each open local call
+pub record Matches (certificate : Certificate) (node : Node) (s : State) : Type 0 where
+  pub registers : AreIn node.row s.registers
+  pub callers : List Caller
+  pub saved : AreSaved callers s.frames
+  pub few : length callers ≤ node.depth
+  pub returns : Returns certificate node.promise callers
+  pub profile : Profile
+  pub memory : HasMemoryOf profile s
+
+-- a machine is as the certificate says at its place
+pub record Fits (certificate : Certificate) (s : State) : Type 0 where
+  pub node : Node
+  pub found : slice_get certificate s.place ≡ Some (Some node)
+  pub stands : Matches certificate node s
+
+-- so are those that come next, and there is no fault
+abbrev pub FitsAfter : Certificate → State → Outcome → Type 0
+FitsAfter certificate s (Next t) = Fits certificate t
+FitsAfter certificate s (Needs (need.Call number)) =
+    (r0 : ℕ) (r1 : Option ℕ) → Fits certificate (state_after_engine_call s r0 r1)
+FitsAfter certificate s (Needs need.LastExit) = Unit {0}
+FitsAfter certificate s (Needs (need.Fault f)) = ⊥
+FitsAfter certificate s NoInstruction = ⊥

@@ -1,0 +1,24 @@
+-- What is known of a register, of all registers, and of an access.
+use Rattle.std.specs.Prelude.{◌≡◌, ◌≤◌, ◌<◌, ◌⊎◌, ℕ, ◌+◌, Bool, false, List, length, slice_index, slice_index_or, Option, Some, None}
+use Rattle.ocp_check.specs.declared.range.Range.{Range}
+
+-- the number is one of those that are known of; if nothing is known, any number is
+abbrev pub IsIn : Option Range → ℕ → Type 0
+IsIn None v = Unit {0}
+IsIn (Some r) v = (r.low ≤ v) × (v ≤ r.high)
+
+-- one number
+abbrev pub just : ℕ → Option Range
+just number = Some (record { low = number; high = number })
+
+-- each register holds what is known of it
+pub record AreIn (known : List (Option Range)) (registers : List ℕ) : Type 0 where
+  pub eleven : length registers ≡ 11
+  pub each : (k : ℕ) → k < 11 → IsIn (slice_index_or known k None) (slice_index registers k)
+
+-- n octets from an address on are in one region: the stack, the work region of the smaller profile,
+-- or, to be read alone, the arguments
+abbrev pub IsThere : Bool → ℕ → ℕ → Type 0
+IsThere writes q n =
+    ((0x1000_0000 ≤ q) × (q + n ≤ 0x1000_1000)) ⊎ ((0x3000_0000 ≤ q) × (q + n ≤ 0x3000_0400))
+    ⊎ ((writes ≡ false) × (0x2000_0000 ≤ q) × (q + n ≤ 0x2000_0100))

@@ -1,0 +1,122 @@
+//! What an image can never do, found and shown.
+ghost use Rattle.std.specs.Prelude.{◌≡◌, [], IfOk, IfSome, List, ℕ, length};
+ghost use Rattle.ocp_check.specs.Never.{NeverFaults};
+ghost use Rattle.ocp_check.specs.Rounds.{IsWithin};
+ghost use Rattle.ocp_check.specs.Never.{AsksWell};
+
+use crate::asks::{check_pool, words_asked};
+use crate::certificate::Node;
+use crate::checker::{check, is_kept_at};
+use crate::covering::node_at;
+use crate::finding::find;
+use crate::ranking::{find_ranks, most_of};
+use crate::refusal::{Refusal, Why, reason};
+use crate::rounds::check_rounds;
+use ocp_loader::Program;
+use std::alloc::{AllocError, Allocator, Global};
+
+/// What was found out about an image.
+#[derive(Drop)]
+pub struct Findings<A: Allocator = Global> {
+    /// The places that may meet a fault of the machine (AccessOutside, WriteToArguments,
+    /// CallDepth), in slot order. With none, no run ever meets one.
+    pub faults: Vec<Refusal, A>,
+    /// The least words of a pool with which no run meets BadPoolIndex, if that was shown.
+    pub words: Option<u16>,
+    /// The most instructions from a start or the end of a step up to the next end of a step or of
+    /// the procedure, both counted, if that was shown.
+    pub round: Option<u32>,
+}
+
+/// Why a slot is not shown, if it is not.
+fn refusal_at<A: Allocator>(
+    program: &Program<A>,
+    certificate: &[Option<Node>],
+    slot: u16,
+) -> Option<Refusal> {
+    if is_kept_at(program, certificate, slot) {
+        return None;
+    }
+    match (node_at(certificate, slot), program.line_at(slot)) {
+        (Some(node), Some(line)) => Some(Refusal {
+            slot,
+            why: reason(&node, line),
+        }),
+        _ => None,
+    }
+}
+
+/// The places that may meet a fault of the machine, by a certificate.
+fn faults<A: Allocator + Copy>(
+    alloc: A,
+    program: &Program<A>,
+    certificate: &[Option<Node>],
+) -> Result<Vec<Refusal, A>, AllocError>
+    ensures { IfOk result (λ found. found.items ≡ [] → NeverFaults program.now) }
+{
+    let mut found = Vec::new(alloc);
+    if check(program, certificate) {
+        return Ok(found);
+    }
+    for slot in 0..program.slots() as u16 {
+        if let Some(refusal) = refusal_at(program, certificate, slot) {
+            found.push(refusal)?;
+        }
+    }
+    if found.is_empty() {
+        found.push(Refusal {
+            slot: 0,
+            why: Why::Unsettled,
+        })?;
+    }
+    Ok(found)
+}
+
+/// The least words of a pool that are shown to suffice.
+fn words<A: Allocator>(program: &Program<A>, certificate: &[Option<Node>]) -> Option<u16>
+    ensures { IfSome result (AsksWell program.now) }
+{
+    let words = words_asked(program, certificate)?;
+    if check_pool(program, certificate, words) {
+        Some(words)
+    } else {
+        None
+    }
+}
+
+/// The most instructions of a round that are shown.
+fn round<A: Allocator>(
+    program: &Program<A>,
+    certificate: &[Option<Node>],
+    ranks: &[u32],
+) -> Option<u32>
+    ensures { IfSome result (IsWithin program.now) }
+{
+    let most = most_of(program, certificate, ranks);
+    if check_rounds(program, certificate, ranks, most) {
+        Some(most)
+    } else {
+        None
+    }
+}
+
+/// What an image can never do, with any arguments, pool, mailbox and answers of engine calls. The
+/// time is linear in the slots: the searches go over them at most 64 times each, the checks once.
+/// The memory is linear too: a node and a rank for each slot, and a refusal for each place that is
+/// not shown.
+pub fn examine<A: Allocator + Copy>(
+    alloc: A,
+    program: &Program<A>,
+) -> Result<Findings<A>, AllocError>
+    ensures faults { IfOk result (λ f. f.faults.items ≡ [] → NeverFaults program.now) }
+    ensures words { IfOk result (λ f. IfSome f.words (AsksWell program.now)) }
+    ensures round { IfOk result (λ f. IfSome f.round (IsWithin program.now)) }
+{
+    let certificate = find(alloc, program)?;
+    let ranks = find_ranks(alloc, program, &certificate)?;
+    Ok(Findings {
+        faults: faults(alloc, program, &certificate)?,
+        words: words(program, &certificate),
+        round: round(program, &certificate, &ranks),
+    })
+}

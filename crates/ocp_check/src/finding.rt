@@ -1,0 +1,417 @@
+//! The search for a certificate. Nothing rests on it: `check` tests what it finds.
+//!
+//! It goes over the slots in order, again and again, until nothing changes, at most `PASSES` times.
+//! A range that still grows at the target of a jump back after `PLAIN_PASSES` is widened to the next
+//! of some numbers, and after `WIDE_PASSES` to all numbers. So the time is linear in the slots.
+
+use crate::certificate::{Node, after_return};
+use crate::checker::at_start;
+use crate::covering::{known, known_operand, with_register};
+use crate::range::{Range, is_empty, only, refined, result_of, sum};
+use crate::steps::{at_call, target};
+use bpf_step::{FRAME_OCTETS, MAX_LOCAL_CALLS};
+use bpf_types::{Comparison, Line, Operand, Reg, Width};
+use ocp_loader::Program;
+use std::alloc::{AllocError, Allocator};
+
+/// The most often that the slots are gone over.
+const PASSES: u32 = 64;
+
+/// How often ranges grow as they are.
+const PLAIN_PASSES: u32 = 3;
+
+/// How often they grow to one of the landmarks.
+const WIDE_PASSES: u32 = 40;
+
+/// The most numbers to which ranges are widened.
+const LANDMARKS: usize = 64;
+
+/// The landmarks of every image: ends of the regions, and of the numbers of fewer octets.
+const FIRST_LANDMARKS: [u64; 16] = [
+    0,
+    1,
+    0xff,
+    0x100,
+    0xffff,
+    0xffff_ffff,
+    0x1000_0000,
+    0x1000_1000,
+    0x2000_0000,
+    0x2000_00fe,
+    0x2000_00ff,
+    0x2000_0100,
+    0x3000_0000,
+    0x3000_00ff,
+    0x3000_0100,
+    0x3000_0400,
+];
+
+/// The test of a conditional jump.
+#[derive(Clone, Copy)]
+struct Test {
+    width: Width,
+    comparison: Comparison,
+    dst: Reg,
+    operand: Operand,
+    distance: i32,
+}
+
+/// What is known at each slot so far.
+#[derive(Drop)]
+struct Search<A: Allocator> {
+    nodes: Vec<Option<Node>, A>,
+    landmarks: Vec<u64, A>,
+    /// Of R0 at the ends of local calls, if there is one.
+    end: Option<Option<Range>>,
+    pass: u32,
+    has_changed: bool,
+}
+
+/// The least range with both; what has no numbers is left out.
+fn hull(a: Option<Range>, b: Option<Range>) -> Option<Range> {
+    if is_empty(a) {
+        return b;
+    }
+    if is_empty(b) {
+        return a;
+    }
+    match (a, b) {
+        (Some(a), Some(b)) => Some(Range {
+            low: if a.low < b.low { a.low } else { b.low },
+            high: if a.high > b.high { a.high } else { b.high },
+        }),
+        _ => None,
+    }
+}
+
+/// The greatest landmark up to a number.
+fn landmark_below(landmarks: &[u64], number: u64) -> u64 {
+    let mut found = 0;
+    for landmark in landmarks {
+        if *landmark <= number && found < *landmark {
+            found = *landmark;
+        }
+    }
+    found
+}
+
+/// The least landmark from a number on, if there is one.
+fn landmark_above(landmarks: &[u64], number: u64) -> Option<u64> {
+    let mut found = None;
+    for landmark in landmarks {
+        if *landmark >= number {
+            match found {
+                Some(least) if least <= *landmark => {}
+                _ => found = Some(*landmark),
+            }
+        }
+    }
+    found
+}
+
+/// A range that was `old` and has become `new`, widened where it has grown.
+fn widened(landmarks: &[u64], old: Option<Range>, new: Option<Range>) -> Option<Range> {
+    let (Some(old), Some(new)) = (old, new) else {
+        return None;
+    };
+    let low = if new.low < old.low {
+        landmark_below(landmarks, new.low)
+    } else {
+        new.low
+    };
+    if new.high <= old.high {
+        return Some(Range {
+            low,
+            high: new.high,
+        });
+    }
+    match landmark_above(landmarks, new.high) {
+        Some(high) => Some(Range { low, high }),
+        None => None,
+    }
+}
+
+/// Whether two ranges are the same.
+fn is_same(a: Option<Range>, b: Option<Range>) -> bool {
+    match (a, b) {
+        (None, None) => true,
+        (Some(a), Some(b)) => a.low == b.low && a.high == b.high,
+        _ => false,
+    }
+}
+
+/// What becomes of a range that grows to `new` at a slot.
+fn grown(
+    landmarks: &[u64],
+    pass: u32,
+    is_back: bool,
+    old: Option<Range>,
+    new: Option<Range>,
+) -> Option<Range> {
+    if is_same(old, new) {
+        old
+    } else if pass >= WIDE_PASSES {
+        None
+    } else if is_back && pass >= PLAIN_PASSES {
+        widened(landmarks, old, new)
+    } else {
+        new
+    }
+}
+
+impl<A: Allocator> Search<A> {
+    /// A machine that is as the node says may come from a slot to a place.
+    fn enter(&mut self, slot: u16, place: usize, from: &Node) {
+        if place >= self.nodes.len() {
+            return;
+        }
+        let Some(old) = self.nodes[place] else {
+            self.nodes[place] = Some(*from);
+            self.has_changed = true;
+            return;
+        };
+        let is_back = place <= usize::from(slot);
+        let mut row = old.row;
+        let mut has_grown = false;
+        for k in 0..11 {
+            let known = grown(
+                &self.landmarks,
+                self.pass,
+                is_back,
+                old.row[k],
+                hull(old.row[k], from.row[k]),
+            );
+            if !is_same(known, old.row[k]) {
+                has_grown = true;
+            }
+            row[k] = known;
+        }
+        let depth = if old.depth < from.depth {
+            from.depth
+        } else {
+            old.depth
+        };
+        if has_grown || depth > old.depth {
+            self.nodes[place] = Some(Node {
+                row,
+                depth,
+                promise: None,
+            });
+            self.has_changed = true;
+        }
+    }
+
+    /// The same of a write to a register.
+    fn write(&mut self, slot: u16, slots: usize, node: &Node, dst: Reg, known: Option<Range>) {
+        self.enter(
+            slot,
+            usize::from(slot).saturating_add(slots),
+            &with_register(node, dst, known),
+        );
+    }
+
+    /// The same of a jump that is taken or not, after which this is known of a register.
+    fn jump(&mut self, slot: u16, distance: i32, node: &Node, register: Reg, known: Option<Range>) {
+        if let Some(place) = target(slot, distance) {
+            if !is_empty(known) {
+                self.enter(slot, place, &with_register(node, register, known));
+            }
+        }
+    }
+
+    /// The same of both ways of a conditional jump.
+    fn branch(&mut self, slot: u16, node: &Node, test: Test) {
+        let first = known(&node.row, test.dst);
+        let second = known_operand(&node.row, test.operand);
+        let taken = refined(test.width, test.comparison, true, first, second);
+        let passed = refined(test.width, test.comparison, false, first, second);
+        self.jump(slot, test.distance, node, test.dst, taken);
+        self.jump(slot, 0, node, test.dst, passed);
+    }
+
+    /// The same of a local call that is not too deep, and of what follows its end.
+    fn open(&mut self, slot: u16, distance: i32, node: &Node) {
+        if usize::from(node.depth) >= MAX_LOCAL_CALLS {
+            return;
+        }
+        let pointer = sum(node.row[10], only(FRAME_OCTETS.wrapping_neg()));
+        if let Some(place) = target(slot, distance) {
+            self.enter(slot, place, &at_call(node, pointer, None));
+        }
+        if let Some(end) = self.end {
+            self.enter(slot, usize::from(slot) + 1, &after_return(node, end));
+        }
+    }
+
+    /// A machine may end a local call.
+    fn close(&mut self, node: &Node) {
+        if node.depth == 0 {
+            return;
+        }
+        let end = match self.end {
+            Some(end) => hull(end, node.row[0]),
+            None => node.row[0],
+        };
+        let is_known = match self.end {
+            Some(old) => is_same(old, end),
+            None => false,
+        };
+        if !is_known {
+            self.end = Some(if self.pass < WIDE_PASSES { end } else { None });
+            self.has_changed = true;
+        }
+    }
+
+    /// What a machine at a slot does next.
+    fn flow(&mut self, slot: u16, node: &Node, line: Line) {
+        match line {
+            Line::Arithmetic {
+                width,
+                operation,
+                dst,
+                operand,
+            } => {
+                let value = result_of(
+                    width,
+                    operation,
+                    known(&node.row, dst),
+                    known_operand(&node.row, operand),
+                );
+                self.write(slot, 1, node, dst, value);
+            }
+            Line::Negate { dst, .. } => self.write(slot, 1, node, dst, None),
+            Line::MoveExtended { dst, .. } => self.write(slot, 1, node, dst, None),
+            Line::ByteOrder { dst, .. } => self.write(slot, 1, node, dst, None),
+            Line::Jump { distance } => self.jump(
+                slot,
+                i32::from(distance),
+                node,
+                Reg::zero(),
+                node.row[0],
+            ),
+            Line::LongJump { distance } => self.jump(
+                slot,
+                distance,
+                node,
+                Reg::zero(),
+                node.row[0],
+            ),
+            Line::JumpIf {
+                width,
+                comparison,
+                dst,
+                operand,
+                distance,
+            } => {
+                self.branch(
+                    slot,
+                    node,
+                    Test {
+                        width,
+                        comparison,
+                        dst,
+                        operand,
+                        distance: i32::from(distance),
+                    },
+                );
+            }
+            Line::Call { .. } => {
+                let answered = with_register(node, Reg::zero(), None);
+                self.write(slot, 1, &answered, Reg::one(), None);
+            }
+            Line::CallLocal { distance } => self.open(slot, distance, node),
+            Line::Exit => self.close(node),
+            Line::LoadWide { dst, value } => self.write(slot, 2, node, dst, only(value)),
+            Line::Load { dst, .. } => self.write(slot, 1, node, dst, None),
+            Line::LoadExtended { dst, .. } => self.write(slot, 1, node, dst, None),
+            Line::StoreImmediate { .. } | Line::Store { .. } => {
+                self.jump(slot, 0, node, Reg::zero(), node.row[0]);
+            }
+        }
+    }
+
+    /// One pass over the slots.
+    fn sweep(&mut self, program: &Program<A>, slots: u16) {
+        self.has_changed = false;
+        for slot in 0..slots {
+            if let Some(Some(node)) = self.nodes.get(usize::from(slot)) {
+                let node = *node;
+                if let Some(line) = program.line_at(slot) {
+                    self.flow(slot, &node, line);
+                }
+            }
+        }
+    }
+}
+
+/// Adds a landmark, unless it is there or there are enough.
+fn add_landmark<A: Allocator>(landmarks: &mut Vec<u64, A>, number: u64) -> Result<(), AllocError> {
+    if landmarks.len() < LANDMARKS && !landmarks.contains(&number) {
+        landmarks.push(number)?;
+    }
+    Ok(())
+}
+
+/// The numbers to which ranges are widened: the ends of the regions, and those with which the image
+/// compares registers, with their neighbours.
+fn landmarks_of<A: Allocator>(
+    alloc: A,
+    program: &Program<A>,
+    slots: u16,
+) -> Result<Vec<u64, A>, AllocError> {
+    let mut landmarks = Vec::new(alloc);
+    for number in FIRST_LANDMARKS {
+        add_landmark(&mut landmarks, number)?;
+    }
+    for slot in 0..slots {
+        if let Some(
+            Line::JumpIf {
+                operand: Operand::Immediate(imm),
+                ..
+            },
+        ) = program.line_at(slot)
+        {
+            let number = i64::from(imm).cast_unsigned();
+            add_landmark(&mut landmarks, number.wrapping_sub(1))?;
+            add_landmark(&mut landmarks, number)?;
+            add_landmark(&mut landmarks, number.wrapping_add(1))?;
+        }
+    }
+    Ok(landmarks)
+}
+
+/// What is known at each slot that may be reached: a certificate, if the search came to its end.
+pub fn find<A: Allocator + Copy>(
+    alloc: A,
+    program: &Program<A>,
+) -> Result<Vec<Option<Node>, A>, AllocError> {
+    let slots = program.slots();
+    let mut search = Search {
+        nodes: vec![in alloc; None; slots]?,
+        landmarks: landmarks_of(alloc, program, slots as u16)?,
+        end: None,
+        pass: 0,
+        has_changed: true,
+    };
+    if let Some(first) = search.nodes.first_mut() {
+        *first = Some(at_start());
+    }
+    for pass in 0..PASSES {
+        search.pass = pass;
+        search.sweep(program, slots as u16);
+        if !search.has_changed {
+            break;
+        }
+    }
+    let promise = match search.end {
+        Some(end) => end,
+        None => None,
+    };
+    let mut nodes = search.nodes;
+    for node in nodes.iter_mut() {
+        if let Some(node) = node {
+            node.promise = promise;
+        }
+    }
+    Ok(nodes)
+}

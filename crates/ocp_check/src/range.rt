@@ -1,0 +1,282 @@
+//! What is known of a register: a range of numbers, or nothing.
+ghost use Rattle.std.specs.Prelude.{◌≡◌, ◌≤◌, ◌+◌, ◌-◌, ◌/◌, ◌%◌, ◌^◌, ◌==◌, if◌then◌else◌, bit_and, ℕ, IsTrue, Some};
+ghost use Rattle.std.specs.Int.{w64, cast_unsigned};
+ghost use Rattle.bpf_types.specs.declared.line.Width.TheVariants.{W64};
+ghost use Rattle.bpf_values.specs.Value.{arithmetic_result, is_taken};
+ghost use Rattle.ocp_check.specs.Mirror.Ranges.{IsIn, IsThere, just};
+
+use bpf_types::{Comparison, Operation, Width};
+use ocp_regions::{ARGUMENT_OCTETS, ARGUMENTS, STACK, STACK_OCTETS};
+
+/// The first address of the work region.
+const WORK: u64 = 0x3000_0000;
+
+/// How many octets the work region has under every profile.
+const WORK_OCTETS: u64 = 1024;
+
+/// The numbers from `low` to `high`. If `high` is less there is none: a machine of which this is
+/// known never comes about.
+#[derive(Clone, Copy, Debug)]
+pub struct Range {
+    pub low: u64,
+    pub high: u64,
+}
+
+/// One number.
+pub fn only(number: u64) -> Option<Range>
+    ensures exact { result ≡ just number }
+    ensures holds { IsIn result number }
+{
+    Some(Range {
+        low: number,
+        high: number,
+    })
+}
+
+/// Whether no number is meant.
+pub fn is_empty(known: Option<Range>) -> bool
+    ensures { IsTrue result → (v : ℕ) → IsIn known v → ⊥ }
+{
+    match known {
+        Some(range) => range.high < range.low,
+        None => false,
+    }
+}
+
+/// Whether what is known second follows from what is known first.
+pub fn is_within(inner: Option<Range>, outer: Option<Range>) -> bool
+    ensures { IsTrue result → (v : ℕ) → IsIn inner v → IsIn outer v }
+{
+    match (inner, outer) {
+        (_, None) => true,
+        (None, Some(_)) => false,
+        (Some(inner), Some(outer)) => {
+            inner.high < inner.low || (outer.low <= inner.low && inner.high <= outer.high)
+        }
+    }
+}
+
+/// What is known of a sum modulo 2 ^ 64, if all sums wrap or none does.
+pub fn sum(a: Option<Range>, b: Option<Range>) -> Option<Range>
+    ensures { (x y : ℕ) → IsIn a x → IsIn b y → IsIn result ((x + y) % 2 ^ 64) }
+{
+    let (Some(a), Some(b)) = (a, b) else {
+        return None;
+    };
+    match (a.low.checked_add(b.low), a.high.checked_add(b.high)) {
+        (Some(low), Some(high)) => Some(Range { low, high }),
+        (None, None) => Some(Range {
+            low: a.low.wrapping_add(b.low),
+            high: a.high.wrapping_add(b.high),
+        }),
+        _ => None,
+    }
+}
+
+/// What is known of a difference, if none wraps.
+fn difference(a: Option<Range>, b: Option<Range>) -> Option<Range>
+    ensures { (x y : ℕ) → IsIn a x → IsIn b y → IsIn result ((x + (2 ^ 64 - y)) % 2 ^ 64) }
+{
+    let (Some(a), Some(b)) = (a, b) else {
+        return None;
+    };
+    if b.high <= a.low && b.low <= b.high && a.low <= a.high {
+        Some(Range {
+            low: a.low - b.high,
+            high: a.high - b.low,
+        })
+    } else {
+        None
+    }
+}
+
+/// What is known of a quotient: it is no more than the dividend.
+fn quotient(a: Option<Range>) -> Option<Range>
+    ensures { (x y : ℕ) → IsIn a x → IsIn result (if y == 0 then 0 else x / y) }
+{
+    let Some(a) = a else {
+        return None;
+    };
+    Some(Range {
+        low: 0,
+        high: a.high,
+    })
+}
+
+/// What is known of a remainder: it is less than a divisor, if that is not zero.
+fn remainder(b: Option<Range>) -> Option<Range>
+    ensures { (x y : ℕ) → IsIn b y → IsIn result (if y == 0 then x else x % y) }
+{
+    let Some(b) = b else {
+        return None;
+    };
+    if b.low == 0 || b.high < b.low {
+        None
+    } else {
+        Some(Range {
+            low: 0,
+            high: b.high - 1,
+        })
+    }
+}
+
+/// What is known of a conjunction: it is no more than its second operand.
+fn conjunction(b: Option<Range>) -> Option<Range>
+    ensures { (x y : ℕ) → IsIn b y → IsIn result (bit_and x y) }
+{
+    let Some(b) = b else {
+        return None;
+    };
+    Some(Range {
+        low: 0,
+        high: b.high,
+    })
+}
+
+/// What is known of the low 32 bits of a number.
+fn low(a: Option<Range>) -> Option<Range>
+    ensures { (x : ℕ) → IsIn a x → IsIn result (x % 2 ^ 32) }
+{
+    match a {
+        Some(a) if a.high <= 0xffff_ffff => Some(a),
+        _ => Some(Range {
+            low: 0,
+            high: 0xffff_ffff,
+        }),
+    }
+}
+
+/// What is known of the result of an operation.
+pub fn result_of(
+    width: Width,
+    operation: Operation,
+    a: Option<Range>,
+    b: Option<Range>,
+) -> Option<Range>
+    ensures { (x y : ℕ) → IsIn a x → IsIn b y →
+        IsIn result (arithmetic_result width operation x y) }
+{
+    match (width, operation) {
+        (Width::W64, Operation::Mov) => b,
+        (Width::W64, Operation::Add) => sum(a, b),
+        (Width::W64, Operation::Sub) => difference(a, b),
+        (Width::W64, Operation::Div) => quotient(a),
+        (Width::W64, Operation::Mod) => remainder(b),
+        (Width::W64, Operation::And) => conjunction(b),
+        (Width::W32, Operation::Mov) => low(b),
+        (Width::W32, Operation::And) => conjunction(low(b)),
+        _ => None,
+    }
+}
+
+/// What is known after a comparison of a number of which nothing was known.
+fn learned(comparison: Comparison, held: bool, b: Range) -> Option<Range>
+    ensures { (x y : ℕ) → IsIn (Some b) y → is_taken W64 comparison x y ≡ held → IsIn result x }
+{
+    match (comparison, held) {
+        (Comparison::Less, true) | (Comparison::GreaterOrEqual, false) if b.high > 0 => {
+            Some(Range {
+                low: 0,
+                high: b.high - 1,
+            })
+        }
+        (Comparison::LessOrEqual, true) | (Comparison::Greater, false) => Some(Range {
+            low: 0,
+            high: b.high,
+        }),
+        (Comparison::Equal, true) | (Comparison::NotEqual, false) => Some(b),
+        _ => None,
+    }
+}
+
+/// What is known of the first operand after a comparison that held, or did not.
+pub fn refined(
+    width: Width,
+    comparison: Comparison,
+    held: bool,
+    a: Option<Range>,
+    b: Option<Range>,
+) -> Option<Range>
+    ensures { (x y : ℕ) → IsIn a x → IsIn b y → is_taken width comparison x y ≡ held →
+        IsIn result x }
+{
+    let (Width::W64, Some(b)) = (width, b) else {
+        return a;
+    };
+    let Some(a) = a else {
+        return learned(comparison, held, b);
+    };
+    match (comparison, held) {
+        (Comparison::Less, true) | (Comparison::GreaterOrEqual, false) => {
+            if b.high == 0 || a.high < b.high {
+                Some(a)
+            } else {
+                Some(Range {
+                    low: a.low,
+                    high: b.high - 1,
+                })
+            }
+        }
+        (Comparison::Less, false) | (Comparison::GreaterOrEqual, true) => {
+            if b.low < a.low {
+                Some(a)
+            } else {
+                Some(Range {
+                    low: b.low,
+                    high: a.high,
+                })
+            }
+        }
+        (Comparison::LessOrEqual, true) | (Comparison::Greater, false) => {
+            if a.high <= b.high {
+                Some(a)
+            } else {
+                Some(Range {
+                    low: a.low,
+                    high: b.high,
+                })
+            }
+        }
+        (Comparison::Equal, true) | (Comparison::NotEqual, false) => Some(b),
+        (Comparison::Equal, false) | (Comparison::NotEqual, true) => {
+            if b.low != b.high {
+                Some(a)
+            } else if a.low == b.low && a.high == b.low {
+                Some(Range { low: 1, high: 0 })
+            } else if a.low == b.low && a.low < a.high {
+                Some(Range {
+                    low: a.low + 1,
+                    high: a.high,
+                })
+            } else if a.high == b.low && a.low < a.high {
+                Some(Range {
+                    low: a.low,
+                    high: a.high - 1,
+                })
+            } else {
+                Some(a)
+            }
+        }
+        _ => Some(a),
+    }
+}
+
+/// Whether the octets of an access are all in one region; a store may not be to the arguments.
+pub fn is_there(base: Option<Range>, offset: i16, octets: u64, writes: bool) -> bool
+    requires { (1 ≤ octets) × (octets ≤ 8) }
+    ensures { IsTrue result → (x : ℕ) → IsIn base x →
+        IsThere writes ((x + cast_unsigned w64 offset) % 2 ^ 64) octets }
+{
+    let distance = i64::from(offset).cast_unsigned();
+    match sum(base, only(distance)) {
+        None => false,
+        Some(at) => {
+            at.high < at.low
+                || (STACK <= at.low && at.high <= STACK + STACK_OCTETS as u64 - octets)
+                || (WORK <= at.low && at.high <= WORK + WORK_OCTETS - octets)
+                || (!writes
+                    && ARGUMENTS <= at.low
+                    && at.high <= ARGUMENTS + ARGUMENT_OCTETS as u64 - octets)
+        }
+    }
+}

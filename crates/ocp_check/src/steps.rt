@@ -1,0 +1,329 @@
+//! One instruction against a certificate.
+ghost use Rattle.std.specs.Prelude.{◌≡◌, ◌≤◌, ◌<◌, ◌+◌, ℕ, ℤ, IsTrue, IfSome, Some, None, if◌then◌else◌, slice_index_or, slice_index, slice_set, length, List, Option};
+ghost use Rattle.bpf_types.specs.Line.{octets_in};
+ghost use Rattle.ocp_regions.specs.Memory.{number_in_memory, memory_after_store};
+ghost use Rattle.bpf_moves.specs.Moves.{operand_in, address_in, load_register, store_memory, move_by_jump};
+ghost use Rattle.bpf_values.specs.Value.{is_taken};
+ghost use Rattle.ocp_loader.specs.LineAt.{target};
+ghost use Rattle.bpf_step.specs.Machine.{State, NoInstruction, state_after_write, state_after_jump, place_by};
+ghost use Rattle.bpf_step.specs.Step.{step, outcome_by};
+ghost use Rattle.bpf_step.specs.Calls.{state_after_engine_call, local_call, exit_to, last_frame};
+ghost use Rattle.ocp_check.specs.Mirror.Ranges.{IsIn, AreIn};
+ghost use Rattle.ocp_check.specs.Mirror.Fits.{Covers, Fits, Matches, FitsAfter};
+
+use crate::certificate::{Node, after_return};
+use crate::covering::{covers, known, known_operand, with_register};
+use crate::laws::accesses_are_there;
+use crate::range::{Range, is_empty, is_there, is_within, only, refined, result_of, sum};
+use bpf_step::{FRAME_OCTETS, MAX_LOCAL_CALLS};
+use bpf_types::{Comparison, Line, Operand, Reg, Size, Width};
+use bpf_values::size_of;
+
+/// Where a distance leads to, unless that is a negative slot.
+pub fn target(slot: u16, distance: i32) -> Option<usize>
+    ensures { IfSome result (λ place. place ≡ target slot distance) }
+{
+    usize::try_from(i64::from(slot) + 1 + i64::from(distance)).ok()
+}
+
+/// Whether a write to a register, of which this is known afterwards, fits the certificate.
+fn is_kept_writing(
+    certificate: &[Option<Node>],
+    slot: u16,
+    slots: u16,
+    node: &Node,
+    dst: Reg,
+    known: Option<Range>,
+) -> bool
+    ensures { IsTrue result → (s : State) (v : ℕ) → s.place ≡ slot →
+        Matches certificate.now node.now s → IsIn known v →
+        Fits certificate.now (state_after_write s dst v slots) }
+{
+    slots <= 2
+        && covers(
+            certificate,
+            usize::from(slot) + usize::from(slots),
+            &with_register(node, dst, known),
+        )
+}
+
+/// The place after a jump that is taken or not, unless that is a negative slot.
+fn place_after(slot: u16, distance: Option<i32>) -> Option<usize>
+    ensures { IfSome result (λ place. place ≡ place_by slot distance) }
+{
+    match distance {
+        Some(distance) => target(slot, distance),
+        None => Some(usize::from(slot) + 1),
+    }
+}
+
+/// Whether a jump that is taken or not, after which this is known of a register, fits the
+/// certificate.
+fn is_kept_jumping(
+    certificate: &[Option<Node>],
+    slot: u16,
+    distance: Option<i32>,
+    node: &Node,
+    register: Reg,
+    known: Option<Range>,
+) -> bool
+    ensures { IsTrue result → (s : State) → s.place ≡ slot → Matches certificate.now node.now s →
+        IsIn known (slice_index s.registers register) →
+        Fits certificate.now (state_after_jump s distance) }
+{
+    if is_empty(known) {
+        return true;
+    }
+    match place_after(slot, distance) {
+        Some(place) => covers(certificate, place, &with_register(node, register, known)),
+        None => false,
+    }
+}
+
+/// Whether a load is inside a region and fits the certificate. Nothing is known of the value.
+fn is_kept_loading(
+    certificate: &[Option<Node>],
+    slot: u16,
+    node: &Node,
+    dst: Reg,
+    base: Reg,
+    offset: i16,
+    size: Size,
+) -> bool
+    ensures { IsTrue result → (s : State) (f : ℕ → ℕ) → s.place ≡ slot →
+        Matches certificate.now node.now s →
+        FitsAfter certificate.now s (outcome_by s (load_register s.registers s.memory dst f
+        (number_in_memory s.memory (address_in s.registers base offset) (octets_in size))) NoInstruction) }
+{
+    accesses_are_there();
+    is_there(known(&node.row, base), offset, size.octets() as u64, false)
+        && is_kept_writing(certificate, slot, 1, node, dst, None)
+}
+
+/// Whether a store is inside a region that may be written, and fits the certificate.
+fn is_kept_storing(
+    certificate: &[Option<Node>],
+    slot: u16,
+    node: &Node,
+    base: Reg,
+    offset: i16,
+    size: Size,
+) -> bool
+    ensures { IsTrue result → (s : State) (v : ℕ) → s.place ≡ slot →
+        Matches certificate.now node.now s →
+        FitsAfter certificate.now s (outcome_by s (store_memory s.registers
+        (memory_after_store s.memory (address_in s.registers base offset) (octets_in size) v)) NoInstruction) }
+{
+    accesses_are_there();
+    is_there(known(&node.row, base), offset, size.octets() as u64, true)
+        && is_kept_jumping(
+            certificate,
+            slot,
+            None,
+            node,
+            Reg::zero(),
+            known(&node.row, Reg::zero()),
+        )
+}
+
+/// Whether an engine call fits the certificate, whatever it answers.
+fn is_kept_calling(certificate: &[Option<Node>], slot: u16, node: &Node) -> bool
+    ensures { IsTrue result → (s : State) (r0 : ℕ) (r1 : Option ℕ) → s.place ≡ slot →
+        Matches certificate.now node.now s →
+        Fits certificate.now (state_after_engine_call s r0 r1) }
+{
+    let changed = with_register(node, Reg::zero(), None);
+    is_kept_writing(certificate, slot, 1, &changed, Reg::one(), None)
+        && is_kept_jumping(certificate, slot, None, &changed, Reg::one(), None)
+}
+
+/// Whether both ways of a conditional jump fit the certificate, by what its test shows.
+fn is_kept_branching(
+    certificate: &[Option<Node>],
+    slot: u16,
+    node: &Node,
+    width: Width,
+    comparison: Comparison,
+    dst: Reg,
+    operand: Operand,
+    distance: i32,
+) -> bool
+    ensures { IsTrue result → (s : State) → s.place ≡ slot → Matches certificate.now node.now s →
+        FitsAfter certificate.now s (outcome_by s (move_by_jump s.registers s.memory
+        (if is_taken width comparison (slice_index s.registers dst) (operand_in s.registers operand)
+        then Some distance else None)) NoInstruction) }
+{
+    let first = known(&node.row, dst);
+    let second = known_operand(&node.row, operand);
+    let taken = refined(width, comparison, true, first, second);
+    let passed = refined(width, comparison, false, first, second);
+    is_kept_jumping(certificate, slot, Some(distance), node, dst, taken)
+        && is_kept_jumping(certificate, slot, None, node, dst, passed)
+}
+
+/// What is known at the first slot of a local call: R10, and what is promised of R0 at the end.
+pub fn at_call(node: &Node, pointer: Option<Range>, promise: Option<Range>) -> Node
+    requires { node.now.depth < MAX_LOCAL_CALLS }
+    ensures { result ≡ record {
+      row = slice_set node.now.row 10 pointer;
+      depth = node.now.depth + 1;
+      promise = promise;
+    } }
+{
+    let mut row = node.row;
+    row[10] = pointer;
+    Node {
+        row,
+        depth: node.depth + 1,
+        promise,
+    }
+}
+
+/// Whether what the certificate says at two places follows from a node each.
+fn covers_both(
+    certificate: &[Option<Node>],
+    first: usize,
+    from_first: &Node,
+    second: usize,
+    from_second: &Node,
+) -> bool
+    ensures first { IsTrue result → Covers certificate.now first from_first.now }
+    ensures second { IsTrue result → Covers certificate.now second from_second.now }
+{
+    covers(certificate, first, from_first) && covers(certificate, second, from_second)
+}
+
+/// Whether a local call is not too deep, and fits the certificate both at its first slot and after
+/// its end.
+fn is_kept_opening(certificate: &[Option<Node>], slot: u16, distance: i32, node: &Node) -> bool
+    ensures { IsTrue result → (s : State) → s.place ≡ slot → Matches certificate.now node.now s →
+        FitsAfter certificate.now s (local_call s distance) }
+{
+    let Some(place) = target(slot, distance) else {
+        return false;
+    };
+    let Some(Some(first)) = certificate.get(place) else {
+        return false;
+    };
+    if usize::from(node.depth) >= MAX_LOCAL_CALLS {
+        return false;
+    }
+    let pointer = sum(node.row[10], only(FRAME_OCTETS.wrapping_neg()));
+    let called = at_call(node, pointer, first.promise);
+    let returned = after_return(node, first.promise);
+    covers_both(
+        certificate,
+        place,
+        &called,
+        usize::from(slot) + 1,
+        &returned,
+    )
+}
+
+/// Whether the end of a local call keeps what is promised of R0. The end of the procedure keeps
+/// everything.
+fn is_kept_ending(certificate: &[Option<Node>], node: &Node) -> bool
+    ensures { IsTrue result → (s : State) → Matches certificate.now node.now s →
+        FitsAfter certificate.now s (exit_to s (last_frame s)) }
+{
+    node.depth == 0 || is_within(node.row[0], node.promise)
+}
+
+/// Whether what a machine at the slot does next fits the certificate, and is no fault.
+pub fn is_kept(certificate: &[Option<Node>], slot: u16, node: &Node, line: Line) -> bool
+    ensures { IsTrue result → (s : State) → s.place ≡ slot → Matches certificate.now node.now s →
+        FitsAfter certificate.now s (step line s) }
+{
+    match line {
+        Line::Arithmetic {
+            width,
+            operation,
+            dst,
+            operand,
+        } => {
+            let value = result_of(
+                width,
+                operation,
+                known(&node.row, dst),
+                known_operand(&node.row, operand),
+            );
+            is_kept_writing(certificate, slot, 1, node, dst, value)
+        }
+        Line::Negate { dst, .. } => is_kept_writing(certificate, slot, 1, node, dst, None),
+        Line::MoveExtended { dst, .. } => is_kept_writing(certificate, slot, 1, node, dst, None),
+        Line::ByteOrder { dst, .. } => is_kept_writing(certificate, slot, 1, node, dst, None),
+        Line::Jump { distance } => {
+            is_kept_jumping(
+                certificate,
+                slot,
+                Some(i32::from(distance)),
+                node,
+                Reg::zero(),
+                known(&node.row, Reg::zero()),
+            )
+        }
+        Line::LongJump { distance } => {
+            is_kept_jumping(
+                certificate,
+                slot,
+                Some(distance),
+                node,
+                Reg::zero(),
+                known(&node.row, Reg::zero()),
+            )
+        }
+        Line::JumpIf {
+            width,
+            comparison,
+            dst,
+            operand,
+            distance,
+        } => {
+            is_kept_branching(
+                certificate,
+                slot,
+                node,
+                width,
+                comparison,
+                dst,
+                operand,
+                i32::from(distance),
+            )
+        }
+        Line::Call { .. } => is_kept_calling(certificate, slot, node),
+        Line::CallLocal { distance } => is_kept_opening(certificate, slot, distance, node),
+        Line::Exit => is_kept_ending(certificate, node),
+        Line::LoadWide { dst, value } => is_kept_writing(
+            certificate,
+            slot,
+            2,
+            node,
+            dst,
+            only(value),
+        ),
+        Line::Load {
+            size,
+            dst,
+            base,
+            offset,
+        } => is_kept_loading(certificate, slot, node, dst, base, offset, size),
+        Line::LoadExtended {
+            size,
+            dst,
+            base,
+            offset,
+        } => { is_kept_loading(certificate, slot, node, dst, base, offset, size_of(size)) }
+        Line::StoreImmediate {
+            size,
+            base,
+            offset,
+            ..
+        } => is_kept_storing(certificate, slot, node, base, offset, size),
+        Line::Store {
+            size,
+            base,
+            offset,
+            ..
+        } => is_kept_storing(certificate, slot, node, base, offset, size),
+    }
+}
