@@ -12,7 +12,7 @@ use Rattle.bpf_step.specs.Calls.{call_unless_full, local_call, state_after_call,
 use Rattle.ocp_check.specs.declared.range.Range.{Range}
 use Rattle.ocp_check.specs.Mirror.Ranges.{AreIn}
 use Rattle.ocp_check.specs.declared.certificate.Node.{Node}
-use Rattle.ocp_check.specs.Mirror.Callers.{Caller, Saves, AreSaved, row_after_return, known_of}
+use Rattle.ocp_check.specs.Mirror.Callers.{Caller, Saves, AreSaved, row_after_return, range_at}
 use Rattle.ocp_check.proofs.Kept.{put_in}
 
 as_many : (callers : List Caller) (frames : List Frame) → AreSaved callers frames → length frames ≡ length callers
@@ -62,10 +62,10 @@ rest_of frames earlier f e =
 
 restored : (c : Caller) (f : Frame) (row : List (Option Range)) (registers : List ℕ) → length row ≡ 11 → Saves c f → AreIn row registers → AreIn (row_after_return c.node row) (restored_registers registers f)
 restored c f row registers l v a =
-    let k6 = known_of c.node 6 in
-    let k7 = known_of c.node 7 in
-    let k8 = known_of c.node 8 in
-    let k9 = known_of c.node 9 in
+    let k6 = range_at c.node 6 in
+    let k7 = range_at c.node 7 in
+    let k8 = range_at c.node 8 in
+    let k9 = range_at c.node 9 in
     let w6 = set row 6 k6 in
     let w7 = set w6 7 k7 in
     let w8 = set w7 8 k8 in
@@ -74,7 +74,7 @@ restored c f row registers l v a =
     let l7 : length w7 ≡ 11 = length-set w6 7 k7 ∙ l6 in
     let l8 : length w8 ≡ 11 = length-set w7 8 k8 ∙ l7 in
     let l9 : length w9 ≡ 11 = length-set w8 9 k9 ∙ l8 in
-    put_in w9 _ 10 f.r10 (known_of c.node 10) l9 (omega arith)
+    put_in w9 _ 10 f.r10 (range_at c.node 10) l9 (omega arith)
     (put_in w8 _ 9 f.r9 k9 l8 (omega arith)
     (put_in w7 _ 8 f.r8 k8 l7 (omega arith)
     (put_in w6 _ 7 f.r7 k7 l6 (omega arith)

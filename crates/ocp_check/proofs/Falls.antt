@@ -11,7 +11,7 @@ use Rattle.bpf_step.specs.Calls.{local_call, call_unless_full, frame_of, exit_to
 use Rattle.bpf_step.specs.Step.{outcome_by, one_step}
 use Rattle.bpf_step.specs.Reach.{Reaches, Started, Stepped, Answered}
 use Rattle.ocp_check.specs.Rounds.{Round, Here, Further, Called}
-use Rattle.ocp_check.specs.Mirror.Ranks.{Falls, rank, opened, ahead}
+use Rattle.ocp_check.specs.Mirror.Ranks.{Falls, rank, ranks_of_frames, ahead}
 use Rattle.ocp_check.proofs.Called.{last_of, rest_of}
 
 pub falls_load : (ranks : List ℕ) (most : ℕ) (s : State) (dst : ℕ) (f : ℕ → ℕ) (r : Result ℕ AccessFault) → rank ranks (s.place + 1) < rank ranks s.place → Falls ranks most s (outcome_by s (load_register s.registers s.memory dst f r) NoInstruction)
@@ -27,13 +27,13 @@ pub falls_either : (ranks : List ℕ) (most : ℕ) (s : State) (taken : Bool) (d
 falls_either ranks most s true distance h g = omega (arith, h)
 falls_either ranks most s false distance h g = omega (arith, g)
 
-opened-append : (ranks : List ℕ) (frames : List Frame) (f : Frame) → opened ranks (frames ++ f ∷ []) ≡ opened ranks frames + rank ranks f.place
-opened-append ranks [] f = omega arith
-opened-append ranks (g ∷ frames) f = let i = opened-append ranks frames f in omega (arith, i)
+frames-append : (ranks : List ℕ) (frames : List Frame) (f : Frame) → ranks_of_frames ranks (frames ++ f ∷ []) ≡ ranks_of_frames ranks frames + rank ranks f.place
+frames-append ranks [] f = omega arith
+frames-append ranks (g ∷ frames) f = let i = frames-append ranks frames f in omega (arith, i)
 
 unless_full : (ranks : List ℕ) (most : ℕ) (s : State) (distance : ℤ) (full : Bool) → rank ranks (target s.place distance) + rank ranks (s.place + 1) < rank ranks s.place → Falls ranks most s (call_unless_full s distance full)
 unless_full ranks most s distance true h = tt
-unless_full ranks most s distance false h = let e = opened-append ranks s.frames (frame_of s) in omega (arith, h, e)
+unless_full ranks most s distance false h = let e = frames-append ranks s.frames (frame_of s) in omega (arith, h, e)
 
 pub falls_local : (ranks : List ℕ) (most : ℕ) (s : State) (distance : ℤ) → rank ranks (target s.place distance) + rank ranks (s.place + 1) < rank ranks s.place → Falls ranks most s (local_call s distance)
 falls_local ranks most s distance h = unless_full ranks most s distance (length s.frames == 7) h
@@ -45,8 +45,8 @@ last_split f (g ∷ frames) = let r = last_split g frames in (f ∷ r.0, r.1, ap
 ends_call : (ranks : List ℕ) (most : ℕ) (s : State) (earlier : List Frame) (last : Frame) → s.frames ≡ earlier ++ last ∷ [] → 0 < rank ranks s.place → Falls ranks most s (exit_to s (last_frame s))
 ends_call ranks most s earlier last e h =
     subst (λ (o : Outcome). Falls ranks most s o) (sym (ap (exit_to s) (last_of s.frames earlier last e)))
-    (let r : opened ranks (take (length s.frames - 1) s.frames) ≡ opened ranks earlier = ap (opened ranks) (rest_of s.frames earlier last e) in
-    let w : opened ranks s.frames ≡ opened ranks earlier + rank ranks last.place = ap (opened ranks) e ∙ opened-append ranks earlier last in
+    (let r : ranks_of_frames ranks (take (length s.frames - 1) s.frames) ≡ ranks_of_frames ranks earlier = ap (ranks_of_frames ranks) (rest_of s.frames earlier last e) in
+    let w : ranks_of_frames ranks s.frames ≡ ranks_of_frames ranks earlier + rank ranks last.place = ap (ranks_of_frames ranks) e ∙ frames-append ranks earlier last in
     omega (arith, h, r, w))
 
 ends_by : (ranks : List ℕ) (most : ℕ) (s : State) (frames : List Frame) → s.frames ≡ frames → (s.frames ≡ []) ⊎ (0 < rank ranks s.place) → Falls ranks most s (exit_to s (last_frame s))
@@ -60,7 +60,7 @@ falls_exit ranks most s h = ends_by ranks most s s.frames refl h
 after_call : (ranks : List ℕ) (most : ℕ) (s : State) (r0 : ℕ) (r1 : Option ℕ) (number : ℤ) → (rank ranks (s.place + 1) < rank ranks s.place) ⊎ ((number ≡ pos 5) × (s.frames ≡ []) × (rank ranks (s.place + 1) < most)) →
     ahead ranks s < most → ahead ranks (state_after_engine_call s r0 r1) < most
 after_call ranks most s r0 r1 number (inl h) l = omega (arith, h, l)
-after_call ranks most s r0 r1 number (inr h) l = let z : opened ranks s.frames ≡ 0 = ap (opened ranks) h.1 in omega (arith, z, h.2)
+after_call ranks most s r0 r1 number (inr h) l = let z : ranks_of_frames ranks s.frames ≡ 0 = ap (ranks_of_frames ranks) h.1 in omega (arith, z, h.2)
 
 -- of each machine that can come about fewer instructions are ahead than the most
 pub within : (image ranks : List ℕ) (most : ℕ) → rank ranks 0 < most → ((u : State) → Reaches image u → Falls ranks most u (one_step image u)) → (s : State) → Reaches image s → ahead ranks s < most

@@ -1,5 +1,5 @@
 //! Which words of the pool an image asks for.
-ghost use Rattle.std.specs.Prelude.{◌≡◌, ◌≢◌, ◌<◌, ℕ, ℤ, pos, IsTrue, List, None, slice_index_or};
+ghost use Rattle.std.specs.Prelude.{◌≡◌, ◌≢◌, ◌<◌, ℕ, ℤ, pos, IsTrue, None, slice_index_or};
 ghost use Rattle.bpf_types.specs.declared.line.Line.TheVariants as kind;
 ghost use Rattle.bpf_step.specs.declared.answer.Need.TheVariants as need;
 ghost use Rattle.bpf_step.specs.Machine.{State, Needs, read};

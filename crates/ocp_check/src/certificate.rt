@@ -1,5 +1,5 @@
 //! What a certificate says at a slot.
-ghost use Rattle.std.specs.Prelude.{◌≡◌, slice_index_or, Option, None};
+ghost use Rattle.std.specs.Prelude.{◌≡◌, Option, None};
 ghost use Rattle.ocp_check.specs.Mirror.Callers.{node_after_return};
 
 use crate::range::Range;

@@ -1,5 +1,5 @@
 //! The check of a certificate against a whole image.
-ghost use Rattle.std.specs.Prelude.{◌≡◌, ◌<◌, ℕ, IsTrue, length};
+ghost use Rattle.std.specs.Prelude.{◌≡◌, ◌<◌, IsTrue, length};
 ghost use Rattle.bpf_step.specs.Machine.{State};
 ghost use Rattle.bpf_step.specs.Step.{one_step};
 ghost use Rattle.bpf_step.specs.Reach.{Reaches};

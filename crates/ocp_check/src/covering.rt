@@ -1,5 +1,5 @@
 //! What the certificate says at a slot against what is known of the machines that come there.
-ghost use Rattle.std.specs.Prelude.{◌≡◌, ◌≤◌, ◌<◌, ℕ, IsTrue, Some, None, slice_index_or, slice_index, slice_set, length, List, Option, IfSome, IfNone};
+ghost use Rattle.std.specs.Prelude.{◌≡◌, ◌<◌, ℕ, IsTrue, Some, None, slice_index_or, slice_index, slice_set, List, Option, IfSome, IfNone};
 ghost use Rattle.bpf_moves.specs.Moves.{operand_in};
 ghost use Rattle.ocp_check.specs.Mirror.Ranges.{IsIn, AreIn};
 ghost use Rattle.bpf_step.specs.Machine.{State};
@@ -10,7 +10,7 @@ use crate::range::{Range, is_within, only};
 use bpf_types::{Operand, Reg};
 
 /// What is known of a register.
-pub fn known(row: &Row, source: Reg) -> Option<Range>
+pub fn range_of(row: &Row, source: Reg) -> Option<Range>
     ensures value { result ≡ slice_index_or row.now source None }
     ensures meaning { (registers : List ℕ) → AreIn row.now registers →
         IsIn result (slice_index registers source) }
@@ -19,13 +19,13 @@ pub fn known(row: &Row, source: Reg) -> Option<Range>
 }
 
 /// What is known of an operand.
-pub fn known_operand(row: &Row, operand: Operand) -> Option<Range>
+pub fn range_of_operand(row: &Row, operand: Operand) -> Option<Range>
     ensures { (registers : List ℕ) → AreIn row.now registers →
         IsIn result (operand_in registers operand) }
 {
     match operand {
         Operand::Immediate(imm) => only(i64::from(imm).cast_unsigned()),
-        Operand::Register(register) => known(row, register),
+        Operand::Register(register) => range_of(row, register),
     }
 }
 

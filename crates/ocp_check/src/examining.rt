@@ -1,15 +1,15 @@
 //! What an image can never do, found and shown.
-ghost use Rattle.std.specs.Prelude.{◌≡◌, [], IfOk, IfSome, List, ℕ, length};
+ghost use Rattle.std.specs.Prelude.{◌≡◌, [], IfOk, IfSome, IsTrue};
 ghost use Rattle.ocp_check.specs.Never.{NeverFaults};
 ghost use Rattle.ocp_check.specs.Rounds.{IsWithin};
 ghost use Rattle.ocp_check.specs.Never.{AsksWell};
 
-use crate::asks::{check_pool, words_asked};
+use crate::asks::{check_pool, slot_asks_well, words_asked};
 use crate::certificate::Node;
 use crate::checker::{check, is_kept_at};
 use crate::covering::node_at;
 use crate::finding::find;
-use crate::ranking::{find_ranks, most_of};
+use crate::ranking::{cycle, find_ranks, most_of};
 use crate::refusal::{Refusal, Why, reason};
 use crate::rounds::check_rounds;
 use ocp_loader::Program;
@@ -18,14 +18,19 @@ use std::alloc::{AllocError, Allocator, Global};
 /// What was found out about an image.
 #[derive(Drop)]
 pub struct Findings<A: Allocator = Global> {
-    /// The places that may meet a fault of the machine (AccessOutside, WriteToArguments,
-    /// CallDepth), in slot order. With none, no run ever meets one.
+    /// No run ever meets a fault of the machine: AccessOutside, WriteToArguments or CallDepth.
+    pub never_faults: bool,
+    /// Else the places that may meet one, in slot order.
     pub faults: Vec<Refusal, A>,
+    /// The calls that may ask for a word that a pool of the given size does not have.
+    pub asks: Vec<Refusal, A>,
     /// The least words of a pool with which no run meets BadPoolIndex, if that was shown.
     pub words: Option<u16>,
     /// The most instructions from a start or the end of a step up to the next end of a step or of
     /// the procedure, both counted, if that was shown.
     pub round: Option<u32>,
+    /// Else some slots that may follow one another without end and without the end of a step.
+    pub cycle: Vec<u16, A>,
 }
 
 /// Why a slot is not shown, if it is not.
@@ -72,6 +77,27 @@ fn faults<A: Allocator + Copy>(
     Ok(found)
 }
 
+/// The calls that may ask for a word that a pool of this many words does not have.
+fn asks<A: Allocator + Copy>(
+    alloc: A,
+    program: &Program<A>,
+    certificate: &[Option<Node>],
+    words: u16,
+) -> Result<Vec<Refusal, A>, AllocError> {
+    let mut found = Vec::new(alloc);
+    for slot in 0..program.slots() as u16 {
+        if !slot_asks_well(program, certificate, slot, words) {
+            if let Some(node) = node_at(certificate, slot) {
+                found.push(Refusal {
+                    slot,
+                    why: Why::Index(node.row[1]),
+                })?;
+            }
+        }
+    }
+    Ok(found)
+}
+
 /// The least words of a pool that are shown to suffice.
 fn words<A: Allocator>(program: &Program<A>, certificate: &[Option<Node>]) -> Option<u16>
     ensures { IfSome result (AsksWell program.now) }
@@ -101,13 +127,16 @@ fn round<A: Allocator>(
 }
 
 /// What an image can never do, with any arguments, pool, mailbox and answers of engine calls. The
+/// calls that may ask for a missing word are listed for a pool of the given number of words. The
 /// time is linear in the slots: the searches go over them at most 64 times each, the checks once.
 /// The memory is linear too: a node and a rank for each slot, and a refusal for each place that is
 /// not shown.
 pub fn examine<A: Allocator + Copy>(
     alloc: A,
     program: &Program<A>,
+    pool_words: u16,
 ) -> Result<Findings<A>, AllocError>
+    ensures never { IfOk result (λ f. IsTrue f.never_faults → NeverFaults program.now) }
     ensures faults { IfOk result (λ f. f.faults.items ≡ [] → NeverFaults program.now) }
     ensures words { IfOk result (λ f. IfSome f.words (AsksWell program.now)) }
     ensures round { IfOk result (λ f. IfSome f.round (IsWithin program.now)) }
@@ -115,8 +144,11 @@ pub fn examine<A: Allocator + Copy>(
     let certificate = find(alloc, program)?;
     let ranks = find_ranks(alloc, program, &certificate)?;
     Ok(Findings {
+        never_faults: check(program, &certificate),
         faults: faults(alloc, program, &certificate)?,
+        asks: asks(alloc, program, &certificate, pool_words)?,
         words: words(program, &certificate),
         round: round(program, &certificate, &ranks),
+        cycle: cycle(alloc, program, &certificate, &ranks)?,
     })
 }

@@ -1,13 +1,14 @@
 //! The search for a certificate. Nothing rests on it: `check` tests what it finds.
 //!
 //! It goes over the slots in order, again and again, until nothing changes, at most `PASSES` times.
-//! A range that still grows at the target of a jump back after `PLAIN_PASSES` is widened to the next
-//! of some numbers, and after `WIDE_PASSES` to all numbers. So the time is linear in the slots.
+//! A range that still grows at the target of a jump back after `PLAIN_PASSES` is widened to the
+//! next of some numbers, and after `WIDE_PASSES` to all numbers. So the time is linear in the
+//! slots.
 
 use crate::certificate::{Node, after_return};
 use crate::checker::at_start;
-use crate::covering::{known, known_operand, with_register};
-use crate::range::{Range, is_empty, only, refined, result_of, sum};
+use crate::covering::{range_of, range_of_operand, with_register};
+use crate::range::{Range, is_empty, only, refinement, result_of, sum};
 use crate::steps::{at_call, target};
 use bpf_step::{FRAME_OCTETS, MAX_LOCAL_CALLS};
 use bpf_types::{Comparison, Line, Operand, Reg, Width};
@@ -110,7 +111,7 @@ fn landmark_above(landmarks: &[u64], number: u64) -> Option<u64> {
 }
 
 /// A range that was `old` and has become `new`, widened where it has grown.
-fn widened(landmarks: &[u64], old: Option<Range>, new: Option<Range>) -> Option<Range> {
+fn widening(landmarks: &[u64], old: Option<Range>, new: Option<Range>) -> Option<Range> {
     let (Some(old), Some(new)) = (old, new) else {
         return None;
     };
@@ -141,7 +142,7 @@ fn is_same(a: Option<Range>, b: Option<Range>) -> bool {
 }
 
 /// What becomes of a range that grows to `new` at a slot.
-fn grown(
+fn growth(
     landmarks: &[u64],
     pass: u32,
     is_back: bool,
@@ -153,7 +154,7 @@ fn grown(
     } else if pass >= WIDE_PASSES {
         None
     } else if is_back && pass >= PLAIN_PASSES {
-        widened(landmarks, old, new)
+        widening(landmarks, old, new)
     } else {
         new
     }
@@ -174,7 +175,7 @@ impl<A: Allocator> Search<A> {
         let mut row = old.row;
         let mut has_grown = false;
         for k in 0..11 {
-            let known = grown(
+            let known = growth(
                 &self.landmarks,
                 self.pass,
                 is_back,
@@ -221,10 +222,10 @@ impl<A: Allocator> Search<A> {
 
     /// The same of both ways of a conditional jump.
     fn branch(&mut self, slot: u16, node: &Node, test: Test) {
-        let first = known(&node.row, test.dst);
-        let second = known_operand(&node.row, test.operand);
-        let taken = refined(test.width, test.comparison, true, first, second);
-        let passed = refined(test.width, test.comparison, false, first, second);
+        let first = range_of(&node.row, test.dst);
+        let second = range_of_operand(&node.row, test.operand);
+        let taken = refinement(test.width, test.comparison, true, first, second);
+        let passed = refinement(test.width, test.comparison, false, first, second);
         self.jump(slot, test.distance, node, test.dst, taken);
         self.jump(slot, 0, node, test.dst, passed);
     }
@@ -274,8 +275,8 @@ impl<A: Allocator> Search<A> {
                 let value = result_of(
                     width,
                     operation,
-                    known(&node.row, dst),
-                    known_operand(&node.row, operand),
+                    range_of(&node.row, dst),
+                    range_of_operand(&node.row, operand),
                 );
                 self.write(slot, 1, node, dst, value);
             }

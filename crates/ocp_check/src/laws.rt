@@ -9,8 +9,8 @@ use ocp_regions::{cleared_memory_is_the_first_one, stores_keep_the_addresses};
 /// In the memory of a profile an access inside a region is never refused. A store keeps the
 /// addresses.
 pub fn accesses_are_there()
-    ensures load { (profile : Profile) (m : Octets) (writes : Bool) (q n : ℕ) →
-        zeros_over m ≡ zeros profile → IsThere writes q n →
+    ensures load { (profile : Profile) (m : Octets) (is_store : Bool) (q n : ℕ) →
+        zeros_over m ≡ zeros profile → IsThere is_store q n →
         (v : ℕ) × (number_in_memory m q n ≡ Ok v) }
     ensures store { (profile : Profile) (m : Octets) (q n v : ℕ) →
         zeros_over m ≡ zeros profile → IsThere true q n →

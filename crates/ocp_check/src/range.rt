@@ -170,7 +170,7 @@ pub fn result_of(
 }
 
 /// What is known after a comparison of a number of which nothing was known.
-fn learned(comparison: Comparison, held: bool, b: Range) -> Option<Range>
+fn range_by_test(comparison: Comparison, held: bool, b: Range) -> Option<Range>
     ensures { (x y : ℕ) → IsIn (Some b) y → is_taken W64 comparison x y ≡ held → IsIn result x }
 {
     match (comparison, held) {
@@ -190,7 +190,7 @@ fn learned(comparison: Comparison, held: bool, b: Range) -> Option<Range>
 }
 
 /// What is known of the first operand after a comparison that held, or did not.
-pub fn refined(
+pub fn refinement(
     width: Width,
     comparison: Comparison,
     held: bool,
@@ -204,7 +204,7 @@ pub fn refined(
         return a;
     };
     let Some(a) = a else {
-        return learned(comparison, held, b);
+        return range_by_test(comparison, held, b);
     };
     match (comparison, held) {
         (Comparison::Less, true) | (Comparison::GreaterOrEqual, false) => {

@@ -109,3 +109,80 @@ pub fn most_of<A: Allocator>(program: &Program<A>, nodes: &[Option<Node>], ranks
     }
     most.saturating_add(1)
 }
+
+/// That of two places which has the greater rank.
+fn greater(ranks: &[u32], first: Option<usize>, second: usize) -> usize {
+    match first {
+        Some(first) if rank_of(ranks, first) > rank_of(ranks, second) => first,
+        _ => second,
+    }
+}
+
+/// The place that follows a line with the greatest rank, unless the step or the call ends.
+fn place_after(ranks: &[u32], slot: u16, line: Line, depth: u8) -> Option<usize> {
+    let next = usize::from(slot) + 1;
+    match line {
+        Line::Jump { distance } => target(slot, i32::from(distance)),
+        Line::LongJump { distance } => target(slot, distance),
+        Line::JumpIf { distance, .. } => Some(greater(
+            ranks,
+            target(slot, i32::from(distance)),
+            next,
+        )),
+        Line::CallLocal { distance } => Some(greater(ranks, target(slot, distance), next)),
+        Line::Call { number } if number == STEP_END && depth == 0 => None,
+        Line::Exit => None,
+        Line::LoadWide { .. } => Some(next + 1),
+        _ => Some(next),
+    }
+}
+
+/// The same of a slot.
+fn slot_after<A: Allocator>(
+    program: &Program<A>,
+    nodes: &[Option<Node>],
+    ranks: &[u32],
+    slot: u16,
+) -> Option<u16> {
+    let node = node_at(nodes, slot)?;
+    let line = program.line_at(slot)?;
+    u16::try_from(place_after(ranks, slot, line, node.depth)?).ok()
+}
+
+/// The slot with the greatest rank.
+fn highest<A: Allocator>(program: &Program<A>, ranks: &[u32]) -> u16 {
+    let mut found = 0;
+    for slot in 0..program.slots() as u16 {
+        if rank_of(ranks, usize::from(slot)) > rank_of(ranks, usize::from(found)) {
+            found = slot;
+        }
+    }
+    found
+}
+
+/// Slots that may follow one another without end and without the end of a step, if the greatest
+/// ranks lead to such.
+pub fn cycle<A: Allocator>(
+    alloc: A,
+    program: &Program<A>,
+    nodes: &[Option<Node>],
+    ranks: &[u32],
+) -> Result<Vec<u16, A>, AllocError> {
+    let mut slots = Vec::new(alloc);
+    let mut first = highest(program, ranks);
+    for _ in 0..program.slots() {
+        match slot_after(program, nodes, ranks, first) {
+            Some(next) => first = next,
+            None => return Ok(slots),
+        }
+    }
+    let mut slot = first;
+    for _ in 0..program.slots() {
+        slots.push(slot)?;
+        match slot_after(program, nodes, ranks, slot) {
+            Some(next) if next != first => slot = next,
+            _ => break,
+        }
+    }
+    Ok(slots)
+}

@@ -1,7 +1,7 @@
 //! Why a place is not shown to be without faults.
 
 use crate::certificate::Node;
-use crate::covering::known;
+use crate::covering::range_of;
 use crate::range::Range;
 use bpf_step::MAX_LOCAL_CALLS;
 use bpf_types::{Line, Reg};
@@ -47,11 +47,11 @@ pub fn reason(node: &Node, line: Line) -> Why {
     match line {
         Line::Load { base, .. } | Line::LoadExtended { base, .. } => Why::Outside(
             base,
-            known(&node.row, base),
+            range_of(&node.row, base),
         ),
         Line::StoreImmediate { base, .. } | Line::Store { base, .. } => store_reason(
             base,
-            known(&node.row, base),
+            range_of(&node.row, base),
         ),
         Line::CallLocal { .. } if usize::from(node.depth) >= MAX_LOCAL_CALLS => Why::Depth,
         _ => Why::Unsettled,

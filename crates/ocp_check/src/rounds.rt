@@ -1,7 +1,6 @@
 //! How many instructions follow one another before a step ends.
-ghost use Rattle.std.specs.Prelude.{◌≡◌, ◌<◌, ◌≤◌, ◌+◌, ℕ, IsTrue, [], length, slice_index, true, List};
-ghost use Rattle.bpf_step.specs.Machine.{State, Next, Needs};
-ghost use Rattle.bpf_step.specs.Reach.{Reaches};
+ghost use Rattle.std.specs.Prelude.{◌≡◌, ◌<◌, ◌+◌, ℕ, IsTrue, [], true};
+ghost use Rattle.bpf_step.specs.Machine.{State};
 ghost use Rattle.bpf_step.specs.Step.{step, one_step};
 ghost use Rattle.bpf_step.specs.Calls.{local_call, exit_to, last_frame};
 ghost use Rattle.ocp_loader.specs.LineAt.{target};

@@ -1,5 +1,5 @@
 //! One instruction against a certificate.
-ghost use Rattle.std.specs.Prelude.{◌≡◌, ◌≤◌, ◌<◌, ◌+◌, ℕ, ℤ, IsTrue, IfSome, Some, None, if◌then◌else◌, slice_index_or, slice_index, slice_set, length, List, Option};
+ghost use Rattle.std.specs.Prelude.{◌≡◌, ◌<◌, ◌+◌, ℕ, IsTrue, IfSome, Some, None, if◌then◌else◌, slice_index, slice_set, Option};
 ghost use Rattle.bpf_types.specs.Line.{octets_in};
 ghost use Rattle.ocp_regions.specs.Memory.{number_in_memory, memory_after_store};
 ghost use Rattle.bpf_moves.specs.Moves.{operand_in, address_in, load_register, store_memory, move_by_jump};
@@ -8,13 +8,13 @@ ghost use Rattle.ocp_loader.specs.LineAt.{target};
 ghost use Rattle.bpf_step.specs.Machine.{State, NoInstruction, state_after_write, state_after_jump, place_by};
 ghost use Rattle.bpf_step.specs.Step.{step, outcome_by};
 ghost use Rattle.bpf_step.specs.Calls.{state_after_engine_call, local_call, exit_to, last_frame};
-ghost use Rattle.ocp_check.specs.Mirror.Ranges.{IsIn, AreIn};
+ghost use Rattle.ocp_check.specs.Mirror.Ranges.{IsIn};
 ghost use Rattle.ocp_check.specs.Mirror.Fits.{Covers, Fits, Matches, FitsAfter};
 
 use crate::certificate::{Node, after_return};
-use crate::covering::{covers, known, known_operand, with_register};
+use crate::covering::{covers, range_of, range_of_operand, with_register};
 use crate::laws::accesses_are_there;
-use crate::range::{Range, is_empty, is_there, is_within, only, refined, result_of, sum};
+use crate::range::{Range, is_empty, is_there, is_within, only, refinement, result_of, sum};
 use bpf_step::{FRAME_OCTETS, MAX_LOCAL_CALLS};
 use bpf_types::{Comparison, Line, Operand, Reg, Size, Width};
 use bpf_values::size_of;
@@ -93,11 +93,16 @@ fn is_kept_loading(
     ensures { IsTrue result → (s : State) (f : ℕ → ℕ) → s.place ≡ slot →
         Matches certificate.now node.now s →
         FitsAfter certificate.now s (outcome_by s (load_register s.registers s.memory dst f
-        (number_in_memory s.memory (address_in s.registers base offset) (octets_in size))) NoInstruction) }
+        (number_in_memory s.memory (address_in s.registers base offset) (octets_in size)))
+        NoInstruction) }
 {
     accesses_are_there();
-    is_there(known(&node.row, base), offset, size.octets() as u64, false)
-        && is_kept_writing(certificate, slot, 1, node, dst, None)
+    is_there(
+        range_of(&node.row, base),
+        offset,
+        size.octets() as u64,
+        false,
+    ) && is_kept_writing(certificate, slot, 1, node, dst, None)
 }
 
 /// Whether a store is inside a region that may be written, and fits the certificate.
@@ -112,18 +117,23 @@ fn is_kept_storing(
     ensures { IsTrue result → (s : State) (v : ℕ) → s.place ≡ slot →
         Matches certificate.now node.now s →
         FitsAfter certificate.now s (outcome_by s (store_memory s.registers
-        (memory_after_store s.memory (address_in s.registers base offset) (octets_in size) v)) NoInstruction) }
+        (memory_after_store s.memory (address_in s.registers base offset) (octets_in size) v))
+        NoInstruction) }
 {
     accesses_are_there();
-    is_there(known(&node.row, base), offset, size.octets() as u64, true)
-        && is_kept_jumping(
-            certificate,
-            slot,
-            None,
-            node,
-            Reg::zero(),
-            known(&node.row, Reg::zero()),
-        )
+    is_there(
+        range_of(&node.row, base),
+        offset,
+        size.octets() as u64,
+        true,
+    ) && is_kept_jumping(
+        certificate,
+        slot,
+        None,
+        node,
+        Reg::zero(),
+        range_of(&node.row, Reg::zero()),
+    )
 }
 
 /// Whether an engine call fits the certificate, whatever it answers.
@@ -153,10 +163,10 @@ fn is_kept_branching(
         (if is_taken width comparison (slice_index s.registers dst) (operand_in s.registers operand)
         then Some distance else None)) NoInstruction) }
 {
-    let first = known(&node.row, dst);
-    let second = known_operand(&node.row, operand);
-    let taken = refined(width, comparison, true, first, second);
-    let passed = refined(width, comparison, false, first, second);
+    let first = range_of(&node.row, dst);
+    let second = range_of_operand(&node.row, operand);
+    let taken = refinement(width, comparison, true, first, second);
+    let passed = refinement(width, comparison, false, first, second);
     is_kept_jumping(certificate, slot, Some(distance), node, dst, taken)
         && is_kept_jumping(certificate, slot, None, node, dst, passed)
 }
@@ -244,8 +254,8 @@ pub fn is_kept(certificate: &[Option<Node>], slot: u16, node: &Node, line: Line)
             let value = result_of(
                 width,
                 operation,
-                known(&node.row, dst),
-                known_operand(&node.row, operand),
+                range_of(&node.row, dst),
+                range_of_operand(&node.row, operand),
             );
             is_kept_writing(certificate, slot, 1, node, dst, value)
         }
@@ -259,7 +269,7 @@ pub fn is_kept(certificate: &[Option<Node>], slot: u16, node: &Node, line: Line)
                 Some(i32::from(distance)),
                 node,
                 Reg::zero(),
-                known(&node.row, Reg::zero()),
+                range_of(&node.row, Reg::zero()),
             )
         }
         Line::LongJump { distance } => {
@@ -269,7 +279,7 @@ pub fn is_kept(certificate: &[Option<Node>], slot: u16, node: &Node, line: Line)
                 Some(distance),
                 node,
                 Reg::zero(),
-                known(&node.row, Reg::zero()),
+                range_of(&node.row, Reg::zero()),
             )
         }
         Line::JumpIf {

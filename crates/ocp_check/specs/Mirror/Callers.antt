@@ -10,17 +10,17 @@ pub record Caller : Type 0 where
   pub place : ℕ
   pub node : Node
 
-abbrev pub known_of : Node → ℕ → Option Range
-known_of node register = slice_index_or node.row register None
+abbrev pub range_at : Node → ℕ → Option Range
+range_at node register = slice_index_or node.row register None
 
 -- what it saved is known
 pub record Saves (c : Caller) (f : Frame) : Type 0 where
   pub place : f.place ≡ c.place + 1
-  pub r6 : IsIn (known_of c.node 6) f.r6
-  pub r7 : IsIn (known_of c.node 7) f.r7
-  pub r8 : IsIn (known_of c.node 8) f.r8
-  pub r9 : IsIn (known_of c.node 9) f.r9
-  pub r10 : IsIn (known_of c.node 10) f.r10
+  pub r6 : IsIn (range_at c.node 6) f.r6
+  pub r7 : IsIn (range_at c.node 7) f.r7
+  pub r8 : IsIn (range_at c.node 8) f.r8
+  pub r9 : IsIn (range_at c.node 9) f.r9
+  pub r10 : IsIn (range_at c.node 10) f.r10
 
 -- the frames are those of the callers, the latest of which is first
 abbrev pub AreSaved : List Caller → List Frame → Type 0
@@ -38,8 +38,8 @@ row_at_end promise =
 abbrev pub row_after_return : Node → List (Option Range) → List (Option Range)
 row_after_return node row =
     slice_set (slice_set (slice_set (slice_set (slice_set row
-    6 (known_of node 6)) 7 (known_of node 7)) 8 (known_of node 8)) 9 (known_of node 9))
-    10 (known_of node 10)
+    6 (range_at node 6)) 7 (range_at node 7)) 8 (range_at node 8)) 9 (range_at node 9))
+    10 (range_at node 10)
 
 abbrev pub node_after_return : Node → Option Range → Node
 node_after_return node promise =

@@ -7,7 +7,7 @@ use Rattle.bpf_step.specs.Calls.{state_after_engine_call}
 use Rattle.ocp_check.specs.declared.range.Range.{Range}
 use Rattle.ocp_check.specs.declared.certificate.Node.{Node}
 use Rattle.ocp_check.specs.Mirror.Ranges.{IsIn, AreIn}
-use Rattle.ocp_check.specs.Mirror.Callers.{Caller, AreSaved, known_of, node_after_return}
+use Rattle.ocp_check.specs.Mirror.Callers.{Caller, AreSaved, range_at, node_after_return}
 
 -- what a certificate says at each slot, if the slot is ever reached
 abbrev pub Certificate : Type 0
@@ -17,7 +17,7 @@ Certificate = List (Option Node)
 pub record Covers (certificate : Certificate) (place : ℕ) (from : Node) : Type 0 where
   pub node : Node
   pub found : slice_get certificate place ≡ Some (Some node)
-  pub weaker : (k : ℕ) → k < 11 → (v : ℕ) → IsIn (known_of from k) v → IsIn (known_of node k) v
+  pub weaker : (k : ℕ) → k < 11 → (v : ℕ) → IsIn (range_at from k) v → IsIn (range_at node k) v
   pub deep : from.depth ≤ node.depth
   pub kept : (v : ℕ) → IsIn node.promise v → IsIn from.promise v
 

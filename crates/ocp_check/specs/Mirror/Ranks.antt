@@ -10,13 +10,13 @@ abbrev pub rank : List ℕ → ℕ → ℕ
 rank ranks place = slice_index ranks place
 
 -- the ranks of the slots to which the open local calls return
-abbrev pub opened : List ℕ → List Frame → ℕ
-opened ranks [] = 0
-opened ranks (f ∷ frames) = rank ranks f.place + opened ranks frames
+abbrev pub ranks_of_frames : List ℕ → List Frame → ℕ
+ranks_of_frames ranks [] = 0
+ranks_of_frames ranks (f ∷ frames) = rank ranks f.place + ranks_of_frames ranks frames
 
 -- at least how many instructions may follow before the step ends
 abbrev pub ahead : List ℕ → State → ℕ
-ahead ranks s = rank ranks s.place + opened ranks s.frames
+ahead ranks s = rank ranks s.place + ranks_of_frames ranks s.frames
 
 -- each instruction leaves fewer ahead, or is the end of a step outside of all local calls, after
 -- which there are fewer than the most

@@ -8,5 +8,5 @@ pub returns-then-is_kept_jumping : goal.returns-then-is_kept_jumping
 returns-then-is_kept_jumping c = λ h s e i.
     let same : to_z w32 (of_z w32 c.args.distance) ≡ c.args.distance = search (rules, c.ranges.distance.sfits) in
     fits_either c.args.certificate.now s _ c.args.distance
-    (λ t. subst (λ z. Fits c.args.certificate.now (state_after_jump s (Some z))) same (c.is_kept_jumping.ensures c.if-is_kept_jumping.true s e i (c.refined-taken.ensures _ _ (c.known-first.ensures.meaning s.registers i.registers) (c.known_operand-second.ensures s.registers i.registers) t)))
-    (λ t. c.is_kept_jumping-then-is_kept_jumping.ensures h s e i (c.refined-passed.ensures _ _ (c.known-first.ensures.meaning s.registers i.registers) (c.known_operand-second.ensures s.registers i.registers) t))
+    (λ t. subst (λ z. Fits c.args.certificate.now (state_after_jump s (Some z))) same (c.is_kept_jumping.ensures c.if-is_kept_jumping.true s e i (c.refinement-taken.ensures _ _ (c.range_of-first.ensures.meaning s.registers i.registers) (c.range_of_operand-second.ensures s.registers i.registers) t)))
+    (λ t. c.is_kept_jumping-then-is_kept_jumping.ensures h s e i (c.refinement-passed.ensures _ _ (c.range_of-first.ensures.meaning s.registers i.registers) (c.range_of_operand-second.ensures s.registers i.registers) t))
