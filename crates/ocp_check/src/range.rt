@@ -1,5 +1,5 @@
 //! What is known of a register: a range of numbers, or nothing.
-ghost use Rattle.std.specs.Prelude.{◌≡◌, ◌≤◌, ◌+◌, ◌-◌, ◌/◌, ◌%◌, ◌^◌, ◌==◌, if◌then◌else◌, bit_and, ℕ, IsTrue, Some};
+ghost use Rattle.std.specs.Prelude.{◌*◌, ◌≡◌, ◌≤◌, ◌+◌, ◌-◌, ◌/◌, ◌%◌, ◌^◌, ◌==◌, if◌then◌else◌, bit_and, ℕ, IsTrue, Some};
 ghost use Rattle.std.specs.Int.{w64, cast_unsigned};
 ghost use Rattle.bpf_types.specs.declared.line.Width.TheVariants.{W64};
 ghost use Rattle.bpf_values.specs.Value.{arithmetic_result, is_taken};
@@ -90,6 +90,43 @@ fn difference(a: Option<Range>, b: Option<Range>) -> Option<Range>
     }
 }
 
+/// What is known of a product, if none wraps.
+fn product(a: Option<Range>, b: Option<Range>) -> Option<Range>
+    ensures { (x y : ℕ) → IsIn a x → IsIn b y → IsIn result ((x * y) % 2 ^ 64) }
+{
+    let (Some(a), Some(b)) = (a, b) else {
+        return None;
+    };
+    let low = a.low.checked_mul(b.low)?;
+    let high = a.high.checked_mul(b.high)?;
+    Some(Range { low, high })
+}
+
+/// What is known of a shift to the left by 1 to 4, which multiplies by 2 to 16.
+fn shift_left(a: Option<Range>, b: Option<Range>) -> Option<Range>
+    ensures { (x y : ℕ) → IsIn a x → IsIn b y → IsIn result ((x * 2 ^ (y % 64)) % 2 ^ 64) }
+{
+    let b = b?;
+    match (b.low, b.high) {
+        (1, 1) => product(a, only(2)),
+        (2, 2) => product(a, only(4)),
+        (3, 3) => product(a, only(8)),
+        (4, 4) => product(a, only(16)),
+        _ => None,
+    }
+}
+
+/// What is known of a shift to the right: it is no more than what is shifted.
+fn shift_right(a: Option<Range>) -> Option<Range>
+    ensures { (x n : ℕ) → IsIn a x → IsIn result (x / n) }
+{
+    let a = a?;
+    Some(Range {
+        low: 0,
+        high: a.high,
+    })
+}
+
 /// What is known of a quotient: it is no more than the dividend.
 fn quotient(a: Option<Range>) -> Option<Range>
     ensures { (x y : ℕ) → IsIn a x → IsIn result (if y == 0 then 0 else x / y) }
@@ -146,6 +183,14 @@ fn low(a: Option<Range>) -> Option<Range>
     }
 }
 
+/// What is known of a sum of 32 bits.
+fn sum_of_halves(a: Option<Range>, b: Option<Range>) -> Option<Range>
+    ensures { (x y : ℕ) → IsIn a x → IsIn b y →
+        IsIn result ((x % 2 ^ 32 + y % 2 ^ 32) % 2 ^ 32) }
+{
+    low(sum(low(a), low(b)))
+}
+
 /// What is known of the result of an operation.
 pub fn result_of(
     width: Width,
@@ -160,11 +205,15 @@ pub fn result_of(
         (Width::W64, Operation::Mov) => b,
         (Width::W64, Operation::Add) => sum(a, b),
         (Width::W64, Operation::Sub) => difference(a, b),
+        (Width::W64, Operation::Mul) => product(a, b),
         (Width::W64, Operation::Div) => quotient(a),
         (Width::W64, Operation::Mod) => remainder(b),
         (Width::W64, Operation::And) => conjunction(b),
+        (Width::W64, Operation::Lsh) => shift_left(a, b),
+        (Width::W64, Operation::Rsh) => shift_right(a),
         (Width::W32, Operation::Mov) => low(b),
         (Width::W32, Operation::And) => conjunction(low(b)),
+        (Width::W32, Operation::Add) => sum_of_halves(a, b),
         _ => None,
     }
 }
