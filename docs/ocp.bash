@@ -6,14 +6,15 @@ _ocp() {
         asm) words='--profile --help' ;;
         bench) words='--port --program --help' ;;
         build) words='--cores --times --help' ;;
+        check) words='--profile --pool --help' ;;
         list) words='--help' ;;
         live) words='--profile --apid --pool --journal --help' ;;
         run) words='--profile --apid --pool --journal --help' ;;
-        try) words='asm list run help --help --version' ;;
-        help) words='asm list run' ;;
+        try) words='asm check list run help --help --version' ;;
+        help) words='asm check list run' ;;
         *) words='' ;;
     esac
-    [ "$COMP_CWORD" != 1 ] || words='asm list run help bench build live try --help --version'
+    [ "$COMP_CWORD" != 1 ] || words='asm check list run help bench build live try --help --version'
     mapfile -t COMPREPLY < <(compgen -W "$words" -- "${COMP_WORDS[COMP_CWORD]}")
 }
 complete -o default -F _ocp ocp ./ocp

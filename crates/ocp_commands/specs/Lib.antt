@@ -1,3 +1,4 @@
 pub mod Commands
 pub mod Assembly
 pub mod Listings
+pub mod Checks

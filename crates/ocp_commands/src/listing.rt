@@ -71,7 +71,7 @@ fn is_blank(octet: u8) -> bool
 }
 
 /// The text without the spaces and newlines at its end.
-fn digits(text: &[u8]) -> &[u8]
+pub(crate) fn digits(text: &[u8]) -> &[u8]
     ensures { result.now ≡ digits_of text.now }
 {
     let mut digits = text;

@@ -21,6 +21,13 @@ impl<A: Allocator> Output<A> {
         Output { text, done: true }
     }
 
+    /// The lines of places at which a command did not find what it was asked for.
+    pub fn of_places(text: Vec<u8, A>) -> Output<A>
+        ensures { (result.text.items ≡ text.items) × (result.done ≡ false) }
+    {
+        Output { text, done: false }
+    }
+
     /// The output where the input has a fault.
     pub fn of_fault(line: String<A>) -> Output<A>
         ensures { (result.text.items ≡ string_bytes line) × (result.done ≡ false) }

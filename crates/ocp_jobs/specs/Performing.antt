@@ -4,10 +4,11 @@ use Rattle.ocp_ports.specs.Outcomes.{TellsReads, TellsWrites}
 use Rattle.ocp_ports.specs.Reading.{IsShort, ReadsWhile}
 use Rattle.ocp_ports.specs.declared.fault.ConsoleFault.{ConsoleFault}
 use Rattle.ocp_commands.specs.Assembly.{Assembles}
+use Rattle.ocp_commands.specs.Checks.{Checks}
 use Rattle.ocp_commands.specs.Commands.{Writes}
 use Rattle.ocp_commands.specs.Listings.{Lists}
 use Rattle.ocp_words.specs.declared.job.Job.{Job}
-use Rattle.ocp_words.specs.declared.job.Job.TheVariants.{Assemble, List as Listing, Run}
+use Rattle.ocp_words.specs.declared.job.Job.TheVariants.{Assemble, Check, List as Listing, Run}
 use Rattle.ocp_words.specs.declared.job.Settings.{Settings}
 use Rattle.ocp_console.specs.Crew.{CrewAnswers}
 use Rattle.ocp_console.specs.Reading.{IsWithin}
@@ -34,12 +35,15 @@ abbrev pub Answers : CrewAnswers → Job → List ℕ → Option (List ℕ) → 
     Result Bool ConsoleFault → Type 0
 Answers crew (Assemble profile) input old new answer =
     Writes (Assembles profile input) old new answer
+Answers crew (Check s) input old new answer =
+    Writes (Checks s.profile s.pool_words input) old new answer
 Answers crew Listing input old new answer = Writes (Lists input) old new answer
 Answers crew (Run settings) input old new answer = Runs crew settings input old new answer
 
 -- what the command of a job leaves of an input
 abbrev pub Leaves : Job → List ℕ → Option (List ℕ) → Type 0
 Leaves (Assemble profile) input left = ReadsWhile IsShort input left
+Leaves (Check s) input left = ReadsWhile IsShort input left
 Leaves Listing input left = ReadsWhile IsShort input left
 Leaves (Run settings) input left = ReadsWhile IsWithin input left
 

@@ -13,7 +13,7 @@ const FIRST_LINE_TOO_MANY: u64 = MAX_LINES as u64 + 1;
 /// How much of its input a job's hints need.
 pub(crate) fn keeps_of(job: Job) -> Keeps {
     match job {
-        Job::Run(_) => Keeps::LastLines,
+        Job::Run(_) | Job::Check(_) => Keeps::LastLines,
         Job::Assemble(_) | Job::List => Keeps::Whole,
     }
 }

@@ -8,7 +8,7 @@ ghost use Rattle.ocp_jobs.specs.Performing.{Answers, Leaves, Performs};
 use crate::hint::say_hint;
 use crate::kept::{KeptSink, KeptSource};
 use crate::status::status_of;
-use ocp_commands::{asm, list};
+use ocp_commands::{asm, check, list};
 use ocp_console::run;
 use ocp_core::Engine;
 use ocp_ports::{ConsoleFault, Crew, Sink, Source};
@@ -37,6 +37,7 @@ fn answer_of<R: Source, W: Sink, C: Crew<Engine>>(
 {
     match job {
         Job::Assemble(profile) => asm(alloc, profile, reader, writer),
+        Job::Check(settings) => check(alloc, settings.profile, settings.pool_words, reader, writer),
         Job::List => list(alloc, reader, writer),
         Job::Run(settings) => match run(alloc, settings, crew, reader, writer) {
             Ok(()) => Ok(true),

@@ -18,9 +18,10 @@ use std::{env, io};
 const WORDS_FAULT: u8 = 2;
 
 /// What is said of words that are refused.
-const WANTED_WORDS: &str = "The commands are run, asm and list. run takes --apid 0 to 2046, \
+const WANTED_WORDS: &str = "The commands are run, asm, list and check. run takes --apid 0 to 2046, \
                             --pool 1 to 256, --journal 1 to 1000000 and --profile 1 or 2, asm \
-                            --profile 1 or 2; numbers are in decimal digits.";
+                            --profile 1 or 2, check --pool 1 to 256 and --profile 1 or 2; numbers \
+                            are in decimal digits.";
 
 /// The job that given words ask for, as `read_words` reads them.
 fn job_of(alloc: Global, given: &[String]) -> Result<Job, WordsFault>

@@ -4,7 +4,7 @@ ghost use Rattle.std.specs.Prelude.{◌≡◌, ℕ, IfOk, codes, pos, false};
 ghost use Rattle.clap.specs.Words.{app_of, rule_of, new_app};
 ghost use Rattle.clap.specs.declared.builder.command.Command.TheViews.{out-Command};
 ghost use Rattle.clap.specs.declared.builder.value_parser.ValueParser.TheVariants.{Signed};
-ghost use Rattle.ocp_words.specs.Words.{ocp, program, asm, run, number_option, profile_option as profile_rule, apid_option as apid_rule, pool_option as pool_rule, journal_option as journal_rule};
+ghost use Rattle.ocp_words.specs.Words.{ocp, program, asm, check, run, number_option, profile_option as profile_rule, apid_option as apid_rule, pool_option as pool_rule, journal_option as journal_rule};
 
 use crate::help;
 use clap::builder::ValueParser;
@@ -108,6 +108,16 @@ fn asm_command<'a>(alloc: Global) -> Result<Command<'a>, AllocError>
     plain.arg(profile_option(alloc))
 }
 
+/// The command `check` and its options.
+fn check_command<'a>(alloc: Global) -> Result<Command<'a>, AllocError>
+    ensures app { IfOk result (λ c. app_of c ≡ check) }
+    ensures global { IfOk result (λ c. (out-Command c).has_globals ≡ false) }
+{
+    plain_command(alloc, "check", help::CHECK_USAGE, help::CHECK, help::CHECK_HELP)
+        .arg(profile_option(alloc))?
+        .arg(pool_option(alloc))
+}
+
 /// The command `run` and its options.
 fn run_command<'a>(alloc: Global) -> Result<Command<'a>, AllocError>
     ensures app { IfOk result (λ c. app_of c ≡ run) }
@@ -144,6 +154,7 @@ pub(crate) fn ocp_command<'a>(alloc: Global) -> Result<Command<'a>, AllocError>
 {
     program_command(alloc)?
         .subcommand(asm_command(alloc)?)?
+        .subcommand(check_command(alloc)?)?
         .subcommand(list_command(alloc))?
         .subcommand(run_command(alloc)?)
 }

@@ -42,6 +42,28 @@ Exit status:
 Example: `echo exit | ocp asm` writes 9500000000000000
 Manual: docs/AUTHOR.md, sections 2 and 3; causes of Syntax: section 5. Mnemonics: docs/CARD.md";
 
+pub(crate) const CHECK_USAGE: &str = "ocp check [OPTIONS] < IMAGE";
+
+pub(crate) const CHECK: &str =
+    "Reads an image in hexadecimal digits and writes what no run of it ever does";
+
+pub(crate) const CHECK_HELP: &str = "What is written, if all of it is shown:
+  faults 1 2 3   never
+  fault 4        never, with 2 words of pool or more
+  round          at most 24 instructions from a start or a step end to the next step end or the exit
+
+Else a line for each place that may fault, and one if no bound of a round is shown:
+  slot 6   ldxb r3, [r1+0]   may be AccessOutside: r1 is 0x20000000 to 0x20000100
+  round    not bounded: slots 1 2 3 4 repeat without a step end
+
+Fault lines:
+  error 0 TooLong, error 0 Hex, error 0 Load <n>, error <slot> Load <n>
+
+Exit status:
+  0 all is shown, 1 else, 2 a mistake in the words, 3 a device or memory failed
+
+Manual: docs/AUTHOR.md, section 3";
+
 pub(crate) const LIST_USAGE: &str = "ocp list < IMAGE";
 
 pub(crate) const LIST: &str = "Reads an image in hexadecimal digits and writes its listing";

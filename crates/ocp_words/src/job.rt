@@ -49,11 +49,22 @@ impl Settings {
     }
 }
 
+/// What an image is checked for.
+#[derive(Clone, Copy)]
+pub struct CheckSettings {
+    /// The profile under which the image is loaded.
+    pub profile: Profile,
+    /// How many words the pool has, 1 to 256.
+    pub pool_words: u16,
+}
+
 /// What the program is to do.
 #[derive(Clone, Copy)]
 pub enum Job {
     /// Assembly text in, its image under the profile in hexadecimal digits out.
     Assemble(Profile),
+    /// An image in hexadecimal digits in, what no run of it ever does out.
+    Check(CheckSettings),
     /// An image in hexadecimal digits in, its listing out.
     List,
     /// A script in, its transcript out.

@@ -6,6 +6,6 @@ mod help;
 mod job;
 mod reading;
 
-pub use job::{Job, Settings, WordsFault};
+pub use job::{CheckSettings, Job, Settings, WordsFault};
 pub use ocp_profile::{MAX_APID, MAX_CAPACITY, MAX_POOL_WORDS};
 pub use reading::{not_utf8, read_words};

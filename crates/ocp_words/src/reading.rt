@@ -4,10 +4,10 @@ ghost use Rattle.std.specs.Prelude.{◌≡◌, IfOk, IfSome, IsOk, [], map, ◌�
 ghost use Rattle.clap.specs.Words.{app_of, subcommand_of, subcommand_rows_of, rows_of, found_of};
 ghost use Rattle.clap.specs.declared.error.kind.ErrorKind.TheVariants.{InvalidValue};
 ghost use Rattle.ocp_words.specs.Words.{ocp};
-ghost use Rattle.ocp_words.specs.Jobs.{HasProfile, HasSettings, HasDefaults, IsJob, IsMistake};
+ghost use Rattle.ocp_words.specs.Jobs.{HasProfile, HasSettings, HasCheckSettings, HasDefaults, IsJob, IsMistake};
 
 use crate::command::ocp_command;
-use crate::job::{Job, Settings, WordsFault};
+use crate::job::{CheckSettings, Job, Settings, WordsFault};
 use clap::error::ErrorKind;
 use clap::{ArgMatches, Command, Error};
 use ocp_profile::Profile;
@@ -43,6 +43,18 @@ fn settings_of(matches: &ArgMatches<'_>) -> Option<Settings>
     Settings::new(profile, apid, pool_words, capacity)
 }
 
+/// The settings in the matches of `check`, if they are there.
+fn check_settings_of(matches: &ArgMatches<'_>) -> Option<CheckSettings>
+    ensures { IfSome result (HasCheckSettings (rows_of (found_of matches.now))) }
+{
+    let profile = profile_of(matches)?;
+    let pool_words = matches.get_one::<u16>("pool")?;
+    Some(CheckSettings {
+        profile,
+        pool_words,
+    })
+}
+
 /// A mistake that is not `clap`'s to find: its kind, and what it is.
 type Mistake = (ErrorKind, &'static str);
 
@@ -59,6 +71,10 @@ fn job_of(matches: &ArgMatches<'_>) -> Result<Job, Mistake>
         None => Ok(Job::Run(DEFAULTS)),
         Some(("asm", inner)) => match profile_of(inner) {
             Some(profile) => Ok(Job::Assemble(profile)),
+            None => Err(NUMBER_IS_MISSING),
+        },
+        Some(("check", inner)) => match check_settings_of(inner) {
+            Some(settings) => Ok(Job::Check(settings)),
             None => Err(NUMBER_IS_MISSING),
         },
         Some(("list", _)) => Ok(Job::List),
