@@ -54,7 +54,7 @@ pub(crate) const CHECK_HELP: &str = "What is written, if all of it is shown:
 
 Else a line for each place that may fault, and one if no bound of a round is shown:
   slot 6   ldxb r3, [r1+0]   may be AccessOutside: r1 is 0x20000000 to 0x20000100
-  round    not bounded: slots 1 2 3 4 repeat without a step end
+  round   not bounded: slots 1 2 3 4 repeat without a step end
 
 Fault lines:
   error 0 TooLong, error 0 Hex, error 0 Load <n>, error <slot> Load <n>
