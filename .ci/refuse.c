@@ -5,43 +5,56 @@
 #include <stddef.h>
 #include <stdio.h>
 #include <stdlib.h>
+#include <sys/mman.h>
 #include <unistd.h>
 
 /* Refuses the growth of number REFUSE that a program asks for (1 is the first), with LENGTH as many from it on, and then makes
-   the file REFUSED. */
+   the file REFUSED; so it does where the C library has no memory. The first eight octets of the file ASKED are how many growths it asked for. */
 
-static atomic_ulong asked;
+static atomic_ulong here, *asked = &here;
 static unsigned long refused, length;
 static void *(*real_malloc)(size_t);
 static void *(*real_realloc)(void *, size_t);
+
+/* Has the count in this file, which others may read when the program has ended. */
+static void count_in(const char *file) {
+    int out = file ? open(file, O_RDWR | O_CREAT | O_TRUNC, 0644) : -1;
+    void *shared = MAP_FAILED;
+    if (out < 0) return;
+    if (ftruncate(out, sizeof here) == 0) shared = mmap(NULL, sizeof here, PROT_READ | PROT_WRITE, MAP_SHARED, out, 0);
+    if (shared != MAP_FAILED) asked = shared;
+    close(out);
+}
 
 __attribute__((constructor)) static void begin(void) {
     const char *number = getenv("REFUSE"), *many = getenv("LENGTH");
     real_malloc = dlsym(RTLD_NEXT, "malloc");
     real_realloc = dlsym(RTLD_NEXT, "realloc");
-    atomic_store(&asked, 0);
+    count_in(getenv("ASKED"));
+    atomic_store(asked, 0);
     refused = number ? strtoul(number, NULL, 10) : 0;
     length = many ? strtoul(many, NULL, 10) : 1;
 }
 
-/* Says so in a file, where it refuses. */
 static int is_refused(void) {
-    const char *file;
-    unsigned long number = atomic_fetch_add(&asked, 1) + 1;
-    int out;
-    if (refused == 0 || number < refused || number - refused >= length) return 0;
-    file = getenv("REFUSED");
-    out = file ? open(file, O_WRONLY | O_CREAT, 0644) : -1;
+    unsigned long number = atomic_fetch_add(asked, 1) + 1;
+    return refused != 0 && number >= refused && number - refused < length;
+}
+
+/* The block, and the file that says so where there is none. */
+static void *told(void *block) {
+    const char *file = block ? NULL : getenv("REFUSED");
+    int out = file ? open(file, O_WRONLY | O_CREAT, 0644) : -1;
     if (out >= 0) close(out);
-    return 1;
+    return block;
 }
 
 void *malloc(size_t size) {
     if (!real_malloc) real_malloc = dlsym(RTLD_NEXT, "malloc");
-    return is_refused() ? NULL : real_malloc(size);
+    return told(is_refused() ? NULL : real_malloc(size));
 }
 
 void *realloc(void *block, size_t size) {
     if (!real_realloc) real_realloc = dlsym(RTLD_NEXT, "realloc");
-    return is_refused() ? NULL : real_realloc(block, size);
+    return told(is_refused() ? NULL : real_realloc(block, size));
 }
