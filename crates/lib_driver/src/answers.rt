@@ -1,9 +1,10 @@
 //! How answers are shown.
 
 use crate::lines::{Both, Fault, Named, Octets, add_text, dash_if_empty, text_of};
-use ocp_core::{CommitOutcome, DebugFault, EngineFault, Reports, Slice, StepOutcome};
+use ocp_core::{CommitOutcome, EngineFault, Reports, Round, Slice, StepOutcome};
 use std::alloc::Global;
 use std::fmt;
+use std::fmt::Debug;
 
 /// The packets of reports, with spaces between them; `-` for none.
 #[derive(Clone, Copy)]
@@ -65,11 +66,23 @@ pub(crate) fn show_commit(alloc: Global, outcome: CommitOutcome) -> Result<Strin
     }
 }
 
-/// `Ok`, or the fault of a debugger's call.
-pub(crate) fn show_done(alloc: Global, done: Result<(), DebugFault>) -> Result<String, Fault> {
+/// `Ok`, or the fault of a debugger's call or of a write of a pool word.
+pub(crate) fn show_done<F: Copy + Debug>(
+    alloc: Global,
+    done: Result<(), F>,
+) -> Result<String, Fault> {
     match done {
         Ok(()) => text_of(alloc, "Ok"),
         Err(fault) => text_of(alloc, Named(fault)),
+    }
+}
+
+/// A round: how many, the last outcome, and the step that ended, if one did.
+pub(crate) fn show_round(alloc: Global, round: Round) -> Result<String, Fault> {
+    let done = Both(round.count, Outcome(round.last));
+    match round.step {
+        Some(step) => text_of(alloc, Both(done, Both("step", step))),
+        None => text_of(alloc, done),
     }
 }
 

@@ -25,7 +25,13 @@ fn show(alloc: Global, job: Job) -> Result<String, Fault> {
         Job::Run(settings) => show_settings(alloc, &settings),
         Job::Assemble(profile) => text_of(alloc, Both("Assemble", profile.number())),
         Job::Check(settings) => {
-            text_of(alloc, Both("Check", Both(settings.profile.number(), settings.pool_words)))
+            text_of(
+                alloc,
+                Both(
+                    "Check",
+                    Both(settings.profile.number(), settings.pool_words),
+                ),
+            )
         }
         Job::List => text_of(alloc, "List"),
     }

@@ -2,7 +2,7 @@
 
 ghost use Rattle.std.specs.Prelude.{◌≤◌, IfOk};
 
-use crate::answers::{Outcome, show_commit, show_done, show_reports, show_slice};
+use crate::answers::{Outcome, show_commit, show_done, show_reports, show_round, show_slice};
 use crate::events::run;
 use crate::lines::{Fault, flag, number, octets, or_memory, profile_of, text_of};
 use crate::runs::Runs;
@@ -80,6 +80,12 @@ fn event(
         ("ocp_core.slice", [id, budget]) => {
             slice(engine, alloc, by, number(id)?, budget_of(budget)?)
         }
+        ("ocp_core.round", [id, budget]) => {
+            round(engine, alloc, by, number(id)?, budget_of(budget)?)
+        }
+        ("ocp_core.put_word", [index, value]) => {
+            put_word(engine, alloc, by, number(index)?, number(value)?)
+        }
         (_, [id, argument]) => command(engine, alloc, name, by, number(id)?, argument),
         _ => Err(Fault::Syntax),
     }
@@ -108,6 +114,22 @@ fn slice(engine: &mut Engine, alloc: Global, by: u16, id: u16, budget: u32) -> R
     requires { 1 ≤ budget }
 {
     show_slice(alloc, engine.slice(by, id, budget))
+}
+
+fn round(engine: &mut Engine, alloc: Global, by: u16, id: u16, budget: u32) -> Result<String, Fault>
+    requires { 1 ≤ budget }
+{
+    show_round(alloc, engine.round(by, id, budget))
+}
+
+fn put_word(
+    engine: &mut Engine,
+    alloc: Global,
+    by: u16,
+    index: u64,
+    value: u64,
+) -> Result<String, Fault> {
+    show_done(alloc, engine.put_word(by, index, value))
 }
 
 fn commit(engine: &mut Engine, alloc: Global, by: u16, work: Work) -> Result<String, Fault> {

@@ -36,6 +36,9 @@ impl Shown for Entry {
             Entry::Drain { by, time, mark } => {
                 text_of(alloc, Both("Drain", Both(Both(*by, *time), Packets(mark))))
             }
+            Entry::PutWord { by, index, value } => {
+                text_of(alloc, Both("PutWord", Both(*by, Both(*index, *value))))
+            }
         }
     }
 }

@@ -65,6 +65,10 @@ fn event<'a>(words: &[&str], octets: &'a [u8]) -> Result<Event<'a>, Fault> {
             let id = number(id)?;
             Ok(Event::Step { by, id })
         }
+        ("PutWord", [index, value]) => {
+            let (index, value) = (number(index)?, number(value)?);
+            Ok(Event::PutWord { by, index, value })
+        }
         (_, [id, argument]) => command(name, by, number(id)?, argument),
         _ => Err(Fault::Syntax),
     }
@@ -112,6 +116,7 @@ impl Shown for Answer {
             Answer::Requested(answer) => show_reports(alloc, answer),
             Answer::Stepped(outcome) => text_of(alloc, Outcome(*outcome)),
             Answer::Commanded(done) => show_done(alloc, *done),
+            Answer::Written(done) => show_done(alloc, *done),
         }
     }
 }

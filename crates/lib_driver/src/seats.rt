@@ -8,7 +8,7 @@ use crate::lines::{Calls, Fault, Named, Reply, flag, number, octets, text_of};
 use crate::runs::Runs;
 use crate::views;
 use ocp_core::Work;
-use ocp_seats::input::{DebuggerCommand, Drain, Request, Step};
+use ocp_seats::input::{DebuggerCommand, Drain, PutWord, Request, Step};
 use ocp_seats::{Book, Command, Engine, Naming, NotClosed, Seat, SeatFault, TakeFault};
 use std::alloc::Global;
 use std::sync::ledger::Blank;
@@ -187,6 +187,7 @@ fn event<L: Naming>(
         ("ocp_seats.drain", []) => drain(book, seat, alloc, number(first)?),
         ("ocp_seats.step", []) => step(book, seat, alloc, number(first)?),
         ("ocp_seats.slice", [budget]) => slice(book, seat, alloc, first, budget),
+        ("ocp_seats.put_word", [value]) => put_word(book, seat, alloc, number(first)?, value),
         (_, [argument]) => debug(book, seat, alloc, first, command_of(name, argument)?),
         _ => Err(Fault::Syntax),
     }
@@ -235,6 +236,17 @@ fn slice<L: Naming>(
 ) -> Result<String, Fault> {
     let budget = budget_of(budget)?;
     show_slice(alloc, book.slice(seat, number(id)?, budget))
+}
+
+fn put_word<L: Naming>(
+    book: &mut Book<L>,
+    seat: &mut Seat<L>,
+    alloc: Global,
+    index: u64,
+    value: &str,
+) -> Result<String, Fault> {
+    let value = number(value)?;
+    show_done(alloc, book.apply(seat, PutWord { index, value }))
 }
 
 fn commit<L: Naming>(

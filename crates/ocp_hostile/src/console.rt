@@ -284,6 +284,7 @@ fn seat_and_time(entry: &Entry) -> (u16, u32) {
         Entry::SetBreak { by, id, .. } => (*by, u32::from(*id)),
         Entry::ClearBreak { by, id, .. } => (*by, u32::from(*id)),
         Entry::Trace { by, id, .. } => (*by, u32::from(*id)),
+        Entry::PutWord { by, index, .. } => (*by, u32::from(*index)),
     }
 }
 
