@@ -113,9 +113,15 @@ fn check_command<'a>(alloc: Global) -> Result<Command<'a>, AllocError>
     ensures app { IfOk result (λ c. app_of c ≡ check) }
     ensures global { IfOk result (λ c. (out-Command c).has_globals ≡ false) }
 {
-    plain_command(alloc, "check", help::CHECK_USAGE, help::CHECK, help::CHECK_HELP)
-        .arg(profile_option(alloc))?
-        .arg(pool_option(alloc))
+    plain_command(
+        alloc,
+        "check",
+        help::CHECK_USAGE,
+        help::CHECK,
+        help::CHECK_HELP,
+    )
+    .arg(profile_option(alloc))?
+    .arg(pool_option(alloc))
 }
 
 /// The command `run` and its options.
