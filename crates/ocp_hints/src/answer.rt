@@ -3,8 +3,7 @@
 use crate::number::decimal;
 use crate::rest::{Rest, behind_spaces};
 
-/// A fault of an assembly text or of an image, as far as it decides what is said and where the mark
-/// stands.
+/// A fault of an assembly text or of an image. It decides the sentence and the place of the mark.
 #[derive(Clone, Copy)]
 pub(crate) enum Fault {
     Syntax,

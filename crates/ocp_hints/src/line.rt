@@ -70,7 +70,7 @@ fn is_number(least: u64, greatest: u64, word: &[u8]) -> bool {
     }
 }
 
-/// Why a word is not at most so many octets in hexadecimal digits; None where it is.
+/// Why a word is not hexadecimal digits of at most this many octets; None if it is.
 fn misfit_of_octets(most: usize, odd: &'static str, word: &[u8]) -> Option<&'static str> {
     let says = if begins_with_one_of(b"0x 0X", word) {
         "hexadecimal digits have no 0x in front here"
@@ -88,7 +88,7 @@ fn misfit_of_octets(most: usize, odd: &'static str, word: &[u8]) -> Option<&'sta
     Some(says)
 }
 
-/// What is said of a word behind the last one that may stand in a line.
+/// The sentence for a word after the last one that a line may have.
 fn misfit_of_more(says: &'static str, word: &[u8]) -> &'static str {
     if begins_with_one_of(b"# ; /", word) {
         "a comment is a line of its own"

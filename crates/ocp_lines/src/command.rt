@@ -39,8 +39,8 @@ pub struct Count<const MOST: u32> {
     pub ghost in_range: { number ≤ MOST },
 }
 
-/// What a `work` line asks for: so many workers, each of which takes so many turns of up to a
-/// budget of instructions.
+/// What a `work` line asks for: the number of workers, the turns that each of them takes, and the
+/// budget of a turn in instructions.
 #[derive(Clone, Copy)]
 pub struct Shift {
     pub workers: Count<MAX_WORKERS>,
@@ -62,12 +62,12 @@ pub enum Command<'a> {
     },
     /// `time <u32>`: the time of later requests and drains.
     Time(u32),
-    /// `step <id> <n>`: up to so many instructions of a procedure.
+    /// `step <id> <n>`: up to n instructions of a procedure.
     Step {
         id: u16,
         steps: Count<MAX_STEPS>,
     },
-    /// `round <id> <n>`: up to so many instructions of a procedure, or as far as its step ends.
+    /// `round <id> <n>`: up to n instructions of a procedure. One that ends its step is the last.
     Round {
         id: u16,
         steps: Count<MAX_STEPS>,
@@ -91,7 +91,7 @@ pub enum Command<'a> {
     Traces,
     /// `view <id>`: a procedure's registers and status.
     View(u16),
-    /// `mem <id> <address> <length>`: so many octets of a procedure's memory.
+    /// `mem <id> <address> <length>`: octets of a procedure's memory, from an address on.
     Memory {
         id: u16,
         address: u64,

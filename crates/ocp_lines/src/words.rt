@@ -200,7 +200,7 @@ pub(crate) fn address(word: &[u8]) -> Option<u64>
     hexadecimal(digits)
 }
 
-/// The octets that a word of pairs of digits says, where they are at most so many. They stand in
+/// The octets that a word of pairs of digits says, if they are not more than `most`. They are in
 /// the scratch vector.
 fn octets<'a, A: Allocator>(
     scratch: &'a mut Vec<u8, A>,
@@ -217,8 +217,8 @@ fn octets<'a, A: Allocator>(
     octets_of(scratch, word)
 }
 
-/// The octets that the one word of a text says, where they are at most so many. No word says none.
-/// They stand in the scratch vector.
+/// The octets that the one word of a text says, if they are not more than `most`; none if there is
+/// no word. They are in the scratch vector.
 pub(crate) fn last_octets<'a, A: Allocator>(
     scratch: &'a mut Vec<u8, A>,
     text: &[u8],

@@ -89,7 +89,7 @@ goes_on id s =
 
 -- ---- a slice
 
--- what so many events leave of it
+-- the store after n events
 abbrev pub store_after_events : ℕ → ℕ → Store → Store
 store_after_events id zero s = s
 store_after_events id (suc n) s = store_after_events id n (store_after id s)
@@ -123,12 +123,12 @@ abbrev pub step_ended_by : InstructionOutcome → Option ℕ
 step_ended_by (Called (call.StepEnd step)) = Some step
 step_ended_by outcome = None
 
--- that of an event
+-- the number of the step that an event ends, if it ends one
 abbrev pub step_ended : Effect → Option ℕ
 step_ended (Changed id (Stepped outcome)) = step_ended_by outcome
 step_ended effect = None
 
--- that of the last of so many events
+-- the number of the step that the last of n events ends, if it ends one
 abbrev pub step_at : ℕ → ℕ → Store → Option ℕ
 step_at id zero s = None
 step_at id (suc n) s = step_ended (effect_of_event id (store_after_events id n s))
@@ -145,7 +145,7 @@ abbrev pub most_events : Extent → ℕ → Store → ℕ → ℕ
 most_events extents.Slice id s budget = budget
 most_events extents.Round id s budget = round_budget id s budget
 
--- whether events that go so far end with one that ends this step
+-- whether events of this extent end after one that ends this step
 abbrev pub ends_with : Extent → Option ℕ → Bool
 ends_with extents.Slice step = false
 ends_with extents.Round step = is_some step
@@ -154,7 +154,7 @@ ends_with extents.Round step = is_some step
 abbrev pub slice_of : Round → Slice
 slice_of round = record { count = round.count; last = round.last }
 
--- none of so many events ends a step
+-- none of n events ends a step
 abbrev pub EndNoStep : ℕ → ℕ → Store → Type 0
 EndNoStep id n s =
     (k : ℕ) → k < n → step_ended (effect_of_event id (store_after_events id k s)) ≡ None
@@ -166,7 +166,7 @@ abbrev pub control_after : ℕ → Control → Control
 control_after zero c = c
 control_after (suc n) c = without_pass c
 
--- a record after so many of them, which left the machine so: they are taken from the budget
+-- a record after n of them, which left this machine: they are taken from the budget
 abbrev pub with_machine : ℕ → State → Rec → Rec
 with_machine n machine r = record r {
   machine = machine;
@@ -174,8 +174,8 @@ with_machine n machine r = record r {
   remaining = less n r.remaining;
 }
 
--- the procedure under this id runs, so many instructions are left of its budget, and its machine
--- does them by itself, which leave it so
+-- the procedure under this id runs, its budget has n instructions left, and its machine does them
+-- by itself, after which it is this one
 pub record RunsBy (m : Records) (id : ℕ) (r : Rec) (n : ℕ) (machine : State) : Type 0 where
   pub held : get m id ≡ Some r
   pub running : r.control.status ≡ Running

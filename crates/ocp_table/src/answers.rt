@@ -50,7 +50,7 @@ pub struct InstructionAnswer {
 pub enum Extent {
     /// Until it no longer runs, or one of them is refused, held, ends it or faults.
     Slice,
-    /// As far as a slice, or until one of them ends a step.
+    /// Until a slice would end, or one of them ends a step.
     Round,
 }
 

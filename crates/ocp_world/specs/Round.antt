@@ -13,7 +13,7 @@ use Rattle.ocp_world.specs.Replay.{replay_from}
 abbrev pub step_ended : World → ℕ → Option ℕ
 step_ended w id = table.step_ended (effect_in (directive.Step w.pool) id w.records)
 
--- that of the last of so many instructions
+-- the number of the step that the last of n instructions ends, if it ends one
 abbrev pub step_at : World → ℕ → ℕ → ℕ → Option ℕ
 step_at w by id zero = None
 step_at w by id (suc n) = step_ended (replay_from w (replicate n (Step by id))) id
@@ -25,7 +25,7 @@ round_budget w by id (suc budget) =
     if is_some (step_ended w id) then 1
     else suc (round_budget (after w (Step by id)).world by id budget)
 
--- how many there are at most, by how far they go
+-- how many instructions there are at most, by their extent
 abbrev pub most_events : Extent → World → ℕ → ℕ → ℕ → ℕ
 most_events extents.Slice w by id budget = budget
 most_events extents.Round w by id budget = round_budget w by id budget
