@@ -125,6 +125,18 @@ def faults(page):
     page.write("pool", "16\t")
 
 
+def verdict(page):
+    """What may fault is marked in the text and in the listing, with why; a mended text is said never to fault."""
+    page.set("text", "; reads behind its arguments\n\tadd64 r1, r2\n\tldxb r0, [r1]\n\texit\n")
+    why = "may be AccessOutside: r1 is 0x20000000 to 0x20000100"
+    page.until("what may fault", lambda: page.shown("verdict").startswith(f"slot 1   {why}"))
+    page.check("page: its line", page.marks("text", "may") == [[3, why]])
+    page.check("page: its slot", page.script("return [...document.querySelectorAll('#listing .may')].map(row => row.dataset.slot)") == ["1"])
+    page.set("text", "\tjge64 r2, 256, +2\n\tadd64 r1, r2\n\tldxb r0, [r1]\n\texit\n")
+    page.until("what never faults", lambda: page.shown("verdict").startswith("faults 1 2 3   never"))
+    page.check("page: no line of it is marked", not page.marks("text", "may"))
+
+
 def in_c(page):
     if not page.script("return document.getElementById('language').value") or not all(map(shutil.which, ("clang", "llvm-objdump"))):
         return print("skipped: no clang")
@@ -446,6 +458,7 @@ def page(address, ocp, check, pictures):
         walks(shown, pictures)
         walk_back(shown, ocp, pictures)
         faults(shown)
+        verdict(shown)
         in_c(shown)
         breakpoints(shown, ocp)
         pending(shown)

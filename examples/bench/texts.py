@@ -1,4 +1,4 @@
-"""What a text gives: its image and listing by the program, its faults at their lines, and which line made which slot."""
+"""What a text gives: its image, listing and verdict by the program, its faults at their lines, and which line made which slot."""
 import os
 import re
 import shutil
@@ -65,6 +65,20 @@ def listing_of(program, image):
         rows.append([slot, line])
         slot += 2 if line.startswith("lddw ") else 1
     return rows
+
+
+def verdict_of(program, image, options):
+    """What `ocp check` says of an image: the slots that may fault, each with why, and the other lines."""
+    words = [f"--{name}={options[name]}" for name in ("profile", "pool")]
+    output, _, status = run([program, "check", *words], image) if image else ("", "", 0)
+    slots, lines = {}, []
+    for line in output.splitlines() if status in (0, 1) else []:
+        found = re.match(r"slot (\d+)   .*   (may be \w+: .*)", line)
+        if found:
+            slots[int(found[1])] = found[2]
+        else:
+            lines.append(line)
+    return {"slots": slots, "lines": lines}
 
 
 def places_of_assembly(text, listing):
@@ -138,15 +152,16 @@ def fault_of(output, said, names):
     return [int(found[1]), f"{found[2]}{f' {found[3]}' if found[3] else ''}: {sentence(said) or why or ''}".rstrip(": ")]
 
 
-def assembled(program, language, text, profile, names):
+def assembled(program, language, text, options, names):
     if len(text.encode()) > OCTETS:
         raise Refused(f"the text has over {OCTETS:,} octets")
     if language == "c":
         image, listing, places, faults, said = built(program, text)
     else:
-        output, said, status = run([program, "asm", "--profile", str(profile)], text)
+        output, said, status = run([program, "asm", f"--profile={options['profile']}"], text)
         image = output.strip() if status == 0 else ""
         faults = [fault_of(output, said, names)] if status else []
         listing = listing_of(program, image) if image else []
         places = places_of_assembly(text, listing)
-    return {"image": image, "listing": listing, "places": places, "faults": faults, "said": said}
+    verdict = verdict_of(program, image, options)
+    return {"image": image, "listing": listing, "verdict": verdict, "places": places, "faults": faults, "said": said}

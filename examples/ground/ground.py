@@ -15,6 +15,7 @@ Status: 0 done, 1 a request failed or a bad packet came, 2 a command line that i
 import argparse
 import math
 import os
+import re
 import select
 import shlex
 import signal
@@ -53,6 +54,7 @@ KEPT = 10000
 # seconds that an engine has to take a telecommand, and to end when its input has ended
 PATIENCE = 3.0
 LONGEST_WAIT = 86400
+OCP = os.fspath(Path(__file__).resolve().parent.parent.parent / "ocp")
 
 
 class PacketFault(Exception):
@@ -516,6 +518,25 @@ def image_of(file):
         raise ValueError(f"{file}: not hexadecimal digits") from None
 
 
+def warnings_of(file, image, profile, program):
+    """What `ocp check` does not show of an image, a line each; ValueError if it can't be asked."""
+    words = [program, "check", f"--profile={profile}"]
+    try:
+        said = subprocess.run(words, input=image.hex(), capture_output=True, text=True, timeout=60, check=False)
+    except (OSError, subprocess.TimeoutExpired) as fault:
+        raise ValueError(f"{program} check: {getattr(fault, 'strerror', None) or 'it did not end'}") from None
+    if said.returncode not in (0, 1):
+        raise ValueError(f"{program} check: {said.stderr.strip() or f'status {said.returncode}'}")
+    return [f"{file}: {line}" for line in said.stdout.splitlines() if re.match("slot |round   not|error ", line)]
+
+
+def warn_of_loads(words, options):
+    """Says of each image that the commands load what is not shown of it."""
+    if options.check is not None and words[0] == "load" and len(words) == 3:
+        for line in warnings_of(words[2], image_of(words[2]), options.check, options.ocp):
+            say(line)
+
+
 def request_of(words):
     """The request that the words of one command stand for, or ValueError."""
     verb, rest = words[0], words[1:]
@@ -540,17 +561,20 @@ def request_of(words):
     return makers[verb, len(rest)]()
 
 
-def commands_of(words):
-    """The commands between the words `then`."""
+def commands_of(options):
+    """The commands between the words `then`. What they load is checked first, if the options say so."""
     found = [[]]
-    for word in words:
+    for word in options.words:
         if word == "then":
             found.append([])
         else:
             found[-1].append(word)
     if not all(found):
         raise ValueError("a command is empty")
-    return [("watch", seconds_of("watch", one[1:])) if one[0] == "watch" else (one[0], request_of(one)) for one in found]
+    commands = [("watch", seconds_of("watch", one[1:])) if one[0] == "watch" else (one[0], request_of(one)) for one in found]
+    for one in found:
+        warn_of_loads(one, options)
+    return commands
 
 
 def seconds_of(name, words):
@@ -659,6 +683,9 @@ def options_of(words):
     parser.add_argument("--seconds", type=float, default=10.0, help="how long a last report is waited for (default 10)")
     parser.add_argument("--retry", type=int, default=0, metavar="N", help="repeat an unanswered request up to N times (default 0)")
     parser.add_argument("--capture", metavar="FILE", help="also keep the packets in a file that Wireshark reads")
+    parser.add_argument("--check", type=int, choices=(1, 2), metavar="PROFILE",
+                        help="before anything is sent, say what `ocp check` does not show of each image that is loaded")
+    parser.add_argument("--ocp", default=OCP, metavar="PROGRAM", help="the program for --check (default: that of this repository)")
     parser.add_argument("words", nargs="+", metavar="COMMAND", help=", ".join(f"{k} {v}".strip() for k, v in FORMS.items()))
     options = parser.parse_args(words)
     if not (math.isfinite(options.seconds) and 0 < options.seconds <= LONGEST_WAIT and 0 <= options.retry <= 100):
@@ -696,7 +723,7 @@ def run(options, commands):
 def done(words):
     """Does what the words say; gives the status."""
     options = options_of(words)
-    commands = commands_of(options.words)
+    commands = commands_of(options)
     Request("", 8, b"").packet(options.count, options.flags, options.source, options.apid)
     if not options.print:
         return 0 if run(options, commands) else 1

@@ -1,4 +1,5 @@
-// A text field with the numbers of its lines, and marks inside of the text: a fault with its hint, and the line that is next.
+// A text field with the numbers of its lines, and marks inside of the text: a fault or what may be one, with its hint, and the
+// line that is next.
 import { heightSeen, make } from "./shared.js";
 
 const HEIGHT = 18, TAB = 8;
@@ -30,7 +31,7 @@ export function editor(area) {
     new ResizeObserver(paint).observe(area);
     return {
         paint,
-        // Marks are lines with a kind, fault or next, and a hint; `shows` brings the line into view.
+        // Marks are lines with a kind, fault, may or next, and a hint; `shows` brings the line into view.
         mark(found, shows = null) {
             marks = found;
             if (shows !== null && document.activeElement !== area) {

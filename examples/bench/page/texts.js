@@ -1,9 +1,15 @@
-// The texts of procedures, each with a tab: assembly or C, its faults at their lines, its image and its listing.
+// The texts of procedures, each with a tab: assembly or C, its faults at their lines, its image, its listing, and what its runs
+// never do.
 import { at, button, guarded, it, keep, keepInView, later, make, options, question, save, say } from "./shared.js";
 import { editor } from "./editor.js";
 
 const field = editor(at("text"));
-const listings = new Map();
+const listings = new Map(), verdicts = new Map();
+const NOT_CHECKED = { slots: {}, lines: [] };
+
+// What `ocp check` says of an image under the profile and with the pool of now, if it was asked.
+const verdictKey = (image, { profile, pool } = options()) => `${profile} ${pool} ${image}`;
+const verdictOf = image => verdicts.get(verdictKey(image)) || NOT_CHECKED;
 let asked = 0, listed = "";
 
 export const EXAMPLE = `; Puts three numbers into a table on the stack
@@ -55,17 +61,22 @@ function tabs() {
 
 function mark(next = null) {
     const faults = (shown().faults || []).map(([line, hint]) => ({ line: Math.max(1, line), kind: "fault", hint }));
-    field.mark([...next === null ? [] : [{ line: next, kind: "next", hint: "" }], ...faults], next);
+    const { image, places = {} } = shown();
+    const may = Object.entries(verdictOf(image).slots).filter(([slot]) => places[slot])
+        .map(([slot, hint]) => ({ line: places[slot], kind: "may", hint }));
+    field.mark([...may, ...next === null ? [] : [{ line: next, kind: "next", hint: "" }], ...faults], next);
 }
 
 export const readText = guarded(async () => {
     const mine = ++asked, text = shown();
     keep();
-    const found = await question("text", { text: text.text, language: text.language, options: options() });
+    const chosen = options();
+    const found = await question("text", { text: text.text, language: text.language, options: chosen });
     if (mine !== asked || text !== shown()) return;
     say("");
     Object.assign(text, { image: found.image, places: found.places, faults: found.faults });
     listings.set(found.image, found.listing);
+    verdicts.set(verdictKey(found.image, chosen), found.verdict);
     at("faults").textContent = [...found.faults.map(([line, fault]) => line ? `line ${line}: ${fault}` : fault),
         found.faults.length ? "" : found.said].join("\n").trim();
     tabs();
@@ -77,6 +88,8 @@ export const readText = guarded(async () => {
 function list(image, place = -1) {
     at("listed").textContent = place < 0 ? "of this text" : `of procedure ${it.chosen}`;
     const rows = listings.get(image) || [], marked = it.marks.get(it.chosen) || new Set(), places = placesOf(image);
+    const { slots, lines } = verdictOf(image);
+    at("verdict").textContent = [...Object.entries(slots).map(([slot, why]) => `slot ${slot}   ${why}`), ...lines].join("\n");
     if (listed !== image || at("listing").childElementCount !== rows.length) {
         listed = image;
         at("listing").replaceChildren(...rows.map(([slot, text]) => {
@@ -87,15 +100,20 @@ function list(image, place = -1) {
     }
     for (const row of at("listing").children) {
         const slot = Number(row.dataset.slot);
-        row.className = `${slot === place ? "here" : ""} ${marked.has(slot) ? "marked" : ""}`;
+        row.className = `${slot === place ? "here" : ""} ${marked.has(slot) ? "marked" : ""} ${slots[slot] ? "may" : ""}`;
+        row.title = slots[slot] || "";
         if (slot === place) keepInView(at("listing"), row);
     }
 }
 const placesOf = image => (it.texts.find(text => text.image === image) || {}).places || {};
 
-// Asks for the listing of an image, where it is not known.
+// Asks for the listing and the verdict of an image that is not known yet.
 export async function readListing(image) {
-    if (image && !listings.has(image)) listings.set(image, (await question("listing", { image })).listing);
+    const chosen = options(), key = verdictKey(image, chosen);
+    if (!image || verdicts.has(key)) return;
+    const { listing, verdict } = await question("listing", { image, options: chosen });
+    listings.set(image, listing);
+    verdicts.set(key, verdict);
 }
 
 // Shows the code of a procedure at its place: the listing, and the text that has this image.
