@@ -5,8 +5,8 @@ ghost use Rattle.std.specs.Prelude.{◌≡◌, ◌+◌, length};
 
 use crate::packets::{STATUS, with_loops};
 use ocp_slices::{
-    Board, Book, CommitOutcome, DebugFault, Engine, EngineFault, Entry, Gate, Input, Naming, Seat,
-    SeatFault, SharedEngine, Slice, StepOutcome, TakeFault, Ticket, Turn, Work,
+    Board, Book, CommitOutcome, DebugFault, Engine, EngineFault, Entry, Gate, Input, Naming,
+    PutFault, Seat, SeatFault, SharedEngine, Slice, StepOutcome, TakeFault, Ticket, Turn, Work,
 };
 use std::alloc::Global;
 use std::cell::Cell;
@@ -132,7 +132,11 @@ fn through<L: Naming, R: Wait>(rt: &R, alloc: Global, engine: Engine, blank: Bla
         return false;
     }
     let board = shared.into_inner();
-    board.calls == 18 && board.asked == 14 && board.book.engine().journal().len() == 12
+    let engine = board.book.engine();
+    board.calls == 20
+        && board.asked == 16
+        && engine.journal().len() == 13
+        && engine.pool_word(3) == Some(7)
 }
 
 // All calls, by a first seat.
@@ -148,6 +152,7 @@ fn is_answered<L: Naming, B: Board<L>, R: Wait>(
         && is_requested(rt, alloc, shared, &mut seat)
         && is_stepped(rt, shared, &mut seat)
         && is_debugged(rt, shared, &mut seat)
+        && is_put(rt, shared, &mut seat)
 }
 
 // A work of ten instructions.
@@ -210,6 +215,16 @@ fn is_debugged<L: Naming, B: Board<L>, R: Wait>(
         && shared.set_break(rt, seat, 1, 2) == full
         && shared.set_break(rt, seat, 1, 2) == Err(DebugFault::AlreadySet)
         && shared.clear_break(rt, seat, 1, 2).is_ok()
+}
+
+// The events 15 and 16, writes of a word: the first is refused as for a full journal.
+fn is_put<L: Naming, B: Board<L>, R: Wait>(
+    rt: &R,
+    shared: &SharedEngine<L, B>,
+    seat: &mut Seat<L>,
+) -> bool {
+    shared.put_word(rt, seat, 3, 6) == Err(PutFault::JournalFull)
+        && shared.put_word(rt, seat, 3, 7).is_ok()
 }
 
 // What a gate heard of a turn: a call before and one after it, of the same seat and procedure.

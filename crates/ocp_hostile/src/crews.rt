@@ -197,7 +197,7 @@ fn mixed<L: Naming + Send + Sync, R: Threads + Wait + Sync>(
     requires log { L.log ≡ engine }
 {
     let shared = SharedEngine::<L>::new(engine, blank);
-    let mut seats = sixteen(rt, alloc, &shared)?;
+    let mut seats = seats_of(rt, alloc, &shared, 16)?;
     thread::for_each_mut(
         rt,
         seats.as_mut_slice(),
@@ -207,14 +207,15 @@ fn mixed<L: Naming + Send + Sync, R: Threads + Wait + Sync>(
     shared.close(seats).ok()
 }
 
-// Sixteen seats.
-fn sixteen<L: Naming, R: Wait>(
+// So many seats.
+pub(crate) fn seats_of<L: Naming, R: Wait>(
     rt: &R,
     alloc: Global,
     shared: &SharedEngine<L>,
+    count: u16,
 ) -> Option<Vec<Seat<L>>> {
-    let mut seats = Vec::with_capacity(alloc, 16).ok()?;
-    for _seat in 0..16 {
+    let mut seats = Vec::with_capacity(alloc, usize::from(count)).ok()?;
+    for _seat in 0..count {
         seats.push(shared.seat(rt, alloc).ok()?).ok()?;
     }
     Some(seats)

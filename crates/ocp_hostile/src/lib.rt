@@ -16,3 +16,5 @@ pub mod heap;
 mod packets;
 #[cfg(test)]
 mod pairs;
+#[cfg(test)]
+mod words;
