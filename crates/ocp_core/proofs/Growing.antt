@@ -140,9 +140,17 @@ grows_sliced log new by id budget s low is left =
     (subst (λ x. Grows log (slice_log log by id budget) (slice_entries by id x)) (sym is)
     (grows_slice log by id budget low))
 
--- how many instructions it does at most
+-- how many instructions it does at least and at most
 
-slice_count_within : (w : World) (by id budget : ℕ) → slice_count w by id budget ≤ budget
+pub slice_count_some : (w : World) (by id budget : ℕ) → 1 ≤ budget → 1 ≤ slice_count w by id budget
+slice_count_some w by id zero low = absurd (omega (arith, low))
+slice_count_some w by id (suc budget) low =
+    elim (goes_on w by id) as (λ b. 1 ≤ cond b (suc (slice_count (after w (Step by id)).world by id budget)) 1) [
+      | true ↦ omega arith
+      | false ↦ omega arith
+    ]
+
+pub slice_count_within : (w : World) (by id budget : ℕ) → slice_count w by id budget ≤ budget
 slice_count_within w by id zero = omega arith
 slice_count_within w by id (suc budget) =
     let step : After = after w (Step by id) in
@@ -150,15 +158,6 @@ slice_count_within w by id (suc budget) =
       | true ↦ omega (arith, slice_count_within step.world by id budget)
       | false ↦ omega arith
     ]
-
-slice_by_within : (log : Log) (by id budget : ℕ) (taken full : Bool) → (slice_by log by id budget taken full).count ≤ budget
-slice_by_within log by id budget false full = omega arith
-slice_by_within log by id budget true true = omega arith
-slice_by_within log by id budget true false = slice_count_within (world_of log) by id budget
-
-pub slice_within : (log : Log) (by id budget : ℕ) (slice : Slice) → slice ≡ slice_in log by id budget → slice.count ≤ budget
-slice_within log by id budget slice is = subst (λ (s : Slice). s.count ≤ budget) (sym is)
-    (slice_by_within log by id budget (is_accepted (after (world_of log) (Step by id)).answer) (is_full log))
 
 -- ---- a commit
 

@@ -19,6 +19,7 @@ pub mod Committing
 pub mod Marking
 pub mod Growing
 pub mod Rounds
+pub mod Storing
 pub mod Replaying
 pub mod Requesting
 pub mod Draining

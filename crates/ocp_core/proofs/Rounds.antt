@@ -15,7 +15,7 @@ few_of : (b : Bool) (x budget : ℕ) → x ≤ budget → cond b 1 (suc x) ≤ s
 few_of true x budget few = omega arith
 few_of false x budget few = omega (arith, few)
 
-round_some : (w : World) (by id budget : ℕ) → 1 ≤ budget → 1 ≤ round_budget w by id budget
+pub round_some : (w : World) (by id budget : ℕ) → 1 ≤ budget → 1 ≤ round_budget w by id budget
 round_some w by id zero some = absurd (omega (arith, some))
 round_some w by id (suc budget) some = some_of (is_some (step_ended w id)) (round_budget (after w (Step by id)).world by id budget)
 

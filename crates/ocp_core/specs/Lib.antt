@@ -2,6 +2,7 @@ pub mod Log
 pub mod Marks
 pub mod Slice
 pub mod Round
+pub mod Stores
 pub mod Journal
 pub mod Receipts
 pub mod Running

@@ -76,11 +76,15 @@ full_answer (Debug by id command) = Commanded (Err debug.JournalFull)
 full_answer (Drain by time) = Requested (Err engine.JournalFull)
 full_answer (Put by index value) = Written (Err put.JournalFull)
 
--- an event that would be accepted is refused where the journal is full
+-- the answer in a world, by whether there is no room for a further entry
+abbrev pub answer_with : Bool → World → Event → Answer
+answer_with full w e =
+    let answer = (after w e).answer in
+    if is_accepted answer then (if full then full_answer e else answer) else answer
+
+-- an event that would be accepted is refused if the journal is full
 abbrev pub answer_in : Log → Event → Answer
-answer_in log e =
-    let answer = (after (world_of log) e).answer in
-    if is_accepted answer then (if is_full log then full_answer e else answer) else answer
+answer_in log e = answer_with (is_full log) (world_of log) e
 
 -- an accepted event leaves one entry, and a refused one none
 abbrev pub log_after : Log → Event → Log

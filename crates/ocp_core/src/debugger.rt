@@ -1,11 +1,11 @@
 //! The debugger's calls of the engine.
 
-ghost use Rattle.std.specs.Prelude.{◌≡◌, ◌<◌, Err};
+ghost use Rattle.std.specs.Prelude.{◌≡◌, ◌<◌};
 ghost use Rattle.ocp_debug.specs.Memory.{Reads};
 ghost use Rattle.ocp_debug.specs.Appending.{Appends};
 ghost use Rattle.ocp_core.specs.Clauses.{Commanded, Debug, answer_in, flat_map, get, last_traces, log_after, trace_line, world_of};
 
-use crate::{Command, DebugFault, Engine, Entry};
+use crate::{Command, DebugFault, Engine, calls};
 use std::alloc::{AllocError, Allocator};
 
 impl<A: Allocator> Engine<A> {
@@ -15,15 +15,7 @@ impl<A: Allocator> Engine<A> {
         ensures answer { Commanded result ≡ answer_in self.old (Debug by id command) }
         ensures journal { self.new ≡ log_after self.old (Debug by id command) }
     {
-        if let Some(fault) = self.state.fault_of(id, command) {
-            return Err(fault);
-        }
-        if self.journal.is_full() {
-            return Err(DebugFault::JournalFull);
-        }
-        let result = self.state.command(id, command);
-        self.journal.push(Entry::of_command(by, id, command));
-        result
+        calls::command(&mut self.journal, &mut self.state, by, id, command)
     }
 
     /// Sets a breakpoint at the slot of an instruction. Refused, in this order, where the procedure

@@ -3,17 +3,16 @@
 ghost use Rattle.std.specs.Prelude.{◌≡◌, ◌↔◌, ◌≤◌, ◌<◌, ◌-◌, ◌^◌, ℕ, false, Err, None, IfOk, IfSome, OnOk, OnErr, length, slice_get};
 ghost use Rattle.ocp_world.specs.World as world;
 ghost use Rattle.ocp_table.specs.Slices.{slice_of};
-ghost use Rattle.ocp_table.specs.declared.answers.Extent.TheVariants as extents;
-ghost use Rattle.ocp_core.specs.Clauses.{MAX_APID, MAX_POOL_WORDS, MAX_CAPACITY, Answers, Enters, Grows, IsNextRunning, Log, Runs, Stepped, TakesRecordIn, answer_in, empty_log, entries_in, entry_with_mark, event_entries, expand, get, is_accepted, log_after, marked_drain, marked_request, reports_in, Put, Written, most_events, round_in, round_log, slice_entries, slice_in, slice_log, step_at, view_at, world_of};
+ghost use Rattle.ocp_core.specs.Clauses.{MAX_APID, MAX_POOL_WORDS, MAX_CAPACITY, Answers, Enters, Grows, IsNextRunning, Log, Runs, Stepped, TakesRecordIn, answer_in, empty_log, entries_in, entry_with_mark, event_entries, expand, get, is_accepted, log_after, marked_drain, marked_request, reports_in, Put, Written, round_in, round_log, slice_entries, slice_in, slice_log, view_at, world_of};
 ghost use Rattle.ocp_core.specs.Mirror.Codes.{log_code};
 ghost use Rattle.ocp_world.specs.Mirror.State.{IsWorld};
 
 use crate::{
-    EngineFault, Entry, Input, Journal, Octets, PutFault, Reports, Round, Slice, StepOutcome,
+    EngineFault, Entry, Input, Journal, Octets, PutFault, Reports, Round, Slice, StepOutcome, calls,
 };
 use ocp_profile::Profile;
 use ocp_table::View;
-use ocp_world::{Extent, Heap, State, discard_of};
+use ocp_world::{Heap, State, discard_of};
 use pus_fields::read_tc;
 use space_packet::Apid;
 use std::alloc::{AllocError, Allocator, Global};
@@ -194,44 +193,7 @@ impl<A: Allocator> Engine<A> {
         ensures answer { Stepped result ≡ answer_in self.old (world.Step by id) }
         ensures journal { self.new ≡ log_after self.old (world.Step by id) }
     {
-        self.slice(by, id, 1).last
-    }
-
-    // Does instructions of one procedure as far as a slice or a round goes.
-    #[inline(always)]
-    fn instructions(&mut self, by: u16, id: u16, budget: u32, extent: Extent) -> Round
-        requires { 1 ≤ budget }
-        ensures slice { slice_of result ≡
-            slice_in self.old by id (most_events extent (world_of self.old) by id budget) }
-        ensures step { extent ≡ extents.Round →
-            result.step ≡ step_at (world_of self.old) by id result.count }
-        ensures journal { self.new ≡
-            slice_log self.old by id (most_events extent (world_of self.old) by id budget) }
-        ensures gain { Grows self.old self.new (slice_entries by id (slice_of result)) }
-        ensures within { result.count ≤ budget }
-    {
-        if let Some(last) = self.state.refusal(id) {
-            return Round {
-                count: 0,
-                last,
-                step: None,
-            };
-        }
-        if self.journal.is_full() {
-            return Round {
-                count: 0,
-                last: StepOutcome::JournalFull,
-                step: None,
-            };
-        }
-        let round = self.state.instructions(id, budget, extent);
-        self.journal.push(Entry::Steps {
-            by,
-            id,
-            count: round.count,
-            mark: round.last,
-        });
-        round
+        calls::step(&mut self.journal, &mut self.state, by, id)
     }
 
     /// Does instructions of one procedure, at least one, until the budget is used, the procedure no
@@ -244,8 +206,7 @@ impl<A: Allocator> Engine<A> {
         ensures journal { self.new ≡ slice_log self.old by id budget }
         ensures gain { Grows self.old self.new (slice_entries by id result) }
     {
-        let Round { count, last, .. } = self.instructions(by, id, budget, Extent::Slice);
-        Slice { count, last }
+        calls::slice(&mut self.journal, &mut self.state, by, id, budget)
     }
 
     /// Does instructions of one procedure as `slice` does, which also end with the first that ends
@@ -258,7 +219,7 @@ impl<A: Allocator> Engine<A> {
         ensures journal { self.new ≡ round_log self.old by id budget }
         ensures gain { Grows self.old self.new (slice_entries by id (slice_of result)) }
     {
-        self.instructions(by, id, budget, Extent::Round)
+        calls::round(&mut self.journal, &mut self.state, by, id, budget)
     }
 
     /// Writes the pool word at an index from outside: nothing else changes, and no memory is taken.
@@ -269,15 +230,7 @@ impl<A: Allocator> Engine<A> {
         ensures journal { self.new ≡ log_after self.old (Put by index value) }
         ensures word { OnOk result (index < MAX_POOL_WORDS) }
     {
-        let Some(index) = self.state.word_index(index) else {
-            return Err(PutFault::BadPoolIndex);
-        };
-        if self.journal.is_full() {
-            return Err(PutFault::JournalFull);
-        }
-        self.state.put_word(index, value);
-        self.journal.push(Entry::PutWord { by, index, value });
-        Ok(())
+        calls::put_word(&mut self.journal, &mut self.state, by, index, value)
     }
 
     /// The procedure whose turn is next: the least running one above the one before, or where there

@@ -95,6 +95,36 @@ pub enum Entry<A: Allocator = Global> {
     },
 }
 
+/// An entry as it is handed to a store: its octets are borrowed, and it has no mark.
+#[derive(Clone, Copy)]
+pub enum Note<'a> {
+    Request {
+        by: u16,
+        time: u32,
+        octets: &'a [u8],
+    },
+    Steps {
+        by: u16,
+        id: u16,
+        count: u32,
+    },
+    /// A debugger's command to a procedure.
+    Command {
+        by: u16,
+        id: u16,
+        command: Command,
+    },
+    Drain {
+        by: u16,
+        time: u32,
+    },
+    PutWord {
+        by: u16,
+        index: u16,
+        value: u64,
+    },
+}
+
 impl<A: Allocator> Entry<A> {
     ghost use Rattle.std.specs.Prelude.{◌≡◌, ◌↔◌, ◌<◌, ◌^◌, IsTrue, Ok, length};
     ghost use Rattle.ocp_core.specs.Clauses.{Commanded, Debugged, by_of, command_of, entry_of, entry_with_mark, events_of, mark_of};

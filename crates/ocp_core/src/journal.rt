@@ -6,7 +6,7 @@ ghost use Rattle.ocp_core.specs.Mirror.Codes.{log_code};
 ghost use Rattle.ocp_core.specs.Mirror.Kept.{log_of, IsKept};
 ghost use Rattle.ocp_core.specs.Mirror.Counted.{AreCounted};
 
-use crate::Entry;
+use crate::{Command, Entry, Note, StepOutcome, Store};
 use ocp_profile::Profile;
 use space_packet::Apid;
 use std::alloc::{AllocError, Allocator, Global};
@@ -136,5 +136,50 @@ impl<A: Allocator> Journal<A> {
     {
         self.events += entry.events();
         self.entries.push_reserved(entry);
+    }
+}
+
+impl<A: Allocator> Store for Journal<A> {
+    ghost use Rattle.ocp_core.specs.Log as logs;
+    ghost use Rattle.std.specs.Prelude.{refl};
+
+    ghost log = { λ log. log };
+
+    ghost is_full = { λ log e. is_full log };
+
+    ghost with_entry = { λ log e. logs.with_entry log e };
+
+    ghost logs_entry = { λ log e. refl };
+
+    ghost fills_alike = { λ log by id count other. refl };
+
+    fn apid(&self) -> Apid {
+        Journal::apid(self)
+    }
+
+    fn events(&self) -> u64 {
+        Journal::events(self)
+    }
+
+    fn is_full(&self, _note: &Note<'_>) -> bool {
+        Journal::is_full(self)
+    }
+
+    fn push_steps(&mut self, by: u16, id: u16, count: u32, last: StepOutcome) {
+        let mark = last;
+        self.push(Entry::Steps {
+            by,
+            id,
+            count,
+            mark,
+        });
+    }
+
+    fn push_command(&mut self, by: u16, id: u16, command: Command) {
+        self.push(Entry::of_command(by, id, command));
+    }
+
+    fn push_word(&mut self, by: u16, index: u16, value: u64) {
+        self.push(Entry::PutWord { by, index, value });
     }
 }

@@ -4,6 +4,7 @@
 #![tactic(auto)]
 
 mod answers;
+pub mod calls;
 mod commit;
 mod debugger;
 mod engine;
@@ -13,14 +14,16 @@ mod journal;
 pub mod laws;
 mod replay;
 mod run;
+mod store;
 mod ticket;
 
 pub use answers::{Answer, CommitOutcome, RunFault, RunRefusal};
 pub use engine::Engine;
-pub use event::{Entry, Event};
+pub use event::{Entry, Event, Note};
 pub use input::Input;
 pub use journal::Journal;
 pub use ocp_reports::{Octets, Reports};
 pub use ocp_world::{Command, DebugFault, EngineFault, Heap, PutFault, Round, Slice, StepOutcome};
 pub use replay::replay_one;
+pub use store::Store;
 pub use ticket::{Ticket, Work};

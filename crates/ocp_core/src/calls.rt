@@ -1,0 +1,169 @@
+//! The calls of an engine, over whatever keeps its entries. Each takes the store of the entries and
+//! the state that they make.
+
+ghost use Rattle.std.specs.Prelude.{◌≡◌, ◌≤◌, ◌<◌, OnOk};
+ghost use Rattle.ocp_table.specs.Slices.{slice_of};
+ghost use Rattle.ocp_table.specs.declared.answers.Extent.TheVariants as extents;
+ghost use Rattle.ocp_world.specs.World as world;
+ghost use Rattle.ocp_world.specs.Mirror.State.{IsWorld};
+ghost use Rattle.ocp_core.specs.Clauses.{MAX_POOL_WORDS, Commanded, Debug, Put, Stepped, Written, answer_at, most_events, round_at, round_store, slice_at, slice_store, step_at, event_store, world_of};
+
+use crate::{Command, DebugFault, Note, PutFault, Round, Slice, StepOutcome, Store};
+use ocp_world::{Extent, State};
+use std::alloc::Allocator;
+
+// Does instructions of one procedure as far as a slice or a round goes.
+#[inline(always)]
+fn instructions<S: Store, A: Allocator>(
+    store: &mut S,
+    state: &mut State<A>,
+    by: u16,
+    id: u16,
+    budget: u32,
+    extent: Extent,
+) -> Round
+    requires some { 1 ≤ budget }
+    requires stands { IsWorld (world_of (S.log store.old)) state.old }
+    ensures slice { slice_of result ≡ slice_at S.log S.is_full store.old by id
+        (most_events extent (world_of (S.log store.old)) by id budget) }
+    ensures step { extent ≡ extents.Round →
+        result.step ≡ step_at (world_of (S.log store.old)) by id result.count }
+    ensures store { store.new ≡ slice_store S.log S.is_full S.with_entry store.old by id
+        (most_events extent (world_of (S.log store.old)) by id budget) }
+    ensures world { IsWorld (world_of (S.log store.new)) state.new }
+    ensures within { result.count ≤ budget }
+{
+    if let Some(last) = state.refusal(id) {
+        return Round {
+            count: 0,
+            last,
+            step: None,
+        };
+    }
+    if store.is_full(&Note::Steps { by, id, count: 1 }) {
+        return Round {
+            count: 0,
+            last: StepOutcome::JournalFull,
+            step: None,
+        };
+    }
+    let round = state.instructions(id, budget, extent);
+    store.push_steps(by, id, round.count, round.last);
+    round
+}
+
+/// Does one instruction of a running procedure. Refused, in this order, if the procedure is not
+/// loaded, if it is not running, and if there is no room for an entry; then nothing is changed.
+pub fn step<S: Store, A: Allocator>(
+    store: &mut S,
+    state: &mut State<A>,
+    by: u16,
+    id: u16,
+) -> StepOutcome
+    requires stands { IsWorld (world_of (S.log store.old)) state.old }
+    ensures answer { Stepped result ≡
+        answer_at S.log S.is_full store.old (world.Step by id) }
+    ensures store { store.new ≡
+        event_store S.log S.is_full S.with_entry store.old (world.Step by id) }
+    ensures world { IsWorld (world_of (S.log store.new)) state.new }
+{
+    slice(store, state, by, id, 1).last
+}
+
+/// Does instructions of one procedure, at least one, until the budget is used, the procedure no
+/// longer runs, or an instruction is refused, ends it or faults. They are one entry, or none if
+/// none was done.
+pub fn slice<S: Store, A: Allocator>(
+    store: &mut S,
+    state: &mut State<A>,
+    by: u16,
+    id: u16,
+    budget: u32,
+) -> Slice
+    requires some { 1 ≤ budget }
+    requires stands { IsWorld (world_of (S.log store.old)) state.old }
+    ensures within { result.count ≤ budget }
+    ensures slice { result ≡ slice_at S.log S.is_full store.old by id budget }
+    ensures store { store.new ≡
+        slice_store S.log S.is_full S.with_entry store.old by id budget }
+    ensures world { IsWorld (world_of (S.log store.new)) state.new }
+{
+    let Round { count, last, .. } = instructions(store, state, by, id, budget, Extent::Slice);
+    Slice { count, last }
+}
+
+/// Does instructions of one procedure as `slice` does, which also end with the first that ends a
+/// step. The round answers the number of that step, if one ended.
+pub fn round<S: Store, A: Allocator>(
+    store: &mut S,
+    state: &mut State<A>,
+    by: u16,
+    id: u16,
+    budget: u32,
+) -> Round
+    requires some { 1 ≤ budget }
+    requires stands { IsWorld (world_of (S.log store.old)) state.old }
+    ensures within { result.count ≤ budget }
+    ensures round { result ≡ round_at S.log S.is_full store.old by id budget }
+    ensures store { store.new ≡
+        round_store S.log S.is_full S.with_entry store.old by id budget }
+    ensures world { IsWorld (world_of (S.log store.new)) state.new }
+{
+    instructions(store, state, by, id, budget, Extent::Round)
+}
+
+/// Does a debugger's command, which a seat hands in. Refused as the command is, and then if there
+/// is no room for its entry; then nothing is changed.
+pub fn command<S: Store, A: Allocator>(
+    store: &mut S,
+    state: &mut State<A>,
+    by: u16,
+    id: u16,
+    command: Command,
+) -> Result<(), DebugFault>
+    requires stands { IsWorld (world_of (S.log store.old)) state.old }
+    ensures answer { Commanded result ≡
+        answer_at S.log S.is_full store.old (Debug by id command) }
+    ensures store { store.new ≡
+        event_store S.log S.is_full S.with_entry store.old (Debug by id command) }
+    ensures world { IsWorld (world_of (S.log store.new)) state.new }
+{
+    if let Some(fault) = state.fault_of(id, command) {
+        return Err(fault);
+    }
+    if store.is_full(&Note::Command { by, id, command }) {
+        return Err(DebugFault::JournalFull);
+    }
+    let result = state.command(id, command);
+    store.push_command(by, id, command);
+    result
+}
+
+/// Writes the pool word at an index from outside: nothing else changes, and no memory is taken.
+/// Refused, in this order, if the pool has no such word, and if there is no room for its entry;
+/// then nothing is changed.
+pub fn put_word<S: Store, A: Allocator>(
+    store: &mut S,
+    state: &mut State<A>,
+    by: u16,
+    index: u64,
+    value: u64,
+) -> Result<(), PutFault>
+    requires stands { IsWorld (world_of (S.log store.old)) state.old }
+    ensures answer { Written result ≡
+        answer_at S.log S.is_full store.old (Put by index value) }
+    ensures store { store.new ≡
+        event_store S.log S.is_full S.with_entry store.old (Put by index value) }
+    ensures world { IsWorld (world_of (S.log store.new)) state.new }
+    ensures word { OnOk result (index < MAX_POOL_WORDS) }
+{
+    let Some(index) = state.word_index(index) else {
+        return Err(PutFault::BadPoolIndex);
+    };
+    if store.is_full(&Note::PutWord { by, index, value }) {
+        return Err(PutFault::JournalFull);
+    }
+    state.put_word(index, value);
+    store.push_word(by, index, value);
+    Ok(())
+}
