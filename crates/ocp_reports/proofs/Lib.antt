@@ -1,1 +1,3 @@
 pub mod Packets
+pub mod Pieces
+pub mod Rooms

@@ -6,9 +6,6 @@ use Rattle.std.proofs.lemmas.List.{take_more, append-nil}
 use Rattle.std.proofs.lemmas.Grind.{flat_map-append}
 use Rattle.std.proofs.Math.Nat.{mod-add-mod}
 use Rattle.byteorder.specs.Endian.{big_bytes}
-use Rattle.std.specs.Prelude.{Option}
-use Rattle.std.specs.Option.{option_map_or}
-use Rattle.obcp_types.specs.declared.pending.Due.{Due}
 use Rattle.obcp_types.specs.declared.status.StatusRow.{StatusRow}
 use Rattle.obcp_messages.specs.declared.report.StartFault.{StartFault}
 use Rattle.obcp_messages.specs.declared.report.StartFault.TheVariants.{BadCode, Plain}
@@ -16,10 +13,6 @@ use Rattle.obcp_messages.specs.declared.report.Report.{Report}
 use Rattle.obcp_messages.specs.declared.report.Report.TheVariants.{Accepted, NotAccepted, Started, NotStarted, Completed, NotCompleted, Status}
 use Rattle.obcp_messages.specs.Report.{report_data, fault_data, row_data, IsReport}
 use Rattle.pus_fields.specs.Telemetry.{telemetry_octets}
-use Rattle.verification.specs.declared.notice.Notice.{Notice}
-use Rattle.verification.specs.Reports.{completion}
-use Rattle.ocp_reports.specs.Due.{origin_of_due, due_dispatches}
-use Rattle.ocp_reports.specs.Reports.{dispatch_of_notice}
 use Rattle.ocp_reports.specs.Origin.{Dispatch}
 use Rattle.ocp_reports.specs.Packets.{packets, telemetry_of}
 
@@ -48,13 +41,6 @@ module _ (apid : ℕ) where
       ∙ ap (λ k. packets apid n before ++ packets apid (n + k) more) (length-packets n before)
       ∙ sym (packets-append n before more)
       ∙ ap (packets apid n) (sym (ap (flat_map f) (take_more list i d within) ∙ flat_map-append f (take i list) (get_or list i d ∷ []) ∙ ap (λ xs. before ++ xs) (append-nil more)))
-
-  -- and those of one more completion, whose notice was found
-  pub complete_more : (time n : ℕ) (list : List Due) (i : ℕ) (d : Due) (old new : List (List ℕ)) (found : Option Notice) → i < length list → old ≡ packets apid n (flat_map (due_dispatches time) (take i list)) → found ≡ completion (get_or list i d).origin.ack (get_or list i d).failure → new ≡ old ++ packets apid (n + length old) (option_map_or (dispatch_of_notice (origin_of_due time (get_or list i d)) []) found []) → new ≡ packets apid n (flat_map (due_dispatches time) (take (i + 1) list))
-  complete_more time n list i d old new found within so_far is sent =
-      let origin = origin_of_due time (get_or list i d) in
-      packets_more (due_dispatches time) n list i d old new within so_far
-      (sent ∙ ap (λ f. old ++ packets apid (n + length old) (option_map_or (dispatch_of_notice origin []) f [])) is)
 
 -- counts are added modulo 16,384
 pub counts : (count packets : ℕ) → (count + packets % 16384) % 16384 ≡ (count + packets) % 16384

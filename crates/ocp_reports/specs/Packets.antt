@@ -1,5 +1,6 @@
 -- The packets of reports, one after another.
 use Rattle.std.specs.Prelude.{ℕ, ◌+◌, ◌%◌, List, [], ◌∷◌, IsOk}
+use Rattle.std.specs.List.{flat_map}
 use Rattle.space_packet.specs.declared.range.TheConstants.{SEQUENCE_COUNTS}
 use Rattle.pus_fields.specs.Telemetry.{Telemetry, telemetry_octets}
 use Rattle.pus_fields.specs.TelemetryFaults as reading
@@ -27,3 +28,7 @@ packets apid count (dispatch ∷ dispatches) =
 -- the octets are a packet that is read as telemetry
 abbrev pub IsTelemetryPacket : List ℕ → Type 0
 IsTelemetryPacket octets = IsOk (reading.telemetry_of octets)
+
+-- the octets of all packets, in their order
+abbrev pub together : List (List ℕ) → List ℕ
+together packets = flat_map (λ (packet : List ℕ). packet) packets

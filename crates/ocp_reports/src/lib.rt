@@ -2,10 +2,12 @@
 //! they are.
 #![tactic(auto)]
 
+mod buffer;
 mod octets;
 mod origin;
 mod sender;
 
+pub use buffer::{MAX_PACKET_OCTETS, MAX_PACKETS, PacketBuffer, PacketList};
 pub use octets::{Octets, Reports, SharedReports};
 pub use origin::Origin;
 pub use sender::{Sender, count_after};

@@ -4,6 +4,7 @@ ghost use Rattle.std.specs.Prelude.{◌≡◌, ◌↔◌, ℕ, List, [], ◌∷�
 ghost use Rattle.std.specs.Arc.{arc_value};
 ghost use Rattle.ocp_reports.specs.Packets.{IsTelemetryPacket};
 
+use crate::PacketList;
 use std::alloc::{AllocError, Allocator, Global};
 use std::marker::Model;
 use std::sync::Arc;
@@ -56,13 +57,13 @@ impl<A: Allocator> Octets<A> {
     }
 }
 
-/// Packets of reports, each of which is read as telemetry.
+/// Packets of reports that are kept, each of which is read as telemetry.
 #[derive(Drop)]
-pub(crate) struct Packets<A: Allocator> {
+struct KeptPackets<A: Allocator> {
     list: Vec<Octets<A>, A>,
 }
 
-impl<A: Allocator> Model for Packets<A> {
+impl<A: Allocator> Model for KeptPackets<A> {
     ghost Value = { List (List ℕ) };
 
     ghost view = { λ p. p.list.items };
@@ -70,27 +71,35 @@ impl<A: Allocator> Model for Packets<A> {
     ghost invariant = { λ p. All IsTelemetryPacket p.list.items };
 }
 
-impl<A: Allocator> Packets<A> {
-    pub fn new(alloc: A) -> Self
-        ensures { result ≡ [] }
+impl<A: Allocator> KeptPackets<A> {
+    /// A copy of packets that are lent.
+    fn copy_of(alloc: A, packets: PacketList<'_>) -> Result<Self, AllocError>
+    where
+        A: Copy,
+        ensures { IfOk result (λ copy. copy ≡ packets.entry) }
     {
-        Packets {
+        let mut packets = packets;
+        let mut copy = KeptPackets {
             list: Vec::new(alloc),
+        };
+        while let Some(packet) = packets.next() {
+            copy.push(alloc, packet)?;
         }
+        Ok(copy)
     }
 
-    /// Adds the packet of these octets. Where there is no memory, nothing changes.
-    pub fn push(&mut self, alloc: A, octets: Vec<u8, A>) -> Result<(), AllocError>
-        requires { IsTelemetryPacket octets.items }
-        ensures ok { OnOk result (self.new ≡ self.old ++ octets.items ∷ []) }
-        ensures err { OnErr result (self.new ≡ self.old) }
+    // Adds a copy of a packet.
+    fn push(&mut self, alloc: A, packet: &[u8]) -> Result<(), AllocError>
+    where
+        A: Copy,
+        requires { IsTelemetryPacket packet.now }
+        ensures { OnOk result (self.new ≡ self.old ++ packet.now ∷ []) }
     {
-        let octets = Arc::new(alloc, octets)?;
-        self.list.push(Octets { octets })?;
+        self.list.push(Octets::copy_of(alloc, packet)?)?;
         Ok(())
     }
 
-    pub fn as_slice(&self) -> &[Octets<A>]
+    fn as_slice(&self) -> &[Octets<A>]
         ensures value { result.now ≡ self.now }
         ensures telemetry { All IsTelemetryPacket self.now }
     {
@@ -101,7 +110,7 @@ impl<A: Allocator> Packets<A> {
 /// The reports of one request, each a whole telemetry packet, in the order in which they are sent.
 /// All handles of the same reports share one memory.
 pub struct Reports<A: Allocator = Global> {
-    packets: Arc<Packets<A>, A>,
+    packets: Arc<KeptPackets<A>, A>,
 }
 
 /// One call wherever reports end, in place of a drop of their parts there.
@@ -173,10 +182,13 @@ impl<A: Allocator> Model for SharedReports<A> {
 }
 
 impl<A: Allocator> SharedReports<A> {
-    pub(crate) fn of(alloc: A, packets: Packets<A>) -> Result<Self, AllocError>
-        ensures { IfOk result (λ shared. shared ≡ packets) }
+    /// The reports that these packets are.
+    pub fn of(alloc: A, packets: PacketList<'_>) -> Result<Self, AllocError>
+    where
+        A: Copy,
+        ensures { IfOk result (λ shared. shared ≡ packets.entry) }
     {
-        let packets = Arc::new(alloc, packets)?;
+        let packets = Arc::new(alloc, KeptPackets::copy_of(alloc, packets)?)?;
         let journal = Arc::try_clone(&packets)?;
         let receipt = Arc::try_clone(&packets)?;
         Ok(SharedReports {

@@ -1,19 +1,20 @@
 //! The reports of a request as telemetry packets.
 
-ghost use Rattle.std.specs.Prelude.{◌≡◌, ◌+◌, ◌%◌, ◌++◌, ◌∷◌, [], length, IfOk, OnOk};
+ghost use Rattle.std.specs.Prelude.{◌≡◌, ◌≤◌, ◌+◌, ◌%◌, ◌++◌, ◌∷◌, [], length};
 ghost use Rattle.std.specs.Option.{option_to_list};
+ghost use Rattle.obcp_messages.specs.Report.{IsReport, report_data};
 ghost use Rattle.ocp_reports.specs.Origin.{dispatch_of};
 ghost use Rattle.ocp_reports.specs.Reports.{dispatch_of_notice, reports_of};
-ghost use Rattle.ocp_reports.specs.Due.{drain_dispatches};
+ghost use Rattle.ocp_reports.specs.Due.{due_dispatches, drain_dispatches};
 ghost use Rattle.ocp_reports.specs.Packets.{packets};
+ghost use Rattle.ocp_reports.specs.Room.{GrowsWithin, HasRoomAfter, most_octets};
 
-use crate::octets::Packets;
-use crate::{Origin, SharedReports};
+use crate::{MAX_PACKETS, Origin, PacketBuffer};
 use obcp_messages::{Report, StartFault, report_fields};
 use obcp_types::Due;
-use pus_fields::{Tm, WriteFault, telemetry_octets_are_read_back, write_tm};
+use pus_fields::Tm;
 use space_packet::{Apid, SEQUENCE_COUNTS, SequenceCount};
-use std::alloc::{AllocError, Allocator};
+use std::alloc::Allocator;
 use verification::{Notice, Outcome, completion, notices};
 
 /// The application process that sends reports, and the sequence count of its next one.
@@ -37,112 +38,111 @@ pub fn count_after(count: SequenceCount, packets: usize) -> SequenceCount
 
 impl Sender {
     // Adds the packet of a report.
-    fn add<A: Allocator + Copy>(
-        &self,
-        alloc: A,
-        origin: Origin,
-        report: &Report,
-        reports: &mut Packets<A>,
-    ) -> Result<(), AllocError>
-        ensures { let count = self.now.count + length reports.old in
-            OnOk result (reports.new ≡
-            reports.old ++ packets self.now.apid count (dispatch_of origin report.now ∷ [])) }
+    fn add<A: Allocator>(&self, origin: Origin, report: &Report, out: &mut PacketBuffer<A>)
+        requires { IsReport report.now →
+            HasRoomAfter out.old (19 + length (report_data report.now)) }
+        ensures packets { let count = self.now.count + length out.old in
+            out.new ≡ out.old ++
+            packets self.now.apid count (dispatch_of origin report.now ∷ []) }
+        ensures within { GrowsWithin out.old out.new (19 + length (report_data report.now)) }
+        ensures short { length (report_data report.now) ≤ 49 }
     {
-        telemetry_octets_are_read_back();
         let data = report_fields(report);
         let telemetry = Tm::new(
             self.apid,
-            count_after(self.count, reports.as_slice().len()),
+            count_after(self.count, out.len()),
             report.service(),
             report.subtype(),
             origin.destination,
             origin.time,
             data.as_slice(),
         );
-        let mut octets = Vec::new(alloc);
-        match write_tm(&telemetry, &mut octets) {
-            Ok(()) => reports.push(alloc, octets),
-            Err(WriteFault::Memory) => Err(AllocError),
-            Err(WriteFault::TooLong) => unreachable!(),
-        }
+        out.push(&telemetry);
     }
 
     // Adds the packet of a notice, if it has one.
-    fn send<A: Allocator + Copy>(
+    fn send<A: Allocator>(
         &self,
-        alloc: A,
         origin: Origin,
         notice: Notice,
         answer: &Option<Report>,
-        reports: &mut Packets<A>,
-    ) -> Result<(), AllocError>
-        ensures { let count = self.now.count + length reports.old in
+        out: &mut PacketBuffer<A>,
+    )
+        requires { HasRoomAfter out.old (most_octets notice) }
+        ensures packets { let count = self.now.count + length out.old in
             let more = dispatch_of_notice origin (option_to_list answer.now) notice in
-            OnOk result (reports.new ≡ reports.old ++ packets self.now.apid count more) }
+            out.new ≡ out.old ++ packets self.now.apid count more }
+        ensures within { GrowsWithin out.old out.new (most_octets notice) }
     {
         let request = origin.request;
-        let report = match notice {
-            Notice::Accepted => Report::Accepted { request },
-            Notice::NotAccepted(failure) => Report::NotAccepted {
-                request,
-                code: failure.code(),
-            },
-            Notice::Started => Report::Started { request },
-            Notice::NotStarted(failure) => Report::NotStarted {
-                request,
-                fault: StartFault::from(failure),
-            },
-            Notice::Answer => match answer {
-                Some(report) => return self.add(alloc, origin, report, reports),
-                None => return Ok(()),
-            },
-            Notice::Completed => Report::Completed { request },
-            Notice::NotCompleted(failure) => Report::NotCompleted {
-                request,
-                code: failure.code(),
-            },
-        };
-        self.add(alloc, origin, &report, reports)
+        match notice {
+            Notice::Accepted => self.add(origin, &Report::Accepted { request }, out),
+            Notice::NotAccepted(failure) => {
+                let code = failure.code();
+                self.add(origin, &Report::NotAccepted { request, code }, out);
+            }
+            Notice::Started => self.add(origin, &Report::Started { request }, out),
+            Notice::NotStarted(failure) => {
+                let fault = StartFault::from(failure);
+                self.add(origin, &Report::NotStarted { request, fault }, out);
+            }
+            Notice::Answer => {
+                if let Some(report) = answer {
+                    self.add(origin, report, out);
+                }
+            }
+            Notice::Completed => self.add(origin, &Report::Completed { request }, out),
+            Notice::NotCompleted(failure) => {
+                let code = failure.code();
+                self.add(origin, &Report::NotCompleted { request, code }, out);
+            }
+        }
     }
 
-    /// The packets of the reports of a request.
-    pub fn shared_reports<A: Allocator + Copy>(
+    /// Writes the packets of the reports of a request, in place of what is in the buffer: at most
+    /// four, of at most 68 octets each.
+    pub fn write_reports<A: Allocator>(
         &self,
-        alloc: A,
         origin: Origin,
         outcome: Outcome,
         answer: &Option<Report>,
-    ) -> Result<SharedReports<A>, AllocError>
+        out: &mut PacketBuffer<A>,
+    )
         ensures { let all = reports_of origin outcome (option_to_list answer.now) in
-            IfOk result (λ r. r ≡ packets self.now.apid self.now.count all) }
+            out.new ≡ packets self.now.apid self.now.count all }
     {
-        let mut reports = Packets::new(alloc);
+        out.clear();
         let list = notices(origin.ack, &outcome);
         let all = list.as_slice();
         for notice in all {
-            self.send(alloc, origin, *notice, answer, &mut reports)?;
+            self.send(origin, *notice, answer, out);
         }
-        SharedReports::of(alloc, reports)
     }
 
-    /// The packets of the reports of completions that waited, the first one first, sent at this
-    /// time to the sources of their requests.
-    pub fn drained_reports<A: Allocator + Copy>(
-        &self,
-        alloc: A,
-        time: u32,
-        due: &[Due],
-    ) -> Result<SharedReports<A>, AllocError>
-        ensures { IfOk result
-            (λ r. r ≡ packets self.now.apid self.now.count (drain_dispatches time due.now)) }
+    // Adds the packet of a completion that waited, sent at this time to the source of its request,
+    // if it has one.
+    fn send_due<A: Allocator>(&self, time: u32, due: &Due, out: &mut PacketBuffer<A>)
+        requires { HasRoomAfter out.old 25 }
+        ensures packets { let count = self.now.count + length out.old in
+            out.new ≡ out.old ++ packets self.now.apid count (due_dispatches time due.now) }
+        ensures within { GrowsWithin out.old out.new 25 }
     {
-        let mut reports = Packets::new(alloc);
-        for one in due {
-            if let Some(notice) = completion(one.origin.ack, one.failure) {
-                let origin = Origin::of_due(one, time);
-                self.send(alloc, origin, notice, &None, &mut reports)?;
-            }
+        if let Some(notice) = completion(due.origin.ack, due.failure) {
+            self.send(Origin::of_due(due, time), notice, &None, out);
         }
-        SharedReports::of(alloc, reports)
+    }
+
+    /// Writes the packets of the reports of at most 64 completions that waited, the first one
+    /// first, in place of what is in the buffer: at most 25 octets each. They are sent at this time
+    /// to the sources of their requests.
+    pub fn write_drained<A: Allocator>(&self, time: u32, due: &[Due], out: &mut PacketBuffer<A>)
+        requires { length due.now ≤ MAX_PACKETS }
+        ensures { out.new ≡
+            packets self.now.apid self.now.count (drain_dispatches time due.now) }
+    {
+        out.clear();
+        for one in due {
+            self.send_due(time, one, out);
+        }
     }
 }
