@@ -17,7 +17,7 @@ pub use Rattle.ocp_world.specs.After.{after, effect_of, Requested, Stepped, Comm
 pub use Rattle.ocp_world.specs.After.{is_accepted}
 pub use Rattle.ocp_world.specs.Mirror.Answering.{discard_of, IsDiscard, IsUndue, IsRefusal}
 pub use Rattle.ocp_world.specs.Mirror.Answering.{IsDebugFault, IsPutAt}
-pub use Rattle.ocp_world.specs.Mirror.State.{IsWorld, DoesIn, Does}
+pub use Rattle.ocp_world.specs.Mirror.State.{IsWorld, DoesIn, Does, with_packets}
 pub use Rattle.ocp_world.specs.Replay.{replay_from, answers}
 pub use Rattle.ocp_world.specs.Laws.{may_change_machine, IsAppended}
 pub use Rattle.ocp_world.specs.Slice.{is_running, next_outcome, is_on, slice_count, slice_last}

@@ -1,13 +1,14 @@
 //! The drain: the completions that wait are reported.
 
-ghost use Rattle.std.specs.Prelude.{ℕ};
-ghost use Rattle.ocp_world.specs.Clauses.{DoesIn, Drain, IsUndue, IsWorld, World, after, effect_of};
+ghost use Rattle.std.specs.Prelude.{◌≡◌, ℕ, true, Err, IfOk};
+ghost use Rattle.ocp_world.specs.Clauses.{DoesIn, Drain, IsUndue, IsWorld, World, after, effect_of, with_packets};
+ghost use Rattle.ocp_world.specs.declared.answers.EngineFault.TheVariants as engine;
 
-use crate::{EngineFault, State};
-use ocp_reports::{SharedReports, count_after};
+use crate::{EngineFault, Keeps, State};
+use ocp_reports::{PacketBuffer, count_after};
 use std::alloc::Allocator;
 
-impl<A: Allocator + Copy> State<A> {
+impl<A: Allocator> State<A> {
     /// Whether a completion waits to be reported: else a drain is refused.
     pub fn is_due(&self) -> bool
         ensures { (w : World) (by time : ℕ) → IsWorld w self.now →
@@ -16,21 +17,28 @@ impl<A: Allocator + Copy> State<A> {
         !self.table.outbox().is_empty()
     }
 
-    /// Sends the reports of all completions that wait, the oldest first, at this time, each to the
-    /// source of its request: then none waits any more. It fails where none waits, and for memory,
-    /// and then changes nothing.
-    pub fn drain(&mut self, alloc: A, time: u32) -> Result<SharedReports<A>, EngineFault>
-        ensures { (w : World) (by : ℕ) → IsWorld w self.old →
-            DoesIn w (effect_of w (Drain by time)) result self.new }
+    /// Writes the reports of all completions that wait, the oldest first, at this time, each to the
+    /// source of its request: then none waits any more. The keeper keeps them before anything is
+    /// changed. It fails if none waits, and if the keeper finds no memory, and then changes nothing.
+    pub fn drain<K: Keeps>(
+        &mut self,
+        keeper: &mut K,
+        time: u32,
+        packets: &mut PacketBuffer<A>,
+    ) -> Result<K::Kept, EngineFault>
+        ensures does { (w : World) (by : ℕ) → IsWorld w self.old →
+            DoesIn w (effect_of w (Drain by time)) (with_packets result packets.new) self.new }
+        ensures kept { IfOk result (λ kept. K.holds kept packets.new) }
+        ensures memory { result ≡ Err engine.Memory → K.refused keeper.new ≡ true }
     {
         if !self.is_due() {
             return Err(EngineFault::NothingDue);
         }
-        let reports = self
-            .sender
-            .drained_reports(alloc, time, self.table.outbox())?;
+        self.sender
+            .write_drained(time, self.table.outbox(), packets);
+        let kept = keeper.keep(packets.packets())?;
         self.table.drain();
-        self.sender.count = count_after(self.sender.count, reports.len());
-        Ok(reports)
+        self.sender.count = count_after(self.sender.count, packets.len());
+        Ok(kept)
     }
 }

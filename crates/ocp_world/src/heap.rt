@@ -1,7 +1,9 @@
 //! Where an event takes the memory of octets and reports.
 
-ghost use Rattle.std.specs.Prelude.{◌≡◌, Bool, true, false, OnOk, OnErr};
+ghost use Rattle.std.specs.Prelude.{◌≡◌, Bool, true, false, IfOk, OnOk, OnErr};
 
+use crate::Keeps;
+use ocp_reports::{PacketList, SharedReports};
 use std::alloc::{AllocError, Allocator};
 use std::marker::Model;
 
@@ -46,5 +48,19 @@ impl<A: Allocator> Heap<A> {
     {
         self.refused |= made.is_err();
         made
+    }
+}
+
+/// Keeps a copy of the reports, with a handle for each of those who have them.
+impl<A: Allocator + Copy> Keeps for Heap<A> {
+    type Kept = SharedReports<A>;
+
+    ghost holds = { λ kept packets. kept ≡ packets };
+
+    ghost refused = { λ h. h };
+
+    fn keep(&mut self, packets: PacketList<'_>) -> Result<SharedReports<A>, AllocError> {
+        let made = SharedReports::of(self.alloc, packets);
+        self.note(made)
     }
 }

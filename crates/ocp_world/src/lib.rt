@@ -5,6 +5,7 @@
 mod answers;
 mod drain;
 mod heap;
+mod keeping;
 pub mod laws;
 mod settle;
 mod slice;
@@ -13,6 +14,7 @@ mod turns;
 
 pub use answers::{EngineFault, PutFault, discard_of};
 pub use heap::Heap;
+pub use keeping::{Keeps, Nothing};
 pub use ocp_debug::{Command, DebugFault};
 pub use ocp_table::{Extent, Round, Slice, StepOutcome};
 pub use settle::instructions_done_alone_are_events;

@@ -1,17 +1,17 @@
 //! What the engine keeps of its world.
 
 ghost use Rattle.std.specs.Prelude.{◌≡◌, ◌≤◌, ◌<◌, ℕ, List, true, false, None, Ok, Err, IfOk, IfSome, length};
-ghost use Rattle.ocp_world.specs.Clauses.{Commanded, Debug, Does, DoesIn, Failed, FindsPlace, HasFewArguments, IsDebugFault, IsLoadInto, IsPutAt, IsRefusal, IsWorld, Kept, Put, Request as Asked, Sends, Step, Stepped, TakesRecord, Unasked, World, after, command_effect, directive_effect, directive_of, effect_of, has_no_place, opening, option_to_list, reports_of, step_ended, telecommand_of};
+ghost use Rattle.ocp_world.specs.Clauses.{Commanded, Debug, Does, DoesIn, Failed, FindsPlace, HasFewArguments, IsDebugFault, IsLoadInto, IsPutAt, IsRefusal, IsWorld, Kept, Put, Request as Asked, Sends, Step, Stepped, TakesRecord, Unasked, World, after, command_effect, directive_effect, directive_of, effect_of, has_no_place, opening, option_to_list, reports_of, step_ended, telecommand_of, with_packets};
 ghost use Rattle.ocp_table.specs.RequestTable as directive;
 ghost use Rattle.ocp_world.specs.declared.answers.EngineFault.TheVariants as engine;
 
-use crate::{EngineFault, Heap};
+use crate::{EngineFault, Keeps};
 use obcp_messages::{Report, Request, StatusRows, read_request};
 use obcp_types::{AcceptanceFailure, PendingOrigin};
 use ocp_debug::{Command, DebugFault, TraceRing};
 use ocp_pool::{MAX_POOL_WORDS, Pool};
 use ocp_profile::Profile;
-use ocp_reports::{Origin, Sender, SharedReports, count_after};
+use ocp_reports::{Origin, PacketBuffer, Sender, count_after};
 use ocp_table::{Change, Decision, Directive, InstructionAnswer, LoadFailure, StepOutcome, Table};
 use pus_fields::{Tc, TcFault};
 use space_packet::{Apid, SequenceCount};
@@ -108,71 +108,49 @@ impl<A: Allocator + Copy> State<A> {
             ring: TraceRing::new(alloc)?,
         })
     }
+}
 
-    // Sends the reports of a request that changes no procedure.
-    fn reply(
+impl<A: Allocator> State<A> {
+    // Writes the reports of a request that changes no procedure, and lets the keeper keep them.
+    fn reply<K: Keeps>(
         &mut self,
-        heap: &mut Heap<A>,
+        keeper: &mut K,
         origin: Origin,
         outcome: Outcome,
         answer: &Option<Report>,
-    ) -> Result<SharedReports<A>, EngineFault>
-        ensures does { Does self.old self.new result (λ w. record {
+        packets: &mut PacketBuffer<A>,
+    ) -> Result<K::Kept, EngineFault>
+        ensures does { Does self.old self.new (with_packets result packets.new) (λ w. record {
           on_records = Kept Unasked;
           reply = Sends (reports_of origin outcome (option_to_list answer.now));
         }) }
+        ensures kept { IfOk result (λ kept. K.holds kept packets.new) }
         ensures table { self.new.table ≡ self.old.table }
         ensures pool { self.new.pool ≡ self.old.pool }
         ensures ring { self.new.ring ≡ self.old.ring }
-        ensures memory { result ≡ Err engine.Memory → heap.new ≡ true }
+        ensures memory { result ≡ Err engine.Memory → K.refused keeper.new ≡ true }
     {
-        let made = self
-            .sender
-            .shared_reports(heap.alloc(), origin, outcome, answer);
-        let reports = heap.note(made)?;
-        self.sender.count = count_after(self.sender.count, reports.len());
-        Ok(reports)
-    }
-
-    // Loads a procedure.
-    fn load(
-        &mut self,
-        heap: &mut Heap<A>,
-        origin: Origin,
-        id: u16,
-        code: &[u8],
-    ) -> Result<SharedReports<A>, EngineFault>
-        ensures does { Does self.old self.new result
-            (λ w. directive_effect origin (directive.Load w.profile code.now) id w.records) }
-        ensures memory { result ≡ Err engine.Memory → heap.new ≡ false →
-            FindsPlace self.old.table.records id code.now }
-    {
-        match self.table.check_load(heap.alloc(), id, code) {
-            Ok(loading) => {
-                let reports = self.reply(heap, origin, Outcome::Done, &None)?;
-                self.table.insert(loading);
-                Ok(reports)
-            }
-            Err(LoadFailure::Failed(failure)) => {
-                self.reply(heap, origin, Outcome::NotStarted(failure), &None)
-            }
-            Err(LoadFailure::Memory) => Err(EngineFault::Memory),
-        }
+        self.sender.write_reports(origin, outcome, answer, packets);
+        let kept = keeper.keep(packets.packets())?;
+        self.sender.count = count_after(self.sender.count, packets.len());
+        Ok(kept)
     }
 
     // Does what a request asks of a loaded procedure.
-    fn direct(
+    fn direct<K: Keeps>(
         &mut self,
-        heap: &mut Heap<A>,
+        keeper: &mut K,
         origin: Origin,
         id: u16,
         directive: Directive<'_>,
-    ) -> Result<SharedReports<A>, EngineFault>
+        packets: &mut PacketBuffer<A>,
+    ) -> Result<K::Kept, EngineFault>
         requires { HasFewArguments (directive_of directive false) }
-        ensures does { Does self.old self.new result
+        ensures does { Does self.old self.new (with_packets result packets.new)
             (λ w. directive_effect origin (directive_of directive.entry (has_no_place w)) id
             w.records) }
-        ensures memory { result ≡ Err engine.Memory → heap.new ≡ true }
+        ensures kept { IfOk result (λ kept. K.holds kept packets.new) }
+        ensures memory { result ≡ Err engine.Memory → K.refused keeper.new ≡ true }
     {
         match self.table.decide(id, directive) {
             Ok(decided) => {
@@ -186,25 +164,62 @@ impl<A: Allocator + Copy> State<A> {
                         | Change::Resumed,
                     ) => Outcome::Done,
                 };
-                let reports = self.reply(heap, origin, outcome, &None)?;
+                let kept = self.reply(keeper, origin, outcome, &None, packets)?;
                 self.table.enact(id, decided);
-                Ok(reports)
+                Ok(kept)
             }
-            Err(failure) => self.reply(heap, origin, Outcome::NotStarted(failure), &None),
+            Err(failure) => {
+                self.reply(keeper, origin, Outcome::NotStarted(failure), &None, packets)
+            }
+        }
+    }
+}
+
+impl<A: Allocator + Copy> State<A> {
+    // Loads a procedure.
+    fn load<K: Keeps>(
+        &mut self,
+        alloc: A,
+        keeper: &mut K,
+        origin: Origin,
+        id: u16,
+        code: &[u8],
+        packets: &mut PacketBuffer<A>,
+    ) -> Result<K::Kept, EngineFault>
+        ensures does { Does self.old self.new (with_packets result packets.new)
+            (λ w. directive_effect origin (directive.Load w.profile code.now) id w.records) }
+        ensures kept { IfOk result (λ kept. K.holds kept packets.new) }
+        ensures memory { result ≡ Err engine.Memory → K.refused keeper.new ≡ false →
+            FindsPlace self.old.table.records id code.now }
+    {
+        match self.table.check_load(alloc, id, code) {
+            Ok(loading) => {
+                let kept = self.reply(keeper, origin, Outcome::Done, &None, packets)?;
+                self.table.insert(loading);
+                Ok(kept)
+            }
+            Err(LoadFailure::Failed(failure)) => {
+                self.reply(keeper, origin, Outcome::NotStarted(failure), &None, packets)
+            }
+            Err(LoadFailure::Memory) => Err(EngineFault::Memory),
         }
     }
 
     // Serves a request, with the number of its event.
-    fn serve(
+    fn serve<K: Keeps>(
         &mut self,
-        heap: &mut Heap<A>,
+        alloc: A,
+        keeper: &mut K,
         event: u64,
         origin: Origin,
         request: Request<'_>,
-    ) -> Result<SharedReports<A>, EngineFault>
+        packets: &mut PacketBuffer<A>,
+    ) -> Result<K::Kept, EngineFault>
         ensures does { (w : World) → IsWorld w self.old → event ≡ w.events →
-            DoesIn w (command_effect request.entry origin w) result self.new }
-        ensures memory { result ≡ Err engine.Memory → heap.new ≡ false →
+            DoesIn w (command_effect request.entry origin w) (with_packets result packets.new)
+            self.new }
+        ensures kept { IfOk result (λ kept. K.holds kept packets.new) }
+        ensures memory { result ≡ Err engine.Memory → K.refused keeper.new ≡ false →
             IsLoadInto self.old.table.records request.entry }
     {
         let packet = origin.request;
@@ -215,52 +230,65 @@ impl<A: Allocator + Copy> State<A> {
             ack: origin.ack,
         };
         match request {
-            Request::Load { id, code } => self.load(heap, origin, id, code.octets()),
-            Request::Unload { id } => self.direct(heap, origin, id, Directive::Unload),
+            Request::Load { id, code } => {
+                self.load(alloc, keeper, origin, id, code.octets(), packets)
+            }
+            Request::Unload { id } => {
+                self.direct(keeper, origin, id, Directive::Unload, packets)
+            }
             Request::Activate {
                 id,
                 budget,
                 arguments,
             } => {
                 let arguments = arguments.octets();
-                self.direct(heap, origin, id, Directive::Activate { budget, arguments })
+                let directive = Directive::Activate { budget, arguments };
+                self.direct(keeper, origin, id, directive, packets)
             }
             Request::Stop { id, step } => {
-                self.direct(heap, origin, id, Directive::Stop(step, from))
+                self.direct(keeper, origin, id, Directive::Stop(step, from), packets)
             }
             Request::Suspend { id, step } => {
-                self.direct(heap, origin, id, Directive::Suspend(step, from))
+                self.direct(keeper, origin, id, Directive::Suspend(step, from), packets)
             }
-            Request::Resume { id } => self.direct(heap, origin, id, Directive::Resume),
+            Request::Resume { id } => {
+                self.direct(keeper, origin, id, Directive::Resume, packets)
+            }
             Request::Communicate { id, words } => {
-                self.direct(heap, origin, id, Directive::Communicate(words.as_slice()))
+                let directive = Directive::Communicate(words.as_slice());
+                self.direct(keeper, origin, id, directive, packets)
             }
             Request::Status => {
                 let Some(rows) = StatusRows::new(self.table.statuses()) else {
                     unreachable!()
                 };
-                self.reply(heap, origin, Outcome::Done, &Some(Report::Status { rows }))
+                let report = Some(Report::Status { rows });
+                self.reply(keeper, origin, Outcome::Done, &report, packets)
             }
-            Request::Abort { id } => self.direct(heap, origin, id, Directive::Abort),
+            Request::Abort { id } => { self.direct(keeper, origin, id, Directive::Abort, packets) }
         }
     }
 
-    /// Does what a telecommand asks for, as it was read at this time, and sends its reports. The
-    /// event has this number: so many were accepted before it. Where its reports found memory,
-    /// Memory is answered only for a load under an id that is free, in a table with room, of 1 to
-    /// 2,048 whole slots.
+    /// Does what a telecommand asks for, as it was read at this time, and writes its reports. The
+    /// event has this number: so many were accepted before it. The keeper keeps the reports before
+    /// anything is changed. If it finds memory, Memory is answered only for a load under an id that
+    /// is free, in a table with room, of 1 to 2,048 whole slots: a load alone asks the allocator.
     #[tactic(auto, unfolding(crate::specs::Requests::command_of))]
-    pub fn receive(
+    pub fn receive<K: Keeps>(
         &mut self,
-        heap: &mut Heap<A>,
+        alloc: A,
+        keeper: &mut K,
         event: u64,
         time: u32,
         read: Result<Tc<'_>, TcFault>,
-    ) -> Result<SharedReports<A>, EngineFault>
+        packets: &mut PacketBuffer<A>,
+    ) -> Result<K::Kept, EngineFault>
         ensures does { (w : World) (by : ℕ) (octets : List ℕ) →
             IsWorld w self.old → event ≡ w.events → read.entry ≡ telecommand_of w.apid octets →
-            DoesIn w (effect_of w (Asked by time octets)) result self.new }
-        ensures memory { result ≡ Err engine.Memory → heap.new ≡ false →
+            DoesIn w (effect_of w (Asked by time octets)) (with_packets result packets.new)
+            self.new }
+        ensures kept { IfOk result (λ kept. K.holds kept packets.new) }
+        ensures memory { result ≡ Err engine.Memory → K.refused keeper.new ≡ false →
             TakesRecord self.old.table.profile self.old.table.records read.entry }
     {
         match read {
@@ -272,17 +300,17 @@ impl<A: Allocator + Copy> State<A> {
                     time,
                 };
                 match read_request(self.table.profile(), &telecommand) {
-                    Ok(request) => self.serve(heap, event, origin, request),
+                    Ok(request) => self.serve(alloc, keeper, event, origin, request, packets),
                     Err(fault) => {
                         let outcome = Outcome::Refused(AcceptanceFailure::Request(fault));
-                        self.reply(heap, origin, outcome, &None)
+                        self.reply(keeper, origin, outcome, &None, packets)
                     }
                 }
             }
             Err(TcFault::Rejected(rejection, request)) => {
                 let origin = Origin::of_packet(request, time);
                 let outcome = Outcome::Refused(AcceptanceFailure::Packet(rejection));
-                self.reply(heap, origin, outcome, &None)
+                self.reply(keeper, origin, outcome, &None, packets)
             }
             Err(TcFault::Discarded(cause)) => Err(EngineFault::Discarded(cause)),
         }

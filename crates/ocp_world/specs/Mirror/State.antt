@@ -35,3 +35,9 @@ module _ {A : Type 0} where
       → (World → Effect) → Type 0
   Does old new result decide =
       (w : World) → IsWorld w old → DoesIn w (decide w) result new
+
+-- the result, with the packets that were written in place of what the caller keeps of them
+abbrev pub with_packets : {K : Type 0} → Result K EngineFault → List (List ℕ)
+    → Result (List (List ℕ)) EngineFault
+with_packets (Ok kept) packets = Ok packets
+with_packets (Err fault) packets = Err fault

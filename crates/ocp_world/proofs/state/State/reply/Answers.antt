@@ -1,4 +1,4 @@
-use Rattle.std.proofs.Common.{◌≡◌, ◌+◌, length, Ok, IfOk, sym, ap, subst, ◌∙◌}
+use Rattle.std.proofs.Common.{◌≡◌, ◌+◌, length, Ok, ap, ◌∙◌}
 use Rattle.std.specs.Prelude.{◌%◌}
 use Rattle.std.specs.Option.{option_to_list}
 use Rattle.ocp_reports.specs.Reports.{reports_of}
@@ -9,10 +9,11 @@ use Rattle.ocp_world.proofs.state.State.reply.Goals as goal
 
 pub returns-clause-does : goal.returns-clause-does
 returns-clause-does g c w stands =
+    let sender = c.args.self.now.sender in
+    let written = c.write_reports.new.out in
     let dispatches = reports_of c.args.origin c.args.outcome (option_to_list c.args.answer.now) in
-    let are : c.in_ok-reports.reports ≡ packets c.args.self.now.sender.apid c.args.self.now.sender.count dispatches =
-    subst (λ made. IfOk made (λ r. r ≡ packets c.args.self.now.sender.apid c.args.self.now.sender.count dispatches)) (sym c.in_ok-reports.ensures.same) c.shared_reports-made.ensures in
-    let count : c.count_after-self.result ≡ (c.args.self.now.sender.count + length c.in_ok-reports.reports) % 16384 = c.count_after-self.ensures ∙ ap (λ n. (c.args.self.now.sender.count + n) % 16384) c.len.ensures in (
-      ap (λ reports. Requested (Ok reports)) (sent_reports w c.args.self.now dispatches c.in_ok-reports.reports stands are),
-      IsWorld-sent w c.args.self.now dispatches c.in_ok-reports.reports stands are c.count_after-self.result count,
+    let are : written ≡ packets sender.apid sender.count dispatches = c.write_reports.ensures in
+    let count : c.count_after-self.result ≡ (sender.count + length written) % 16384 = c.count_after-self.ensures ∙ ap (λ n. (sender.count + n) % 16384) c.len.ensures in (
+      ap (λ reports. Requested (Ok reports)) (sent_reports w c.args.self.now dispatches written stands are),
+      IsWorld-sent w c.args.self.now dispatches written stands are c.count_after-self.result count,
     )
