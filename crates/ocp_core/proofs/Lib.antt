@@ -22,4 +22,3 @@ pub mod Rounds
 pub mod Storing
 pub mod Replaying
 pub mod Requesting
-pub mod Draining

@@ -8,7 +8,7 @@ use Rattle.ocp_world.specs.After.{Requested, after, effect_of, is_accepted}
 use Rattle.ocp_world.specs.declared.answers.EngineFault.{EngineFault}
 use Rattle.ocp_world.specs.declared.answers.EngineFault.TheVariants as engine
 use Rattle.ocp_world.specs.declared.state.State.{State}
-use Rattle.ocp_world.specs.Mirror.State.{IsWorld, DoesIn}
+use Rattle.ocp_world.specs.Mirror.State.{IsWorld, DoesIn, with_packets}
 use Rattle.ocp_world.specs.Replay.{replay_from, replay}
 use Rattle.ocp_core.specs.Log.{Log, Entry, events_of, expand, world_of}
 use Rattle.ocp_core.specs.Mirror.Admitted.{HasMemory}
@@ -68,6 +68,14 @@ module _ {A : Type 0} (keeps : (w : World) (e : Event) → is_accepted (after w 
   stands_after (Err (engine.Discarded cause)) has does = refused_stands (engine.Discarded cause) does.0 does.1
   stands_after (Err engine.JournalFull) has does = refused_stands engine.JournalFull does.0 does.1
   stands_after (Err engine.NothingDue) has does = refused_stands engine.NothingDue does.0 does.1
+
+-- memory is found whatever is kept of the packets
+pub memory_found : {X : Type 0} (r : Result X EngineFault) (packets : List (List ℕ)) → HasMemory r → HasMemory (with_packets r packets)
+memory_found (Ok kept) packets has = tt
+memory_found (Err engine.Memory) packets has = has
+memory_found (Err (engine.Discarded cause)) packets has = tt
+memory_found (Err engine.JournalFull) packets has = tt
+memory_found (Err engine.NothingDue) packets has = tt
 
 -- what holds of a result where it is one, follows so
 pub where_ok : {X E : Type 0} {P Q : Type 0} → (r : Result X E) → (P → Q) → OnOk r P → OnOk r Q

@@ -20,7 +20,7 @@ use Rattle.ocp_core.specs.declared.answers.RunRefusal.TheVariants as run
 use Rattle.ocp_world.specs.Answers.{Answers}
 use Rattle.ocp_core.specs.Running.{log_after_all, finds_full, HasRoom, TakesMemory, IsRefusedBy, IsDone, Applies, reply_of, StopsAt}
 use Rattle.ocp_core.proofs.Replays.{world_of-with_entry, replay_from-append, answers-append}
-use Rattle.ocp_core.proofs.Journaling.{refused_log}
+use Rattle.ocp_core.proofs.Storing.{refused_store}
 
 true_false : true ≡ false → ⊥
 true_false e = cc
@@ -154,7 +154,7 @@ module _ (keeps : (w : World) (e : Event) → is_accepted (after w e).answer ≡
   refused_done : (fault : EngineFault) → is_full_answer (Requested (Err fault)) ≡ false → Requested (Err fault) ≡ answer_in log e → new ≡ log → IsDone log new e (Requested (Err fault))
   refused_done fault roomy told same =
       let done = done_event log e (Requested (Err fault)) told roomy in
-      let stays : new ≡ log_after log e = same ∙ refused_log log log refl e (sym (ap is_accepted done.0)) in
+      let stays : new ≡ log_after log e = same ∙ refused_store (λ l. l) (λ l x. is_full l) with_entry log e (sym (ap is_accepted done.0)) in
       record { answer = done.0; world = world_done keeps log e new stays done.1; journal = stays; room = done.1 }
 
   pub replied_so : (A : Type 0) → full_answer e ≢ (after (world_of log) e).answer → full_answer e ≡ Requested (Err engine.JournalFull) → (is_accepted (answer_in log e) ≡ true → TakesMemory log e) → (r : Result (List (List ℕ)) EngineFault) → Answers r (answer_in log e) → OnOk r (new ≡ log_after log e) → OnErr r (new ≡ log) → Applies {A = A} log new e (reply_of r)

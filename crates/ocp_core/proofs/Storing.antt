@@ -1,16 +1,20 @@
 -- An event's answer and what a store has after it, by whether the event is accepted and the store is full.
-use Rattle.std.proofs.Common.{◌≡◌, ℕ, zero, suc, true, false, cond, Bool, refl, sym, ap, ◌∙◌}
-use Rattle.std.specs.Prelude.{Some, Err}
+use Rattle.std.proofs.Common.{◌≡◌, ℕ, zero, suc, true, false, cond, Bool, refl, sym, ap, subst, ◌∙◌}
+use Rattle.std.specs.Prelude.{List, Some, Result, Err}
+use Rattle.pus_fields.specs.declared.fault.Discard.{Discard}
 use Rattle.ocp_table.specs.declared.answers.StepOutcome.{StepOutcome}
 use Rattle.ocp_table.specs.declared.answers.StepOutcome.TheVariants as S
 use Rattle.ocp_table.specs.declared.answers.Slice.{Slice}
 use Rattle.ocp_debug.specs.declared.command.DebugFault.{DebugFault}
 use Rattle.ocp_world.specs.declared.state.State.{State}
 use Rattle.ocp_world.specs.World.{World, Event, Step}
-use Rattle.ocp_world.specs.After.{Answer, Stepped, Commanded, after, is_accepted}
+use Rattle.ocp_world.specs.declared.answers.EngineFault.{EngineFault}
+use Rattle.ocp_world.specs.declared.answers.EngineFault.TheVariants as engine
+use Rattle.ocp_world.specs.Answers.{Answers}
+use Rattle.ocp_world.specs.After.{Answer, Requested, Stepped, Commanded, after, is_accepted}
 use Rattle.ocp_world.specs.Replay.{replay_from}
 use Rattle.ocp_world.specs.Slice.{goes_on, next_outcome, slice_count, slice_last}
-use Rattle.ocp_world.specs.Mirror.Answering.{IsDebugFault}
+use Rattle.ocp_world.specs.Mirror.Answering.{IsDebugFault, IsDiscard, IsUndue}
 use Rattle.ocp_world.specs.Mirror.State.{IsWorld}
 use Rattle.ocp_core.specs.Log.{Log, Entry, Steps, entry_for, events_of, full_answer, answer_with, with_entry, world_of}
 use Rattle.ocp_core.specs.Slice.{slice_with}
@@ -80,6 +84,21 @@ module _ (full : Bool) (w : World) (e : Event) where
   -- a debugger's command that is refused
   pub fault_at : (fault : DebugFault) → IsDebugFault answer (Some fault) → Commanded (Err fault) ≡ answer_with full w e
   fault_at fault is = refused_at (Commanded (Err fault)) (ap is_accepted is) (sym is)
+
+  -- a request or a drain that is accepted, and finds room
+  pub accepted_at : is_accepted answer ≡ true → full ≡ false → is_accepted (answer_with full w e) ≡ true
+  accepted_at taken room = ap is_accepted (sym (done_at answer taken room refl)) ∙ taken
+
+  pub answers_at : (r : Result (List (List ℕ)) EngineFault) → is_accepted answer ≡ true → full ≡ false → Answers r answer → Answers r (answer_with full w e)
+  answers_at r taken room is = subst (Answers r) (done_at answer taken room refl) is
+
+  -- a request that is discarded
+  pub discarded_at : (cause : Discard) → IsDiscard answer (Some cause) → Answers (Err (engine.Discarded cause)) (answer_with full w e)
+  discarded_at cause is = sym (refused_at (Requested (Err (engine.Discarded cause))) (ap is_accepted is) (sym is))
+
+  -- a drain of nothing
+  pub undue_at : IsUndue answer false → Answers (Err engine.NothingDue) (answer_with full w e)
+  undue_at is = sym (refused_at (Requested (Err engine.NothingDue)) (ap is_accepted is) (sym is))
 
 -- ---- the answer of a slice
 

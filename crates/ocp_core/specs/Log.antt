@@ -55,9 +55,11 @@ empty_log profile apid words capacity = record {
 unfoldable pub world_of : Log → World
 world_of log = replay log.profile log.apid log.words (expand log.entries)
 
+-- there is no room for a further entry
 abbrev pub is_full : Log → Bool
 is_full log = length log.entries == log.capacity
 
+-- with one more entry
 abbrev pub with_entry : Log → Entry → Log
 with_entry log entry = record log { entries = log.entries ++ entry ∷ [] }
 

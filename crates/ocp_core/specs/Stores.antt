@@ -1,13 +1,14 @@
 -- What an event does to an engine, whatever keeps its entries: a store is seen as any value, with
 -- the log of all its entries, whether there is no room for an entry, and the store with one more.
-use Rattle.std.specs.Prelude.{ℕ, Bool, if◌then◌else◌}
+use Rattle.std.specs.Prelude.{◌≡◌, ℕ, Bool, if◌then◌else◌, List, Ok}
 use Rattle.ocp_table.specs.declared.answers.Slice.{Slice}
 use Rattle.ocp_table.specs.declared.answers.Round.{Round}
-use Rattle.ocp_world.specs.World.{Event, Step}
-use Rattle.ocp_world.specs.After.{Answer, after, is_accepted}
+use Rattle.ocp_world.specs.World.{World, Event, Step}
+use Rattle.ocp_world.specs.After.{Answer, Requested, after, is_accepted}
 use Rattle.ocp_world.specs.Slice.{slice_count}
 use Rattle.ocp_world.specs.Round.{round_budget}
 use Rattle.ocp_core.specs.Log.{Log, Entry, Steps, world_of, entry_for, answer_with}
+use Rattle.ocp_core.specs.Marks.{mark_in}
 use Rattle.ocp_core.specs.Slice.{slice_with}
 use Rattle.ocp_core.specs.Round.{round_of}
 
@@ -48,3 +49,8 @@ abbrev pub round_store : {S : Type 0} → (S → Log) → (S → Entry → Bool)
     → S → ℕ → ℕ → ℕ → S
 round_store log is_full with_entry s by id budget =
     slice_store log is_full with_entry s by id (round_budget (world_of (log s)) by id budget)
+
+-- what was kept of reports stands for those that the entry's event is answered
+abbrev pub IsAnswered : {K : Type 0} → (K → List (List ℕ) → Type 0) → K → World → Entry → Type 0
+IsAnswered holds kept w entry =
+    (reports : List (List ℕ)) × holds kept reports × (Requested (Ok reports) ≡ mark_in w entry)

@@ -1,15 +1,22 @@
 //! The calls of an engine, over whatever keeps its entries. Each takes the store of the entries and
 //! the state that they make.
 
-ghost use Rattle.std.specs.Prelude.{◌≡◌, ◌≤◌, ◌<◌, OnOk};
+ghost use Rattle.std.specs.Prelude.{◌≡◌, ◌≤◌, ◌<◌, true, false, Err, IfOk, OnOk, OnErr};
 ghost use Rattle.ocp_table.specs.Slices.{slice_of};
 ghost use Rattle.ocp_table.specs.declared.answers.Extent.TheVariants as extents;
 ghost use Rattle.ocp_world.specs.World as world;
-ghost use Rattle.ocp_world.specs.Mirror.State.{IsWorld};
-ghost use Rattle.ocp_core.specs.Clauses.{MAX_POOL_WORDS, Commanded, Debug, Put, Stepped, Written, answer_at, most_events, round_at, round_store, slice_at, slice_store, step_at, event_store, world_of};
+ghost use Rattle.ocp_world.specs.declared.answers.EngineFault.TheVariants as engine;
+ghost use Rattle.ocp_world.specs.Mirror.State.{IsWorld, with_packets};
+ghost use Rattle.ocp_core.specs.Log as logs;
+ghost use Rattle.ocp_core.specs.Clauses.{MAX_POOL_WORDS, Answers, Commanded, Debug, Put, Stepped, TakesRecordIn, Written, answer_at, most_events, round_at, round_store, slice_at, slice_store, step_at, event_store, world_of};
 
-use crate::{Command, DebugFault, Note, PutFault, Round, Slice, StepOutcome, Store};
-use ocp_world::{Extent, State};
+use crate::{
+    Command, DebugFault, EngineFault, Note, PutFault, RequestStore, Round, Slice, StepOutcome,
+    Store,
+};
+use ocp_reports::PacketBuffer;
+use ocp_world::{Extent, State, discard_of};
+use pus_fields::read_tc;
 use std::alloc::Allocator;
 
 // Does instructions of one procedure as far as a slice or a round goes.
@@ -166,4 +173,76 @@ pub fn put_word<S: Store, A: Allocator>(
     state.put_word(index, value);
     store.push_word(by, index, value);
     Ok(())
+}
+
+/// Takes the octets of a telecommand packet, which a seat hands in at a time in whole seconds, and
+/// writes its reports. Refused, in this order, if the octets are discarded, if there is no room for
+/// an entry, and if there is no memory; then nothing is changed. If the keeper finds memory, Memory
+/// is answered only for a load under an id that is free, in a table with room, of 1 to 2,048 whole
+/// slots: never in place of a request that fails otherwise.
+pub fn request<S: RequestStore, A: Allocator + Copy>(
+    store: &mut S,
+    state: &mut State<A>,
+    alloc: A,
+    keeper: &mut S::Keeper,
+    by: u16,
+    time: u32,
+    octets: &[u8],
+    packets: &mut PacketBuffer<A>,
+) -> Result<S::Receipt, EngineFault>
+    requires stands { IsWorld (world_of (S.log store.old)) state.old }
+    ensures answer { Answers (with_packets result packets.new)
+        (answer_at S.log S.is_full store.old (world.Request by time octets.now)) }
+    ensures store { OnOk result (store.new ≡
+        event_store S.log S.is_full S.with_entry store.old (world.Request by time octets.now)) }
+    ensures err { OnErr result (store.new ≡ store.old) }
+    ensures receipt { IfOk result (λ receipt.
+        S.is_receipt receipt (logs.Asked by time octets.now) packets.new) }
+    ensures world { IsWorld (world_of (S.log store.new)) state.new }
+    ensures memory { result ≡ Err engine.Memory → S.Keeper.refused keeper.new ≡ false →
+        TakesRecordIn (world_of (S.log store.old)) octets.now }
+{
+    let read = read_tc(store.apid(), octets);
+    if let Some(cause) = discard_of(&read) {
+        return Err(EngineFault::Discarded(cause));
+    }
+    if store.is_full(&Note::Request { by, time, octets }) {
+        return Err(EngineFault::JournalFull);
+    }
+    let copy = S::keep_octets(keeper, octets)?;
+    let kept = state.receive(alloc, keeper, store.events(), time, read, packets)?;
+    Ok(store.push_request(by, time, octets, copy, kept))
+}
+
+/// Writes the reports of the completions that wait, the oldest first, at a time in whole seconds,
+/// each to the source of its request; none waits then. A seat hands it in. Refused, in this order,
+/// if none waits, if there is no room for an entry, and if the keeper finds no memory; then nothing
+/// is changed.
+pub fn drain<S: RequestStore, A: Allocator>(
+    store: &mut S,
+    state: &mut State<A>,
+    keeper: &mut S::Keeper,
+    by: u16,
+    time: u32,
+    packets: &mut PacketBuffer<A>,
+) -> Result<S::Receipt, EngineFault>
+    requires stands { IsWorld (world_of (S.log store.old)) state.old }
+    ensures answer { Answers (with_packets result packets.new)
+        (answer_at S.log S.is_full store.old (world.Drain by time)) }
+    ensures store { OnOk result (store.new ≡
+        event_store S.log S.is_full S.with_entry store.old (world.Drain by time)) }
+    ensures err { OnErr result (store.new ≡ store.old) }
+    ensures receipt { IfOk result (λ receipt.
+        S.is_receipt receipt (logs.Drained by time) packets.new) }
+    ensures world { IsWorld (world_of (S.log store.new)) state.new }
+    ensures memory { result ≡ Err engine.Memory → S.Keeper.refused keeper.new ≡ true }
+{
+    if !state.is_due() {
+        return Err(EngineFault::NothingDue);
+    }
+    if store.is_full(&Note::Drain { by, time }) {
+        return Err(EngineFault::JournalFull);
+    }
+    let kept = state.drain(keeper, time, packets)?;
+    Ok(store.push_drain(by, time, kept))
 }

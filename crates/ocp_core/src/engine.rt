@@ -8,12 +8,12 @@ ghost use Rattle.ocp_core.specs.Mirror.Codes.{log_code};
 ghost use Rattle.ocp_world.specs.Mirror.State.{IsWorld};
 
 use crate::{
-    EngineFault, Entry, Input, Journal, Octets, PutFault, Reports, Round, Slice, StepOutcome, calls,
+    EngineFault, Entry, Input, Journal, PutFault, Reports, Round, Slice, StepOutcome, calls,
 };
 use ocp_profile::Profile;
+use ocp_reports::PacketBuffer;
 use ocp_table::View;
-use ocp_world::{Heap, State, discard_of};
-use pus_fields::read_tc;
+use ocp_world::{Heap, State};
 use space_packet::Apid;
 use std::alloc::{AllocError, Allocator, Global};
 use std::marker::Model;
@@ -22,6 +22,8 @@ use std::marker::Model;
 pub struct Engine<A: Allocator = Global> {
     pub(crate) journal: Journal<A>,
     pub(crate) state: State<A>,
+    // Where the reports of a call are written.
+    packets: PacketBuffer<A>,
 }
 
 /// One call wherever an engine ends, in place of a drop of each of its parts there.
@@ -30,6 +32,7 @@ impl<A: Allocator> Drop for Engine<A> {
         let Self {
             journal: _,
             state: _,
+            packets: _,
         } = self;
     }
 }
@@ -64,7 +67,12 @@ impl<A: Allocator + Copy> Engine<A> {
         let apid = Apid::new(apid).unwrap();
         let state = State::new(alloc, profile, apid, words)?;
         let journal = Journal::new(alloc, profile, apid, words, capacity)?;
-        Ok(Engine { state, journal })
+        let packets = PacketBuffer::new(alloc)?;
+        Ok(Engine {
+            journal,
+            state,
+            packets,
+        })
     }
 
     /// Takes the octets of a telecommand packet, which a seat hands in at a time in whole seconds,
@@ -107,31 +115,17 @@ impl<A: Allocator + Copy> Engine<A> {
         ensures memory { result ≡ Err EngineFault.Memory → heap.new ≡ false →
             TakesRecordIn (world_of self.old) octets.now }
     {
-        let read = read_tc(self.journal.apid(), octets);
-        if let Some(cause) = discard_of(&read) {
-            return Err(EngineFault::Discarded(cause));
-        }
-        if self.journal.is_full() {
-            return Err(EngineFault::JournalFull);
-        }
-        let copy = Octets::copy_of(heap.alloc(), octets);
-        let kept = heap.note(copy)?;
-        let own = heap.note(kept.share())?;
-        let sent = self.state.receive(heap, self.journal.events(), time, read)?;
-        let (answer, mark, receipt) = sent.into_parts();
-        self.journal.push(Entry::Request {
+        let alloc = heap.alloc();
+        calls::request(
+            &mut self.journal,
+            &mut self.state,
+            alloc,
+            heap,
             by,
             time,
-            octets: kept,
-            mark,
-        });
-        let receipt = Entry::Request {
-            by,
-            time,
-            octets: own,
-            mark: receipt,
-        };
-        Ok((answer, receipt))
+            octets,
+            &mut self.packets,
+        )
     }
 
     /// Reports the completions that wait, the oldest first, at a time in whole seconds, each to the
@@ -159,17 +153,14 @@ impl<A: Allocator + Copy> Engine<A> {
         ensures receipt { IfOk result (λ r. entry_with_mark r.1 ≡ marked_drain by time r.0) }
         ensures err { OnErr result (self.new ≡ self.old) }
     {
-        if !self.state.is_due() {
-            return Err(EngineFault::NothingDue);
-        }
-        if self.journal.is_full() {
-            return Err(EngineFault::JournalFull);
-        }
-        let sent = self.state.drain(alloc, time)?;
-        let (answer, mark, receipt) = sent.into_parts();
-        self.journal.push(Entry::Drain { by, time, mark });
-        let mark = receipt;
-        Ok((answer, Entry::Drain { by, time, mark }))
+        calls::drain(
+            &mut self.journal,
+            &mut self.state,
+            &mut Heap::new(alloc),
+            by,
+            time,
+            &mut self.packets,
+        )
     }
 }
 

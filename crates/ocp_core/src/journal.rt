@@ -6,8 +6,10 @@ ghost use Rattle.ocp_core.specs.Mirror.Codes.{log_code};
 ghost use Rattle.ocp_core.specs.Mirror.Kept.{log_of, IsKept};
 ghost use Rattle.ocp_core.specs.Mirror.Counted.{AreCounted};
 
-use crate::{Command, Entry, Note, StepOutcome, Store};
+use crate::{Command, Entry, Note, Octets, Reports, RequestStore, StepOutcome, Store};
 use ocp_profile::Profile;
+use ocp_reports::SharedReports;
+use ocp_world::Heap;
 use space_packet::Apid;
 use std::alloc::{AllocError, Allocator, Global};
 use std::marker::Model;
@@ -181,5 +183,61 @@ impl<A: Allocator> Store for Journal<A> {
 
     fn push_word(&mut self, by: u16, index: u16, value: u64) {
         self.push(Entry::PutWord { by, index, value });
+    }
+}
+
+/// The octets of a request have two handles, that of its entry and that of its receipt.
+impl<A: Allocator + Copy> RequestStore for Journal<A> {
+    ghost use Rattle.std.specs.Prelude.{Ok};
+    ghost use Rattle.ocp_core.specs.Clauses.{Requested};
+
+    type Keeper = Heap<A>;
+
+    type KeptOctets = (Octets<A>, Octets<A>);
+
+    type Receipt = (Reports<A>, Entry<A>);
+
+    ghost keeps_octets = { λ copy octets. (copy.0 ≡ octets) × (copy.1 ≡ octets) };
+
+    ghost is_receipt = { λ receipt entry reports. (receipt.0 ≡ reports)
+        × (entry_with_mark receipt.1 ≡ record { entry = entry; mark = Requested (Ok reports) }) };
+
+    fn keep_octets(heap: &mut Heap<A>, octets: &[u8]) -> Result<Self::KeptOctets, AllocError> {
+        let copy = Octets::copy_of(heap.alloc(), octets);
+        let kept = heap.note(copy)?;
+        let own = heap.note(kept.share())?;
+        Ok((kept, own))
+    }
+
+    fn push_request(
+        &mut self,
+        by: u16,
+        time: u32,
+        _octets: &[u8],
+        copy: Self::KeptOctets,
+        kept: SharedReports<A>,
+    ) -> Self::Receipt {
+        let (octets, own) = copy;
+        let (answer, mark, receipt) = kept.into_parts();
+        self.push(Entry::Request {
+            by,
+            time,
+            octets,
+            mark,
+        });
+        let receipt = Entry::Request {
+            by,
+            time,
+            octets: own,
+            mark: receipt,
+        };
+        (answer, receipt)
+    }
+
+    fn push_drain(&mut self, by: u16, time: u32, kept: SharedReports<A>) -> Self::Receipt {
+        let (answer, mark, receipt) = kept.into_parts();
+        self.push(Entry::Drain { by, time, mark });
+        let mark = receipt;
+        (answer, Entry::Drain { by, time, mark })
     }
 }

@@ -25,5 +25,5 @@ pub use journal::Journal;
 pub use ocp_reports::{Octets, Reports};
 pub use ocp_world::{Command, DebugFault, EngineFault, Heap, PutFault, Round, Slice, StepOutcome};
 pub use replay::replay_one;
-pub use store::Store;
+pub use store::{RequestStore, Store};
 pub use ticket::{Ticket, Work};

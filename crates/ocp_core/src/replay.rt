@@ -8,14 +8,14 @@ ghost use Rattle.ocp_core.specs.Mirror.Admitted.{HasMemory};
 use crate::laws::{machines_follow_from_their_own_events, refused_events_change_nothing};
 use crate::{Command, EngineFault, Entry, Journal};
 use bpf_step::Machine;
-use ocp_reports::SharedReports;
-use ocp_world::{Heap, State};
+use ocp_reports::PacketBuffer;
+use ocp_world::{Nothing, State};
 use pus_fields::read_tc;
 use space_packet::Apid;
 use std::alloc::{AllocError, Allocator};
 
 // Whether a request or a drain found memory: it was done, or it was refused and changed nothing.
-fn memory_of<A: Allocator>(given: Result<SharedReports<A>, EngineFault>) -> Result<(), AllocError>
+fn memory_of(given: Result<(), EngineFault>) -> Result<(), AllocError>
     ensures { OnOk result (HasMemory given) }
 {
     match given {
@@ -52,6 +52,7 @@ fn enter<A: Allocator + Copy, B: Allocator>(
     apid: Apid,
     event: u64,
     entry: &Entry<B>,
+    packets: &mut PacketBuffer<A>,
 ) -> Result<(), AllocError>
     requires { apid ≤ MAX_APID }
     ensures { (w : World) → IsWorld w state.old → w.apid ≡ apid → event ≡ w.events →
@@ -61,7 +62,7 @@ fn enter<A: Allocator + Copy, B: Allocator>(
     match entry {
         Entry::Request { time, octets, .. } => {
             let read = read_tc(apid, octets.as_slice());
-            memory_of(state.receive(&mut Heap::new(alloc), event, *time, read))?;
+            memory_of(state.receive(alloc, &mut Nothing, event, *time, read, packets))?;
         }
         Entry::Steps { id, count, .. } => steps(state, *id, *count),
         Entry::SetBreak { id, place, .. } => {
@@ -73,7 +74,7 @@ fn enter<A: Allocator + Copy, B: Allocator>(
         Entry::Trace { id, on, .. } => {
             let _result = state.command(*id, Command::SetTrace(*on));
         }
-        Entry::Drain { time, .. } => memory_of(state.drain(alloc, *time))?,
+        Entry::Drain { time, .. } => memory_of(state.drain(&mut Nothing, *time, packets))?,
         Entry::PutWord { index, value, .. } => write(state, *index, *value),
     }
     Ok(())
@@ -97,9 +98,10 @@ pub fn replay_one<A: Allocator + Copy, B: Allocator>(
     let apid = journal.apid();
     let entries = journal.entries();
     let mut state = State::new(alloc, journal.profile(), apid, journal.words())?;
+    let mut packets = PacketBuffer::new(alloc)?;
     let mut event: u64 = 0;
     for entry in entries {
-        enter(&mut state, alloc, apid, event, entry)?;
+        enter(&mut state, alloc, apid, event, entry, &mut packets)?;
         event += entry.events();
     }
     state.machine(alloc, id)

@@ -1,12 +1,14 @@
 //! What keeps the entries of an engine.
 
-ghost use Rattle.std.specs.Prelude.{◌≡◌, ◌≤◌, ℕ, Bool, false, Ok};
+ghost use Rattle.std.specs.Prelude.{◌≡◌, ◌≤◌, ℕ, Bool, true, false, List, Ok, IfOk, OnErr};
 ghost use Rattle.ocp_core.specs.Log as logs;
-ghost use Rattle.ocp_core.specs.Clauses.{MAX_APID, Commanded, Stepped, Written, events_of, mark_in, note_entry, world_of};
+ghost use Rattle.ocp_core.specs.Clauses.{MAX_APID, Commanded, IsAnswered, Stepped, Written, events_of, mark_in, note_entry, world_of};
 ghost use Rattle.ocp_core.specs.Mirror.Counted.{AreCounted};
 
 use crate::{Command, Note, StepOutcome};
+use ocp_world::Keeps;
 use space_packet::Apid;
+use std::alloc::AllocError;
 
 /// A store of the entries of an engine. The calls of `calls` are written over it.
 pub trait Store {
@@ -67,4 +69,62 @@ pub trait Store {
     // A slice asks for room before it knows how many instructions it does.
     ghost fills_alike: { (s : Self) (by id count other : ℕ) →
         is_full s (logs.Steps by id count) ≡ is_full s (logs.Steps by id other) };
+}
+
+/// A store that also takes requests and drains, with what is kept of their reports.
+pub trait RequestStore: Store {
+    /// Who keeps the reports.
+    type Keeper: Keeps;
+
+    /// What is taken of a request's octets before anything is changed.
+    type KeptOctets: Drop;
+
+    /// What the caller of a request or of a drain gets.
+    type Receipt: Drop;
+
+    // It stands for these octets.
+    ghost keeps_octets: { Self.KeptOctets → List ℕ → Type 0 };
+
+    // It stands for an entry and the reports that its event was answered.
+    ghost is_receipt: { Self.Receipt → logs.Entry → List (List ℕ) → Type 0 };
+
+    /// Takes what the entry of a request needs. It fails for memory alone.
+    fn keep_octets(keeper: &mut Self::Keeper, octets: &[u8]) -> Result<Self::KeptOctets, AllocError>
+        ensures copy { IfOk result (λ copy. keeps_octets copy octets.now) }
+        ensures refused { OnErr result (Self.Keeper.refused keeper.new ≡ true) };
+
+    /// Adds the entry of a request that was done.
+    fn push_request(
+        &mut self,
+        by: u16,
+        time: u32,
+        octets: &[u8],
+        copy: Self::KeptOctets,
+        kept: <Self::Keeper as Keeps>::Kept,
+    ) -> Self::Receipt
+        requires room { Self.is_full self.old (logs.Asked by time octets.now) ≡ false }
+        requires accepted { AreCounted (world_of (Self.log self.old))
+            (events_of (logs.Asked by time octets.now)) }
+        requires copied { keeps_octets copy octets.now }
+        requires mark { IsAnswered Self.Keeper.holds kept (world_of (Self.log self.old))
+            (logs.Asked by time octets.now) }
+        ensures store { self.new ≡ Self.with_entry self.old (logs.Asked by time octets.now) }
+        ensures receipt { (reports : List (List ℕ)) → Self.Keeper.holds kept reports →
+            is_receipt result (logs.Asked by time octets.now) reports };
+
+    /// Adds the entry of a drain that was done.
+    fn push_drain(
+        &mut self,
+        by: u16,
+        time: u32,
+        kept: <Self::Keeper as Keeps>::Kept,
+    ) -> Self::Receipt
+        requires room { Self.is_full self.old (logs.Drained by time) ≡ false }
+        requires accepted { AreCounted (world_of (Self.log self.old))
+            (events_of (logs.Drained by time)) }
+        requires mark { IsAnswered Self.Keeper.holds kept (world_of (Self.log self.old))
+            (logs.Drained by time) }
+        ensures store { self.new ≡ Self.with_entry self.old (logs.Drained by time) }
+        ensures receipt { (reports : List (List ℕ)) → Self.Keeper.holds kept reports →
+            is_receipt result (logs.Drained by time) reports };
 }

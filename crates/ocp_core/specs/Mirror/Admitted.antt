@@ -1,5 +1,5 @@
 -- An event that is admitted.
-use Rattle.std.specs.Prelude.{◌≡◌, ℕ, List, Result, Err, true, false}
+use Rattle.std.specs.Prelude.{◌≡◌, Result, Err, true, false}
 use Rattle.ocp_world.specs.declared.answers.EngineFault.{EngineFault}
 use Rattle.ocp_world.specs.declared.answers.EngineFault.TheVariants.{Memory}
 use Rattle.ocp_world.specs.World.{Event}
@@ -7,7 +7,7 @@ use Rattle.ocp_world.specs.After.{after, is_accepted}
 use Rattle.ocp_core.specs.Log.{Log, world_of, is_full}
 
 -- a request or a drain finds memory
-abbrev pub HasMemory : Result (List (List ℕ)) EngineFault → Type 0
+abbrev pub HasMemory : {X : Type 0} → Result X EngineFault → Type 0
 HasMemory (Err Memory) = ⊥
 HasMemory result = Unit {0}
 

@@ -1,0 +1,72 @@
+use Rattle.std.proofs.Common.{sym, subst, rules, ◌∙◌}
+use Rattle.std.specs.Prelude.{Ok, Err}
+use Rattle.ocp_world.specs.World.{World, Event, Drain}
+use Rattle.ocp_world.specs.After.{after}
+use Rattle.ocp_world.specs.Mirror.Answering.{IsUndue}
+use Rattle.ocp_core.specs.Log.{world_of}
+use Rattle.ocp_core.proofs.Counting.{counted}
+use Rattle.ocp_core.proofs.Storing.{done_store, full_at, answers_at, undue_at, IsWorld-pushed}
+use Rattle.ocp_core.proofs.calls.drain.Goals as goal
+
+pub returns-then-not-is_due-clause-answer : goal.returns-then-not-is_due-clause-answer
+returns-then-not-is_due-clause-answer g c =
+    let w : World = world_of (g.S.Store.log c.args.store.now) in
+    let e : Event = Drain c.args.by c.args.time in
+    undue_at _ w e (subst (IsUndue (after w e).answer) c.if-not-is_due.true (c.is_due.ensures w c.args.by c.args.time c.requires.stands))
+
+pub returns-then-is_full-clause-answer : goal.returns-then-is_full-clause-answer
+returns-then-is_full-clause-answer g c =
+    let w : World = world_of (g.S.Store.log c.args.store.now) in
+    let e : Event = Drain c.args.by c.args.time in
+    let taken = subst (IsUndue (after w e).answer) c.if-not-is_due.false (c.is_due.ensures w c.args.by c.args.time c.requires.stands) in
+    sym (full_at _ w e taken (sym c.is_full.ensures ∙ c.if-is_full.true))
+
+pub returns-in_err-kept-clause-answer : goal.returns-in_err-kept-clause-answer
+returns-in_err-kept-clause-answer g c =
+    let w : World = world_of (g.S.Store.log c.args.store.now) in
+    let e : Event = Drain c.args.by c.args.time in
+    let taken = subst (IsUndue (after w e).answer) c.if-not-is_due.false (c.is_due.ensures w c.args.by c.args.time c.requires.stands) in
+    let room = sym c.is_full.ensures ∙ c.if-is_full.false in
+    let does = c.in_err-kept.ensures.does w c.args.by c.requires.stands in
+    let told = answers_at _ w e (Err c.in_err-kept.field-0.0) taken room does.0 in
+    search (rules, told)
+
+pub returns-in_err-kept-clause-world : goal.returns-in_err-kept-clause-world
+returns-in_err-kept-clause-world g c =
+    let w : World = world_of (g.S.Store.log c.args.store.now) in
+    (c.in_err-kept.ensures.does w c.args.by c.requires.stands).1
+
+pub push_drain-requires-clause-accepted : goal.push_drain-requires-clause-accepted
+push_drain-requires-clause-accepted g c =
+    let w : World = world_of (g.S.Store.log c.args.store.now) in
+    let e : Event = Drain c.args.by c.args.time in
+    let taken = subst (IsUndue (after w e).answer) c.if-not-is_due.false (c.is_due.ensures w c.args.by c.args.time c.requires.stands) in
+    counted w e taken
+
+pub push_drain-requires-clause-mark : goal.push_drain-requires-clause-mark
+push_drain-requires-clause-mark g c =
+    let w : World = world_of (g.S.Store.log c.args.store.now) in
+    (c.drain.new.packets, c.in_ok-kept.ensures.kept, sym (c.in_ok-kept.ensures.does w c.args.by c.requires.stands).0)
+
+pub returns-clause-answer : goal.returns-clause-answer
+returns-clause-answer g c =
+    let w : World = world_of (g.S.Store.log c.args.store.now) in
+    let e : Event = Drain c.args.by c.args.time in
+    let taken = subst (IsUndue (after w e).answer) c.if-not-is_due.false (c.is_due.ensures w c.args.by c.args.time c.requires.stands) in
+    let room = sym c.is_full.ensures ∙ c.if-is_full.false in
+    let does = c.in_ok-kept.ensures.does w c.args.by c.requires.stands in
+    answers_at _ w e (Ok c.drain.new.packets) taken room does.0
+
+pub returns-clause-store : goal.returns-clause-store
+returns-clause-store g c =
+    let w : World = world_of (g.S.Store.log c.args.store.now) in
+    let e : Event = Drain c.args.by c.args.time in
+    let taken = subst (IsUndue (after w e).answer) c.if-not-is_due.false (c.is_due.ensures w c.args.by c.args.time c.requires.stands) in
+    let room = sym c.is_full.ensures ∙ c.if-is_full.false in
+    done_store g.S.Store.log g.S.Store.is_full g.S.Store.with_entry c.args.store.now e _ taken room c.push_drain.ensures.store
+
+pub returns-clause-world : goal.returns-clause-world
+returns-clause-world g c =
+    let w : World = world_of (g.S.Store.log c.args.store.now) in
+    let does = c.in_ok-kept.ensures.does w c.args.by c.requires.stands in
+    IsWorld-pushed g.S.Store.log g.S.Store.with_entry g.met.S.Store.logs_entry c.args.store.now _ _ _ c.push_drain.ensures.store does.1
