@@ -51,6 +51,6 @@ round_store log is_full with_entry s by id budget =
     slice_store log is_full with_entry s by id (round_budget (world_of (log s)) by id budget)
 
 -- what was kept of reports stands for those that the entry's event is answered
-abbrev pub IsAnswered : {K : Type 0} → (K → List (List ℕ) → Type 0) → K → World → Entry → Type 0
-IsAnswered holds kept w entry =
+abbrev pub HoldsAnswer : {K : Type 0} → (K → List (List ℕ) → Type 0) → K → World → Entry → Type 0
+HoldsAnswer holds kept w entry =
     (reports : List (List ℕ)) × holds kept reports × (Requested (Ok reports) ≡ mark_in w entry)

@@ -2,7 +2,7 @@
 
 ghost use Rattle.std.specs.Prelude.{◌≡◌, ◌≤◌, ℕ, Bool, true, false, List, Ok, IfOk, OnErr};
 ghost use Rattle.ocp_core.specs.Log as logs;
-ghost use Rattle.ocp_core.specs.Clauses.{MAX_APID, Commanded, IsAnswered, Stepped, Written, events_of, mark_in, note_entry, world_of};
+ghost use Rattle.ocp_core.specs.Clauses.{MAX_APID, Commanded, HoldsAnswer, Stepped, Written, events_of, mark_in, note_entry, world_of};
 ghost use Rattle.ocp_core.specs.Mirror.Counted.{AreCounted};
 
 use crate::{Command, Note, StepOutcome};
@@ -106,7 +106,7 @@ pub trait RequestStore: Store {
         requires accepted { AreCounted (world_of (Self.log self.old))
             (events_of (logs.Asked by time octets.now)) }
         requires copied { keeps_octets copy octets.now }
-        requires mark { IsAnswered Self.Keeper.holds kept (world_of (Self.log self.old))
+        requires mark { HoldsAnswer Self.Keeper.holds kept (world_of (Self.log self.old))
             (logs.Asked by time octets.now) }
         ensures store { self.new ≡ Self.with_entry self.old (logs.Asked by time octets.now) }
         ensures receipt { (reports : List (List ℕ)) → Self.Keeper.holds kept reports →
@@ -122,7 +122,7 @@ pub trait RequestStore: Store {
         requires room { Self.is_full self.old (logs.Drained by time) ≡ false }
         requires accepted { AreCounted (world_of (Self.log self.old))
             (events_of (logs.Drained by time)) }
-        requires mark { IsAnswered Self.Keeper.holds kept (world_of (Self.log self.old))
+        requires mark { HoldsAnswer Self.Keeper.holds kept (world_of (Self.log self.old))
             (logs.Drained by time) }
         ensures store { self.new ≡ Self.with_entry self.old (logs.Drained by time) }
         ensures receipt { (reports : List (List ℕ)) → Self.Keeper.holds kept reports →
