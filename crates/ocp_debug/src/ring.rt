@@ -1,5 +1,5 @@
 //! The trace records that are kept.
-ghost use Rattle.std.specs.Prelude.{◌≡◌, ◌≤◌, ◌<◌, ◌++◌, ◌∷◌, [], IfOk, length};
+ghost use Rattle.std.specs.Prelude.{◌≡◌, ◌≤◌, ◌<◌, ◌++◌, ◌∷◌, [], IfOk, length, option_copied, slice_get};
 ghost use Rattle.ocp_debug.specs.Clauses.{Appends, flat_map, last_traces, trace_line};
 
 use crate::texts::line_of;
@@ -42,6 +42,13 @@ impl<A: Allocator> TraceRing<A> {
         ensures few { result ≤ TRACE_RECORDS }
     {
         self.records.len()
+    }
+
+    /// The record of an index, counted from the oldest, if it is kept.
+    pub fn record(&self, index: u64) -> Option<&Trace>
+        ensures { option_copied result ≡ slice_get self.now index }
+    {
+        self.records.get(index as usize)
     }
 
     /// Adds a record. A full ring gives up its oldest one.
