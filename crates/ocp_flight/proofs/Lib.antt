@@ -1,0 +1,4 @@
+pub mod ReadBack
+pub mod Storing
+pub mod Entering
+pub mod Reading

@@ -1,0 +1,6 @@
+pub mod Entries
+pub mod Flown
+pub mod Calls
+pub mod Laws
+pub mod Clauses
+pub mod Mirror

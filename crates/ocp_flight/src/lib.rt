@@ -1,0 +1,14 @@
+//! An engine whose journal is handed down: it holds the last entries in a bounded store, and gives
+//! up the oldest when it is told to. Its state is the replay of all entries since it was opened.
+#![tactic(auto)]
+
+mod faults;
+mod flight;
+pub mod laws;
+mod octets;
+mod store;
+
+pub use faults::{EntryFault, ReleaseFault};
+pub use flight::Flight;
+pub use ocp_core::{Command, DebugFault, EngineFault, Note, PutFault, Round, Slice, StepOutcome};
+pub use store::{BoundedStore, MAX_OCTETS, MOST_EVENTS, Room};

@@ -1,0 +1,227 @@
+//! The journal of an engine for flight.
+
+ghost use Rattle.std.specs.Prelude.{◌≡◌, ◌≤◌, ◌<◌, ◌+◌, ◌*◌, ◌^◌, ◌++◌, ◌∷◌, ◌↔◌, [], true, IfOk, OnOk, length, slice_get, take};
+ghost use Rattle.ocp_tape.specs.Pieces as tapes;
+ghost use Rattle.ocp_core.specs.Clauses.{MAX_APID, MAX_CAPACITY, MAX_POOL_WORDS, expand, world_of};
+ghost use Rattle.ocp_flight.specs.Flown.{entry_answer, entry_written, held_count, opened, release_after, release_answer, room};
+
+use crate::octets::{command_fields, length_of, steps_fields, word_fields};
+use crate::{EntryFault, ReleaseFault};
+use ocp_core::{Command, Note, StepOutcome, Store};
+use ocp_profile::Profile;
+use ocp_tape::{History, Tape};
+use space_packet::Apid;
+use std::alloc::{AllocError, Allocator, Global};
+use std::marker::Model;
+
+/// The most octets that a store may have room for.
+pub const MAX_OCTETS: u32 = 1_073_741_824;
+
+/// From this number of events on no entry is released.
+pub const MOST_EVENTS: u64 = 9_223_372_036_854_775_808;
+
+/// How many entries more, and how many octets more, may be held.
+#[derive(Clone, Copy, PartialEq, Eq, Debug)]
+pub struct Room {
+    pub entries: usize,
+    pub octets: usize,
+}
+
+/// A bounded store of entries, as a packet store of ECSS-E-ST-70-41C service 15: it holds the last
+/// ones as octets, and gives up the oldest when it is told to. All room is reserved when it is
+/// made. Contracts see the log of all entries.
+#[derive(Drop)]
+pub struct BoundedStore<A: Allocator = Global> {
+    profile: Profile,
+    apid: Apid,
+    words: u16,
+    tape: Tape<A>,
+    history: History,
+    // How many entries were released.
+    released: u64,
+    // How many single events all entries are.
+    events: u64,
+}
+
+impl<A: Allocator> Model for BoundedStore<A> {
+    ghost use Rattle.ocp_flight.specs.Flown.{Flown};
+    ghost use Rattle.ocp_flight.specs.Mirror.Codes.{flown_code};
+    ghost use Rattle.ocp_flight.specs.Mirror.Kept.{flown_of, IsKept};
+
+    ghost Value = { Flown };
+
+    ghost coded = { flown_code };
+
+    ghost view = { flown_of };
+
+    ghost invariant = { IsKept };
+}
+
+// Adds an entry that has room, given in two parts.
+fn enter<A: Allocator>(tape: &mut Tape<A>, history: &mut History, head: &[u8], packet: &[u8])
+    requires { tapes.has_room tape.old (length head.now + length packet.now) ≡ true }
+    ensures tape { tape.new ≡
+        record tape.old { pieces = tape.old.pieces ++ (head.now ++ packet.now) ∷ [] } }
+    ensures history { history.new.pieces ≡
+        history.old.pieces ++ (head.now ++ packet.now) ∷ [] }
+{
+    tape.push(head, packet);
+    history.note(head, packet);
+}
+
+impl<A: Allocator> BoundedStore<A> {
+    /// A store without entries, with room for a number of entries, and for a number of octets.
+    pub fn new(
+        alloc: A,
+        profile: Profile,
+        apid: Apid,
+        words: u16,
+        entries: u32,
+        octets: u32,
+    ) -> Result<Self, AllocError>
+    where
+        A: Copy,
+        requires apid { apid ≤ MAX_APID }
+        requires entries { entries ≤ MAX_CAPACITY }
+        ensures { IfOk result (λ store. store ≡ opened profile apid words entries octets) }
+    {
+        Ok(BoundedStore {
+            profile,
+            apid,
+            words,
+            tape: Tape::new(alloc, entries, octets)?,
+            history: History::new(),
+            released: 0,
+            events: 0,
+        })
+    }
+
+    /// How many entries are held.
+    pub fn held(&self) -> u64
+        ensures { result ≡ held_count self.now }
+    {
+        self.tape.len() as u64
+    }
+
+    /// The index of the oldest entry that is held, counted from the first since the engine was
+    /// opened. If none is held, the next entry will have this index.
+    pub fn first(&self) -> u64
+        ensures { result ≡ self.now.released }
+    {
+        self.released
+    }
+
+    /// How many entries more, and how many octets more, may be held.
+    pub fn room(&self) -> Room
+        ensures { result ≡ room self.now }
+    {
+        Room {
+            entries: self.tape.free_pieces(),
+            octets: self.tape.free_octets(),
+        }
+    }
+
+    /// How many single events all entries are.
+    pub fn count(&self) -> u64
+        ensures value { result ≡ length (expand self.now.log.entries) }
+        ensures number { result ≡ (world_of self.now.log).events }
+        ensures bound { result ≤ 2 ^ 63 + 2 ^ 52 }
+    {
+        self.events
+    }
+
+    /// Writes the octets of an entry to the front of a buffer, and answers how many they are. The
+    /// index counts from the first entry since the engine was opened. Refused, in this order, if
+    /// the entry was released, if there is none yet, and if the buffer is too short.
+    pub fn entry(&self, index: u64, buffer: &mut [u8]) -> Result<usize, EntryFault>
+        ensures answer { result ≡ entry_answer self.now index (length buffer.old) }
+        ensures octets { buffer.new ≡ entry_written self.now index buffer.old }
+    {
+        if index < self.released {
+            return Err(EntryFault::Released);
+        }
+        let place = (index - self.released) as usize;
+        let Some(length) = self.tape.length_at(place) else {
+            return Err(EntryFault::NotYet);
+        };
+        if length > buffer.len() {
+            return Err(EntryFault::TooShort { length });
+        }
+        self.tape.copy(place, buffer);
+        Ok(length)
+    }
+
+    /// Gives up a number of the oldest entries. Refused, in this order, if fewer are held, and from
+    /// 2^63 events on; then nothing is changed.
+    pub fn release(&mut self, count: u64) -> Result<(), ReleaseFault>
+        ensures answer { result ≡ release_answer self.old count }
+        ensures store { self.new ≡ release_after self.old count }
+    {
+        if self.held() < count {
+            return Err(ReleaseFault::NotHeld);
+        }
+        if self.events >= MOST_EVENTS {
+            return Err(ReleaseFault::Spent);
+        }
+        self.tape.release(count as usize);
+        self.released += count;
+        Ok(())
+    }
+}
+
+impl<A: Allocator> Store for BoundedStore<A> {
+    ghost use Rattle.std.specs.Prelude.{refl};
+    ghost use Rattle.ocp_flight.specs.Flown as flown;
+
+    ghost log = { λ f. f.log };
+
+    ghost is_full = { flown.is_full };
+
+    ghost with_entry = { flown.with_entry };
+
+    ghost logs_entry = { λ f e. refl };
+
+    ghost fills_alike = { λ f by id count other. refl };
+
+    fn apid(&self) -> Apid {
+        self.apid
+    }
+
+    fn events(&self) -> u64 {
+        self.events
+    }
+
+    fn is_full(&self, note: &Note<'_>) -> bool {
+        !self.tape.has_room(length_of(note))
+    }
+
+    fn push_steps(&mut self, by: u16, id: u16, count: u32, _last: StepOutcome) {
+        enter(
+            &mut self.tape,
+            &mut self.history,
+            &steps_fields(by, id, count),
+            &[],
+        );
+        self.events += u64::from(count);
+    }
+
+    fn push_command(&mut self, by: u16, id: u16, command: Command) {
+        enter(
+            &mut self.tape,
+            &mut self.history,
+            &command_fields(by, id, command),
+            &[],
+        );
+        self.events += 1;
+    }
+
+    fn push_word(&mut self, by: u16, index: u16, value: u64) {
+        enter(
+            &mut self.tape,
+            &mut self.history,
+            &word_fields(by, index, value),
+            &[],
+        );
+        self.events += 1;
+    }
+}
