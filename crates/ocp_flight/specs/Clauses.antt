@@ -10,6 +10,7 @@ pub use Rattle.ocp_world.specs.World.{World, Event, Step, Debug, Put}
 pub use Rattle.ocp_world.specs.After.{Answer, Requested, Stepped, Commanded, Written}
 pub use Rattle.ocp_world.specs.Answers.{Answers}
 pub use Rattle.ocp_world.specs.Loading.{TakesRecordIn}
+pub use Rattle.ocp_world.specs.Mirror.State.{with_packets}
 pub use Rattle.ocp_world.specs.NextRunning.{IsNextRunning, Runs}
 pub use Rattle.ocp_core.specs.Log.{Log, expand, world_of}
 pub use Rattle.ocp_flight.specs.Flown.{Flown, opened, held, held_count, room}

@@ -1,17 +1,19 @@
 //! The engine for flight.
 
-ghost use Rattle.std.specs.Prelude.{◌≡◌, ◌↔◌, ◌≤◌, ◌<◌, ◌+◌, ◌^◌, ℕ, None, Err, IfOk, IfSome, OnOk, OnErr, length, slice_get};
+ghost use Rattle.std.specs.Prelude.{◌≡◌, ◌↔◌, ◌≤◌, ◌<◌, ◌+◌, ◌^◌, ℕ, None, Err, IfOk, IfSome, OnOk, OnErr, length, slice_get, option_copied};
 ghost use Rattle.ocp_debug.specs.declared.command.Command.TheVariants as command;
 ghost use Rattle.ocp_world.specs.World as world;
 ghost use Rattle.ocp_world.specs.Mirror.State.{IsWorld};
-ghost use Rattle.ocp_flight.specs.Clauses.{Commanded, Debug, Flown, IsNextRunning, MAX_APID, MAX_CAPACITY, MAX_POOL_WORDS, Put, Reads, Runs, Step, Stepped, Written, answer_in, entry_answer, entry_written, expand, flown_after, get, held_count, opened, release_after, release_answer, room, round_after, round_in, slice_after, slice_in, view_at, world_of};
+ghost use Rattle.ocp_flight.specs.Clauses.{Answers, Commanded, Debug, Flown, IsNextRunning, MAX_APID, MAX_CAPACITY, MAX_POOL_WORDS, Put, Reads, Runs, Step, Stepped, TakesRecordIn, Written, answer_in, entry_answer, entry_written, expand, flown_after, get, held_count, last_traces, opened, release_after, release_answer, room, round_after, round_in, slice_after, slice_in, view_at, with_packets, world_of};
 ghost use Rattle.ocp_flight.specs.Mirror.Codes.{flown_code};
 
 use crate::{BoundedStore, EntryFault, MAX_OCTETS, ReleaseFault, Room};
-use ocp_core::{Command, DebugFault, PutFault, Round, Slice, StepOutcome, calls};
+use ocp_core::{Command, DebugFault, EngineFault, PutFault, Round, Slice, StepOutcome, calls};
+use ocp_debug::Trace;
 use ocp_profile::Profile;
+use ocp_reports::PacketBuffer;
 use ocp_table::View;
-use ocp_world::State;
+use ocp_world::{Nothing, State};
 use space_packet::Apid;
 use std::alloc::{AllocError, Allocator, Global};
 use std::marker::Model;
@@ -65,6 +67,38 @@ impl<A: Allocator + Copy> Flight<A> {
         let state = State::new(alloc, profile, apid, words)?;
         let store = BoundedStore::new(alloc, profile, apid, words, entries, octets)?;
         Ok(Flight { store, state })
+    }
+
+    /// Takes the octets of a telecommand packet, which a seat hands in at a time in whole seconds,
+    /// and writes its reports. Refused, in this order, if the octets are discarded, if the entry has
+    /// no room, and if there is no memory; then nothing is changed. Memory is asked for by a load
+    /// alone, under an id that is free, in a table with room, of 1 to 2,048 whole slots.
+    pub fn request(
+        &mut self,
+        alloc: A,
+        by: u16,
+        time: u32,
+        octets: &[u8],
+        packets: &mut PacketBuffer<A>,
+    ) -> Result<(), EngineFault>
+        ensures answer { Answers (with_packets result packets.new)
+            (answer_in self.old (world.Request by time octets.now)) }
+        ensures log { OnOk result
+            (self.new ≡ flown_after self.old (world.Request by time octets.now)) }
+        ensures err { OnErr result (self.new ≡ self.old) }
+        ensures memory { result ≡ Err EngineFault.Memory →
+            TakesRecordIn (world_of self.old.log) octets.now }
+    {
+        calls::request(
+            &mut self.store,
+            &mut self.state,
+            alloc,
+            &mut Nothing,
+            by,
+            time,
+            octets,
+            packets,
+        )
     }
 }
 
@@ -148,6 +182,31 @@ impl<A: Allocator> Flight<A> {
         ensures log { self.new ≡ flown_after self.old (Debug by id (command.SetTrace on)) }
     {
         self.command(by, id, Command::SetTrace(on))
+    }
+
+    /// Writes the reports of the completions that wait, the oldest first, at a time in whole
+    /// seconds, each to the source of its request; none waits then. Refused, in this order, if none
+    /// waits, and if the entry has no room; then nothing is changed.
+    pub fn drain(
+        &mut self,
+        by: u16,
+        time: u32,
+        packets: &mut PacketBuffer<A>,
+    ) -> Result<(), EngineFault>
+        ensures answer { Answers (with_packets result packets.new)
+            (answer_in self.old (world.Drain by time)) }
+        ensures log { OnOk result (self.new ≡ flown_after self.old (world.Drain by time)) }
+        ensures err { OnErr result (self.new ≡ self.old) }
+        ensures memory { result ≡ Err EngineFault.Memory → ⊥ }
+    {
+        calls::drain(
+            &mut self.store,
+            &mut self.state,
+            &mut Nothing,
+            by,
+            time,
+            packets,
+        )
     }
 
     /// Gives up a number of the oldest entries, which were copied out before. The state stays.
@@ -234,5 +293,13 @@ impl<A: Allocator> Flight<A> {
             result }
     {
         ocp_debug::memory(&self.state.table, id, address, octets)
+    }
+
+    /// A trace record that is kept, by its index from the oldest. The last 256 are kept.
+    pub fn trace_record(&self, index: u64) -> Option<&Trace>
+        ensures { option_copied result ≡
+            slice_get (last_traces (world_of self.now.log).traces) index }
+    {
+        self.state.ring.record(index)
     }
 }

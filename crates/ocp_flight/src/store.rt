@@ -5,11 +5,12 @@ ghost use Rattle.ocp_tape.specs.Pieces as tapes;
 ghost use Rattle.ocp_core.specs.Clauses.{MAX_APID, MAX_CAPACITY, MAX_POOL_WORDS, expand, world_of};
 ghost use Rattle.ocp_flight.specs.Flown.{entry_answer, entry_written, held_count, opened, release_after, release_answer, room};
 
-use crate::octets::{command_fields, length_of, steps_fields, word_fields};
+use crate::octets::{command_fields, length_of, steps_fields, time_fields, word_fields};
 use crate::{EntryFault, ReleaseFault};
-use ocp_core::{Command, Note, StepOutcome, Store};
+use ocp_core::{Command, Note, RequestStore, StepOutcome, Store};
 use ocp_profile::Profile;
 use ocp_tape::{History, Tape};
+use ocp_world::Nothing;
 use space_packet::Apid;
 use std::alloc::{AllocError, Allocator, Global};
 use std::marker::Model;
@@ -220,6 +221,42 @@ impl<A: Allocator> Store for BoundedStore<A> {
             &mut self.tape,
             &mut self.history,
             &word_fields(by, index, value),
+            &[],
+        );
+        self.events += 1;
+    }
+}
+
+impl<A: Allocator> RequestStore for BoundedStore<A> {
+    type Keeper = Nothing;
+
+    type KeptOctets = ();
+
+    type Receipt = ();
+
+    ghost keeps_octets = { λ _ _. Unit {0} };
+
+    ghost is_receipt = { λ _ _ _. Unit {0} };
+
+    fn keep_octets(_keeper: &mut Nothing, _octets: &[u8]) -> Result<(), AllocError> {
+        Ok(())
+    }
+
+    fn push_request(&mut self, by: u16, time: u32, octets: &[u8], _copy: (), _kept: ()) {
+        enter(
+            &mut self.tape,
+            &mut self.history,
+            &time_fields(1, by, time),
+            octets,
+        );
+        self.events += 1;
+    }
+
+    fn push_drain(&mut self, by: u16, time: u32, _kept: ()) {
+        enter(
+            &mut self.tape,
+            &mut self.history,
+            &time_fields(6, by, time),
             &[],
         );
         self.events += 1;
