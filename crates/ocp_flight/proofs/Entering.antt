@@ -2,7 +2,7 @@
 use Rattle.std.proofs.Common.{◌≡◌, ◌≤◌, ◌<◌, ◌+◌, ◌^◌, ℕ, true, false, List, [], ◌∷◌, ◌++◌, map, length, drop, sym, ap, subst, ◌∙◌, arith, length-append}
 use Rattle.std.proofs.lemmas.List.{map-append, drop-append-le, drop-drop, length-drop}
 use Rattle.ocp_profile.specs.declared.limits.TheConstants.{MAX_APID, MAX_CAPACITY}
-use Rattle.ocp_tape.specs.Pieces.{Taped}
+use Rattle.ocp_tape.specs.Pieces.{TapeContents}
 use Rattle.ocp_tape.specs.Pieces as tapes
 use Rattle.ocp_tape.proofs.Cut.{most-of-room}
 use Rattle.ocp_tape.specs.declared.history.History.{History}
@@ -35,7 +35,7 @@ module _ {A : Type 0} (s : Inside A) (empty : s.tape.pieces ≡ []) (none : s.hi
 
 -- ---- one more entry
 
-module _ {A : Type 0} (s : Inside A) (e : Entry) (p : List ℕ) (is : p ≡ entry_octets e) (range : IsEntryInRange e) (tape : Taped) (history : History) (events : ℕ)
+module _ {A : Type 0} (s : Inside A) (e : Entry) (p : List ℕ) (is : p ≡ entry_octets e) (range : IsEntryInRange e) (tape : TapeContents) (history : History) (events : ℕ)
     (taped : tape ≡ record s.tape { pieces = s.tape.pieces ++ p ∷ [] }) (noted : history.pieces ≡ s.history.pieces ++ p ∷ []) where
   abbrev new : Inside A
   new = record s { tape = tape; history = history; events = events }
@@ -90,7 +90,7 @@ module _ {A : Type 0} (s : Inside A) (kept : IsKept s) (f : Flown) (view : flown
       let size : length (entry_octets e) ≡ length head + length packet = ap length (sym octets) ∙ length-append head packet in
       subst (λ n. tapes.has_room s.tape n ≡ true) size room
 
-  module _ (tape : Taped) (history : History) (events : ℕ)
+  module _ (tape : TapeContents) (history : History) (events : ℕ)
       (taped : tape ≡ record s.tape { pieces = s.tape.pieces ++ (head ++ packet) ∷ [] }) (noted : history.pieces ≡ s.history.pieces ++ (head ++ packet) ∷ []) where
     pub flown_entered : flown_of (record s { tape = tape; history = history; events = events }) ≡ with_entry f e
     flown_entered = flown_more s e (head ++ packet) octets range tape history events taped noted ∙ ap (λ g. with_entry g e) view
@@ -103,7 +103,7 @@ module _ {A : Type 0} (s : Inside A) (kept : IsKept s) (f : Flown) (view : flown
 
 -- ---- the oldest entries are given up
 
-module _ {A : Type 0} (s : Inside A) (count : ℕ) (tape : Taped) (taped : tape ≡ record s.tape { pieces = drop count s.tape.pieces }) where
+module _ {A : Type 0} (s : Inside A) (count : ℕ) (tape : TapeContents) (taped : tape ≡ record s.tape { pieces = drop count s.tape.pieces }) where
   abbrev less : Inside A
   less = record s { tape = tape; released = s.released + count }
 

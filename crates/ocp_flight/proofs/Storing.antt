@@ -2,12 +2,12 @@
 use Rattle.std.proofs.Common.{◌≡◌, ◌+◌, ℕ, Bool, true, false, cond, ◌++◌, map, length, take, drop, refl, sym, ap, ◌∙◌, arith}
 use Rattle.std.specs.Prelude.{◌^◌, nat_lt, nat_le, not}
 use Rattle.std.proofs.lemmas.List.{drop-map, length-map, length-drop, take-append-drop}
-use Rattle.ocp_tape.specs.Pieces.{Taped, extent}
+use Rattle.ocp_tape.specs.Pieces.{TapeContents, extent}
 use Rattle.ocp_tape.specs.Pieces as tapes
 use Rattle.ocp_world.specs.Replay.{replay}
 use Rattle.ocp_core.specs.Log.{Log, Entry, expand, world_of}
 use Rattle.ocp_flight.specs.Entries.{entry_octets, IsEntryInRange}
-use Rattle.ocp_flight.specs.Flown.{Flown, held, held_count, held_octets, has_room, is_full, release_after}
+use Rattle.ocp_flight.specs.Flown.{Flown, held_entries, held_count, held_octets, has_room, is_full, release_after}
 use Rattle.ocp_flight.specs.Laws.{ReplaysReleasedAndHeld, ReleasesKeepTheLog, SameEntriesSameWorld}
 use Rattle.ocp_flight.specs.Mirror.Kept.{entry_or_none, entry_read, entries_read, flown_of, IsKept}
 use Rattle.ocp_flight.specs.declared.store.BoundedStore.TheInside.{Inside}
@@ -22,14 +22,14 @@ not_false false is = cc
 
 module _ {A : Type 0} (s : Inside A) (kept : IsKept s) where
   -- the octets of the entries that are held
-  pub held_pieces : map entry_octets (held (flown_of s)) ≡ s.tape.pieces
+  pub held_pieces : map entry_octets (held_entries (flown_of s)) ≡ s.tape.pieces
   held_pieces =
       sym (drop-map entry_octets s.released (entries_read s.history.pieces))
       ∙ ap (drop s.released) kept.octets
       ∙ sym kept.held
 
   pub count_held : held_count (flown_of s) ≡ length s.tape.pieces
-  count_held = sym (length-map (held (flown_of s)) entry_octets) ∙ ap length held_pieces
+  count_held = sym (length-map (held_entries (flown_of s)) entry_octets) ∙ ap length held_pieces
 
   pub extent_held : held_octets (flown_of s) ≡ extent s.tape.pieces
   extent_held = ap extent held_pieces
@@ -53,7 +53,7 @@ unfolding world_of
 same_world a b profile apid words entries = λ i. replay (profile i) (apid i) (words i) (expand (entries i))
 
 -- the entries that were released, and those that are held, are all
-pub all_entries : (f : Flown) → take f.released f.log.entries ++ held f ≡ f.log.entries
+pub all_entries : (f : Flown) → take f.released f.log.entries ++ held_entries f ≡ f.log.entries
 all_entries f = take-append-drop f.released f.log.entries
 
 -- ---- a release

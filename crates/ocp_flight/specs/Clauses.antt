@@ -13,7 +13,7 @@ pub use Rattle.ocp_world.specs.Loading.{TakesRecordIn}
 pub use Rattle.ocp_world.specs.Mirror.State.{with_packets}
 pub use Rattle.ocp_world.specs.NextRunning.{IsNextRunning, Runs}
 pub use Rattle.ocp_core.specs.Log.{Log, expand, world_of}
-pub use Rattle.ocp_flight.specs.Flown.{Flown, opened, held, held_count, room}
+pub use Rattle.ocp_flight.specs.Flown.{Flown, opened_flown, held_entries, held_count, room}
 pub use Rattle.ocp_flight.specs.Flown.{release_answer, release_after}
 pub use Rattle.ocp_flight.specs.Flown.{entry_answer, entry_written}
 pub use Rattle.ocp_flight.specs.Calls.{answer_in, flown_after, slice_in, slice_after}

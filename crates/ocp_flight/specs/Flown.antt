@@ -19,8 +19,8 @@ pub record Flown : Type 0 where
   pub released : ℕ
   pub octets : ℕ
 
-abbrev pub opened : Profile → ℕ → ℕ → ℕ → ℕ → Flown
-opened profile apid words entries octets = record {
+abbrev pub opened_flown : Profile → ℕ → ℕ → ℕ → ℕ → Flown
+opened_flown profile apid words entries octets = record {
   log = empty_log profile apid words entries;
   released = 0;
   octets = octets;
@@ -28,14 +28,14 @@ opened profile apid words entries octets = record {
 
 -- ---- the entries that are held
 
-abbrev pub held : Flown → List Entry
-held f = drop f.released f.log.entries
+abbrev pub held_entries : Flown → List Entry
+held_entries f = drop f.released f.log.entries
 
 abbrev pub held_count : Flown → ℕ
-held_count f = length (held f)
+held_count f = length (held_entries f)
 
 abbrev pub held_octets : Flown → ℕ
-held_octets f = extent (map entry_octets (held f))
+held_octets f = extent (map entry_octets (held_entries f))
 
 -- ---- room
 

@@ -4,7 +4,7 @@ ghost use Rattle.std.specs.Prelude.{◌≡◌, ◌↔◌, ◌≤◌, ◌<◌, �
 ghost use Rattle.ocp_debug.specs.declared.command.Command.TheVariants as command;
 ghost use Rattle.ocp_world.specs.World as world;
 ghost use Rattle.ocp_world.specs.Mirror.State.{IsWorld};
-ghost use Rattle.ocp_flight.specs.Clauses.{Answers, Commanded, Debug, Flown, IsNextRunning, MAX_APID, MAX_CAPACITY, MAX_POOL_WORDS, Put, Reads, Runs, Step, Stepped, TakesRecordIn, Written, answer_in, entry_answer, entry_written, expand, flown_after, get, held_count, last_traces, opened, release_after, release_answer, room, round_after, round_in, slice_after, slice_in, view_at, with_packets, world_of};
+ghost use Rattle.ocp_flight.specs.Clauses.{Answers, Commanded, Debug, Flown, IsNextRunning, MAX_APID, MAX_CAPACITY, MAX_POOL_WORDS, Put, Reads, Runs, Step, Stepped, TakesRecordIn, Written, answer_in, entry_answer, entry_written, expand, flown_after, get, held_count, last_traces, opened_flown, release_after, release_answer, room, round_after, round_in, slice_after, slice_in, view_at, with_packets, world_of};
 ghost use Rattle.ocp_flight.specs.Mirror.Codes.{flown_code};
 
 use crate::{BoundedStore, EntryFault, MAX_OCTETS, ReleaseFault, Room};
@@ -18,8 +18,8 @@ use space_packet::Apid;
 use std::alloc::{AllocError, Allocator, Global};
 use std::marker::Model;
 
-/// The engine, seen as the log of all entries since it was opened. Its state is the replay of all of
-/// them, those that were released included.
+/// The engine, seen as the log of all entries since it was opened. Its state is the replay of all
+/// of them, those that were released included.
 pub struct Flight<A: Allocator = Global> {
     store: BoundedStore<A>,
     state: State<A>,
@@ -61,7 +61,7 @@ impl<A: Allocator + Copy> Flight<A> {
         requires entries_to { entries ≤ MAX_CAPACITY }
         requires octets_from { 1 ≤ octets }
         requires octets_to { octets ≤ MAX_OCTETS }
-        ensures { IfOk result (λ engine. engine ≡ opened profile apid words entries octets) }
+        ensures { IfOk result (λ engine. engine ≡ opened_flown profile apid words entries octets) }
     {
         let apid = Apid::new(apid).unwrap();
         let state = State::new(alloc, profile, apid, words)?;
@@ -70,9 +70,9 @@ impl<A: Allocator + Copy> Flight<A> {
     }
 
     /// Takes the octets of a telecommand packet, which a seat hands in at a time in whole seconds,
-    /// and writes its reports. Refused, in this order, if the octets are discarded, if the entry has
-    /// no room, and if there is no memory; then nothing is changed. Memory is asked for by a load
-    /// alone, under an id that is free, in a table with room, of 1 to 2,048 whole slots.
+    /// and writes its reports. Refused, in this order, if the octets are discarded, if the entry
+    /// has no room, and if there is no memory; then nothing is changed. Memory is asked for by a
+    /// load alone, under an id that is free, in a table with room, of 1 to 2,048 whole slots.
     pub fn request(
         &mut self,
         alloc: A,
@@ -237,10 +237,10 @@ impl<A: Allocator> Flight<A> {
     }
 
     /// How many entries are held.
-    pub fn held(&self) -> u64
+    pub fn held_count(&self) -> u64
         ensures { result ≡ held_count self.now }
     {
-        self.store.held()
+        self.store.held_count()
     }
 
     /// How many entries more, and how many octets more, may be held.

@@ -1,9 +1,9 @@
 //! The journal of an engine for flight.
 
-ghost use Rattle.std.specs.Prelude.{◌≡◌, ◌≤◌, ◌<◌, ◌+◌, ◌*◌, ◌^◌, ◌++◌, ◌∷◌, ◌↔◌, [], true, IfOk, OnOk, length, slice_get, take};
+ghost use Rattle.std.specs.Prelude.{◌≡◌, ◌≤◌, ◌<◌, ◌+◌, ◌^◌, ◌++◌, ◌∷◌, [], true, IfOk, length};
 ghost use Rattle.ocp_tape.specs.Pieces as tapes;
-ghost use Rattle.ocp_core.specs.Clauses.{MAX_APID, MAX_CAPACITY, MAX_POOL_WORDS, expand, world_of};
-ghost use Rattle.ocp_flight.specs.Flown.{entry_answer, entry_written, held_count, opened, release_after, release_answer, room};
+ghost use Rattle.ocp_core.specs.Clauses.{MAX_APID, MAX_CAPACITY, expand, world_of};
+ghost use Rattle.ocp_flight.specs.Flown.{entry_answer, entry_written, held_count, opened_flown, release_after, release_answer, room};
 
 use crate::octets::{command_fields, length_of, steps_fields, time_fields, word_fields};
 use crate::{EntryFault, ReleaseFault};
@@ -84,7 +84,7 @@ impl<A: Allocator> BoundedStore<A> {
         A: Copy,
         requires apid { apid ≤ MAX_APID }
         requires entries { entries ≤ MAX_CAPACITY }
-        ensures { IfOk result (λ store. store ≡ opened profile apid words entries octets) }
+        ensures { IfOk result (λ store. store ≡ opened_flown profile apid words entries octets) }
     {
         Ok(BoundedStore {
             profile,
@@ -98,7 +98,7 @@ impl<A: Allocator> BoundedStore<A> {
     }
 
     /// How many entries are held.
-    pub fn held(&self) -> u64
+    pub fn held_count(&self) -> u64
         ensures { result ≡ held_count self.now }
     {
         self.tape.len() as u64
@@ -158,7 +158,7 @@ impl<A: Allocator> BoundedStore<A> {
         ensures answer { result ≡ release_answer self.old count }
         ensures store { self.new ≡ release_after self.old count }
     {
-        if self.held() < count {
+        if self.held_count() < count {
             return Err(ReleaseFault::NotHeld);
         }
         if self.events >= MOST_EVENTS {

@@ -1,6 +1,6 @@
 //! Packets of reports as they are written, one after the other.
 
-ghost use Rattle.std.specs.Prelude.{◌≡◌, ◌≤◌, ◌+◌, ◌++◌, ◌∷◌, [], All, IfOk, IfNone, IfSome, length, vec_capacity};
+ghost use Rattle.std.specs.Prelude.{◌≡◌, ◌≤◌, ◌+◌, ◌++◌, ◌∷◌, [], IfOk, IfNone, IfSome, length, vec_capacity};
 ghost use Rattle.pus_fields.specs.Telemetry.{telemetry_octets};
 ghost use Rattle.ocp_reports.specs.Packets.{IsTelemetryPacket, together};
 ghost use Rattle.ocp_reports.specs.Room.{HasRoomAfter};

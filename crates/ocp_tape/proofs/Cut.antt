@@ -5,7 +5,7 @@ use Rattle.std.specs.Option.{option_map}
 use Rattle.std.proofs.lemmas.Bool.Decides.{nat_tests}
 use Rattle.std.proofs.lemmas.List.{take-append-le, length-take-le, length-drop, drop-drop}
 use Rattle.std.proofs.Math.Seq.{take-length, drop-append-le}
-use Rattle.ocp_tape.specs.Pieces.{Taped, pieces, total, extent, has_room}
+use Rattle.ocp_tape.specs.Pieces.{TapeContents, pieces, total, extent, has_room}
 
 -- ---- lengths
 
@@ -81,8 +81,8 @@ less-than n m is = grind (arith, nat_tests)
 at-most : (n m : ℕ) → nat_le n m ≡ true → n ≤ m
 at-most n m is = grind (arith, nat_tests)
 
-pub most-of-room : (t : Taped) (n : ℕ) → has_room t n ≡ true → length t.pieces < t.most
+pub most-of-room : (t : TapeContents) (n : ℕ) → has_room t n ≡ true → length t.pieces < t.most
 most-of-room t n is = less-than (length t.pieces) t.most (and-true (nat_lt (length t.pieces) t.most) (nat_le (extent t.pieces + n) t.room) is).0
 
-pub octets-of-room : (t : Taped) (n : ℕ) → has_room t n ≡ true → extent t.pieces + n ≤ t.room
+pub octets-of-room : (t : TapeContents) (n : ℕ) → has_room t n ≡ true → extent t.pieces + n ≤ t.room
 octets-of-room t n is = at-most (extent t.pieces + n) t.room (and-true (nat_lt (length t.pieces) t.most) (nat_le (extent t.pieces + n) t.room) is).1

@@ -4,7 +4,7 @@ use Rattle.std.specs.Prelude.{Some, slice_get}
 use Rattle.std.specs.Option.{option_map}
 use Rattle.std.proofs.lemmas.Option.{slice_get-get_or}
 use Rattle.ocp_tape.specs.Pieces.{extent, total}
-use Rattle.ocp_tape.specs.Mirror.Cut.{distance, lengths_of, taped_of, IsCut}
+use Rattle.ocp_tape.specs.Mirror.Cut.{distance, lengths_of, contents_of, IsCut}
 use Rattle.ocp_tape.specs.declared.tape.Tape.TheInside.{Inside}
 use Rattle.ocp_tape.proofs.Cut.{length-pieces, extent-pieces, lengths-at, piece-at, length-piece, total-within}
 use Rattle.ocp_tape.proofs.Places.{length-lengths_of, lengths_found, before_piece}
@@ -17,22 +17,22 @@ module _ {A : Type 0} (t : Inside A) (cut : IsCut t) where
   abbrev lengths : List ℕ
   lengths = lengths_of t.start t.ends.items
 
-  pub count : length (taped_of t).pieces ≡ length t.ends.items
+  pub count : length (contents_of t).pieces ≡ length t.ends.items
   count = length-pieces lengths t.octets.items ∙ length-lengths_of t.start t.ends.items
 
-  pub size : extent (taped_of t).pieces ≡ length t.octets.items
+  pub size : extent (contents_of t).pieces ≡ length t.octets.items
   size = extent-pieces lengths t.octets.items cut.whole
 
   -- all octets are fewer than 2^32
   pub few : total lengths < 2 ^ 32
   few = omega (arith, cut.whole, cut.within, cut.limit)
 
-  pub lengths_are : (i : ℕ) → option_map (distance (get_or (t.start ∷ t.ends.items) i 0)) (slice_get t.ends.items i) ≡ option_map length (slice_get (taped_of t).pieces i)
+  pub lengths_are : (i : ℕ) → option_map (distance (get_or (t.start ∷ t.ends.items) i 0)) (slice_get t.ends.items i) ≡ option_map length (slice_get (contents_of t).pieces i)
   lengths_are i = sym (lengths_found t.start t.ends.items i) ∙ lengths-at lengths t.octets.items i cut.whole
 
   module _ (i : ℕ) (there : i < length t.ends.items) where
     abbrev piece : List ℕ
-    piece = get_or (taped_of t).pieces i []
+    piece = get_or (contents_of t).pieces i []
 
     abbrev before : ℕ
     before = distance t.start (get_or (t.start ∷ t.ends.items) i 0)

@@ -3,20 +3,20 @@ use Rattle.std.proofs.Common.{◌≡◌, ◌≤◌, ◌<◌, ◌+◌, ◌^◌, �
 use Rattle.std.specs.Prelude.{◌%◌}
 use Rattle.circular_buffer.specs.Buffer.{Buffer, buffer}
 use Rattle.ocp_tape.specs.Pieces.{pieces, total, has_room}
-use Rattle.ocp_tape.specs.Mirror.Cut.{distance, lengths_of, taped_of, IsCut}
+use Rattle.ocp_tape.specs.Mirror.Cut.{distance, lengths_of, contents_of, IsCut}
 use Rattle.ocp_tape.specs.declared.tape.Tape.TheInside.{Inside}
 use Rattle.ocp_tape.proofs.Cut.{pieces-more, total-more, most-of-room, octets-of-room}
 use Rattle.ocp_tape.proofs.Places.{distance-on, lengths-more}
 use Rattle.ocp_tape.proofs.Insides.{count, size}
 
-module _ {A : Type 0} (t : Inside A) (cut : IsCut t) (p : List ℕ) (room : has_room (taped_of t) (length p) ≡ true) (octets ends : Buffer ℕ) (end : ℕ)
+module _ {A : Type 0} (t : Inside A) (cut : IsCut t) (p : List ℕ) (room : has_room (contents_of t) (length p) ≡ true) (octets ends : Buffer ℕ) (end : ℕ)
     (put : octets ≡ buffer (t.octets.items ++ p) t.octets.capacity) (ended : ends ≡ buffer (t.ends.items ++ end ∷ []) t.ends.capacity)
     (at : end ≡ (get_or (t.start ∷ t.ends.items) (length t.ends.items) 0 + length p) % 2 ^ 32) where
   abbrev new : Inside A
   new = record { octets = octets; ends = ends; start = t.start }
 
   fits : length t.octets.items + length p ≤ t.octets.capacity
-  fits = omega (arith, octets-of-room (taped_of t) (length p) room, size t cut)
+  fits = omega (arith, octets-of-room (contents_of t) (length p) room, size t cut)
 
   short : length p < 2 ^ 32
   short = omega (arith, fits, cut.limit)
@@ -28,7 +28,7 @@ module _ {A : Type 0} (t : Inside A) (cut : IsCut t) (p : List ℕ) (room : has_
       ∙ lengths-more t.start t.ends.items end
       ∙ ap (λ n. lengths_of t.start t.ends.items ++ n ∷ []) (ap (distance last) at ∙ distance-on last (length p) short)
 
-  pub taped_more : taped_of new ≡ record (taped_of t) { pieces = (taped_of t).pieces ++ p ∷ [] }
+  pub taped_more : contents_of new ≡ record (contents_of t) { pieces = (contents_of t).pieces ++ p ∷ [] }
   taped_more =
       let more = (λ i. pieces (lengths i) (put i).items) ∙ pieces-more (lengths_of t.start t.ends.items) t.octets.items p cut.whole in
       λ i. record { pieces = more i; most = (ended i).capacity; room = (put i).capacity }
@@ -37,7 +37,7 @@ module _ {A : Type 0} (t : Inside A) (cut : IsCut t) (p : List ℕ) (room : has_
   cut_more =
       let sizes : length octets.items ≡ length t.octets.items + length p = ap (λ b. length b.items) put ∙ length-append t.octets.items p in
       let counts : length ends.items ≡ length t.ends.items + 1 = ap (λ b. length b.items) ended ∙ length-append t.ends.items (end ∷ []) in
-      let left = most-of-room (taped_of t) (length p) room in
+      let left = most-of-room (contents_of t) (length p) room in
       record {
         whole = omega (arith, ap total lengths, total-more (lengths_of t.start t.ends.items) (length p), cut.whole, sizes);
         within = omega (arith, sizes, fits, ap (λ b. b.capacity) put);

@@ -17,11 +17,12 @@ extent [] = 0
 extent (p ∷ ps) = length p + extent ps
 
 -- the pieces, the most that there may be, and the most octets that they may have together
-pub record Taped : Type 0 where
+pub record TapeContents : Type 0 where
   pub pieces : List (List ℕ)
   pub most : ℕ
   pub room : ℕ
 
 -- whether one more piece of this length has room
-abbrev pub has_room : Taped → ℕ → Bool
-has_room t n = if nat_lt (length t.pieces) t.most then nat_le (extent t.pieces + n) t.room else false
+abbrev pub has_room : TapeContents → ℕ → Bool
+has_room t n =
+    if nat_lt (length t.pieces) t.most then nat_le (extent t.pieces + n) t.room else false

@@ -3,7 +3,7 @@
 ghost use Rattle.std.specs.Prelude.{◌≡◌, ◌≤◌, ◌<◌, ◌+◌, ◌++◌, ◌∷◌, [], true, length, take, drop, get_or, slice_get, IfOk};
 ghost use Rattle.std.specs.Option.{option_map};
 ghost use Rattle.circular_buffer.specs.Buffer.{buffer};
-ghost use Rattle.ocp_tape.specs.Pieces.{Taped, extent, has_room};
+ghost use Rattle.ocp_tape.specs.Pieces.{TapeContents, extent, has_room};
 ghost use Rattle.ocp_tape.specs.Mirror.Cut.{distance};
 
 use circular_buffer::HeapCircularBuffer;
@@ -21,12 +21,12 @@ pub struct Tape<A: Allocator = Global> {
 }
 
 impl<A: Allocator> Model for Tape<A> {
-    ghost use Rattle.ocp_tape.specs.Pieces.{Taped};
-    ghost use Rattle.ocp_tape.specs.Mirror.Cut.{taped_of, IsCut};
+    ghost use Rattle.ocp_tape.specs.Pieces.{TapeContents};
+    ghost use Rattle.ocp_tape.specs.Mirror.Cut.{contents_of, IsCut};
 
-    ghost Value = { Taped };
+    ghost Value = { TapeContents };
 
-    ghost view = { taped_of };
+    ghost view = { contents_of };
 
     ghost invariant = { IsCut };
 }

@@ -19,7 +19,7 @@ impl<A: Allocator> State<A> {
 
     /// Writes the reports of all completions that wait, the oldest first, at this time, each to the
     /// source of its request: then none waits any more. The keeper keeps them before anything is
-    /// changed. It fails if none waits, and if the keeper finds no memory, and then changes nothing.
+    /// changed. It fails if none waits, and if the keeper finds no memory; then nothing is changed.
     pub fn drain<K: Keeps>(
         &mut self,
         keeper: &mut K,

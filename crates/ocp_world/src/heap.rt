@@ -1,6 +1,6 @@
 //! Where an event takes the memory of octets and reports.
 
-ghost use Rattle.std.specs.Prelude.{◌≡◌, Bool, true, false, IfOk, OnOk, OnErr};
+ghost use Rattle.std.specs.Prelude.{◌≡◌, Bool, true, false, OnOk, OnErr};
 
 use crate::Keeps;
 use ocp_reports::{PacketList, SharedReports};

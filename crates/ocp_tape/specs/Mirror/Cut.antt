@@ -1,6 +1,6 @@
 -- Pieces by where they end. Places are counts of octets modulo 2^32.
 use Rattle.std.specs.Prelude.{◌≡◌, ◌≤◌, ◌<◌, ℕ, ◌+◌, ◌-◌, ◌%◌, ◌^◌, List, [], ◌∷◌, length}
-use Rattle.ocp_tape.specs.Pieces.{Taped, total, pieces}
+use Rattle.ocp_tape.specs.Pieces.{TapeContents, total, pieces}
 use Rattle.ocp_tape.specs.declared.tape.Tape.TheInside.{Inside}
 
 -- the number of octets from one place to another
@@ -13,8 +13,8 @@ lengths_of start [] = []
 lengths_of start (end ∷ ends) = distance start end ∷ lengths_of end ends
 
 module _ {A : Type 0} where
-  abbrev pub taped_of : Inside A → Taped
-  taped_of t = record {
+  abbrev pub contents_of : Inside A → TapeContents
+  contents_of t = record {
     pieces = pieces (lengths_of t.start t.ends.items) t.octets.items;
     most = t.ends.capacity;
     room = t.octets.capacity;
