@@ -17,7 +17,7 @@ use Rattle.ocp_core.proofs.Owned.{changed_if_there, own_by, get-records_by}
 use Rattle.ocp_core.proofs.Honest.{IsHonest}
 use Rattle.ocp_core.proofs.Carried.{carried}
 
-alone_from-append : (image : List ℕ) (s : State) (xs ys : List Own) → alone_from image s (xs ++ ys) ≡ alone_from image (alone_from image s xs) ys
+pub alone_from-append : (image : List ℕ) (s : State) (xs ys : List Own) → alone_from image s (xs ++ ys) ≡ alone_from image (alone_from image s xs) ys
 alone_from-append image s [] ys = refl
 alone_from-append image s (x ∷ xs) ys = alone_from-append image (state_by image x s) xs ys
 
@@ -26,7 +26,7 @@ machine_by_outcome-own Ran image s = refl
 machine_by_outcome-own (Called call) image s = refl
 machine_by_outcome-own outcome image s = refl
 
-machine_by-own : (change : Change) (image : List ℕ) (s : State) → machine_by change image s ≡ alone_from image s (own_by_change change)
+pub machine_by-own : (change : Change) (image : List ℕ) (s : State) → machine_by change image s ≡ alone_from image s (own_by_change change)
 machine_by-own (Started budget arguments) image s = refl
 machine_by-own (Stepped outcome) image s = machine_by_outcome-own outcome image s
 machine_by-own change image s = refl

@@ -1,5 +1,6 @@
--- The walk through what an event does: an instruction that is done is the next one of its procedure, which runs.
-use Rattle.std.proofs.Common.{◌≡◌, ℕ, Bool, true, false, List, [], ◌∷◌, length, Option, Some, None, refl, sym, ap, ◌∙◌}
+-- The walk through what an event does: an instruction that is done is the next one of its procedure, which runs; an image is
+-- loaded by the world's profile; and a start has at most 256 octets of arguments.
+use Rattle.std.proofs.Common.{◌≡◌, ◌≤◌, ℕ, Bool, true, false, List, [], ◌∷◌, length, Option, Some, None, refl, sym, ap, ◌∙◌}
 use Rattle.std.specs.Prelude.{Result, Ok, Err, nat_lt}
 use Rattle.std.specs.FinMap.{get}
 use Rattle.ocp_profile.specs.declared.profile.Profile.{Profile}
@@ -11,11 +12,14 @@ use Rattle.obcp_types.specs.declared.failure.RequestFault.{RequestFault}
 use Rattle.obcp_types.specs.declared.pending.Due.{Due}
 use Rattle.obcp_types.specs.declared.status.Status.TheVariants.{Running}
 use Rattle.obcp_messages.specs.declared.request.Request.{Request as Command}
+use Rattle.obcp_messages.specs.declared.request.Request.TheVariants as command
 use Rattle.ocp_table.specs.declared.answers.InstructionOutcome.{InstructionOutcome}
 use Rattle.ocp_table.specs.Records.{Rec, Records}
-use Rattle.ocp_table.specs.Effects.{Effect, Loaded, Changed, Change, Stepped}
-use Rattle.ocp_table.specs.RequestTable.{Directive, Load, Step}
-use Rattle.ocp_table.specs.Deciding.{effect_in, outcome_in}
+use Rattle.ocp_table.specs.Effects.{Effect, Loaded, Changed, Change, Started, Stepped}
+use Rattle.ocp_table.specs.RequestTable.{Directive, Load, Activate, Step}
+use Rattle.ocp_table.specs.RequestTable as directive
+use Rattle.ocp_table.specs.Deciding.{effect_in, outcome_in, is_full}
+use Rattle.ocp_table.proofs.Each.{Holds, each}
 use Rattle.ocp_debug.specs.declared.command.Command.TheVariants.{SetBreak, ClearBreak, SetTrace}
 use Rattle.ocp_debug.specs.declared.command.Command as debug
 use Rattle.ocp_debug.specs.declared.command.DebugFault.{DebugFault}
@@ -24,15 +28,13 @@ use Rattle.ocp_reports.specs.declared.origin.Origin.{Origin}
 use Rattle.ocp_reports.specs.Origin.{origin_of}
 use Rattle.ocp_world.specs.World as world
 use Rattle.ocp_world.specs.World.{World, Event}
-use Rattle.ocp_world.specs.Requests.{command_effect, command_of, service_effect, request_effect}
+use Rattle.ocp_world.specs.Requests.{command_effect, command_of, service_effect, request_effect, next_origin, has_no_place}
 use Rattle.ocp_world.specs.Drains.{drain_effect}
 use Rattle.ocp_world.specs.Puts.{put_effect_if}
 use Rattle.ocp_world.specs.After.{effect_of}
-use Rattle.ocp_world.proofs.Asked.{IsAskedIn, each_asked}
-use Rattle.ocp_world.proofs.ByKind.{IsPlain, each_kind}
+use Rattle.ocp_core.proofs.Arguments.{HasFew, ReadsFew, few}
 
--- an instruction that is done is that of the record, on this pool; an image is loaded by this
--- profile
+-- an instruction that is done is that of the record, on this pool
 pub record IsNext (o : Option Rec) (pool : List ℕ) (outcome : InstructionOutcome) : Type 0 where
   pub rec : Rec
   pub is : o ≡ Some rec
@@ -41,6 +43,7 @@ pub record IsNext (o : Option Rec) (pool : List ℕ) (outcome : InstructionOutco
 
 abbrev pub IsHonestChange : Option Rec → List ℕ → Change → Type 0
 IsHonestChange o pool (Stepped outcome) = IsNext o pool outcome
+IsHonestChange o pool (Started budget arguments) = length arguments ≤ 256
 IsHonestChange o pool change = Unit {0}
 
 abbrev pub IsHonest : Profile → Records → List ℕ → Effect → Type 0
@@ -53,20 +56,30 @@ IsHonest profile m pool effect = Unit {0}
 abbrev IsOn : Profile → List ℕ → Directive → Type 0
 IsOn profile pool (Load by image) = by ≡ profile
 IsOn profile pool (Step words) = words ≡ pool
+IsOn profile pool (Activate budget arguments) = length arguments ≤ 256
 IsOn profile pool directive = Unit {0}
 
 module _ (profile : Profile) (m : Records) (pool : List ℕ) where
-  honest_plain : (effect : Effect) → IsPlain effect → IsHonest profile m pool effect
-  honest_plain (Loaded by id image) plain = absurd plain
-  honest_plain (Changed id (Stepped outcome)) plain = absurd plain
-  honest_plain effect plain = tt
+  abbrev Honestly : Directive → Effect → Type 0
+  Honestly d effect = IsOn profile pool d → IsHonest profile m pool effect
+
+  honestly : (id : ℕ) → Holds Honestly id (get m id) (is_full m)
+  honestly id = record {
+    failed = λ d failure on. tt;
+    loaded = λ by image is room on. on;
+    unloaded = λ r is status on. tt;
+    started = λ budget arguments r is status on. on;
+    sends = λ words r is fits on. tt;
+    stop_pends = λ s from r is status on. tt;
+    suspend_pends = λ s from r is status on. tt;
+    stopped = λ s from full r is status on. tt;
+    aborted = λ r is on. tt;
+    resumed = λ r is status on. tt;
+    stepped = λ words outcome r is status next on. record { rec = r; is = is; runs = status; next = ap (outcome_in r) (sym on) ∙ next };
+  }
 
   pub honest_in : (d : Directive) (id : ℕ) → IsOn profile pool d → IsHonest profile m pool (effect_in d id m)
-  honest_in d id on =
-      each_kind (λ d effect. IsOn profile pool d → IsHonest profile m pool effect) id m
-      (λ by image room on. on)
-      (λ words outcome r is status next on. record { rec = r; is = is; runs = status; next = ap (outcome_in r) (sym on) ∙ next })
-      (λ d effect plain on. honest_plain effect plain) d on
+  honest_in d id on = each Honestly id (get m id) (is_full m) (honestly id) d on
 
 -- ---- events
 
@@ -80,20 +93,23 @@ module _ (w : World) where
   abbrev pool : List ℕ
   pool = w.pool
 
-  on_asked : (origin : Origin) (d : Directive) → IsAskedIn w origin d → IsOn profile pool d
-  on_asked origin (Load by image) is = is
-  on_asked origin (Step words) is = absurd is
-  on_asked origin d is = tt
+  honest_command : (request : Command) (origin : Origin) → HasFew request → IsHonest profile m pool (command_effect request origin w).on_records
+  honest_command (command.Load id code) origin few = honest_in profile m pool (Load profile code) id refl
+  honest_command (command.Unload id) origin few = honest_in profile m pool directive.Unload id tt
+  honest_command (command.Activate id budget arguments) origin few = honest_in profile m pool (Activate budget arguments) id few
+  honest_command (command.Stop id step) origin few = honest_in profile m pool (directive.Stop step (next_origin origin w) (has_no_place w)) id tt
+  honest_command (command.Suspend id step) origin few = honest_in profile m pool (directive.Suspend step (next_origin origin w) (has_no_place w)) id tt
+  honest_command (command.Resume id) origin few = honest_in profile m pool directive.Resume id tt
+  honest_command (command.Communicate id words) origin few = honest_in profile m pool (directive.Communicate words) id tt
+  honest_command command.Status origin few = tt
+  honest_command (command.Abort id) origin few = honest_in profile m pool directive.Abort id tt
 
-  honest_command : (request : Command) (origin : Origin) → IsHonest profile m pool (command_effect request origin w).on_records
-  honest_command request origin = each_asked w origin (λ effect. IsHonest profile m pool effect.on_records) (λ d id is. honest_in profile m pool d id (on_asked origin d is)) tt request
-
-  honest_service : (r : Result Command RequestFault) (origin : Origin) → IsHonest profile m pool (service_effect r origin w).on_records
-  honest_service (Ok request) origin = honest_command request origin
-  honest_service (Err fault) origin = tt
+  honest_service : (r : Result Command RequestFault) (origin : Origin) → ReadsFew r → IsHonest profile m pool (service_effect r origin w).on_records
+  honest_service (Ok request) origin few = honest_command request origin few
+  honest_service (Err fault) origin few = tt
 
   honest_request : (r : Result Telecommand TcFault) (time : ℕ) → IsHonest profile m pool (request_effect r time w).on_records
-  honest_request (Ok tc) time = honest_service (command_of profile tc) (origin_of tc time)
+  honest_request (Ok tc) time = honest_service (command_of profile tc) (origin_of tc time) (few profile tc)
   honest_request (Err (Rejected rejection request)) time = tt
   honest_request (Err (Discarded cause)) time = tt
 

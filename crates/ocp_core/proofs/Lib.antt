@@ -4,6 +4,7 @@ pub mod Counting
 pub mod Journaling
 pub mod Runs
 pub mod Owned
+pub mod Arguments
 pub mod Honest
 pub mod Carried
 pub mod Factorisation
@@ -13,6 +14,7 @@ pub mod Numbered
 pub mod Completions
 pub mod Idle
 pub mod Turns
+pub mod Possible
 pub mod Budgets
 pub mod Exchanges
 pub mod Committing

@@ -89,17 +89,17 @@ module _ (r : Rec) (pool : List ℕ) where
     not_held true is differs differs_spent e = absurd (differs e)
     not_held false is differs differs_spent e = let here = unspent (is_spent r.remaining) refl differs_spent e in (is, here.0, here.1)
 
-    of_machine : (Some Broke ≡ Some outcome → ⊥) → (Some (Faulted BudgetSpent) ≡ Some outcome → ⊥) → outcome_in r pool ≡ Some outcome → IsOfMachine
+    pub of_machine : (Some Broke ≡ Some outcome → ⊥) → (Some (Faulted BudgetSpent) ≡ Some outcome → ⊥) → outcome_in r pool ≡ Some outcome → IsOfMachine
     of_machine differs differs_spent e = not_held (breaks_at r.control.pass r.breakpoints r.machine.place) refl differs differs_spent e
 
-  abbrev answer_of : ℤ → Option Call
+  abbrev pub answer_of : ℤ → Option Call
   answer_of number = engine_call number (read r.machine 1) (read r.machine 2) (read r.machine 3) pool r.mailbox
 
   answered_call : (call : Call) (c : Option Call) → Some (outcome_of_call c) ≡ Some (Called call) → c ≡ Some call
   answered_call call (Some other) e = cc
   answered_call call None e = cc
 
-  answered_need : (call : Call) (l : Outcome) → outcome_of l r.machine pool r.mailbox ≡ Some (Called call) → (number : ℤ) × (l ≡ Needs (need.Call number)) × (answer_of number ≡ Some call)
+  pub answered_need : (call : Call) (l : Outcome) → outcome_of l r.machine pool r.mailbox ≡ Some (Called call) → (number : ℤ) × (l ≡ Needs (need.Call number)) × (answer_of number ≡ Some call)
   answered_need call (Next s) e = cc
   answered_need call (Needs need.LastExit) e = cc
   answered_need call (Needs (need.Fault fault)) e = cc

@@ -9,6 +9,7 @@ pub mod Running
 pub mod History
 pub mod Own
 pub mod Alone
+pub mod Possible
 pub mod Pool
 pub mod Mailbox
 pub mod Outbox

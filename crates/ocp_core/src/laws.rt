@@ -20,7 +20,8 @@ pub use ocp_world::laws::{
 };
 pub use procedures::{
     engine_calls_answer_from_the_pool, instructions_of_two_procedures_change_places,
-    machines_follow_from_their_own_events, the_pool_follows_from_its_operations,
+    machines_follow_from_their_own_events, own_events_are_those_of_the_image,
+    the_machine_faults_by_its_image, the_pool_follows_from_its_operations,
     words_are_taken_in_the_order_sent,
 };
 

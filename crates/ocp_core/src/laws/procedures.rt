@@ -1,6 +1,7 @@
 //! One procedure by itself, over every list of events. The functions do nothing when they run:
 //! their contracts are the laws.
 ghost use Rattle.ocp_core.specs.Alone.{IsFactored};
+ghost use Rattle.ocp_core.specs.Possible.{ImagesStay, OwnEventsArePossible, FaultsOfMachine, FaultsAreAnswered};
 ghost use Rattle.ocp_core.specs.Pool.{PoolIsOfOperations, CallsAreAnswered, CallsAnswerWords, FaultsOutside};
 ghost use Rattle.ocp_core.specs.Mailbox.{WordsComeInOrder, NoneIsLeft};
 ghost use Rattle.ocp_core.specs.Exchange.{MayBeExchanged, MayBeExchangedInLists};
@@ -10,6 +11,21 @@ ghost use Rattle.ocp_core.specs.Exchange.{MayBeExchanged, MayBeExchangedInLists}
 #[tactic(auto, using(crate::proofs::Factorisation::factorisation))]
 pub fn machines_follow_from_their_own_events()
     ensures { IsFactored }
+{}
+
+/// A procedure's image is that of its last load, and its own events since then are events that this
+/// image brings about: each start has at most 256 octets of arguments, each instruction is the one
+/// at the machine's place, and so is each engine call.
+pub fn own_events_are_those_of_the_image()
+    ensures image { ImagesStay }
+    ensures events { OwnEventsArePossible }
+{}
+
+/// An instruction event is fault 1, 2 or 3 exactly where the image's instruction at the machine's
+/// place can't be done. An answer that gives the number of a fault is that of such an event.
+pub fn the_machine_faults_by_its_image()
+    ensures fault { FaultsOfMachine }
+    ensures answer { FaultsAreAnswered }
 {}
 
 /// The pool is what the operations of all procedures make of it, in order.

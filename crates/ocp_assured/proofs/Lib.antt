@@ -1,0 +1,2 @@
+pub mod Flying
+pub mod Faults

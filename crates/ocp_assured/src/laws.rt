@@ -1,0 +1,61 @@
+//! Laws on images in flight. The functions do nothing when they run: their contracts are the laws.
+ghost use Rattle.std.specs.Prelude.{ℕ, List};
+ghost use Rattle.ocp_check.specs.Never.{AsksWell, NeverFaults};
+ghost use Rattle.ocp_check.specs.Rounds.{IsWithin};
+ghost use Rattle.ocp_assured.specs.Flights.{AsksWellInFlight, AsksWellInJournals, IsWithinInFlight, MachinesAreReached, NeverFaultsInFlight, NeverFaultsInJournals};
+
+use bpf_step::laws::{machines_keep_their_addresses, machines_started_anew_are_as_new};
+use ocp_core::laws::{
+    engine_calls_answer_from_the_pool, machines_follow_from_their_own_events,
+    own_events_are_those_of_the_image, the_machine_faults_by_its_image,
+};
+
+/// In every engine, after any requests, instructions, commands of a debugger, drains and writes of
+/// pool words in any order, the machine of each loaded procedure is one that its image reaches. It
+/// may share the image with another procedure, be loaded again under the same identifier, and be
+/// activated again with other arguments.
+pub fn machines_in_flight_are_reached()
+    ensures { MachinesAreReached }
+{
+    machines_keep_their_addresses();
+    machines_started_anew_are_as_new();
+    machines_follow_from_their_own_events();
+    own_events_are_those_of_the_image();
+}
+
+/// If no machine of an image meets a fault of its own, as `ocp_check::check` shows, then no
+/// instruction of a procedure with this image is answered fault 1, 2 or 3 in flight.
+pub fn images_that_never_fault_do_not_in_flight()
+    ensures events { (image : List ℕ) → NeverFaults image → NeverFaultsInFlight image }
+    ensures journal { (image : List ℕ) → NeverFaults image → NeverFaultsInJournals image }
+{
+    machines_in_flight_are_reached();
+    own_events_are_those_of_the_image();
+    the_machine_faults_by_its_image();
+}
+
+/// If an image asks for words of a pool of a size alone, as `ocp_check::check_pool` shows, then no
+/// instruction of a procedure with this image is answered fault 4 in flight, in an engine that has
+/// as many pool words or more.
+pub fn images_that_ask_well_do_so_in_flight()
+    ensures events { (image : List ℕ) (asked : ℕ) →
+        AsksWell image asked → AsksWellInFlight image asked }
+    ensures journal { (image : List ℕ) (asked : ℕ) →
+        AsksWell image asked → AsksWellInJournals image asked }
+{
+    machines_in_flight_are_reached();
+    own_events_are_those_of_the_image();
+    the_machine_faults_by_its_image();
+    engine_calls_answer_from_the_pool();
+}
+
+/// If an image does fewer instructions than a bound without the end of a step, as
+/// `ocp_check::check_rounds` shows, then each round of a procedure with this image has at most that
+/// many instructions in flight, the one counted that ends the step or the procedure.
+pub fn rounds_are_within_their_bound_in_flight()
+    ensures { (image : List ℕ) (most : ℕ) → IsWithin image most → IsWithinInFlight image most }
+{
+    machines_keep_their_addresses();
+    machines_started_anew_are_as_new();
+    own_events_are_those_of_the_image();
+}

@@ -1,0 +1,5 @@
+//! What the checker of images shows of one machine, said of flights: of every list of events of
+//! every engine in which such an image is loaded.
+#![tactic(auto)]
+
+pub mod laws;
