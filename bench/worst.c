@@ -156,12 +156,12 @@ static void end_line(void)
 /* A call of the plan: which one, whether it is marked, the status that has to come, the numbers, and the octets of a packet. */
 struct step {
     uint8_t call, marked, status, unused[5];
-    uint64_t a, b, c, d;
+    uint64_t a, b, c, d, e;
     uint64_t octets; /* that follow, and then none to seven more */
 };
 
 enum { END, OPEN, CLOSE, REQUEST, DRAIN, SLICE, STEP, NEXT, SET_BREAK, CLEAR_BREAK, TRACE, MEMORY, VIEW, POOL_WORD, EVENTS, ROOM,
-       ENTRY, NOTHING, BLOCK, PUT_WORD, ROUND };
+       ENTRY, NOTHING, BLOCK, PUT_WORD, ROUND, FIRST_ENTRY, RELEASE, TRACE_RECORD, VERSION };
 
 enum { ANY = 255 }; /* in place of a status: each is right */
 
@@ -170,7 +170,8 @@ extern const uint8_t plan[];
 static struct ocp_engine engine = OCP_CLOSED;
 static uint8_t reports[OCP_DRAIN_REPORTS], octets[OCP_LONGEST_ENTRY];
 static size_t written;
-static uint64_t registers[11], wide;
+static uint64_t registers[11], wide, other;
+static struct ocp_trace_record record;
 static struct ocp_outcome outcome;
 static struct ocp_view view;
 static uint32_t count;
@@ -189,7 +190,7 @@ static void words_of(const struct step *step, uint64_t *words)
 {
     const uint64_t own = WORD(&engine);
     const uint64_t all[][8] = {
-        [OPEN] = {WORD(ocp_open), own, step->a, step->b, step->c, step->d},
+        [OPEN] = {WORD(ocp_open), own, step->a, step->b, step->c, step->d, step->e},
         [CLOSE] = {WORD(ocp_close), own},
         [REQUEST] = {WORD(ocp_request), own, step->a, WORD(step + 1), step->octets, WORD(reports), sizeof reports, WORD(&written)},
         [DRAIN] = {WORD(ocp_drain), own, step->a, WORD(reports), sizeof reports, WORD(&written)},
@@ -203,7 +204,11 @@ static void words_of(const struct step *step, uint64_t *words)
         [VIEW] = {WORD(ocp_view), own, step->a, WORD(&view), WORD(registers), 11},
         [POOL_WORD] = {WORD(ocp_pool_word), own, step->a, WORD(&wide)},
         [EVENTS] = {WORD(ocp_events), own, WORD(&wide)},
-        [ROOM] = {WORD(ocp_room), own, WORD(&wide)},
+        [ROOM] = {WORD(ocp_room), own, WORD(&wide), WORD(&other)},
+        [FIRST_ENTRY] = {WORD(ocp_first_entry), own, WORD(&wide)},
+        [RELEASE] = {WORD(ocp_release), own, step->a},
+        [TRACE_RECORD] = {WORD(ocp_trace_record), own, step->a, WORD(&record), WORD(registers), 11},
+        [VERSION] = {WORD(ocp_version)},
         [ENTRY] = {WORD(ocp_entry), own, step->a, WORD(octets), sizeof octets, WORD(&written)},
 #ifdef HAS_PUT_WORD
         [PUT_WORD] = {WORD(ocp_put_word), own, step->a, step->b},

@@ -54,7 +54,8 @@ static void want(int line, const char *call, uint32_t wanted, uint32_t given)
 
 /* ---- packets */
 
-enum { APID = 291, LOAD = 1, ACTIVATE = 3, STOP = 4, SUSPEND = 5, RESUME = 6, STATUS = 8, LONGEST = 65542, POOL_WORDS = 16 };
+enum { APID = 291, LOAD = 1, UNLOAD = 2, ACTIVATE = 3, STOP = 4, SUSPEND = 5, RESUME = 6, STATUS = 8, LONGEST = 65542, POOL_WORDS = 16,
+       OCTETS = 100000 /* of most journals */, MOST_OCTETS = 1073741824, STEPS_ENTRY = 9, PUT_WORD_ENTRY = 13 };
 
 static uint8_t packet[LONGEST + 1];
 static uint8_t reports[OCP_DRAIN_REPORTS];
@@ -104,7 +105,7 @@ static const uint8_t stop_7[] = {0, 7, 0, 0};
 /* ---- an engine and what is seen of it */
 
 struct seen {
-    uint64_t events, room;
+    uint64_t events, room, octets, first;
     struct ocp_view view;
     uint64_t registers[11];
     uint32_t view_status;
@@ -115,7 +116,7 @@ static struct ocp_engine engine = OCP_CLOSED;
 
 static uint32_t open_small(void)
 {
-    return ocp_open(&engine, 1, APID, POOL_WORDS, 4);
+    return ocp_open(&engine, 1, APID, POOL_WORDS, 4, OCTETS);
 }
 
 static struct seen see(void)
@@ -123,7 +124,8 @@ static struct seen see(void)
     struct seen seen;
     memset(&seen, 0, sizeof seen);
     ocp_events(&engine, &seen.events);
-    ocp_room(&engine, &seen.room);
+    ocp_room(&engine, &seen.room, &seen.octets);
+    ocp_first_entry(&engine, &seen.first);
     seen.view_status = ocp_view(&engine, 7, &seen.view, seen.registers, 11);
     for (uint64_t index = 0; index < POOL_WORDS; index++)
         ocp_pool_word(&engine, index, &seen.pool[index]);
@@ -178,12 +180,13 @@ static void each_growth(const char *name, uint32_t (*call)(void))
 /* Every call but ocp_open on a handle that is not open. What the pointers point to stays. */
 static void closed_handle(void)
 {
-    uint64_t wide = 77, registers[11] = {77};
+    uint64_t wide = 77, other = 77, registers[11] = {77};
     uint32_t count = 77, step = 77;
     uint16_t id = 77;
     uint8_t octets[4] = {77};
     struct ocp_outcome outcome = {77, 77};
     struct ocp_view view = {.status = 77};
+    struct ocp_trace_record record = {77, 77, {77, 77}};
     written = 77;
     memset(reports, 77, sizeof reports);
     WANT(OCP_NOT_OPEN, ocp_close(&engine));
@@ -203,26 +206,42 @@ static void closed_handle(void)
     WANT(OCP_NOT_OPEN, ocp_view(&engine, 7, &view, registers, 0));
     WANT(OCP_NOT_OPEN, ocp_pool_word(&engine, 0, &wide));
     WANT(OCP_NOT_OPEN, ocp_events(&engine, &wide));
-    WANT(OCP_NOT_OPEN, ocp_room(&engine, &wide));
+    WANT(OCP_NOT_OPEN, ocp_room(&engine, &wide, &other));
+    WANT(OCP_NOT_OPEN, ocp_first_entry(&engine, &wide));
+    WANT(OCP_NOT_OPEN, ocp_release(&engine, 0));
+    WANT(OCP_NOT_OPEN, ocp_release(&engine, UINT64_MAX));
+    WANT(OCP_NOT_OPEN, ocp_trace_record(&engine, 0, &record, registers, 0));
     WANT(OCP_NOT_OPEN, ocp_entry(&engine, 0, octets, 4, &written));
+    HOLDS(other == 77 && record.id == 77 && record.place == 77 && record.outcome.kind == 77 && record.outcome.fault == 77);
     HOLDS(written == 77 && wide == 77 && registers[0] == 77 && count == 77 && id == 77 && octets[0] == 77);
     HOLDS(step == 77 && outcome.kind == 77 && outcome.fault == 77 && view.status == 77 && reports[0] == 77);
+}
+
+/* The version is that of the header. */
+static void version(void)
+{
+    WANT(OCP_VERSION, ocp_version());
 }
 
 /* The numbers of ocp_open, each at both ends of its range, and the order of their refusals. */
 static void numbers(void)
 {
-    WANT(OCP_BAD_PROFILE, ocp_open(&engine, 0, 2047, 0, 0));
-    WANT(OCP_BAD_PROFILE, ocp_open(&engine, 3, 2046, 1, 1));
-    WANT(OCP_BAD_APID, ocp_open(&engine, 2, 2047, 0, 0));
-    WANT(OCP_BAD_POOL_WORDS, ocp_open(&engine, 2, 2046, 0, 0));
-    WANT(OCP_BAD_POOL_WORDS, ocp_open(&engine, 1, 0, 257, 0));
-    WANT(OCP_BAD_CAPACITY, ocp_open(&engine, 1, 0, 256, 0));
-    WANT(OCP_BAD_CAPACITY, ocp_open(&engine, 1, 0, 1, 1000001));
-    WANT(OCP_BAD_CAPACITY, ocp_open(&engine, 1, 0, 1, UINT32_MAX));
+    WANT(OCP_BAD_PROFILE, ocp_open(&engine, 0, 2047, 0, 0, 0));
+    WANT(OCP_BAD_PROFILE, ocp_open(&engine, 3, 2046, 1, 1, 1));
+    WANT(OCP_BAD_APID, ocp_open(&engine, 2, 2047, 0, 0, 0));
+    WANT(OCP_BAD_POOL_WORDS, ocp_open(&engine, 2, 2046, 0, 0, 0));
+    WANT(OCP_BAD_POOL_WORDS, ocp_open(&engine, 1, 0, 257, 0, 0));
+    WANT(OCP_BAD_CAPACITY, ocp_open(&engine, 1, 0, 256, 0, 0));
+    WANT(OCP_BAD_CAPACITY, ocp_open(&engine, 1, 0, 1, 1000001, 0));
+    WANT(OCP_BAD_CAPACITY, ocp_open(&engine, 1, 0, 1, UINT32_MAX, UINT32_MAX));
+    WANT(OCP_BAD_OCTETS, ocp_open(&engine, 1, 0, 256, 1, 0));
+    WANT(OCP_BAD_OCTETS, ocp_open(&engine, 1, 0, 1, 1000000, MOST_OCTETS + 1));
+    WANT(OCP_BAD_OCTETS, ocp_open(&engine, 1, 0, 1, 1, UINT32_MAX));
     WANT(OCP_NOT_OPEN, ocp_close(&engine));
-    WANT(OCP_DONE, ocp_open(&engine, 2, 2046, 256, 1000000));
-    WANT(OCP_ALREADY_OPEN, ocp_open(&engine, 0, 2047, 0, 0));
+    WANT(OCP_DONE, ocp_open(&engine, 2, 2046, 256, 1000000, 1));
+    WANT(OCP_ALREADY_OPEN, ocp_open(&engine, 0, 2047, 0, 0, 0));
+    WANT(OCP_DONE, ocp_close(&engine));
+    WANT(OCP_DONE, ocp_open(&engine, 1, 0, 1, 1, MOST_OCTETS));
     WANT(OCP_DONE, ocp_close(&engine));
     WANT(OCP_NOT_OPEN, ocp_close(&engine));
     each_growth("ocp_open", open_small);
@@ -232,6 +251,17 @@ static void numbers(void)
 static uint32_t load(void)
 {
     return request(LOAD, load_7, sizeof load_7);
+}
+
+static uint32_t load_rounds_7(void)
+{
+    return request(LOAD, load_rounds, sizeof load_rounds);
+}
+
+static uint32_t load_long(void)
+{
+    static uint8_t data[4 + 2048 * 8] = {0, 8, 2048 * 8 >> 8, 0};
+    return request(LOAD, data, sizeof data);
 }
 
 static uint32_t activate(void)
@@ -252,7 +282,7 @@ static uint32_t drain(void)
 /* Octets that are no request, and buffers that are too short. */
 static void packets(void)
 {
-    WANT(OCP_DONE, ocp_open(&engine, 1, APID, POOL_WORDS, 20));
+    WANT(OCP_DONE, ocp_open(&engine, 1, APID, POOL_WORDS, 20, OCTETS));
     memset(packet, 0, sizeof packet);
     REFUSED(OCP_BUFFER_TOO_SMALL, ocp_request(&engine, 0, packet, 0, reports, OCP_REQUEST_REPORTS - 1, &written));
     REFUSED(OCP_BUFFER_TOO_SMALL, ocp_request(&engine, 0, packet, 0, reports, 0, &written));
@@ -287,7 +317,7 @@ static void procedures(void)
     uint32_t count = 77;
     uint16_t id = 77;
     uint8_t octets[512] = {77};
-    WANT(OCP_DONE, ocp_open(&engine, 1, APID, POOL_WORDS, 20));
+    WANT(OCP_DONE, ocp_open(&engine, 1, APID, POOL_WORDS, 20, OCTETS));
     REFUSED(OCP_NOT_LOADED, ocp_step(&engine, 8, &outcome));
     REFUSED(OCP_NOT_LOADED, ocp_slice(&engine, 8, 1, &count, &outcome));
     REFUSED(OCP_NO_BUDGET, ocp_slice(&engine, 8, 0, &count, &outcome));
@@ -337,6 +367,7 @@ static void written_word(int line, uint64_t index, uint64_t value)
     before.pool[index] = value;
     before.events++;
     before.room--;
+    before.octets -= PUT_WORD_ENTRY;
     want(line, name, true, is_same(&before, &after));
 }
 
@@ -348,7 +379,7 @@ static void pool_words(void)
     uint64_t word = 77;
     struct ocp_outcome last;
     uint32_t count;
-    WANT(OCP_DONE, ocp_open(&engine, 1, APID, POOL_WORDS, 100));
+    WANT(OCP_DONE, ocp_open(&engine, 1, APID, POOL_WORDS, 100, OCTETS));
     for (uint64_t index = 0; index < POOL_WORDS; index++)
         PUT(index, UINT64_MAX - index);
     PUT(3, 0);
@@ -374,13 +405,13 @@ static void pool_words(void)
     WANT(OCP_DONE, ocp_close(&engine));
 
     /* the largest pool and the smallest */
-    WANT(OCP_DONE, ocp_open(&engine, 2, APID, 256, 5));
+    WANT(OCP_DONE, ocp_open(&engine, 2, APID, 256, 5, OCTETS));
     WANT(OCP_DONE, ocp_put_word(&engine, 255, 9));
     WANT(OCP_DONE, ocp_pool_word(&engine, 255, &word));
     HOLDS(word == 9);
     REFUSED(OCP_NO_WORD, ocp_put_word(&engine, 256, 9));
     WANT(OCP_DONE, ocp_close(&engine));
-    WANT(OCP_DONE, ocp_open(&engine, 1, APID, 1, 5));
+    WANT(OCP_DONE, ocp_open(&engine, 1, APID, 1, 5, OCTETS));
     WANT(OCP_DONE, ocp_put_word(&engine, 0, 9));
     REFUSED(OCP_NO_WORD, ocp_put_word(&engine, 1, 9));
     WANT(OCP_DONE, ocp_close(&engine));
@@ -402,7 +433,8 @@ static void done_round(int line, uint32_t budget, uint32_t wanted_count, uint32_
     want(line, name, kind, last.kind);
     want(line, name, fault, last.fault);
     want(line, name, wanted_step, step);
-    want(line, name, true, after.events == before.events + wanted_count && after.room == before.room - 1);
+    want(line, name, true, after.events == before.events + wanted_count && after.room == before.room - 1 &&
+                         after.octets == before.octets - STEPS_ENTRY);
 }
 
 #define ROUND(budget, count, kind, fault, step) done_round(__LINE__, budget, count, kind, fault, step)
@@ -414,7 +446,7 @@ static void rounds(void)
     uint64_t registers[11];
     uint32_t count = 77, step = 77;
     struct ocp_outcome last = {77, 77};
-    WANT(OCP_DONE, ocp_open(&engine, 1, APID, POOL_WORDS, 100));
+    WANT(OCP_DONE, ocp_open(&engine, 1, APID, POOL_WORDS, 100, OCTETS));
     REFUSED(OCP_NO_BUDGET, ocp_round(&engine, 8, 0, &count, &last, &step));
     REFUSED(OCP_NOT_LOADED, ocp_round(&engine, 8, 1, &count, &last, &step));
     WANT(OCP_DONE, request(LOAD, load_rounds, sizeof load_rounds));
@@ -466,7 +498,7 @@ static void rounds(void)
     WANT(OCP_DONE, ocp_close(&engine));
 
     /* the last exit, and a fault */
-    WANT(OCP_DONE, ocp_open(&engine, 1, APID, POOL_WORDS, 20));
+    WANT(OCP_DONE, ocp_open(&engine, 1, APID, POOL_WORDS, 20, OCTETS));
     WANT(OCP_DONE, request(LOAD, load_reader, sizeof load_reader));
     WANT(OCP_DONE, request(ACTIVATE, read_15, sizeof read_15));
     ROUND(1000, 3, OCP_ENDED, 0, OCP_NO_STEP);
@@ -512,6 +544,58 @@ static void full_journal(void)
     WANT(OCP_DONE, ocp_close(&engine));
 }
 
+/* A journal that is full by its octets, while it has room for entries. What does not fit is refused, and what fits is done. */
+static void full_octets(void)
+{
+    struct ocp_outcome last;
+    uint32_t count;
+    const size_t head = 11, control = 2, time = 7; /* of a telecommand; of the entry of a request */
+    const uint32_t octets = (uint32_t)(time + head + sizeof load_7 + control + PUT_WORD_ENTRY + STEPS_ENTRY);
+    WANT(OCP_DONE, ocp_open(&engine, 1, APID, POOL_WORDS, 1000, octets));
+    HOLDS(see().room == 1000 && see().octets == octets);
+    WANT(OCP_DONE, load());
+    HOLDS(see().room == 999 && see().octets == PUT_WORD_ENTRY + STEPS_ENTRY);
+    REFUSED(OCP_JOURNAL_FULL, activate()); /* 24 octets */
+    PUT(15, 1);
+    REFUSED(OCP_JOURNAL_FULL, ocp_put_word(&engine, 15, 2)); /* 13 octets into 9 */
+    REFUSED(OCP_NO_WORD, ocp_put_word(&engine, 16, 2));
+    WANT(OCP_DONE, ocp_trace(&engine, 7, false)); /* 7 octets */
+    REFUSED(OCP_JOURNAL_FULL, ocp_set_break(&engine, 7, 0));
+    HOLDS(see().room == 997 && see().octets == 2);
+    WANT(OCP_DONE, ocp_release(&engine, 1));
+    HOLDS(see().room == 998 && see().octets == octets - PUT_WORD_ENTRY - 7 && see().first == 1);
+    WANT(OCP_DONE, activate());
+    WANT(OCP_DONE, ocp_slice(&engine, 7, 1000, &count, &last));
+    HOLDS(count == 1000);
+    WANT(OCP_DONE, ocp_close(&engine));
+
+    /* a journal of 100 octets, and the longest packet: it is never taken */
+    WANT(OCP_DONE, ocp_open(&engine, 1, APID, POOL_WORDS, 1000000, 100));
+    memset(packet, 0, sizeof packet);
+    packet[0] = 0x18 | APID >> 8;
+    packet[1] = APID & 255;
+    packet[4] = packet[5] = 0xff;
+    REFUSED(OCP_JOURNAL_FULL, ocp_request(&engine, 0, packet, LONGEST, reports, OCP_REQUEST_REPORTS, &written));
+    REFUSED(OCP_JOURNAL_FULL, load_long());
+    WANT(OCP_DONE, load());
+    WANT(OCP_DONE, ocp_close(&engine));
+
+    /* one of 65,549 octets takes it once, and again after a release */
+    WANT(OCP_DONE, ocp_open(&engine, 1, APID, POOL_WORDS, 2, OCP_LONGEST_ENTRY));
+    for (uint64_t turn = 0; turn < 3; turn++) {
+        memset(packet, 0, sizeof packet);
+        packet[0] = 0x18 | APID >> 8;
+        packet[1] = APID & 255;
+        packet[4] = packet[5] = 0xff;
+        WANT(OCP_DONE, ocp_request(&engine, 0, packet, LONGEST, reports, OCP_REQUEST_REPORTS, &written));
+        HOLDS(see().room == 1 && see().octets == 0 && see().first == turn);
+        REFUSED(OCP_JOURNAL_FULL, ocp_put_word(&engine, 0, 1));
+        WANT(OCP_DONE, ocp_release(&engine, 1));
+        HOLDS(see().room == 2 && see().octets == OCP_LONGEST_ENTRY);
+    }
+    WANT(OCP_DONE, ocp_close(&engine));
+}
+
 /* The octets of an entry, in a buffer that is just long enough, one octet too short, and longer. */
 static void entry(int line, uint64_t index, const uint8_t *octets, size_t length)
 {
@@ -546,7 +630,7 @@ static void entries(void)
     struct ocp_outcome last;
     uint32_t count;
     uint8_t octets[16] = {77};
-    WANT(OCP_DONE, ocp_open(&engine, 1, APID, POOL_WORDS, 20));
+    WANT(OCP_DONE, ocp_open(&engine, 1, APID, POOL_WORDS, 20, OCTETS));
     REFUSED(OCP_NO_ENTRY, ocp_entry(&engine, 0, octets, sizeof octets, &written));
     WANT(OCP_DONE, load());
     request_entry(__LINE__, 0, 5, 11 + sizeof load_7 + 2);
@@ -592,33 +676,188 @@ static void entries(void)
     WANT(OCP_DONE, ocp_close(&engine));
 }
 
-/* A pass with each growth of each call refused in turn. */
-static void memory(void)
+/* Entries are released from the oldest on. Indices stay, and what is released or not yet there has a name of its own. */
+static void releases(void)
+{
+    uint8_t octets[16] = {77};
+    WANT(OCP_DONE, ocp_open(&engine, 1, APID, POOL_WORDS, 4, OCTETS));
+    WANT(OCP_DONE, ocp_release(&engine, 0));
+    REFUSED(OCP_NOT_HELD, ocp_release(&engine, 1));
+    REFUSED(OCP_NOT_HELD, ocp_release(&engine, UINT64_MAX));
+    HOLDS(see().first == 0 && see().room == 4 && see().octets == OCTETS);
+    for (uint64_t index = 0; index < 4; index++)
+        PUT(index, 40 + index);
+    REFUSED(OCP_JOURNAL_FULL, ocp_put_word(&engine, 4, 44));
+    REFUSED(OCP_NOT_HELD, ocp_release(&engine, 5));
+    REFUSED(OCP_NOT_HELD, ocp_release(&engine, 0x100000000));
+    REFUSED(OCP_NO_ENTRY, ocp_entry(&engine, 4, octets, sizeof octets, &written));
+
+    /* the oldest one goes; the others keep their indices */
+    WANT(OCP_DONE, ocp_release(&engine, 1));
+    HOLDS(see().first == 1 && see().room == 1 && see().octets == OCTETS - 3 * PUT_WORD_ENTRY);
+    REFUSED(OCP_RELEASED, ocp_entry(&engine, 0, octets, sizeof octets, &written));
+    REFUSED(OCP_RELEASED, ocp_entry(&engine, 0, octets, 0, &written));
+    ENTRY(1, OCP_ENTRY_PUT_WORD, 0, 0, 0, 1, 0, 0, 0, 0, 0, 0, 0, 41);
+    ENTRY(3, OCP_ENTRY_PUT_WORD, 0, 0, 0, 3, 0, 0, 0, 0, 0, 0, 0, 43);
+    PUT(4, 44);
+    ENTRY(4, OCP_ENTRY_PUT_WORD, 0, 0, 0, 4, 0, 0, 0, 0, 0, 0, 0, 44);
+    REFUSED(OCP_JOURNAL_FULL, ocp_put_word(&engine, 5, 45));
+
+    /* several at once, and then none is held */
+    WANT(OCP_DONE, ocp_release(&engine, 2));
+    HOLDS(see().first == 3 && see().room == 2);
+    REFUSED(OCP_RELEASED, ocp_entry(&engine, 2, octets, sizeof octets, &written));
+    ENTRY(3, OCP_ENTRY_PUT_WORD, 0, 0, 0, 3, 0, 0, 0, 0, 0, 0, 0, 43);
+    WANT(OCP_DONE, ocp_release(&engine, 2));
+    REFUSED(OCP_NOT_HELD, ocp_release(&engine, 1));
+    HOLDS(see().first == 5 && see().room == 4 && see().octets == OCTETS && see().events == 5);
+    REFUSED(OCP_RELEASED, ocp_entry(&engine, 4, octets, sizeof octets, &written));
+    REFUSED(OCP_NO_ENTRY, ocp_entry(&engine, 5, octets, sizeof octets, &written));
+    REFUSED(OCP_NO_ENTRY, ocp_entry(&engine, UINT64_MAX, octets, sizeof octets, &written));
+    HOLDS(octets[0] == 77);
+
+    /* the words stay as they were written, and the journal goes on */
+    for (uint64_t index = 0; index < 5; index++)
+        HOLDS(see().pool[index] == 40 + index);
+    for (uint64_t turn = 0; turn < 1000; turn++) {
+        PUT(turn % POOL_WORDS, turn);
+        HOLDS(see().first == 5 + turn);
+        WANT(OCP_DONE, ocp_release(&engine, 1));
+    }
+    HOLDS(see().events == 1005);
+    WANT(OCP_DONE, ocp_close(&engine));
+}
+
+/* ---- trace records */
+
+/* A record by hand: mov64 r1, 1 is at slot 0, call 5 at slot 1, ja -1 at slot 2, to slot 2 again. */
+static void record_at(int line, uint64_t index, uint32_t place, uint32_t kind, uint64_t r1)
+{
+    struct ocp_trace_record record = {77, 77, {77, 77}};
+    uint64_t registers[12];
+    memset(registers, 77, sizeof registers);
+    want(line, "ocp_trace_record", OCP_DONE, ocp_trace_record(&engine, index, &record, registers, 12));
+    want(line, "the procedure", 7, record.id);
+    want(line, "the place", place, record.place);
+    want(line, "the outcome", kind, record.outcome.kind);
+    want(line, "no fault", 0, record.outcome.fault);
+    want(line, "r1", true, registers[1] == r1);
+    want(line, "r10", true, registers[10] == 0x10001000);
+    want(line, "what follows the registers", true, registers[11] == 0x4d4d4d4d4d4d4d4d);
+}
+
+#define RECORD(index, place, kind, r1) record_at(__LINE__, index, place, kind, r1)
+
+static void trace_records(void)
+{
+    struct ocp_trace_record record = {77, 77, {77, 77}};
+    struct ocp_outcome last;
+    uint64_t registers[11] = {77};
+    uint32_t count;
+    WANT(OCP_DONE, ocp_open(&engine, 1, APID, POOL_WORDS, 100, OCTETS));
+    REFUSED(OCP_NO_RECORD, ocp_trace_record(&engine, 0, &record, registers, 11));
+    REFUSED(OCP_BUFFER_TOO_SMALL, ocp_trace_record(&engine, 0, &record, registers, 10));
+    WANT(OCP_DONE, load());
+    WANT(OCP_DONE, activate());
+    WANT(OCP_DONE, ocp_slice(&engine, 7, 1, &count, &last)); /* not traced */
+    REFUSED(OCP_NO_RECORD, ocp_trace_record(&engine, 0, &record, registers, 11));
+    WANT(OCP_DONE, ocp_trace(&engine, 7, true));
+    WANT(OCP_DONE, ocp_slice(&engine, 7, 2, &count, &last));
+    RECORD(0, 1, OCP_CALLED, 1);
+    RECORD(1, 2, OCP_RAN, 1);
+    REFUSED(OCP_NO_RECORD, ocp_trace_record(&engine, 2, &record, registers, 11));
+    REFUSED(OCP_NO_RECORD, ocp_trace_record(&engine, UINT64_MAX, &record, registers, 11));
+    REFUSED(OCP_NO_RECORD, ocp_trace_record(&engine, 0x100000000, &record, registers, 11));
+
+    /* the last 256 are kept */
+    WANT(OCP_DONE, ocp_slice(&engine, 7, 254, &count, &last));
+    RECORD(0, 1, OCP_CALLED, 1);
+    RECORD(255, 2, OCP_RAN, 1);
+    REFUSED(OCP_NO_RECORD, ocp_trace_record(&engine, 256, &record, registers, 11));
+    WANT(OCP_DONE, ocp_slice(&engine, 7, 1, &count, &last));
+    RECORD(0, 2, OCP_RAN, 1);
+    RECORD(255, 2, OCP_RAN, 1);
+    REFUSED(OCP_NO_RECORD, ocp_trace_record(&engine, 256, &record, registers, 11));
+    WANT(OCP_DONE, ocp_close(&engine));
+
+    /* the last exit, and a fault, with its number and the registers after it */
+    WANT(OCP_DONE, ocp_open(&engine, 1, APID, POOL_WORDS, 100, OCTETS));
+    WANT(OCP_DONE, request(LOAD, load_reader, sizeof load_reader));
+    WANT(OCP_DONE, ocp_trace(&engine, 7, true));
+    WANT(OCP_DONE, request(ACTIVATE, read_15, sizeof read_15));
+    WANT(OCP_DONE, ocp_slice(&engine, 7, 100, &count, &last));
+    RECORD(0, 0, OCP_RAN, 15);
+    RECORD(1, 1, OCP_CALLED, 15);
+    RECORD(2, 2, OCP_ENDED, 15);
+    WANT(OCP_DONE, request(ACTIVATE, read_16, sizeof read_16));
+    WANT(OCP_DONE, ocp_slice(&engine, 7, 100, &count, &last));
+    WANT(OCP_DONE, ocp_trace_record(&engine, 4, &record, registers, 11));
+    HOLDS(record.id == 7 && record.place == 1 && record.outcome.kind == OCP_FAULTED && record.outcome.fault == 4 && registers[1] == 16);
+    REFUSED(OCP_NO_RECORD, ocp_trace_record(&engine, 5, &record, registers, 11));
+    WANT(OCP_DONE, ocp_close(&engine));
+}
+
+/* ---- memory */
+
+/* A call that asks for no memory. */
+static void no_growth(const char *name, uint32_t (*call)(void))
+{
+    growths = 0;
+    refused = 0;
+    want(__LINE__, name, OCP_DONE, call());
+    want(__LINE__, name, 0, (uint32_t)growths);
+    refused = SIZE_MAX;
+}
+
+static uint32_t unload(void)
+{
+    return request(UNLOAD, id_7, sizeof id_7);
+}
+
+static uint32_t slice(void)
 {
     struct ocp_outcome outcome;
     uint32_t count;
-    WANT(OCP_DONE, ocp_open(&engine, 1, APID, POOL_WORDS, 20));
-    each_growth("load", load);
-    each_growth("activate", activate);
-    each_growth("stop", stop);
-    WANT(OCP_DONE, ocp_slice(&engine, 7, 1000, &count, &outcome));
-    each_growth("drain", drain);
-    uint64_t events;
-    WANT(OCP_DONE, ocp_events(&engine, &events));
-    HOLDS(events == 3 + 2 + 1); /* each request once, two instructions, one drain */
+    return ocp_slice(&engine, 7, 1000, &count, &outcome);
+}
+
+static uint32_t release_all(void)
+{
+    return ocp_release(&engine, 20 - see().room);
+}
+
+/* After ocp_open only loads ask for memory, each growth refused in turn. */
+static void memory(void)
+{
+    WANT(OCP_DONE, ocp_open(&engine, 1, APID, POOL_WORDS, 20, OCTETS));
+    for (int turn = 0; turn < 20; turn++) {
+        each_growth("load", turn % 2 == 0 ? load : load_rounds_7);
+        HOLDS(see().view_status == OCP_DONE);
+        no_growth("activate", activate);
+        no_growth("stop", stop);
+        no_growth("slice", slice);
+        no_growth("drain", drain);
+        no_growth("unload", unload);
+        HOLDS(see().view_status == OCP_NOT_LOADED);
+        no_growth("release", release_all);
+    }
     WANT(OCP_DONE, ocp_close(&engine));
 }
 
 int main(void)
 {
     closed_handle();
+    version();
     numbers();
     packets();
     procedures();
     pool_words();
     rounds();
     full_journal();
+    full_octets();
     entries();
+    releases();
+    trace_records();
     memory();
     printf("calls: %d answers, %d faults\n", tried, faults);
     return faults != 0;

@@ -12,13 +12,17 @@
  *   4. reads the output, word 1, and switches the heater; it is off while no procedure has had a round
  *   5. sends the completions that wait
  *
- * If the procedure exits, it is activated again. A second engine is given all entries of the journal in the end. The journal
- * is written to the file JOURNAL, if one is named, for the tool `journal`. The last lines are the pool, as the console prints it.
+ * If the procedure exits, it is activated again. After each cycle the journal's entries are given to a second engine, as ground
+ * has one, written to the file JOURNAL, if one is named, for the tools `journal` and `replay`, and released. The last lines are
+ * the pool, as the console prints it.
  *
  * Status: 0 the loop held the temperature, and both engines end alike; 1 it did not, and one line says why; 2 wrong words. */
+#include "entry.h"
 #include "error_control.h"
 #include "journal_file.h"
+#include "numbers.h"
 #include "ocp_engine.h"
+#include "show.h"
 
 #include <inttypes.h>
 #include <stdio.h>
@@ -26,7 +30,6 @@
 #include <string.h>
 
 enum {
-    PROFILE = 1,
     APID = 291,
     PROCEDURE = 7,
     ROUND = 1000, /* the most instructions of a round */
@@ -48,11 +51,12 @@ enum {
     SETTLING = 3000, /* cycles from a change on in which the temperature may be anything */
     TOLERANCE = 20,
     CYCLES = 100000,
-    MOST_CYCLES = 300000,
     CYCLES_OF_ROW = 10000
 };
 
-static struct ocp_engine engine = OCP_CLOSED;
+static const struct parameters parameters = {.profile = 1, .apid = APID, .pool_words = POOL_WORDS, .entries = 16, .octets = 65536};
+static struct ocp_engine engine = OCP_CLOSED, second = OCP_CLOSED;
+static uint64_t entries; /* that were released */
 static uint32_t cycle;
 static uint32_t completions; /* that drains reported */
 static uint8_t reports[OCP_DRAIN_REPORTS > OCP_REQUEST_REPORTS ? OCP_DRAIN_REPORTS : OCP_REQUEST_REPORTS];
@@ -69,20 +73,6 @@ static void must(uint32_t status, const char *call)
         fprintf(stderr, "control: cycle %" PRIu32 ": %s answers %" PRIu32 "\n", cycle, call, status);
         exit(1);
     }
-}
-
-static void put_number(uint8_t *octets, uint64_t number, int length)
-{
-    for (int at = 0; at < length; at++)
-        octets[at] = (uint8_t)(number >> 8 * (length - 1 - at));
-}
-
-static uint64_t number_at(const uint8_t *octets, int length)
-{
-    uint64_t number = 0;
-    for (int at = 0; at < length; at++)
-        number = number << 8 | octets[at];
-    return number;
 }
 
 /* ---- the room, in degrees */
@@ -229,6 +219,23 @@ static void drain(void)
     completions += look_at_reports(written);
 }
 
+/* ---- the journal */
+
+/* Gives the journal's entries to the second engine, writes them to the file, and releases them. */
+static void hand_down(void)
+{
+    static uint8_t entry[OCP_LONGEST_ENTRY], again[OCP_DRAIN_REPORTS];
+    size_t length, written;
+    while (ocp_entry(&engine, entries, entry, sizeof entry, &length) == OCP_DONE) {
+        if (!give_entry(&second, entry, length, again, &written))
+            fail("the second engine does not do an entry again");
+        must(ocp_release(&second, 1), "ocp_release");
+        entries++;
+    }
+    if (!keep_journal(&engine))
+        fail("the journal can't be written");
+}
+
 /* ---- what has to hold */
 
 static double farthest; /* from the set point, in tenths of a degree, after settling */
@@ -263,7 +270,7 @@ static void run_cycles(uint32_t cycles)
         bool has_run = give_rounds();
         bool heater_is_on = has_run && read_output();
         drain();
-        keep_journal(&engine);
+        hand_down();
         pass_a_second(heater_is_on);
         check_cycle(has_run);
         if (cycle % CYCLES_OF_ROW == 0)
@@ -274,62 +281,30 @@ static void run_cycles(uint32_t cycles)
 
 /* ---- the replay */
 
-static void give_entry(struct ocp_engine *second, const uint8_t *entry, size_t length)
-{
-    struct ocp_outcome last;
-    uint32_t count;
-    size_t written;
-    switch (entry[0]) { /* its fields begin after the kind and the seat */
-    case OCP_ENTRY_REQUEST:
-        must(ocp_request(second, (uint32_t)number_at(entry + 3, 4), entry + 7, length - 7, reports, sizeof reports, &written),
-             "ocp_request");
-        break;
-    case OCP_ENTRY_STEPS: /* a round is given as a slice */
-        must(ocp_slice(second, (uint16_t)number_at(entry + 3, 2), (uint32_t)number_at(entry + 5, 4), &count, &last), "ocp_slice");
-        break;
-    case OCP_ENTRY_DRAIN:
-        must(ocp_drain(second, (uint32_t)number_at(entry + 3, 4), reports, sizeof reports, &written), "ocp_drain");
-        break;
-    case OCP_ENTRY_PUT_WORD:
-        must(ocp_put_word(second, number_at(entry + 3, 2), number_at(entry + 5, 8)), "ocp_put_word");
-        break;
-    default:
-        fail("the journal has an entry of another kind");
-    }
-}
-
-/* What is seen of an engine: its events, the room in its journal, its pool, and the registers of the procedure. */
-enum { REGISTERS = 11, SEEN = 2 + POOL_WORDS + REGISTERS };
+/* What is seen of an engine: its events, its pool, and the registers of the procedure. */
+enum { REGISTERS = 11, SEEN = 1 + POOL_WORDS + REGISTERS };
 
 static void see(struct ocp_engine *one, uint64_t *seen, struct ocp_view *view)
 {
     must(ocp_events(one, seen), "ocp_events");
-    must(ocp_room(one, seen + 1), "ocp_room");
     for (uint64_t index = 0; index < POOL_WORDS; index++)
-        must(ocp_pool_word(one, index, seen + 2 + index), "ocp_pool_word");
-    must(ocp_view(one, PROCEDURE, view, seen + 2 + POOL_WORDS, REGISTERS), "ocp_view");
+        must(ocp_pool_word(one, index, seen + 1 + index), "ocp_pool_word");
+    must(ocp_view(one, PROCEDURE, view, seen + 1 + POOL_WORDS, REGISTERS), "ocp_view");
 }
 
-/* Gives a second engine the entries of the first one's journal. What is seen of both has to be the same. */
-static void replay(uint32_t capacity)
+/* What is seen of both engines has to be the same. */
+static void compare_engines(void)
 {
-    static uint8_t entry[OCP_LONGEST_ENTRY];
-    struct ocp_engine second = OCP_CLOSED;
     struct ocp_view views[2];
     uint64_t flown[SEEN], again[SEEN];
-    size_t length;
-    must(ocp_open(&second, PROFILE, APID, POOL_WORDS, capacity), "ocp_open of the second engine");
-    for (uint64_t index = 0; ocp_entry(&engine, index, entry, sizeof entry, &length) == OCP_DONE; index++)
-        give_entry(&second, entry, length);
     see(&engine, flown, &views[0]);
     see(&second, again, &views[1]);
     if (memcmp(flown, again, sizeof flown) != 0 || memcmp(&views[0], &views[1], sizeof views[0]) != 0)
         fail("the engines differ after the replay");
-    must(ocp_close(&second), "ocp_close");
     printf("%" PRIu32 " cycles, %" PRIu64 " events, %" PRIu64 " entries; at most %.1f degrees off; the replay is the same\n",
-           cycle, flown[0], capacity - flown[1], farthest / 10);
-    for (int index = 0; index < POOL_WORDS; index++)
-        printf("pool %d %016" PRIx64 "\n", index, flown[2 + index]);
+           cycle, flown[0], entries, farthest / 10);
+    for (uint64_t index = 0; index < POOL_WORDS; index++)
+        show_word(&engine, index);
 }
 
 /* ---- the words */
@@ -361,20 +336,21 @@ int main(int words, char **word)
 {
     char *rest = "";
     unsigned long cycles = words > 3 ? strtoul(word[3], &rest, 10) : CYCLES;
-    if (words < 3 || words > 5 || *rest != '\0' || cycles == 0 || cycles > MOST_CYCLES || !read_code(word[1]) ||
+    if (words < 3 || words > 5 || *rest != '\0' || cycles == 0 || cycles > UINT32_MAX || !read_code(word[1]) ||
         (argument_count = octets_of(word[2], arguments, sizeof arguments)) == 0) {
         fprintf(stderr, "usage: control IMAGE ARGUMENTS [CYCLES [JOURNAL]], with digits in the file IMAGE and for ARGUMENTS\n");
         return 2;
     }
     set_point = arguments[argument_count - 1];
-    uint32_t capacity = (uint32_t)(3 * cycles + cycles / 100 + 100); /* two inputs and a round in a cycle, and telecommands */
-    must(ocp_open(&engine, PROFILE, APID, POOL_WORDS, capacity), "ocp_open");
-    if (words == 5 && !begin_journal(word[4], PROFILE, APID, POOL_WORDS))
+    must(open_engine(&engine, &parameters), "ocp_open");
+    must(open_engine(&second, &parameters), "ocp_open of the second engine");
+    if (words == 5 && !begin_journal(word[4], &parameters))
         fail("the journal can't be written");
     run_cycles((uint32_t)cycles);
     if (!end_journal(&engine))
         fail("the journal can't be written");
-    replay(capacity);
+    compare_engines();
     must(ocp_close(&engine), "ocp_close");
+    must(ocp_close(&second), "ocp_close");
     return 0;
 }

@@ -5,13 +5,14 @@
  * Time goes by in cycles. In each one every running procedure does a round in its turn: instructions up to the end of a step,
  * or SLICE of them. Every so many cycles the completions that wait are reported. The time in reports is the number of the
  * cycle. A cycle takes so many milliseconds; with 0, the default, one follows each packet, and the same packets give the same
- * reports. The engine's journal is written to the file JOURNAL, if one is named, for the tool `journal`.
+ * reports. In each cycle, and if the journal is full, its entries are written to the file JOURNAL, if one is named, for the
+ * tools `journal` and `replay`; then they are released. So the program flies on in constant memory.
  *
  * A packet is as long as it says. If its error control is wrong, the next plausible header within it whose packet has the
  * right error control begins the next packet, and the octets before it are passed over; if there is none, the engine is given
  * the packet and answers it. After a second without an octet an unfinished packet holds no whole one back.
  *
- * Status: 0 the input has ended, 2 wrong words, 3 no engine, no room in the journal, or no output; one line says which. */
+ * Status: 0 the input has ended, 2 wrong words, 3 no engine, no journal, or no output; one line says which. */
 #define _POSIX_C_SOURCE 200809L
 #include "error_control.h"
 #include "journal_file.h"
@@ -30,10 +31,7 @@
 #endif
 
 enum {
-    PROFILE = 1,
     APID = 291,
-    POOL_WORDS = 16,
-    JOURNAL_ENTRIES = 100000,
     CYCLES_OF_DRAIN = 1, /* from drain to drain */
     HEADER = 6,          /* octets of a primary header */
     LONGEST = HEADER + 65536,
@@ -43,6 +41,7 @@ enum {
     FAILED = 3
 };
 
+static const struct parameters parameters = {.profile = 1, .apid = APID, .pool_words = 16, .entries = 4096, .octets = 262144};
 static struct ocp_engine engine = OCP_CLOSED;
 static uint32_t cycle;
 static uint32_t broken; /* packets that were discarded */
@@ -57,9 +56,15 @@ static uint8_t reports[OCP_DRAIN_REPORTS > OCP_REQUEST_REPORTS ? OCP_DRAIN_REPOR
 
 static _Noreturn void end(const char *why)
 {
-    keep_journal(&engine);
     fprintf(stderr, "flight: cycle %lu: %s\n", (unsigned long)cycle, why);
     exit(FAILED);
+}
+
+/* Writes the journal's entries and releases them. */
+static void hand_down(void)
+{
+    if (!keep_journal(&engine))
+        end("the journal can't be written");
 }
 
 /* ---- reports out */
@@ -68,8 +73,10 @@ static void send_reports(size_t length)
 {
     for (size_t at = 0; at < length;) {
         ssize_t sent = write(STDOUT_FILENO, reports + at, length - at);
-        if (sent < 0 && errno != EINTR)
+        if (sent < 0 && errno != EINTR) {
+            hand_down();
             end("nobody reads the reports");
+        }
         at += sent > 0 ? (size_t)sent : 0;
     }
 }
@@ -156,12 +163,14 @@ static void take(size_t length)
 {
     size_t written = 0;
     uint32_t status = ocp_request(&engine, cycle, input, length, reports, sizeof reports, &written);
+    if (status == OCP_JOURNAL_FULL) {
+        hand_down();
+        status = ocp_request(&engine, cycle, input, length, reports, sizeof reports, &written);
+    }
     switch (status) {
     case OCP_DONE:
         send_reports(written);
         break;
-    case OCP_JOURNAL_FULL:
-        end("the journal is full");
     case OCP_MEMORY:
         fprintf(stderr, "flight: cycle %lu: no memory for a request\n", (unsigned long)cycle);
         break;
@@ -193,7 +202,7 @@ static void give_rounds(void)
         uint32_t count, step;
         struct ocp_outcome last;
         if (ocp_round(&engine, id, SLICE, &count, &last, &step) != OCP_DONE)
-            end("the journal is full");
+            end("a round is refused"); /* the journal had room for all rounds of a cycle */
         if (last.kind == OCP_FAULTED)
             fprintf(stderr, "flight: cycle %lu: procedure %u faulted: %lu\n", (unsigned long)cycle, id, (unsigned long)last.fault);
         before = id;
@@ -203,24 +212,17 @@ static void give_rounds(void)
 static void drain(void)
 {
     size_t written = 0;
-    switch (ocp_drain(&engine, cycle, reports, sizeof reports, &written)) {
-    case OCP_DONE:
-        send_reports(written);
-        break;
-    case OCP_JOURNAL_FULL:
-        end("the journal is full");
-    default: /* nothing waits, or there is no memory: the next drain reports it */
-        break;
-    }
+    if (ocp_drain(&engine, cycle, reports, sizeof reports, &written) == OCP_DONE)
+        send_reports(written); /* else nothing waits */
 }
 
 static void run_cycle(void)
 {
     cycle++;
+    hand_down();
     give_rounds();
     if (cycle % CYCLES_OF_DRAIN == 0)
         drain();
-    keep_journal(&engine);
 }
 
 /* ---- the two ways of time */
@@ -282,9 +284,9 @@ int main(int words, char **word)
         fprintf(stderr, "usage: flight [MILLISECONDS [JOURNAL]] < TELECOMMANDS > REPORTS\n");
         return 2;
     }
-    if (ocp_open(&engine, PROFILE, APID, POOL_WORDS, JOURNAL_ENTRIES) != OCP_DONE)
-        end("no memory for the engine");
-    if (words == 3 && !begin_journal(word[2], PROFILE, APID, POOL_WORDS))
+    if (ocp_version() >> 16 != OCP_VERSION >> 16 || open_engine(&engine, &parameters) != OCP_DONE)
+        end("no engine of this version, or no memory for it");
+    if (words == 3 && !begin_journal(word[2], &parameters))
         end("the journal can't be written");
     if (period == 0)
         cycles_by_packets();

@@ -17,7 +17,7 @@ int main(void)
     struct ocp_engine engine = OCP_CLOSED;
     uint8_t reports[OCP_REQUEST_REPORTS];
     size_t written;
-    if (ocp_open(&engine, 1, 291, 16, 1000) != OCP_DONE)
+    if (ocp_open(&engine, 1, 291, 16, 1000, 65536) != OCP_DONE)
         return 1;
     if (ocp_request(&engine, 0, load, sizeof load, reports, sizeof reports, &written) != OCP_DONE)
         return 2;

@@ -1,12 +1,13 @@
 /* The console's lines over the library, to compare the two: a script of lines on standard input gives the transcript that
  * `ocp run` gives of it. It has no `send`, `trace` without words, and `work`.
  *
- *   lines PROFILE APID POOL_WORDS JOURNAL_ENTRIES [JOURNAL]
+ *   lines PROFILE APID POOL_WORDS ENTRIES OCTETS [JOURNAL]
  *
  * The engine's journal is written to the file JOURNAL, if one is named. Status: 0 done, 1 a line that is none of these,
  * 2 wrong words, 3 no engine. */
 #include "journal_file.h"
 #include "ocp_engine.h"
+#include "show.h"
 
 #include <inttypes.h>
 #include <stdio.h>
@@ -137,41 +138,10 @@ static void memory(uint16_t id, uint64_t address, size_t length)
     print_hex(octets, length);
 }
 
-static void view(uint16_t id)
-{
-    static const char *const statuses[] = {"inactive", "running", "held"};
-    static const char *const causes[] = {"none", "exited", "stopped", "aborted", "fault"};
-    static const char *const pendings[] = {"none", "stop", "suspend"};
-    struct ocp_view seen;
-    uint64_t registers[11];
-    if (ocp_view(&engine, id, &seen, registers, 11) != OCP_DONE) {
-        printf("view %u NotLoaded\n", id);
-        return;
-    }
-    printf("view %u %s %s", id, statuses[seen.status], causes[seen.cause]);
-    if (seen.cause == OCP_FAULT)
-        printf("%" PRIu32, seen.fault);
-    printf(" place %" PRIu32 " depth %" PRIu32 " pending %s", seen.place, seen.depth, pendings[seen.pending]);
-    if (seen.pending != OCP_NOTHING_PENDING)
-        printf(" %" PRIu32, seen.pending_step);
-    printf("\n");
-    for (int at = 0; at < 11; at++)
-        printf("r%d %016" PRIx64 "\n", at, registers[at]);
-}
-
 static void put(uint64_t index, uint64_t value)
 {
     printf("put %" PRIu64 " %" PRIu64, index, value);
     command(ocp_put_word(&engine, index, value), "set");
-}
-
-static void pool(uint64_t index)
-{
-    uint64_t word;
-    if (ocp_pool_word(&engine, index, &word) == OCP_DONE)
-        printf("pool %" PRIu64 " %016" PRIx64 "\n", index, word);
-    else
-        printf("pool %" PRIu64 " BadPoolIndex\n", index);
 }
 
 /* ---- lines */
@@ -199,7 +169,7 @@ static bool line_of_script(const char *line)
 {
     uint16_t id;
     uint32_t number;
-    uint64_t wide, value, events = 0;
+    uint64_t wide, value;
     size_t length;
     if (strncmp(line, "up ", 3) == 0)
         return up(line + 3);
@@ -216,13 +186,13 @@ static bool line_of_script(const char *line)
     else if (sscanf(line, "mem %" SCNu16 " 0x%" SCNx64 " %zu", &id, &wide, &length) == 3 && length <= MOST_MEMORY)
         memory(id, wide, length);
     else if (sscanf(line, "view %" SCNu16, &id) == 1)
-        view(id);
+        show_view(&engine, id);
     else if (sscanf(line, "pool %" SCNu64, &wide) == 1)
-        pool(wide);
+        show_word(&engine, wide);
     else if (strcmp(line, "drain") == 0)
         drain();
-    else if (strcmp(line, "journal") == 0 && ocp_events(&engine, &events) == OCP_DONE)
-        printf("journal %" PRIu64 "\n", events);
+    else if (strcmp(line, "journal") == 0)
+        show_events(&engine);
     else
         return debug_line(line) || line[0] == '#' || line[0] == '\0';
     return true;
@@ -231,14 +201,15 @@ static bool line_of_script(const char *line)
 int main(int words, char **word)
 {
     static char line[LINE];
-    uint32_t numbers[4];
-    if (words < 5 || words > 6)
+    uint32_t numbers[5];
+    if (words < 6 || words > 7)
         return 2;
-    for (int at = 0; at < 4; at++)
+    for (int at = 0; at < 5; at++)
         numbers[at] = (uint32_t)strtoul(word[at + 1], NULL, 10);
-    if (ocp_open(&engine, numbers[0], numbers[1], numbers[2], numbers[3]) != OCP_DONE)
+    const struct parameters parameters = {numbers[0], numbers[1], numbers[2], numbers[3], numbers[4]};
+    if (open_engine(&engine, &parameters) != OCP_DONE)
         return 3;
-    if (words == 6 && !begin_journal(word[5], numbers[0], numbers[1], numbers[2]))
+    if (words == 7 && !begin_journal(word[6], &parameters))
         return 3;
     bool known = true;
     while (known && fgets(line, sizeof line, stdin) != NULL) {

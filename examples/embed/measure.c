@@ -15,7 +15,7 @@
 enum { APID = 291, LOAD = 1, ACTIVATE = 3, STATUS = 8, SLOTS = 2048, ROUNDS = 10 };
 
 static struct ocp_engine engine = OCP_CLOSED;
-static uint32_t capacity;
+static uint32_t entries, octets; /* of the journal */
 static uint8_t packet[65542];
 static size_t length;
 static uint8_t reports[OCP_DRAIN_REPORTS];
@@ -77,7 +77,7 @@ static void make_activate(uint32_t id)
 
 static void do_open(void)
 {
-    status = ocp_open(&engine, 1, APID, 16, capacity);
+    status = ocp_open(&engine, 1, APID, 16, entries, octets);
 }
 
 static void do_close(void)
@@ -112,7 +112,8 @@ static double slice_nanoseconds(uint32_t budget, uint32_t slices)
 {
     double least = 1e9;
     for (int round = 0; round < ROUNDS; round++) {
-        capacity = slices + 2;
+        entries = slices + 2;
+        octets = 9 * slices + 10000;
         must(do_open);
         make_loop(7, 100, 0x07, 1);
         must(do_request);
@@ -136,7 +137,8 @@ static double request_nanoseconds(void (*make)(void), int requests)
 {
     double least = 1e9;
     for (int round = 0; round < ROUNDS; round++) {
-        capacity = (uint32_t)requests;
+        entries = (uint32_t)requests;
+        octets = 20000;
         must(do_open);
         make();
         double begun = seconds();

@@ -12,7 +12,7 @@
  *   and neither reads nor writes its field.
  * - Two threads may each use a handle of their own if the heap functions allow it: malloc does, fixed_heap.c does not.
  * - Journal entries of this library have seat 0.
- * - Numbers in packets are big-endian.
+ * - Numbers in packets and entries are big-endian.
  */
 #ifndef OCP_ENGINE_H
 #define OCP_ENGINE_H
@@ -41,6 +41,18 @@ OCP_TARGET(__BYTE_ORDER__ == __ORDER_LITTLE_ENDIAN__, "libocp_c.a needs a little
 extern "C" {
 #endif
 
+/* ---- the version of this interface */
+
+/* The major version in the upper 16 bits, the minor version in the lower ones. The major version grows by 1, and the minor one
+ * becomes 0, with a change by which a program for the older header may go wrong: a call, a status or a field is gone, has
+ * another type, number or place, or means something else. The minor version grows by 1 if something is only added: the
+ * program then works with the newer library. */
+#define OCP_VERSION ((uint32_t)0x00010000)
+
+/* The version of the library. A program may use it if
+ * `ocp_version() >= OCP_VERSION && ocp_version() >> 16 == OCP_VERSION >> 16`. Needs no handle, and is never refused. */
+uint32_t ocp_version(void);
+
 /* ---- statuses */
 
 enum {
@@ -54,12 +66,12 @@ enum {
     OCP_BAD_PROFILE = 3,
     OCP_BAD_APID = 4,
     OCP_BAD_POOL_WORDS = 5,
-    OCP_BAD_CAPACITY = 6,
+    OCP_BAD_CAPACITY = 6, /* the journal's entries; OCP_BAD_OCTETS follows below */
 
     /* room */
     OCP_MEMORY = 7,           /* out of memory */
     OCP_BUFFER_TOO_SMALL = 8, /* the buffer is shorter than the call requires */
-    OCP_JOURNAL_FULL = 9,     /* the journal has no room for another entry */
+    OCP_JOURNAL_FULL = 9,     /* the journal has no room for this entry, by its entries or its octets: release some */
 
     /* discarded packets: the engine drops them without a report */
     OCP_DISCARDED_SHORT = 10,           /* fewer than 7 octets */
@@ -85,8 +97,17 @@ enum {
     OCP_OUTSIDE_MEMORY = 24,     /* some octets are outside the procedure's memory */
 
     /* the pool and the journal */
-    OCP_NO_WORD = 25, /* the pool has no word at this index */
-    OCP_NO_ENTRY = 26 /* the journal has no entry at this index */
+    OCP_NO_WORD = 25,  /* the pool has no word at this index */
+    OCP_NO_ENTRY = 26, /* there is no entry at this index yet */
+
+    /* the numbers of ocp_open, again */
+    OCP_BAD_OCTETS = 27, /* the journal's octets */
+
+    /* the journal handed down, and trace records */
+    OCP_NOT_HELD = 28, /* the journal holds fewer entries */
+    OCP_SPENT = 29,    /* there were 2^63 events: see ocp_release */
+    OCP_RELEASED = 30, /* the entry at this index was released */
+    OCP_NO_RECORD = 31 /* no trace record is kept at this index */
 };
 
 /* ---- the handle */
@@ -99,9 +120,10 @@ struct ocp_engine {
 #define OCP_CLOSED {0}
 
 /* Opens an engine without procedures: profile 1 or 2, application process identifier 0 to 2,046, 1 to 256 pool words (all 0),
- * room for 1 to 1,000,000 journal entries. Allocates the whole journal.
- * Refusals: OCP_ALREADY_OPEN, OCP_BAD_PROFILE, OCP_BAD_APID, OCP_BAD_POOL_WORDS, OCP_BAD_CAPACITY, OCP_MEMORY. */
-uint32_t ocp_open(struct ocp_engine *engine, uint32_t profile, uint32_t apid, uint32_t pool_words, uint32_t capacity);
+ * and a journal that holds 1 to 1,000,000 entries of together 1 to 1,073,741,824 octets. Allocates the whole journal.
+ * Refusals: OCP_ALREADY_OPEN, OCP_BAD_PROFILE, OCP_BAD_APID, OCP_BAD_POOL_WORDS, OCP_BAD_CAPACITY, OCP_BAD_OCTETS, OCP_MEMORY. */
+uint32_t ocp_open(struct ocp_engine *engine, uint32_t profile, uint32_t apid, uint32_t pool_words, uint32_t entries,
+                  uint32_t octets);
 
 /* Frees all memory of the engine and closes the handle.
  * Refusal: OCP_NOT_OPEN. */
@@ -119,12 +141,13 @@ uint32_t ocp_close(struct ocp_engine *engine);
  * none). The rest of the buffer stays as it was.
  * A request that is rejected or that fails returns OCP_DONE: its reports say so.
  * Refusals: OCP_NOT_OPEN, OCP_BUFFER_TOO_SMALL (under OCP_REQUEST_REPORTS), the five OCP_DISCARDED_.. in their order,
- * OCP_JOURNAL_FULL, OCP_MEMORY. */
+ * OCP_JOURNAL_FULL, OCP_MEMORY (a load alone asks for memory). */
 uint32_t ocp_request(struct ocp_engine *engine, uint32_t time, const uint8_t *packet, size_t packet_length,
                      uint8_t *reports, size_t reports_length, size_t *written);
 
 /* Reports all completions that wait, the oldest first, at a time in whole seconds. Writes the reports as ocp_request does.
- * Refusals: OCP_NOT_OPEN, OCP_BUFFER_TOO_SMALL (under OCP_DRAIN_REPORTS), OCP_NOTHING_DUE, OCP_JOURNAL_FULL, OCP_MEMORY. */
+ * Asks for no memory.
+ * Refusals: OCP_NOT_OPEN, OCP_BUFFER_TOO_SMALL (under OCP_DRAIN_REPORTS), OCP_NOTHING_DUE, OCP_JOURNAL_FULL. */
 uint32_t ocp_drain(struct ocp_engine *engine, uint32_t time, uint8_t *reports, size_t reports_length, size_t *written);
 
 /* ---- inputs */
@@ -188,11 +211,22 @@ uint32_t ocp_set_break(struct ocp_engine *engine, uint16_t id, uint16_t place);
  * Refusals: OCP_NOT_OPEN, OCP_NOT_LOADED, OCP_NOT_SET, OCP_JOURNAL_FULL. */
 uint32_t ocp_clear_break(struct ocp_engine *engine, uint16_t id, uint16_t place);
 
-/* Switches on or off that each instruction of a procedure leaves a trace record. It is for ground: no call reads trace records, but the
- * switch is a journal entry, so the console that runs the journal again has the records, and shows them by its line `trace`.
- * While the trace is on, an instruction takes many times as long (docs/EMBED.md, "What a call costs, at most").
+/* Switches on or off that each instruction of a procedure leaves a trace record. The engine keeps the last 256 records of all
+ * procedures. While the trace is on, an instruction takes many times as long (docs/EMBED.md, "What a call costs, at most").
  * Refusals: OCP_NOT_OPEN, OCP_NOT_LOADED, OCP_JOURNAL_FULL. */
 uint32_t ocp_trace(struct ocp_engine *engine, uint16_t id, bool on);
+
+struct ocp_trace_record {
+    uint32_t id;                /* the procedure */
+    uint32_t place;             /* the slot of the instruction */
+    struct ocp_outcome outcome; /* what it did */
+};
+
+/* Writes a trace record that is kept, the oldest at index 0, and R0 to R10 after its instruction to the buffer's first 11
+ * words. The rest of the buffer stays as it was.
+ * Refusals: OCP_NOT_OPEN, OCP_BUFFER_TOO_SMALL (under 11 registers), OCP_NO_RECORD. */
+uint32_t ocp_trace_record(struct ocp_engine *engine, uint64_t index, struct ocp_trace_record *record, uint64_t *registers,
+                          size_t count);
 
 /* Copies a procedure's memory, from an address on, to the whole buffer.
  * Refusals: OCP_NOT_OPEN, OCP_NOT_LOADED, OCP_OUTSIDE_MEMORY. */
@@ -234,11 +268,26 @@ uint32_t ocp_pool_word(struct ocp_engine *engine, uint64_t index, uint64_t *word
  * Refusal: OCP_NOT_OPEN. */
 uint32_t ocp_events(struct ocp_engine *engine, uint64_t *events);
 
-/* Writes the number of free journal entries.
- * Refusal: OCP_NOT_OPEN. */
-uint32_t ocp_room(struct ocp_engine *engine, uint64_t *entries);
+/* ---- the journal
+ *
+ * Each accepted request, slice, round, step, command of the debugger, drain and write of a pool word is one entry. The journal
+ * holds the last entries. The program copies them out by ocp_entry, sends them to ground or keeps them, and gives them up by
+ * ocp_release. A full journal refuses: nothing is lost silently. The index of an entry counts from 0 since ocp_open, and
+ * stays the same. */
 
-/* ---- the journal */
+/* Writes how many entries, and how many octets of entries, the journal has room for. An entry needs both.
+ * Refusal: OCP_NOT_OPEN. */
+uint32_t ocp_room(struct ocp_engine *engine, uint64_t *entries, uint64_t *octets);
+
+/* Writes the index of the oldest entry that is held: that of the next entry if none is.
+ * Refusal: OCP_NOT_OPEN. */
+uint32_t ocp_first_entry(struct ocp_engine *engine, uint64_t *index);
+
+/* Gives up the oldest `count` entries. Nothing else of the engine changes.
+ * After 2^63 events every release is refused (OCP_SPENT): the journal fills, and then each event is refused. At 50 million
+ * instructions a second that is after 5,800 years. The readers work on.
+ * Refusals: OCP_NOT_OPEN, OCP_NOT_HELD, OCP_SPENT. */
+uint32_t ocp_release(struct ocp_engine *engine, uint64_t count);
 
 /* The kind of a journal entry: its first octet. The seat follows (2 octets), which is 0. Then: */
 enum {
@@ -251,12 +300,13 @@ enum {
     OCP_ENTRY_PUT_WORD = 7     /* the index of the pool word (2), its value (8) */
 };
 
-/* The greatest length of an entry: packets of more than 65,542 octets are discarded. */
+/* The greatest length of an entry: packets of more than 65,542 octets are discarded. A journal with fewer octets refuses the
+ * packets that are too long for it. */
 #define OCP_LONGEST_ENTRY ((size_t)65549)
 
-/* Copies the journal entry at an index, the oldest at 0, to the buffer, whose rest stays as it was. Writes its length to the
- * last argument, also if the buffer is too small.
- * Refusals: OCP_NOT_OPEN, OCP_NO_ENTRY, OCP_BUFFER_TOO_SMALL (under the entry's length). */
+/* Copies the entry at an index to the buffer, whose rest stays as it was. Writes its length to the last argument, also if the
+ * buffer is too small.
+ * Refusals: OCP_NOT_OPEN, OCP_RELEASED, OCP_NO_ENTRY, OCP_BUFFER_TOO_SMALL (under the entry's length). */
 uint32_t ocp_entry(struct ocp_engine *engine, uint64_t index, uint8_t *entry, size_t room, size_t *length);
 
 #ifdef __cplusplus

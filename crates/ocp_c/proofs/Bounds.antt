@@ -16,10 +16,12 @@ use Rattle.ocp_world.specs.Effect.{Reply, Discards, Sends, Steps, Commands, Undu
 use Rattle.ocp_world.specs.Drains.{drain_effect}
 use Rattle.ocp_world.specs.Replay.{replay}
 use Rattle.ocp_world.specs.After.{Requested, after, answer_by, effect_of, is_accepted}
-use Rattle.ocp_core.specs.Log.{Log, expand, world_of, is_full, full_answer, answer_in}
+use Rattle.ocp_core.specs.Log.{Log, entry_for, expand, world_of, full_answer}
+use Rattle.ocp_flight.specs.Flown.{Flown, is_full}
+use Rattle.ocp_flight.specs.Calls.{answer_in}
 use Rattle.ocp_core.proofs.Completions.{places_suffice}
 use Rattle.ocp_c.specs.Replies.{packets_in, reports_in}
-use Rattle.ocp_c.specs.Packets.{together}
+use Rattle.ocp_reports.specs.Packets.{together}
 use Rattle.ocp_c.specs.Bounds.{AreWithin, RequestsHaveFewReports, DrainsHaveFewReports}
 use Rattle.ocp_c.proofs.Few.{few_procedures}
 use Rattle.ocp_c.proofs.Origins.{excess, light_outbox}
@@ -31,11 +33,11 @@ none : (count most : ℕ) → AreWithin count most []
 none count most = record { few = omega arith; short = All-nil (λ (packet : List ℕ). length packet ≤ most) }
 
 -- a full journal sends nothing
-unless_full : (count most : ℕ) (log : Log) (e : Event) → packets_in (full_answer e) ≡ [] → AreWithin count most (packets_in (after (world_of log) e).answer) → AreWithin count most (packets_in (answer_in log e))
-unless_full count most log e nothing is =
-    let answer = (after (world_of log) e).answer in
-    elim (is_accepted answer) as (λ b. AreWithin count most (packets_in (cond b (cond (is_full log) (full_answer e) answer) answer))) [
-      | true ↦ elim (is_full log) as (λ b. AreWithin count most (packets_in (cond b (full_answer e) answer))) [
+unless_full : (count most : ℕ) (flown : Flown) (e : Event) → packets_in (full_answer e) ≡ [] → AreWithin count most (packets_in (after (world_of flown.log) e).answer) → AreWithin count most (packets_in (answer_in flown e))
+unless_full count most flown e nothing is =
+    let answer = (after (world_of flown.log) e).answer in
+    elim (is_accepted answer) as (λ b. AreWithin count most (packets_in (cond b (cond (is_full flown (entry_for e)) (full_answer e) answer) answer))) [
+      | true ↦ elim (is_full flown (entry_for e)) as (λ b. AreWithin count most (packets_in (cond b (full_answer e) answer))) [
         | true ↦ subst (AreWithin count most) (sym nothing) (none count most)
         | false ↦ is
       ]
@@ -60,10 +62,10 @@ unfolding world_of
 few_of log = few_procedures log.profile log.apid log.words (expand log.entries)
 
 pub requests_have_few : RequestsHaveFewReports
-requests_have_few log by time octets =
-    let w = world_of log in
-    unless_full 4 68 log (Request by time octets) refl
-    (sent w (effect_of w (Request by time octets)).reply (short_request w (few_of log) octets time))
+requests_have_few flown by time octets =
+    let w = world_of flown.log in
+    unless_full 4 68 flown (Request by time octets) refl
+    (sent w (effect_of w (Request by time octets)).reply (short_request w (few_of flown.log) octets time))
 
 -- ---- a drain
 
@@ -87,10 +89,10 @@ unfolding world_of
 light_of log = light_outbox log.profile log.apid log.words (expand log.entries)
 
 pub drains_have_few : DrainsHaveFewReports
-drains_have_few log by time =
-    let w = world_of log in
-    unless_full 64 25 log (Drain by time) refl
-    (drain_sent w time w.outbox (places_of_log log) (light_of log))
+drains_have_few flown by time =
+    let w = world_of flown.log in
+    unless_full 64 25 flown (Drain by time) refl
+    (drain_sent w time w.outbox (places_of_log flown.log) (light_of flown.log))
 
 -- ---- together
 
@@ -107,14 +109,14 @@ fits count most packets are =
     omega (arith, more, all)
 
 -- the reports of a request, and of a drain, have room
-pub request_least : (log : Log) (by time : ℕ) (octets : List ℕ) → length (reports_in (answer_in log (Request by time octets))) ≤ 272
-request_least log by time octets = fits 4 68 (packets_in (answer_in log (Request by time octets))) (requests_have_few log by time octets)
+pub request_least : (flown : Flown) (by time : ℕ) (octets : List ℕ) → length (reports_in (answer_in flown (Request by time octets))) ≤ 272
+request_least flown by time octets = fits 4 68 (packets_in (answer_in flown (Request by time octets))) (requests_have_few flown by time octets)
 
-pub drain_least : (log : Log) (by time : ℕ) → length (reports_in (answer_in log (Drain by time))) ≤ 1600
-drain_least log by time = fits 64 25 (packets_in (answer_in log (Drain by time))) (drains_have_few log by time)
+pub drain_least : (flown : Flown) (by time : ℕ) → length (reports_in (answer_in flown (Drain by time))) ≤ 1600
+drain_least flown by time = fits 64 25 (packets_in (answer_in flown (Drain by time))) (drains_have_few flown by time)
 
-pub request_fits : (log : Log) (by time : ℕ) (octets : List ℕ) (given : List (List ℕ)) → answer_in log (Request by time octets) ≡ Requested (Ok given) → length (together given) ≤ 272
-request_fits log by time octets given is = subst (λ answer. length (reports_in answer) ≤ 272) is (request_least log by time octets)
+pub request_fits : (flown : Flown) (by time : ℕ) (octets : List ℕ) (given : List (List ℕ)) → answer_in flown (Request by time octets) ≡ Requested (Ok given) → length (together given) ≤ 272
+request_fits flown by time octets given is = subst (λ answer. length (reports_in answer) ≤ 272) is (request_least flown by time octets)
 
-pub drain_fits : (log : Log) (by time : ℕ) (given : List (List ℕ)) → answer_in log (Drain by time) ≡ Requested (Ok given) → length (together given) ≤ 1600
-drain_fits log by time given is = subst (λ answer. length (reports_in answer) ≤ 1600) is (drain_least log by time)
+pub drain_fits : (flown : Flown) (by time : ℕ) (given : List (List ℕ)) → answer_in flown (Drain by time) ≡ Requested (Ok given) → length (together given) ≤ 1600
+drain_fits flown by time given is = subst (λ answer. length (reports_in answer) ≤ 1600) is (drain_least flown by time)

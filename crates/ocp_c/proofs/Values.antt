@@ -31,7 +31,7 @@ use Rattle.std.specs.contracts.alloc.Global as heap
 use Rattle.std.proofs.alloc.Global.TheLaws as heap_laws
 use Rattle.std.specs.contracts.impls.GlobalAllocator.TheImpl.{ghosts}
 use Rattle.std.proofs.GlobalToken.{dealloc_token-Testable}
-use Rattle.ocp_core.specs.Log.{Log}
+use Rattle.ocp_flight.specs.Flown.{Flown}
 use Rattle.ocp_c.specs.contracts.loose.Loose as loose
 use Rattle.ocp_c.specs.declared.handle.Handle.{Handle}
 use Rattle.ocp_c.specs.contracts.handle.Handle as handle
@@ -109,7 +109,7 @@ abbrev pub Hd : RattleType
 Hd = handle.the_row
 
 module _ {M : Type 1} {𝓤 : Ura M} (𝓛 : Logic 𝓤) where
-  tested : (a : Global) (p : Ptr) (x : Log) → ent 𝓤 (sem 𝓛 (ownership_at a p (Some x))) (guard 𝓤 (Testable p) (sem 𝓛 (ownership_at a p (Some x))))
+  tested : (a : Global) (p : Ptr) (x : Flown) → ent 𝓤 (sem 𝓛 (ownership_at a p (Some x))) (guard 𝓤 (Testable p) (sem 𝓛 (ownership_at a p (Some x))))
   tested a p x = let B = sem 𝓛 (ownership_at a p (Some x)) in
       fact_use 𝓤 (Testable p) (via 𝓤 _ (snd∗ 𝓤 (sem 𝓛 (lies_at engine_row full_share p x)) (sem 𝓛 (ghosts.dealloc_token a (bare (lone engine_row.mir)) p))) (dealloc_token-Testable 𝓛 a (bare (lone engine_row.mir)) p)) (guard_i 𝓤 (Testable p) B)
 
@@ -120,13 +120,13 @@ module _ {M : Type 1} {𝓤 : Ura M} {𝓛 : Logic 𝓤} {K : Type 0} {Γ : List
   handle_out t d vs next =
       fsplit t $ beside_out Z heap_laws.the_row_laws ghosts t d.at d.alloc vs (λ h are good. move t (1 ∷ []) $ next h are good)
 
-  pub handle_in : K → (p : Ptr) (h : Val) (a : Global) (x : Option Log)
+  pub handle_in : K → (p : Ptr) (h : Val) (a : Global) (x : Option Flown)
       → Step K 𝓛 (‵ (Hd.own_val (record { at = p; alloc = a; held = x }) (both (ptr_val p) h ∷ [])) ∷ Γ) G (‵ (ownership_at a p x) ∷ ‵ (Z.own_val a (h ∷ [])) ∷ Γ) G
   handle_in t p h a x = step (λ next. move t (1 ∷ []) $ beside_in Z heap_laws.the_row_laws ghosts t p a h $ fjoin t $ next)
 
   -- by whether anything is held
-  pub either : K → (a : Global) (p : Ptr) (k : Option Log) → (k ≡ None → p ≡ null_ptr → Seq K 𝓛 Γ G)
-      → ((b o : ℕ) (x : Log) → k ≡ Some x → p ≡ block_ptr b o → Testable (block_ptr b o) → Seq K 𝓛 (‵ (box_owns (ghosts.dealloc_token a) engine_row (block_ptr b o) x) ∷ Γ) G) → Seq K 𝓛 (‵ (ownership_at a p k) ∷ Γ) G
+  pub either : K → (a : Global) (p : Ptr) (k : Option Flown) → (k ≡ None → p ≡ null_ptr → Seq K 𝓛 Γ G)
+      → ((b o : ℕ) (x : Flown) → k ≡ Some x → p ≡ block_ptr b o → Testable (block_ptr b o) → Seq K 𝓛 (‵ (box_owns (ghosts.dealloc_token a) engine_row (block_ptr b o) x) ∷ Γ) G) → Seq K 𝓛 (‵ (ownership_at a p k) ∷ Γ) G
   either t a p None none one = feq_l t (λ e. none refl e)
   either t a p (Some x) none one =
       in_its_block Z heap_laws.the_row_laws ghosts engine_row t a p x (λ b o e.

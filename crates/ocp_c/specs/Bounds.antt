@@ -1,7 +1,8 @@
 -- How much the reports of a request, and of a drain, are at most (ECSS-E-ST-70-41C, 8.1 and 8.18).
 use Rattle.std.specs.Prelude.{◌≤◌, ℕ, List, length, All}
 use Rattle.ocp_world.specs.World.{Request, Drain}
-use Rattle.ocp_core.specs.Log.{Log, answer_in}
+use Rattle.ocp_flight.specs.Flown.{Flown}
+use Rattle.ocp_flight.specs.Calls.{answer_in}
 use Rattle.ocp_c.specs.Replies.{packets_in}
 
 -- at most so many packets, each of at most so many octets
@@ -12,11 +13,11 @@ pub record AreWithin (count most : ℕ) (packets : List (List ℕ)) : Type 0 whe
 -- the law: a request has at most four reports, the longest a status report of 16 procedures
 abbrev pub RequestsHaveFewReports : Type 0
 RequestsHaveFewReports =
-    (log : Log) (by time : ℕ) (octets : List ℕ) →
-    AreWithin 4 68 (packets_in (answer_in log (Request by time octets)))
+    (flown : Flown) (by time : ℕ) (octets : List ℕ) →
+    AreWithin 4 68 (packets_in (answer_in flown (Request by time octets)))
 
 -- the law: a drain has at most as many reports as the outbox has places, the longest one of a
 -- completion that failed
 abbrev pub DrainsHaveFewReports : Type 0
 DrainsHaveFewReports =
-    (log : Log) (by time : ℕ) → AreWithin 64 25 (packets_in (answer_in log (Drain by time)))
+    (flown : Flown) (by time : ℕ) → AreWithin 64 25 (packets_in (answer_in flown (Drain by time)))

@@ -1,5 +1,5 @@
 -- What a call through a handle answers and leaves: nothing where the handle is closed, else what
--- the engine's call does to the log that it holds.
+-- the engine's call does to what it holds: the log of all entries, and how many were released.
 use Rattle.std.specs.Prelude.{ℕ, Option, Some, None, Result, Err}
 use Rattle.ocp_table.specs.declared.answers.Slice.{Slice}
 use Rattle.ocp_table.specs.declared.answers.Round.{Round}
@@ -10,26 +10,26 @@ use Rattle.ocp_table.specs.declared.answers.StepOutcome.TheVariants as S
 use Rattle.ocp_debug.specs.declared.command.DebugFault.{DebugFault}
 use Rattle.ocp_debug.specs.declared.command.DebugFault.TheVariants as debug
 use Rattle.ocp_world.specs.After.{Answer, Requested, Stepped, Commanded, Written}
-use Rattle.ocp_core.specs.Log.{Log}
+use Rattle.ocp_flight.specs.Flown.{Flown}
 use Rattle.ocp_c.specs.declared.outcome.Outcome.{Outcome}
 use Rattle.ocp_c.specs.declared.status.Status.{Status}
 use Rattle.ocp_c.specs.declared.status.Status.TheVariants as status
 use Rattle.ocp_c.specs.Statuses.{number_of}
 
 -- the number of the answer
-abbrev pub answers : Option Log → (Log → Status) → ℕ
+abbrev pub answers : Option Flown → (Flown → Status) → ℕ
 answers None answer = number_of status.NotOpen
-answers (Some log) answer = number_of (answer log)
+answers (Some flown) answer = number_of (answer flown)
 
 -- what is held then
-abbrev pub leaves : Option Log → (Log → Log) → Option Log
+abbrev pub leaves : Option Flown → (Flown → Flown) → Option Flown
 leaves None change = None
-leaves (Some log) change = Some (change log)
+leaves (Some flown) change = Some (change flown)
 
 -- what is written then
-abbrev pub writes : {X : Type 0} → Option Log → X → (Log → X) → X
+abbrev pub writes : {X : Type 0} → Option Flown → X → (Flown → X) → X
 writes None before write = before
-writes (Some log) before write = write log
+writes (Some flown) before write = write flown
 
 -- ---- instructions
 

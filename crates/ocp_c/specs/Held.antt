@@ -5,16 +5,15 @@ use denote.RawPtr.{Ptr, null_ptr}
 use Rattle.std.specs.declared.option.Option.{Option}
 use Rattle.std.specs.declared.option.Option.TheVariants.{None, Some}
 use Rattle.std.specs.declared.alloc.Global.{Global}
-use Rattle.std.specs.contracts.alloc.Global as heap
 use Rattle.std.specs.contracts.impls.GlobalAllocator.TheImpl.{ghosts}
 use Rattle.std.specs.Box.Ownership.{box_owns}
-use Rattle.ocp_core.specs.contracts.engine.Engine as engine
-use Rattle.ocp_core.specs.Log.{Log}
+use Rattle.ocp_c.specs.contracts.open_engine.OpenEngine as engine
+use Rattle.ocp_flight.specs.Flown.{Flown}
 
 -- an engine on the program's heap
 abbrev pub engine_row : RattleType
-engine_row = engine.the_row heap.the_row ghosts
+engine_row = engine.the_row
 
-abbrev pub ownership_at : Global → Ptr → Option Log → Fml
+abbrev pub ownership_at : Global → Ptr → Option Flown → Fml
 ownership_at a p None = feq Ptr p null_ptr
-ownership_at a p (Some log) = box_owns (ghosts.dealloc_token a) engine_row p log
+ownership_at a p (Some flown) = box_owns (ghosts.dealloc_token a) engine_row p flown

@@ -5,5 +5,6 @@ pub mod Opening
 pub mod Packets
 pub mod Replies
 pub mod Reading
-pub mod Entries
+pub mod Records
+pub mod Journals
 pub mod Bounds

@@ -1,27 +1,15 @@
 -- What a request and a drain answer to C.
 use Rattle.std.specs.Prelude.{ℕ, nat_le, if◌then◌else◌, List, [], Ok, Err}
-use Rattle.pus_fields.specs.declared.fault.Discard.{Discard}
-use Rattle.pus_fields.specs.declared.fault.Discard.TheVariants as discard
-use Rattle.ocp_world.specs.declared.answers.EngineFault.TheVariants as engine
 use Rattle.ocp_world.specs.After.{Answer, Requested, Stepped, Commanded, Written}
 use Rattle.ocp_c.specs.declared.status.Status.{Status}
 use Rattle.ocp_c.specs.declared.status.Status.TheVariants as status
-use Rattle.ocp_c.specs.Packets.{together}
-
-abbrev pub status_of_discard : Discard → Status
-status_of_discard discard.Short = status.DiscardedShort
-status_of_discard discard.Version = status.DiscardedVersion
-status_of_discard discard.Length = status.DiscardedLength
-status_of_discard discard.NotTelecommand = status.DiscardedNotTelecommand
-status_of_discard discard.OtherApid = status.DiscardedOtherApid
+use Rattle.ocp_reports.specs.Packets.{together}
+use Rattle.ocp_c.specs.Statuses.{status_of_fault}
 
 -- that of an answer
 abbrev pub status_of_reply : Answer → Status
 status_of_reply (Requested (Ok reports)) = status.Done
-status_of_reply (Requested (Err (engine.Discarded cause))) = status_of_discard cause
-status_of_reply (Requested (Err engine.JournalFull)) = status.JournalFull
-status_of_reply (Requested (Err engine.Memory)) = status.Memory
-status_of_reply (Requested (Err engine.NothingDue)) = status.NothingDue
+status_of_reply (Requested (Err fault)) = status_of_fault fault
 status_of_reply (Stepped outcome) = status.Done
 status_of_reply (Commanded result) = status.Done
 status_of_reply (Written result) = status.Done

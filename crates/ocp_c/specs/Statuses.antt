@@ -6,6 +6,14 @@ use Rattle.ocp_debug.specs.declared.command.DebugFault.{DebugFault}
 use Rattle.ocp_world.specs.declared.answers.PutFault.{PutFault}
 use Rattle.ocp_world.specs.declared.answers.PutFault.TheVariants as put
 use Rattle.ocp_debug.specs.declared.command.DebugFault.TheVariants as debug
+use Rattle.pus_fields.specs.declared.fault.Discard.{Discard}
+use Rattle.pus_fields.specs.declared.fault.Discard.TheVariants as discard
+use Rattle.ocp_world.specs.declared.answers.EngineFault.{EngineFault}
+use Rattle.ocp_world.specs.declared.answers.EngineFault.TheVariants as engine
+use Rattle.ocp_flight.specs.declared.faults.EntryFault.{EntryFault}
+use Rattle.ocp_flight.specs.declared.faults.EntryFault.TheVariants as entry
+use Rattle.ocp_flight.specs.declared.faults.ReleaseFault.{ReleaseFault}
+use Rattle.ocp_flight.specs.declared.faults.ReleaseFault.TheVariants as release
 use Rattle.ocp_c.specs.declared.status.Status.{Status}
 use Rattle.ocp_c.specs.declared.status.Status.TheVariants as status
 
@@ -38,6 +46,11 @@ number_of status.NotSet = 23
 number_of status.OutsideMemory = 24
 number_of status.NoWord = 25
 number_of status.NoEntry = 26
+number_of status.BadOctets = 27
+number_of status.NotHeld = 28
+number_of status.Spent = 29
+number_of status.Released = 30
+number_of status.NoRecord = 31
 
 -- that of an instruction
 abbrev pub status_of : StepOutcome → Status
@@ -66,3 +79,31 @@ status_of_command (Err debug.BreaksFull) = status.BreaksFull
 status_of_command (Err debug.NotSet) = status.NotSet
 status_of_command (Err debug.JournalFull) = status.JournalFull
 status_of_command (Err debug.OutsideMemory) = status.OutsideMemory
+
+-- that of discarded octets
+abbrev pub status_of_discard : Discard → Status
+status_of_discard discard.Short = status.DiscardedShort
+status_of_discard discard.Version = status.DiscardedVersion
+status_of_discard discard.Length = status.DiscardedLength
+status_of_discard discard.NotTelecommand = status.DiscardedNotTelecommand
+status_of_discard discard.OtherApid = status.DiscardedOtherApid
+
+-- that of a request or a drain that is refused
+abbrev pub status_of_fault : EngineFault → Status
+status_of_fault (engine.Discarded cause) = status_of_discard cause
+status_of_fault engine.JournalFull = status.JournalFull
+status_of_fault engine.Memory = status.Memory
+status_of_fault engine.NothingDue = status.NothingDue
+
+-- that of an entry that is read
+abbrev pub status_of_entry : Result ℕ EntryFault → Status
+status_of_entry (Ok length) = status.Done
+status_of_entry (Err entry.Released) = status.Released
+status_of_entry (Err entry.NotYet) = status.NoEntry
+status_of_entry (Err (entry.TooShort length)) = status.BufferTooSmall
+
+-- that of a release
+abbrev pub status_of_release : Result (Unit {0}) ReleaseFault → Status
+status_of_release (Ok done) = status.Done
+status_of_release (Err release.NotHeld) = status.NotHeld
+status_of_release (Err release.Spent) = status.Spent

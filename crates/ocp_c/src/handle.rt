@@ -6,24 +6,24 @@ ghost use Rattle.std.specs.Coded.{coded_option};
 ghost use denote.RawPtr.{null_ptr};
 ghost use Rattle.std.specs.declared.option.Option.{Option as Maybe};
 ghost use Rattle.std.specs.declared.option.Option.TheVariants.{None, Some};
-ghost use Rattle.ocp_core.specs.Log.{Log};
-ghost use Rattle.ocp_core.specs.Mirror.Codes.{log_code};
+ghost use Rattle.ocp_flight.specs.Flown.{Flown};
+ghost use Rattle.ocp_flight.specs.Mirror.Codes.{flown_code};
 ghost use Rattle.ocp_c.specs.Held.{ownership_at};
 
+use crate::OpenEngine;
 use crate::loose::Loose;
-use ocp_core::Engine;
 use std::alloc::Global;
 use std::marker::Model;
 use std::mem;
 use std::ptr::null_mut;
 
-/// The pointer of an engine, or null while none is open. The log of the engine is what contracts
-/// see of it.
+/// The pointer of an engine, or null while none is open. Contracts see the log of all its entries,
+/// and how many of them were released.
 #[repr(C)]
 pub struct Handle {
     at: *mut u8,
     alloc: Global,
-    pub ghost held: { Maybe Log } by { coded_option log_code },
+    pub ghost held: { Maybe Flown } by { coded_option flown_code },
 }
 
 impl Model for Handle {
@@ -46,7 +46,7 @@ impl Handle {
         Handle { at, alloc }
     }
 
-    fn full(from: Loose<Engine, Global>) -> Handle
+    fn full(from: Loose<OpenEngine, Global>) -> Handle
         ensures { result.held ≡ Some from.value }
     {
         let Loose { at, alloc } = from;
@@ -56,7 +56,7 @@ impl Handle {
         }
     }
 
-    fn into_loose(self) -> Option<Loose<Engine, Global>>
+    fn into_loose(self) -> Option<Loose<OpenEngine, Global>>
         ensures { MatchOption result (self.held ≡ None) (λ loose. self.held ≡ Some loose.value) }
     {
         let Handle { at, alloc } = self;
@@ -64,7 +64,7 @@ impl Handle {
             None
         } else {
             Some(Loose {
-                at: at as *mut Engine,
+                at: at as *mut OpenEngine,
                 alloc,
             })
         }
@@ -78,7 +78,7 @@ impl Handle {
     }
 
     /// The engine, where one is open. The handle is then closed until `put`.
-    pub fn take(&mut self, alloc: Global) -> Option<Box<Engine>>
+    pub fn take(&mut self, alloc: Global) -> Option<Box<OpenEngine>>
         ensures left { self.new.held ≡ None }
         ensures taken { MatchOption result (self.old.held ≡ None)
             (λ engine. self.old.held ≡ Some engine.value) }
@@ -92,7 +92,7 @@ impl Handle {
     }
 
     /// Holds an engine.
-    pub fn put(&mut self, engine: Box<Engine>)
+    pub fn put(&mut self, engine: Box<OpenEngine>)
         ensures { self.new.held ≡ Some engine.value }
     {
         *self = Handle::full(Loose::of_box(engine));

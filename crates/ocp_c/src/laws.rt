@@ -1,14 +1,8 @@
 //! Laws of what C is handed. The functions do nothing when they run: their contracts are the laws.
 ghost use Rattle.ocp_c.specs.Bounds.{RequestsHaveFewReports, DrainsHaveFewReports};
-ghost use Rattle.ocp_c.specs.Entries.{EntriesAreReadBack};
 
 /// A request has at most four reports of at most 68 octets, and a drain at most 64 of at most 25.
 pub fn reports_are_few()
     ensures requests { RequestsHaveFewReports }
     ensures drains { DrainsHaveFewReports }
-{}
-
-/// The octets of a journal entry say which entry it is.
-pub fn entries_are_read_back()
-    ensures { EntriesAreReadBack }
 {}

@@ -3,7 +3,7 @@
 ghost use Rattle.std.specs.Prelude.{◌≡◌};
 ghost use Rattle.ocp_c.specs.Calls.{outcome_or};
 
-use ocp_core::StepOutcome;
+use ocp_flight::StepOutcome;
 
 /// Its kind as the header numbers them, and the number of the fault where it faulted.
 #[repr(C)]

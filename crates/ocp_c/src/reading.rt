@@ -6,13 +6,15 @@ ghost use Rattle.std.specs.declared.option.Option.TheVariants.{None, Some};
 ghost use Rattle.ocp_table.specs.Shown.{view_at};
 ghost use Rattle.ocp_debug.specs.Memory.{memory_at};
 ghost use Rattle.ocp_world.specs.NextRunning.{IsNextRunning, Runs};
-ghost use Rattle.ocp_core.specs.Log.{Log, world_of};
+ghost use Rattle.ocp_core.specs.Log.{world_of};
+ghost use Rattle.ocp_flight.specs.Flown.{Flown};
 ghost use Rattle.ocp_c.specs.declared.status.Status.TheVariants as status;
 ghost use Rattle.ocp_c.specs.Statuses.{number_of};
 ghost use Rattle.ocp_c.specs.Calls.{answers, writes};
 ghost use Rattle.ocp_c.specs.Reading.{identifier_in, status_of_read, octets_or, view_status, procedure_or, registers_or};
+ghost use Rattle.ocp_c.specs.Records.{kept_record, record_or, record_status, traced_or};
 
-use crate::{Handle, Procedure, Status};
+use crate::{Handle, Procedure, Record, Status};
 use std::alloc::Global;
 
 // The identifier that a number is, where it is one.
@@ -36,19 +38,20 @@ pub extern "C" fn ocp_next_running(
 ) -> u32
     ensures closed { handle.old.held ≡ None → result ≡ number_of status.NotOpen }
     ensures engine { handle.new.held ≡ handle.old.held }
-    ensures next { (log : Log) → handle.old.held ≡ Some log → result ≡ number_of status.Done →
-        IsNextRunning (world_of log).records (identifier_in after) (Some id.new) }
-    ensures refused { (log : Log) → handle.old.held ≡ Some log →
+    ensures next { (flown : Flown) → handle.old.held ≡ Some flown → result ≡ number_of status.Done →
+        IsNextRunning (world_of flown.log).records (identifier_in after) (Some id.new) }
+    ensures refused { (flown : Flown) → handle.old.held ≡ Some flown →
         result ≢ number_of status.Done → result ≡ number_of status.NoneRunning }
-    ensures none { (log : Log) → handle.old.held ≡ Some log →
-        result ≡ number_of status.NoneRunning → (id : ℕ) → Runs (world_of log).records id → ⊥ }
+    ensures none { (flown : Flown) → handle.old.held ≡ Some flown →
+        result ≡ number_of status.NoneRunning →
+        (id : ℕ) → Runs (world_of flown.log).records id → ⊥ }
     ensures same { result ≢ number_of status.Done → id.new ≡ id.old }
 {
-    let Some(engine) = handle.take(alloc) else {
+    let Some(held) = handle.take(alloc) else {
         return Status::NotOpen.number();
     };
-    let next = engine.next_running(identifier_in(after));
-    handle.put(engine);
+    let next = held.engine.next_running(identifier_in(after));
+    handle.put(held);
     match next {
         Some(next) => {
             *id = next;
@@ -67,17 +70,17 @@ pub extern "C" fn ocp_memory(
     address: u64,
     octets: &mut [u8],
 ) -> u32
-    ensures status { result ≡ answers handle.old.held (λ log. status_of_read
-        (memory_at (get (world_of log).records id) address (length octets.old))) }
+    ensures status { result ≡ answers handle.old.held (λ flown. status_of_read
+        (memory_at (get (world_of flown.log).records id) address (length octets.old))) }
     ensures engine { handle.new.held ≡ handle.old.held }
-    ensures octets { octets.new ≡ writes handle.old.held octets.old (λ log. octets_or
-        (memory_at (get (world_of log).records id) address (length octets.old)) octets.old) }
+    ensures octets { octets.new ≡ writes handle.old.held octets.old (λ flown. octets_or
+        (memory_at (get (world_of flown.log).records id) address (length octets.old)) octets.old) }
 {
-    let Some(engine) = handle.take(alloc) else {
+    let Some(held) = handle.take(alloc) else {
         return Status::NotOpen.number();
     };
-    let given = engine.memory(id, address, octets);
-    handle.put(engine);
+    let given = held.engine.memory(id, address, octets);
+    handle.put(held);
     Status::of_command(given).number()
 }
 
@@ -99,20 +102,20 @@ pub extern "C" fn ocp_view(
     view: &mut Procedure,
     registers: &mut [u64],
 ) -> u32
-    ensures status { result ≡ answers handle.old.held (λ log.
-        view_status (length registers.old) (view_at (get (world_of log).records id))) }
+    ensures status { result ≡ answers handle.old.held (λ flown.
+        view_status (length registers.old) (view_at (get (world_of flown.log).records id))) }
     ensures engine { handle.new.held ≡ handle.old.held }
-    ensures view { view.new ≡ writes handle.old.held view.old (λ log. procedure_or
-        (length registers.old) (view_at (get (world_of log).records id)) view.old) }
-    ensures registers { registers.new ≡ writes handle.old.held registers.old (λ log.
-        registers_or (length registers.old) (view_at (get (world_of log).records id))
+    ensures view { view.new ≡ writes handle.old.held view.old (λ flown. procedure_or
+        (length registers.old) (view_at (get (world_of flown.log).records id)) view.old) }
+    ensures registers { registers.new ≡ writes handle.old.held registers.old (λ flown.
+        registers_or (length registers.old) (view_at (get (world_of flown.log).records id))
         registers.old) }
 {
-    let Some(engine) = handle.take(alloc) else {
+    let Some(held) = handle.take(alloc) else {
         return Status::NotOpen.number();
     };
-    let found = engine.view(id);
-    handle.put(engine);
+    let found = held.engine.view(id);
+    handle.put(held);
     if registers.len() < 11 {
         return Status::BufferTooSmall.number();
     }
@@ -123,5 +126,40 @@ pub extern "C" fn ocp_view(
             Status::Done.number()
         }
         None => Status::NotLoaded.number(),
+    }
+}
+
+/// A trace record that is kept, the oldest at 0, and the registers after its instruction.
+#[unsafe(no_mangle)]
+pub extern "C" fn ocp_trace_record(
+    alloc: Global,
+    handle: &mut Handle,
+    index: u64,
+    record: &mut Record,
+    registers: &mut [u64],
+) -> u32
+    ensures status { result ≡ answers handle.old.held
+        (λ flown. record_status (length registers.old) (kept_record flown index)) }
+    ensures engine { handle.new.held ≡ handle.old.held }
+    ensures record { record.new ≡ writes handle.old.held record.old
+        (λ flown. record_or (length registers.old) (kept_record flown index) record.old) }
+    ensures registers { registers.new ≡ writes handle.old.held registers.old
+        (λ flown. traced_or (length registers.old) (kept_record flown index) registers.old) }
+{
+    let Some(held) = handle.take(alloc) else {
+        return Status::NotOpen.number();
+    };
+    let found = held.engine.trace_record(index).copied();
+    handle.put(held);
+    if registers.len() < 11 {
+        return Status::BufferTooSmall.number();
+    }
+    match found {
+        Some(found) => {
+            record.show(&found);
+            show_registers(&found.registers, registers);
+            Status::Done.number()
+        }
+        None => Status::NoRecord.number(),
     }
 }

@@ -1,9 +1,10 @@
 //! What calls answer to C.
 
 ghost use Rattle.std.specs.Prelude.{◌≡◌, Ok, Err};
-ghost use Rattle.ocp_c.specs.Statuses.{number_of, status_of, status_of_command, status_of_put};
+ghost use Rattle.ocp_c.specs.Statuses.{number_of, status_of, status_of_command, status_of_discard, status_of_entry, status_of_fault, status_of_put, status_of_release};
 
-use ocp_core::{DebugFault, PutFault, StepOutcome};
+use ocp_flight::{DebugFault, EngineFault, EntryFault, PutFault, ReleaseFault, StepOutcome};
+use pus_fields::Discard;
 
 /// The statuses of the header, in its order.
 #[derive(Clone, Copy, PartialEq, Eq, Debug)]
@@ -35,6 +36,11 @@ pub enum Status {
     OutsideMemory,
     NoWord,
     NoEntry,
+    BadOctets,
+    NotHeld,
+    Spent,
+    Released,
+    NoRecord,
 }
 
 impl Status {
@@ -70,6 +76,11 @@ impl Status {
             Status::OutsideMemory => 24,
             Status::NoWord => 25,
             Status::NoEntry => 26,
+            Status::BadOctets => 27,
+            Status::NotHeld => 28,
+            Status::Spent => 29,
+            Status::Released => 30,
+            Status::NoRecord => 31,
         }
     }
 
@@ -109,6 +120,54 @@ impl Status {
             Err(DebugFault::NotSet) => Status::NotSet,
             Err(DebugFault::JournalFull) => Status::JournalFull,
             Err(DebugFault::OutsideMemory) => Status::OutsideMemory,
+        }
+    }
+
+    // That of discarded octets.
+    fn of_discard(cause: Discard) -> Status
+        ensures { result ≡ status_of_discard cause }
+    {
+        match cause {
+            Discard::Short => Status::DiscardedShort,
+            Discard::Version => Status::DiscardedVersion,
+            Discard::Length => Status::DiscardedLength,
+            Discard::NotTelecommand => Status::DiscardedNotTelecommand,
+            Discard::OtherApid => Status::DiscardedOtherApid,
+        }
+    }
+
+    /// That of a request or a drain that is refused.
+    pub fn of_fault(fault: EngineFault) -> Status
+        ensures { result ≡ status_of_fault fault }
+    {
+        match fault {
+            EngineFault::Discarded(cause) => Status::of_discard(cause),
+            EngineFault::JournalFull => Status::JournalFull,
+            EngineFault::Memory => Status::Memory,
+            EngineFault::NothingDue => Status::NothingDue,
+        }
+    }
+
+    /// That of an entry that is read.
+    pub fn of_entry(given: Result<usize, EntryFault>) -> Status
+        ensures { result ≡ status_of_entry given }
+    {
+        match given {
+            Ok(_) => Status::Done,
+            Err(EntryFault::Released) => Status::Released,
+            Err(EntryFault::NotYet) => Status::NoEntry,
+            Err(EntryFault::TooShort { .. }) => Status::BufferTooSmall,
+        }
+    }
+
+    /// That of a release.
+    pub fn of_release(given: Result<(), ReleaseFault>) -> Status
+        ensures { result ≡ status_of_release given }
+    {
+        match given {
+            Ok(()) => Status::Done,
+            Err(ReleaseFault::NotHeld) => Status::NotHeld,
+            Err(ReleaseFault::Spent) => Status::Spent,
         }
     }
 }

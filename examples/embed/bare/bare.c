@@ -2,8 +2,8 @@
  *
  * Time goes by in cycles of CYCLE milliseconds; with 0, one follows each packet, and the same packets give the same reports.
  * In each one every running procedure does a slice of SLICE instructions in its turn, and the completions that wait are
- * reported. The time in reports is the number of the cycle. When the journal is full, the engine begins anew, and ground
- * loads its procedures again. A packet whose octets stop coming is dropped after SILENCE milliseconds. */
+ * reported. The time in reports is the number of the cycle. The journal's entries are released after each cycle: a program
+ * with room for them copies them out first. A packet whose octets stop coming is dropped after SILENCE milliseconds. */
 #include "board.h"
 #include "ocp_engine.h"
 
@@ -18,7 +18,8 @@ enum {
     PROFILE = 1,
     APID = 291,
     POOL_WORDS = 16,
-    JOURNAL_ENTRIES = 10000,
+    JOURNAL_ENTRIES = 1000,
+    JOURNAL_OCTETS = 131072,
     HEADER = 6, /* octets of a primary header */
     LONGEST = HEADER + 65536,
     AT_ONCE = 4096, /* octets that are read before cycles are looked at */
@@ -34,12 +35,6 @@ static uint64_t heard; /* when the last one came */
 
 static uint8_t reports[OCP_DRAIN_REPORTS];
 
-static void begin_engine(void)
-{
-    if (ocp_open(&engine, PROFILE, APID, POOL_WORDS, JOURNAL_ENTRIES) != OCP_DONE)
-        switch_off();
-}
-
 /* A slice of each running procedure, by rising identifier. */
 static void give_slices(void)
 {
@@ -54,21 +49,24 @@ static void give_slices(void)
     }
 }
 
+static void release_entries(void)
+{
+    uint64_t entries, octets;
+    if (ocp_room(&engine, &entries, &octets) == OCP_DONE)
+        ocp_release(&engine, JOURNAL_ENTRIES - entries);
+}
+
 static void run_cycle(void)
 {
     size_t written;
-    uint64_t room;
     cycle++;
     give_slices();
     if (ocp_drain(&engine, cycle, reports, sizeof reports, &written) == OCP_DONE)
         uart_send(reports, written);
-    if (ocp_room(&engine, &room) == OCP_DONE && room == 0) {
-        ocp_close(&engine);
-        begin_engine();
-    }
+    release_entries();
 }
 
-/* One packet; nobody is told of one that is discarded or that finds no memory. */
+/* One packet; nobody is told of one that is discarded, or that finds no memory or a full journal. */
 static void take(size_t length)
 {
     size_t written;
@@ -101,7 +99,8 @@ static void read_input(void)
 int main(void)
 {
     uart_begin();
-    begin_engine();
+    if (ocp_open(&engine, PROFILE, APID, POOL_WORDS, JOURNAL_ENTRIES, JOURNAL_OCTETS) != OCP_DONE)
+        switch_off();
     for (uint64_t due = milliseconds() + CYCLE;;) {
         read_input();
         if (CYCLE > 0 && milliseconds() >= due) {

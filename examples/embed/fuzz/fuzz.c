@@ -8,7 +8,8 @@
  *
  * - it stays within its arguments and its heap, which the sanitizer sees;
  * - a status is one that the call lists, and a refusal changes neither events, room, view nor pool;
- * - the journal, run again by a second engine, gives the same reports, events, views and pool. */
+ * - the entries, given to a second engine before they are released, give the same reports, events, views and pool. */
+#include "entry.h"
 #include "error_control.h"
 #include "fixed_heap.h"
 #include "ocp_engine.h"
@@ -84,7 +85,7 @@ static void tell(uint32_t what, uint32_t one, uint32_t other)
 /* ---- an engine and what is seen of it */
 
 struct seen {
-    uint64_t events, room, pool[POOL_WORDS];
+    uint64_t events, first, room, octets, pool[POOL_WORDS];
     uint32_t status[PROCEDURES];
     struct ocp_view view[PROCEDURES];
     uint64_t registers[PROCEDURES][11];
@@ -93,7 +94,8 @@ struct seen {
 static void see(struct ocp_engine *engine, struct seen *seen)
 {
     memset(seen, 0, sizeof *seen);
-    HOLDS(ocp_events(engine, &seen->events) == OCP_DONE && ocp_room(engine, &seen->room) == OCP_DONE);
+    HOLDS(ocp_events(engine, &seen->events) == OCP_DONE && ocp_room(engine, &seen->room, &seen->octets) == OCP_DONE);
+    HOLDS(ocp_first_entry(engine, &seen->first) == OCP_DONE);
     for (uint64_t word = 0; word < POOL_WORDS; word++)
         HOLDS(ocp_pool_word(engine, word, &seen->pool[word]) == OCP_DONE);
     for (uint16_t id = 0; id < PROCEDURES; id++)
@@ -107,6 +109,9 @@ struct told {
 };
 
 static struct told flown, again;
+
+static struct ocp_engine second = OCP_CLOSED; /* is given the entries of the first one */
+static uint32_t capacity;
 
 static uint32_t request(struct ocp_engine *engine, struct told *told, uint32_t time, const uint8_t *packet, size_t length)
 {
@@ -290,6 +295,55 @@ static void begin_procedure(struct ocp_engine *engine, uint32_t profile)
     }
 }
 
+/* ---- the journal again */
+
+/* Gives this many of the oldest entries to the second engine, and releases them in both. */
+static uint32_t hand_down(struct ocp_engine *engine, uint64_t count)
+{
+    static uint8_t entry[OCP_LONGEST_ENTRY], reports[OCP_DRAIN_REPORTS];
+    uint64_t first;
+    size_t length, written, kept = refused;
+    refused = SIZE_MAX;
+    HOLDS(ocp_first_entry(engine, &first) == OCP_DONE);
+    for (uint64_t index = first; index < first + count; index++) {
+        HOLDS(ocp_entry(engine, index, entry, sizeof entry, &length) == OCP_DONE);
+        HOLDS(give_entry(&second, entry, length, reports, &written) && again.length + written <= REPORTS);
+        memcpy(again.octets + again.length, reports, written);
+        again.length += written;
+        HOLDS(ocp_release(&second, 1) == OCP_DONE);
+    }
+    refused = kept;
+    return ocp_release(engine, count);
+}
+
+static uint64_t held_count(struct ocp_engine *engine)
+{
+    uint64_t entries, octets;
+    HOLDS(ocp_room(engine, &entries, &octets) == OCP_DONE);
+    return capacity - entries;
+}
+
+/* A release of some entries, which may be more than are held. */
+static uint32_t release(struct ocp_engine *engine)
+{
+    uint64_t held = held_count(engine), count = number(1) % (held + 2);
+    uint32_t status = count <= held ? hand_down(engine, count) : ocp_release(engine, count);
+    HOLDS(status == (count <= held ? OCP_DONE : OCP_NOT_HELD));
+    return status;
+}
+
+/* The second engine is given the rest, and is then as the first one. */
+static void compare_engines(struct ocp_engine *first)
+{
+    static struct seen one, other;
+    HOLDS(hand_down(first, held_count(first)) == OCP_DONE);
+    see(first, &one);
+    see(&second, &other);
+    one.room = other.room = one.octets = other.octets = 0; /* the journals have other sizes */
+    HOLDS(memcmp(&one, &other, sizeof one) == 0);
+    HOLDS(flown.length == again.length && memcmp(flown.octets, again.octets, flown.length) == 0);
+}
+
 /* ---- calls */
 
 static bool is_listed(uint32_t status, const uint8_t *statuses, size_t count)
@@ -308,7 +362,8 @@ static uint32_t call(struct ocp_engine *engine, uint32_t profile)
     uint16_t id;
     uint8_t octets[64];
     size_t length;
-#ifdef OCP_NO_STEP /* the header has rounds, and words from outside */
+    if (which >= 248)
+        return release(engine);
     if (which >= 240) {
         status = ocp_put_word(engine, number(1) % (POOL_WORDS + 1), number(4));
         LISTED(status, OCP_DONE, OCP_NO_WORD, OCP_JOURNAL_FULL);
@@ -323,13 +378,12 @@ static uint32_t call(struct ocp_engine *engine, uint32_t profile)
             tell(5, outcome.kind, step == OCP_NO_STEP);
         return status;
     }
-#endif
     switch (which % 16) {
     case 0:
         return raw_request(engine);
     case 1:
         status = drain(engine, &flown, number(1));
-        LISTED(status, OCP_DONE, OCP_NOTHING_DUE, OCP_JOURNAL_FULL, OCP_MEMORY);
+        LISTED(status, OCP_DONE, OCP_NOTHING_DUE, OCP_JOURNAL_FULL);
         return status;
     case 2:
         status = ocp_set_break(engine, procedure(), (uint16_t)number(1));
@@ -374,81 +428,18 @@ static uint32_t call(struct ocp_engine *engine, uint32_t profile)
     }
 }
 
-/* ---- the journal again */
-
-static uint32_t big(const uint8_t *octets, size_t length)
-{
-    uint32_t value = 0;
-    while (length-- > 0)
-        value = value << 8 | *octets++;
-    return value;
-}
-
-static void run_entry(struct ocp_engine *engine, const uint8_t *entry, size_t length)
-{
-    uint32_t count, many = length >= 9 ? big(entry + 5, 4) : 0;
-    struct ocp_outcome last;
-    uint16_t id = (uint16_t)big(entry + 3, 2), other = (uint16_t)big(entry + 5, 2);
-    switch (entry[0]) {
-    case OCP_ENTRY_REQUEST:
-        HOLDS(request(engine, &again, big(entry + 3, 4), entry + 7, length - 7) == OCP_DONE);
-        break;
-    case OCP_ENTRY_STEPS:
-        for (uint32_t done = 0; done < many; done += count)
-            HOLDS(ocp_slice(engine, id, many - done, &count, &last) == OCP_DONE);
-        break;
-    case OCP_ENTRY_SET_BREAK:
-        HOLDS(ocp_set_break(engine, id, other) == OCP_DONE);
-        break;
-    case OCP_ENTRY_CLEAR_BREAK:
-        HOLDS(ocp_clear_break(engine, id, other) == OCP_DONE);
-        break;
-    case OCP_ENTRY_TRACE:
-        HOLDS(ocp_trace(engine, id, other == 1) == OCP_DONE);
-        break;
-    case OCP_ENTRY_DRAIN:
-        HOLDS(drain(engine, &again, big(entry + 3, 4)) == OCP_DONE);
-        break;
-#ifdef OCP_NO_STEP
-    case 7: /* a word from outside */
-        HOLDS(length == 13 && ocp_put_word(engine, big(entry + 3, 2), (uint64_t)big(entry + 5, 4) << 32 | big(entry + 9, 4)) == OCP_DONE);
-        break;
-#endif
-    default:
-        fail(__LINE__, "an entry is of a kind that is listed");
-    }
-}
-
-/* A second engine does the entries of the first one. */
-static void run_again(struct ocp_engine *first, uint32_t profile)
-{
-    static uint8_t entry[OCP_LONGEST_ENTRY];
-    static struct seen one, other;
-    struct ocp_engine second = OCP_CLOSED;
-    size_t length;
-    refused = SIZE_MAX;
-    again.length = 0;
-    HOLDS(ocp_open(&second, profile, APID, POOL_WORDS, 1000) == OCP_DONE);
-    for (uint64_t index = 0; ocp_entry(first, index, entry, sizeof entry, &length) == OCP_DONE; index++)
-        run_entry(&second, entry, length);
-    see(first, &one);
-    see(&second, &other);
-    one.room = other.room = 0; /* the capacities differ */
-    HOLDS(memcmp(&one, &other, sizeof one) == 0);
-    HOLDS(flown.length == again.length && memcmp(flown.octets, again.octets, flown.length) == 0);
-    HOLDS(ocp_close(&second) == OCP_DONE);
-}
-
 int LLVMFuzzerTestOneInput(const uint8_t *octets, size_t length)
 {
     static struct seen before, after;
     struct ocp_engine engine = OCP_CLOSED;
     input = octets;
     left = length;
-    flown.length = 0;
-    uint32_t profile = 1 + (number(1) & 1), capacity = number(1) % 4 == 0 ? 8 : 900;
+    flown.length = again.length = 0;
+    uint32_t profile = 1 + (number(1) & 1), sizes = number(1) % 8, space = sizes == 1 ? 300 : 100000;
+    capacity = sizes == 0 ? 8 : 900;
     refused = SIZE_MAX;
-    HOLDS(ocp_open(&engine, profile, APID, POOL_WORDS, capacity) == OCP_DONE);
+    HOLDS(ocp_open(&engine, profile, APID, POOL_WORDS, capacity, space) == OCP_DONE);
+    HOLDS(ocp_open(&second, profile, APID, POOL_WORDS, 1, OCP_LONGEST_ENTRY) == OCP_DONE);
     if (number(1) & 1)
         begin_procedure(&engine, profile);
     for (int calls = 0; left > 0 && calls < 890; calls++) {
@@ -465,7 +456,8 @@ int LLVMFuzzerTestOneInput(const uint8_t *octets, size_t length)
             tell(3, after.view[id].status * 8 + after.view[id].cause, after.view[id].pending * 8 + after.view[id].depth);
         tell(4, which % 16, status);
     }
-    run_again(&engine, profile);
-    HOLDS(ocp_close(&engine) == OCP_DONE);
+    refused = SIZE_MAX;
+    compare_engines(&engine);
+    HOLDS(ocp_close(&engine) == OCP_DONE && ocp_close(&second) == OCP_DONE);
     return 0;
 }

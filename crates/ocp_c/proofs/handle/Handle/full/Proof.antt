@@ -22,7 +22,7 @@ use Rattle.std.proofs.alloc.Global.TheLaws as heap_laws
 use Rattle.std.specs.contracts.impls.GlobalAllocator.TheImpl.{ghosts}
 use Rattle.std.proofs.raw_atomic.Walks.{proved_at, leaves}
 use Rattle.ocp_c.specs.Held.{engine_row}
-use Rattle.ocp_core.specs.Log.{Log}
+use Rattle.ocp_flight.specs.Flown.{Flown}
 use Rattle.ocp_c.proofs.Values.{both, Loose, both_good, loose_out, Z, handle_in}
 use Rattle.ocp_c.specs.contracts.handle.Handle.full.{ended, clauses}
 use Rattle.ocp_c.specs.contracts.handle.Handle.full.Key.{name as #self}
@@ -37,7 +37,7 @@ full_spec 𝓤 𝓛 𝓜 𝓡 wired =
     proved_at 𝓛 En hs c 𝓜 𝓡 (Goes-dropped 𝓛 0 (plain (λ _. Lr)) yes (λ κs x w. refl), tt) #self fn (code.unfolded 𝓤 H 𝓜 𝓡 wired) (λ z are.
     let κs = z.0.0 in let qs = z.0.1 in let v = z.0.3.0 in let a = v.alloc in let Post : Val → SProp 𝓤 = (walk_of 𝓛 En hs c).post z in let Run : List Val → SProp 𝓤 = λ ws. WpFn 𝓤 H 𝓣.C 𝓣.Λ fn ws Post in
     qed 𝓛 ((raw (alive 𝓛 En.signature κs qs) ⊛ ‵ (owns (types_at En.signature.params κs) z.0.3 z.0.4)) ∷ raw ((c κs z.0.3).requires z.1) ∷ []) ∵ split ! $ move ! (1 ∷ []) $ fsplit ! $ loose_out Z LZ ghosts R ! v z.0.4.0 (λ b o h e ws fits.
-    let w : Val = both (vptr b o) h in let typed = both_good Z LZ ghosts b o h fits in let held : Option Log = Some v.value in
+    let w : Val = both (vptr b o) h in let typed = both_good Z LZ ghosts b o h fits in let held : Option Flown = Some v.value in
     handle_in ! (block_ptr b o) h a held $
     suffices ! (Run (w ∷ [])) (subst (λ (us : List Val). ent 𝓤 (Run (w ∷ [])) (Run us)) (sym (λ i. ws i ++ [])) (id⊢ 𝓤 (Run (w ∷ [])))) $
     enter ! 𝓣.C 𝓣.Λ fn (w ∷ []) Post $ alloc_all ! (λ l. pass_all ! refl (typed, tt) $

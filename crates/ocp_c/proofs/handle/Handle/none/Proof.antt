@@ -24,7 +24,7 @@ use Rattle.std.specs.declared.option.Option.TheVariants.{None}
 use Rattle.std.proofs.alloc.Global.TheLaws as heap_laws
 use Rattle.std_alloc.proofs.ResultValues.{and_tt}
 use Rattle.std.proofs.raw_atomic.Walks.{proved_at, leaves}
-use Rattle.ocp_core.specs.Log.{Log}
+use Rattle.ocp_flight.specs.Flown.{Flown}
 use Rattle.ocp_c.proofs.Values.{both, Z, Hd, handle_in}
 use Rattle.ocp_c.specs.contracts.handle.Handle.none.{ended, clauses}
 use Rattle.ocp_c.specs.contracts.handle.Handle.none.Key.{name as #self}
@@ -46,5 +46,5 @@ none_spec 𝓤 𝓛 𝓜 𝓡 wired =
     suffices ! (Run (vnull ∷ h.0 ∷ [])) (subst (λ (us : List Val). ent 𝓤 (Run (vnull ∷ h.0 ∷ [])) (Run us)) (sym (λ i. is i ++ (h.1 i ++ []))) (id⊢ 𝓤 (Run (vnull ∷ h.0 ∷ [])))) $
     enter ! 𝓣.C 𝓣.Λ fn (vnull ∷ h.0 ∷ []) Post $ alloc_all ! (λ l. pass_all ! refl ((tt, record { fits = lit< tt }), (h.2, tt)) $
     sets ! (agg ! (and_then ! (get ! refl) (and_then ! (get ! refl) (no_more !)))) refl good $
-    let Nothing : Option Log = None in use0 𝓛 (raw (fact 𝓤 (Nothing ≡ Nothing))) (fact_i 𝓤 (Nothing ≡ Nothing) (emp 𝓤) refl) $ nothing ! $ nothing ! $ fjoin ! $ nothing ! $ fjoin ! $
+    let Nothing : Option Flown = None in use0 𝓛 (raw (fact 𝓤 (Nothing ≡ Nothing))) (fact_i 𝓤 (Nothing ≡ Nothing) (emp 𝓤) refl) $ nothing ! $ nothing ! $ fjoin ! $ nothing ! $ fjoin ! $
     returns ! (look_at ! 0 refl) $ free_all ! refl $ keep ! (4 ∷ 0 ∷ 2 ∷ 1 ∷ []) $ by ! (leaves 𝓛 En hs c z w (record { at = null_ptr; alloc = a; held = Nothing }) (tt, (tt, tt)) (tt, (tt, tt)))))))

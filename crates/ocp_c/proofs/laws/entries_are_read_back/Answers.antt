@@ -1,5 +1,0 @@
-use Rattle.ocp_c.proofs.ReadBack.{are_read_back}
-use Rattle.ocp_c.proofs.laws.entries_are_read_back.Goals as goal
-
-pub returns : goal.returns
-returns c = are_read_back

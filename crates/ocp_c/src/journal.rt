@@ -1,0 +1,105 @@
+//! The journal's calls: what it has room for, which entries it holds, their octets, and their
+//! release.
+
+ghost use Rattle.std.specs.Prelude.{◌≡◌, length};
+ghost use Rattle.ocp_flight.specs.Flown.{entry_answer, entry_written, release_after, release_answer, room};
+ghost use Rattle.ocp_c.specs.declared.status.Status.TheVariants as status;
+ghost use Rattle.ocp_c.specs.Statuses.{status_of_entry, status_of_release};
+ghost use Rattle.ocp_c.specs.Calls.{answers, leaves, writes};
+ghost use Rattle.ocp_c.specs.Journals.{length_or};
+
+use crate::{Handle, Status};
+use ocp_flight::EntryFault;
+use std::alloc::Global;
+
+/// How many entries more, and how many octets of entries more, the journal holds.
+#[unsafe(no_mangle)]
+pub extern "C" fn ocp_room(
+    alloc: Global,
+    handle: &mut Handle,
+    entries: &mut u64,
+    octets: &mut u64,
+) -> u32
+    ensures status { result ≡ answers handle.old.held (λ flown. status.Done) }
+    ensures engine { handle.new.held ≡ handle.old.held }
+    ensures entries { entries.new ≡ writes handle.old.held entries.old
+        (λ flown. (room flown).entries) }
+    ensures octets { octets.new ≡ writes handle.old.held octets.old
+        (λ flown. (room flown).octets) }
+{
+    let Some(held) = handle.take(alloc) else {
+        return Status::NotOpen.number();
+    };
+    let room = held.engine.room();
+    handle.put(held);
+    *entries = room.entries as u64;
+    *octets = room.octets as u64;
+    Status::Done.number()
+}
+
+/// The index of the oldest entry that is held, or of the next one if none is.
+#[unsafe(no_mangle)]
+pub extern "C" fn ocp_first_entry(alloc: Global, handle: &mut Handle, index: &mut u64) -> u32
+    ensures status { result ≡ answers handle.old.held (λ flown. status.Done) }
+    ensures engine { handle.new.held ≡ handle.old.held }
+    ensures index { index.new ≡ writes handle.old.held index.old (λ flown. flown.released) }
+{
+    let Some(held) = handle.take(alloc) else {
+        return Status::NotOpen.number();
+    };
+    *index = held.engine.first();
+    handle.put(held);
+    Status::Done.number()
+}
+
+/// Gives up a number of the oldest entries.
+#[unsafe(no_mangle)]
+pub extern "C" fn ocp_release(alloc: Global, handle: &mut Handle, count: u64) -> u32
+    ensures status { result ≡ answers handle.old.held
+        (λ flown. status_of_release (release_answer flown count)) }
+    ensures engine { handle.new.held ≡ leaves handle.old.held
+        (λ flown. release_after flown count) }
+{
+    let Some(mut held) = handle.take(alloc) else {
+        return Status::NotOpen.number();
+    };
+    let given = held.engine.release(count);
+    handle.put(held);
+    Status::of_release(given).number()
+}
+
+// Tells how long an entry is.
+fn tell_length(given: Result<usize, EntryFault>, told: &mut usize)
+    ensures { told.new ≡ length_or given told.old }
+{
+    match given {
+        Ok(length) | Err(EntryFault::TooShort { length }) => *told = length,
+        Err(EntryFault::Released | EntryFault::NotYet) => {}
+    }
+}
+
+/// The octets of an entry, by its index since the engine was opened.
+#[unsafe(no_mangle)]
+pub extern "C" fn ocp_entry(
+    alloc: Global,
+    handle: &mut Handle,
+    index: u64,
+    octets: &mut [u8],
+    written: &mut usize,
+) -> u32
+    ensures status { result ≡ answers handle.old.held
+        (λ flown. status_of_entry (entry_answer flown index (length octets.old))) }
+    ensures engine { handle.new.held ≡ handle.old.held }
+    ensures octets { octets.new ≡ writes handle.old.held octets.old
+        (λ flown. entry_written flown index octets.old) }
+    ensures written { written.new ≡ writes handle.old.held written.old
+        (λ flown. length_or (entry_answer flown index (length octets.old)) written.old) }
+{
+    let Some(held) = handle.take(alloc) else {
+        return Status::NotOpen.number();
+    };
+    let given = held.engine.entry(index, octets);
+    handle.put(held);
+    tell_length(given, written);
+    Status::of_entry(given).number()
+}

@@ -1,0 +1,32 @@
+//! What a handle holds.
+
+ghost use Rattle.ocp_flight.specs.Flown.{Flown};
+ghost use Rattle.ocp_flight.specs.Mirror.Codes.{flown_code};
+
+use ocp_flight::Flight;
+use ocp_reports::PacketBuffer;
+use std::marker::Model;
+
+/// An engine, and the room that its reports are written to. Contracts see the engine.
+pub struct OpenEngine {
+    pub(crate) engine: Flight,
+    pub(crate) packets: PacketBuffer,
+}
+
+/// Kept as one call: the proof of each caller is then shorter.
+impl Drop for OpenEngine {
+    fn drop(self) {
+        let Self {
+            engine: _,
+            packets: _,
+        } = self;
+    }
+}
+
+impl Model for OpenEngine {
+    ghost Value = { Flown };
+
+    ghost coded = { flown_code };
+
+    ghost view = { λ o. o.engine };
+}
