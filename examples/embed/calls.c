@@ -12,6 +12,7 @@
 /* ---- a heap that refuses one growth */
 
 static size_t growths;             /* how many there were */
+static size_t asked;               /* the octets of all of them */
 static size_t refused = SIZE_MAX;  /* the one that is refused, from 0 on */
 
 static struct fixed_heap_answer answer_of(void *piece)
@@ -22,6 +23,7 @@ static struct fixed_heap_answer answer_of(void *piece)
 
 struct fixed_heap_answer rattle_alloc(size_t octets, size_t align)
 {
+    asked += octets;
     return answer_of(growths++ == refused ? NULL : malloc(octets == 0 ? align : octets));
 }
 
@@ -246,6 +248,28 @@ static void numbers(void)
     WANT(OCP_NOT_OPEN, ocp_close(&engine));
     each_growth("ocp_open", open_small);
     WANT(OCP_DONE, ocp_close(&engine));
+}
+
+/* The octets that ocp_open asks for: docs/EMBED.md, "Memory". */
+static void size_of(int line, uint32_t profile, uint32_t pool_words, uint32_t entries, uint32_t octets)
+{
+    asked = growths = 0;
+    want(line, "ocp_open", OCP_DONE, ocp_open(&engine, profile, APID, pool_words, entries, octets));
+    want(line, "the octets", true, asked == 44616 + 8 * (size_t)pool_words + 4 * (size_t)entries + octets);
+    want(line, "the pieces", 8, (uint32_t)growths);
+    want(line, "ocp_close", OCP_DONE, ocp_close(&engine));
+}
+
+static void sizes(void)
+{
+    for (uint32_t profile = 1; profile <= 2; profile++) {
+        size_of(__LINE__, profile, 1, 1, 1);
+        size_of(__LINE__, profile, 256, 1, 1);
+        size_of(__LINE__, profile, 3, 1000000, 7);
+        size_of(__LINE__, profile, 16, 1000, 65536);
+        size_of(__LINE__, profile, 16, 17, 19);
+        size_of(__LINE__, profile, 16, 1, MOST_OCTETS);
+    }
 }
 
 static uint32_t load(void)
@@ -849,6 +873,7 @@ int main(void)
     closed_handle();
     version();
     numbers();
+    sizes();
     packets();
     procedures();
     pool_words();
