@@ -10,5 +10,6 @@ pub mod First
 pub mod Line
 pub mod Stood
 pub mod Listed
+pub mod Room
 mod InOrder
 mod Loaded

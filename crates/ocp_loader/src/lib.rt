@@ -4,6 +4,7 @@
 mod check;
 mod fault;
 mod laws;
+mod lines;
 mod listing;
 mod ops;
 mod program;
@@ -16,4 +17,5 @@ pub use laws::{
     lines_stand_at_their_places, places_are_counted_in_slots, places_lead_to_places,
     two_has_the_engine_calls_of_every_profile,
 };
+pub use lines::Lines;
 pub use program::{MAX_SLOTS, Program, approve, load};
