@@ -10,7 +10,7 @@ use crate::traces::write_trace;
 use crate::views::show_view;
 use ocp_debug::{clear_break, set_break, set_trace, view, view_text};
 use ocp_regions::ARGUMENT_OCTETS;
-use ocp_table::{LoadFailure, PendingOrigin, Pool, Profile, StartFailure, Table};
+use ocp_table::{PendingOrigin, Pool, Profile, StartFailure, Table};
 use std::alloc::Global;
 
 /// A table, and the pool of its procedures.
@@ -115,11 +115,7 @@ fn suspend(table: &mut Table, alloc: Global, id: u16, step: u16) -> Result<Strin
 
 fn load(table: &mut Table, alloc: Global, id: u16, code: &str) -> Result<String, Fault> {
     let code = octets(alloc, code)?;
-    match table.load(alloc, id, &code) {
-        Ok(()) => text_of(alloc, "Ok"),
-        Err(LoadFailure::Failed(failure)) => show_start(alloc, Err(failure)),
-        Err(LoadFailure::Memory) => Err(Fault::Memory),
-    }
+    show_start(alloc, table.load(id, &code))
 }
 
 fn activate(

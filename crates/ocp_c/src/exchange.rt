@@ -1,11 +1,8 @@
 //! Requests and drains, whose reports go into a buffer of C's.
 
-ghost use Rattle.std.specs.Prelude.{◌≡◌, ◌≢◌, ◌≤◌, ◌==◌, if◌then◌else◌, length, true};
+ghost use Rattle.std.specs.Prelude.{◌≡◌, ◌≤◌, ◌==◌, if◌then◌else◌, length};
 ghost use Rattle.std.specs.declared.option.Option.TheVariants.{None, Some};
 ghost use Rattle.ocp_world.specs.World.{Request, Drain};
-ghost use Rattle.ocp_world.specs.After.{is_accepted};
-ghost use Rattle.ocp_world.specs.Loading.{TakesRecordIn};
-ghost use Rattle.ocp_core.specs.Log.{world_of};
 ghost use Rattle.ocp_flight.specs.Flown.{Flown};
 ghost use Rattle.ocp_flight.specs.Calls.{answer_in, flown_after};
 ghost use Rattle.ocp_c.specs.declared.status.Status.TheVariants as status;
@@ -31,19 +28,13 @@ fn pour(octets: &[u8], buffer: &mut [u8]) -> usize
 // A request to an engine, with its reports in a buffer.
 fn request_into(
     held: &mut OpenEngine,
-    alloc: Global,
     time: u32,
     packet: &[u8],
     reports: &mut [u8],
     written: &mut usize,
 ) -> u32
-    ensures answer { result ≢ number_of status.Memory →
-        result ≡ number_of (replies 272 (length reports.old)
+    ensures answer { result ≡ number_of (replies 272 (length reports.old)
         (answer_in held.old (Request 0 time packet.now))) }
-    ensures memory { result ≡ number_of status.Memory →
-        is_accepted (answer_in held.old (Request 0 time packet.now)) ≡ true }
-    ensures load { result ≡ number_of status.Memory →
-        TakesRecordIn (world_of held.old.log) packet.now }
     ensures engine { held.new ≡ (if result == 0
         then flown_after held.old (Request 0 time packet.now) else held.old) }
     ensures reports { reports.new ≡ (if result == 0
@@ -56,10 +47,7 @@ fn request_into(
     if reports.len() < 272 {
         return Status::BufferTooSmall.number();
     }
-    match held
-        .engine
-        .request(alloc, SEAT, time, packet, &mut held.packets)
-    {
+    match held.engine.request(SEAT, time, packet, &mut held.packets) {
         Ok(()) => {
             *written = pour(held.packets.octets(), reports);
             Status::Done.number()
@@ -68,7 +56,7 @@ fn request_into(
     }
 }
 
-/// Takes the octets of a telecommand packet. Only a load asks for memory.
+/// Takes the octets of a telecommand packet. It asks for no memory.
 #[unsafe(no_mangle)]
 pub extern "C" fn ocp_request(
     alloc: Global,
@@ -80,14 +68,8 @@ pub extern "C" fn ocp_request(
 ) -> u32
     ensures closed { handle.old.held ≡ None → result ≡ number_of status.NotOpen }
     ensures answer { (flown : Flown) → handle.old.held ≡ Some flown →
-        result ≢ number_of status.Memory →
         result ≡ number_of (replies 272 (length reports.old)
         (answer_in flown (Request 0 time packet.now))) }
-    ensures memory { (flown : Flown) → handle.old.held ≡ Some flown →
-        result ≡ number_of status.Memory → is_accepted
-        (answer_in flown (Request 0 time packet.now)) ≡ true }
-    ensures load { (flown : Flown) → handle.old.held ≡ Some flown →
-        result ≡ number_of status.Memory → TakesRecordIn (world_of flown.log) packet.now }
     ensures engine { handle.new.held ≡ leaves handle.old.held (λ flown.
         if result == 0 then flown_after flown (Request 0 time packet.now) else flown) }
     ensures least { (flown : Flown) → length (reports_in
@@ -102,7 +84,7 @@ pub extern "C" fn ocp_request(
     let Some(mut held) = handle.take(alloc) else {
         return Status::NotOpen.number();
     };
-    let number = request_into(&mut held, alloc, time, packet, reports, written);
+    let number = request_into(&mut held, time, packet, reports, written);
     handle.put(held);
     number
 }

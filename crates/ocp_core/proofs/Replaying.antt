@@ -1,5 +1,5 @@
 -- A journal's replay, entry by entry.
-use Rattle.std.proofs.Common.{◌≡◌, ◌+◌, ◌<◌, ℕ, zero, suc, List, [], ◌∷◌, ◌++◌, map, take, length, get_or, replicate, false, refl, sym, ap, subst, ◌∙◌, add-one}
+use Rattle.std.proofs.Common.{◌≡◌, ◌+◌, ◌<◌, ℕ, zero, suc, List, [], ◌∷◌, ◌++◌, map, take, length, get_or, replicate, false, true, refl, sym, ap, subst, ◌∙◌, add-one}
 use Rattle.std.specs.Prelude.{Result, Ok, Err, OnOk}
 use Rattle.std.proofs.lemmas.List.{take_more, map-append}
 use Rattle.ocp_profile.specs.declared.profile.Profile.{Profile}
@@ -69,13 +69,13 @@ module _ {A : Type 0} (keeps : (w : World) (e : Event) → is_accepted (after w 
   stands_after (Err engine.JournalFull) has does = refused_stands engine.JournalFull does.0 does.1
   stands_after (Err engine.NothingDue) has does = refused_stands engine.NothingDue does.0 does.1
 
--- memory is found whatever is kept of the packets
-pub memory_found : {X : Type 0} (r : Result X EngineFault) (packets : List (List ℕ)) → HasMemory r → HasMemory (with_packets r packets)
-memory_found (Ok kept) packets has = tt
-memory_found (Err engine.Memory) packets has = has
-memory_found (Err (engine.Discarded cause)) packets has = tt
-memory_found (Err engine.JournalFull) packets has = tt
-memory_found (Err engine.NothingDue) packets has = tt
+-- one whose keeper finds memory finds it whatever is kept of the packets
+pub memory_found : {X : Type 0} (r : Result X EngineFault) (packets : List (List ℕ)) → (r ≡ Err engine.Memory → false ≡ true) → HasMemory (with_packets r packets)
+memory_found (Ok kept) packets finds = tt
+memory_found (Err engine.Memory) packets finds = let refused = finds refl in cc
+memory_found (Err (engine.Discarded cause)) packets finds = tt
+memory_found (Err engine.JournalFull) packets finds = tt
+memory_found (Err engine.NothingDue) packets finds = tt
 
 -- what holds of a result where it is one, follows so
 pub where_ok : {X E : Type 0} {P Q : Type 0} → (r : Result X E) → (P → Q) → OnOk r P → OnOk r Q

@@ -1,27 +1,14 @@
--- A request or a drain that was done: its reports, the mark of its entry, and the memory that it takes.
-use Rattle.std.proofs.Common.{◌≡◌, ℕ, List, sym, ap, subst, ◌∙◌}
+-- A request or a drain that was done: its reports, and the mark of its entry.
+use Rattle.std.proofs.Common.{◌≡◌, ℕ, List, sym, ap, ◌∙◌}
 use Rattle.std.specs.Prelude.{Result, Ok, Err, IfOk}
-use Rattle.pus_fields.specs.Telecommand.{Telecommand}
-use Rattle.pus_fields.specs.declared.fault.TcFault.{TcFault}
-use Rattle.pus_fields.specs.TelecommandFaults.{telecommand_of}
 use Rattle.ocp_world.specs.declared.answers.EngineFault.{EngineFault}
-use Rattle.ocp_world.specs.declared.state.State.{State}
-use Rattle.ocp_world.specs.World.{World}
 use Rattle.ocp_world.specs.After.{Answer, Requested}
 use Rattle.ocp_world.specs.Answers.{Answers}
-use Rattle.ocp_world.specs.Loading.{TakesRecord, TakesRecordIn}
-use Rattle.ocp_world.specs.Mirror.State.{IsWorld, with_packets}
+use Rattle.ocp_world.specs.Mirror.State.{with_packets}
 use Rattle.ocp_core.specs.declared.event.Entry as N
 use Rattle.ocp_core.specs.Log.{Entry}
 use Rattle.ocp_core.specs.Journal.{entry_with_mark}
 use Rattle.ocp_core.specs.Receipts.{reports_in}
-
--- a request takes memory for a record by what the state keeps, so in the engine's world
-pub takes_record : {A : Type 0} (w : World) (octets : List ℕ) (read : Result Telecommand TcFault) (s : State A) → read ≡ telecommand_of w.apid octets → IsWorld w s → TakesRecord s.table.profile s.table.records read → TakesRecordIn w octets
-takes_record w octets read s is stands takes =
-    subst (λ r. TakesRecord w.profile w.records r) is
-    (subst (λ profile. TakesRecord profile w.records read) stands.profile
-    (subst (λ m. TakesRecord s.table.profile m read) stands.records takes))
 
 -- ---- the receipt of a journal: the reports, and the entry with them as its mark
 

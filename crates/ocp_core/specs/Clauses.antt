@@ -13,7 +13,6 @@ pub use Rattle.ocp_world.specs.After.{Answer, Requested, Stepped, Commanded, Wri
 pub use Rattle.ocp_world.specs.After.{is_accepted}
 pub use Rattle.ocp_world.specs.Round.{most_events, step_at}
 pub use Rattle.ocp_world.specs.Answers.{Answers}
-pub use Rattle.ocp_world.specs.Loading.{TakesRecordIn}
 pub use Rattle.ocp_world.specs.NextRunning.{IsNextRunning, Runs}
 pub use Rattle.ocp_world.specs.Replay.{answers, replay_from}
 pub use Rattle.ocp_core.specs.declared.answers.CommitOutcome.{CommitOutcome}

@@ -8,7 +8,7 @@ ghost use Rattle.ocp_world.specs.World as world;
 ghost use Rattle.ocp_world.specs.declared.answers.EngineFault.TheVariants as engine;
 ghost use Rattle.ocp_world.specs.Mirror.State.{IsWorld, with_packets};
 ghost use Rattle.ocp_core.specs.Log as logs;
-ghost use Rattle.ocp_core.specs.Clauses.{MAX_POOL_WORDS, Answers, Commanded, Debug, Put, Stepped, TakesRecordIn, Written, answer_at, most_events, round_at, round_store, slice_at, slice_store, step_at, event_store, world_of};
+ghost use Rattle.ocp_core.specs.Clauses.{MAX_POOL_WORDS, Answers, Commanded, Debug, Put, Stepped, Written, answer_at, most_events, round_at, round_store, slice_at, slice_store, step_at, event_store, world_of};
 
 use crate::{
     Command, DebugFault, EngineFault, Note, PutFault, RequestStore, Round, Slice, StepOutcome,
@@ -177,13 +177,10 @@ pub fn put_word<S: Store, A: Allocator>(
 
 /// Takes the octets of a telecommand packet, which a seat hands in at a time in whole seconds, and
 /// writes its reports. Refused, in this order, if the octets are discarded, if there is no room for
-/// an entry, and if there is no memory; then nothing is changed. If the keeper finds memory, Memory
-/// is answered only for a load under an id that is free, in a table with room, of 1 to 2,048 whole
-/// slots: never in place of a request that fails otherwise.
-pub fn request<S: RequestStore, A: Allocator + Copy>(
+/// an entry, and if the keeper finds no memory; then nothing is changed.
+pub fn request<S: RequestStore, A: Allocator>(
     store: &mut S,
     state: &mut State<A>,
-    alloc: A,
     keeper: &mut S::Keeper,
     by: u16,
     time: u32,
@@ -199,8 +196,7 @@ pub fn request<S: RequestStore, A: Allocator + Copy>(
     ensures receipt { IfOk result (λ receipt.
         S.is_receipt receipt (logs.Asked by time octets.now) packets.new) }
     ensures world { IsWorld (world_of (S.log store.new)) state.new }
-    ensures memory { result ≡ Err engine.Memory → S.Keeper.refused keeper.new ≡ false →
-        TakesRecordIn (world_of (S.log store.old)) octets.now }
+    ensures memory { result ≡ Err engine.Memory → S.Keeper.refused keeper.new ≡ true }
 {
     let read = read_tc(store.apid(), octets);
     if let Some(cause) = discard_of(&read) {
@@ -210,7 +206,7 @@ pub fn request<S: RequestStore, A: Allocator + Copy>(
         return Err(EngineFault::JournalFull);
     }
     let copy = S::keep_octets(keeper, octets)?;
-    let kept = state.receive(alloc, keeper, store.events(), time, read, packets)?;
+    let kept = state.receive(keeper, store.events(), time, read, packets)?;
     Ok(store.push_request(by, time, octets, copy, kept))
 }
 

@@ -28,9 +28,9 @@ impl<A: Allocator> Engine<A> {
         Ok(Some(Ticket { id, parts }))
     }
 
-    /// Makes a ticket that of a procedure, in the same memory: none is asked for. It is refused
-    /// where the procedure is not running, where its machine's memory has other addresses than the
-    /// ticket's, and where its program can't be shared once more; then the ticket stays as it was.
+    /// Makes a ticket that of a procedure, in the same memory: none is asked for. It is refused if
+    /// the procedure is not running, and if its machine's memory has other addresses than the
+    /// ticket's; then the ticket stays as it was.
     pub fn ticket_into(&self, id: u16, ticket: &mut Ticket<A>) -> bool
         ensures taken { IsTrue result →
             ticket_at id (get (world_of self.now).records id) ≡ Some ticket.new }

@@ -1,9 +1,9 @@
 //! The engine.
 
-ghost use Rattle.std.specs.Prelude.{◌≡◌, ◌↔◌, ◌≤◌, ◌<◌, ◌-◌, ◌^◌, ℕ, false, Err, None, IfOk, IfSome, OnOk, OnErr, length, slice_get};
+ghost use Rattle.std.specs.Prelude.{◌≡◌, ◌↔◌, ◌≤◌, ◌<◌, ◌-◌, ◌^◌, ℕ, false, true, Err, None, IfOk, IfSome, OnOk, OnErr, length, slice_get};
 ghost use Rattle.ocp_world.specs.World as world;
 ghost use Rattle.ocp_table.specs.Slices.{slice_of};
-ghost use Rattle.ocp_core.specs.Clauses.{MAX_APID, MAX_POOL_WORDS, MAX_CAPACITY, Answers, Enters, Grows, IsNextRunning, Log, Runs, Stepped, TakesRecordIn, answer_in, empty_log, entries_in, entry_with_mark, event_entries, expand, get, is_accepted, log_after, marked_drain, marked_request, reports_in, Put, Written, round_in, round_log, slice_entries, slice_in, slice_log, view_at, world_of};
+ghost use Rattle.ocp_core.specs.Clauses.{MAX_APID, MAX_POOL_WORDS, MAX_CAPACITY, Answers, Enters, Grows, IsNextRunning, Log, Runs, Stepped, answer_in, empty_log, entries_in, entry_with_mark, event_entries, expand, get, is_accepted, log_after, marked_drain, marked_request, reports_in, Put, Written, round_in, round_log, slice_entries, slice_in, slice_log, view_at, world_of};
 ghost use Rattle.ocp_core.specs.Mirror.Codes.{log_code};
 ghost use Rattle.ocp_world.specs.Mirror.State.{IsWorld};
 
@@ -95,9 +95,7 @@ impl<A: Allocator + Copy> Engine<A> {
     }
 
     /// `request`, with the receipt of its entry, at a heap that notes whether the copy of the
-    /// octets or the reports found no memory. Where they found it, Memory is answered only for a
-    /// load under an id that is free, in a table with room, of 1 to 2,048 whole slots: never in
-    /// place of a request that fails otherwise.
+    /// octets or the reports found no memory. Memory is answered only then.
     pub fn request_in(
         &mut self,
         heap: &mut Heap<A>,
@@ -112,14 +110,11 @@ impl<A: Allocator + Copy> Engine<A> {
         ensures receipt { IfOk result (λ r. entry_with_mark r.1 ≡
             marked_request by time octets.now r.0) }
         ensures err { OnErr result (self.new ≡ self.old) }
-        ensures memory { result ≡ Err EngineFault.Memory → heap.new ≡ false →
-            TakesRecordIn (world_of self.old) octets.now }
+        ensures memory { result ≡ Err EngineFault.Memory → heap.new ≡ true }
     {
-        let alloc = heap.alloc();
         calls::request(
             &mut self.journal,
             &mut self.state,
-            alloc,
             heap,
             by,
             time,

@@ -1,28 +1,17 @@
 //! One procedure of a journal, by itself.
 
-ghost use Rattle.std.specs.Prelude.{◌≡◌, ◌≤◌, ◌<◌, ℕ, IfOk, OnOk, replicate};
+ghost use Rattle.std.specs.Prelude.{◌≡◌, ◌≤◌, ◌<◌, ℕ, IfOk, replicate};
 ghost use Rattle.ocp_world.specs.Mirror.State.{IsWorld};
 ghost use Rattle.ocp_core.specs.Clauses.{MAX_APID, Put, Step, World, after, alone_after, entry_of, events_of, expand, get, machine_of, replay_from, world_of};
-ghost use Rattle.ocp_core.specs.Mirror.Admitted.{HasMemory};
 
 use crate::laws::{machines_follow_from_their_own_events, refused_events_change_nothing};
-use crate::{Command, EngineFault, Entry, Journal};
+use crate::{Command, Entry, Journal};
 use bpf_step::Machine;
 use ocp_reports::PacketBuffer;
 use ocp_world::{Nothing, State};
 use pus_fields::read_tc;
 use space_packet::Apid;
 use std::alloc::{AllocError, Allocator};
-
-// Whether a request or a drain found memory: it was done, or it was refused and changed nothing.
-fn memory_of(given: Result<(), EngineFault>) -> Result<(), AllocError>
-    ensures { OnOk result (HasMemory given) }
-{
-    match given {
-        Err(EngineFault::Memory) => Err(AllocError),
-        _ => Ok(()),
-    }
-}
 
 // Writes the pool word at an index, if there is one.
 fn write<A: Allocator>(state: &mut State<A>, index: u16, value: u64)
@@ -46,23 +35,22 @@ fn steps<A: Allocator>(state: &mut State<A>, id: u16, count: u32)
 }
 
 // Does the events of an entry, the first of which is that of this number.
-fn enter<A: Allocator + Copy, B: Allocator>(
+fn enter<A: Allocator, B: Allocator>(
     state: &mut State<A>,
-    alloc: A,
     apid: Apid,
     event: u64,
     entry: &Entry<B>,
     packets: &mut PacketBuffer<A>,
-) -> Result<(), AllocError>
+)
     requires { apid ≤ MAX_APID }
     ensures { (w : World) → IsWorld w state.old → w.apid ≡ apid → event ≡ w.events →
-        OnOk result (IsWorld (replay_from w (events_of (entry_of entry.now))) state.new) }
+        IsWorld (replay_from w (events_of (entry_of entry.now))) state.new }
 {
     refused_events_change_nothing();
     match entry {
         Entry::Request { time, octets, .. } => {
             let read = read_tc(apid, octets.as_slice());
-            memory_of(state.receive(alloc, &mut Nothing, event, *time, read, packets))?;
+            let _result = state.receive(&mut Nothing, event, *time, read, packets);
         }
         Entry::Steps { id, count, .. } => steps(state, *id, *count),
         Entry::SetBreak { id, place, .. } => {
@@ -74,10 +62,11 @@ fn enter<A: Allocator + Copy, B: Allocator>(
         Entry::Trace { id, on, .. } => {
             let _result = state.command(*id, Command::SetTrace(*on));
         }
-        Entry::Drain { time, .. } => memory_of(state.drain(&mut Nothing, *time, packets))?,
+        Entry::Drain { time, .. } => {
+            let _result = state.drain(&mut Nothing, *time, packets);
+        }
         Entry::PutWord { index, value, .. } => write(state, *index, *value),
     }
-    Ok(())
 }
 
 /// The machine of a procedure at the end of a journal, where it is loaded there. It is the machine
@@ -101,7 +90,7 @@ pub fn replay_one<A: Allocator + Copy, B: Allocator>(
     let mut packets = PacketBuffer::new(alloc)?;
     let mut event: u64 = 0;
     for entry in entries {
-        enter(&mut state, alloc, apid, event, entry, &mut packets)?;
+        enter(&mut state, apid, event, entry, &mut packets);
         event += entry.events();
     }
     state.machine(alloc, id)

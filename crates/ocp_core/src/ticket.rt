@@ -19,8 +19,8 @@ pub(crate) struct Parts<A: Allocator> {
     pub(crate) machine: Machine<A>,
 }
 
-/// A copy of a running procedure: its machine, which is to compare with, another machine with the
-/// same addresses, which is to become like it and to run, the shared program, the breakpoints, the
+/// A copy of a running procedure: its program, its machine, which is to compare with, another
+/// machine with the same addresses, which is to become like it and to run, the breakpoints, the
 /// pass flag, the trace flag and what remains of the budget.
 pub struct Ticket<A: Allocator = Global> {
     pub(crate) id: u16,

@@ -9,7 +9,6 @@ pub use Rattle.ocp_debug.specs.Memory.{Reads}
 pub use Rattle.ocp_world.specs.World.{World, Event, Step, Debug, Put}
 pub use Rattle.ocp_world.specs.After.{Answer, Requested, Stepped, Commanded, Written}
 pub use Rattle.ocp_world.specs.Answers.{Answers}
-pub use Rattle.ocp_world.specs.Loading.{TakesRecordIn}
 pub use Rattle.ocp_world.specs.Mirror.State.{with_packets}
 pub use Rattle.ocp_world.specs.NextRunning.{IsNextRunning, Runs}
 pub use Rattle.ocp_core.specs.Log.{Log, expand, world_of}

@@ -4,7 +4,7 @@ ghost use Rattle.std.specs.Prelude.{◌≡◌, ◌↔◌, ◌≤◌, ◌<◌, �
 ghost use Rattle.ocp_debug.specs.declared.command.Command.TheVariants as command;
 ghost use Rattle.ocp_world.specs.World as world;
 ghost use Rattle.ocp_world.specs.Mirror.State.{IsWorld};
-ghost use Rattle.ocp_flight.specs.Clauses.{Answers, Commanded, Debug, Flown, IsNextRunning, MAX_APID, MAX_CAPACITY, MAX_POOL_WORDS, Put, Reads, Runs, Step, Stepped, TakesRecordIn, Written, answer_in, entry_answer, entry_written, expand, flown_after, get, held_count, last_traces, opened_flown, release_after, release_answer, room, round_after, round_in, slice_after, slice_in, view_at, with_packets, world_of};
+ghost use Rattle.ocp_flight.specs.Clauses.{Answers, Commanded, Debug, Flown, IsNextRunning, MAX_APID, MAX_CAPACITY, MAX_POOL_WORDS, Put, Reads, Runs, Step, Stepped, Written, answer_in, entry_answer, entry_written, expand, flown_after, get, held_count, last_traces, opened_flown, release_after, release_answer, room, round_after, round_in, slice_after, slice_in, view_at, with_packets, world_of};
 ghost use Rattle.ocp_flight.specs.Mirror.Codes.{flown_code};
 
 use crate::{BoundedStore, EntryFault, MAX_OCTETS, ReleaseFault, Room};
@@ -68,14 +68,14 @@ impl<A: Allocator + Copy> Flight<A> {
         let store = BoundedStore::new(alloc, profile, apid, words, entries, octets)?;
         Ok(Flight { store, state })
     }
+}
 
+impl<A: Allocator> Flight<A> {
     /// Takes the octets of a telecommand packet, which a seat hands in at a time in whole seconds,
-    /// and writes its reports. Refused, in this order, if the octets are discarded, if the entry
-    /// has no room, and if there is no memory; then nothing is changed. Memory is asked for by a
-    /// load alone, under an id that is free, in a table with room, of 1 to 2,048 whole slots.
+    /// and writes its reports. Refused, in this order, if the octets are discarded, and if the
+    /// entry has no room; then nothing is changed.
     pub fn request(
         &mut self,
-        alloc: A,
         by: u16,
         time: u32,
         octets: &[u8],
@@ -86,13 +86,11 @@ impl<A: Allocator + Copy> Flight<A> {
         ensures log { OnOk result
             (self.new ≡ flown_after self.old (world.Request by time octets.now)) }
         ensures err { OnErr result (self.new ≡ self.old) }
-        ensures memory { result ≡ Err EngineFault.Memory →
-            TakesRecordIn (world_of self.old.log) octets.now }
+        ensures memory { result ≡ Err EngineFault.Memory → ⊥ }
     {
         calls::request(
             &mut self.store,
             &mut self.state,
-            alloc,
             &mut Nothing,
             by,
             time,
@@ -100,9 +98,7 @@ impl<A: Allocator + Copy> Flight<A> {
             packets,
         )
     }
-}
 
-impl<A: Allocator> Flight<A> {
     /// Does one instruction of a running procedure. Refused, in this order, if the procedure is not
     /// loaded, if it is not running, and if the entry has no room; then nothing is changed.
     pub fn step(&mut self, by: u16, id: u16) -> StepOutcome

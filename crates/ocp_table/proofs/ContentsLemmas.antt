@@ -164,7 +164,7 @@ module _ {T X : Type 0} (id_of : T → ℕ) (shown : T → X) where
   pub IsDistinct-with_value : (s : Slab T) (k : ℕ) (old new : T) → IsDistinct id_of s → get s k ≡ Some old → id_of new ≡ id_of old → IsDistinct id_of (with_value s k new)
   IsDistinct-with_value s k old new apart at same = IsDistinct-put id_of shown s _ k new apart (Replaces-same s k old new apart at same) (Updates-with_value s k new (held_key s k old at))
 
-  slab_len-with_value : (s : Slab T) (k : ℕ) (old new : T) → get s k ≡ Some old → slab_len (with_value s k new) ≡ slab_len s
+  pub slab_len-with_value : (s : Slab T) (k : ℕ) (old new : T) → get s k ≡ Some old → slab_len (with_value s k new) ≡ slab_len s
   slab_len-with_value s k old new at =
       let within : k < length s.slots = ContainsKey-within s k (held_key s k old at) in
       let f : Option T → ℕ = λ o. cond (is_some o) 1 0 in
@@ -247,6 +247,23 @@ module _ {X : Type 0} where
         | true ↦ λ e. sym h ∙ ap (map.get m) (sym (eqb-true q k e))
         | false ↦ λ e. refl
       ] refl)
+
+  -- what was inserted where nothing was is removed again
+  pub remove-insert : (m : map.FinMap nat_cmp X) (k : ℕ) (x : X) → map.get m k ≡ None → map.remove (map.insert m k x) k ≡ m
+  remove-insert m k x h = map.same_map nat_cmp_total map.nat_cmp-IsAntisymmetric _ _ (λ q.
+      map.get-remove nat_cmp_total (map.insert m k x) k q
+      ∙ ap (λ b. cond b None (map.get (map.insert m k x) q)) (unsigned_tied q k)
+      ∙ ap (λ o. cond (q == k) None o) (map.get-insert nat_cmp_total m k x q ∙ ap (λ b. cond b (Some x) (map.get m q)) (unsigned_tied q k))
+      ∙ elim (q == k) as (λ b. (q == k) ≡ b → cond b None (cond b (Some x) (map.get m q)) ≡ map.get m q) [
+        | true ↦ λ e. sym h ∙ ap (map.get m) (sym (eqb-true q k e))
+        | false ↦ λ e. refl
+      ] refl)
+
+  pub get-inserted : (m : map.FinMap nat_cmp X) (k : ℕ) (x : X) → map.get (map.insert m k x) k ≡ Some x
+  get-inserted m k x = map.get-insert nat_cmp_total m k x k ∙ ap (λ b. cond b (Some x) (map.get m k)) (unsigned_tied k k ∙ same k)
+    where
+      same : (n : ℕ) → (n == n) ≡ true
+      same n = grind (arith, nat_tests)
 
 module _ {T X : Type 0} (id_of : T → ℕ) (shown : T → X) where
   pub Replaces-new : (s : Slab T) (k : ℕ) (r : T) → get s k ≡ None → IsAbsent id_of s (id_of r) → Replaces id_of shown s k r

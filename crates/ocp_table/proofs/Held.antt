@@ -1,13 +1,15 @@
 -- A record that was found in the slab of a table, and another one that is put in its place.
-use Rattle.std.proofs.Common.{◌≡◌, ◌≤◌, ℕ, ◌+◌, List, [], length, get_or, Option, Some, None, refl, sym, ap, subst, ◌∙◌, arith}
+use Rattle.std.proofs.Common.{◌≡◌, ◌≤◌, ℕ, ◌+◌, List, [], length, count_by, get_or, is_some, Option, Some, None, refl, sym, ap, subst, ◌∙◌, arith}
+use Rattle.std.specs.Prelude.{Vec, vec_capacity, vec_len}
 use Rattle.std.specs.FinMap as map
-use Rattle.slab.specs.Slab.{Slab, get, with_value}
+use Rattle.slab.specs.Slab.{Slab, get, slab_len, with_value}
 use Rattle.obcp_types.specs.declared.pending.Due.{Due}
 use Rattle.ocp_table.specs.declared.table.TheConstants.{MAX_PROCEDURES, OUTBOX_PLACES}
 use Rattle.ocp_table.specs.Records.{Rec, Records}
 use Rattle.ocp_table.specs.Outbox.{places_in, HasPlaces}
 use Rattle.ocp_table.specs.Effects.{Effect, records_by, records_with, outbox_by}
-use Rattle.ocp_table.specs.Mirror.Contents.{IsUnder, IsHolding, contents}
+use Rattle.ocp_table.specs.Mirror.Contents.{IsUnder, IsHolding, IsStocked, contents}
+use Rattle.ocp_table.proofs.ContentsLemmas.{slab_len-with_value}
 use Rattle.ocp_table.proofs.Fitting.{fits_by, fits-with}
 use Rattle.ocp_table.proofs.Rooms.{pendings-empty, place_there}
 
@@ -45,6 +47,13 @@ module _ {T : Type 0} (id_of : T → ℕ) (shown : T → Rec) (s : Slab T) (outb
       places = fits_by (contents id_of shown s) _ outbox after effect is files fits;
     }
 
+-- another record in the place of one leaves the spare executions
+pub stocked-at : {T X Z : Type 0} (s : Slab T) (spares : Vec X Z) (key : ℕ) (old new : T) → get s key ≡ Some old → IsStocked s spares → IsStocked (with_value s key new) spares
+stocked-at s spares key old new at stocked = record {
+  all = omega (arith, stocked.all, slab_len-with_value (λ _. 0) (λ (x : _). x) s key old new at);
+  room = stocked.room;
+}
+
 -- at first there is none
 module _ {T : Type 0} (id_of : T → ℕ) (shown : T → Rec) where
   no_item : (i : ℕ) {r : T} → get_or [] i None ≡ Some r → ⊥
@@ -61,3 +70,11 @@ module _ {T : Type 0} (id_of : T → ℕ) (shown : T → Rec) where
       subst (IsHolding id_of shown s) (sym nothing)
       (subst (λ (x : Slab T). IsHolding id_of shown x []) (ap (λ (xs : List (Option T)). record { slots = xs; vacant_key = s.vacant_key; capacity = s.capacity }) (sym none))
       (holds-empty s.capacity s.vacant_key room))
+
+  -- and all executions are spare
+  pub opened : {X Z : Type 0} (s t : Slab T) (outbox : List Due) (spares : Vec X Z) → t ≡ s → s.slots ≡ [] → MAX_PROCEDURES ≤ s.capacity → outbox ≡ [] → vec_len spares ≡ MAX_PROCEDURES → MAX_PROCEDURES ≤ vec_capacity spares → IsHolding id_of shown t outbox × IsStocked t spares
+  opened s t outbox spares is none room nothing all fits =
+      let empty : slab_len t ≡ 0 = ap slab_len is ∙ ap (count_by is_some) none in (
+        subst (λ x. IsHolding id_of shown x outbox) (sym is) (holds-none s outbox none room nothing),
+        record { all = omega (arith, empty, all); room = fits },
+      )

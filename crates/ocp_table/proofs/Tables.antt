@@ -8,8 +8,6 @@ use Rattle.obcp_types.specs.declared.failure.StartFailure.{StartFailure}
 use Rattle.obcp_types.specs.declared.failure.StartFailure.TheVariants.{NotLoaded}
 use Rattle.ocp_table.specs.declared.table.TheConstants.{MAX_PROCEDURES}
 use Rattle.ocp_table.specs.declared.answers.InstructionOutcome.{InstructionOutcome}
-use Rattle.ocp_table.specs.declared.answers.LoadFailure.{LoadFailure}
-use Rattle.ocp_table.specs.declared.answers.LoadFailure.TheVariants as load
 use Rattle.bpf_types.specs.declared.line.Line.{Line}
 use Rattle.ocp_loader.specs.declared.fault.LoadFault.{LoadFault}
 use Rattle.ocp_loader.specs.LoadResult.{load_result}
@@ -17,8 +15,7 @@ use Rattle.ocp_profile.specs.declared.profile.Profile.{Profile}
 use Rattle.ocp_table.specs.Records.{Rec, Records, Procedures}
 use Rattle.ocp_table.specs.Effects.{Change, Effect, Loaded, Unloaded, Changed, Drained, WordPut, Kept, Failed, record_by, record_after, records_by, outbox_by, dues_by_change, failed_completion, failed_completion_of, dues_of, with_change}
 use Rattle.ocp_table.specs.RequestTable.{Load, Step, transition}
-use Rattle.ocp_table.specs.Deciding.{outcome_in, effect_of_load, effect_of_step, effect_by, effect_on, effect_in, is_full}
-use Rattle.ocp_table.specs.Loading.{IsCodeFailure, IsLoadFailure}
+use Rattle.ocp_table.specs.Deciding.{outcome_in, effect_of_load, effect_of_step, effect_by, effect_on, effect_in, is_full, bad_code}
 use Rattle.ocp_table.specs.declared.change.Decision as B
 use Rattle.ocp_table.specs.declared.change.Decision.TheVariants as decision
 use Rattle.ocp_table.specs.Shown.{dues_of_effect, change_of, effect_decided}
@@ -42,13 +39,11 @@ pub absent-step : (pool : List ℕ) (id : ℕ) (m : Records) → map.get m id �
 absent-step pool id m is = ap (λ o. effect_on (Step pool) id o (is_full m)) is
 
 -- a load of code that may not be run fails, where the table has room
-pub load_fails : (t : Procedures) (id : ℕ) (code : List ℕ) (why : LoadFailure) → map.get t.records id ≡ None → is_full t.records ≡ false → IsCodeFailure t.profile code why → IsLoadFailure t id code why
-load_fails t id code (load.Failed failure) free room is =
+pub load_fails : (t : Procedures) (id : ℕ) (code : List ℕ) (fault : LoadFault) → map.get t.records id ≡ None → is_full t.records ≡ false → load_result t.profile code ≡ Err fault → effect_in (Load t.profile code) id t.records ≡ Kept (Failed (bad_code fault))
+load_fails t id code fault free room is =
     ap (λ o. effect_on (Load t.profile code) id o (is_full t.records)) free
     ∙ ap (λ full. effect_of_load full (load_result t.profile code) t.profile id code) room
-    ∙ ap (λ r. effect_of_load false r t.profile id code) is.1
-    ∙ ap (λ x. Kept (Failed x)) (sym is.2)
-load_fails t id code load.Memory free room is = record { free = free; room = room; slots = is }
+    ∙ ap (λ r. effect_of_load false r t.profile id code) is
 
 loaded_by : (profile : Profile) (id : ℕ) (code : List ℕ) (r : Result (List (Option Line)) LoadFault) → IsOk r → effect_of_load false r profile id code ≡ Loaded profile id code
 loaded_by profile id code (Ok lines) ok = refl

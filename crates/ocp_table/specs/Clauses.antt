@@ -34,15 +34,16 @@ pub use Rattle.ocp_table.specs.Budgets.{less, within, IsWithin}
 pub use Rattle.ocp_table.specs.Outbox.{HasPlaceBeside, pendings, has_no_place}
 pub use Rattle.ocp_table.specs.Deciding.{decision_on, outcome_of, effect_in, status_of, outcome_in}
 pub use Rattle.ocp_table.specs.Deciding.{outcome_unheld, Executes, ExecutesStep, is_full}
+pub use Rattle.ocp_table.specs.Deciding.{table_after}
 pub use Rattle.ocp_table.specs.Shown.{record_of, directive_of, change_of, decision_of}
 pub use Rattle.ocp_table.specs.Shown.{HasFewArguments, FitsIn, HasPlaceFor, effect_of_record}
-pub use Rattle.ocp_table.specs.Shown.{dues_of_effect, id_of, statuses_of, view_at, IsLoading}
+pub use Rattle.ocp_table.specs.Shown.{dues_of_effect, id_of, statuses_of, view_at}
 pub use Rattle.ocp_table.specs.Shown.{effect_decided, IfChanges}
 pub use Rattle.ocp_table.specs.Faults.{fault_number}
 pub use Rattle.ocp_table.specs.declared.answers.StepOutcome.{StepOutcome}
 pub use Rattle.ocp_table.specs.declared.fault.ProcedureFault.TheVariants.{Machine, Pool}
 pub use Rattle.ocp_table.specs.declared.fault.ProcedureFault.TheVariants.{BudgetSpent}
-pub use Rattle.ocp_table.specs.Records.{Rec, Records}
+pub use Rattle.ocp_table.specs.Records.{Rec, Records, Procedures}
 pub use Rattle.ocp_table.specs.RequestTable.{Directive, Step, Load, Unload, Activate, Stop, Suspend}
 pub use Rattle.ocp_table.specs.RequestTable.{Resume, Abort, Communicate, failure_by}
 pub use Rattle.ocp_table.specs.Laws.{machine_of, IsRequest, IsKeptOrStarted, IsDebugging}
@@ -51,5 +52,3 @@ pub use Rattle.ocp_table.specs.Mirror.Contents.{IsSound, IsUnder, contents}
 pub use Rattle.ocp_table.specs.Mirror.Rows.{place_for, rows_with}
 pub use Rattle.ocp_table.specs.Snapshots.{snapshot_at, count_of, record_after_work, machine_for}
 pub use Rattle.ocp_table.specs.Snapshots.{StandsAt}
-pub use Rattle.ocp_table.specs.Loading.{IsCodeFailure, IsLoadFailure}
-pub use Rattle.ocp_table.specs.declared.answers.LoadFailure.TheVariants.{Memory}

@@ -5,7 +5,6 @@ pub mod Outbox
 pub mod Effects
 pub mod RequestTable
 pub mod Deciding
-pub mod Loading
 pub mod Shown
 pub mod Snapshots
 pub mod Slices

@@ -3,12 +3,10 @@ use Rattle.std.specs.Prelude.{◌≡◌, ◌≤◌, ℕ, ◌+◌, Bool, true, fa
 use Rattle.std.specs.FinMap.{entries}
 use Rattle.obcp_types.specs.declared.failure.StartFailure.{StartFailure}
 use Rattle.obcp_types.specs.declared.status.StatusRow.{StatusRow}
-use Rattle.ocp_profile.specs.declared.profile.Profile.{Profile}
 use Rattle.ocp_pool.specs.declared.mailbox.TheConstants.{MAX_MAILBOX_WORDS}
 use Rattle.ocp_regions.specs.declared.regions.TheConstants.{ARGUMENT_OCTETS}
 use Rattle.obcp_types.specs.declared.pending.Due.{Due}
 use Rattle.ocp_table.specs.declared.control.Pending.{Pending}
-use Rattle.ocp_table.specs.declared.control.Pending.TheVariants as pending
 use Rattle.ocp_table.specs.declared.view.View.{View}
 use Rattle.ocp_table.specs.declared.change.Change as C
 use Rattle.ocp_table.specs.declared.change.Change.TheVariants as change
@@ -18,7 +16,7 @@ use Rattle.ocp_table.specs.declared.directive.Directive as D
 use Rattle.ocp_table.specs.declared.directive.Directive.TheVariants as directive
 use Rattle.ocp_table.specs.declared.record.Record.{Record}
 use Rattle.ocp_table.specs.Records.{Rec, Records}
-use Rattle.ocp_table.specs.Effects.{Effect, Unloaded, Changed, Change, Started, Sent, Pended, Quit, Resumed, new_record, failed_completion, dues_by_change}
+use Rattle.ocp_table.specs.Effects.{Effect, Unloaded, Changed, Change, Started, Sent, Pended, Quit, Resumed, failed_completion, dues_by_change}
 use Rattle.ocp_table.specs.RequestTable.{Directive, Unload, Activate, Stop, Suspend, Resume, Abort, Communicate, Decision, Unloads, Changes, Fails}
 use Rattle.ocp_table.specs.Deciding.{effect_on, words_of}
 
@@ -38,13 +36,6 @@ module _ {A : Type 0} where
     traced = r.traced;
     remaining = r.remaining;
   }
-
-  -- a record that a load of this image under this id makes
-  pub record IsLoading (profile : Profile) (r : Record A) (id : ℕ) (image : List ℕ)
-      : Type 0 where
-    pub named : id_of r ≡ id
-    pub shows : record_of r ≡ new_record profile image
-    pub idle : r.control.pending ≡ pending.Nothing
 
 -- what a request asks, where all places for pending and unreported completions are taken or not
 abbrev pub directive_of : D.Directive → Bool → Directive

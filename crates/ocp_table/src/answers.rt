@@ -3,7 +3,6 @@ ghost use Rattle.std.specs.Prelude.{◌≡◌, true};
 ghost use Rattle.ocp_table.specs.Clauses.{ends_with, is_done, is_on, step_ended_by, step_outcome_of};
 
 use crate::ProcedureFault;
-use obcp_types::StartFailure;
 use ocp_pool::Called;
 
 /// What an instruction event did to a running procedure.
@@ -72,13 +71,6 @@ pub struct Round {
     pub last: StepOutcome,
     /// The number of the step that it ended, if it ended one.
     pub step: Option<u16>,
-}
-
-/// Why nothing is loaded: the start of the request failed, or memory was refused.
-#[derive(Clone, Copy, PartialEq, Eq, Debug)]
-pub enum LoadFailure {
-    Failed(StartFailure),
-    Memory,
 }
 
 impl InstructionOutcome {

@@ -1,21 +1,21 @@
 //! A program and the machine that runs it.
-ghost use Rattle.std.specs.Prelude.{◌≡◌, ◌≤◌, ◌↔◌, ℕ, List, [], Some, false, IfOk, IsSome, IsTrue, length};
-ghost use Rattle.ocp_table.specs.Clauses.{HasAddressesOf, IsPlace, Loads, StandsIn, local_count, local_run, machine_at_restart, machine_by_outcome, mailbox_by_outcome, one_step, outcome_of, pool_by_outcome};
+ghost use Rattle.std.specs.Prelude.{◌≡◌, ◌≤◌, ◌↔◌, ℕ, List, [], Err, Some, false, IfErr, IfOk, IsOk, IsSome, IsTrue, OnErr, OnOk, length};
+ghost use Rattle.ocp_table.specs.Clauses.{HasAddressesOf, StandsIn, load_result, local_count, local_run, machine_at_restart, machine_at_start, machine_by_outcome, mailbox_by_outcome, one_step, outcome_of, pool_by_outcome};
 
 use crate::InstructionOutcome;
 use bpf_step::{Local, Machine, Need};
-use ocp_loader::{Program, places_lead_to_places};
+use ocp_loader::{Lines, LoadFault, Program, places_lead_to_places};
 use ocp_pool::{Mailbox, Pool, engine_call};
+use ocp_profile::Profile;
 use ocp_regions::ARGUMENT_OCTETS;
 use std::alloc::{AllocError, Allocator};
 use std::marker::Model;
-use std::sync::Arc;
 
-/// A program, which may be shared, and the machine that runs it. The machine always stands at an
-/// instruction of the program.
+/// A program and the machine that runs it, each with room for any image and profile. The machine
+/// always stands at an instruction of the program.
 #[derive(Drop)]
 pub struct Execution<A: Allocator> {
-    program: Arc<Program<A>, A>,
+    program: Program<A>,
     machine: Machine<A>,
 }
 
@@ -29,61 +29,65 @@ impl<A: Allocator> Model for Execution<A> {
     ghost coded = { execution_code };
 
     ghost use Rattle.ocp_table.specs.Records.{IsAdmittedAt};
-    ghost use Rattle.std.specs.Arc.{arc_value};
 
-    ghost view = { λ e. record { image = arc_value e.program; machine = e.machine } };
+    ghost view = { λ e. record { image = e.program; machine = e.machine } };
 
-    ghost invariant = { λ e. IsAdmittedAt (arc_value e.program) e.machine };
+    ghost invariant = { λ e. IsAdmittedAt e.program e.machine };
 }
 
 impl<A: Allocator> Execution<A> {
-    /// A machine at a program's first instruction.
-    pub(crate) fn new(
-        alloc: A,
-        program: Program<A>,
-        machine: Machine<A>,
-    ) -> Result<Self, AllocError>
-        requires admitted { Loads program }
-        requires place { IsPlace program 0 }
-        requires start { machine.place ≡ 0 }
-        requires frames { machine.frames ≡ [] }
-        ensures { IfOk result (λ e. e ≡ record { image = program; machine = machine }) }
+    /// The program of one exit, and a machine of a profile at it.
+    pub(crate) fn new(alloc: A, profile: Profile) -> Result<Self, AllocError>
+    where
+        A: Copy,
     {
         Ok(Execution {
-            program: Arc::new(alloc, program)?,
-            machine,
+            program: Program::exit(alloc)?,
+            machine: Machine::new(alloc, profile)?,
         })
     }
 
-    /// The same program, which is shared, and a machine like this one.
-    pub(crate) fn share(&self, alloc: A) -> Result<Self, AllocError>
+    /// Becomes the program of an image that may be run under the profile, and a machine at its
+    /// first instruction. Else refused with the first fault of the image; then nothing is changed.
+    pub(crate) fn load(
+        &mut self,
+        lines: &mut Lines<A>,
+        profile: Profile,
+        code: &[u8],
+    ) -> Result<(), LoadFault>
+        ensures ok { OnOk result (self.new ≡
+            record { image = code.now; machine = machine_at_start profile [] }) }
+        ensures admitted { OnOk result (IsOk (load_result profile code.now)) }
+        ensures err { IfErr result (λ fault. load_result profile code.now ≡ Err fault) }
+        ensures kept { OnErr result (self.new ≡ self.old) }
+    {
+        self.program.reload(lines, profile, code)?;
+        self.machine.renew(profile);
+        Ok(())
+    }
+
+    /// The same program and a machine like this one, in memory of their own.
+    pub(crate) fn copy(&self, alloc: A) -> Result<Self, AllocError>
     where
         A: Copy,
         ensures { IfOk result (λ e. e ≡ self.now) }
     {
         Ok(Execution {
-            program: Arc::try_clone(&self.program)?,
+            program: self.program.copy(alloc)?,
             machine: self.machine.copy(alloc)?,
         })
     }
 
-    /// Becomes the same as another one, whose program is shared then. No memory is asked for. It is
-    /// refused where the memory of the other's machine has other addresses than that of this one's,
-    /// and where the program can't be shared once more; then nothing is changed.
-    pub(crate) fn share_from(&mut self, other: &Execution<A>) -> bool
-        ensures same { IsTrue result → self.new ≡ other.now }
-        ensures addresses { HasAddressesOf self.old.machine self.new.machine }
-        ensures kept { (result ≡ false) → self.new ≡ self.old }
+    /// Becomes the same as another one, whose machine's memory has the same addresses. A program
+    /// that is the same already is not copied.
+    pub(crate) fn copy_from(&mut self, other: &Execution<A>)
+        requires { HasAddressesOf self.old.machine other.now.machine }
+        ensures { self.new ≡ other.now }
     {
-        if !other.machine.has_addresses_of(&self.machine) {
-            return false;
-        }
-        let Ok(program) = Arc::try_clone(&other.program) else {
-            return false;
-        };
         self.machine.copy_from(&other.machine);
-        self.program = program;
-        true
+        if !self.program.is_same(&other.program) {
+            self.program.copy_from(&other.program);
+        }
     }
 
     /// The machine.

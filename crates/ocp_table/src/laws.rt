@@ -1,7 +1,7 @@
 //! Laws on effects and records. The functions do nothing when they run: their contracts are the
 //! laws.
-ghost use Rattle.std.specs.Prelude.{◌≡◌, ◌≢◌, ℕ, List, [], ◌∷◌, map, true, Some, is_some};
-ghost use Rattle.ocp_table.specs.Clauses.{Access, AccessOutside, BadPoolIndex, BudgetSpent, CallDepth, Change, Changed, Directive as Asked, Effect, IsDebugging, IsKeptOrStarted, IsRequest, Leads, LeavesMachines, Machine, Pool, Rec, Records, Running, RunsBy, StartFailure as Failure, State, Step, StepOutcome, Store, WriteToArguments, effect_in, failure_of, fault_number, get, insert, last_ran, machine_of, records_by, status_of, with_machine};
+ghost use Rattle.std.specs.Prelude.{◌≡◌, ◌≢◌, ℕ, List, [], ◌∷◌, map, true, None, Some, is_some};
+ghost use Rattle.ocp_table.specs.Clauses.{Access, AccessOutside, BadPoolIndex, BudgetSpent, CallDepth, Change, Changed, Directive as Asked, Effect, IsDebugging, IsKeptOrStarted, IsRequest, Leads, LeavesMachines, Machine, Pool, Procedures, Profile, Rec, Records, Running, RunsBy, StartFailure as Failure, State, Step, StepOutcome, Store, Unload, WriteToArguments, effect_in, failure_of, fault_number, get, insert, last_ran, machine_of, new_record, records_by, status_of, table_after, with_machine, with_procedure};
 ghost use Rattle.ocp_table.specs.Laws.{run_of};
 
 /// The faults of a procedure have the numbers 1 to 5, in this order.
@@ -36,6 +36,14 @@ pub fn requests_keep_or_start_machines()
         IsKeptOrStarted
         (machine_of (get m q))
         (machine_of (get (records_by (effect_in directive id m) m) q)) }
+{}
+
+/// What was loaded under an identifier that was free is unloaded again, and then nothing is left of
+/// it.
+pub fn an_unload_takes_a_load_back()
+    ensures { (t : Procedures) (id : ℕ) (profile : Profile) (image : List ℕ) →
+        get t.records id ≡ None →
+        table_after Unload id (with_procedure id (new_record profile image) t) ≡ t }
 {}
 
 /// A request that loads, drops and starts no procedure leaves each procedure's machine.

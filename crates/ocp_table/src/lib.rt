@@ -19,7 +19,7 @@ mod table;
 mod view;
 
 pub use answers::{
-    Extent, InstructionAnswer, InstructionOutcome, LoadFailure, Round, Slice, StepOutcome,
+    Extent, InstructionAnswer, InstructionOutcome, Round, Slice, StepOutcome,
 };
 pub use change::{Change, Decided, Decision};
 pub use control::{Cause, Control, Pending};

@@ -1,10 +1,11 @@
 //! A procedure under its identifier.
-ghost use Rattle.std.specs.Prelude.{◌≡◌, ◌++◌, Some};
-ghost use Rattle.ocp_table.specs.Clauses.{HasPlaceBeside, Stepped, breaks_at, dues_by_outcome, outcome_in, pool_by_outcome, record_by, record_of};
+ghost use Rattle.std.specs.Prelude.{◌≡◌, ◌++◌, [], Some};
+ghost use Rattle.ocp_table.specs.Clauses.{HasPlaceBeside, Profile, Stepped, breaks_at, dues_by_outcome, machine_at_start, new_record, outcome_in, pool_by_outcome, record_by, record_of};
+ghost use Rattle.ocp_table.specs.declared.control.Pending.TheVariants as pending;
 
 use crate::budget::less;
 use crate::outbox::{Outbox, file};
-use crate::{Control, Execution, InstructionOutcome, ProcedureFault};
+use crate::{Cause, Control, Execution, InstructionOutcome, ProcedureFault};
 use arrayvec::ArrayVec;
 use bpf_step::breaks_at;
 use ocp_pool::{Mailbox, Pool};
@@ -28,6 +29,26 @@ pub struct Record<A: Allocator> {
 }
 
 impl<A: Allocator> Record<A> {
+    /// The record of a procedure that was loaded: it is inactive, nothing is pending, its mailbox is
+    /// empty, and a debugger has set nothing.
+    pub(crate) fn new(id: u16, execution: Execution<A>) -> Self
+        ensures record { (profile : Profile) →
+            execution.machine ≡ machine_at_start profile [] →
+            record_of result ≡ new_record profile execution.image }
+        ensures id { result.id ≡ id }
+        ensures idle { result.control.pending ≡ pending.Nothing }
+    {
+        Record {
+            id,
+            control: Control::inactive(Cause::Nothing),
+            breakpoints: ArrayVec::new(),
+            traced: false,
+            remaining: None,
+            execution,
+            mailbox: Mailbox::new(),
+        }
+    }
+
     /// The instruction event of a running procedure. What it completes or overtakes goes to the
     /// outbox.
     #[inline(always)]

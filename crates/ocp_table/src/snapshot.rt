@@ -1,6 +1,6 @@
 //! What is taken of a running procedure to run it apart.
 
-ghost use Rattle.std.specs.Prelude.{◌≡◌, ◌↔◌, IfOk, IsTrue, Some, None, false};
+ghost use Rattle.std.specs.Prelude.{◌≡◌, ◌↔◌, ◌⊎◌, IfOk, IsTrue, Some, None, false};
 ghost use Rattle.ocp_table.specs.Clauses.{HasAddressesOf, IsWithin, StandsIn, count_of, record_of, snapshot_at};
 ghost use Rattle.ocp_table.specs.Snapshots.{run_of};
 
@@ -12,8 +12,8 @@ use obcp_types::Status;
 use std::alloc::{AllocError, Allocator, Global};
 use std::marker::Model;
 
-/// A running procedure as it stood: the shared program, a copy of the machine, the breakpoints, the
-/// pass flag, the trace flag, and what was left of the budget.
+/// A running procedure as it stood: a copy of its program and its machine, the breakpoints, the pass
+/// flag, the trace flag, and what was left of the budget.
 #[derive(Drop)]
 pub struct Snapshot<A: Allocator = Global> {
     execution: Execution<A>,
@@ -51,7 +51,7 @@ impl<A: Allocator> Snapshot<A> {
     {
         match procedure.control.status {
             Status::Running => Ok(Some(Snapshot {
-                execution: procedure.execution.share(alloc)?,
+                execution: procedure.execution.copy(alloc)?,
                 breakpoints: procedure.breakpoints.clone()?,
                 pass: procedure.control.pass,
                 traced: procedure.traced,
@@ -61,22 +61,28 @@ impl<A: Allocator> Snapshot<A> {
         }
     }
 
-    /// Becomes that of a procedure in the same memory: none is asked for. It is refused where the
-    /// procedure does not run, where its machine's memory has other addresses, and where its
-    /// program can't be shared once more; then nothing is changed.
+    /// Becomes that of a procedure in the same memory: none is asked for. It is refused exactly if
+    /// the procedure does not run, or if its machine's memory has other addresses; then nothing is
+    /// changed.
     pub fn retake(&mut self, procedure: &Record<A>) -> bool
         ensures taken { IsTrue result →
             snapshot_at (Some (record_of procedure.now)) ≡ Some self.new }
         ensures addresses { HasAddressesOf self.old.machine self.new.machine }
         ensures kept { (result ≡ false) → self.new ≡ self.old }
+        ensures refused { (result ≡ false) →
+            (snapshot_at (Some (record_of procedure.now)) ≡ None)
+            ⊎ ¬ HasAddressesOf self.old.machine procedure.now.execution.machine }
     {
-        let Ok(breakpoints) = procedure.breakpoints.clone() else {
-            return false;
-        };
-        if !procedure.is_running() || !self.execution.share_from(&procedure.execution) {
+        let machine = procedure.execution.machine();
+        if !procedure.is_running() || !machine.has_addresses_of(self.execution.machine()) {
             return false;
         }
-        self.breakpoints = breakpoints;
+        self.execution.copy_from(&procedure.execution);
+        self.breakpoints.clear();
+        let places = procedure.breakpoints.as_slice();
+        let Ok(()) = self.breakpoints.try_extend_from_slice(places) else {
+            unreachable!()
+        };
         self.pass = procedure.control.pass;
         self.traced = procedure.traced;
         self.remaining = procedure.remaining;

@@ -8,6 +8,7 @@ pub mod Lawful
 pub mod Stretches
 pub mod Settling
 pub mod Sending
+pub mod Loading
 pub mod Putting
 pub mod NextRunning
 pub mod Counting

@@ -7,7 +7,6 @@ pub use Rattle.ocp_table.specs.Laws.{machine_of, run_of, IsKeptOrStarted}
 pub use Rattle.ocp_table.specs.Snapshots.{machine_for, StandsAt}
 pub use Rattle.ocp_table.specs.Records.{Rec}
 pub use Rattle.ocp_table.specs.Effects.{Kept, Unasked, Failed}
-pub use Rattle.ocp_table.specs.Loading.{FindsPlace}
 pub use Rattle.ocp_table.specs.Shown.{directive_of, HasFewArguments}
 pub use Rattle.ocp_debug.specs.declared.command.Command.{Command}
 pub use Rattle.ocp_reports.specs.Reports.{reports_of}
@@ -25,6 +24,5 @@ pub use Rattle.ocp_world.specs.Round.{step_ended, step_at, round_budget, most_ev
 pub use Rattle.ocp_world.specs.Settled.{world_after_work, RunsAlone}
 pub use Rattle.ocp_world.specs.Effect.{Sends}
 pub use Rattle.ocp_world.specs.Requests.{directive_effect, command_effect, has_no_place}
-pub use Rattle.ocp_world.specs.Loading.{IsLoadInto, TakesRecord}
 pub use Rattle.ocp_world.specs.NextRunning.{IsNextRunning, Runs}
 pub use Rattle.ocp_world.specs.Mirror.Turns.{runs_from, first_from, next_in}

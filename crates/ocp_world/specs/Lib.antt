@@ -6,7 +6,6 @@ pub mod Drains
 pub mod Puts
 pub mod After
 pub mod Answers
-pub mod Loading
 pub mod Replay
 pub mod Slice
 pub mod Round

@@ -1,7 +1,7 @@
 //! What the engine keeps of its world.
 
 ghost use Rattle.std.specs.Prelude.{◌≡◌, ◌≤◌, ◌<◌, ℕ, List, true, false, None, Ok, Err, IfOk, IfSome, length};
-ghost use Rattle.ocp_world.specs.Clauses.{Commanded, Debug, Does, DoesIn, Failed, FindsPlace, HasFewArguments, IsDebugFault, IsLoadInto, IsPutAt, IsRefusal, IsWorld, Kept, Put, Request as Asked, Sends, Step, Stepped, TakesRecord, Unasked, World, after, command_effect, directive_effect, directive_of, effect_of, has_no_place, opening, option_to_list, reports_of, step_ended, telecommand_of, with_packets};
+ghost use Rattle.ocp_world.specs.Clauses.{Commanded, Debug, Does, DoesIn, Failed, HasFewArguments, IsDebugFault, IsPutAt, IsRefusal, IsWorld, Kept, Put, Request as Asked, Sends, Step, Stepped, Unasked, World, after, command_effect, directive_effect, directive_of, effect_of, has_no_place, opening, option_to_list, reports_of, step_ended, telecommand_of, with_packets};
 ghost use Rattle.ocp_table.specs.RequestTable as directive;
 ghost use Rattle.ocp_world.specs.declared.answers.EngineFault.TheVariants as engine;
 
@@ -12,7 +12,8 @@ use ocp_debug::{Command, DebugFault, TraceRing};
 use ocp_pool::{MAX_POOL_WORDS, Pool};
 use ocp_profile::Profile;
 use ocp_reports::{Origin, PacketBuffer, Sender, count_after};
-use ocp_table::{Change, Decision, Directive, InstructionAnswer, LoadFailure, StepOutcome, Table};
+use ocp_table::laws::an_unload_takes_a_load_back;
+use ocp_table::{Change, Decision, Directive, InstructionAnswer, StepOutcome, Table};
 use pus_fields::{Tc, TcFault};
 use space_packet::{Apid, SequenceCount};
 use std::alloc::{AllocError, Allocator};
@@ -173,13 +174,10 @@ impl<A: Allocator> State<A> {
             }
         }
     }
-}
 
-impl<A: Allocator + Copy> State<A> {
-    // Loads a procedure.
+    // Loads a procedure. If its reports are not kept, it is unloaded again.
     fn load<K: Keeps>(
         &mut self,
-        alloc: A,
         keeper: &mut K,
         origin: Origin,
         id: u16,
@@ -189,26 +187,24 @@ impl<A: Allocator + Copy> State<A> {
         ensures does { Does self.old self.new (with_packets result packets.new)
             (λ w. directive_effect origin (directive.Load w.profile code.now) id w.records) }
         ensures kept { IfOk result (λ kept. K.holds kept packets.new) }
-        ensures memory { result ≡ Err engine.Memory → K.refused keeper.new ≡ false →
-            FindsPlace self.old.table.records id code.now }
+        ensures memory { result ≡ Err engine.Memory → K.refused keeper.new ≡ true }
     {
-        match self.table.check_load(alloc, id, code) {
-            Ok(loading) => {
-                let kept = self.reply(keeper, origin, Outcome::Done, &None, packets)?;
-                self.table.insert(loading);
-                Ok(kept)
-            }
-            Err(LoadFailure::Failed(failure)) => {
-                self.reply(keeper, origin, Outcome::NotStarted(failure), &None, packets)
-            }
-            Err(LoadFailure::Memory) => Err(EngineFault::Memory),
+        an_unload_takes_a_load_back();
+        if let Err(failure) = self.table.load(id, code) {
+            return self.reply(keeper, origin, Outcome::NotStarted(failure), &None, packets);
         }
+        let result = self.reply(keeper, origin, Outcome::Done, &None, packets);
+        if result.is_err() {
+            let Ok(()) = self.table.unload(id) else {
+                unreachable!()
+            };
+        }
+        result
     }
 
     // Serves a request, with the number of its event.
     fn serve<K: Keeps>(
         &mut self,
-        alloc: A,
         keeper: &mut K,
         event: u64,
         origin: Origin,
@@ -219,8 +215,7 @@ impl<A: Allocator + Copy> State<A> {
             DoesIn w (command_effect request.entry origin w) (with_packets result packets.new)
             self.new }
         ensures kept { IfOk result (λ kept. K.holds kept packets.new) }
-        ensures memory { result ≡ Err engine.Memory → K.refused keeper.new ≡ false →
-            IsLoadInto self.old.table.records request.entry }
+        ensures memory { result ≡ Err engine.Memory → K.refused keeper.new ≡ true }
     {
         let packet = origin.request;
         let from = PendingOrigin {
@@ -230,9 +225,7 @@ impl<A: Allocator + Copy> State<A> {
             ack: origin.ack,
         };
         match request {
-            Request::Load { id, code } => {
-                self.load(alloc, keeper, origin, id, code.octets(), packets)
-            }
+            Request::Load { id, code } => self.load(keeper, origin, id, code.octets(), packets),
             Request::Unload { id } => {
                 self.direct(keeper, origin, id, Directive::Unload, packets)
             }
@@ -271,12 +264,10 @@ impl<A: Allocator + Copy> State<A> {
 
     /// Does what a telecommand asks for, as it was read at this time, and writes its reports. The
     /// event has this number: so many were accepted before it. The keeper keeps the reports before
-    /// anything is changed. If it finds memory, Memory is answered only for a load under an id that
-    /// is free, in a table with room, of 1 to 2,048 whole slots: a load alone asks the allocator.
+    /// anything is changed. Memory is answered only if the keeper finds none.
     #[tactic(auto, unfolding(crate::specs::Requests::command_of))]
     pub fn receive<K: Keeps>(
         &mut self,
-        alloc: A,
         keeper: &mut K,
         event: u64,
         time: u32,
@@ -288,8 +279,7 @@ impl<A: Allocator + Copy> State<A> {
             DoesIn w (effect_of w (Asked by time octets)) (with_packets result packets.new)
             self.new }
         ensures kept { IfOk result (λ kept. K.holds kept packets.new) }
-        ensures memory { result ≡ Err engine.Memory → K.refused keeper.new ≡ false →
-            TakesRecord self.old.table.profile self.old.table.records read.entry }
+        ensures memory { result ≡ Err engine.Memory → K.refused keeper.new ≡ true }
     {
         match read {
             Ok(telecommand) => {
@@ -300,7 +290,7 @@ impl<A: Allocator + Copy> State<A> {
                     time,
                 };
                 match read_request(self.table.profile(), &telecommand) {
-                    Ok(request) => self.serve(alloc, keeper, event, origin, request, packets),
+                    Ok(request) => self.serve(keeper, event, origin, request, packets),
                     Err(fault) => {
                         let outcome = Outcome::Refused(AcceptanceFailure::Request(fault));
                         self.reply(keeper, origin, outcome, &None, packets)

@@ -1,5 +1,5 @@
 -- A slab of records, each with an id of its own, as a map from id to what is shown of the record.
-use Rattle.std.specs.Prelude.{◌≡◌, ◌≢◌, ℕ, ◌≤◌, List, map, Some}
+use Rattle.std.specs.Prelude.{◌≡◌, ◌≢◌, ℕ, ◌+◌, ◌≤◌, List, Vec, map, vec_capacity, vec_len, Some}
 use Rattle.std.specs.Ordering.{nat_cmp}
 use Rattle.std.specs.FinMap as map
 use Rattle.std.specs.FinMap.{FinMap, from_entries}
@@ -45,3 +45,10 @@ module _ {T : Type 0} (id_of : T → ℕ) (shown : T → Rec) where
   pub record IsHolding (s : Slab T) (outbox : List Due) : Type 0 where
     pub sound : IsSound id_of s
     pub places : HasPlaces (contents id_of shown s) outbox
+
+-- each procedure that a table may hold has a program and a machine: its own, or spare ones, for all
+-- of which there is room
+module _ {T X Z : Type 0} where
+  pub record IsStocked (s : Slab T) (spares : Vec X Z) : Type 0 where
+    pub all : slab_len s + vec_len spares ≡ MAX_PROCEDURES
+    pub room : MAX_PROCEDURES ≤ vec_capacity spares

@@ -6,7 +6,6 @@ use Rattle.ocp_world.specs.Mirror.Answering.{IsDiscard}
 use Rattle.ocp_core.specs.Log.{world_of}
 use Rattle.ocp_core.proofs.Counting.{counted}
 use Rattle.ocp_core.proofs.Journaling.{as_read}
-use Rattle.ocp_core.proofs.Requesting.{takes_record}
 use Rattle.ocp_core.proofs.Storing.{done_store, full_at, accepted_at, answers_at, discarded_at, IsWorld-pushed}
 use Rattle.ocp_core.proofs.calls.request.Goals as goal
 
@@ -55,13 +54,6 @@ returns-in_err-kept-clause-world g c =
     let w : World = world_of (g.S.Store.log c.args.store.now) in
     let read = as_read (g.S.Store.log c.args.store.now) c.args.octets.now c.apid.result c.apid.ensures.value c.read_tc-read.result c.read_tc-read.ensures.value in
     (c.in_err-kept.ensures.does w c.args.by c.args.octets.now c.requires.stands c.events.ensures read).1
-
-pub returns-in_err-kept-clause-memory : goal.returns-in_err-kept-clause-memory
-returns-in_err-kept-clause-memory g c =
-    let w : World = world_of (g.S.Store.log c.args.store.now) in
-    let read = as_read (g.S.Store.log c.args.store.now) c.args.octets.now c.apid.result c.apid.ensures.value c.read_tc-read.result c.read_tc-read.ensures.value in
-    let takes = takes_record w c.args.octets.now c.read_tc-read.result c.args.state.now read c.requires.stands in
-    search (rules, takes)
 
 pub push_request-requires-clause-accepted : goal.push_request-requires-clause-accepted
 push_request-requires-clause-accepted g c =

@@ -9,13 +9,13 @@ use Rattle.ocp_core.specs.Journal.{entry_of}
 use Rattle.ocp_core.proofs.Replaying.{memory_found, stands_after}
 use Rattle.ocp_core.proofs.replay.enter.Goals as goal
 
-pub returns-in_ok-memory_of-in-Request : goal.returns-in_ok-memory_of-in-Request
-returns-in_ok-memory_of-in-Request g c w stands same numbered =
+pub returns-in-Request : goal.returns-in-Request
+returns-in-Request g c w stands same numbered =
     let read = c.read_tc-read.ensures.value ∙ ap (λ apid. telecommand_of apid c.as_slice.result.now) (sym same) in
-    let does = c.receive.ensures.does w c.in-Request.by c.as_slice.result.now stands numbered read in
-    subst (λ e. IsWorld (replay_from w (events_of (entry_of e))) c.receive.new.self) (sym c.in-Request.is)
-    (subst (λ octets. IsWorld (after w (Asked c.in-Request.by c.in-Request.time octets)).world c.receive.new.self) c.as_slice.ensures
-    (stands_after c.refused_events_change_nothing.ensures w (Asked c.in-Request.by c.in-Request.time c.as_slice.result.now) c.receive.new.self _ (memory_found c.receive.result c.receive.new.packets c.in_ok-memory_of-in-Request.ensures) does))
+    let does = c.receive-result.ensures.does w c.in-Request.by c.as_slice.result.now stands numbered read in
+    subst (λ e. IsWorld (replay_from w (events_of (entry_of e))) c.receive-result.new.self) (sym c.in-Request.is)
+    (subst (λ octets. IsWorld (after w (Asked c.in-Request.by c.in-Request.time octets)).world c.receive-result.new.self) c.as_slice.ensures
+    (stands_after c.refused_events_change_nothing.ensures w (Asked c.in-Request.by c.in-Request.time c.as_slice.result.now) c.receive-result.new.self _ (memory_found c.receive-result.result c.receive-result.new.packets c.receive-result.ensures.memory) does))
 
 pub returns-in-SetBreak : goal.returns-in-SetBreak
 returns-in-SetBreak g c w stands same numbered =
@@ -32,10 +32,10 @@ returns-in-Trace g c w stands same numbered =
     subst (λ e. IsWorld (replay_from w (events_of (entry_of e))) c.command-result-in-Trace.new.self) (sym c.in-Trace.is)
     (c.command-result-in-Trace.ensures.world w c.in-Trace.by stands)
 
-pub returns-in_ok-memory_of-in-Drain : goal.returns-in_ok-memory_of-in-Drain
-returns-in_ok-memory_of-in-Drain g c w stands same numbered =
-    subst (λ e. IsWorld (replay_from w (events_of (entry_of e))) c.drain.new.self) (sym c.in-Drain.is)
-    (stands_after c.refused_events_change_nothing.ensures w (Drain c.in-Drain.by c.in-Drain.time) c.drain.new.self _ (memory_found c.drain.result c.drain.new.packets c.in_ok-memory_of-in-Drain.ensures) (c.drain.ensures.does w c.in-Drain.by stands))
+pub returns-in-Drain : goal.returns-in-Drain
+returns-in-Drain g c w stands same numbered =
+    subst (λ e. IsWorld (replay_from w (events_of (entry_of e))) c.drain-result.new.self) (sym c.in-Drain.is)
+    (stands_after c.refused_events_change_nothing.ensures w (Drain c.in-Drain.by c.in-Drain.time) c.drain-result.new.self _ (memory_found c.drain-result.result c.drain-result.new.packets c.drain-result.ensures.memory) (c.drain-result.ensures.does w c.in-Drain.by stands))
 
 pub returns-in-PutWord : goal.returns-in-PutWord
 returns-in-PutWord g c w stands same numbered =

@@ -40,7 +40,7 @@ loop-entry-preserved g c =
     let more = length-entry entry_of journal.profile journal.apid journal.words items i c.entry-item.result within c.entry-item.is in
     record {
       stands = subst (λ v. IsWorld v c.enter.new.state) (sym (replay-entry entry_of journal.profile journal.apid journal.words items i c.entry-item.result within c.entry-item.is))
-          (c.in_ok-enter.ensures (replay journal.profile journal.apid journal.words before) c.loop-entry.invariant.stands (apid-replay_from start before ∙ sym c.apid-apid.ensures.value) numbered);
+          (c.enter.ensures (replay journal.profile journal.apid journal.words before) c.loop-entry.invariant.stands (apid-replay_from start before ∙ sym c.apid-apid.ensures.value) numbered);
       counted = omega (arith, c.loop-entry.invariant.counted, c.events-event.ensures.value, more);
       bounded = omega (arith, c.loop-entry.invariant.bounded, c.events-event.ensures.bound);
     }

@@ -1,10 +1,8 @@
 use Rattle.std.proofs.Common.{◌≡◌, subst}
-use Rattle.std.specs.Prelude.{OnOk, OnErr, Err, false}
+use Rattle.std.specs.Prelude.{OnOk, OnErr}
 use Rattle.ocp_world.specs.World.{Event, Request}
 use Rattle.ocp_world.specs.Answers.{Answers}
-use Rattle.ocp_world.specs.declared.answers.EngineFault.TheVariants.{Memory}
-use Rattle.ocp_world.specs.Loading.{TakesRecordIn}
-use Rattle.ocp_core.specs.Log.{Log, entry_for, answer_in, log_after, world_of}
+use Rattle.ocp_core.specs.Log.{Log, entry_for, answer_in, log_after}
 use Rattle.ocp_core.specs.Receipts.{reports_in}
 use Rattle.ocp_core.proofs.Requesting.{answers_in, entry_in}
 use Rattle.ocp_core.proofs.engine.Engine.request_in.Goals as goal
@@ -28,6 +26,3 @@ returns-clause-receipt g c =
 
 pub returns-clause-err : goal.returns-clause-err
 returns-clause-err g c = subst (λ (l : Log). OnErr c.request.result (c.request.new.store ≡ l)) c.self.view_is c.request.ensures.err
-
-pub returns-clause-memory : goal.returns-clause-memory
-returns-clause-memory g c = subst (λ l. c.request.result ≡ Err Memory → c.request.new.keeper ≡ false → TakesRecordIn (world_of l) c.args.octets.now) c.self.view_is c.request.ensures.memory

@@ -1,9 +1,7 @@
-use Rattle.std.proofs.Common.{◌≡◌, refl, subst}
+use Rattle.std.proofs.Common.{◌≡◌, subst}
 use Rattle.std.specs.Prelude.{OnOk, OnErr}
 use Rattle.ocp_world.specs.World.{Request}
 use Rattle.ocp_world.specs.Answers.{Answers}
-use Rattle.ocp_world.specs.Loading.{TakesRecordIn}
-use Rattle.ocp_core.specs.Log.{world_of}
 use Rattle.ocp_world.specs.Mirror.State.{with_packets}
 use Rattle.ocp_flight.specs.Flown.{Flown}
 use Rattle.ocp_flight.specs.Calls.{answer_in, flown_after}
@@ -19,4 +17,4 @@ pub returns-clause-err : goal.returns-clause-err
 returns-clause-err g c = subst (λ (f : Flown). OnErr c.request.result (c.request.new.store ≡ f)) c.self.view_is c.request.ensures.err
 
 pub returns-clause-memory : goal.returns-clause-memory
-returns-clause-memory g c = λ is. subst (λ (f : Flown). TakesRecordIn (world_of f.log) c.args.octets.now) c.self.view_is (c.request.ensures.memory is refl)
+returns-clause-memory g c = λ is. let refused = c.request.ensures.memory is in cc

@@ -1,4 +1,3 @@
-use Rattle.std.specs.Arc.{arc_value}
 use Rattle.std.proofs.Common.{subst}
 use Rattle.std.specs.Prelude.{IsSome}
 use Rattle.bpf_step.specs.Step.{one_step}
@@ -9,4 +8,4 @@ use Rattle.ocp_table.proofs.execution.Execution.has_instruction.Goals as goal
 pub returns : goal.returns
 returns g c pool mailbox =
     subst (λ e. IsSome (outcome_of (one_step e.image e.machine) e.machine pool mailbox)) c.self.view_is
-    (able c.self.inside.machine pool mailbox (arc_value c.self.inside.program) c.self.inside.machine c.self.invariant.stands.place)
+    (able c.self.inside.machine pool mailbox c.self.inside.program c.self.inside.machine c.self.invariant.stands.place)

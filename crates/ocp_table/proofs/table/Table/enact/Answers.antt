@@ -1,4 +1,4 @@
-use Rattle.std.proofs.Common.{refl, sym, ap, subst, ◌∙◌}
+use Rattle.std.proofs.Common.{refl, sym, ap, subst, ◌∙◌, arith}
 use Rattle.std.specs.FinMap as map
 use Rattle.ocp_table.specs.Outbox.{is_outbox_full}
 use Rattle.ocp_table.specs.Effects.{Unloaded, Changed, table_by}
@@ -6,7 +6,7 @@ use Rattle.ocp_table.specs.Shown.{id_of, record_of, change_of, effect_decided, I
 use Rattle.ocp_table.specs.Mirror.Contents.{contents}
 use Rattle.ocp_table.proofs.ContentsLemmas.{contents-removed}
 use Rattle.ocp_table.proofs.Fitting.{fits_by}
-use Rattle.ocp_table.proofs.Held.{place_at, records_at, holds-by}
+use Rattle.ocp_table.proofs.Held.{place_at, records_at, holds-by, stocked-at}
 use Rattle.ocp_table.proofs.Rooms.{outbox_fits}
 use Rattle.ocp_table.proofs.Tables.{table_of, table_is, records-changed, records-kept, outbox-changed, outbox-kept, outbox-unloaded, IsSound-removed}
 use Rattle.ocp_table.proofs.table.Table.enact.Goals as goal
@@ -19,31 +19,37 @@ returns-in_default g c =
 -- ---- the record is dropped
 
 pub overtake-requires : goal.overtake-requires
-overtake-requires g c = place_at id_of record_of c.self.inside.records c.self.inside.outbox.items _ c.args.id _ c.in-Some.ensures.found c.index.ensures c.self.invariant
+overtake-requires g c = place_at id_of record_of c.self.inside.records c.self.inside.outbox.items _ c.args.id _ c.in-Some.ensures.found c.index.ensures c.self.invariant.0
 
 pub invariant_of-self : goal.invariant_of-self
 invariant_of-self g c =
     let m = contents id_of record_of c.self.inside.records in
     let found = c.in-Some.ensures.found in
-    let gone = contents-removed id_of record_of c.self.inside.records c.remove.new.self _ _ c.self.invariant.sound.distinct c.index.ensures c.remove.ensures.updates ∙ ap (map.remove m) (found.named _ c.index.ensures) in
+    let gone = contents-removed id_of record_of c.self.inside.records c.remove-record.new.self _ _ c.self.invariant.0.sound.distinct c.index.ensures c.remove-record.ensures.updates ∙ ap (map.remove m) (found.named _ c.index.ensures) in
     let files = c.overtake.ensures ∙ outbox-unloaded m c.args.id (record_of c.index.result.now) c.self.inside.outbox.items (found.there _ c.index.ensures) in
-    record {
-      sound = IsSound-removed id_of c.self.inside.records c.remove.new.self _ c.self.invariant.sound c.remove.ensures.updates c.remove.ensures.len c.remove.ensures.capacity;
-      places = fits_by m _ c.self.inside.outbox.items _ (Unloaded c.args.id) gone files (outbox_fits m c.self.inside.outbox.items c.self.invariant.places (Unloaded c.args.id) tt);
-    }
+    (
+      record {
+        sound = IsSound-removed id_of c.self.inside.records c.remove-record.new.self _ c.self.invariant.0.sound c.remove-record.ensures.updates c.remove-record.ensures.len c.remove-record.ensures.capacity;
+        places = fits_by m _ c.self.inside.outbox.items _ (Unloaded c.args.id) gone files (outbox_fits m c.self.inside.outbox.items c.self.invariant.0.places (Unloaded c.args.id) tt);
+      },
+      record {
+        all = omega (arith, c.self.invariant.1.all, c.remove-record.ensures.len, c.push_reserved.ensures.len);
+        room = omega (arith, c.self.invariant.1.room, c.push_reserved.ensures.capacity);
+      },
+    )
 
 pub returns-in-Unloads : goal.returns-in-Unloads
 returns-in-Unloads g c =
     let m = contents id_of record_of c.self.inside.records in
     let found = c.in-Some.ensures.found in
-    let gone = contents-removed id_of record_of c.self.inside.records c.remove.new.self _ _ c.self.invariant.sound.distinct c.index.ensures c.remove.ensures.updates ∙ ap (map.remove m) (found.named _ c.index.ensures) in
+    let gone = contents-removed id_of record_of c.self.inside.records c.remove-record.new.self _ _ c.self.invariant.0.sound.distinct c.index.ensures c.remove-record.ensures.updates ∙ ap (map.remove m) (found.named _ c.index.ensures) in
     let files = c.overtake.ensures ∙ outbox-unloaded m c.args.id (record_of c.index.result.now) c.self.inside.outbox.items (found.there _ c.index.ensures) in
     rw (← c.self.view_is) (table_is _ _ _ _ _ gone files ∙ ap (λ d. table_by (effect_decided c.args.id d) (table_of c.self.inside.profile m c.self.inside.outbox.items)) (sym c.in-Unloads.is))
 
 -- ---- the record is changed
 
 pub enact-requires-clause-place : goal.enact-requires-clause-place
-enact-requires-clause-place g c = place_at id_of record_of c.self.inside.records c.self.inside.outbox.items _ c.args.id _ c.in-Some.ensures.found c.index_mut.ensures.value c.self.invariant
+enact-requires-clause-place g c = place_at id_of record_of c.self.inside.records c.self.inside.outbox.items _ c.args.id _ c.in-Some.ensures.found c.index_mut.ensures.value c.self.invariant.0
 
 pub invariant_of-self-in-Changes : goal.invariant_of-self-in-Changes
 invariant_of-self-in-Changes g c =
@@ -51,7 +57,10 @@ invariant_of-self-in-Changes g c =
     let change = change_of c.in-Changes.change in
     let there = c.in-Some.ensures.found.there _ c.index_mut.ensures.value in
     let place = subst (λ d. IfChanges d (HasPlaceFor (is_outbox_full m c.self.inside.outbox.items))) (c.in-Changes.is) (subst (λ t. IfChanges c.args.decided.decision (HasPlaceFor (is_outbox_full t.records t.outbox))) (sym c.self.view_is) c.requires.place) in
-    holds-by id_of record_of c.self.inside.records c.self.inside.outbox.items _ c.args.id _ c.in-Some.ensures.found c.index_mut.ensures.value c.self.invariant _ c.enact.ensures.id (Changed c.args.id change) _
-    (records_at id_of record_of c.self.inside.records c.self.inside.outbox.items _ c.args.id _ c.in-Some.ensures.found c.index_mut.ensures.value c.self.invariant _ c.enact.ensures.id _ refl ∙ records-changed m c.args.id change _ _ there c.enact.ensures.record)
-    (c.enact.ensures.outbox ∙ outbox-changed m c.args.id change _ c.self.inside.outbox.items there)
-    (outbox_fits m c.self.inside.outbox.items c.self.invariant.places (Changed c.args.id change) place)
+    (
+      holds-by id_of record_of c.self.inside.records c.self.inside.outbox.items _ c.args.id _ c.in-Some.ensures.found c.index_mut.ensures.value c.self.invariant.0 _ c.enact.ensures.id (Changed c.args.id change) _
+      (records_at id_of record_of c.self.inside.records c.self.inside.outbox.items _ c.args.id _ c.in-Some.ensures.found c.index_mut.ensures.value c.self.invariant.0 _ c.enact.ensures.id _ refl ∙ records-changed m c.args.id change _ _ there c.enact.ensures.record)
+      (c.enact.ensures.outbox ∙ outbox-changed m c.args.id change _ c.self.inside.outbox.items there)
+      (outbox_fits m c.self.inside.outbox.items c.self.invariant.0.places (Changed c.args.id change) place),
+      stocked-at _ _ _ _ _ c.index_mut.ensures.value c.self.invariant.1,
+    )
