@@ -5,4 +5,5 @@ pub mod Called
 pub mod Opening
 pub mod Sound
 pub mod Falls
+pub mod Signs
 pub mod Asked

@@ -1,9 +1,9 @@
 //! What is known of a register: a range of numbers, or nothing.
-ghost use Rattle.std.specs.Prelude.{◌*◌, ◌≡◌, ◌≤◌, ◌+◌, ◌-◌, ◌/◌, ◌%◌, ◌^◌, ◌==◌, if◌then◌else◌, bit_and, ℕ, IsTrue, Some};
+ghost use Rattle.std.specs.Prelude.{◌*◌, ◌≡◌, ◌≤◌, ◌<◌, ◌+◌, ◌-◌, ◌/◌, ◌%◌, ◌^◌, ◌==◌, if◌then◌else◌, bit_and, ℕ, IsTrue, Some};
 ghost use Rattle.std.specs.Int.{w64, cast_unsigned};
-ghost use Rattle.bpf_types.specs.declared.line.Width.TheVariants.{W64};
-ghost use Rattle.bpf_values.specs.Value.{arithmetic_result, is_taken};
-ghost use Rattle.ocp_check.specs.Mirror.Ranges.{IsIn, IsThere, just};
+ghost use Rattle.bpf_types.specs.declared.line.Width.{Width};
+ghost use Rattle.bpf_values.specs.Value.{arithmetic_result, is_taken, modulus, passes};
+ghost use Rattle.ocp_check.specs.Mirror.Ranges.{IsIn, IsThere, half_of, just, test_without_signs};
 
 use bpf_types::{Comparison, Operation, Width};
 use ocp_regions::{ARGUMENT_OCTETS, ARGUMENTS, STACK, STACK_OCTETS};
@@ -218,9 +218,9 @@ pub fn result_of(
     }
 }
 
-/// What is known after a comparison of a number of which nothing was known.
-fn range_by_test(comparison: Comparison, held: bool, b: Range) -> Option<Range>
-    ensures { (x y : ℕ) → IsIn (Some b) y → is_taken W64 comparison x y ≡ held → IsIn result x }
+/// What is known after a test of a number of which nothing was known.
+fn range_by_test(width: Width, comparison: Comparison, held: bool, b: Range) -> Option<Range>
+    ensures { (x y : ℕ) → IsIn (Some b) y → passes width comparison x y ≡ held → IsIn result x }
 {
     match (comparison, held) {
         (Comparison::Less, true) | (Comparison::GreaterOrEqual, false) if b.high > 0 => {
@@ -238,22 +238,22 @@ fn range_by_test(comparison: Comparison, held: bool, b: Range) -> Option<Range>
     }
 }
 
-/// What is known of the first operand after a comparison that held, or did not.
-pub fn refinement(
+/// What is known of the first operand after a test of unsigned numbers that held, or did not.
+fn refinement_unsigned(
     width: Width,
     comparison: Comparison,
     held: bool,
     a: Option<Range>,
     b: Option<Range>,
 ) -> Option<Range>
-    ensures { (x y : ℕ) → IsIn a x → IsIn b y → is_taken width comparison x y ≡ held →
+    ensures { (x y : ℕ) → IsIn a x → IsIn b y → passes width comparison x y ≡ held →
         IsIn result x }
 {
-    let (Width::W64, Some(b)) = (width, b) else {
+    let Some(b) = b else {
         return a;
     };
     let Some(a) = a else {
-        return range_by_test(comparison, held, b);
+        return range_by_test(width, comparison, held, b);
     };
     match (comparison, held) {
         (Comparison::Less, true) | (Comparison::GreaterOrEqual, false) => {
@@ -286,6 +286,16 @@ pub fn refinement(
                 })
             }
         }
+        (Comparison::LessOrEqual, false) | (Comparison::Greater, true) => {
+            if b.low < a.low || b.low == u64::MAX {
+                Some(a)
+            } else {
+                Some(Range {
+                    low: b.low + 1,
+                    high: a.high,
+                })
+            }
+        }
         (Comparison::Equal, true) | (Comparison::NotEqual, false) => Some(b),
         (Comparison::Equal, false) | (Comparison::NotEqual, true) => {
             if b.low != b.high {
@@ -307,6 +317,112 @@ pub fn refinement(
             }
         }
         _ => Some(a),
+    }
+}
+
+/// The test of unsigned numbers for one of signed numbers.
+fn without_signs(comparison: Comparison) -> Comparison
+    ensures { result ≡ test_without_signs comparison }
+{
+    match comparison {
+        Comparison::SignedGreater => Comparison::Greater,
+        Comparison::SignedGreaterOrEqual => Comparison::GreaterOrEqual,
+        Comparison::SignedLess => Comparison::Less,
+        Comparison::SignedLessOrEqual => Comparison::LessOrEqual,
+        _ => comparison,
+    }
+}
+
+/// Whether the numbers of which this is known have no sign in this width.
+fn has_no_sign(width: Width, known: Option<Range>) -> bool
+    ensures { IsTrue result → (v : ℕ) → IsIn known v → v < half_of width }
+{
+    match (width, known) {
+        (Width::W32, Some(range)) => range.high <= 0x7fff_ffff,
+        (Width::W64, Some(range)) => range.high <= 0x7fff_ffff_ffff_ffff,
+        (_, None) => false,
+    }
+}
+
+/// The greatest number without a sign.
+fn greatest_without_sign(width: Width) -> Range
+    ensures low { result.low ≡ half_of width - 1 }
+    ensures high { result.high ≡ half_of width - 1 }
+{
+    let high = match width {
+        Width::W32 => 0x7fff_ffff,
+        Width::W64 => 0x7fff_ffff_ffff_ffff,
+    };
+    Range { low: high, high }
+}
+
+/// Whether the first operand of a test of signed numbers is the second one or greater, if the test
+/// held, or did not.
+fn is_upward(comparison: Comparison, held: bool) -> bool
+    ensures { IsTrue result → (width : Width) (x y : ℕ) → x < modulus width → y < half_of width →
+        passes width comparison x y ≡ held → (y ≤ x) × (x < half_of width) }
+{
+    match (comparison, held) {
+        (Comparison::SignedGreater, true) | (Comparison::SignedGreaterOrEqual, true) => true,
+        (Comparison::SignedLess, false) | (Comparison::SignedLessOrEqual, false) => true,
+        _ => false,
+    }
+}
+
+/// What is known of a number without a sign that is at least another.
+fn upward(width: Width, a: Range, b: Range) -> Range
+    ensures { (x y : ℕ) → IsIn (Some a) x → IsIn (Some b) y → (y ≤ x) × (x < half_of width) →
+        IsIn (Some result) x }
+{
+    let half = greatest_without_sign(width).high;
+    Range {
+        low: if b.low < a.low { a.low } else { b.low },
+        high: if a.high < half { a.high } else { half },
+    }
+}
+
+/// What is known of a number of the width after a test of it that held, or did not.
+fn refinement_of_number(
+    width: Width,
+    comparison: Comparison,
+    held: bool,
+    a: Range,
+    b: Option<Range>,
+) -> Option<Range>
+    ensures { (x y : ℕ) → x < modulus width → IsIn (Some a) x → IsIn b y →
+        passes width comparison x y ≡ held → IsIn result x }
+{
+    if !has_no_sign(width, b) {
+        return refinement_unsigned(width, comparison, held, Some(a), b);
+    }
+    if has_no_sign(width, Some(a)) {
+        return refinement_unsigned(width, without_signs(comparison), held, Some(a), b);
+    }
+    match b {
+        Some(b) if is_upward(comparison, held) => Some(upward(width, a, b)),
+        _ => refinement_unsigned(width, comparison, held, Some(a), b),
+    }
+}
+
+/// What is known of the first operand after a test that held, or did not. A test of 32 bits shows
+/// something of a number that has no more.
+pub fn refinement(
+    width: Width,
+    comparison: Comparison,
+    held: bool,
+    a: Option<Range>,
+    b: Option<Range>,
+) -> Option<Range>
+    ensures { (x y : ℕ) → IsIn a x → IsIn b y → is_taken width comparison x y ≡ held →
+        IsIn result x }
+{
+    match (width, a) {
+        (Width::W64, Some(a)) => refinement_of_number(width, comparison, held, a, b),
+        (Width::W64, None) => refinement_unsigned(width, comparison, held, None, b),
+        (Width::W32, Some(a)) if a.high <= 0xffff_ffff => {
+            refinement_of_number(width, comparison, held, a, low(b))
+        }
+        (Width::W32, _) => a,
     }
 }
 

@@ -1,5 +1,9 @@
 -- What is known of a register, of all registers, and of an access.
-use Rattle.std.specs.Prelude.{◌≡◌, ◌≤◌, ◌<◌, ◌⊎◌, ℕ, ◌+◌, Bool, false, List, length, slice_index, slice_index_or, Option, Some, None}
+use Rattle.std.specs.Prelude.{◌≡◌, ◌≤◌, ◌<◌, ◌⊎◌, ℕ, ◌+◌, ◌^◌, Bool, false, List, length, slice_index, slice_index_or, Option, Some, None}
+use Rattle.bpf_types.specs.declared.line.Width.{Width}
+use Rattle.bpf_types.specs.declared.line.Width.TheVariants.{W32, W64}
+use Rattle.bpf_types.specs.declared.line.Comparison.{Comparison}
+use Rattle.bpf_types.specs.declared.line.Comparison.TheVariants as comparison
 use Rattle.ocp_check.specs.declared.range.Range.{Range}
 
 -- the number is one of those that are known of; if nothing is known, any number is
@@ -10,6 +14,19 @@ IsIn (Some r) v = (r.low ≤ v) × (v ≤ r.high)
 -- one number
 abbrev pub just : ℕ → Option Range
 just number = Some (record { low = number; high = number })
+
+-- from this number on a number of the width has a sign
+abbrev pub half_of : Width → ℕ
+half_of W32 = 2 ^ 31
+half_of W64 = 2 ^ 63
+
+-- the test of unsigned numbers that says the same of numbers without a sign
+abbrev pub test_without_signs : Comparison → Comparison
+test_without_signs comparison.SignedGreater = comparison.Greater
+test_without_signs comparison.SignedGreaterOrEqual = comparison.GreaterOrEqual
+test_without_signs comparison.SignedLess = comparison.Less
+test_without_signs comparison.SignedLessOrEqual = comparison.LessOrEqual
+test_without_signs c = c
 
 -- each register holds what is known of it
 pub record AreIn (known : List (Option Range)) (registers : List ℕ) : Type 0 where
