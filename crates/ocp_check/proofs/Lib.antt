@@ -5,5 +5,6 @@ pub mod Called
 pub mod Opening
 pub mod Sound
 pub mod Falls
+pub mod Counted
 pub mod Signs
 pub mod Asked

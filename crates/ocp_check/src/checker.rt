@@ -72,6 +72,8 @@ pub fn check<A: Allocator>(program: &Program<A>, certificate: &[Option<Node>]) -
     ensures fits { IsTrue result → (s : State) → Reaches program.now s → Fits certificate.now s }
     ensures within { IsTrue result → (s : State) → Reaches program.now s →
         s.place < length certificate.now }
+    ensures after { IsTrue result → (s : State) → Reaches program.now s →
+        FitsAfter certificate.now s (one_step program.now s) }
 {
     machines_started_anew_are_as_new();
     if certificate.len() > MAX_SLOTS || !covers(certificate, 0, &at_start()) {

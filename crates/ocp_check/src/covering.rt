@@ -80,3 +80,15 @@ pub fn node_at(certificate: &[Option<Node>], slot: u16) -> Option<Node>
         _ => None,
     }
 }
+
+/// What the certificate says of the registers at a place, if the place may be reached.
+pub fn row_at(certificate: &[Option<Node>], place: usize) -> Option<Row>
+    ensures some { IfSome result (λ row. (s : State) → s.place ≡ place → Fits certificate.now s →
+        AreIn row s.registers) }
+    ensures none { IfNone result ((s : State) → s.place ≡ place → Fits certificate.now s → ⊥) }
+{
+    match certificate.get(place) {
+        Some(Some(node)) => Some(node.row),
+        _ => None,
+    }
+}

@@ -7,6 +7,7 @@ ghost use Rattle.ocp_check.specs.Never.{AsksWell};
 use crate::asks::{check_pool, slot_asks_well, words_asked};
 use crate::certificate::Node;
 use crate::checker::{check, is_kept_at};
+use crate::counting::{Counter, Rank};
 use crate::covering::node_at;
 use crate::finding::find;
 use crate::ranking::{cycle, find_ranks, most_of};
@@ -114,12 +115,13 @@ fn words<A: Allocator>(program: &Program<A>, certificate: &[Option<Node>]) -> Op
 fn round<A: Allocator>(
     program: &Program<A>,
     certificate: &[Option<Node>],
-    ranks: &[u32],
+    ranks: &[Rank],
+    counters: &[Counter],
 ) -> Option<u32>
     ensures { IfSome result (IsWithin program.now) }
 {
-    let most = most_of(program, certificate, ranks);
-    if check_rounds(program, certificate, ranks, most) {
+    let most = most_of(program, certificate, ranks, counters)?;
+    if check_rounds(program, certificate, ranks, counters, most) {
         Some(most)
     } else {
         None
@@ -128,9 +130,9 @@ fn round<A: Allocator>(
 
 /// What an image can never do, with any arguments, pool, mailbox and answers of engine calls. The
 /// calls that may ask for a missing word are listed for a pool of the given number of words. The
-/// time is linear in the slots: the searches go over them at most 64 times each, the checks once.
-/// The memory is linear too: a node and a rank for each slot, and a refusal for each place that is
-/// not shown.
+/// time is linear in the slots: the searches go over them at most 2,000 times, of which at most 50
+/// are for each loop each time that it is tried; the checks go over them once. The memory is linear
+/// too: a node and a rank for each slot, and a refusal for each place that is not shown.
 pub fn examine<A: Allocator + Copy>(
     alloc: A,
     program: &Program<A>,
@@ -142,13 +144,14 @@ pub fn examine<A: Allocator + Copy>(
     ensures round { IfOk result (λ f. IfSome f.round (IsWithin program.now)) }
 {
     let certificate = find(alloc, program)?;
-    let ranks = find_ranks(alloc, program, &certificate)?;
+    let found = find_ranks(alloc, program, &certificate)?;
+    let (ranks, counters) = (found.ranks, found.counters);
     Ok(Findings {
         never_faults: check(program, &certificate),
         faults: faults(alloc, program, &certificate)?,
         asks: asks(alloc, program, &certificate, pool_words)?,
         words: words(program, &certificate),
-        round: round(program, &certificate, &ranks),
+        round: round(program, &certificate, &ranks, &counters),
         cycle: cycle(alloc, program, &certificate, &ranks)?,
     })
 }

@@ -8,6 +8,7 @@
 pub mod asks;
 pub mod certificate;
 pub mod checker;
+pub mod counting;
 pub mod covering;
 pub mod examining;
 pub mod finding;

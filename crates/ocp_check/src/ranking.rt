@@ -1,52 +1,271 @@
 //! The search for ranks. Nothing rests on it: `check_rounds` tests what it finds.
+//!
+//! Each jump back makes a loop: the slots from its target to it. A register that only rises or only
+//! falls there may count how often the loop repeats. Its weight is the most instructions from one
+//! change of it to the next.
 
 use crate::certificate::Node;
-use crate::covering::node_at;
-use crate::rounds::STEP_END;
+use crate::counting::{COUNTERS, Counter, Rank, Step, Steps};
+use crate::covering::{node_at, range_of};
+use crate::rounds::{STEP_END, ahead_after, ahead_at, most_at, step_by, steps_of_call, steps_with};
 use crate::steps::target;
-use bpf_types::Line;
+use bpf_types::{Line, Reg};
 use ocp_loader::Program;
 use std::alloc::{AllocError, Allocator};
 
-/// The most often that the slots are gone over.
+/// The most often that the slots are gone over at the end.
 const PASSES: u32 = 64;
 
-/// The rank of a place so far; 0 outside of the image.
-fn rank_of(ranks: &[u32], place: usize) -> u32 {
+/// The most often that they are gone over for one register of one loop.
+const LOOP_PASSES: u32 = 12;
+
+/// The most loops.
+const LOOPS: usize = 12;
+
+/// How often a loop is tried: what it calls may have loops that come later.
+const TURNS: u32 = 3;
+
+/// The most registers that are tried for a loop each time.
+const TRIES: u32 = 2;
+
+/// Ranks do not grow further.
+const HIGHEST: u64 = 1 << 40;
+
+/// The slots from a place to the last jump back to it.
+#[derive(Clone, Copy)]
+struct Loop {
+    first: usize,
+    last: usize,
+    /// It is known to end.
+    is_done: bool,
+    /// In how many turns it was tried.
+    tries: u32,
+}
+
+/// Where the search for a weight ends: at the ends of a loop, and at changes of a register.
+#[derive(Clone, Copy)]
+struct Cut {
+    first: usize,
+    last: usize,
+    /// The register's number.
+    register: Option<u8>,
+}
+
+/// Ranks of the slots, and the counters to which they refer.
+#[derive(Drop)]
+pub struct Ranking<A: Allocator> {
+    pub ranks: Vec<Rank, A>,
+    pub counters: Vec<Counter, A>,
+}
+
+/// The base of the rank at a place so far; 0 outside of the image.
+fn base_of(ranks: &[Rank], place: usize) -> u64 {
     match ranks.get(place) {
-        Some(rank) => *rank,
+        Some(rank) => rank.base,
         None => 0,
     }
 }
 
-/// The rank of the place that a distance leads to.
-fn rank_at(ranks: &[u32], slot: u16, distance: i32) -> u32 {
+/// Which counters count at a slot.
+fn counts_of(ranks: &[Rank], place: usize) -> [bool; COUNTERS] {
+    match ranks.get(place) {
+        Some(rank) => rank.counts,
+        None => [false; COUNTERS],
+    }
+}
+
+/// Whether a line changes the register of a number.
+fn changes(line: Line, register: u8) -> bool {
+    match line {
+        Line::Arithmetic { dst, .. }
+        | Line::Negate { dst, .. }
+        | Line::MoveExtended { dst, .. }
+        | Line::ByteOrder { dst, .. }
+        | Line::LoadWide { dst, .. }
+        | Line::Load { dst, .. }
+        | Line::LoadExtended { dst, .. } => dst.number() == register,
+        Line::Call { .. } => register <= 1,
+        Line::CallLocal { .. } => register <= 5,
+        _ => false,
+    }
+}
+
+/// What a line does to the register that it writes, if it adds a number.
+fn step_of_line(line: Line) -> Step {
+    match line {
+        Line::Arithmetic {
+            width,
+            operation,
+            operand,
+            ..
+        } => step_by(width, operation, operand),
+        _ => Step::Anywhere,
+    }
+}
+
+/// One more than what an instruction leaves ahead at a place.
+fn over(ahead: Option<u64>) -> u64 {
+    match ahead {
+        Some(ahead) if ahead < HIGHEST => ahead + 1,
+        _ => HIGHEST,
+    }
+}
+
+/// What one way of a line leaves ahead, and one more; 0 if it leaves the loop of a cut.
+fn rank_by(
+    nodes: &[Option<Node>],
+    ranks: &[Rank],
+    counters: &[Counter],
+    slot: u16,
+    node: &Node,
+    place: usize,
+    steps: &Steps,
+    cut: Option<Cut>,
+) -> u64 {
+    let here = usize::from(slot);
+    if let Some(cut) = cut {
+        let is_inside = cut.first <= here && here <= cut.last;
+        if is_inside && (place < cut.first || cut.last < place) {
+            return 0;
+        }
+    }
+    over(ahead_at(
+        nodes,
+        ranks,
+        counters,
+        &counts_of(ranks, here),
+        &node.row,
+        place,
+        steps,
+    ))
+}
+
+/// The same of a jump by a distance.
+fn rank_of_jump(
+    nodes: &[Option<Node>],
+    ranks: &[Rank],
+    counters: &[Counter],
+    slot: u16,
+    node: &Node,
+    distance: i32,
+    cut: Option<Cut>,
+) -> u64 {
     match target(slot, distance) {
-        Some(place) => rank_of(ranks, place),
+        Some(place) => rank_by(
+            nodes,
+            ranks,
+            counters,
+            slot,
+            node,
+            place,
+            &[Step::Kept; 11],
+            cut,
+        ),
         None => 0,
+    }
+}
+
+/// The same of a local call, with what follows its end.
+fn rank_of_call(
+    nodes: &[Option<Node>],
+    ranks: &[Rank],
+    counters: &[Counter],
+    slot: u16,
+    node: &Node,
+    distance: i32,
+) -> u64 {
+    let here = usize::from(slot);
+    let Some(place) = target(slot, distance) else {
+        return 0;
+    };
+    let first = over(most_at(nodes, ranks, counters, place));
+    let counts = counts_of(ranks, here);
+    match ahead_after(ranks, counters, &counts, &node.row, here + 1) {
+        Some(after) => first.saturating_add(after).min(HIGHEST),
+        None => HIGHEST,
     }
 }
 
 /// The rank of a slot by those of the slots that may follow.
-fn rank_before(ranks: &[u32], slot: u16, line: Line, depth: u8) -> u32 {
+fn rank_before(
+    nodes: &[Option<Node>],
+    ranks: &[Rank],
+    counters: &[Counter],
+    slot: u16,
+    node: &Node,
+    line: Line,
+    cut: Option<Cut>,
+) -> u64 {
     let next = usize::from(slot) + 1;
     match line {
-        Line::Jump { distance } => rank_at(ranks, slot, i32::from(distance)).saturating_add(1),
-        Line::LongJump { distance } => rank_at(ranks, slot, distance).saturating_add(1),
+        Line::Jump { distance } => rank_of_jump(
+            nodes,
+            ranks,
+            counters,
+            slot,
+            node,
+            i32::from(distance),
+            cut,
+        ),
+        Line::LongJump { distance } => rank_of_jump(
+            nodes, ranks, counters, slot, node, distance, cut,
+        ),
         Line::JumpIf { distance, .. } => {
-            rank_at(ranks, slot, i32::from(distance))
-                .max(rank_of(ranks, next))
-                .saturating_add(1)
+            let taken = rank_of_jump(nodes, ranks, counters, slot, node, i32::from(distance), cut);
+            let passed = rank_of_jump(nodes, ranks, counters, slot, node, 0, cut);
+            taken.max(passed)
         }
-        Line::Call { number } if number == STEP_END && depth == 0 => 0,
-        Line::CallLocal { distance } => {
-            rank_at(ranks, slot, distance)
-                .saturating_add(rank_of(ranks, next))
-                .saturating_add(1)
-        }
-        Line::Exit => u32::from(depth > 0),
-        Line::LoadWide { .. } => rank_of(ranks, next + 1).saturating_add(1),
-        _ => rank_of(ranks, next).saturating_add(1),
+        Line::Call { number } if number == STEP_END && node.depth == 0 => 0,
+        Line::Call { .. } => rank_by(
+            nodes,
+            ranks,
+            counters,
+            slot,
+            node,
+            next,
+            &steps_of_call(),
+            cut,
+        ),
+        Line::CallLocal { distance } => rank_of_call(nodes, ranks, counters, slot, node, distance),
+        Line::Exit => u64::from(node.depth > 0),
+        Line::LoadWide { dst, .. } => rank_by(
+            nodes,
+            ranks,
+            counters,
+            slot,
+            node,
+            next + 1,
+            &steps_with(dst, Step::Anywhere),
+            cut,
+        ),
+        Line::Arithmetic { dst, .. }
+        | Line::Negate { dst, .. }
+        | Line::MoveExtended { dst, .. }
+        | Line::ByteOrder { dst, .. }
+        | Line::Load { dst, .. }
+        | Line::LoadExtended { dst, .. } => rank_by(
+            nodes,
+            ranks,
+            counters,
+            slot,
+            node,
+            next,
+            &steps_with(dst, step_of_line(line)),
+            cut,
+        ),
+        _ => rank_of_jump(nodes, ranks, counters, slot, node, 0, cut),
+    }
+}
+
+/// Whether a slot is where the search for a weight ends: its line changes the register of the cut.
+fn is_cut<A: Allocator>(program: &Program<A>, slot: u16, cut: Option<Cut>) -> bool {
+    let here = usize::from(slot);
+    match (cut, program.line_at(slot)) {
+        (Some(cut), Some(line)) => match cut.register {
+            Some(register) => cut.first <= here && here <= cut.last && changes(line, register),
+            None => false,
+        },
+        _ => false,
     }
 }
 
@@ -54,72 +273,354 @@ fn rank_before(ranks: &[u32], slot: u16, line: Line, depth: u8) -> u32 {
 fn rank_here<A: Allocator>(
     program: &Program<A>,
     nodes: &[Option<Node>],
-    ranks: &[u32],
+    ranks: &[Rank],
+    counters: &[Counter],
     slot: u16,
-) -> u32 {
+    cut: Option<Cut>,
+) -> u64 {
     match (node_at(nodes, slot), program.line_at(slot)) {
-        (Some(node), Some(line)) => rank_before(ranks, slot, line, node.depth),
+        (Some(node), Some(line)) => {
+            if is_cut(program, slot, cut) {
+                0
+            } else {
+                rank_before(nodes, ranks, counters, slot, &node, line, cut)
+            }
+        }
         _ => 0,
     }
 }
 
-/// One pass over the slots, the last first: whether a rank has changed.
-fn sweep<A: Allocator>(program: &Program<A>, nodes: &[Option<Node>], ranks: &mut [u32]) -> bool {
-    let mut has_changed = false;
-    for slot in (0..program.slots() as u16).rev() {
-        let rank = rank_here(program, nodes, ranks, slot);
-        if let Some(old) = ranks.get_mut(usize::from(slot)) {
-            if *old != rank {
-                has_changed = true;
-                *old = rank;
+/// Whether a slot is in the loop of a cut; every slot is if there is none.
+fn is_watched(slot: usize, cut: Option<Cut>) -> bool {
+    match cut {
+        Some(cut) => cut.first <= slot && slot <= cut.last,
+        None => true,
+    }
+}
+
+/// How a line counts in a register, by what is known of the register before it.
+fn counter_at(node: &Node, line: Line, register: Reg) -> Option<Counter> {
+    let Step::By(by) = step_of_line(line) else {
+        return None;
+    };
+    let known = range_of(&node.row, register)?;
+    let rises = by < 1 << 63;
+    let limit = if rises {
+        known.high.checked_add(by)?
+    } else {
+        known.low.checked_sub(by.wrapping_neg())?
+    };
+    Some(Counter {
+        register,
+        rises,
+        limit,
+        weight: 0,
+    })
+}
+
+/// One counter for two changes of a register, if they go the same way.
+fn wider(first: Counter, second: Counter) -> Option<Counter> {
+    if first.rises != second.rises {
+        return None;
+    }
+    let is_farther = if first.rises {
+        first.limit < second.limit
+    } else {
+        second.limit < first.limit
+    };
+    Some(if is_farther { second } else { first })
+}
+
+/// Whether the line at a slot changes a register.
+fn is_changed<A: Allocator>(program: &Program<A>, slot: u16, register: Reg) -> bool {
+    match program.line_at(slot) {
+        Some(line) => changes(line, register.number()),
+        None => false,
+    }
+}
+
+/// How a register counts in a loop, if it only rises or only falls there.
+fn counter_of<A: Allocator>(
+    program: &Program<A>,
+    nodes: &[Option<Node>],
+    here: Loop,
+    register: Reg,
+) -> Option<Counter> {
+    let mut found = None;
+    for slot in 0..program.slots() as u16 {
+        let is_inside = here.first <= usize::from(slot) && usize::from(slot) <= here.last;
+        if is_inside && is_changed(program, slot, register) {
+            if let (Some(node), Some(line)) = (node_at(nodes, slot), program.line_at(slot)) {
+                let one = counter_at(&node, line, register)?;
+                found = Some(match found {
+                    Some(other) => wider(other, one)?,
+                    None => one,
+                });
             }
         }
     }
-    has_changed
+    found
+}
+
+impl<A: Allocator> Ranking<A> {
+    /// One pass over the slots, the last first: whether a rank has grown that is watched.
+    fn sweep(&mut self, program: &Program<A>, nodes: &[Option<Node>], cut: Option<Cut>) -> bool {
+        let mut has_grown = false;
+        for slot in (0..program.slots() as u16).rev() {
+            let base = rank_here(program, nodes, &self.ranks, &self.counters, slot, cut);
+            if let Some(rank) = self.ranks.get_mut(usize::from(slot)) {
+                if rank.base < base {
+                    rank.base = base;
+                    has_grown = has_grown || is_watched(usize::from(slot), cut);
+                }
+            }
+        }
+        has_grown
+    }
+
+    /// Finds all ranks anew: whether they came to rest.
+    fn settle(
+        &mut self,
+        program: &Program<A>,
+        nodes: &[Option<Node>],
+        cut: Option<Cut>,
+        passes: u32,
+    ) -> bool {
+        for rank in self.ranks.iter_mut() {
+            rank.base = 0;
+        }
+        for _ in 0..passes {
+            if !self.sweep(program, nodes, cut) {
+                return true;
+            }
+        }
+        false
+    }
+
+    /// The most instructions from one change of the register of a cut to the next.
+    fn weight(&self, program: &Program<A>, nodes: &[Option<Node>], cut: Cut) -> Option<u32> {
+        let mut weight = 1;
+        for slot in 0..program.slots() as u16 {
+            if let (Some(node), Some(line)) = (node_at(nodes, slot), program.line_at(slot)) {
+                if is_cut(program, slot, Some(cut)) {
+                    let ahead = rank_before(
+                        nodes,
+                        &self.ranks,
+                        &self.counters,
+                        slot,
+                        &node,
+                        line,
+                        Some(cut),
+                    );
+                    weight = weight.max(u32::try_from(ahead).ok()?);
+                }
+            }
+        }
+        Some(weight)
+    }
+
+    /// Has a counter count in a loop, if there is room for one.
+    fn add(&mut self, counter: Counter, here: Loop) -> Result<bool, AllocError> {
+        let number = self.counters.len();
+        if number >= COUNTERS {
+            return Ok(false);
+        }
+        self.counters.push(counter)?;
+        for (slot, rank) in self.ranks.iter_mut().enumerate() {
+            if here.first <= slot && slot <= here.last {
+                rank.counts[number] = true;
+            }
+        }
+        Ok(true)
+    }
+
+    /// Tries to have a register count in a loop.
+    fn count_by(
+        &mut self,
+        program: &Program<A>,
+        nodes: &[Option<Node>],
+        here: Loop,
+        counter: Counter,
+    ) -> Result<bool, AllocError> {
+        let cut = Cut {
+            first: here.first,
+            last: here.last,
+            register: Some(counter.register.number()),
+        };
+        if !self.settle(program, nodes, Some(cut), LOOP_PASSES) {
+            return Ok(false);
+        }
+        match self.weight(program, nodes, cut) {
+            Some(weight) => {
+                let weighed = Counter {
+                    register: counter.register,
+                    rises: counter.rises,
+                    limit: counter.limit,
+                    weight,
+                };
+                self.add(weighed, here)
+            }
+            None => Ok(false),
+        }
+    }
+
+    /// Whether a loop is known to end: without a counter, or now with one.
+    fn count(
+        &mut self,
+        program: &Program<A>,
+        nodes: &[Option<Node>],
+        here: Loop,
+    ) -> Result<bool, AllocError> {
+        let cut = Cut {
+            first: here.first,
+            last: here.last,
+            register: None,
+        };
+        if self.settle(program, nodes, Some(cut), LOOP_PASSES) {
+            return Ok(true);
+        }
+        let mut tries = 0;
+        for number in 0..10 {
+            if let Some(register) = Reg::new(number) {
+                if let Some(counter) = counter_of(program, nodes, here, register) {
+                    if tries < TRIES {
+                        tries += 1;
+                        if self.count_by(program, nodes, here, counter)? {
+                            return Ok(true);
+                        }
+                    }
+                }
+            }
+        }
+        Ok(false)
+    }
+}
+
+/// The distance of a jump.
+fn distance_of(line: Line) -> Option<i32> {
+    match line {
+        Line::Jump { distance } => Some(i32::from(distance)),
+        Line::LongJump { distance } => Some(distance),
+        Line::JumpIf { distance, .. } => Some(i32::from(distance)),
+        _ => None,
+    }
+}
+
+/// Adds a jump back to the loops.
+fn note_loop<A: Allocator>(
+    loops: &mut Vec<Loop, A>,
+    first: usize,
+    last: usize,
+) -> Result<(), AllocError> {
+    for one in loops.iter_mut() {
+        if one.first == first {
+            one.last = one.last.max(last);
+            return Ok(());
+        }
+    }
+    if loops.len() < LOOPS {
+        loops.push(Loop {
+            first,
+            last,
+            is_done: false,
+            tries: 0,
+        })?;
+    }
+    Ok(())
+}
+
+/// The loops of an image, up to `LOOPS`.
+fn find_loops<A: Allocator>(alloc: A, program: &Program<A>) -> Result<Vec<Loop, A>, AllocError> {
+    let mut loops = Vec::new(alloc);
+    for slot in 0..program.slots() as u16 {
+        if let Some(line) = program.line_at(slot) {
+            if let Some(distance) = distance_of(line) {
+                if let Some(place) = target(slot, distance) {
+                    if place <= usize::from(slot) {
+                        note_loop(&mut loops, place, usize::from(slot))?;
+                    }
+                }
+            }
+        }
+    }
+    Ok(loops)
+}
+
+/// The shortest loop that is not known to end and was not tried in this turn.
+fn shortest(loops: &[Loop], turn: u32) -> Option<usize> {
+    let mut found = None;
+    let mut length = usize::MAX;
+    for (k, one) in loops.iter().enumerate() {
+        let its = one.last.saturating_sub(one.first);
+        if !one.is_done && one.tries <= turn && its < length {
+            length = its;
+            found = Some(k);
+        }
+    }
+    found
 }
 
 /// Ranks of the slots, if the search came to its end: at least how many instructions may follow
 /// before the step or the local call ends.
-pub fn find_ranks<A: Allocator>(
+pub fn find_ranks<A: Allocator + Copy>(
     alloc: A,
     program: &Program<A>,
     nodes: &[Option<Node>],
-) -> Result<Vec<u32, A>, AllocError> {
-    let mut ranks = vec![in alloc; 0; nodes.len()]?;
-    for _ in 0..PASSES {
-        if !sweep(program, nodes, &mut ranks) {
-            break;
+) -> Result<Ranking<A>, AllocError> {
+    let none = Rank {
+        base: 0,
+        counts: [false; COUNTERS],
+    };
+    let mut ranking = Ranking {
+        ranks: vec![in alloc; none; nodes.len()]?,
+        counters: Vec::new(alloc),
+    };
+    let mut loops = find_loops(alloc, program)?;
+    for turn in 0..TURNS {
+        for _ in 0..LOOPS {
+            if let Some(k) = shortest(&loops, turn) {
+                if let Some(one) = loops.get_mut(k) {
+                    one.tries = turn + 1;
+                    one.is_done = ranking.count(program, nodes, *one)?;
+                }
+            }
         }
     }
-    Ok(ranks)
+    ranking.settle(program, nodes, None, PASSES);
+    Ok(ranking)
 }
 
 /// The most instructions from a start or the end of a step on, by the ranks.
-pub fn most_of<A: Allocator>(program: &Program<A>, nodes: &[Option<Node>], ranks: &[u32]) -> u32 {
-    let mut most = rank_of(ranks, 0);
+pub fn most_of<A: Allocator>(
+    program: &Program<A>,
+    nodes: &[Option<Node>],
+    ranks: &[Rank],
+    counters: &[Counter],
+) -> Option<u32> {
+    let mut most = most_at(nodes, ranks, counters, 0)?;
     for slot in 0..program.slots() as u16 {
         if let (Some(node), Some(Line::Call { number })) = (
             node_at(nodes, slot),
             program.line_at(slot),
         ) {
             if number == STEP_END && node.depth == 0 {
-                most = most.max(rank_of(ranks, usize::from(slot) + 1));
+                most = most.max(most_at(nodes, ranks, counters, usize::from(slot) + 1)?);
             }
         }
     }
-    most.saturating_add(1)
+    u32::try_from(most).ok()?.checked_add(1)
 }
 
 /// That of two places which has the greater rank.
-fn greater(ranks: &[u32], first: Option<usize>, second: usize) -> usize {
+fn greater(ranks: &[Rank], first: Option<usize>, second: usize) -> usize {
     match first {
-        Some(first) if rank_of(ranks, first) > rank_of(ranks, second) => first,
+        Some(first) if base_of(ranks, first) > base_of(ranks, second) => first,
         _ => second,
     }
 }
 
 /// The place that follows a line with the greatest rank, unless the step or the call ends.
-fn place_after(ranks: &[u32], slot: u16, line: Line, depth: u8) -> Option<usize> {
+fn place_after(ranks: &[Rank], slot: u16, line: Line, depth: u8) -> Option<usize> {
     let next = usize::from(slot) + 1;
     match line {
         Line::Jump { distance } => target(slot, i32::from(distance)),
@@ -141,7 +642,7 @@ fn place_after(ranks: &[u32], slot: u16, line: Line, depth: u8) -> Option<usize>
 fn slot_after<A: Allocator>(
     program: &Program<A>,
     nodes: &[Option<Node>],
-    ranks: &[u32],
+    ranks: &[Rank],
     slot: u16,
 ) -> Option<u16> {
     let node = node_at(nodes, slot)?;
@@ -150,10 +651,10 @@ fn slot_after<A: Allocator>(
 }
 
 /// The slot with the greatest rank.
-fn highest<A: Allocator>(program: &Program<A>, ranks: &[u32]) -> u16 {
+fn highest<A: Allocator>(program: &Program<A>, ranks: &[Rank]) -> u16 {
     let mut found = 0;
     for slot in 0..program.slots() as u16 {
-        if rank_of(ranks, usize::from(slot)) > rank_of(ranks, usize::from(found)) {
+        if base_of(ranks, usize::from(slot)) > base_of(ranks, usize::from(found)) {
             found = slot;
         }
     }
@@ -166,7 +667,7 @@ pub fn cycle<A: Allocator>(
     alloc: A,
     program: &Program<A>,
     nodes: &[Option<Node>],
-    ranks: &[u32],
+    ranks: &[Rank],
 ) -> Result<Vec<u16, A>, AllocError> {
     let mut slots = Vec::new(alloc);
     let mut first = highest(program, ranks);

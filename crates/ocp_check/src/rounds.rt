@@ -1,134 +1,595 @@
 //! How many instructions follow one another before a step ends.
-ghost use Rattle.std.specs.Prelude.{◌≡◌, ◌<◌, ◌+◌, ℕ, IsTrue, [], true};
-ghost use Rattle.bpf_step.specs.Machine.{State};
-ghost use Rattle.bpf_step.specs.Step.{step, one_step};
-ghost use Rattle.bpf_step.specs.Calls.{local_call, exit_to, last_frame};
-ghost use Rattle.ocp_loader.specs.LineAt.{target};
-ghost use Rattle.ocp_check.specs.Mirror.Fits.{Fits};
+ghost use Rattle.std.specs.Prelude.{◌≡◌, ◌≤◌, ◌<◌, ◌+◌, ℕ, Bool, IsTrue, IfSome, if◌then◌else◌, None, Some, [], length, slice_get, slice_index, slice_set, List, Option, Result};
+ghost use Rattle.ocp_regions.specs.declared.fault.AccessFault.{AccessFault};
+ghost use Rattle.ocp_regions.specs.Memory.{Octets};
+ghost use Rattle.bpf_moves.specs.Moves.{operand_in, load_register, store_memory, move_by_jump};
+ghost use Rattle.bpf_values.specs.Value.{arithmetic_result};
+ghost use Rattle.bpf_step.specs.declared.answer.Need.TheVariants as need;
+ghost use Rattle.bpf_step.specs.Machine.{State, Next, Needs, NoInstruction, state_after_write, state_after_jump};
+ghost use Rattle.bpf_step.specs.Step.{step, one_step, outcome_by};
+ghost use Rattle.bpf_step.specs.Calls.{local_call, exit_to, frame_of, last_frame, maybe_set};
+ghost use Rattle.ocp_check.specs.declared.counting.Counter.{Counter};
+ghost use Rattle.ocp_check.specs.Mirror.Ranges.{AreIn};
+ghost use Rattle.ocp_check.specs.Mirror.Fits.{Fits, FitsAfter, Matches};
 ghost use Rattle.ocp_check.specs.Rounds.{IsWithin};
-ghost use Rattle.ocp_check.specs.Mirror.Ranks.{Falls, rank};
+ghost use Rattle.ocp_check.specs.Mirror.Ranks.{AreMoved, AreSteady, Falls, IsMoved, IsSteady, SavedAreSame, total_share, kept_steps, registers_of, share_of, value_at};
 
-use crate::certificate::Node;
+use crate::certificate::{Node, Row};
 use crate::checker::check;
-use crate::covering::node_at;
-use crate::steps::target;
-use bpf_types::Line;
+use crate::counting::{COUNTERS, Counter, Rank, Step, Steps, ahead_by};
+use crate::covering::{node_at, row_at};
+use crate::steps::{place_after, target};
+use bpf_types::{Line, Operand, Operation, Reg, Width};
 use ocp_loader::{MAX_SLOTS, Program};
 use std::alloc::Allocator;
 
 /// The number of the engine call that ends a step.
 pub const STEP_END: i32 = 5;
 
-/// Whether a place has a lower rank than a slot.
-fn is_lower(ranks: &[u32], slot: u16, place: usize) -> bool
-    ensures { IsTrue result → rank ranks.now place < rank ranks.now slot }
+/// What an operation adds to its first operand, if it adds a number other than zero.
+pub fn step_by(width: Width, operation: Operation, operand: Operand) -> Step
+    ensures { (v : ℕ) (registers : List ℕ) →
+        IsMoved result v (arithmetic_result width operation v (operand_in registers operand)) }
 {
-    match (ranks.get(place), ranks.get(usize::from(slot))) {
-        (Some(next), Some(here)) => *next < *here,
-        _ => false,
+    let Operand::Immediate(imm) = operand else {
+        return Step::Anywhere;
+    };
+    let number = i64::from(imm).cast_unsigned();
+    match (width, operation) {
+        (Width::W64, Operation::Add) => Step::By(number),
+        (Width::W64, Operation::Sub) if number > 0 => Step::By(number.wrapping_neg()),
+        _ => Step::Anywhere,
     }
 }
 
-/// The same of the place that a distance leads to.
-fn lands_lower(ranks: &[u32], slot: u16, distance: i32) -> bool
-    ensures { IsTrue result → rank ranks.now (target slot distance) < rank ranks.now slot }
+/// One register is changed.
+pub fn steps_with(register: Reg, step: Step) -> Steps
+    ensures { result ≡ slice_set kept_steps register step }
 {
-    match target(slot, distance) {
-        Some(place) => is_lower(ranks, slot, place),
-        None => false,
+    let mut steps = [Step::Kept; 11];
+    steps[usize::from(register.number())] = step;
+    steps
+}
+
+/// An engine call changes R0, and may change R1.
+pub fn steps_of_call() -> Steps
+    ensures { (old : List ℕ) (r0 : ℕ) (r1 : Option ℕ) → length old ≡ 11 →
+        AreMoved result old (maybe_set (slice_set old 0 r0) 1 r1) }
+{
+    [
+        Step::Anywhere,
+        Step::Anywhere,
+        Step::Kept,
+        Step::Kept,
+        Step::Kept,
+        Step::Kept,
+        Step::Kept,
+        Step::Kept,
+        Step::Kept,
+        Step::Kept,
+        Step::Kept,
+    ]
+}
+
+/// What becomes of the registers from a local call to its end: R0 to R5 may be any numbers.
+pub fn steps_of_return() -> Steps
+    ensures { (s : State) → AreMoved result s.registers (registers_of (frame_of s)) }
+{
+    [
+        Step::Anywhere,
+        Step::Anywhere,
+        Step::Anywhere,
+        Step::Anywhere,
+        Step::Anywhere,
+        Step::Anywhere,
+        Step::Kept,
+        Step::Kept,
+        Step::Kept,
+        Step::Kept,
+        Step::Kept,
+    ]
+}
+
+/// What a frame has saved of registers of which this is known.
+fn saved_row(row: &Row) -> Row
+    ensures { (s : State) → AreIn row.now s.registers → AreIn result (registers_of (frame_of s)) }
+{
+    [
+        None, None, None, None, None, None, row[6], row[7], row[8], row[9], row[10],
+    ]
+}
+
+/// The rank of a place, if it is in the image.
+fn rank_at(ranks: &[Rank], place: usize) -> Option<Rank>
+    ensures { result ≡ slice_get ranks.now place }
+{
+    match ranks.get(place) {
+        Some(rank) => Some(*rank),
+        None => None,
     }
 }
 
-/// Whether the rank of a slot exceeds those of a place and of the next slot together.
-fn is_over_both(ranks: &[u32], slot: u16, place: usize) -> bool
-    ensures { IsTrue result →
-        rank ranks.now place + rank ranks.now (slot + 1) < rank ranks.now slot }
+/// How many instructions may follow at a place to which an instruction leads.
+pub fn ahead_at(
+    certificate: &[Option<Node>],
+    ranks: &[Rank],
+    counters: &[Counter],
+    was: &[bool; COUNTERS],
+    before: &Row,
+    place: usize,
+    steps: &Steps,
+) -> Option<u64>
+    ensures { IfSome result (λ most. (old : List ℕ) (t : State) → AreIn before.now old →
+        t.place ≡ place → Fits certificate.now t → AreMoved steps.now old t.registers →
+        value_at ranks.now counters.now t.place t.registers
+        ≤ most + total_share counters.now was.now old 8) }
 {
-    match (
-        ranks.get(place),
-        ranks.get(usize::from(slot) + 1),
-        ranks.get(usize::from(slot)),
+    match row_at(certificate, place) {
+        Some(after) => match ranks.get(place) {
+            Some(rank) => ahead_by(counters, was, rank, before, &after, steps),
+            None => None,
+        },
+        None => Some(0),
+    }
+}
+
+/// How many instructions may follow at a place, whatever leads there.
+pub fn most_at(
+    certificate: &[Option<Node>],
+    ranks: &[Rank],
+    counters: &[Counter],
+    place: usize,
+) -> Option<u64>
+    ensures { IfSome result (λ most. (t : State) → t.place ≡ place → Fits certificate.now t →
+        value_at ranks.now counters.now t.place t.registers ≤ most) }
+{
+    ahead_at(
+        certificate,
+        ranks,
+        counters,
+        &[false; COUNTERS],
+        &[None; 11],
+        place,
+        &[Step::Anywhere; 11],
+    )
+}
+
+/// How many instructions may follow after a local call has ended.
+pub fn ahead_after(
+    ranks: &[Rank],
+    counters: &[Counter],
+    was: &[bool; COUNTERS],
+    before: &Row,
+    place: usize,
+) -> Option<u64>
+    ensures { IfSome result (λ most. (s : State) → AreIn before.now s.registers →
+        value_at ranks.now counters.now place (registers_of (frame_of s))
+        ≤ most + total_share counters.now was.now s.registers 8) }
+{
+    match ranks.get(place) {
+        Some(rank) => ahead_by(
+            counters,
+            was,
+            rank,
+            before,
+            &saved_row(before),
+            &steps_of_return(),
+        ),
+        None => None,
+    }
+}
+
+/// Whether an instruction at a slot that leads to a place leaves fewer instructions ahead.
+fn lowers(
+    certificate: &[Option<Node>],
+    ranks: &[Rank],
+    counters: &[Counter],
+    slot: u16,
+    place: usize,
+    node: &Node,
+    steps: &Steps,
+) -> bool
+    ensures { IsTrue result → (s t : State) → s.place ≡ slot → Matches certificate.now node.now s →
+        t.place ≡ place → Fits certificate.now t → AreMoved steps.now s.registers t.registers →
+        value_at ranks.now counters.now t.place t.registers
+        < value_at ranks.now counters.now s.place s.registers }
+{
+    let Some(here) = ranks.get(usize::from(slot)) else {
+        return false;
+    };
+    match ahead_at(
+        certificate,
+        ranks,
+        counters,
+        &here.counts,
+        &node.row,
+        place,
+        steps,
     ) {
-        (Some(first), Some(after), Some(here)) => u64::from(*first) + u64::from(*after)
-            < u64::from(*here),
-        _ => false,
+        Some(most) => most < here.base,
+        None => false,
     }
 }
 
-/// Whether the rank of a local call exceeds those of its first slot and of the slot after it
-/// together.
-fn opens_lower(ranks: &[u32], slot: u16, distance: i32) -> bool
-    ensures { IsTrue result → (s : State) (most : ℕ) → s.place ≡ slot →
-        Falls ranks.now most s (local_call s distance) }
+/// The same of a write to a register, of which this becomes.
+fn write_lowers(
+    certificate: &[Option<Node>],
+    ranks: &[Rank],
+    counters: &[Counter],
+    slot: u16,
+    slots: u16,
+    node: &Node,
+    dst: Reg,
+    step: Step,
+) -> bool
+    ensures { IsTrue result → (s : State) (most v : ℕ) → s.place ≡ slot →
+        Matches certificate.now node.now s → AreSteady ranks.now counters.now s.frames →
+        IsMoved step (slice_index s.registers dst) v →
+        Fits certificate.now (state_after_write s dst v slots) →
+        Falls ranks.now counters.now most s (Next (state_after_write s dst v slots)) }
 {
-    match target(slot, distance) {
-        Some(place) => is_over_both(ranks, slot, place),
+    slots <= 2
+        && lowers(
+            certificate,
+            ranks,
+            counters,
+            slot,
+            usize::from(slot) + usize::from(slots),
+            node,
+            &steps_with(dst, step),
+        )
+}
+
+/// The same of a jump that is taken or not.
+fn jump_lowers(
+    certificate: &[Option<Node>],
+    ranks: &[Rank],
+    counters: &[Counter],
+    slot: u16,
+    distance: Option<i32>,
+    node: &Node,
+) -> bool
+    ensures { IsTrue result → (s : State) (most : ℕ) → s.place ≡ slot →
+        Matches certificate.now node.now s → AreSteady ranks.now counters.now s.frames →
+        Fits certificate.now (state_after_jump s distance) →
+        Falls ranks.now counters.now most s (Next (state_after_jump s distance)) }
+{
+    match place_after(slot, distance) {
+        Some(place) => lowers(
+            certificate,
+            ranks,
+            counters,
+            slot,
+            place,
+            node,
+            &[Step::Kept; 11],
+        ),
         None => false,
     }
+}
+
+/// The same of a load, whatever it reads.
+fn load_lowers(
+    certificate: &[Option<Node>],
+    ranks: &[Rank],
+    counters: &[Counter],
+    slot: u16,
+    node: &Node,
+    dst: Reg,
+) -> bool
+    ensures { IsTrue result → (s : State) (most : ℕ) (f : ℕ → ℕ) (read : Result ℕ AccessFault) →
+        s.place ≡ slot → Matches certificate.now node.now s →
+        AreSteady ranks.now counters.now s.frames →
+        FitsAfter certificate.now s
+        (outcome_by s (load_register s.registers s.memory dst f read) NoInstruction) →
+        Falls ranks.now counters.now most s
+        (outcome_by s (load_register s.registers s.memory dst f read) NoInstruction) }
+{
+    write_lowers(
+        certificate,
+        ranks,
+        counters,
+        slot,
+        1,
+        node,
+        dst,
+        Step::Anywhere,
+    )
+}
+
+/// The same of a store.
+fn store_lowers(
+    certificate: &[Option<Node>],
+    ranks: &[Rank],
+    counters: &[Counter],
+    slot: u16,
+    node: &Node,
+) -> bool
+    ensures { IsTrue result → (s : State) (most : ℕ) (written : Result Octets AccessFault) →
+        s.place ≡ slot → Matches certificate.now node.now s →
+        AreSteady ranks.now counters.now s.frames →
+        FitsAfter certificate.now s
+        (outcome_by s (store_memory s.registers written) NoInstruction) →
+        Falls ranks.now counters.now most s
+        (outcome_by s (store_memory s.registers written) NoInstruction) }
+{
+    lowers(
+        certificate,
+        ranks,
+        counters,
+        slot,
+        usize::from(slot) + 1,
+        node,
+        &[Step::Kept; 11],
+    )
+}
+
+/// The same of both ways of a conditional jump.
+fn branch_lowers(
+    certificate: &[Option<Node>],
+    ranks: &[Rank],
+    counters: &[Counter],
+    slot: u16,
+    node: &Node,
+    distance: i32,
+) -> bool
+    ensures { IsTrue result → (s : State) (most : ℕ) (taken : Bool) → s.place ≡ slot →
+        Matches certificate.now node.now s → AreSteady ranks.now counters.now s.frames →
+        FitsAfter certificate.now s (outcome_by s (move_by_jump s.registers s.memory
+        (if taken then Some distance else None)) NoInstruction) →
+        Falls ranks.now counters.now most s (outcome_by s (move_by_jump s.registers s.memory
+        (if taken then Some distance else None)) NoInstruction) }
+{
+    jump_lowers(certificate, ranks, counters, slot, Some(distance), node)
+        && jump_lowers(certificate, ranks, counters, slot, None, node)
+}
+
+/// Whether fewer instructions than the most may follow at a place.
+fn is_under(
+    certificate: &[Option<Node>],
+    ranks: &[Rank],
+    counters: &[Counter],
+    place: usize,
+    most: u32,
+) -> bool
+    ensures { IsTrue result → (t : State) → t.place ≡ place → Fits certificate.now t →
+        value_at ranks.now counters.now t.place t.registers < most }
+{
+    match most_at(certificate, ranks, counters, place) {
+        Some(ahead) => ahead < u64::from(most),
+        None => false,
+    }
+}
+
+/// Whether an engine call leaves fewer instructions ahead, or is the end of a step outside of all
+/// local calls after which there are fewer than the most.
+fn call_lowers(
+    certificate: &[Option<Node>],
+    ranks: &[Rank],
+    counters: &[Counter],
+    slot: u16,
+    node: &Node,
+    number: i32,
+    most: u32,
+) -> bool
+    ensures { IsTrue result → (s : State) → s.place ≡ slot → Matches certificate.now node.now s →
+        AreSteady ranks.now counters.now s.frames →
+        FitsAfter certificate.now s (Needs (need.Call number)) →
+        Falls ranks.now counters.now most s (Needs (need.Call number)) }
+{
+    let next = usize::from(slot) + 1;
+    if number == STEP_END && node.depth == 0 {
+        is_under(certificate, ranks, counters, next, most)
+    } else {
+        lowers(
+            certificate,
+            ranks,
+            counters,
+            slot,
+            next,
+            node,
+            &steps_of_call(),
+        )
+    }
+}
+
+/// Whether the rank at a place goes by registers alone that a local call keeps.
+fn is_steady(ranks: &[Rank], counters: &[Counter], place: usize) -> bool
+    ensures { IsTrue result → IsSteady ranks.now counters.now place }
+{
+    match ranks.get(place) {
+        Some(rank) => are_saved(counters, &rank.counts),
+        None => false,
+    }
+}
+
+/// Whether a local call keeps what some counters add.
+fn are_saved(counters: &[Counter], counts: &[bool; COUNTERS]) -> bool
+    ensures { IsTrue result → (old new : List ℕ) → SavedAreSame old new →
+        total_share counters.now counts.now new 8 ≡ total_share counters.now counts.now old 8 }
+{
+    for k in 0..COUNTERS {
+        if counts[k] && !is_saved(counters, k) {
+            return false;
+        }
+    }
+    true
+}
+
+/// Whether a local call keeps what a counter adds.
+fn is_saved(counters: &[Counter], k: usize) -> bool
+    ensures { IsTrue result → (counts : Bool) (old new : List ℕ) → SavedAreSame old new →
+        share_of (slice_get counters.now k) counts new
+        ≡ share_of (slice_get counters.now k) counts old }
+{
+    match counters.get(k) {
+        Some(counter) => counter.register.number() > 5,
+        None => true,
+    }
+}
+
+/// Whether a local call leaves fewer instructions ahead, those after its end among them.
+fn open_lowers(
+    certificate: &[Option<Node>],
+    ranks: &[Rank],
+    counters: &[Counter],
+    slot: u16,
+    distance: i32,
+    node: &Node,
+) -> bool
+    ensures { IsTrue result → (s : State) (most : ℕ) → s.place ≡ slot →
+        Matches certificate.now node.now s → AreSteady ranks.now counters.now s.frames →
+        FitsAfter certificate.now s (local_call s distance) →
+        Falls ranks.now counters.now most s (local_call s distance) }
+{
+    let Some(place) = target(slot, distance) else {
+        return false;
+    };
+    let Some(here) = rank_at(ranks, usize::from(slot)) else {
+        return false;
+    };
+    let next = usize::from(slot) + 1;
+    if !is_steady(ranks, counters, next) {
+        return false;
+    }
+    let Some(first) = most_at(certificate, ranks, counters, place) else {
+        return false;
+    };
+    let Some(after) = ahead_after(ranks, counters, &here.counts, &node.row, next) else {
+        return false;
+    };
+    first < here.base && after < here.base - first
 }
 
 /// Whether the rank of a slot is over zero.
-fn is_over_zero(ranks: &[u32], slot: u16) -> bool
-    ensures { IsTrue result → 0 < rank ranks.now slot }
+fn is_over_zero(ranks: &[Rank], slot: u16) -> bool
+    ensures { IsTrue result → (counters : List Counter) (registers : List ℕ) →
+        0 < value_at ranks.now counters slot registers }
 {
-    match ranks.get(usize::from(slot)) {
-        Some(here) => *here > 0,
+    match rank_at(ranks, usize::from(slot)) {
+        Some(here) => here.base > 0,
         None => false,
     }
 }
 
 /// Whether the end of a local call has a rank over zero. The end of the procedure may have any.
-fn ends_lower(ranks: &[u32], slot: u16, depth: u8) -> bool
-    ensures { IsTrue result → (s : State) (most : ℕ) → s.place ≡ slot →
-        (depth ≡ 0 → s.frames ≡ []) → Falls ranks.now most s (exit_to s (last_frame s)) }
+fn end_lowers(ranks: &[Rank], slot: u16, depth: u8) -> bool
+    ensures { IsTrue result → (s : State) (counters : List Counter) (most : ℕ) → s.place ≡ slot →
+        (depth ≡ 0 → s.frames ≡ []) → length s.registers ≡ 11 →
+        AreSteady ranks.now counters s.frames →
+        Falls ranks.now counters most s (exit_to s (last_frame s)) }
 {
     depth == 0 || is_over_zero(ranks, slot)
 }
 
-/// Whether a place has a rank under the most.
-fn is_under(ranks: &[u32], place: usize, most: u32) -> bool
-    ensures { IsTrue result → rank ranks.now place < most }
-{
-    match ranks.get(place) {
-        Some(rank) => *rank < most,
-        None => false,
-    }
-}
-
-/// Whether the slot after the end of a step, outside of all local calls, has a rank under the most.
-fn begins_under(ranks: &[u32], slot: u16, depth: u8, most: u32) -> bool
-    ensures { IsTrue result → (depth ≡ 0) × (rank ranks.now (slot + 1) < most) }
-{
-    depth == 0 && is_under(ranks, usize::from(slot) + 1, most)
-}
-
 /// Whether the line at a slot leaves fewer instructions ahead, or ends a step.
-fn falls(ranks: &[u32], slot: u16, line: Line, depth: u8, most: u32) -> bool
-    ensures { IsTrue result → (s : State) → s.place ≡ slot → (depth ≡ 0 → s.frames ≡ []) →
-        Falls ranks.now most s (step line s) }
+fn falls(
+    certificate: &[Option<Node>],
+    ranks: &[Rank],
+    counters: &[Counter],
+    slot: u16,
+    node: &Node,
+    line: Line,
+    most: u32,
+) -> bool
+    ensures { IsTrue result → (s : State) → s.place ≡ slot → Matches certificate.now node.now s →
+        AreSteady ranks.now counters.now s.frames → FitsAfter certificate.now s (step line s) →
+        Falls ranks.now counters.now most s (step line s) }
 {
-    let next = usize::from(slot) + 1;
     match line {
-        Line::Arithmetic { .. } => is_lower(ranks, slot, next),
-        Line::Negate { .. } => is_lower(ranks, slot, next),
-        Line::MoveExtended { .. } => is_lower(ranks, slot, next),
-        Line::ByteOrder { .. } => is_lower(ranks, slot, next),
-        Line::Jump { distance } => lands_lower(ranks, slot, i32::from(distance)),
-        Line::LongJump { distance } => lands_lower(ranks, slot, distance),
+        Line::Arithmetic {
+            width,
+            operation,
+            dst,
+            operand,
+        } => {
+            let step = step_by(width, operation, operand);
+            write_lowers(certificate, ranks, counters, slot, 1, node, dst, step)
+        }
+        Line::Negate { dst, .. } => {
+            write_lowers(
+                certificate,
+                ranks,
+                counters,
+                slot,
+                1,
+                node,
+                dst,
+                Step::Anywhere,
+            )
+        }
+        Line::MoveExtended { dst, .. } => {
+            write_lowers(
+                certificate,
+                ranks,
+                counters,
+                slot,
+                1,
+                node,
+                dst,
+                Step::Anywhere,
+            )
+        }
+        Line::ByteOrder { dst, .. } => {
+            write_lowers(
+                certificate,
+                ranks,
+                counters,
+                slot,
+                1,
+                node,
+                dst,
+                Step::Anywhere,
+            )
+        }
+        Line::Jump { distance } => {
+            jump_lowers(
+                certificate,
+                ranks,
+                counters,
+                slot,
+                Some(i32::from(distance)),
+                node,
+            )
+        }
+        Line::LongJump { distance } => {
+            jump_lowers(certificate, ranks, counters, slot, Some(distance), node)
+        }
         Line::JumpIf { distance, .. } => {
-            lands_lower(ranks, slot, i32::from(distance)) && is_lower(ranks, slot, next)
+            branch_lowers(
+                certificate,
+                ranks,
+                counters,
+                slot,
+                node,
+                i32::from(distance),
+            )
         }
         Line::Call { number } => {
-            (number == STEP_END && begins_under(ranks, slot, depth, most))
-                || is_lower(ranks, slot, next)
+            call_lowers(certificate, ranks, counters, slot, node, number, most)
         }
-        Line::CallLocal { distance } => opens_lower(ranks, slot, distance),
-        Line::Exit => ends_lower(ranks, slot, depth),
-        Line::LoadWide { .. } => is_lower(ranks, slot, next + 1),
-        Line::Load { .. } => is_lower(ranks, slot, next),
-        Line::LoadExtended { .. } => is_lower(ranks, slot, next),
-        Line::StoreImmediate { .. } => is_lower(ranks, slot, next),
-        Line::Store { .. } => is_lower(ranks, slot, next),
+        Line::CallLocal { distance } => {
+            open_lowers(certificate, ranks, counters, slot, distance, node)
+        }
+        Line::Exit => end_lowers(ranks, slot, node.depth),
+        Line::LoadWide { dst, .. } => {
+            write_lowers(
+                certificate,
+                ranks,
+                counters,
+                slot,
+                2,
+                node,
+                dst,
+                Step::Anywhere,
+            )
+        }
+        Line::Load { dst, .. } => load_lowers(certificate, ranks, counters, slot, node, dst),
+        Line::LoadExtended { dst, .. } => {
+            load_lowers(certificate, ranks, counters, slot, node, dst)
+        }
+        Line::StoreImmediate { .. } => store_lowers(certificate, ranks, counters, slot, node),
+        Line::Store { .. } => store_lowers(certificate, ranks, counters, slot, node),
     }
 }
 
@@ -137,37 +598,45 @@ fn falls(ranks: &[u32], slot: u16, line: Line, depth: u8, most: u32) -> bool
 fn falls_at<A: Allocator>(
     program: &Program<A>,
     certificate: &[Option<Node>],
-    ranks: &[u32],
+    ranks: &[Rank],
+    counters: &[Counter],
     slot: u16,
     most: u32,
 ) -> bool
     ensures { IsTrue result → (s : State) → s.place ≡ slot → Fits certificate.now s →
-        Falls ranks.now most s (one_step program.now s) }
+        AreSteady ranks.now counters.now s.frames →
+        FitsAfter certificate.now s (one_step program.now s) →
+        Falls ranks.now counters.now most s (one_step program.now s) }
 {
     match node_at(certificate, slot) {
         Some(node) => match program.line_at(slot) {
-            Some(line) => falls(ranks, slot, line, node.depth, most),
+            Some(line) => falls(certificate, ranks, counters, slot, &node, line, most),
             None => true,
         },
         None => true,
     }
 }
 
-/// Whether a certificate and ranks show that at most this many instructions of the image follow one
-/// another up to the end of a step or of the procedure. Nothing rests on how they were found.
+/// Whether a certificate, ranks and counters show that at most this many instructions of the image
+/// follow one another up to the end of a step or of the procedure. Nothing rests on how they were
+/// found.
 pub fn check_rounds<A: Allocator>(
     program: &Program<A>,
     certificate: &[Option<Node>],
-    ranks: &[u32],
+    ranks: &[Rank],
+    counters: &[Counter],
     most: u32,
 ) -> bool
     ensures { IsTrue result → IsWithin program.now most }
 {
-    if !check(program, certificate) || certificate.len() > MAX_SLOTS || !is_under(ranks, 0, most) {
+    if !check(program, certificate)
+        || certificate.len() > MAX_SLOTS
+        || !is_under(certificate, ranks, counters, 0, most)
+    {
         return false;
     }
     for slot in 0..certificate.len() as u16 {
-        if !falls_at(program, certificate, ranks, slot, most) {
+        if !falls_at(program, certificate, ranks, counters, slot, most) {
             return false;
         }
     }

@@ -48,7 +48,7 @@ fn is_kept_writing(
 }
 
 /// The place after a jump that is taken or not, unless that is a negative slot.
-fn place_after(slot: u16, distance: Option<i32>) -> Option<usize>
+pub fn place_after(slot: u16, distance: Option<i32>) -> Option<usize>
     ensures { IfSome result (λ place. place ≡ place_by slot distance) }
 {
     match distance {

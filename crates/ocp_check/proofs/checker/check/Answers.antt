@@ -31,3 +31,10 @@ returns-clause-within g c = λ h s r.
     (starts c.machines_started_anew_are_as_new.ensures.new c.args.certificate.now)
     (λ s i. c.loop-slot.invariant s (let there = slice_get_within c.args.certificate.now s.place _ i.found in search (rules, c, there)) i) s r in
     slice_get_within c.args.certificate.now s.place _ i.found
+
+pub returns-clause-after : goal.returns-clause-after
+returns-clause-after g c = λ h s r.
+    let keeps : (s : State) → Fits c.args.certificate.now s → FitsAfter c.args.certificate.now s (one_step c.args.program.now s) =
+    λ s i. c.loop-slot.invariant s (let there = slice_get_within c.args.certificate.now s.place _ i.found in search (rules, c, there)) i in
+    keeps s (always c.args.program.now c.args.certificate.now node_at_start (subst (λ (n : Node). Covers c.args.certificate.now 0 n) c.at_start.ensures (c.covers.ensures c.if-not-covers.false))
+    (starts c.machines_started_anew_are_as_new.ensures.new c.args.certificate.now) keeps s r)
