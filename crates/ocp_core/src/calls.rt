@@ -1,7 +1,7 @@
 //! The calls of an engine, over whatever keeps its entries. Each takes the store of the entries and
 //! the state that they make.
 
-ghost use Rattle.std.specs.Prelude.{◌≡◌, ◌≤◌, ◌<◌, true, false, Err, IfOk, OnOk, OnErr};
+ghost use Rattle.std.specs.Prelude.{◌≡◌, ◌≤◌, ◌<◌, true, Err, IfOk, OnOk, OnErr};
 ghost use Rattle.ocp_table.specs.Slices.{slice_of};
 ghost use Rattle.ocp_table.specs.declared.answers.Extent.TheVariants as extents;
 ghost use Rattle.ocp_world.specs.World as world;

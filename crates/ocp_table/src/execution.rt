@@ -1,5 +1,5 @@
 //! A program and the machine that runs it.
-ghost use Rattle.std.specs.Prelude.{◌≡◌, ◌≤◌, ◌↔◌, ℕ, List, [], Err, Some, false, IfErr, IfOk, IsOk, IsSome, IsTrue, OnErr, OnOk, length};
+ghost use Rattle.std.specs.Prelude.{◌≡◌, ◌≤◌, ◌↔◌, ℕ, List, [], Err, Some, IfErr, IfOk, IsOk, IsSome, IsTrue, OnErr, OnOk, length};
 ghost use Rattle.ocp_table.specs.Clauses.{HasAddressesOf, StandsIn, load_result, local_count, local_run, machine_at_restart, machine_at_start, machine_by_outcome, mailbox_by_outcome, one_step, outcome_of, pool_by_outcome};
 
 use crate::InstructionOutcome;

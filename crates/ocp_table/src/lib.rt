@@ -18,9 +18,7 @@ mod snapshot;
 mod table;
 mod view;
 
-pub use answers::{
-    Extent, InstructionAnswer, InstructionOutcome, Round, Slice, StepOutcome,
-};
+pub use answers::{Extent, InstructionAnswer, InstructionOutcome, Round, Slice, StepOutcome};
 pub use change::{Change, Decided, Decision};
 pub use control::{Cause, Control, Pending};
 pub use directive::Directive;

@@ -29,8 +29,8 @@ pub struct Record<A: Allocator> {
 }
 
 impl<A: Allocator> Record<A> {
-    /// The record of a procedure that was loaded: it is inactive, nothing is pending, its mailbox is
-    /// empty, and a debugger has set nothing.
+    /// The record of a procedure that was loaded: inactive, with an empty mailbox, and nothing that
+    /// a debugger sets.
     pub(crate) fn new(id: u16, execution: Execution<A>) -> Self
         ensures record { (profile : Profile) →
             execution.machine ≡ machine_at_start profile [] →

@@ -12,8 +12,8 @@ use obcp_types::Status;
 use std::alloc::{AllocError, Allocator, Global};
 use std::marker::Model;
 
-/// A running procedure as it stood: a copy of its program and its machine, the breakpoints, the pass
-/// flag, the trace flag, and what was left of the budget.
+/// A running procedure as it was: a copy of its program and of its machine, the breakpoints, the
+/// pass flag, the trace flag, and what was left of the budget.
 #[derive(Drop)]
 pub struct Snapshot<A: Allocator = Global> {
     execution: Execution<A>,

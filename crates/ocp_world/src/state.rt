@@ -1,7 +1,7 @@
 //! What the engine keeps of its world.
 
 ghost use Rattle.std.specs.Prelude.{◌≡◌, ◌≤◌, ◌<◌, ℕ, List, true, false, None, Ok, Err, IfOk, IfSome, length};
-ghost use Rattle.ocp_world.specs.Clauses.{Commanded, Debug, Does, DoesIn, Failed, HasFewArguments, IsDebugFault, IsPutAt, IsRefusal, IsWorld, Kept, Put, Request as Asked, Sends, Step, Stepped, Unasked, World, after, command_effect, directive_effect, directive_of, effect_of, has_no_place, opening, option_to_list, reports_of, step_ended, telecommand_of, with_packets};
+ghost use Rattle.ocp_world.specs.Clauses.{Commanded, Debug, Does, DoesIn, HasFewArguments, IsDebugFault, IsPutAt, IsRefusal, IsWorld, Kept, Put, Request as Asked, Sends, Step, Stepped, Unasked, World, after, command_effect, directive_effect, directive_of, effect_of, has_no_place, opening, option_to_list, reports_of, step_ended, telecommand_of, with_packets};
 ghost use Rattle.ocp_table.specs.RequestTable as directive;
 ghost use Rattle.ocp_world.specs.declared.answers.EngineFault.TheVariants as engine;
 

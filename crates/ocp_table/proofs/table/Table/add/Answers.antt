@@ -27,8 +27,7 @@ invariant_of-self-2 g c =
     let free : get (contents id_of record_of c.self.inside.records) (id_of c.new.result) ≡ None = ap (get (contents id_of record_of c.self.inside.records)) c.new.ensures.id ∙ (rw (← c.self.view_is) at c.requires.absent) in
     let absent = IsAbsent-from_get id_of record_of c.self.inside.records (id_of c.new.result) sound.distinct free in
     let new = Replaces-new id_of record_of c.self.inside.records _ _ c.insert_reserved.ensures.was_vacant absent in
-    let put = contents-put id_of record_of c.self.inside.records c.insert_reserved.new.self c.insert_reserved.result _ sound.distinct new c.insert_reserved.ensures.updates in
-    (
+    let put = contents-put id_of record_of c.self.inside.records c.insert_reserved.new.self c.insert_reserved.result _ sound.distinct new c.insert_reserved.ensures.updates in (
       record {
         sound = record {
           distinct = IsDistinct-put id_of record_of c.self.inside.records c.insert_reserved.new.self c.insert_reserved.result _ sound.distinct new c.insert_reserved.ensures.updates;

@@ -26,8 +26,7 @@ invariant_of-self g c =
     let m = contents id_of record_of c.self.inside.records in
     let found = c.in-Some.ensures.found in
     let gone = contents-removed id_of record_of c.self.inside.records c.remove-record.new.self _ _ c.self.invariant.0.sound.distinct c.index.ensures c.remove-record.ensures.updates ∙ ap (map.remove m) (found.named _ c.index.ensures) in
-    let files = c.overtake.ensures ∙ outbox-unloaded m c.args.id (record_of c.index.result.now) c.self.inside.outbox.items (found.there _ c.index.ensures) in
-    (
+    let files = c.overtake.ensures ∙ outbox-unloaded m c.args.id (record_of c.index.result.now) c.self.inside.outbox.items (found.there _ c.index.ensures) in (
       record {
         sound = IsSound-removed id_of c.self.inside.records c.remove-record.new.self _ c.self.invariant.0.sound c.remove-record.ensures.updates c.remove-record.ensures.len c.remove-record.ensures.capacity;
         places = fits_by m _ c.self.inside.outbox.items _ (Unloaded c.args.id) gone files (outbox_fits m c.self.inside.outbox.items c.self.invariant.0.places (Unloaded c.args.id) tt);
@@ -56,11 +55,10 @@ invariant_of-self-in-Changes g c =
     let m = contents id_of record_of c.self.inside.records in
     let change = change_of c.in-Changes.change in
     let there = c.in-Some.ensures.found.there _ c.index_mut.ensures.value in
-    let place = subst (λ d. IfChanges d (HasPlaceFor (is_outbox_full m c.self.inside.outbox.items))) (c.in-Changes.is) (subst (λ t. IfChanges c.args.decided.decision (HasPlaceFor (is_outbox_full t.records t.outbox))) (sym c.self.view_is) c.requires.place) in
-    (
+    let place = subst (λ d. IfChanges d (HasPlaceFor (is_outbox_full m c.self.inside.outbox.items))) (c.in-Changes.is) (subst (λ t. IfChanges c.args.decided.decision (HasPlaceFor (is_outbox_full t.records t.outbox))) (sym c.self.view_is) c.requires.place) in (
       holds-by id_of record_of c.self.inside.records c.self.inside.outbox.items _ c.args.id _ c.in-Some.ensures.found c.index_mut.ensures.value c.self.invariant.0 _ c.enact.ensures.id (Changed c.args.id change) _
-      (records_at id_of record_of c.self.inside.records c.self.inside.outbox.items _ c.args.id _ c.in-Some.ensures.found c.index_mut.ensures.value c.self.invariant.0 _ c.enact.ensures.id _ refl ∙ records-changed m c.args.id change _ _ there c.enact.ensures.record)
-      (c.enact.ensures.outbox ∙ outbox-changed m c.args.id change _ c.self.inside.outbox.items there)
-      (outbox_fits m c.self.inside.outbox.items c.self.invariant.0.places (Changed c.args.id change) place),
+          (records_at id_of record_of c.self.inside.records c.self.inside.outbox.items _ c.args.id _ c.in-Some.ensures.found c.index_mut.ensures.value c.self.invariant.0 _ c.enact.ensures.id _ refl ∙ records-changed m c.args.id change _ _ there c.enact.ensures.record)
+          (c.enact.ensures.outbox ∙ outbox-changed m c.args.id change _ c.self.inside.outbox.items there)
+          (outbox_fits m c.self.inside.outbox.items c.self.invariant.0.places (Changed c.args.id change) place),
       stocked-at _ _ _ _ _ c.index_mut.ensures.value c.self.invariant.1,
     )

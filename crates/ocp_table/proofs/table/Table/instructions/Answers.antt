@@ -38,8 +38,7 @@ invariant_of-self g c =
     let found = c.in-Some.ensures.found in
     let named = found.named _ c.index_mut.ensures.value in
     let sliced = c.instructions.ensures.slice m (ap (map.get m) named ∙ found.there _ c.index_mut.ensures.value) in
-    let moved = sliced.store ∙ ap (λ i. record { records = map.insert m i (record_of c.instructions.new.self); outbox = c.instructions.new.outbox.items; pool = c.instructions.new.pool }) named ∙ ap (λ x. record { records = x; outbox = c.instructions.new.outbox.items; pool = c.instructions.new.pool }) (sym (records_at id_of record_of c.self.inside.records c.self.inside.outbox.items _ c.args.id _ c.in-Some.ensures.found c.index_mut.ensures.value c.self.invariant.0 _ c.instructions.ensures.id _ refl)) in
-    (
+    let moved = sliced.store ∙ ap (λ i. record { records = map.insert m i (record_of c.instructions.new.self); outbox = c.instructions.new.outbox.items; pool = c.instructions.new.pool }) named ∙ ap (λ x. record { records = x; outbox = c.instructions.new.outbox.items; pool = c.instructions.new.pool }) (sym (records_at id_of record_of c.self.inside.records c.self.inside.outbox.items _ c.args.id _ c.in-Some.ensures.found c.index_mut.ensures.value c.self.invariant.0 _ c.instructions.ensures.id _ refl)) in (
       record {
         sound = found.sound _ (c.instructions.ensures.id ∙ named);
         places = fits-sliced (slice_of c.instructions.result) _ (record { records = m; outbox = c.self.inside.outbox.items; pool = c.args.pool.now }) _ c.self.invariant.0.places moved;
