@@ -57,7 +57,9 @@ fn extend<A: Allocator>(octets: &mut HeapCircularBuffer<u8, A>, more: &[u8])
     requires { length octets.old.items + length more.now ≤ octets.old.capacity }
     ensures { octets.new ≡ buffer (octets.old.items ++ more.now) octets.old.capacity }
 {
-    octets.extend_from_slice(more);
+    if !more.is_empty() {
+        octets.fill_from_slice(more);
+    }
 }
 
 // Adds the place of an end that has room.
