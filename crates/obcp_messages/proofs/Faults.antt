@@ -1,4 +1,4 @@
--- What `request_of` refuses is what `HasRequestFault` says.
+-- What `request_of` refuses is what `HasRequestFault` states.
 use Rattle.std.proofs.Common.{◌≡◌, ◌≢◌, ℕ, List, [], Bool, true, false, cond, Result, Ok, Err, refl, sym, ap, ◌∙◌, ◌⊎◌, inl, inr, ⊎_elim}
 use Rattle.std.specs.Prelude.{IfErr, ◌==◌}
 use Rattle.std.proofs.lemmas.Bool.{cond_both, eqb-true}

@@ -1,4 +1,4 @@
--- Numbers that stand one after the other.
+-- Numbers one after the other.
 use Rattle.std.proofs.Common.{◌≡◌, ℕ, suc, ◌+◌, ◌*◌, List, [], ◌∷◌, ◌++◌, drop, sym, ap, ◌∙◌, arith}
 use Rattle.std.proofs.lemmas.List.{drop-drop, append_assoc}
 use Rattle.byteorder.specs.Endian.{big_number}

@@ -56,7 +56,7 @@ octets_of_eight octets long h =
     be_bytes_8 (take 8 octets) (big_number 8 octets) (length-take-le 8 octets long) (octets_taken 8 octets h)
     (omega (arith, at 0 (omega arith), at 1 (omega arith), at 2 (omega arith), at 3 (omega arith), at 4 (omega arith), at 5 (omega arith), at 6 (omega arith), at 7 (omega arith)))
 
--- two parts, one behind the other
+-- two parts, one after the other
 pub joined : {a b c d : List ℕ} → a ≡ b → c ≡ d → a ++ c ≡ b ++ d
 joined {b = b} {c = c} e f = ap (λ x. x ++ c) e ∙ ap (λ x. b ++ x) f
 

@@ -1,4 +1,4 @@
--- What `report_of` refuses is what `HasReportFault` says.
+-- What `report_of` refuses is what `HasReportFault` states.
 use Rattle.std.proofs.Common.{◌≡◌, ℕ, List, [], length, drop, get_or, Bool, true, false, ◌&&◌, ◌+◌, ◌*◌, cond, Option, Some, None, Result, Ok, Err, refl, sym, ap, ◌∙◌, ◌⊎◌, inl, inr, ⊎_elim}
 use Rattle.std.specs.Prelude.{IfErr, ◌==◌, nat_le}
 use Rattle.std.proofs.lemmas.Bool.{cond_both, eqb-true}

@@ -1,4 +1,4 @@
--- What `report_of` answers is what `IsReportData` says, both ways.
+-- What `report_of` answers is what `IsReportData` states, both ways.
 use Rattle.std.proofs.Common.{◌≡◌, ◌≤◌, ◌<◌, ◌^◌, ℕ, ◌+◌, ◌-◌, ◌*◌, List, [], ◌∷◌, ◌++◌, length, take, drop, get_or, false, ◌&&◌, Option, Some, None, Result, Ok, Err, refl, sym, ap, ◌∙◌, subst, arith}
 use Rattle.std.specs.Prelude.{All, IfOk, ◌==◌, nat_le}
 use Rattle.std.specs.Int.{byte_at}
@@ -35,7 +35,7 @@ request_read make octets P holds =
     holds (sym (take_all 4 octets (omega arith))) (length-take-le 4 octets (omega arith)))
     (λ _. tt)
 
--- the code behind a request identifier
+-- the code after a request identifier
 code_octets : (octets : List ℕ) → length octets ≡ 6 → AreOctets octets → octets ≡ take 4 octets ++ big_bytes 2 (big_number 2 (drop 4 octets))
 code_octets octets long h =
     let len : length (drop 4 octets) ≡ length octets - 4 = length-drop 4 octets in
@@ -52,7 +52,7 @@ code_read make octets P holds h =
     holds (code_octets octets long h) (length-take-le 4 octets (omega arith)) (big_from-lt 0 2 (drop 4 octets) (octets_dropped 4 octets h)))
     (λ _. tt)
 
--- code 18 behind a request identifier, with its data
+-- code 18 after a request identifier, with its data
 bad_code_octets : (octets : List ℕ) → length octets ≡ 9 → big_number 2 (drop 4 octets) ≡ 18 → AreOctets octets →
     octets ≡ take 4 octets ++ fault_data (BadCode (get_or octets 6 0) (big_number 2 (drop 7 octets)))
 bad_code_octets octets long is h =

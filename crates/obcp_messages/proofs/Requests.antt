@@ -1,4 +1,4 @@
--- What `request_of` answers is what `IsRequestData` says, both ways.
+-- What `request_of` answers is what `IsRequestData` states, both ways.
 use Rattle.std.proofs.Common.{◌≡◌, ◌≤◌, ◌<◌, ◌^◌, ℕ, ◌+◌, ◌-◌, ◌*◌, List, [], ◌∷◌, ◌++◌, length, take, drop, get_or, true, ◌&&◌, Result, Ok, Err, refl, sym, ap, ◌∙◌, arith}
 use Rattle.std.specs.Prelude.{All, IfOk, ◌==◌, nat_le}
 use Rattle.std.specs.Cmp.Derive.{both_true}
@@ -52,7 +52,7 @@ step_read make octets P holds h =
     holds same (big_from-lt 0 2 octets h) (big_from-lt 0 2 (drop 2 octets) rest))
     (λ _. tt)
 
--- behind so many octets a number and as many octets
+-- after n octets a number and that number of octets
 counted_read : (n : ℕ) (octets : List ℕ) → is_counted n octets ≡ true → AreOctets octets →
     (big_bytes 2 (length (drop (n + 2) octets)) ++ drop (n + 2) octets ≡ drop n octets) × (length octets ≡ n + 2 + length (drop (n + 2) octets))
 counted_read n octets e h =
@@ -80,7 +80,7 @@ octets_read most make octets P holds h =
     holds same (big_from-lt 0 2 octets h) fits)
     (λ _. tt)
 
--- an identifier, a budget, a number and as many octets
+-- an identifier, a budget, a number and that number of octets
 budget_read : (octets : List ℕ) (P : Request → Type 0) →
     (octets ≡ big_bytes 2 (big_number 2 octets) ++ big_bytes 4 (big_number 4 (drop 2 octets)) ++ big_bytes 2 (length (drop 8 octets)) ++ drop 8 octets →
     big_number 2 octets < 2 ^ 16 → big_number 4 (drop 2 octets) < 2 ^ 32 → length (drop 8 octets) ≤ 256 →
@@ -188,7 +188,7 @@ octets_written most make id code h k fits =
     let test : (is_counted 2 octets && nat_le (length octets) (4 + most)) ≡ true = both_true counted (le-leb (length octets) (4 + most) (omega arith)) in
     cond-true _ _ _ test ∙ ap (λ n. Ok (make n code)) number
 
--- an activation, with its budget where the profile has one
+-- an activation, with its budget if the profile has one
 activation_written : (profile : Profile) (id budget : ℕ) (arguments : List ℕ) → IsRequest profile (Activate id budget arguments) →
     activation_in profile (request_data profile (Activate id budget arguments)) ≡ Ok (Activate id budget arguments)
 activation_written One id budget arguments h =

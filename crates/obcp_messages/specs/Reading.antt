@@ -21,18 +21,18 @@ with_step make octets =
     if length octets == 4
     then Ok (make (big_number 2 octets) (big_number 2 (drop 2 octets))) else Err Layout
 
--- behind so many octets stands a number of two octets, and as many octets behind it
+-- after the first n octets comes a number of two octets, followed by that number of octets
 abbrev pub is_counted : ℕ → List ℕ → Bool
 is_counted n octets =
     nat_le (n + 2) (length octets) && (length octets == n + 2 + big_number 2 (drop n octets))
 
--- an identifier, a number up to the most, and as many octets
+-- an identifier, a number up to the most, and that number of octets
 abbrev pub with_octets : ℕ → (ℕ → List ℕ → Request) → List ℕ → Result Request RequestFault
 with_octets most make octets =
     if is_counted 2 octets && nat_le (length octets) (4 + most)
     then Ok (make (big_number 2 octets) (drop 4 octets)) else Err Layout
 
--- an identifier, a number from 1 to 8, and as many words
+-- an identifier, a number from 1 to 8, and that number of words
 abbrev pub with_words : List ℕ → Result Request RequestFault
 with_words octets =
     let count = slice_index octets 2 in
@@ -40,7 +40,7 @@ with_words octets =
     && nat_le 1 count && nat_le count MAX_WORDS
     then Ok (Communicate (big_number 2 octets) (numbers 8 count (drop 3 octets))) else Err Layout
 
--- an identifier, a budget, a number up to the most, and as many octets
+-- an identifier, a budget, a number up to the most, and that number of octets
 abbrev pub with_budget : List ℕ → Result Request RequestFault
 with_budget octets =
     if is_counted 6 octets && nat_le (length octets) (8 + MAX_ARGUMENTS_LENGTH)

@@ -32,7 +32,7 @@ kind_of (Completed request) = 7
 kind_of (NotCompleted request code) = 8
 kind_of (R.Status rows) = 9
 
--- what a report says of a failed start: code 18 has data, and no other has
+-- what a report states about a failed start: code 18 has data, and no other has
 abbrev pub start_fault : StartFailure → StartFault
 start_fault (start.BadCode fault slot) = BadCode fault slot
 start_fault other = Plain (start_code other)

@@ -1,4 +1,4 @@
-//! Fields of service data, which are put one behind the other.
+//! Fields of service data, one after the other.
 
 ghost use Rattle.std.specs.Prelude.{◌≡◌, ◌≤◌, ◌<◌, ◌^◌, ◌+◌, ◌*◌, ◌++◌, length, All};
 ghost use Rattle.std.specs.List.{flat_map};
@@ -9,11 +9,11 @@ ghost use Rattle.obcp_messages.specs.Report.{row_data};
 use arrayvec::ArrayVec;
 use obcp_types::StatusRow;
 
-/// The most octets of fields, but for the octets at the end of a request: those of a communicate
+/// The most octets of fields, except the octets at the end of a request: those of a communicate
 /// request with 8 words.
 pub const MAX_FIELDS_LENGTH: usize = 67;
 
-/// The fields of a report, or of a request but for the octets at its end.
+/// The fields of a report, or of a request except the octets at its end.
 pub type Fields = ArrayVec<u8, MAX_FIELDS_LENGTH>;
 
 pub(crate) fn put_octets(fields: &mut Fields, octets: &[u8])

@@ -1,4 +1,4 @@
-//! What reading and writing are to each other, for definitions that speak of service data.
+//! How reading and writing are related, for definitions over service data.
 
 ghost use Rattle.std.specs.Prelude.{◌≡◌, ◌<◌, ◌^◌, ℕ, List, Ok, All};
 ghost use Rattle.obcp_messages.specs.Reading.{request_of};

@@ -14,7 +14,7 @@ pub const MAX_ARGUMENTS_LENGTH: usize = 256;
 /// The most words of a communicate request.
 pub const MAX_WORDS: usize = 8;
 
-/// Octets at the end of a request, borrowed: at most so many.
+/// Octets at the end of a request, borrowed: at most `MOST`.
 #[derive(Drop)]
 pub struct Carried<'a, const MOST: usize> {
     octets: &'a [u8],
@@ -37,7 +37,7 @@ impl<'a, const MOST: usize> Model for Carried<'a, MOST> {
 }
 
 impl<'a, const MOST: usize> Carried<'a, MOST> {
-    /// These octets, where a request can carry them.
+    /// These octets, if a request can carry them.
     pub fn new(octets: &'a [u8]) -> Option<Carried<'a, MOST>>
         ensures value { IfSome result (λ carried. carried ≡ octets.now) }
         ensures variant { IsSome result ↔ (length octets.now ≤ MOST) }
@@ -74,7 +74,7 @@ impl Model for Words {
 }
 
 impl Words {
-    /// These words, where there is one.
+    /// These words, if there is at least one.
     pub fn new(words: ArrayVec<u64, MAX_WORDS>) -> Option<Words>
         ensures value { IfSome result (λ value. value ≡ words.items) }
         ensures variant { IsSome result ↔ (1 ≤ length words.items) }

@@ -78,7 +78,7 @@ fn status(code: u8) -> Option<Status>
     }
 }
 
-/// The rows in so many times 3 octets, where each status is one.
+/// The rows in `count` times 3 octets, if each status number is that of a status.
 fn rows(octets: &[u8], count: usize) -> Option<ArrayVec<StatusRow, MAX_ROWS>>
     requires most { count ≤ MAX_ROWS }
     requires whole { length octets.now ≡ 3 * count }
@@ -94,7 +94,7 @@ fn rows(octets: &[u8], count: usize) -> Option<ArrayVec<StatusRow, MAX_ROWS>>
     Some(rows)
 }
 
-/// The status report of these rows, where their identifiers rise.
+/// The status report of these rows, if their identifiers rise.
 #[tactic(auto, using(crate::proofs::RowOctets::rise_rising, crate::proofs::RowOctets::rising_rise))]
 fn in_order(rows: ArrayVec<StatusRow, MAX_ROWS>) -> Result<Report, ReportFault>
     ensures { result ≡ ordered_rows rows.items }
@@ -160,16 +160,16 @@ fn report_in(service: u8, subtype: u8, octets: &[u8]) -> Result<Report, ReportFa
     }
 }
 
-/// The report of a telemetry packet's service, subtype and data. Refused as `Kind` where service
-/// and subtype are none of the reports', else as `Layout` where the data have another length than
-/// the report's fields, a number is out of its range, or the identifiers of status rows do not rise
+/// The report of a telemetry packet's service, subtype and data. Refused as `Kind` if service and
+/// subtype are none of the reports', else as `Layout` if the data have another length than the
+/// report's fields, a number is out of its range, or the identifiers of status rows do not rise
 /// (ECSS-E-ST-70-41C, 8.1 and 8.18).
 pub fn read_report(service: u8, subtype: u8, octets: &[u8]) -> Result<Report, ReportFault>
     ensures found { IfOk result (IsReportData service subtype octets.now) }
     ensures only { (report : Report) →
         IsReportData service subtype octets.now report → result ≡ Ok report }
     ensures fault { IfErr result (HasReportFault service subtype octets.now) }
-    // The same as a function, for definitions that speak of reports by their octets.
+    // The same as a function, for definitions over the octets of reports.
     ensures reads { result ≡ report_of service subtype octets.now }
 {
     report_in(service, subtype, octets)

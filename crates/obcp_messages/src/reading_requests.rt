@@ -43,7 +43,7 @@ fn id_and_step(octets: &[u8]) -> Result<(u16, u16), RequestFault>
     ))
 }
 
-/// The octets behind their number, which stands behind the first so many, where they are that many.
+/// The octets after their number, which follows the first `before` octets, if they are that many.
 fn counted_octets(octets: &[u8], before: usize) -> Result<&[u8], RequestFault>
     requires { before ≤ 6 }
     ensures { MatchResult result
@@ -95,7 +95,7 @@ fn activate_with_budget(octets: &[u8]) -> Result<Request<'_>, RequestFault>
     })
 }
 
-/// The words in so many times 8 octets.
+/// The words in `count` times 8 octets.
 fn words_in(octets: &[u8], count: usize) -> ArrayVec<u64, MAX_WORDS>
     requires most { count ≤ MAX_WORDS }
     requires whole { length octets.now ≡ 8 * count }
@@ -166,11 +166,10 @@ fn request_of(
     }
 }
 
-/// The request that a telecommand carries. Refused as `Service` where the service is not 18, else
-/// as `Subtype` where the subtype is no request's, else as `Layout` where the data have another
-/// length than the request's fields, or a number is out of its range (ECSS-E-ST-70-41C, 8.18). An
-/// activation has a field for its budget under profile Two, and none under One, where its budget is
-/// read as 0.
+/// The request that a telecommand carries. Refused as `Service` if the service is not 18, else as
+/// `Subtype` if the subtype is no request's, else as `Layout` if the data have another length than
+/// the request's fields, or a number is out of its range (ECSS-E-ST-70-41C, 8.18). An activation
+/// has a field for its budget under profile Two, and none under One, which reads the budget as 0.
 pub fn read_request<'a>(profile: Profile, tc: &Tc<'a>) -> Result<Request<'a>, RequestFault>
     ensures found { IfOk result
         (IsRequestData profile tc.now.service tc.now.subtype tc.now.payload) }
@@ -179,7 +178,7 @@ pub fn read_request<'a>(profile: Profile, tc: &Tc<'a>) -> Result<Request<'a>, Re
         result ≡ Ok request }
     ensures fault { IfErr result
         (HasRequestFault profile tc.now.service tc.now.subtype tc.now.payload) }
-    // The same as a function, for definitions that speak of requests by their octets.
+    // The same as a function, for definitions over the octets of requests.
     ensures reads { result ≡ request_of profile tc.now.service tc.now.subtype tc.now.payload }
 {
     let octets = tc.payload();

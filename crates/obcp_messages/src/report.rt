@@ -35,7 +35,7 @@ impl Model for PlainCode {
 }
 
 impl PlainCode {
-    /// This code, where it has no data.
+    /// This code, if it has no data.
     pub fn new(code: u16) -> Option<PlainCode>
         ensures value { IfSome result (λ plain. plain ≡ code) }
         ensures variant { IsSome result ↔ (code ≢ 18) }
@@ -55,7 +55,7 @@ impl PlainCode {
     }
 }
 
-/// Why a request was not started, as its report says it.
+/// Why a request was not started, as its report states it.
 #[derive(Clone, Copy)]
 pub enum StartFault {
     /// Code 18: the load fault of the code, and its slot.

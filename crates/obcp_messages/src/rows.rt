@@ -31,7 +31,7 @@ impl Model for StatusRows {
 impl StatusRows {
     ghost use Rattle.obcp_messages.specs.Rows.{IsRising};
 
-    /// These rows, where their identifiers rise.
+    /// These rows, if their identifiers rise.
     pub fn new(rows: ArrayVec<StatusRow, MAX_ROWS>) -> Option<StatusRows>
         ensures value { IfSome result (λ value. value ≡ rows.items) }
         ensures variant { IsSome result ↔ IsRising rows.items }

@@ -14,7 +14,7 @@ use arrayvec::ArrayVec;
 use ocp_profile::Profile;
 use std::alloc::{AllocError, Allocator};
 
-/// The budget of an activation, which profile Two alone has a field for.
+/// The budget of an activation, for which profile Two alone has a field.
 fn put_budget(profile: Profile, fields: &mut Fields, budget: u32)
     requires { array_vec_len fields.old + 4 ≤ MAX_FIELDS_LENGTH }
     ensures { fields.new.items ≡ fields.old.items ++ budget_data profile budget }
@@ -80,7 +80,7 @@ pub fn write_request<A: Allocator>(
         (out.new.items ≡ out.old.items ++ request_data profile request.now) }
     ensures laid_out { IsRequestData profile 18 (subtype_of request.now)
         (request_data profile request.now) request.now }
-    // It is refused only where the vector had to grow, and then the vector and its capacity stay.
+    // It is refused only if the vector had to grow; the vector and its capacity are then unchanged.
     ensures memory { OnErr result
         (vec_capacity out.old < vec_len out.old + length (request_data profile request.now)) }
     ensures err { OnErr result (out.new.items ≡ out.old.items) }
@@ -144,7 +144,7 @@ pub fn write_report<A: Allocator>(report: &Report, out: &mut Vec<u8, A>) -> Resu
     ensures written { OnOk result (out.new.items ≡ out.old.items ++ report_data report.now) }
     ensures laid_out { IsReportData (service_of report.now) (kind_of report.now)
         (report_data report.now) report.now }
-    // It is refused only where the vector had to grow, and then the vector and its capacity stay.
+    // It is refused only if the vector had to grow; the vector and its capacity are then unchanged.
     ensures memory { OnErr result
         (vec_capacity out.old < vec_len out.old + length (report_data report.now)) }
     ensures err { OnErr result (out.new.items ≡ out.old.items) }

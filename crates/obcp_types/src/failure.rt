@@ -66,7 +66,7 @@ pub enum StartFailure {
     StopPending,
     /// Code 25: the mailbox has no room for the words.
     MailboxFull,
-    /// Code 27: all places for pending and unreported completions are taken.
+    /// Code 27: no room is left for pending and unreported completions.
     OutboxFull,
 }
 

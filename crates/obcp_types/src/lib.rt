@@ -1,6 +1,6 @@
-//! What several crates say of a procedure and of a request for it: the status, why a request is not
-//! accepted, not started or not completed, with the failure codes of service 1 (ECSS-E-ST-70-41C,
-//! 6.1), and the completions that wait to be reported.
+//! Types about a procedure and a request for it that several crates share: the status, why a
+//! request is not accepted, not started or not completed, with the failure codes of service 1
+//! (ECSS-E-ST-70-41C, 6.1), and the completions that wait to be reported.
 #![tactic(auto)]
 
 mod failure;

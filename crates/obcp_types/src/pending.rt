@@ -4,10 +4,10 @@ use crate::CompletionFailure;
 use bitflags::Flags;
 use pus_fields::Ack;
 
-/// Where the completion of a pending stop or suspend goes: the request that asked for it.
+/// The request that asked for a pending stop or suspend, to whose source its completion goes.
 #[derive(Clone, Copy)]
 pub struct PendingOrigin {
-    /// How many accepted events were before that of the request.
+    /// The number of events that were accepted before that of the request.
     pub event: u64,
     /// The request's first four octets.
     pub request: [u8; 4],
@@ -18,7 +18,7 @@ pub struct PendingOrigin {
 }
 
 impl Default for PendingOrigin {
-    /// The place of one.
+    /// An empty one, for storage.
     fn default() -> Self {
         PendingOrigin {
             event: 0,
@@ -34,6 +34,6 @@ impl Default for PendingOrigin {
 pub struct Due {
     /// The request that is completed.
     pub origin: PendingOrigin,
-    /// Why it is not completed; none where it is.
+    /// Why it is not completed; `None` if it is.
     pub failure: Option<CompletionFailure>,
 }

@@ -20,7 +20,7 @@ PacketsAreWritten = (header : Primary) (payload : List ℕ) → IsHeader header 
 abbrev pub OnePacket : Type 0
 OnePacket = (p q : List ℕ) (header : Primary) (payload : List ℕ) → All IsOctet p → All IsOctet q → IsPacket p header payload → IsPacket q header payload → p ≡ q
 
--- the octets are those of the packet with this header, and this front of its data field, but for the error control
+-- the octets are those of the packet with this header, and this front of its data field, except the error control
 abbrev pub AreCovered : Primary → List ℕ → List ℕ → Type 0
 AreCovered header front xs = (control : ℕ) → packet_octets header (front ++ big_bytes 2 control) ≡ xs ++ big_bytes 2 control
 
@@ -29,7 +29,7 @@ take-two xs a b =
     let len : length (xs ++ a ∷ b ∷ []) - 2 ≡ length xs = omega (arith, length-append xs (a ∷ b ∷ [])) in
     ap (λ (n : ℕ). take n (xs ++ a ∷ b ∷ [])) len ∙ take-append_seam xs (a ∷ b ∷ [])
 
--- octets with their error control behind them are a packet
+-- octets followed by their error control are a packet
 pub controlled : (header : Primary) (front xs : List ℕ) → PacketsAreWritten → IsHeader header → length front ≤ 65534 → AreCovered header front xs → IsControlled (xs ++ big_bytes 2 (error_control xs)) header front
 controlled header front xs law range few e =
     let c = error_control xs in

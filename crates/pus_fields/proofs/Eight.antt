@@ -108,7 +108,7 @@ fed_divides (octet ∷ octets) s rest r e h =
 
 -- ---- what octets contribute
 
--- the remainders of octets, each with what stands behind it, summed up
+-- the sum of the remainders of octets, each with what follows it
 pub contribution : List ℕ → List Bool
 contribution [] = zeros 16
 contribution (octet ∷ octets) = sum_of (shifts (8 + 8 * length octets) (bits 8 octet ++ zeros 8)) (contribution octets)
@@ -235,7 +235,7 @@ eight (a ∷ b ∷ []) is = absurd (omega (arith, is))
 eight (a ∷ []) is = absurd (omega (arith, is))
 eight [] is = absurd (omega (arith, is))
 
--- the remainder of an octet with so many octets of zeros behind it
+-- the remainder of an octet followed by the given number of octets of zeros
 pub record IsRemainderOf (octet behind entry : ℕ) : Type 0 where
   pub is : bits 16 entry ≡ shifts (8 + 8 * behind) (bits 8 octet ++ zeros 8)
 

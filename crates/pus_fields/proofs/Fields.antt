@@ -43,7 +43,7 @@ two-lt (a ∷ b ∷ []) e h =
     let q : b < 256 = h 1 in
     omega arith
 
--- all behind a place is its part but for the last two octets, and these
+-- what follows k octets is its part except the last two octets, and these
 pub tail_split : (octets : List ℕ) (k : ℕ) → k + 2 ≤ length octets → AreOctets octets → drop k octets ≡ take (length octets - 2 - k) (drop k octets) ++ big_bytes 2 (last_two octets)
 tail_split octets k le h =
     let n = length octets - 2 - k in
@@ -64,7 +64,7 @@ last_two-is octets front c e lt =
     let last : drop (length octets - 2) octets ≡ big_bytes 2 c = ap (λ (n : ℕ). drop n octets) (sym place) ∙ sym (drop-drop (length front) 6 octets) ∙ ap (drop (length front)) e ∙ drop-append_seam front (big_bytes 2 c) in
     ap (big_number 2) last ∙ omega (arith, lt)
 
--- what stands between a place and the last two octets
+-- what is between the first k octets and the last two
 pub between-is : (field payload : List ℕ) (k c : ℕ) → drop k field ≡ payload ++ big_bytes 2 c → slice_range field k (length field - 2) ≡ payload
 between-is field payload k c f =
     let inner : length field - k ≡ length payload + 2 = sym (length-drop k field) ∙ ap length f ∙ length-append payload (big_bytes 2 c) in
@@ -77,7 +77,7 @@ packet-length octets header field p =
     let inner : length octets - 6 ≡ length field = sym (length-drop 6 octets) ∙ ap length p.remain in
     omega (arith, inner, p.data_length)
 
--- a data field behind a place is what stands there but for the last two octets, and these
+-- a data field after some octets is what is there except the last two octets, and these
 pub field_split : (octets : List ℕ) (header : Primary) (field : List ℕ) (k : ℕ) → IsPacket octets header field → k + 2 ≤ length field → AreOctets octets
     → drop k field ≡ slice_range field k (length field - 2) ++ big_bytes 2 (last_two octets)
 field_split octets header field k packet room h =

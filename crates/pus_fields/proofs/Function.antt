@@ -77,6 +77,6 @@ pub one_control : (octets : List ℕ) (a b : ℕ) → a < 2 ^ 16 → b < 2 ^ 16 
 unfolding IsErrorControl
 one_control octets a b p q h k = one_number 16 a b p q (one_remainder _ _ _ h k)
 
--- a number is the error control exactly where it is the function's
+-- a number is the error control if and only if it is the function's
 pub same_control : (octets : List ℕ) (a : ℕ) → a < 2 ^ 16 → IsErrorControl octets a → a ≡ error_control octets
 same_control octets a p h = one_control octets a (error_control octets) p (error_control-lt octets) h (error_control-is octets)

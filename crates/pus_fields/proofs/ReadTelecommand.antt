@@ -67,7 +67,7 @@ tc_is_read apid octets header field e tc h a p q =
     tc_ours apid octets (whole_header true tc.apid tc.count) said whole refl (eq-eqb tc.apid apid a)
     ∙ ap (λ (x : Option Rejection). unless_rejected octets x (telecommand_in tc.apid tc.count said)) sound ∙ ap Ok same
 
--- the first five octets of a data field are the secondary header that they say
+-- the first five octets of a data field are the secondary header that they spell
 sound_field : (a b c d e apid count control : ℕ) (rest : List ℕ) → AreOctets (a ∷ b ∷ c ∷ d ∷ e ∷ rest) → a / 2 ^ 4 ≡ 2
     → let field = a ∷ b ∷ c ∷ d ∷ e ∷ rest in
     let tc = telecommand_in apid count field in
@@ -91,7 +91,7 @@ whole_field : (field : List ℕ) (apid count control : ℕ) → 7 ≤ length fie
 whole_field (a ∷ b ∷ c ∷ d ∷ e ∷ rest) apid count control le h v r = sound_field a b c d e apid count control rest h v r
 whole_field _ apid count control le h v r = absurd (omega (arith, le))
 
--- a sound packet of this process is the telecommand that it says
+-- a sound packet of this process is the telecommand that it carries
 pub sound_is : (octets : List ℕ) (header : Primary) (field : List ℕ) → IsPacket octets header field → IsSound 7 octets header field → header.telecommand ≡ true → header.apid < 2047 → AreOctets octets
     → IsTelecommand octets (telecommand_in header.apid header.count field)
 sound_is octets header field packet sound t apid h =

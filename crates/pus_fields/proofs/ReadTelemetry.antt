@@ -109,7 +109,7 @@ four_of a b c d rest p q r s =
     let z : d ≡ n % 256 = omega arith in
     λ i. w i ∷ x i ∷ y i ∷ z i ∷ []
 
--- the first eleven octets of a data field are the secondary header that they say
+-- the first eleven octets of a data field are the secondary header that they spell
 sound_field : (o0 o1 o2 o3 o4 o5 o6 o7 o8 o9 o10 apid count control : ℕ) (rest : List ℕ)
     → let field = o0 ∷ o1 ∷ o2 ∷ o3 ∷ o4 ∷ o5 ∷ o6 ∷ o7 ∷ o8 ∷ o9 ∷ o10 ∷ rest in
     let tm = telemetry_in apid count field in
@@ -137,7 +137,7 @@ whole_field : (field : List ℕ) (apid count control : ℕ) → 13 ≤ length fi
 whole_field (o0 ∷ o1 ∷ o2 ∷ o3 ∷ o4 ∷ o5 ∷ o6 ∷ o7 ∷ o8 ∷ o9 ∷ o10 ∷ rest) apid count control le h v s m r = sound_field o0 o1 o2 o3 o4 o5 o6 o7 o8 o9 o10 apid count control rest h v s m r
 whole_field _ apid count control le h v s m r = absurd (omega (arith, le))
 
--- a sound packet in the profile is the telemetry that it says
+-- a sound packet in the profile is the telemetry that it carries
 pub sound_tm_is : (octets : List ℕ) (header : Primary) (field : List ℕ) → IsPacket octets header field → IsSound 13 octets header field → header.telecommand ≡ false
     → slice_index field 0 % 2 ^ 4 ≡ 0 → big_number 2 (drop 3 field) ≡ 0 → AreOctets octets
     → IsTelemetry octets (telemetry_in header.apid header.count field)

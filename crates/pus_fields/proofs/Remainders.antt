@@ -16,7 +16,7 @@ are_same [] (b ∷ q) = false
 are_same (a ∷ p) [] = false
 are_same (a ∷ p) (b ∷ q) = cond (same_bit a b) (are_same p q) false
 
--- each entry is so many steps from its octet
+-- each entry is eight steps from its octet
 is_first_row : ℕ → List ℕ → Bool
 is_first_row k [] = true
 is_first_row k (e ∷ es) = cond (are_same (bits 16 e) (shifts 8 (bits 8 k ++ zeros 8))) (is_first_row (suc k) es) false
@@ -40,7 +40,7 @@ checked : are_rows REMAINDERS ≡ true
 unfolding are_rows are_next_rows is_next_row is_first_row are_same same_bit shifts
 checked = refl
 
--- ---- what the check says of an entry
+-- ---- what the check states about an entry
 
 both : (b c : Bool) → cond b c false ≡ true → (b ≡ true) × (c ≡ true)
 both true c h = (refl, h)

@@ -32,7 +32,7 @@ pub telemetry_octets-is : (tm : Telemetry) → PacketsAreWritten → IsTelemetry
 unfolding telemetry_octets
 telemetry_octets-is tm law r h = record { in_range = r; controlled = controlled _ _ (telemetry_covered tm) law (r.apid, r.count) (omega (arith, h)) (telemetry_words tm) }
 
--- the octets and their error control, behind others
+-- the octets and their error control, after others
 appended : (old reserved new mid xs : List ℕ) (start : ℕ) → reserved ≡ old → start ≡ length reserved → mid ≡ reserved ++ xs
     → new ≡ mid ++ big_bytes 2 (error_control (drop start mid)) → new ≡ old ++ (xs ++ big_bytes 2 (error_control xs))
 appended old reserved new mid xs start r s e f =

@@ -17,8 +17,8 @@ whole_header telecommand apid count = record {
   count = count;
 }
 
--- the octets are the packet with this header whose data field is these octets in front, and the
--- error control of all octets before it
+-- the octets are the packet with this header whose data field is `front`, followed by the error
+-- control of all octets before it
 pub record IsControlled (octets : List ℕ) (header : Primary) (front : List ℕ) : Type 0 where
   pub control : ℕ
   pub control_fits : control < 2 ^ 16

@@ -10,7 +10,7 @@ plus false b = b
 plus true false = true
 plus true true = false
 
--- the sum of two polynomials of as many coefficients
+-- the sum of two polynomials with the same number of coefficients
 abbrev pub sum_of : List Bool → List Bool → List Bool
 sum_of [] q = []
 sum_of (a ∷ p) [] = []

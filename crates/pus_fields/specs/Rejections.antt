@@ -21,7 +21,7 @@ last_two octets = big_number 2 (drop (length octets - 2) octets)
 abbrev pub HasErrorControl : List ℕ → Type 0
 HasErrorControl octets = IsErrorControl (covered_octets octets) (last_two octets)
 
--- the packet is unsegmented, has a secondary header, and its data field has at least so many octets
+-- the packet is unsegmented, has a secondary header, and its data field has at least `least` octets
 pub record IsWhole (least : ℕ) (header : Primary) (field : List ℕ) : Type 0 where
   pub unsegmented : header.flags ≡ Unsegmented
   pub secondary : header.secondary ≡ true

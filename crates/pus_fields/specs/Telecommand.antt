@@ -7,7 +7,7 @@ use Rattle.pus_fields.specs.Acknowledgement.{flags_of}
 use Rattle.pus_fields.specs.Controlled.{IsControlled, whole_header}
 use Rattle.pus_fields.specs.ErrorControl.{error_control}
 
--- what a telecommand packet says
+-- what a telecommand packet carries
 pub record Telecommand : Type 0 where
   pub apid : ℕ
   pub count : ℕ

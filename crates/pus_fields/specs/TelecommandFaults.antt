@@ -36,7 +36,7 @@ discard_of packet.Short = Short
 discard_of packet.Version = Version
 discard_of packet.Length = Length
 
--- what a sound packet says, by its application process identifier, sequence count and data field
+-- what a sound packet carries, by its application process identifier, sequence count and data field
 abbrev pub telecommand_in : ℕ → ℕ → List ℕ → Telecommand
 telecommand_in apid count field = record {
   apid = apid;

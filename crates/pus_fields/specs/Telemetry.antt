@@ -4,7 +4,7 @@ use Rattle.byteorder.specs.Endian.{big_bytes}
 use Rattle.pus_fields.specs.Controlled.{IsControlled, whole_header}
 use Rattle.pus_fields.specs.ErrorControl.{error_control}
 
--- what a telemetry packet says; the time is in whole seconds
+-- what a telemetry packet carries; the time is in whole seconds
 pub record Telemetry : Type 0 where
   pub apid : ℕ
   pub count : ℕ

@@ -38,7 +38,7 @@ HasTmFault octets NotProfile = IsPacketWith octets (λ header field.
 
 -- ---- the same as a function
 
--- what a sound packet says, by its application process identifier, sequence count and data field
+-- what a sound packet carries, by its application process identifier, sequence count and data field
 abbrev pub telemetry_in : ℕ → ℕ → List ℕ → Telemetry
 telemetry_in apid count field = record {
   apid = apid;

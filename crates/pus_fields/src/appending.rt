@@ -1,4 +1,4 @@
-//! Appending the error control where room was reserved.
+//! Appending the error control to a vector with room for it.
 
 ghost use Rattle.std.specs.Prelude.{◌≡◌, ◌≤◌, ◌+◌, ◌++◌, drop, vec_len, vec_capacity};
 ghost use Rattle.byteorder.specs.Endian.{big_bytes};

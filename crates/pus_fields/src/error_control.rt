@@ -24,7 +24,7 @@ fn register_after_bit(register: u16) -> u16
 
 /// The register after an octet.
 fn register_after_octet(register: u16, octet: u8) -> u16
-    // Whatever remainder the rest of a message then gives is that of the octet and the rest.
+    // The remainder that the rest of a message then gives is that of the octet and the rest.
     ensures { (rest remainder : List Bool) →
         IsRemainder (dividend (bits 16 result) rest) remainder →
         IsRemainder (dividend (bits 16 register) (bits 8 octet ++ rest)) remainder }
@@ -36,7 +36,7 @@ fn register_after_octet(register: u16, octet: u8) -> u16
     next
 }
 
-/// The remainder of an octet with so many octets of zeros and 16 zero bits behind it.
+/// The remainder of an octet followed by the given number of octets of zeros and 16 zero bits.
 #[inline(always)]
 fn remainder(octet: u8, zeros: usize) -> u16
     requires { zeros < 8 }
@@ -66,7 +66,7 @@ fn register_after_eight(register: u16, octets: &[u8; 8]) -> u16
         ^ remainder(first, 7)
 }
 
-/// The register after so many octets as there are.
+/// The register after all the octets.
 fn register_after_octets(register: u16, octets: &[u8]) -> u16
     ensures { (remainder : List Bool) →
         IsRemainder (dividend (bits 16 result) []) remainder →
@@ -80,7 +80,7 @@ fn register_after_octets(register: u16, octets: &[u8]) -> u16
 }
 
 /// The error control of the octets (ECSS-E-ST-70-41C, annex B): the remainder of the polynomial of
-/// their bits, with 16 zeros behind and the first 16 inverted, by x^16 + x^12 + x^5 + 1.
+/// their bits, followed by 16 zeros, the first 16 inverted, by x^16 + x^12 + x^5 + 1.
 pub fn crc16(octets: &[u8]) -> u16
     ensures check { IsErrorControl octets.now result }
     ensures value { result ≡ error_control octets.now }

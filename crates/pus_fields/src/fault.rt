@@ -7,14 +7,14 @@ ghost use Rattle.pus_fields.specs.TelemetryFaults.{fault_of, fault_of_packet};
 
 use space_packet::PacketFault;
 
-/// Why octets are discarded, with no report. They come in this order.
+/// Why octets are discarded, without a report, in the order in which faults are looked for.
 #[derive(Clone, Copy, Debug, PartialEq, Eq)]
 pub enum Discard {
     /// There are fewer than 7 octets.
     Short,
     /// The packet version number is not 0.
     Version,
-    /// The data field is not as long as the header says.
+    /// The length of the data field is not the one in the header.
     Length,
     /// The packet is telemetry.
     NotTelecommand,
@@ -22,7 +22,8 @@ pub enum Discard {
     OtherApid,
 }
 
-/// Why a telecommand is not accepted, which its sender is told. They come in this order.
+/// Why a telecommand is not accepted, in the order in which faults are looked for. Its sender gets
+/// a report.
 #[derive(Clone, Copy, Debug, PartialEq, Eq)]
 pub enum Rejection {
     /// The sequence flags are not 11, unsegmented.
@@ -41,9 +42,9 @@ pub enum Rejection {
 /// before each rejection.
 #[derive(Clone, Copy, Debug, PartialEq, Eq)]
 pub enum TcFault {
-    /// Nobody is told.
+    /// The sender gets no report.
     Discarded(Discard),
-    /// The sender is told, with the request identifier: the first four octets of the packet.
+    /// The sender gets a report with the request identifier: the first four octets of the packet.
     Rejected(Rejection, [u8; 4]),
 }
 
@@ -54,7 +55,7 @@ pub enum TmFault {
     Short,
     /// The packet version number is not 0.
     Version,
-    /// The data field is not as long as the header says.
+    /// The length of the data field is not the one in the header.
     Length,
     /// The packet is a telecommand.
     NotTelemetry,

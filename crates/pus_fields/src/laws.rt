@@ -1,5 +1,5 @@
 //! Laws of the packet relations: a telecommand has one packet, and what is written for it is read
-//! back; the same of telemetry.
+//! back. The same holds for telemetry.
 
 ghost use Rattle.std.specs.Prelude.{◌≡◌, ◌≤◌, ℕ, List, All, Ok, length};
 ghost use Rattle.space_packet.specs.Packet.{IsOctet};

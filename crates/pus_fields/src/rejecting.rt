@@ -12,7 +12,7 @@ use space_packet::{Primary, SequenceFlags};
 /// The version number of a secondary header.
 const PUS_VERSION: u8 = 2;
 
-/// Why the packet with this header and this data field of at least so many octets is rejected.
+/// Why the packet with this header and this data field, which needs `least` octets, is rejected.
 pub(crate) fn rejection(
     least: usize,
     octets: &[u8],

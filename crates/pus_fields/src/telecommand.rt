@@ -50,8 +50,8 @@ impl<'a> Model for Tc<'a> {
 }
 
 impl<'a> Tc<'a> {
-    /// A telecommand, where the identifier is not that of idle packets, 2,047, and there are no
-    /// other acknowledgement flags than the four.
+    /// A telecommand, if the identifier is not 2,047, that of idle packets, and there are no
+    /// acknowledgement flags other than the four.
     pub fn new(
         apid: Apid,
         count: SequenceCount,

@@ -23,15 +23,15 @@ pub const MAX_TELECOMMAND_DATA: usize = 65_529;
 pub const MAX_TELEMETRY_DATA: usize = 65_523;
 
 /// Appends the packet of a telecommand (CCSDS 133.0-B, 4.1; ECSS-E-ST-70-41C, 7.4.4): 13 octets
-/// more than its payload has. It is refused, with the vector and its capacity as they were, where
-/// 1. the payload has over 65,529 octets; 2. memory runs out. The capacity never shrinks.
+/// more than its payload has. Refused, with the vector and its capacity unchanged, if 1. the
+/// payload has over 65,529 octets; 2. memory runs out. The capacity never shrinks.
 pub fn write_tc<A: Allocator>(tc: &Tc, out: &mut Vec<u8, A>) -> Result<(), WriteFault>
     ensures written { OnOk result ((packet : List ℕ) × IsTelecommand packet tc.now
         × (out.new.items ≡ out.old.items ++ packet)) }
     ensures octets { OnOk result (out.new.items ≡ out.old.items ++ telecommand_octets tc.now) }
     ensures too_long { IsErrOf result WriteFault.TooLong ↔
         (MAX_TELECOMMAND_DATA < length tc.now.payload) }
-    // Memory is answered only where the vector had to grow.
+    // Memory is answered only if the vector had to grow.
     ensures memory { IsErrOf result WriteFault.Memory →
         vec_capacity out.old < vec_len out.old + (13 + length tc.now.payload) }
     ensures err { OnErr result (out.new.items ≡ out.old.items) }
@@ -58,15 +58,15 @@ pub fn write_tc<A: Allocator>(tc: &Tc, out: &mut Vec<u8, A>) -> Result<(), Write
 }
 
 /// Appends the packet of telemetry (CCSDS 133.0-B, 4.1; ECSS-E-ST-70-41C, 7.4.3): 19 octets more
-/// than its payload has. It is refused, with the vector and its capacity as they were, where 1. the
-/// payload has over 65,523 octets; 2. memory runs out. The capacity never shrinks.
+/// than its payload has. Refused, with the vector and its capacity unchanged, if 1. the payload has
+/// over 65,523 octets; 2. memory runs out. The capacity never shrinks.
 pub fn write_tm<A: Allocator>(tm: &Tm, out: &mut Vec<u8, A>) -> Result<(), WriteFault>
     ensures written { OnOk result ((packet : List ℕ) × IsTelemetry packet tm.now
         × (out.new.items ≡ out.old.items ++ packet)) }
     ensures octets { OnOk result (out.new.items ≡ out.old.items ++ telemetry_octets tm.now) }
     ensures too_long { IsErrOf result WriteFault.TooLong ↔
         (MAX_TELEMETRY_DATA < length tm.now.payload) }
-    // Memory is answered only where the vector had to grow.
+    // Memory is answered only if the vector had to grow.
     ensures memory { IsErrOf result WriteFault.Memory →
         vec_capacity out.old < vec_len out.old + (19 + length tm.now.payload) }
     ensures err { OnErr result (out.new.items ≡ out.old.items) }

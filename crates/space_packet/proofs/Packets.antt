@@ -47,7 +47,7 @@ same_digits (o ∷ os) (r ∷ rs) n m a b l e =
     let digit : o ≡ r = omega (arith, rest.0, low, below) in
     (high, λ i. digit i ∷ rest.1 i)
 
--- the least number that k more octets behind a number below `bound` can't reach
+-- the least number that a number below `bound` with k more octets after it can't reach
 abbrev bound_after : ℕ → ℕ → ℕ
 bound_after zero bound = bound
 bound_after (suc k) bound = bound_after k (bound * 256)

@@ -7,7 +7,7 @@ pub enum PacketFault {
     Short,
     /// The packet version number is not 0 (CCSDS 133.0-B, packet version number).
     Version,
-    /// The octets after the header are not as many as its packet data length says.
+    /// The number of octets after the header is not the one that its packet data length gives.
     Length,
 }
 

@@ -1,6 +1,6 @@
-//! Laws of the packet relation, which say what `read` and `write` are to each other: a packet that
-//! was written is read back as the header and data field that it was written from, and a packet
-//! that was read is written again octet for octet.
+//! Laws of the packet relation, which relate `read` and `write`. A written packet is read back as
+//! the header and the data field that it was written from. A packet that was read is written again
+//! octet for octet.
 
 ghost use Rattle.std.specs.Prelude.{◌≡◌, ◌≤◌, ℕ, List, All, length};
 ghost use Rattle.space_packet.specs.Packet.{IsPacket, IsHeader, IsOctet, packet_octets};

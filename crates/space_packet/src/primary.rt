@@ -5,7 +5,7 @@ ghost use Rattle.space_packet.specs.Packet.{flags_number};
 
 use crate::range::{Apid, SequenceCount};
 
-/// How the data field of a packet stands among the segments of a group (CCSDS 133.0-B, sequence
+/// The position of a packet's data field among the segments of a group (CCSDS 133.0-B, sequence
 /// flags).
 #[derive(Clone, Copy, PartialEq, Eq, Debug)]
 pub enum SequenceFlags {
@@ -19,11 +19,11 @@ pub enum SequenceFlags {
     Unsegmented,
 }
 
-/// The fields of a primary header (CCSDS 133.0-B, packet primary header) but for the version
+/// The fields of a primary header (CCSDS 133.0-B, packet primary header) except the version
 /// number, which is 0, and the packet data length, which the data field gives.
 #[derive(Clone, Copy, PartialEq, Eq, Debug)]
 pub struct Primary {
-    /// The packet type: a telecommand, else telemetry.
+    /// The packet type: true for a telecommand, false for telemetry.
     pub telecommand: bool,
     /// Whether the data field begins with a secondary header.
     pub secondary: bool,

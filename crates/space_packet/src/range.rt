@@ -32,7 +32,7 @@ impl Model for Apid {
 }
 
 impl Apid {
-    /// The identifier of this number, where the number is below 2,048.
+    /// The identifier of this number, if the number is below 2,048.
     pub fn new(number: u16) -> Option<Self>
         ensures { SomeIff result (number < APIDS) number }
     {
@@ -68,7 +68,7 @@ impl Model for SequenceCount {
 }
 
 impl SequenceCount {
-    /// The count of this number, where the number is below 16,384.
+    /// The count of this number, if the number is below 16,384.
     pub fn new(number: u16) -> Option<Self>
         ensures { SomeIff result (number < SEQUENCE_COUNTS) number }
     {

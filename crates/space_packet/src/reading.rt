@@ -13,8 +13,8 @@ pub const HEADER_LENGTH: usize = 6;
 
 /// The header of the packet that these octets are, and its data field: all octets after the header.
 ///
-/// Refusals, in this order: `Short` (under 7 octets), `Version` (not 0), `Length` (the octets are
-/// not exactly as many as the header says).
+/// Refusals, in this order: `Short` (under 7 octets), `Version` (not 0), `Length` (the number of
+/// octets is not the one that the header gives).
 pub fn read(octets: &[u8]) -> Result<(Primary, &[u8]), PacketFault>
     ensures ok { IfOk result (λ found. IsPacket octets.now found.0 found.1.now) }
     ensures only { (header : Primary) (payload : List ℕ) → IsPacket octets.now header payload →

@@ -27,7 +27,7 @@ pub fn write<A: Allocator>(
         (out.new.items ≡ out.old.items ++ packet_octets header.now payload.now) }
     ensures no_data { IsErrOf result WriteFault.NoData ↔ (payload.now ≡ []) }
     ensures too_long { IsErrOf result WriteFault.TooLong ↔ (MAX_DATA_LENGTH < length payload.now) }
-    // Memory is answered only where the vector had to grow.
+    // Memory is answered only if the vector had to grow.
     ensures memory { IsErrOf result WriteFault.Memory →
         vec_capacity out.old < vec_len out.old + (HEADER_LENGTH + length payload.now) }
     ensures err { OnErr result (out.new.items ≡ out.old.items) }

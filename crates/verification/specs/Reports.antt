@@ -1,4 +1,4 @@
--- The reports that one request gives, and that of its completion where it comes later
+-- The reports that one request gives, and that of its completion if it comes later
 -- (ECSS-E-ST-70-41C, 6.1).
 use Rattle.std.specs.Prelude.{Bool, ◌/◌, ◌%◌, ◌==◌, if◌then◌else◌, List, [], ◌∷◌, ◌++◌, Option, Some, None}
 use Rattle.obcp_types.specs.declared.failure.CompletionFailure.{CompletionFailure}
@@ -20,11 +20,11 @@ wants_start ack = flags_of ack / 2 % 2 == 1
 abbrev pub wants_completion : Ack → Bool
 wants_completion ack = flags_of ack / 8 % 2 == 1
 
--- a report of success, where it is asked for
+-- a report of success, if it is asked for
 abbrev pub optional_report : Bool → Notice → List Notice
 optional_report wanted notice = if wanted then notice ∷ [] else []
 
--- acceptance, start, the answer's place and completion; a failed acceptance or start is sent
+-- acceptance, start, the answer's position and completion; a failed acceptance or start is sent
 -- whatever the flags are, and ends the list
 abbrev pub reports_of_outcome : Ack → Outcome → List Notice
 reports_of_outcome ack (O.Refused failure) = NotAccepted failure ∷ []

@@ -32,8 +32,8 @@ pub fn is_completion_asked(ack: Ack) -> bool
     ack.contains(Ack::COMPLETION)
 }
 
-/// The reports of a request, in the order in which they are sent: acceptance, start, the place of
-/// the answer report, completion. A report of success is sent where its acknowledgement flag is
+/// The reports of a request, in the order in which they are sent: acceptance, start, the position
+/// of the answer report, completion. A report of success is sent if its acknowledgement flag is
 /// set. A failed acceptance or start is sent whatever the flags are, and ends the list. The
 /// progress flag has no effect (ECSS-E-ST-70-41C, 6.1).
 pub fn notices(ack: Ack, outcome: &Outcome) -> NoticeList
@@ -57,8 +57,8 @@ pub fn notices(ack: Ack, outcome: &Outcome) -> NoticeList
     list
 }
 
-/// The report of a completion that comes after its request. One that failed is reported whatever
-/// the flags are, and one that did not where its flag is set (ECSS-E-ST-70-41C, 6.1.5).
+/// The report of a completion that comes after its request. A failed one is reported whatever the
+/// flags are, a successful one if its flag is set (ECSS-E-ST-70-41C, 6.1.5).
 pub fn completion(ack: Ack, failure: Option<CompletionFailure>) -> Option<Notice>
     ensures { result ≡ completion ack failure }
 {

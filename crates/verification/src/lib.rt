@@ -1,5 +1,5 @@
-//! Which verification reports a request gives, and which its completion that comes later (service 1
-//! of ECSS-E-ST-70-41C).
+//! Which verification reports a request gives, and which its completion gives if it comes later
+//! (service 1 of ECSS-E-ST-70-41C).
 #![tactic(auto)]
 
 mod choosing;

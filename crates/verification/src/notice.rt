@@ -6,7 +6,7 @@ use arrayvec::ArrayVec;
 use obcp_types::{AcceptanceFailure, CompletionFailure, StartFailure};
 use std::marker::Model;
 
-/// A report to send, or the place of one.
+/// A report to send, or the position of the answer report.
 #[derive(Clone, Copy, Debug, Default)]
 pub enum Notice {
     /// Successful acceptance: service 1, subtype 1.
@@ -17,7 +17,7 @@ pub enum Notice {
     Started,
     /// Failed start: subtype 4.
     NotStarted(StartFailure),
-    /// The place of the report that answers the request, where it has one.
+    /// The position of the report that answers the request, if it has one.
     #[default]
     Answer,
     /// Successful completion: subtype 7.
@@ -26,7 +26,7 @@ pub enum Notice {
     NotCompleted(CompletionFailure),
 }
 
-/// The reports of one request: at most three and the place of the answer report, in their order.
+/// The reports of one request: at most three and the position of the answer report, in their order.
 #[derive(Drop)]
 pub struct NoticeList {
     notices: ArrayVec<Notice, 4>,
@@ -60,7 +60,7 @@ impl NoticeList {
         self.notices.push(notice);
     }
 
-    /// Adds a notice at the end, where it is wanted.
+    /// Adds a notice at the end, if it is wanted.
     pub(crate) fn add_if(&mut self, wanted: bool, notice: Notice)
         requires { length self.old < 4 }
         ensures { self.new ≡ self.old ++ optional_report wanted notice }

@@ -9,7 +9,7 @@ pub enum Outcome {
     Refused(AcceptanceFailure),
     /// It is accepted, and not started. The failure has its code and the code's data.
     NotStarted(StartFailure),
-    /// It is accepted and started. Whether it is completed shows later.
+    /// It is accepted and started. Whether it is completed is known later.
     Started,
     /// It is accepted, started and completed.
     Done,

@@ -42,13 +42,13 @@ status_at code =
     else (if code == 2 then Some Held
     else None))
 
--- a row before the others, where its status is one and they are rows
+-- a row before the others, if its status is one and they are rows
 abbrev pub row_and : ℕ → Option Status → Option (List StatusRow) → Option (List StatusRow)
 row_and id None rows = None
 row_and id (Some status) None = None
 row_and id (Some status) (Some rows) = Some (record { id = id; status = status } ∷ rows)
 
--- so many rows, where each status is one
+-- n rows, if each status is one
 abbrev pub rows_in : ℕ → List ℕ → Option (List StatusRow)
 rows_in zero octets = Some []
 rows_in (suc n) octets =
@@ -70,7 +70,7 @@ abbrev pub status_report : Option (List StatusRow) → Result Report ReportFault
 status_report None = Err Layout
 status_report (Some rows) = ordered_rows rows
 
--- a number up to 16, and as many rows
+-- a number up to 16, and that number of rows
 abbrev pub with_rows : List ℕ → Result Report ReportFault
 with_rows octets =
     let count = slice_index octets 0 in

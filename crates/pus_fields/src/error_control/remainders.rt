@@ -1,6 +1,6 @@
 //! Remainders of single octets by x^16 + x^12 + x^5 + 1.
 
-/// In row j, of each octet with j octets of zeros and 16 zero bits behind it.
+/// Row j has the remainder of each octet followed by j octets of zeros and 16 zero bits.
 pub(super) static REMAINDERS: [[u16; 256]; 8] = [
     [
         0x0000, 0x1021, 0x2042, 0x3063, 0x4084, 0x50a5, 0x60c6, 0x70e7, 0x8108, 0x9129, 0xa14a,
