@@ -92,7 +92,7 @@ reported_fault profile text rows octets (load.BadCall slot) f t e first is = of_
 reported_fault profile text rows octets (load.BadTarget slot) f t e first is = of_slot profile text rows octets (load.BadTarget slot) f t (λ n h. h) (λ x. cc) first.0 (e, first) is
 reported_fault profile text rows octets (load.FallsOffEnd slot) f t e first is = of_slot profile text rows octets (load.FallsOffEnd slot) f t (λ n h. h) (λ x. cc) first.0 (e, first) is
 
--- what the loader said, as it is reported
+-- the loader's answer, as it is reported
 pub judged_fault : (profile : Profile) (text : List ℕ) (rows : List Row) (octets : List ℕ) {V : Type 0} (judged : Result V LoadFault) (result : Result V AsmFault) → ArePassed text rows octets
     → IfErr judged (λ fault. (fault ≡ load.Memory) ⊎ (load_result profile octets ≡ Err fault)) → IfErr judged (IsFirstFault profile octets) → Reports (map entry rows) judged result → IfErr result (IsFaultOf profile text)
 judged_fault profile text rows octets {V} (Ok v) result t e first is = subst (λ (r : Result V AsmFault). IfErr r (IsFaultOf profile text)) (sym is) tt

@@ -25,11 +25,11 @@ first_of l ls h = h 0 l (omega arith)
 rest_of : (l : Line) (ls : List Line) → All IsLine (l ∷ ls) → All IsLine ls
 rest_of l ls h = λ k d lt. h (suc k) d (omega arith)
 
--- what the law of bpf_canonical says of canonical texts
+-- what the law of bpf_canonical states about canonical texts
 abbrev pub AreTexts : Type 0
 AreTexts = (l : Line) → IsLine l → IsTrue (list_all is_text_octet (canonical l))
 
--- and what that of bpf_text says of them
+-- and what that of bpf_text states about them
 abbrev pub AreWritten : Type 0
 AreWritten = (l : Line) → IsLine l → Writes (canonical l) (alone l)
 

@@ -12,7 +12,7 @@ use Rattle.text_lines.specs.Lines.{line_texts}
 use Rattle.bpf_assembler.specs.Text.{EachWritten, label_place, has_label, slots, end_of, IsNew, AreDistinct, entry_of, entries_of, with_distance, with_target, IsInstruction, AreInstructions, IsWritten}
 use Rattle.bpf_assembler.specs.Labels.{and_then, statements, IsLabelAt, IsMeantBy}
 
--- what the law of the loader says of places
+-- what the law of the loader states about places
 abbrev pub AreCounted : Type 0
 AreCounted = (before : List Line) → place_of before ≡ length (by_slot before)
 
@@ -62,7 +62,7 @@ found_at name p to (w ∷ ws) h = by_test (has_label name w.label) refl (found_a
     by_test true e ih h = ([], w, ws, refl, named w.label e, (let q : to ≡ p = cc in q))
     by_test false e ih h = let q = ih h in (w ∷ q.0, q.1, q.2, ap (λ (vs : List TextLine). w ∷ vs) q.3, q.4, q.5)
 
--- a later label is new behind the lines before it
+-- a later label is new after the lines before it
 new_at : (done before after : List TextLine) (w : TextLine) → AreDistinct done (before ++ w ∷ after) → IsNew w.label (done ++ before)
 new_at done [] after w d = subst (IsNew w.label) (sym (append-nil done)) d.0
 new_at done (v ∷ before) after w d = subst (IsNew w.label) (append_assoc done (v ∷ []) before) (new_at (done ++ v ∷ []) before after w d.1)

@@ -12,7 +12,7 @@ use Rattle.bpf_assembler.specs.declared.fault.Why.{Why}
 use Rattle.bpf_assembler.specs.declared.fault.AsmFault.{AsmFault}
 use Rattle.bpf_assembler.specs.declared.fault.AsmFault.TheVariants.{Memory, At}
 
--- what the laws say of meanings and faults
+-- what the laws state about meanings and faults
 abbrev pub AreMeantOnce : Type 0
 AreMeantOnce = (text : List ℕ) (a b : List Line) → Means text a → Means text b → a ≡ b
 
@@ -34,7 +34,7 @@ pub lines_meant : (profile : Profile) → AreMeantOnce → (text : List ℕ) (r 
 lines_meant profile meaning text (Ok v) m lines h = subst (IsAdmittedAs profile v) (meaning text m.lines lines m.means h) m.admitted
 lines_meant profile meaning text (Err f) m lines h = tt
 
--- where a text has an image, that is the answer
+-- if a text has an image, that is the answer
 pub only_image : (profile : Profile) → AreMeantOnce → AreSound profile → (text : List ℕ) (r : Result (List ℕ) AsmFault) → IfOk r (IsImageOfText profile text) → IfErr r (IsFaultOf profile text) → (image : List ℕ) → IsImageOfText profile text image → (r ≡ Err Memory) ⊎ (r ≡ Ok image)
 only_image profile meaning sound text (Ok v) m f image h = inr (ap Ok (one_image profile meaning text v image m h))
 only_image profile meaning sound text (Err Memory) m f image h = inl refl
@@ -45,7 +45,7 @@ pub only_memory : (profile : Profile) → AreSound profile → (text : List ℕ)
 only_memory profile sound text Memory k image h = refl
 only_memory profile sound text (At number y) k image h = absurd (image_or_fault profile sound text image number y h k)
 
--- where it has a fault, that is
+-- if it has a fault, that is
 pub only_fault : (profile : Profile) → AreFaultyOnce profile → AreSound profile → (text : List ℕ) (r : Result (List ℕ) AsmFault) → IfOk r (IsImageOfText profile text) → IfErr r (IsFaultOf profile text) → (line : ℕ) (why : Why) → IsFault profile text line why → (r ≡ Err Memory) ⊎ (r ≡ Err (At line why))
 only_fault profile fault sound text (Ok v) m f line why h = absurd (image_or_fault profile sound text v line why m h)
 only_fault profile fault sound text (Err Memory) m f line why h = inl refl

@@ -50,7 +50,7 @@ new_label m n ws label place body known at none put name = put name ∙ by (byte
         rw e (ap Some at ∙ sym (place_after name 0 ws (record { label = Some label; body = body }) (subst (λ (t : List ℕ). label_place t 0 ws ≡ None) same none) ∙ ap (λ (b : Bool). cond b (Some (end_of 0 ws)) None) e))
     by false e = rw e (known name ∙ other_label name ws (record { label = Some label; body = body }) e (label_place name 0 ws) refl)
 
--- a label that is put: it is new where it had no place
+-- a label that is put: it is new if it had no place
 pub label_put : (m n : BTreeMap (Bor (List ℕ)) ℕ) (ws : List TextLine) (label : List ℕ) (place : ℕ) (old : Option ℕ) (new : Bool) → AreLabels m ws → place ≡ end_of 0 ws → old ≡ label_at m label → is_some old ≡ not new
     → ((q : List ℕ) → label_at n q ≡ cond (bytes_eq label q) (Some place) (label_at m q)) → PutsLabel (Some label) n ws (Ok new)
 label_put m n ws label place None true known at had is put =

@@ -311,7 +311,7 @@ all_in_range all (t ∷ ts) [] number place h ls is = absurd h
 all_in_range all (t ∷ ts) (w ∷ ws) number place h ls is =
     by_body all number place w.body (entries_of (number + 1) (place + slots w.body) ws) ls h.1 is (all_in_range all ts ws (number + 1) (place + slots w.body) h.2)
 
--- what the laws of images say
+-- what the laws of images state
 abbrev pub MayBeRunOf : Profile → Type 0
 MayBeRunOf profile = (image : List ℕ) (instructions : List Line) (lines : List (Option Line)) → IsImageOf image instructions → load_result profile image ≡ Ok lines → IsAdmitted profile image
 
@@ -352,6 +352,6 @@ all_read profile may one text rest e (inl t) =
     } in
     of_written profile may one text t.written w (all_entries t.written 1 0 (line_texts text) t.written w.each)
 
--- what the law of meanings and faults says of images that may be run
+-- what the law of meanings and faults states about images that may be run
 pub no_fault : (profile : Profile) → AreSound profile → (text : List ℕ) → HasMeaning profile text → HasSomeFault profile text → ⊥
 no_fault profile sound text m f = image_or_fault profile sound text m.0 f.line f.why m.1 f.fault

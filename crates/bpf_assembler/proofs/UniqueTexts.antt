@@ -17,7 +17,7 @@ use Rattle.bpf_assembler.specs.Faults.{HasFault, HasLineFault, MissesLabel, IsFi
 use Rattle.bpf_assembler.specs.declared.fault.Why.{Why}
 use Rattle.bpf_assembler.specs.declared.fault.Why.TheVariants as why
 
--- what the law of bpf_text says of lines of text
+-- what the law of bpf_text states about lines of text
 abbrev pub AreReadOnce : Type 0
 AreReadOnce = (text : List ℕ) (w v : TextLine) → Writes text w → InRange w.body → Writes text v → w ≡ v
 

@@ -17,7 +17,7 @@ use Rattle.bpf_assembler.specs.declared.fault.Why.TheVariants as why
 
 -- ---- faults of a line by itself, and by the labels before it
 
--- the fault of a line behind others
+-- the fault of a line after others
 abbrev pub HasFault : List TextLine → List ℕ → Why → Type 0
 HasFault before line why.Syntax = (w : TextLine) → ¬ Writes line w
 HasFault before line why.Range = (w : TextLine) × Writes line w × ¬ InRange w.body
@@ -38,7 +38,7 @@ pub record HasLineFault (text : List ℕ) (number : ℕ) (y : Why) : Type 0 wher
   pub distinct : AreDistinct [] lines
   pub fault : HasFault lines line y
 
--- ---- faults of the names in instructions, where no line has one of those
+-- ---- faults of the names in instructions, if no line has one of those
 
 -- the instruction names a label that is none, or one that is too far
 abbrev pub MissesLabel : List TextLine → ℕ → Line → Option (List ℕ) → Why → Type 0
@@ -64,7 +64,7 @@ pub record HasNameFault (text : List ℕ) (number : ℕ) (y : Why) : Type 0 wher
   pub written : IsWritten text lines
   pub first : IsFirstMiss lines (entries_of 1 0 lines) number y
 
--- ---- faults of the image, where the text means instructions
+-- ---- faults of the image, if the text means instructions
 
 -- the line of this number has the last of these instructions whose place is no greater than the
 -- slot
@@ -102,8 +102,8 @@ IsLoadFault profile text number y = ⊥
 
 -- ---- the fault of a text
 
--- The first line that has a fault by itself and by the labels before it; where no line has one, the
--- first instruction that misses its label; where none does, the fault of the image.
+-- The first line that has a fault by itself and by the labels before it; if no line has one, the
+-- first instruction that misses its label; if none does, the fault of the image.
 abbrev pub IsFault : Profile → List ℕ → ℕ → Why → Type 0
 IsFault profile text number y =
     HasLineFault text number y ⊎ HasNameFault text number y ⊎ IsLoadFault profile text number y

@@ -6,7 +6,7 @@ use Rattle.ocp_loader.specs.Places.{place_of}
 use Rattle.bpf_text.specs.Lines.{TextLine, Statement}
 use Rattle.bpf_assembler.specs.Text.{with_distance}
 
--- the instruction of a line, in front of others
+-- the instruction of a line, before others
 abbrev pub and_then : Option Statement → List Statement → List Statement
 and_then None others = others
 and_then (Some s) others = s ∷ others

@@ -1,3 +1,3 @@
--- What the two passes of the assembler keep and say, for their proofs.
+-- What the two passes of the assembler keep and answer, for their proofs.
 pub mod Tables
 pub mod Passes

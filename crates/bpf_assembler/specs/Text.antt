@@ -45,7 +45,7 @@ abbrev pub IsNew : Option (List ℕ) → List TextLine → Type 0
 IsNew None ws = Unit {0}
 IsNew (Some name) ws = label_place name 0 ws ≡ None
 
--- each label is new behind the lines before it
+-- each label is new after the lines before it
 abbrev pub AreDistinct : List TextLine → List TextLine → Type 0
 AreDistinct before [] = Unit {0}
 AreDistinct before (w ∷ ws) = IsNew w.label before × AreDistinct (before ++ w ∷ []) ws
@@ -83,7 +83,7 @@ abbrev pub with_target : Line → ℕ → ℕ → Line
 with_target l place to = with_distance l (pos to -ℤ pos (place + 1))
 
 -- the instruction at a place is the line: as it is written, or going to the place of the label that
--- it names, where its distance is in range
+-- it names, if its distance is in range
 abbrev pub IsInstruction : List TextLine → ℕ → Line → Option (List ℕ) → Line → Type 0
 IsInstruction all place given None l = l ≡ given
 IsInstruction all place given (Some name) l =
@@ -96,7 +96,7 @@ AreInstructions all (e ∷ es) [] = ⊥
 AreInstructions all (e ∷ es) (l ∷ ls) =
     IsInstruction all e.place e.statement.line e.statement.name l × AreInstructions all es ls
 
--- the lines of the text are written so, and no label stands twice
+-- the lines of the text are written so, and no label occurs twice
 pub record IsWritten (text : List ℕ) (ws : List TextLine) : Type 0 where
   pub each : EachWritten (line_texts text) ws
   pub distinct : AreDistinct [] ws

@@ -49,7 +49,7 @@ impl<A: Allocator> Image<A> {
     }
 }
 
-/// The fault of an image, at the line of the instruction at its slot, or at line 0 where it is one
+/// The fault of an image, at the line of the instruction at its slot, or at line 0 if it is one
 /// of the image's length.
 fn fault_with_line(rows: &[Row<'_>], fault: LoadFault) -> AsmFault
     ensures { IsReported (map entry rows.now) fault result }
@@ -63,7 +63,7 @@ fn fault_with_line(rows: &[Row<'_>], fault: LoadFault) -> AsmFault
     }
 }
 
-/// What the loader says of the image, its fault at the line of the instruction at its slot.
+/// The loader's answer for the image, its fault at the line of the instruction at its slot.
 fn with_line<T>(rows: &[Row<'_>], judged: Result<T, LoadFault>) -> Result<T, AsmFault>
     ensures { Reports (map entry rows.now) judged result }
 {
@@ -86,7 +86,7 @@ fn both_passes<'a, A: Allocator + Copy>(
     Ok((table, octets))
 }
 
-/// The image of the instructions that a text means, where it may be run under the profile.
+/// The image of the instructions that a text means, if it may be run under the profile.
 fn image_of<A: Allocator + Copy>(
     alloc: A,
     profile: Profile,
@@ -115,15 +115,15 @@ pub(crate) fn program_of<A: Allocator + Copy>(
     with_line(&table.rows, load(alloc, profile, &octets))
 }
 
-/// The image of the instructions that a text means, where it may be run under the profile.
+/// The image of the instructions that a text means, if it may be run under the profile.
 ///
 /// The listing of an image that may be run under it means its instructions, so it gives that image.
 ///
 /// Else refused: line by line with Syntax, Range or DuplicateLabel; then in line order with
 /// UnknownLabel, or Range of the distance of a label; then with the fault of the image (`approve`),
-/// at the line of the instruction at its slot, or at line 0 where the image is empty or too long.
-/// Memory may stand in place of any other answer. The time is linear in the text, but for a
-/// logarithm of the number of labels for each label and each name.
+/// at the line of the instruction at its slot, or at line 0 if the image is empty or too long.
+/// Memory may be answered in place of any other answer. The time is linear in the text, except for
+/// a logarithm of the number of labels for each label and each name.
 pub fn assemble<A: Allocator + Copy>(
     alloc: A,
     profile: Profile,

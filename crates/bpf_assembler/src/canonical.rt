@@ -17,8 +17,8 @@ use std::alloc::Allocator;
 /// profile, the image loaded, and the program listed. Each instruction that the text means has its
 /// line.
 ///
-/// Refused as `assemble` is, and as Memory where memory for the listing is refused. A refusal
-/// leaves `out` and its capacity as they were. The capacity never shrinks.
+/// Refused as `assemble` is, and as Memory if memory for the listing is refused. A refusal
+/// leaves `out` and its capacity unchanged. The capacity never shrinks.
 pub fn write_canonical<A: Allocator + Copy, B: Allocator>(
     alloc: A,
     profile: Profile,

@@ -13,7 +13,7 @@ use std::alloc::Allocator;
 use std::collections::BTreeMap;
 use text_lines::first_line;
 
-/// Notes a line's label, and says whether it is new.
+/// Records a line's label, and answers whether it is new.
 fn put_label<'a, A: Allocator + Clone>(
     labels: &mut BTreeMap<&'a [u8], u64, A>,
     label: Option<&'a [u8]>,
@@ -29,7 +29,7 @@ fn put_label<'a, A: Allocator + Clone>(
     Ok(old.is_none())
 }
 
-/// Notes a line's instruction, and gives the place after it.
+/// Records a line's instruction, and returns the place after it.
 fn put_row<'a, A: Allocator>(
     rows: &mut Vec<Row<'a>, A>,
     number: u64,
@@ -73,7 +73,7 @@ impl<'a, A: Allocator + Copy> Table<'a, A> {
         Ok(table)
     }
 
-    /// Takes one more line.
+    /// Adds one more line.
     fn add(&mut self, text: &'a [u8]) -> Result<(), AsmFault>
         requires few { self.old.lines + 1 < 2 ^ 63 }
         requires room { self.old.place ≤ 2 * self.old.lines }

@@ -6,25 +6,25 @@ ghost use Rattle.bpf_assembler.specs.declared.fault.AsmFault.TheVariants.{Memory
 use ocp_loader::LoadFault;
 use std::alloc::AllocError;
 
-/// What a line of a text has that is no image, in the order in which faults are looked for: line by
-/// line the first three; then in line order UnknownLabel, and Range of the distance of a label;
-/// then the fault of the image.
+/// What is wrong with a line of a text that has no image, in the order in which faults are looked
+/// for: line by line the first three; then in line order UnknownLabel, and Range of the distance of
+/// a label; then the fault of the image.
 #[derive(Clone, Copy, PartialEq, Eq, Debug)]
 pub enum Why {
-    /// The line has not the form of one.
+    /// The line does not have the form of one.
     Syntax,
     /// A number, a width or the distance of a label is out of its range.
     Range,
-    /// A line before has the same label.
+    /// An earlier line has the same label.
     DuplicateLabel,
-    /// No line has the label that stands in place of a distance.
+    /// No line has the label that is in place of a distance.
     UnknownLabel,
     /// The image may not be run.
     Load(LoadFault),
 }
 
-/// Why a text has no image: what the line of a number has, counted from 1, where line 0 is the text
-/// as a whole. Memory may stand in place of any other answer.
+/// Why a text has no image: what is wrong with the line of a number, counted from 1. Line 0 is the
+/// text as a whole. Memory may be answered in place of any other answer.
 #[derive(Clone, Copy, PartialEq, Eq, Debug)]
 pub enum AsmFault {
     At { line: u64, why: Why },
@@ -32,7 +32,7 @@ pub enum AsmFault {
 }
 
 impl AsmFault {
-    /// What the line of this number has.
+    /// What is wrong with the line of this number.
     pub(crate) fn at(line: u64, why: Why) -> AsmFault
         ensures { result ≡ At line why }
     {

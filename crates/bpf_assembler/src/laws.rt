@@ -41,7 +41,7 @@ pub fn faults_are_unique()
     readings_are_unique();
 }
 
-/// A text that means instructions has no fault but that of their image; so it has none where their
+/// A text that means instructions has no fault except that of their image. So it has none if their
 /// image may be run.
 pub fn meanings_exclude_faults()
     ensures image { (profile : Profile) (text : List ℕ) (lines : List Line) (number : ℕ) (y : Why) →
@@ -56,7 +56,7 @@ pub fn meanings_exclude_faults()
     faults_are_of_images_that_may_not_be_run();
 }
 
-/// Of a text that means instructions: a label has the place in the image of the next instruction,
+/// In a text that means instructions: a label has the place in the image of the next instruction,
 /// or at the end of the text the slot after the last one; and an instruction that names a label
 /// leads there, as the loader reads its distance.
 pub fn named_jumps_lead_to_their_labels()
@@ -72,7 +72,7 @@ pub fn named_jumps_lead_to_their_labels()
 }
 
 /// Under each profile a text means instructions whose image may be run, or has a fault itself;
-/// and not both. When it runs it reads the lines of the text, and keeps nothing of them.
+/// and not both. When the function runs it reads the lines of the text, and keeps nothing of them.
 pub fn texts_have_a_meaning_or_a_fault(text: &[u8])
     ensures one { (profile : Profile) →
         HasMeaning profile text.now ⊎ HasSomeFault profile text.now }

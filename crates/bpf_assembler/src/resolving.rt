@@ -14,7 +14,7 @@ use bpf_types::{Line, lines_are_in_range};
 use std::alloc::Allocator;
 use std::collections::BTreeMap;
 
-/// The jump or the local call with the distance, where it is in range.
+/// The jump or the local call with the distance, if it is in range.
 fn with_distance(line: Line, distance: i128) -> Option<Line>
     ensures { MatchOption result (¬ IsLine (with_distance line distance))
         (λ l. (l ≡ with_distance line distance) × IsLine l) }

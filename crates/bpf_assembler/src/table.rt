@@ -1,5 +1,5 @@
-//! The labels and the instructions of a text. What the map of labels says of references, these
-//! functions say of the names' octets.
+//! The labels and the instructions of a text. What the map of labels states about references, these
+//! functions state about the names' octets.
 
 ghost use Rattle.std.specs.Prelude.{◌≡◌, [], ℕ, List, Some, if◌then◌else◌, OnOk, IfOk};
 ghost use Rattle.std.specs.Str.{bytes_eq};
@@ -17,7 +17,7 @@ pub fn place_at<A: Allocator>(labels: &BTreeMap<&[u8], u64, A>, name: &[u8]) -> 
     labels.get(name).copied()
 }
 
-/// Puts a label at a place, and gives the place that it had.
+/// Puts a label at a place, and returns the place that it had.
 pub fn put<'a, A: Allocator + Clone>(
     labels: &mut BTreeMap<&'a [u8], u64, A>,
     name: &'a [u8],
@@ -31,8 +31,8 @@ pub fn put<'a, A: Allocator + Clone>(
     Ok(labels.insert(name, place)?)
 }
 
-/// An instruction with the number of its line and its place, and the label's name that stands in
-/// place of its distance.
+/// An instruction with the number of its line and its place, and the label's name that is in place
+/// of its distance.
 #[derive(Clone, Copy)]
 pub struct Row<'a> {
     pub number: u64,

@@ -20,7 +20,7 @@ use Rattle.bpf_canonical.specs.declared.mnemonic.TheConstants.{WIDTHS, STEMS, PL
 use Rattle.bpf_canonical.specs.Mnemonics.{mnemonic_name, stem_name, width_name}
 use Rattle.bpf_canonical.specs.Mirror.Words.{IsPlain}
 
--- what the first row of a word says
+-- the meaning of the first row of a word
 abbrev pub width_meaning : List ℕ → Option Width
 width_meaning w = lookup (λ known. bytes_eq known.now w) WIDTHS
 
@@ -38,7 +38,7 @@ both : (a b : Bool) → (a && b) ≡ true → (a ≡ true) × (b ≡ true)
 both true b e = (refl, e)
 both false b e = absurd cc
 
--- where each row has the name of what it says, so has what is read
+-- if each row has the name of its meaning, so has what is read
 read_by_name : {K M : Type 0} (text : K → List ℕ) (name : M → List ℕ) (w : List ℕ) (rows : List (K × M))
     → list_all (λ row. bytes_eq (text row.0) (name row.1)) rows ≡ true → IfSome (lookup (λ known. bytes_eq (text known) w) rows) (λ m. w ≡ name m)
 read_by_name text name w [] h = tt

@@ -88,7 +88,7 @@ plain_only text m none e = elim (kind_of m) [
   | inr plain ↦ plain
 ]
 
--- the mnemonic of a stem and a class, where there are some
+-- the mnemonic of a stem and a class, if there are some
 paired : Option (Stem × Width) → Mnemonic
 paired (Some p) = word.Classed p.0 p.1
 paired None = word.LoadWide

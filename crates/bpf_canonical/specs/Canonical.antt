@@ -1,5 +1,5 @@
--- The canonical text of an instruction, without a newline: its mnemonic, and its operands behind a
--- space, parted by a comma and a space (a form of this product; the instructions are those of
+-- The canonical text of an instruction, without a newline: its mnemonic, a space, and its operands
+-- separated by a comma and a space (a form of this product; the instructions are those of
 -- RFC 9669, sections 4 and 5).
 use Rattle.std.specs.Prelude.{ℕ, ◌/◌, ◌%◌, zero, suc, ℤ, pos, negsuc, List, [], ◌∷◌, ◌++◌, codes, false}
 use Rattle.std.specs.Fmt.{decimal, signed_decimal, digit_glyph}
@@ -20,12 +20,12 @@ abbrev pub with_sign : ℤ → List ℕ
 with_sign (pos n) = codes "+" ++ decimal n
 with_sign (negsuc n) = codes "-" ++ decimal (suc n)
 
--- the second operand: a decimal number with a sign where it is negative, or a register
+-- the second operand: a decimal number with a sign if it is negative, or a register
 abbrev pub operand_text : Operand → List ℕ
 operand_text (Immediate imm) = signed_decimal imm
 operand_text (Register src) = register src
 
--- a place in memory: a register and an offset
+-- an operand in memory: a register and an offset
 abbrev pub place_text : ℕ → ℤ → List ℕ
 place_text base offset = codes "[" ++ register base ++ with_sign offset ++ codes "]"
 
@@ -34,7 +34,7 @@ abbrev pub hex_digits : ℕ → ℕ → List ℕ
 hex_digits zero n = []
 hex_digits (suc count) n = hex_digits count (n / 16) ++ digit_glyph false (n % 16) ∷ []
 
--- the operands of an instruction, behind a space; the exit has none
+-- the operands of an instruction, after a space; the exit has none
 abbrev pub operands_text : Line → List ℕ
 operands_text (line.Arithmetic width operation dst operand) =
     codes " " ++ register dst ++ codes ", " ++ operand_text operand

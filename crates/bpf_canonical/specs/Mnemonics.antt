@@ -1,4 +1,4 @@
--- The first word of an instruction's text: the mnemonic, which ends in 32 or 64 where the
+-- The first word of an instruction's text: the mnemonic, which ends in 32 or 64 if the
 -- instruction has a class (a form of this product; the instructions are those of RFC 9669,
 -- sections 4 and 5).
 use Rattle.std.specs.Prelude.{List, ℕ, ◌++◌, codes}
@@ -72,7 +72,7 @@ signed_size_name signed_size.Word = codes "w"
 signed_size_name signed_size.Half = codes "h"
 signed_size_name signed_size.Byte = codes "b"
 
--- the class, by how many bits it works on
+-- the class, by the number of bits that it works on
 abbrev pub width_name : Width → List ℕ
 width_name W32 = codes "32"
 width_name W64 = codes "64"

@@ -1,7 +1,7 @@
 -- The octets of listings.
 use Rattle.std.specs.Prelude.{ℕ, Bool, ◌&&◌, ◌||◌, nat_le, ◌==◌}
 
--- the octets that canonical texts are made of: digits, lower-case letters, the space, and + , - [ ]
+-- the octets of canonical texts: digits, lower-case letters, the space, and + , - [ ]
 abbrev pub is_text_octet : ℕ → Bool
 is_text_octet o =
     (nat_le 48 o && nat_le o 57) || (nat_le 97 o && nat_le o 122) || (o == 32) || (o == 43)

@@ -13,8 +13,8 @@ pub fn mnemonics_are_unique()
     ensures { (a b : Mnemonic) → mnemonic_name a ≡ mnemonic_name b → a ≡ b }
 {}
 
-/// A canonical text is of digits, lower-case letters, spaces and the signs `+ , - [ ]`; so it has
-/// no newline, and a listing has one for each instruction.
+/// A canonical text consists of digits, lower-case letters, spaces and the signs `+ , - [ ]`. So it
+/// has no newline, and a listing has one for each instruction.
 pub fn listings_have_a_line_for_each_instruction()
     ensures octets { (line : Line) → IsLine line →
         IsTrue (list_all is_text_octet (canonical line)) }

@@ -1,4 +1,4 @@
-//! The first word of an instruction's text. Each table of words stands once, as a macro that is
+//! The first word of an instruction's text. Each table of words is written once, as a macro that is
 //! read both ways.
 ghost use Rattle.std.specs.Prelude.{◌≡◌, ◌≤◌, ◌+◌, ◌++◌, IfSome, Some, length};
 ghost use Rattle.std.specs.Map.{lookup};
@@ -13,7 +13,7 @@ ghost use Rattle.bpf_canonical.specs.Mirror.Words.{IsPlain};
 use crate::text::Text;
 use bpf_types::{Comparison, Line, Operation, Order, SignedSize, Size, Width};
 
-/// What the first word of an instruction's text says: `canonical` begins with it.
+/// What the first word of an instruction's text means: `canonical` begins with it.
 #[derive(Clone, Copy)]
 pub enum Mnemonic {
     /// A word that ends in its class: `add32`, .. `jsle64`.
@@ -124,7 +124,7 @@ macro_rules! plain {
     };
 }
 
-/// The rows of a table of words, each with what it says.
+/// The rows of a table of words, each with its meaning.
 macro_rules! rows {
     ((), $([$($meaning:tt)*] $word:literal),*) => {
         [$(($word, $($meaning)*)),*]
@@ -140,7 +140,7 @@ static STEMS: [(&[u8], Stem); 27] = stems!(rows());
 /// The mnemonics that have no class.
 static PLAIN: [(&[u8], Mnemonic); 23] = plain!(rows());
 
-/// From what a word says to the word.
+/// From the meaning of a word to the word.
 macro_rules! word {
     ($value:expr, $([$($meaning:tt)*] $word:literal),*) => {
         match $value {
@@ -160,7 +160,7 @@ macro_rules! plain_word {
 }
 
 impl<const ROOM: usize> Text<ROOM> {
-    /// Appends a word. One of three or four octets, as most are, is copied without a call.
+    /// Appends a word. Most words have three or four octets; these are copied without a call.
     #[inline(always)]
     fn push_word(&mut self, word: &[u8])
         requires { length self.old + length word.now ≤ ROOM }
@@ -224,7 +224,7 @@ fn word_of_plain(mnemonic: Mnemonic) -> &'static [u8]
     plain!(plain_word mnemonic)
 }
 
-/// What the row of this word says: the first one, where there are several.
+/// The meaning of this word: that of its first row, if there are several.
 fn meaning_of<M: Copy>(word: &[u8], rows: &[(&'static [u8], M)]) -> Option<M>
     ensures { result ≡ lookup (λ known. bytes_eq known.now word.now) rows.now }
 {
@@ -303,7 +303,7 @@ pub fn mnemonic_of(line: &Line) -> Mnemonic
     }
 }
 
-/// The mnemonic that is this text, or `None` where the text is no mnemonic.
+/// The mnemonic that is this text, or `None` if the text is no mnemonic.
 pub fn read_mnemonic(word: &[u8]) -> Option<Mnemonic>
     ensures some { IfSome result (λ m. word.now ≡ mnemonic_name m) }
     ensures only { (m : Mnemonic) → word.now ≡ mnemonic_name m → result ≡ Some m }

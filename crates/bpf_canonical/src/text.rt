@@ -1,4 +1,4 @@
-//! A text on the stack, and the parts of a line that it takes.
+//! A text on the stack, and the parts of a line that are appended to it.
 ghost use Rattle.std.specs.Prelude.{◌≡◌, ◌≤◌, ◌+◌, ◌<◌, ◌++◌, [], List, ℕ, length};
 ghost use Rattle.std.specs.Fmt.{decimal, signed_decimal};
 ghost use Rattle.std.specs.Int.{w64, to_be_bytes};
@@ -10,7 +10,7 @@ use hex::encode_to_slice;
 use itoa::{Buffer, Integer};
 use std::marker::Model;
 
-/// The octets of the longest text of an instruction, as `jsge64 r10, -2147483648, -32768`.
+/// The octets of the longest text of an instruction, such as `jsge64 r10, -2147483648, -32768`.
 pub const MAX_TEXT_LENGTH: usize = 31;
 
 /// A text of at most `ROOM` octets, on the stack.
@@ -42,7 +42,7 @@ impl<const ROOM: usize> Text<ROOM> {
         self.octets.as_slice()
     }
 
-    /// Takes all octets away.
+    /// Removes all octets.
     pub fn clear(&mut self)
         ensures { self.new ≡ [] }
     {
@@ -72,7 +72,7 @@ impl<const ROOM: usize> Text<ROOM> {
         self.push_all(buffer.format(number).as_bytes());
     }
 
-    /// Appends a number in decimal digits, with a sign where it is negative.
+    /// Appends a number in decimal digits, with a sign if it is negative.
     pub(crate) fn push_signed(&mut self, number: i32)
         requires { length self.old + 11 ≤ ROOM }
         ensures items { self.new ≡ self.old ++ signed_decimal number }

@@ -36,7 +36,7 @@ impl<const ROOM: usize> Text<ROOM> {
         }
     }
 
-    /// Appends a place in memory.
+    /// Appends an operand in memory.
     fn push_place(&mut self, base: Reg, offset: i16)
         requires { length self.old + 11 ≤ ROOM }
         ensures items { self.new ≡ self.old ++ place_text base offset }
@@ -60,7 +60,7 @@ impl<const ROOM: usize> Text<ROOM> {
         self.push_all(b", ");
     }
 
-    /// Appends a place in memory as the first of two operands.
+    /// Appends an operand in memory as the first of two operands.
     #[inline(always)]
     fn push_first_place(&mut self, base: Reg, offset: i16)
         requires { length self.old + 14 ≤ ROOM }
@@ -72,7 +72,7 @@ impl<const ROOM: usize> Text<ROOM> {
         self.push_all(b", ");
     }
 
-    /// Appends the operands of a move that extends the sign of so many bits.
+    /// Appends the operands of a move that extends the sign from `bits` bits.
     fn push_move(&mut self, dst: Reg, src: Reg, bits: u8)
         requires { length self.old + 14 ≤ ROOM }
         ensures items { self.new ≡ self.old
@@ -124,7 +124,7 @@ impl<const ROOM: usize> Text<ROOM> {
         self.push_distance(distance);
     }
 
-    /// Appends the operands of an instruction, behind a space.
+    /// Appends the operands of an instruction, after a space.
     #[tactic(auto, using(crate::proofs::Rooms::room_least))]
     fn push_operands(&mut self, line: &Line)
         requires { length self.old + operands_room line.now ≤ ROOM }
@@ -229,8 +229,8 @@ pub fn text_of(line: &Line) -> Text<MAX_TEXT_LENGTH>
 
 /// Appends the canonical text of an instruction to `out`, without a newline.
 ///
-/// The only refusal is that of memory, and comes only where the text does not fit into the capacity
-/// that `out` has. A refusal leaves `out` and its capacity as they were. The capacity never
+/// The only refusal is that of memory, and comes only if the text does not fit into the capacity
+/// that `out` has. A refusal leaves `out` and its capacity unchanged. The capacity never
 /// shrinks.
 pub fn line_text<A: Allocator>(line: Line, out: &mut Vec<u8, A>) -> Result<(), AllocError>
     ensures ok { OnOk result (out.new.items ≡ out.old.items ++ canonical line) }

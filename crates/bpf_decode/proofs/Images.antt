@@ -26,7 +26,7 @@ others_of P l ls h = λ k d lt. h (suc k) d (omega arith)
 cancel : (a x y : List ℕ) → a ++ x ≡ a ++ y → x ≡ y
 cancel a x y e = sym (drop-append_seam a x) ∙ ap (λ (t : List ℕ). drop (length a) t) e ∙ drop-append_seam a y
 
--- where the instructions a come first, b are a and what the rest is
+-- if the instructions a come first, b are a and what the rest is
 pub record Continues (a b : List Line) (rest : List ℕ) : Type 0 where
   pub more : List Line
   pub lines : b ≡ a ++ more
@@ -56,7 +56,7 @@ lines_after : (P : Line → Type 0) (a more : List Line) → All P (a ++ more) �
 lines_after P [] more h = h
 lines_after P (l ∷ a) more h = lines_after P a more (others_of P l (a ++ more) h)
 
--- no instruction that may be loaded stands where a fault is
+-- no instruction that may be loaded is where a fault is
 no_instruction : (rest tail : List ℕ) (f : DecodeFault) (more : List Line) → rest ≡ image_of more → 0 < length rest → All IsLine more → NoneWritesFramePointer more → IsFirst f (rest ++ tail) → ⊥
 no_instruction rest tail f [] e some ranges permitted first = absurd (omega (arith, some, ap length e))
 no_instruction rest tail f (l ∷ more) e some ranges permitted first =

@@ -13,7 +13,7 @@ use Rattle.bpf_decode.proofs.Decoded.{is_written, not_written}
 use Rattle.bpf_decode.proofs.Known.{known, no_row}
 use Rattle.bpf_decode.proofs.Only.{decide}
 
--- the octets have no fault that is asked before their registers
+-- the octets have no fault that comes before that of a register
 record Known (octets : List ℕ) : Type 0 where
   whole : ¬ Has fault.CutWide octets
   longer : get_or octets 0 0 ≡ 0x18 → 16 ≤ length octets

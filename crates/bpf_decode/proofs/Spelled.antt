@@ -52,7 +52,7 @@ four true true false d h = cc
 four true false c d h = cc
 four false b c d h = cc
 
--- a value that stands under a test
+-- a value that a test guards
 holds : {A : Type 0} (b : Bool) (x y : A) → then_some b x ≡ Some y → (b ≡ true) × (x ≡ y)
 holds true x y h = (refl, same_Some x y h)
 holds false x y h = cc
@@ -77,7 +77,7 @@ is_true : (b : Bool) → not b ≡ false → b ≡ true
 is_true true h = refl
 is_true false h = cc
 
--- the operand that the fields say
+-- the operand that the fields give
 Reads : Fields → Operand → Type 0
 Reads f (Immediate imm) = (f.opcode % 16 < 8) × (f.src ≡ 0) × (f.imm ≡ imm)
 Reads f (Register src) = (8 ≤ f.opcode % 16) × (f.imm ≡ pos 0) × (f.src ≡ src)
@@ -113,7 +113,7 @@ negation width f code class h =
     let small = low (f.opcode % 16) t.0 in
     same_fields (first_slot (line.Negate width f.dst)) f (omega (arith, small, code, class)) refl (sym (equal f.src 0 t.1)) (sym (equal_int f.offset (pos 0) t.2)) (sym (equal_int f.imm (pos 0) t.3))
 
--- an extension of so many bits
+-- an extension of the given number of bits
 abbrev IsExtension : Width → ℕ → Extension → Type 0
 IsExtension width bits e = (extension_width e ≡ width) × (extension_bits e ≡ bits)
 

@@ -7,7 +7,7 @@ use Rattle.bpf_decode.specs.declared.fault.DecodeFault.{DecodeFault}
 use Rattle.bpf_decode.specs.declared.fault.DecodeFault.TheVariants as fault
 use Rattle.bpf_decode.specs.Decoding.{BeginsWith, HasBadRegister, HasRow}
 
--- what each fault says, whatever else holds: a wide load with no second slot, an opcode of no row,
+-- what each fault means, whatever else holds: a wide load with no second slot, an opcode of no row,
 -- a register over 10, octets that spell no instruction, an instruction that writes R10
 abbrev pub Has : DecodeFault → List ℕ → Type 0
 Has fault.CutWide octets = (slice_index octets 0 ≡ 0x18) × (length octets < 16)
@@ -33,7 +33,7 @@ IsFirst fault.WritesFramePointer octets =
 abbrev pub AreOctets : List ℕ → Type 0
 AreOctets octets = All (λ octet. octet < 256) octets
 
--- what octets are decoded as: the instruction that they begin with, where it may be loaded, or
+-- what octets are decoded as: the instruction that they begin with, if it may be loaded, or
 -- their first fault
 abbrev pub Decodes : List ℕ → Result Line DecodeFault → Type 0
 Decodes octets (Ok line) = BeginsWith octets line × ¬ WritesFramePointer line

@@ -163,7 +163,7 @@ pub fn first_fields(line: &Line) -> Fields
     }
 }
 
-/// The octets that spell an instruction (RFC 9669, section 3): 16 of a wide load, 8 of any other.
+/// The octets that spell an instruction (RFC 9669, section 3): 16 for a wide load, 8 for any other.
 pub fn encode(line: Line) -> Slots
     ensures spelling { result ≡ spelling line }
     ensures spelled { Spells result line }

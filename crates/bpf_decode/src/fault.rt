@@ -1,10 +1,10 @@
 //! Why octets are no instruction that may be loaded.
 
-/// Why the octets at a slot are no instruction that may be loaded, in the order in which they are
-/// asked.
+/// Why the octets at a slot are no instruction that may be loaded, in the order in which faults are
+/// looked for.
 #[derive(Clone, Copy, PartialEq, Eq, Debug)]
 pub enum DecodeFault {
-    /// The opcode of a wide load, 0x18, with no second slot behind it.
+    /// The opcode of a wide load, 0x18, without a second slot after it.
     CutWide,
     /// No row of the instruction table has the opcode.
     UnknownOpcode,

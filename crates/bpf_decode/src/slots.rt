@@ -28,7 +28,7 @@ fn fields_at(octets: &[u8]) -> Option<Fields>
     })
 }
 
-/// The upper half of a wide load's value, where the rest of the second slot is zero.
+/// The upper half of a wide load's value, if the rest of the second slot is zero.
 fn high_at(octets: &[u8]) -> Option<i32>
     requires { 16 ≤ length octets.now }
     ensures { result ≡ high_in octets.now }
@@ -110,7 +110,7 @@ fn decode(octets: &[u8]) -> Result<Line, DecodeFault>
 /// Refused, in this order: `CutWide`, `UnknownOpcode`, `BadRegister`, `ReservedField`,
 /// `WritesFramePointer`.
 ///
-/// The clauses `decoded` and `only` say what is answered; `exact` says the same as a function.
+/// The clauses `decoded` and `only` state the answer; `exact` states it as a function.
 pub fn decode_at(code: &[u8], slot: usize) -> Result<Line, DecodeFault>
     requires { 8 * slot + 8 ≤ length code.now }
     ensures decoded { Decodes (drop (8 * slot) code.now) result }

@@ -12,7 +12,7 @@ use Rattle.bpf_listing.specs.Listing.{IsListed, HasListing, HasFault}
 use Rattle.bpf_listing.proofs.Listings.{listed_none, listed_more}
 use Rattle.bpf_listing.proofs.Written.{all_taken}
 
--- what the law of bpf_decode says
+-- what the law of bpf_decode states
 abbrev pub AreDecoded : Type 0
 AreDecoded = (octets : List ℕ) → AreOctets octets → (result : Result Line DecodeFault) × Decodes octets result
 
@@ -30,7 +30,7 @@ compared a b = grind arith
 whole : (image : List ℕ) (slot : ℕ) (text : List ℕ) → IsListed (take (8 * slot) image) [] text → length image ≤ 8 * slot → HasListing image
 whole image slot text l le = record { text = text; listed = subst (λ (t : List ℕ). IsListed t [] text) (all_taken (8 * slot) image le) l }
 
--- the listing of a slot and of those behind it, or the fault there, by what the octets from it on are decoded as
+-- the listing of a slot and of those after it, or the fault there, by what the octets from it on are decoded as
 step : (image : List ℕ) (slot : ℕ) (text : List ℕ) → IsListed (take (8 * slot) image) [] text → 8 * slot < length image →
     (result : Result Line DecodeFault) → Decodes (drop (8 * slot) image) result →
     ((next : ℕ) (longer : List ℕ) → slot + 1 ≤ next → IsListed (take (8 * next) image) [] longer → HasListing image ⊎ HasFault image) → HasListing image ⊎ HasFault image

@@ -1,4 +1,4 @@
--- A listing that is written as far as there is room for it.
+-- A listing that is written to the extent that there is room for it.
 use Rattle.std.proofs.Common.{◌≡◌, ◌+◌, ◌*◌, ◌<◌, ◌≤◌, ℕ, zero, suc, List, [], ◌∷◌, ◌++◌, refl, sym, ap, ◌∙◌, subst, arith, length, take, drop, length-append, append_assoc}
 use Rattle.std.specs.Prelude.{codes}
 use Rattle.std.proofs.Math.Seq.{take-append_seam}
@@ -15,7 +15,7 @@ use Rattle.bpf_listing.specs.Listing.{IsListed, IsRefusal, LacksRoom}
 use Rattle.bpf_listing.specs.Mirror.Written.{Continues, IsFaultOf, IsWritten, IsFlushed}
 use Rattle.bpf_listing.proofs.Listings.{listed_none, listed_more}
 
--- what the laws of bpf_decode say of images
+-- what the laws of bpf_decode state about images
 abbrev pub OneImage : Type 0
 OneImage = (image : List ℕ) (a b : List Line) → IsImageOf image a → IsImageOf image b → a ≡ b
 
@@ -102,7 +102,7 @@ never none code old new capacity len fault.Ragged w f = absurd f
 never none code old new capacity len (fault.Decode d slot) w f = none code w.listed.lines slot d w.listed.whole w.listed.permitted f
 never none code old new capacity len fault.Memory w f = absurd f
 
--- what is written where there is room for it
+-- what is written if there is room for it
 pub written : (code old new : List ℕ) (capacity len : ℕ) → IsWritten code capacity old new len → length old + len ≤ capacity → IsListed code old new
 written code old new capacity len w room = record {
   lines = w.listed.lines;
@@ -111,7 +111,7 @@ written code old new capacity len w room = record {
   text = w.fits room ∙ ap (λ (t : List ℕ). old ++ t) w.listed.text;
 }
 
--- where there is no room for it, its instructions show it
+-- if there is no room for it, its instructions show it
 pub lacks : (code old new : List ℕ) (capacity len before : ℕ) → IsWritten code capacity old new len → before < length old + len → LacksRoom code before (length old)
 lacks code old new capacity len before w full = record {
   lines = w.listed.lines;
@@ -137,7 +137,7 @@ unlisted none code fault.Memory h lines is permitted = absurd h
 pub listed_only : OneImage → (code old new : List ℕ) → IsListed code old new → (lines : List Line) → IsImageOf code lines → new ≡ old ++ listing lines
 listed_only one code old new l lines is = l.text ∙ ap (λ (k : List Line). old ++ listing k) (one code l.lines lines l.whole is)
 
--- written again, where there is room for what was counted before
+-- written again, if there is room for what was counted before
 pub again : OneImage → (code old old1 new1 old2 new2 : List ℕ) (c1 c2 m n : ℕ) → IsWritten code c1 old1 new1 m → IsWritten code c2 old2 new2 n → length old2 + m ≤ c2 → old2 ≡ old → IsListed code old new2
 again one code old old1 new1 old2 new2 c1 c2 m n v w room same =
     let text : v.text ≡ w.text = one_listing one code v.text w.text v.listed w.listed in

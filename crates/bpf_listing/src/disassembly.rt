@@ -14,7 +14,7 @@ use bpf_decode::{
 use core::mem::replace_with;
 use std::alloc::Allocator;
 
-/// Why an image has no listing, in the order in which the refusals are asked.
+/// Why an image has no listing, in the order in which faults are looked for.
 #[derive(Clone, Copy, PartialEq, Eq, Debug)]
 pub enum DisassembleFault {
     /// The length is no multiple of 8.
@@ -26,14 +26,14 @@ pub enum DisassembleFault {
     Memory,
 }
 
-/// The most octets of lines that are held back before they are appended: some eighty lines, so that
-/// the vector is asked for its room seldom.
+/// The most octets of lines that are gathered before they are appended: some eighty lines, so that
+/// the vector is rarely asked for room.
 const BUFFER_LENGTH: usize = 1024;
 
 /// The most octets of a line, with its newline.
 const MAX_LINE_LENGTH: usize = MAX_TEXT_LENGTH + 1;
 
-/// The vector with a text behind its octets, for which there is room. Since it is taken by value,
+/// The vector with a text after its octets; there must be room for it. Since it is taken by value,
 /// its length stays in a register, and many octets are copied at a time.
 fn with_text<A: Allocator>(mut out: Vec<u8, A>, text: &[u8]) -> (Vec<u8, A>, ())
     requires { length out.items + length text.now ≤ vec_capacity out }
@@ -46,7 +46,7 @@ fn with_text<A: Allocator>(mut out: Vec<u8, A>, text: &[u8]) -> (Vec<u8, A>, ())
     (out, ())
 }
 
-/// Appends a text where there is room for it, and else does nothing.
+/// Appends a text if there is room for it, and otherwise does nothing.
 fn push_within<A: Allocator>(out: &mut Vec<u8, A>, text: &[u8])
     ensures fits { length out.old.items + length text.now ≤ vec_capacity out.old →
         out.new.items ≡ out.old.items ++ text.now }
@@ -59,7 +59,7 @@ fn push_within<A: Allocator>(out: &mut Vec<u8, A>, text: &[u8])
     replace_with(out, text, with_text);
 }
 
-/// Appends the lines of the buffer where there is room for all of them, and gives how many
+/// Appends the lines of the buffer if there is room for all of them, and returns how many
 /// octets they have.
 fn flush<A: Allocator>(buffer: &mut Text<BUFFER_LENGTH>, out: &mut Vec<u8, A>) -> usize
     ensures empty { buffer.new ≡ [] }
@@ -73,7 +73,7 @@ fn flush<A: Allocator>(buffer: &mut Text<BUFFER_LENGTH>, out: &mut Vec<u8, A>) -
     len
 }
 
-/// Sees that one more line fits into the buffer, and gives how many octets were flushed for it.
+/// Makes room for one more line in the buffer, and returns how many octets were flushed for it.
 fn make_room<A: Allocator>(buffer: &mut Text<BUFFER_LENGTH>, out: &mut Vec<u8, A>) -> usize
     ensures room { length buffer.new + MAX_LINE_LENGTH ≤ BUFFER_LENGTH }
     ensures flushed { IsFlushed (vec_capacity out.old) out.old.items buffer.old
@@ -86,9 +86,9 @@ fn make_room<A: Allocator>(buffer: &mut Text<BUFFER_LENGTH>, out: &mut Vec<u8, A
     flush(buffer, out)
 }
 
-/// Appends the lines of an image where there is room for all of them, and gives how many octets
-/// they have. Where there is none, or there is a fault, some lines may stand behind the octets that
-/// were there, for the caller to cut off.
+/// Appends the lines of an image if there is room for all of them, and returns how many octets
+/// they have. If there is none, or there is a fault, some lines may follow the octets that were
+/// there; the caller cuts them off.
 fn write_lines<A: Allocator>(code: &[u8], out: &mut Vec<u8, A>) -> Result<u128, DisassembleFault>
     requires { length code.now % 8 ≡ 0 }
     ensures ok { IfOk result
@@ -115,7 +115,7 @@ fn write_lines<A: Allocator>(code: &[u8], out: &mut Vec<u8, A>) -> Result<u128, 
     Ok(len + flush(&mut buffer, out) as u128)
 }
 
-/// Whether there is room for so many octets more, which is made where memory for it is given.
+/// Whether there is room for `len` more octets. Room is made if memory for it is available.
 fn reserve_room<A: Allocator>(out: &mut Vec<u8, A>, len: u128) -> bool
     ensures items { out.new.items ≡ out.old.items }
     ensures room { IsTrue result → length out.new.items + len ≤ vec_capacity out.new }
@@ -123,7 +123,7 @@ fn reserve_room<A: Allocator>(out: &mut Vec<u8, A>, len: u128) -> bool
     ensures same_capacity { IsFalse result → vec_capacity out.new ≡ vec_capacity out.old }
     ensures capacity { vec_capacity out.old ≤ vec_capacity out.new }
 {
-    // A capacity that is read is known to be in its range.
+    // Kept for the proof: a capacity that was read is known to be in its range.
     let _capacity = out.capacity();
     match usize::try_from(len) {
         Ok(len) => out.reserve(len).is_ok(),
@@ -134,10 +134,10 @@ fn reserve_room<A: Allocator>(out: &mut Vec<u8, A>, len: u128) -> bool
 /// Appends the listing of an image to `out`: the canonical text of each instruction, with a
 /// newline. The empty image has the empty listing.
 ///
-/// Refused with `Ragged` where the length of `code` is no multiple of 8, then with `Decode` and the
-/// first fault and its slot, then with `Memory`, only where the listing does not fit into the
-/// capacity that `out` has. A refusal leaves `out` and its capacity as they were, and the capacity
-/// never shrinks. The time is linear in the image. Where the capacity has room for the listing, the
+/// Refused with `Ragged` if the length of `code` is no multiple of 8, then with `Decode` and the
+/// first fault and its slot, then with `Memory`, only if the listing does not fit into the
+/// capacity that `out` has. A refusal leaves `out` and its capacity unchanged, and the capacity
+/// never shrinks. The time is linear in the image. If the capacity has room for the listing, the
 /// image is decoded and written once.
 pub fn disassemble<A: Allocator>(code: &[u8], out: &mut Vec<u8, A>) -> Result<(), DisassembleFault>
     ensures ok { OnOk result (IsListed code.now out.old.items out.new.items) }

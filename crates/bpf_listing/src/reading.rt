@@ -9,7 +9,7 @@ use bpf_text::laws::canonical_texts_are_read_back;
 use bpf_text::{Statement, TextLine};
 use bpf_types::Line;
 
-/// The instruction whose canonical text this is, without a newline, or `None` where the text is no
+/// The instruction whose canonical text this is, without a newline, or `None` if the text is no
 /// instruction's.
 pub fn read_line(text: &[u8]) -> Option<Line>
     ensures some { IfSome result (λ line. IsLine line × (text.now ≡ canonical line)) }

@@ -37,14 +37,14 @@ few_kept : (s : SwapWidth) → swap_width_bits s < 2 ^ 64
 few_kept swap.Bits16 = omega arith
 few_kept _ = omega arith
 
--- the tokens of the canonical text, as the table of forms wants them
+-- the tokens of the canonical text, as the table of forms requires them
 abbrev pub FormOf : Line → Type 0
 FormOf l = (tokens : List (List ℕ)) × HasTokens (canonical l) tokens × IsForm (statement l None None) tokens
 
 word_of : (l : Line) → IsRun (mnemonic_name (mnemonic_of l))
 word_of l = mnemonic_run (mnemonic_of l)
 
--- 0x stands in front of the digits, and not behind the comma
+-- 0x comes before the digits, and not after the comma
 with_prefix : (front digits : List ℕ) → front ++ codes ", " ++ (codes "0x" ++ digits) ≡ front ++ codes ", 0x" ++ digits
 with_prefix front digits = append_assoc front (codes ", ") (codes "0x" ++ digits) ∙ sym (append_assoc front (codes ", 0x") digits)
 

@@ -1,11 +1,11 @@
--- The tokens of a text that is put together of runs, spaces, commas and brackets.
+-- The tokens of a text that is made of runs, spaces, commas and brackets.
 use Rattle.std.proofs.Common.{◌≡◌, ℕ, List, [], ◌∷◌, ◌++◌, true, false, refl, sym, subst, arith, inl, inr, append_assoc, append-nil}
 use Rattle.std.specs.Prelude.{codes}
 use Rattle.std.proofs.lemmas.Bool.Decides.{nat_tests}
 use Rattle.bpf_text.specs.Tokens.{is_word, is_sign, is_blank, NoWord, Leads, HasTokens}
 use Rattle.bpf_text.proofs.CanonicalNumbers.{IsRun}
 
--- two texts, one behind the other, grouped to the right
+-- two texts, one after the other, grouped to the right
 infixr 50 ◌⧺◌
 abbrev pub ◌⧺◌ : List ℕ → List ℕ → List ℕ
 xs ⧺ ys = xs ++ ys
@@ -74,7 +74,7 @@ word_and_three m a b c hm ha hb hc = subst (λ (t : List ℕ). HasTokens t (m �
     (run_then b (codes ", " ⧺ c) (codes "," ∷ c ∷ []) hb refl
     (comma_then c (c ∷ []) (run_last c hc)))))))
 
--- a word, a register and a place in memory
+-- a word, a register and an operand in memory
 pub word_and_load : (m a b o : List ℕ) → IsRun m → IsRun a → IsRun b → IsRun o → ((rest : List ℕ) → NoWord (o ++ rest))
     → HasTokens (m ++ (codes " " ++ a ++ codes ", " ++ (codes "[" ++ b ++ o ++ codes "]"))) (m ∷ a ∷ codes "," ∷ codes "[" ∷ b ∷ o ∷ codes "]" ∷ [])
 word_and_load m a b o hm ha hb ho sign = subst (λ (t : List ℕ). HasTokens t (m ∷ a ∷ codes "," ∷ codes "[" ∷ b ∷ o ∷ codes "]" ∷ [])) (sym (regroup_load m (codes " ") a (codes ", ") (codes "[") b o (codes "]")))
@@ -87,7 +87,7 @@ word_and_load m a b o hm ha hb ho sign = subst (λ (t : List ℕ). HasTokens t (
     (run_then o (codes "]") (codes "]" ∷ []) ho refl
     (closing_then [] [] tt))))))))
 
--- a word, a place in memory and one operand
+-- a word, an operand in memory and one operand
 pub word_and_store : (m b o a : List ℕ) → IsRun m → IsRun b → IsRun o → IsRun a → ((rest : List ℕ) → NoWord (o ++ rest))
     → HasTokens (m ++ (codes " " ++ (codes "[" ++ b ++ o ++ codes "]") ++ codes ", " ++ a)) (m ∷ codes "[" ∷ b ∷ o ∷ codes "]" ∷ codes "," ∷ a ∷ [])
 word_and_store m b o a hm hb ho ha sign = subst (λ (t : List ℕ). HasTokens t (m ∷ codes "[" ∷ b ∷ o ∷ codes "]" ∷ codes "," ∷ a ∷ [])) (sym (regroup_store m (codes " ") (codes "[") b o (codes "]") (codes ", ") a))

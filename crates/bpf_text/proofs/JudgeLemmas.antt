@@ -189,7 +189,7 @@ pub no_local : (t : List ℕ) (z : ℤ) → t ≡ 108 ∷ 111 ∷ 99 ∷ 97 ∷ 
 no_local t z e (y, inl h, is) = letter_no_numeral 108 (111 ∷ 99 ∷ 97 ∷ 108 ∷ []) h.0 (omega arith) (subst (λ (u : List ℕ). IsNumeral u h.0) e h.1)
 no_local t z e (y, inr h, is) = let q = h.2 in absurd (omega (arith, ap (λ (u : List ℕ). get_or u 0 0) (sym e ∙ q)))
 
--- a target behind the word local
+-- a target after the word local
 abbrev Local : Form (ℤ × Option (List ℕ))
 Local = Behind (108 ∷ 111 ∷ 99 ∷ 97 ∷ 108 ∷ []) (Token IsTarget)
 

@@ -30,7 +30,7 @@ digit_at base [] all k lt = absurd (omega (arith, lt))
 digit_at base (octet ∷ octets) all zero lt = all.0
 digit_at base (octet ∷ octets) all (suc k) lt = digit_at base octets all.1 k (omega (arith, lt))
 
--- what `all` says of a test for digits
+-- what `all` states about a test for digits
 pub told : (base : ℕ) (octets : List ℕ) (r : Bool) → MatchBool r (AllWithin (λ x. digit_value x < base) octets 0 (length octets)) ((k : ℕ) × (k < length octets) × HoldsAt (λ x. base ≤ digit_value x) octets k)
     → (IsTrue r → AllDigits base octets) × (AllDigits base octets → IsTrue r)
 told base octets true all = (λ t. digits_by_index base octets (λ k lt. all k 0 (omega arith) lt), λ h. refl)

@@ -76,7 +76,7 @@ register_read s t token (Some n) h some none = token_read (λ (n : ℕ). n) IsRe
 pub no_token : {W : Type 0} (P : List ℕ → W → Type 0) (tokens : List (List ℕ)) → tokens ≡ [] → (w : W) → (rest : List (List ℕ)) → ¬ Token P tokens w rest
 no_token P tokens e w rest m = let p = m.1 in absurd cc
 
--- the bracket that closes, with an offset or none
+-- the closing bracket, with an offset or none
 pub closed_at_once : (s t : State) → (s.0 ≡ (93 ∷ []) ∷ t.0) × (t.1 ≡ s.1) → (b : FitsSigned w16 (pos 0)) → Success (λ (z : ℤ). z) Bracket (FitsSigned w16) s (pos 0) t
 closed_at_once s t h b = record { written = _; is = inl (h.0, refl); kept = inl (b, refl, h.1); only = by }
   where
@@ -118,7 +118,7 @@ gives_of view L F s (Some v) ([], true) start h = elim h.kept [
 ]
 gives_of view L F s (Some v) (x ∷ xs, out) start h = λ w p. let bad = h.only w [] p in absurd cc
 
--- the tokens behind the first one
+-- the tokens after the first one
 pub word_front : (ts : List (Bor (List ℕ))) (word : List ℕ) (other : Bor (List ℕ)) → 1 ≤ length ts → (get_or ts 0 other).now ≡ word → texts ts ≡ word ∷ texts (take (length ts - 1) (drop 1 ts))
 word_front [] word other le same = absurd (omega arith)
 word_front (x ∷ ts) word other le same = let e : take (length (x ∷ ts) - 1) (drop 1 (x ∷ ts)) ≡ ts = grind (arith, common_steps) in rw e (ap (λ (m : List ℕ). m ∷ texts ts) same)

@@ -43,7 +43,7 @@ no_number : (t : List ℕ) (z : ℤ) → t ≡ 58 ∷ [] → IsImmediate t z →
 no_number t z e (y, inl h, is) = letter_no_numeral 58 [] h.0 (omega arith) (subst (λ (u : List ℕ). IsNumeral u h.0) e h.1)
 no_number t z e (y, inr h, is) = let q = h.2 in absurd (omega (arith, ap (λ (u : List ℕ). get_or u 0 0) (sym e ∙ q)))
 
--- no colon is in front of a form
+-- no form begins with a colon
 abbrev NoColon : {V : Type 0} → Form V → Type 0
 NoColon {V} F = (tokens rest : List (List ℕ)) (v : V) (after : List (List ℕ)) → tokens ≡ (58 ∷ []) ∷ rest → F tokens v after → ⊥
 

@@ -46,7 +46,7 @@ sign_no_blank octet h = grind (arith, nat_tests)
 sign_no_mark : (octet : ℕ) → is_sign octet ≡ true → is_mark octet ≡ false
 sign_no_mark octet h = grind (arith, nat_tests)
 
--- no token stands where no word and no mark does, nor a sign before a word
+-- no token is where neither a word nor a mark is, nor a sign before a word
 pub none_stands : (octet : ℕ) (line token rest : List ℕ) → is_mark octet ≡ false → is_word octet ≡ false → (is_sign octet ≡ true → NoWord line) → octet ∷ line ≡ token ++ rest → Stands token rest → ⊥
 none_stands octet line [] rest m w s e h = h
 none_stands octet line (t ∷ ts) rest m w s e (inl h) = let a : octet ≡ t = cc in absurd cc
@@ -58,7 +58,7 @@ none_stands octet line (t ∷ u ∷ us) rest m w s e (inr (inr h)) =
     let bad : true ≡ false = sym h.2.0 ∙ subst NoWord after (s (ap is_sign same ∙ h.0)) in
     absurd cc
 
--- a sign with no run behind it is no token
+-- a sign with no run after it is no token
 pub lone_sign : (line : List ℕ) → 1 ≤ length line → is_sign (get_or line 0 0) ≡ true → NoWord (drop 1 line) → ¬ Ends line × ((token rest : List ℕ) → ¬ Leads line token rest)
 lone_sign [] le sign none = absurd (omega arith)
 lone_sign (octet ∷ line) le sign none =
@@ -82,7 +82,7 @@ apart x y P Q excludes e p q = let a : Q x ≡ true = ap Q e ∙ q in let bad : 
 append_cancel : (t u r s : List ℕ) → t ≡ [] → u ≡ [] → t ++ r ≡ u ++ s → r ≡ s
 append_cancel t u r s p q e = sym (ap (λ (a : List ℕ). a ++ r) p) ∙ e ∙ ap (λ (a : List ℕ). a ++ s) q
 
--- one token stands at a place
+-- octets begin with one token at most
 pub one_standing : (t r u s : List ℕ) → Stands t r → Stands u s → t ++ r ≡ u ++ s → (t ≡ u) × (r ≡ s)
 one_standing [] r u s h k e = absurd h
 one_standing (x ∷ t) r [] s h k e = absurd k

@@ -63,7 +63,7 @@ one_distance t y z (ds, m, h, inl e) (es, n, k, inr f) = absurd (omega (arith, a
 one_distance t y z (ds, m, h, inr e) (es, n, k, inl f) = absurd (omega (arith, ap (λ (u : List ℕ). get_or u 0 0) (sym e.0 ∙ f.0)))
 one_distance t y z (ds, m, h, inr e) (es, n, k, inr f) = let a = e.0 in let b = f.0 in let same : es ≡ ds = cc in e.1 ∙ ap (λ (x : ℕ). pos 0 -ℤ pos x) (one_numeral ds m n h (subst (λ (u : List ℕ). IsNumeral u n) same k)) ∙ sym f.1
 
--- a name has no sign in front
+-- a name has no sign before it
 pub name_or_distance : (t : List ℕ) (z : ℤ) → IsName t → IsDistance t z → ⊥
 name_or_distance [] z h k = h
 name_or_distance (o ∷ os) z h (ds, m, k, inl e) = let q : o ≡ 43 = ap (λ (u : List ℕ). get_or u 0 0) e.0 in let bad : true ≡ false = sym h.0.0 ∙ ap is_word q in absurd cc

@@ -28,11 +28,11 @@ use Rattle.bpf_text.proofs.ReadingLemmas.{no_colon}
 use Rattle.bpf_text.proofs.ReadLemmas.{statement}
 use Rattle.bpf_text.proofs.UniqueForms.{one_list, one_behind, register_form, second_form, numeral_form, immediate_form, target_form, memory_form}
 
--- what the law of bpf_canonical says of mnemonics
+-- what the law of bpf_canonical states about mnemonics
 abbrev pub AreNamed : Type 0
 AreNamed = (m n : Mnemonic) → mnemonic_name m ≡ mnemonic_name n → m ≡ n
 
--- what the law says of lines of text
+-- what the law states about lines of text
 abbrev pub AreReadOnce : Type 0
 AreReadOnce = (text : List ℕ) (w v : TextLine) → Writes text w → InRange w.body → Writes text v → w ≡ v
 

@@ -10,14 +10,14 @@ abbrev pub IsRegister : List ℕ → ℕ → Type 0
 IsRegister token n =
     ((n < 10) × (token ≡ codes "r" ++ (48 + n) ∷ [])) ⊎ ((n ≡ 10) × (token ≡ codes "r10"))
 
--- a numeral, with - in front or not
+-- a numeral, with or without - before it
 abbrev pub IsInteger : List ℕ → ℤ → Type 0
 IsInteger token z =
     ((n : ℕ) × IsNumeral token n × (z ≡ pos n))
     ⊎ ((digits : List ℕ) × (n : ℕ) × (token ≡ codes "-" ++ digits) × IsNumeral digits n
     × (z ≡ pos 0 -ℤ pos n))
 
--- a number of 32 bits without a sign stands for the signed one of the same bits
+-- an unsigned number of 32 bits stands for the signed one of the same bits
 abbrev pub as_signed : ℤ → ℤ
 as_signed z =
     if int_le (pos 2147483648) z && int_lt z (pos 4294967296) then z -ℤ pos 4294967296 else z
@@ -41,12 +41,12 @@ IsDistance token z = (digits : List ℕ) × (n : ℕ) × IsNumeral digits n
 abbrev pub BeginsName : ℕ → Type 0
 BeginsName octet = (is_word octet ≡ true) × ((octet < 48) ⊎ (57 < octet))
 
--- a name: at most 32 octets of a word, no digit in front
+-- a name: at most 32 octets of a word, the first of which is no digit
 abbrev pub IsName : List ℕ → Type 0
 IsName [] = ⊥
 IsName (octet ∷ octets) = BeginsName octet × AllWord octets × (length octets < 32)
 
--- what stands in place of a distance: the distance itself, or a label's name, for which the line
+-- what is written for a distance: the distance itself, or a label's name, for which the line
 -- has distance 0
 abbrev pub IsTarget : List ℕ → ℤ × Option (List ℕ) → Type 0
 IsTarget token (distance, None) = IsDistance token distance

@@ -1,8 +1,8 @@
--- How the operands of an instruction are written, one behind another.
+-- How the operands of an instruction are written, one after another.
 use Rattle.std.specs.Prelude.{◌≡◌, ◌∷◌, ℕ, ℤ, pos, List, codes, ◌⊎◌}
 use Rattle.bpf_text.specs.Fields.{IsRegister, IsDistance}
 
--- how a value is written in front of other tokens
+-- how a value is written before other tokens
 abbrev pub Form : Type 0 → Type 1
 Form W = List (List ℕ) → W → List (List ℕ) → Type 0
 
@@ -10,11 +10,11 @@ Form W = List (List ℕ) → W → List (List ℕ) → Type 0
 abbrev pub Token : {W : Type 0} → (List ℕ → W → Type 0) → Form W
 Token Is tokens w rest = (token : List ℕ) × (tokens ≡ token ∷ rest) × Is token w
 
--- behind a word or a mark
+-- after a word or a mark
 abbrev pub Behind : List ℕ → {W : Type 0} → Form W → Form W
 Behind word F tokens w rest = (after : List (List ℕ)) × (tokens ≡ word ∷ after) × F after w rest
 
--- one behind the other
+-- one after the other
 abbrev pub Then : {V W : Type 0} → Form V → Form W → Form (V × W)
 Then F G tokens w rest = (middle : List (List ℕ)) × F tokens w.0 middle × G middle w.1 rest
 
@@ -23,12 +23,12 @@ infixr 60 ◌⸴◌
 abbrev pub ◌⸴◌ : {V W : Type 0} → Form V → Form W → Form (V × W)
 F ⸴ G = Then F (Behind (codes ",") G)
 
--- an offset, which is zero where it is left out, and the bracket that closes
+-- an offset, which is zero if it is left out, and the closing bracket
 abbrev pub Bracket : Form ℤ
 Bracket tokens z rest =
     ((tokens ≡ codes "]" ∷ rest) × (z ≡ pos 0))
     ⊎ ((token : List ℕ) × (tokens ≡ token ∷ codes "]" ∷ rest) × IsDistance token z)
 
--- a place in memory, as [r2+8]
+-- an operand in memory, for example [r2+8]
 abbrev pub Memory : Form (ℕ × ℤ)
 Memory = Behind (codes "[") (Then (Token IsRegister) Bracket)

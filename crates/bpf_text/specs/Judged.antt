@@ -1,4 +1,4 @@
--- What the readers of a line say.
+-- What the readers of a line answer.
 use Rattle.std.specs.Prelude.{◌≡◌, ℕ, ℤ, List, Option, Some, None, Result, Ok, Err, map}
 use denote.Ref.{Bor}
 use Rattle.bpf_canonical.specs.declared.mnemonic.Mnemonic.{Mnemonic}
@@ -52,7 +52,7 @@ abbrev pub JudgesTokens : List (List ℕ) → Result LentLine LineFault → Type
 JudgesTokens tokens result =
     Gives written_line (λ w. HasLabel w.label w.body tokens) (λ w. InRange w.body) result
 
--- the tokens behind a label
+-- the tokens after a label
 abbrev pub JudgesBody : List (List ℕ) → Result (Option LentStatement) LineFault → Type 0
 JudgesBody tokens result = Gives statement_of (λ s. IsBody s tokens) InRange result
 

@@ -11,8 +11,8 @@ use Rattle.bpf_text.specs.Tokens.{HasTokens}
 use Rattle.bpf_text.specs.Fields.{IsRegister, IsImmediate, IsSecond, IsTarget, IsName}
 use Rattle.bpf_text.specs.Grammar.{Form, Token, Behind, ◌⸴◌, Memory}
 
--- an instruction, the name that stands in place of its distance, and the number that stands in
--- place of its width where there is no such width
+-- an instruction, the name that is in place of its distance, and the number that is in
+-- place of its width if there is no such width
 pub record Statement : Type 0 where
   pub line : Line
   pub name : Option (List ℕ)
@@ -22,15 +22,15 @@ pub record Statement : Type 0 where
 abbrev pub Are : {V : Type 0} → Form V → V → List (List ℕ) → Type 0
 Are F v tokens = F tokens v []
 
--- no name stands in place of a distance
+-- no name is in place of a distance
 abbrev pub IsNameless : Statement → Type 0
 IsNameless s = s.name ≡ None
 
--- no number stands in place of a width
+-- no number is in place of a width
 abbrev pub HasWidth : Statement → Type 0
 HasWidth s = s.unknown_width ≡ None
 
--- a number stands in place of a width, and no extension of the class has it
+-- a number is in place of a width, and no extension of the class has it
 abbrev pub IsExtended : Extension → Option ℕ → ℕ → Type 0
 IsExtended extension None n = n ≡ extension_bits extension
 IsExtended extension (Some unknown) n =
@@ -38,7 +38,7 @@ IsExtended extension (Some unknown) n =
     × ((other : Extension) → extension_width other ≡ extension_width extension →
     extension_bits other ≢ n)
 
--- the same of a byte order instruction
+-- the same for a byte order instruction
 abbrev pub IsSwapWidth : SwapWidth → Option ℕ → ℕ → Type 0
 IsSwapWidth width None n = n ≡ swap_width_bits width
 IsSwapWidth width (Some unknown) n =

@@ -26,7 +26,7 @@ pub fn register(token: &[u8]) -> Option<Reg>
     }
 }
 
-/// The number that the token is, with a minus in front or not.
+/// The number that the token is, with or without a minus sign.
 fn integer(token: &[u8]) -> Result<i128, LineFault>
     ensures { Gives (λ z. z) (IsInteger token.now) IsWide result }
 {
@@ -37,7 +37,7 @@ fn integer(token: &[u8]) -> Result<i128, LineFault>
     }
 }
 
-/// A number of 32 bits without a sign stands for the signed one of the same bits.
+/// An unsigned number of 32 bits stands for the signed one of the same bits.
 fn as_signed(number: i128) -> i128
     ensures { result ≡ as_signed number }
 {
@@ -113,14 +113,14 @@ pub fn long_target(token: &[u8]) -> Result<(i32, Option<&[u8]>), LineFault>
     Ok((long_distance(token)?, None))
 }
 
-/// The width that the token says, which a sign is extended from.
+/// The width that the token gives, from which a sign is extended.
 pub fn extension(width: Width, token: &[u8]) -> Result<Extension, LineFault>
     ensures { Gives (bits_in width) (IsWidth token.now) (HasExtension width) result }
 {
     Extension::new(width, numeral(token)?).ok_or(LineFault::Range)
 }
 
-/// The width that the token says, of a byte order instruction.
+/// The width of a byte order instruction that the token gives.
 pub fn swap_width(token: &[u8]) -> Result<SwapWidth, LineFault>
     ensures { Gives swap_width_bits (IsNumeral token.now) HasSwapWidth result }
 {

@@ -12,8 +12,8 @@ ghost use Rattle.bpf_text.specs.declared.line.LineFault.{LineFault};
 
 use bpf_canonical::mnemonics_are_unique;
 
-/// A line of text whose numbers are in their ranges is read in one way: it says one label and one
-/// instruction.
+/// A line of text whose numbers are in their ranges is read in one way: it has one label at most
+/// and one instruction at most.
 pub fn readings_are_unique()
     ensures { (text : List ℕ) (w v : TextLine) → Writes text w → InRange w.body → Writes text v →
         w ≡ v }

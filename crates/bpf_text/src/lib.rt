@@ -1,4 +1,4 @@
-//! Assembly text, line by line: what one line says, its label and its instruction.
+//! Assembly text, line by line: the label and the instruction of one line.
 #![tactic(auto)]
 
 mod fields;

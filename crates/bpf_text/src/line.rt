@@ -2,7 +2,7 @@
 
 use bpf_types::Line;
 
-/// An instruction, and the label's name that stands in place of its distance, which is 0 then.
+/// An instruction, and the label's name that is in place of its distance, which is then 0.
 #[derive(Clone, Copy)]
 pub struct Statement<'a> {
     pub line: Line,
@@ -16,8 +16,8 @@ pub struct TextLine<'a> {
     pub body: Option<Statement<'a>>,
 }
 
-/// Why a line by itself is no line of assembly text: it has not the form of one, or a number of it
-/// is out of its range.
+/// Why a line by itself is no line of assembly text: it does not have the form of one, or a number
+/// in it is out of its range.
 #[derive(Clone, Copy, PartialEq, Eq, Debug)]
 pub enum LineFault {
     Syntax,

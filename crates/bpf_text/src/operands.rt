@@ -15,8 +15,8 @@ use crate::number::numeral;
 use bpf_types::{Extension, Operand, Reg, SwapWidth, Width};
 
 /// The tokens that are left, and whether a number before them was out of its range. A method that
-/// reads an operand answers None where the tokens have not its form. For a number out of its range
-/// it answers another one, so that Syntax is found before Range.
+/// reads an operand answers `None` if the tokens do not have its form. For a number out of its
+/// range it answers another one, so that Syntax is found before Range.
 #[derive(Drop)]
 pub struct Operands<'t, 'a> {
     pub rest: &'t [&'a [u8]],
@@ -37,7 +37,7 @@ impl<'a> Operands<'_, 'a> {
         }
     }
 
-    /// Passes over the word or the mark where it is the next token.
+    /// Passes over the word or the mark if it is the next token.
     pub fn expect(&mut self, word: &[u8]) -> Option<()>
         ensures some { IfSome result (λ u. (texts self.old.rest.now
             ≡ word.now ∷ texts self.new.rest.now)
@@ -55,7 +55,7 @@ impl<'a> Operands<'_, 'a> {
         }
     }
 
-    /// What was read; or the other value where it is out of its range, which is noted.
+    /// What was read; or the other value if it is out of its range, which is noted.
     fn note<T: Copy>(&mut self, read: Result<T, LineFault>, other: T) -> Option<T>
         ensures range { Notes self.old.out_of_range read result self.new.out_of_range }
         ensures rest { texts self.new.rest.now ≡ texts self.old.rest.now }
@@ -137,7 +137,7 @@ impl<'a> Operands<'_, 'a> {
         self.note(target, (0, None))
     }
 
-    /// The bracket that closes, with an offset in front or none.
+    /// The closing bracket, after an offset or none.
     fn offset(&mut self) -> Option<i16>
         ensures { Reads (λ z. z) Bracket (FitsSigned w16) (state self.old) result (state self.new) }
     {
@@ -149,7 +149,7 @@ impl<'a> Operands<'_, 'a> {
         self.note(distance, 0)
     }
 
-    /// A place in memory: a register in brackets, and an offset or none.
+    /// An operand in memory: a register in brackets, with an offset or none.
     pub fn memory(&mut self) -> Option<(Reg, i16)>
         ensures { Reads (λ p. (p.0, p.1)) Memory (λ w. IsReg w.0 × FitsSigned w16 w.1)
             (state self.old) result (state self.new) }

@@ -222,8 +222,8 @@ fn instruction<'a>(operands: &mut Operands<'_, 'a>, mnemonic: Mnemonic) -> Optio
     }
 }
 
-/// The instruction of a mnemonic and all of its operands: Syntax where a token is left, and then
-/// Range where a number was out of its range.
+/// The instruction of a mnemonic and all of its operands: Syntax if a token is left, and then
+/// Range if a number was out of its range.
 fn complete<'a>(
     operands: &mut Operands<'_, 'a>,
     mnemonic: Mnemonic,

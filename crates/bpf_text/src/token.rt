@@ -32,7 +32,7 @@ fn is_sign_octet(octet: u8) -> bool
     octet == b'+' || octet == b'-'
 }
 
-/// The longest run of letters, digits and `_` at the front has so many octets.
+/// The number of octets in the longest run of letters, digits and `_` at the front.
 pub fn run_len(text: &[u8]) -> usize
     ensures bound { result ≤ length text.now }
     ensures run { AllWord (take result text.now) }

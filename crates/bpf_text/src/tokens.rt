@@ -8,7 +8,7 @@ use arrayvec::ArrayVec;
 /// No line of the grammar has more tokens.
 pub const MAX_TOKENS: usize = 9;
 
-/// The tokens of a line: none where octets of it begin no token, or there are too many.
+/// The tokens of a line; `None` if octets of it begin no token, or there are too many.
 pub fn tokens(line: &[u8]) -> Option<ArrayVec<&[u8], MAX_TOKENS>>
     ensures some { IfSome result
         (λ found. HasTokens line.now (map (λ token. token.now) found.items)) }

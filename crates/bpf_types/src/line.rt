@@ -3,8 +3,8 @@ ghost use Rattle.bpf_types.specs.Line.{IsLine};
 
 use crate::reg::Reg;
 
-/// How many bits an arithmetic instruction or a jump works on: W32 for the classes ALU and JMP32,
-/// W64 for ALU64 and JMP (RFC 9669, section 3.3).
+/// The number of bits that an arithmetic instruction or a jump works on: W32 for the classes ALU
+/// and JMP32, W64 for ALU64 and JMP (RFC 9669, section 3.3).
 #[derive(Clone, Copy, Debug)]
 pub enum Width {
     W32,
@@ -40,8 +40,8 @@ pub enum Operand {
     Register(Reg),
 }
 
-/// The moves that extend the sign, from so many bits to the width of their class (RFC 9669, section
-/// 4.1).
+/// The moves that extend the sign, from the given number of bits to the width of their class (RFC
+/// 9669, section 4.1).
 #[derive(Clone, Copy, Debug)]
 pub enum Extension {
     From8To32,
@@ -57,7 +57,7 @@ impl Extension {
     ghost use Rattle.bpf_types.specs.Line.{extension_width, extension_bits};
     ghost use Rattle.bpf_types.specs.Mirror.{extension_of};
 
-    /// The extension of a class that reads so many bits: 8 or 16 in W32; 8, 16 or 32 in W64.
+    /// The extension of a class that reads `bits` bits: 8 or 16 in W32; 8, 16 or 32 in W64.
     pub fn new(width: Width, bits: u64) -> Option<Self>
         ensures exact { result ≡ extension_of width bits }
         ensures some { IfSome result
@@ -77,7 +77,7 @@ impl Extension {
         }
     }
 
-    /// The class, by how many bits are written.
+    /// The class, by the number of bits that are written.
     pub fn width(self) -> Width
         ensures { result ≡ extension_width self }
     {
@@ -87,7 +87,7 @@ impl Extension {
         }
     }
 
-    /// How many bits are read: 8, 16 or 32.
+    /// The number of bits that are read: 8, 16 or 32.
     pub fn bits(self) -> u8
         ensures { result ≡ extension_bits self }
     {
@@ -108,7 +108,7 @@ pub enum Order {
     Swap,
 }
 
-/// How many bits a byte order instruction keeps.
+/// The number of bits that a byte order instruction keeps.
 #[derive(Clone, Copy, Debug)]
 pub enum SwapWidth {
     Bits16,
@@ -122,7 +122,7 @@ impl SwapWidth {
     ghost use Rattle.bpf_types.specs.Line.{swap_width_bits};
     ghost use Rattle.bpf_types.specs.Mirror.{swap_width_of};
 
-    /// The width of so many bits: 16, 32 or 64.
+    /// The width of `bits` bits: 16, 32 or 64.
     pub fn new(bits: u64) -> Option<Self>
         ensures exact { result ≡ swap_width_of bits }
         ensures some { IfSome result (λ w. swap_width_bits w ≡ bits) }
@@ -137,7 +137,7 @@ impl SwapWidth {
         }
     }
 
-    /// How many bits: 16, 32 or 64.
+    /// The number of bits: 16, 32 or 64.
     pub fn bits(self) -> u8
         ensures { result ≡ swap_width_bits self }
     {
@@ -166,7 +166,7 @@ pub enum Comparison {
     SignedLessOrEqual,
 }
 
-/// How many octets a load or a store moves: 4, 2, 1 or 8 (RFC 9669, section 5).
+/// The number of octets that a load or a store moves: 4, 2, 1 or 8 (RFC 9669, section 5).
 #[derive(Clone, Copy, Debug)]
 pub enum Size {
     Word,
@@ -179,7 +179,7 @@ impl Size {
     ghost use Rattle.std.specs.Prelude.{◌≡◌, ◌≤◌};
     ghost use Rattle.bpf_types.specs.Line.{octets_in};
 
-    /// How many octets are moved: 1, 2, 4 or 8.
+    /// The number of octets that are moved: 1, 2, 4 or 8.
     #[inline(always)]
     pub fn octets(self) -> usize
         ensures exact { result ≡ octets_in self }
@@ -194,7 +194,7 @@ impl Size {
     }
 }
 
-/// How many octets a load that extends the sign reads: 4, 2 or 1 (RFC 9669, section 5.2).
+/// The number of octets that a load that extends the sign reads: 4, 2 or 1 (RFC 9669, section 5.2).
 #[derive(Clone, Copy, Debug)]
 pub enum SignedSize {
     Word,
@@ -203,8 +203,8 @@ pub enum SignedSize {
 }
 
 /// One typed instruction of RFC 9669, in the conformance groups base32, base64, divmul32 and
-/// divmul64, but for what speaks of a host: wide loads of maps and their like (src 1 to 6), and
-/// calls by BTF id. A distance counts slots from the instruction that follows.
+/// divmul64, except those that refer to a host: wide loads with src 1 to 6, such as those of maps,
+/// and calls by BTF id. A distance counts slots from the instruction that follows.
 #[derive(Clone, Copy, Debug)]
 pub enum Line {
     /// `dst = dst operation operand`.
@@ -239,7 +239,7 @@ pub enum Line {
     LongJump {
         distance: i32,
     },
-    /// A jump that is taken where the comparison of dst and operand holds.
+    /// A jump that is taken if the comparison of dst and operand holds.
     JumpIf {
         width: Width,
         comparison: Comparison,
@@ -307,7 +307,7 @@ impl Line {
     ghost use Rattle.bpf_types.specs.Line.{WritesFramePointer, written_dst, is_wide, slots_in, spelling};
     ghost use Rattle.bpf_types.specs.Mirror.{writes_frame_pointer};
 
-    /// The register of the dst field, where the instruction writes it.
+    /// The register of the dst field, if the instruction writes it.
     #[inline(always)]
     pub fn written_dst(self) -> Option<Reg>
         ensures { result ≡ written_dst self }
@@ -335,7 +335,7 @@ impl Line {
         }
     }
 
-    /// The instruction has two slots, as a wide load alone has.
+    /// The instruction has two slots: it is a wide load.
     #[inline(always)]
     pub fn is_wide(self) -> bool
         ensures { result ≡ is_wide self }
@@ -343,7 +343,7 @@ impl Line {
         matches!(self, Line::LoadWide { .. })
     }
 
-    /// How many slots of 8 octets the instruction has: 2 for a wide load, and else 1 (RFC 9669,
+    /// The number of slots of 8 octets: 2 for a wide load, 1 for any other instruction (RFC 9669,
     /// section 3.2).
     #[inline(always)]
     pub fn slots(self) -> u16
@@ -358,8 +358,8 @@ impl Line {
     }
 }
 
-/// A law: each line has its fields in the ranges of their types, which definitions over lines ask
-/// for.
+/// A law: the fields of each line are in the ranges of their types. Definitions over lines assume
+/// it.
 pub fn lines_are_in_range(line: Line)
     ensures { IsLine line }
 {}

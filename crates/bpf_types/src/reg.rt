@@ -33,7 +33,7 @@ impl Reg {
         }
     }
 
-    /// R0, which stands in a register field that an instruction leaves zero.
+    /// R0, which is in a register field that an instruction leaves zero.
     #[inline(always)]
     pub fn zero() -> Self
         ensures { result ≡ 0 }
@@ -41,7 +41,7 @@ impl Reg {
         Reg { number: 0 }
     }
 
-    /// R1. Its number in the src field of a call says that the call is local.
+    /// R1. Its number in the src field of a call marks the call as local.
     #[inline(always)]
     pub fn one() -> Self
         ensures { result ≡ 1 }

@@ -24,11 +24,11 @@ use Rattle.ocp_loader.proofs.Laid.{by_slot-append}
 use Rattle.ocp_loader.proofs.Stay.{last_at}
 use Rattle.ocp_loader.proofs.Admit.{narrow}
 
--- what the law of bpf_decode says of octets
+-- what the law of bpf_decode states about octets
 abbrev pub AreDecoded : Type 0
 AreDecoded = (octets : List ℕ) (l : Line) → BeginsWith octets l → ¬ WritesFramePointer l → decode_result octets ≡ Ok l
 
--- what the law says of images that may be run
+-- what the law states about images that may be run
 abbrev pub AreJudged : Profile → Type 0
 AreJudged profile = (image : List ℕ) (lines : List Line) → IsAdmittedAs profile image lines → load_result profile image ≡ Ok (by_slot lines)
 

@@ -13,7 +13,7 @@ use Rattle.ocp_loader.specs.Image.{line_in, second_of, slots_of, by_slot, calls_
 use Rattle.ocp_loader.specs.Mirror.Reading.{Reading, line_or_fault, reading_with_line, read_slot, read_slots}
 use Rattle.ocp_loader.specs.Mirror.Checks.{first_bad_target, or_at, has_valid_target}
 
--- what lies behind a line
+-- what comes after a line
 pub record Next (lines : List (Option Line)) (p : ℕ) (b : Bool) : Type 0 where
   pub second : b ≡ true → line_in lines (p + 1) ≡ None
   pub next : (p + slots_if b ≡ length lines) ⊎ IsSome (line_in lines (p + slots_if b))
@@ -29,7 +29,7 @@ starts (l ∷ ls) = inr refl
 abbrev pub AllNext : List (Option Line) → Type 0
 AllNext lines = (p : ℕ) (l : Line) → line_in lines p ≡ Some l → Next lines p (is_wide l)
 
--- one slot in front
+-- one slot before
 shift : (x : Option Line) (lines : List (Option Line)) (p : ℕ) (b : Bool) → Next lines p b → Next (x ∷ lines) (suc p) b
 shift x lines p b n = record {
   second = λ w. let e : suc p + 1 ≡ suc (p + 1) = omega arith in rw e (n.second w);
@@ -94,7 +94,7 @@ pub laid_out : (profile : Profile) (image : List ℕ) (n : ℕ) → IfOk (read_s
 laid_out profile image zero = (refl, ([], refl))
 laid_out profile image (suc n) = laid_next profile image n (read_slots profile image n) (laid_out profile image n)
 
--- where no slot leads to no line, each has a valid target
+-- if no slot leads to no line, each has a valid target
 aimed_or : (o : Option ℕ) (fine : Bool) (n : ℕ) → or_at o fine n ≡ None → (o ≡ None) × (fine ≡ true)
 aimed_or (Some x) fine n h = absurd cc
 aimed_or None true n h = (refl, refl)
@@ -112,7 +112,7 @@ all_aimed lines (suc n) p h l =
     split : (p n : ℕ) → p < suc n → (p < n) ⊎ (p ≡ n)
     split p n l = grind arith
 
--- a line stands within the lines
+-- a line is within the lines
 pub within : (lines : List (Option Line)) (p : ℕ) (l : Line) → line_in lines p ≡ Some l → p < length lines
 within [] p l h = absurd cc
 within (x ∷ lines) zero l h = omega arith

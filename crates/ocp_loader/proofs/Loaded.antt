@@ -25,7 +25,7 @@ use Rattle.ocp_loader.proofs.Stay.{read_lines}
 use Rattle.ocp_loader.proofs.Admit.{admitted}
 use Rattle.ocp_loader.proofs.Complete.{AreDecoded, HasRead, line_reads, reads}
 
--- what the law of bpf_decode says of instructions that write R10
+-- what the law of bpf_decode states about instructions that write R10
 abbrev pub AreRefused : Type 0
 AreRefused = (octets : List ℕ) (l : Line) → BeginsWith octets l → WritesFramePointer l → decode_result octets ≡ Err fault.WritesFramePointer
 
@@ -40,7 +40,7 @@ call_stop : (profile : Profile) (image : List ℕ) (n : ℕ) (lines : List (Opti
     read_slots profile image (suc n) ≡ Err (BadCall n)
 call_stop profile image n lines l so_far d c = ap (read_slot profile image n) so_far ∙ ap (λ x. reading_with_line lines (line_or_fault profile n x)) d ∙ ap (λ x. reading_with_line lines (if x then Ok l else Err (BadCall n))) c
 
--- an instruction that was read may stand in an image
+-- an instruction that was read may be in an image
 line_plain : (profile : Profile) → AreDecoded → AreRefused → (image : List ℕ) (n k : ℕ) (lines : List (Option Line)) (l : Line) (r : Reading) → BeginsWith (drop (8 * n) image) l →
     read_slots profile image n ≡ Ok (record { lines = lines; second = false }) → suc n ≤ k → read_slots profile image k ≡ Ok r → IsPlain profile l
 line_plain profile decodes refuses image n k lines l r b so_far le h = elim (decide l) [

@@ -1,4 +1,4 @@
--- The line at a slot is the one that stands at that place.
+-- The line at a slot is the one at that place.
 use Rattle.std.proofs.Common.{get_or, ◌≡◌, ℕ, zero, suc, ◌+◌, ◌*◌, ◌≤◌, ℤ, pos, negsuc, Bool, true, false, List, [], ◌∷◌, ◌++◌, length, Option, Some, None, IsSome, refl, ap, sym, ◌∙◌, subst, arith, length-append}
 use Rattle.std.specs.Prelude.{is_some}
 use Rattle.std.specs.List.{All}
@@ -17,7 +17,7 @@ use Rattle.ocp_loader.proofs.Laid.{by_slot-append}
 use Rattle.ocp_loader.proofs.Stay.{called_by}
 use Rattle.ocp_loader.proofs.Octets.{length_image, place_by_slot}
 
--- one line in front
+-- one line before
 later : (m : Line) (ls : List Line) (p : ℕ) (l : Line) → IsAt ls p l → IsAt (m ∷ ls) (length (slots_of m) + p) l
 later m ls p l a = record {
   before = m ∷ a.before;

@@ -9,7 +9,7 @@ use Rattle.bpf_decode.specs.Images.{IsImageOf}
 use Rattle.ocp_loader.specs.Image.{max_slots, calls_well, never_falls_through}
 use Rattle.ocp_loader.specs.Places.{IsLast, AllHaveValidTargets}
 
--- a line that may stand in an image under the profile, wherever it leads
+-- a line that may be in an image under the profile, wherever it leads
 abbrev pub IsLawful : Profile → Line → Type 0
 IsLawful profile l = ¬ WritesFramePointer l × (calls_well profile l ≡ true)
 

@@ -19,7 +19,7 @@ number_of (BadTarget slot) = 10
 number_of (FallsOffEnd slot) = 11
 number_of Memory = 0
 
--- the first slot of the instruction at fault, 0 where there is none
+-- the first slot of the instruction at fault, 0 if there is none
 abbrev pub slot_of : LoadFault → ℕ
 slot_of (Decode fault slot) = slot
 slot_of (BadCall slot) = slot

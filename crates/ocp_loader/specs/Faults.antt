@@ -13,7 +13,7 @@ use Rattle.ocp_loader.specs.Image.{max_slots, is_engine_call, never_falls_throug
 use Rattle.ocp_loader.specs.Places.{IsAt, IsLast, HasValidTarget, AllHaveValidTargets}
 use Rattle.ocp_loader.specs.Admitted.{IsLawful, HasSlots}
 
--- lines that may stand in an image fill the slots before this one
+-- lines that may be in an image fill the slots before this one
 pub record IsFilledUpTo (profile : Profile) (image : List ℕ) (slot : ℕ) : Type 0 where
   pub lines : List Line
   pub whole : IsImageOf (take (8 * slot) image) lines
@@ -26,12 +26,12 @@ pub record CallsBadly (profile : Profile) (octets : List ℕ) : Type 0 where
   pub call : BeginsWith octets (line.Call number)
   pub unknown : is_engine_call profile number ≡ false
 
--- the lines of the image, each of which may stand in one
+-- the lines of the image, each of which may be in one
 pub record IsLawfulImage (profile : Profile) (image : List ℕ) (lines : List Line) : Type 0 where
   pub whole : IsImageOf image lines
   pub lawful : All (IsLawful profile) lines
 
--- the first line that jumps or calls to no line stands at the slot
+-- the first line that jumps or calls to no line is at the slot
 pub record HasFirstBadTarget (profile : Profile) (image : List ℕ) (slot : ℕ) : Type 0 where
   pub lines : List Line
   pub lawful : IsLawfulImage profile image lines
@@ -41,7 +41,7 @@ pub record HasFirstBadTarget (profile : Profile) (image : List ℕ) (slot : ℕ)
   pub earlier : (place : ℕ) (l : Line) → place < slot → IsAt lines place l →
       HasValidTarget lines place l
 
--- the last line stands at the slot, and is neither EXIT nor JA
+-- the last line is at the slot, and is neither EXIT nor JA
 pub record FallsOff (profile : Profile) (image : List ℕ) (slot : ℕ) : Type 0 where
   pub lines : List Line
   pub lawful : IsLawfulImage profile image lines

@@ -73,7 +73,7 @@ fn never_falls_through(line: Line) -> bool
     matches!(line, Line::Jump { .. } | Line::LongJump { .. } | Line::Exit)
 }
 
-/// The fault of the last line, which is in the last slot or, where none is there, in the two last
+/// The fault of the last line, which is in the last slot or, if that slot has none, in the two last
 /// ones.
 fn end_fault(slots: u16, line: Option<Line>) -> Option<LoadFault>
     ensures { result ≡ end_fault slots line }

@@ -4,8 +4,8 @@ use std::alloc::AllocError;
 
 /// Why an image is not loaded, in the order in which faults are looked for: the three of the
 /// length, then slot by slot those of the instructions and their calls, then the targets in slot
-/// order, then the end. Memory may stand in place of any other answer. A slot is the first one of
-/// the instruction at fault.
+/// order, then the end. Memory may be answered in place of any other answer. A slot is the first
+/// one of the instruction at fault.
 #[derive(Clone, Copy, PartialEq, Eq, Debug)]
 pub enum LoadFault {
     /// There are no octets.
@@ -22,7 +22,7 @@ pub enum LoadFault {
     BadTarget(u16),
     /// The last instruction is neither EXIT nor JA of either class.
     FallsOffEnd(u16),
-    /// There is no memory.
+    /// Memory ran out.
     Memory,
 }
 
@@ -51,7 +51,7 @@ impl LoadFault {
         }
     }
 
-    /// The first slot of the instruction at fault, and 0 where it is none.
+    /// The first slot of the instruction at fault, and 0 if there is none.
     pub fn slot(self) -> u16
         ensures { result ≡ slot_of self }
     {

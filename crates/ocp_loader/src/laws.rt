@@ -16,7 +16,7 @@ ghost use Rattle.ocp_loader.specs.LoadResult.{load_result};
 
 use bpf_decode::{instructions_are_decoded, writes_of_the_frame_pointer_are_refused};
 
-/// An image that may be run is judged to be its lines by slot; so an image that has a fault may not
+/// An image that may be run is judged to be its lines by slot. So an image that has a fault may not
 /// be run.
 pub fn faults_are_of_images_that_may_not_be_run()
     ensures admitted { (profile : Profile) (image : List ℕ) (lines : List Line) →
@@ -27,8 +27,8 @@ pub fn faults_are_of_images_that_may_not_be_run()
     instructions_are_decoded();
 }
 
-/// An image of instructions that loads may be run: so of each image of instructions it is said
-/// whether it may be run, by its load result.
+/// An image of instructions that loads may be run. So for each image of instructions the load
+/// result states whether it may be run.
 pub fn images_that_load_may_be_run()
     ensures { (profile : Profile) (image : List ℕ) (instructions : List Line)
         (lines : List (Option Line)) → IsImageOf image instructions →
@@ -52,7 +52,7 @@ pub fn images_begin_with_an_instruction()
     faults_are_of_images_that_may_not_be_run();
 }
 
-/// Of an image that may be run: from the place of a line, every place that follows is the place of
+/// In an image that may be run: from the place of a line, every place that follows is the place of
 /// a line, be it the next one or the target of a jump or a local call. So no undefined opcode, no
 /// place outside the code and no second half of a wide load is met.
 pub fn places_lead_to_places()
@@ -73,8 +73,8 @@ pub fn instructions_in_order_are_lines()
     instructions_are_decoded();
 }
 
-/// Of an image that may be run: the line at a slot, which is said by decoding alone, is the one
-/// that was loaded there; and there is one at slot 0.
+/// In an image that may be run: the line at a slot, which is defined by decoding alone, is the one
+/// that was loaded there. There is one at slot 0.
 pub fn lines_agree_with_the_load_result()
     ensures agree { (profile : Profile) (image : List ℕ) (lines : List (Option Line)) (slot : ℕ) →
         load_result profile image ≡ Ok lines → line_of image slot ≡ line_in lines slot }
@@ -82,7 +82,7 @@ pub fn lines_agree_with_the_load_result()
         load_result profile image ≡ Ok lines → IsPlace image 0 }
 {}
 
-/// Of an image that may be run: the line at a slot is the one that has that place.
+/// In an image that may be run: the line at a slot is the one that has that place.
 pub fn lines_stand_at_their_places()
     ensures { (profile : Profile) (image : List ℕ) (lines : List Line) (slot : ℕ) (l : Line) →
         IsAdmittedAs profile image lines → (line_of image slot ≡ Some l) ↔ IsAt lines slot l }

@@ -72,7 +72,7 @@ fn judge<A: Allocator>(
 }
 
 /// Room for the lines of the largest image, in which `Program::reload` reads an image. All of it is
-/// reserved by `new`. What it holds between two calls has no meaning.
+/// reserved by `new`. Its content between two calls has no meaning.
 #[derive(Drop)]
 pub struct Lines<A: Allocator = Global> {
     by_slot: Vec<Option<Line>, A>,

@@ -10,7 +10,7 @@ use bpf_ops::Op;
 use bpf_types::Line;
 use std::alloc::Allocator;
 
-/// How many octets the lines of so many slots have, each with a newline.
+/// The number of octets of the lines of the first `slots` slots, each with a newline.
 pub fn listing_len(ops: &[Op], slots: u16) -> usize
     requires { slots ≤ MAX_SLOTS }
     ensures { result ≡ length (text_below ops.now slots) }
@@ -24,7 +24,7 @@ pub fn listing_len(ops: &[Op], slots: u16) -> usize
     len
 }
 
-/// Appends a line with its newline, where there is room for it.
+/// Appends a line with its newline. There must be room for it.
 fn push_line<A: Allocator>(line: Line, out: &mut Vec<u8, A>)
     requires { length out.old.items + length (canonical line) + 1 ≤ vec_capacity out.old }
     ensures items { out.new.items ≡ out.old.items ++ text_at (Some line) }
@@ -34,7 +34,7 @@ fn push_line<A: Allocator>(line: Line, out: &mut Vec<u8, A>)
     out.extend_from_slice(b"\n").unwrap();
 }
 
-/// Appends the lines of so many slots, each with a newline, where there is room for them.
+/// Appends the lines of the first `slots` slots, each with a newline. There must be room for them.
 pub fn push_listing<A: Allocator>(ops: &[Op], slots: u16, out: &mut Vec<u8, A>)
     requires { length out.old.items + length (text_below ops.now slots) ≤ vec_capacity out.old }
     ensures items { out.new.items ≡ out.old.items ++ text_below ops.now slots }

@@ -6,7 +6,7 @@ use Rattle.std.specs.List.{All}
 use Rattle.std.specs.Str.Lines.{strip_carriage_return}
 use Rattle.text_lines.specs.Lines.{Ended, Open, onto, lines_of, text_of, line_texts}
 
--- what is left of a text behind an octet, and behind all of them
+-- what is left of a text after an octet, and after all of them
 pub whole_drop : (text : List ℕ) (i : ℕ) → take (length text - i) (drop i text) ≡ drop i text
 whole_drop text i = grind (arith, common_steps, length-drop i text)
 
@@ -47,11 +47,11 @@ cut_piece (o ∷ line) rest h =
     let first : o ≢ 10 = h 0 o (omega arith) in
     rw (unlike o first) (ap (onto o) (cut_piece line rest (λ k d lt. h (suc k) d (omega arith))))
 
--- what stands in front of a newline is a line
+-- what precedes a newline is a line
 pub cut_line : (line rest : List ℕ) → All (λ octet. octet ≢ 10) line → line_texts (line ++ 10 ∷ rest) ≡ strip_carriage_return line ∷ line_texts rest
 cut_line line rest h = ap (map text_of) (cut_piece line rest h)
 
--- octets with no newline behind them are a line
+-- octets with no newline after them are a line
 pub last_line : (line : List ℕ) → All (λ octet. octet ≢ 10) line → line ≢ [] → line_texts line ≡ line ∷ []
 last_line line h some = open_line line some (λ k lt. unlike (get_or line k 0) (h k 0 lt))
 

@@ -10,7 +10,7 @@ use Rattle.hex.proofs.HexLemmas.{decode_of-ok}
 pub pair_of : (a b i v w : ℕ) → hex_digit_value a ≡ Some v → hex_digit_value b ≡ Some w → pair_value a b i ≡ Ok (v * 16 + w)
 pair_of a b i v w e f = rw (e, f) refl
 
--- a text that says no octets: it is no even number of digits
+-- a text that spells no octets: it is no even number of digits
 pub no_octets : (text : List ℕ) → (length text % 2 ≡ 0 → list_all is_hex_digit text ≡ true → ⊥) → None ≡ result_ok (decode_of text)
 no_octets text h = by_result (decode_of text) refl
   where

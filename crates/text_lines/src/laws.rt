@@ -5,8 +5,8 @@ ghost use Rattle.std.specs.List.{All};
 ghost use Rattle.std.specs.Str.Lines.{strip_carriage_return};
 ghost use Rattle.text_lines.specs.Lines.{Ended, Open, lines_of, line_texts};
 
-/// A text is cut at its newlines: a line is what stands in front of one, without a carriage return
-/// directly before it; and what stands behind the last one, unless that is nothing.
+/// A text is cut at its newlines: a line is what precedes one, without a carriage return directly
+/// before it; and what follows the last one, unless that is nothing.
 #[tactic(auto, using(crate::proofs::Cutting::cut_line, crate::proofs::Cutting::last_line, crate::proofs::Cutting::cut_piece, crate::proofs::Cutting::last_piece))]
 pub fn texts_are_cut_at_newlines()
     ensures nothing { line_texts [] ≡ [] }

@@ -1,6 +1,6 @@
-//! What texts have in common, whatever they say. Lines: a newline ends a line, one carriage return
-//! directly before it is no part of the line, and octets after the last newline are a line too. And
-//! octets, as pairs of hexadecimal digits.
+//! What all texts have in common. Lines: a newline ends a line, one carriage return directly
+//! before it is no part of the line, and octets after the last newline are a line too. Octets:
+//! pairs of hexadecimal digits.
 #![tactic(auto)]
 
 mod cut;

@@ -30,7 +30,7 @@ fn are_digits(text: &[u8]) -> bool
     all
 }
 
-/// What a hexadecimal digit is worth.
+/// The value of a hexadecimal digit.
 #[inline(always)]
 fn worth(digit: u8) -> u8
     requires { is_hex_digit digit ≡ true }
@@ -50,9 +50,9 @@ fn write_octets(digits: &[u8], octets: &mut [u8])
     }
 }
 
-/// The octets that pairs of digits of both cases say, or none where the text has an odd number of
-/// octets or one that is no digit. They stand in the given vector, in place of what it has. Memory
-/// is refused only where they do not fit into the capacity that it has.
+/// The octets that pairs of digits in either case spell, or `None` if the text has an odd number of
+/// octets or one that is no digit. They replace the content of the given vector. Memory is refused
+/// only if they do not fit into its capacity.
 pub fn octets_of<'a, A: Allocator>(
     place: &'a mut Vec<u8, A>,
     digits: &[u8],

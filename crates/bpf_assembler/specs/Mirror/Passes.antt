@@ -1,4 +1,4 @@
--- What the two passes of the assembler say.
+-- What the two passes of the assembler answer.
 use Rattle.std.specs.Prelude.{◌≡◌, ◌<◌, ◌+◌, ℕ, List, [], ◌∷◌, ◌++◌, length, map, Option, None, Result, Ok, Err, Bool, true, false, ◌⊎◌}
 use Rattle.std.specs.List.{All}
 use Rattle.std.specs.BTreeMap.{BTreeMap}
@@ -105,7 +105,7 @@ pub record ArePassed (text : List ℕ) (rs : List Row) (octets : List ℕ) : Typ
 
 -- ---- the line of a fault of the image
 
--- the line of the last instruction whose place is no greater than the slot, or 0 where there is
+-- the line of the last instruction whose place is no greater than the slot, or 0 if there is
 -- none
 abbrev pub IsLineUpTo : List Entry → ℕ → ℕ → Type 0
 IsLineUpTo entries slot number =
@@ -120,7 +120,7 @@ IsReported entries load.TooLong f = f ≡ At 0 (why.Load load.TooLong)
 IsReported entries fault f =
     (number : ℕ) × (f ≡ At number (why.Load fault)) × IsLineUpTo entries (slot_of fault) number
 
--- what the loader says of the image, its fault as it is reported
+-- the loader's answer for the image, its fault as it is reported
 abbrev pub Reports : {V : Type 0} → List Entry → Result V LoadFault → Result V AsmFault → Type 0
 Reports entries (Ok v) result = result ≡ Ok v
 Reports entries (Err fault) result =

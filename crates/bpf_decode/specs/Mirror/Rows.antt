@@ -1,5 +1,5 @@
--- The rows of the instruction table: the one instruction that the fields of a slot spell, where
--- each field that its row does not name is zero.
+-- The rows of the instruction table: the one instruction that the fields of a slot spell. Each
+-- field that its row does not name is zero.
 use Rattle.std.specs.Prelude.{◌/◌, ◌%◌, Bool, ◌&&◌, ◌||◌, not, nat_lt, ◌==◌, if◌then◌else◌, Option, Some, None, ℤ, pos, negsuc}
 use Rattle.std.specs.Bool.{then_some}
 use Rattle.std.specs.Option.{option_and_then}
@@ -18,7 +18,7 @@ use Rattle.bpf_types.specs.Mirror.{extension_of, swap_width_of}
 use Rattle.bpf_decode.specs.Mirror.Codes.{operation_at, comparison_at, order_at, size_at, signed_size_at}
 
 infixl 10 ◌>>=◌
--- what follows from the value, where there is one
+-- what follows from the value, if there is one
 abbrev pub ◌>>=◌ : {A B : Type 0} → Option A → (A → Option B) → Option B
 value >>= f = option_and_then f value
 
@@ -27,7 +27,7 @@ abbrev pub extension_at : Width → ℤ → Option Extension
 extension_at width (pos bits) = extension_of width bits
 extension_at width (negsuc n) = None
 
--- how many bits the imm field of a byte order instruction says (RFC 9669, section 4.2)
+-- the number of bits that the imm field of a byte order instruction gives (RFC 9669, section 4.2)
 abbrev pub swap_width_at : ℤ → Option SwapWidth
 swap_width_at (pos bits) = swap_width_of bits
 swap_width_at (negsuc n) = None

@@ -1,4 +1,4 @@
--- Listings that are written as far as there is room for them.
+-- Listings that are written to the extent that there is room for them.
 use Rattle.std.specs.Prelude.{◌≡◌, ◌≤◌, ◌+◌, ◌++◌, ℕ, List, [], length}
 use Rattle.bpf_decode.specs.Images.{HasFaultAt}
 use Rattle.bpf_listing.specs.declared.disassembly.DisassembleFault.{DisassembleFault}
@@ -14,7 +14,7 @@ IsFaultOf image _ = ⊥
 abbrev pub Continues : List ℕ → List ℕ → Type 0
 Continues old new = (more : List ℕ) × (new ≡ old ++ more)
 
--- the image has a listing of this length, and where that fits behind `old` into the capacity, the
+-- the image has a listing of this length, and if that fits after `old` into the capacity, the
 -- octets `new` are `old` and the listing
 pub record IsWritten (code : List ℕ) (capacity : ℕ) (old new : List ℕ) (len : ℕ) : Type 0 where
   pub text : List ℕ
@@ -22,8 +22,8 @@ pub record IsWritten (code : List ℕ) (capacity : ℕ) (old new : List ℕ) (le
   pub counts : len ≡ length text
   pub fits : length old + len ≤ capacity → new ≡ old ++ text
 
--- lines that were gathered stand behind `old` where there is room for all of them: the octets
--- `new`, and those that are still gathered; so many octets were appended
+-- lines that were gathered follow `old` if there is room for all of them: the octets `new`,
+-- those that are still gathered, and the number of octets that were appended
 pub record IsFlushed (capacity : ℕ) (old gathered new more : List ℕ) (count : ℕ) : Type 0 where
   pub prefix : Continues old new
   pub counts : count + length more ≡ length gathered

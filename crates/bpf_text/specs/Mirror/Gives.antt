@@ -8,7 +8,7 @@ use Rattle.bpf_types.specs.declared.line.SwapWidth.{SwapWidth}
 use Rattle.bpf_types.specs.Line.{swap_width_bits, extension_width, extension_bits}
 use Rattle.bpf_text.specs.Number.{IsNumeral}
 
--- the width of an extension, where it is of the class
+-- the width of an extension, if it is of the class
 abbrev pub bits_in : Width → Extension → Option ℕ
 bits_in W32 extension.From8To32 = Some 8
 bits_in W32 extension.From16To32 = Some 16

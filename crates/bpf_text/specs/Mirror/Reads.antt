@@ -17,7 +17,7 @@ abbrev pub state : Operands → State
 state operands = (texts operands.rest.now, operands.out_of_range)
 
 -- The value that is written is read, and nothing is noted; or it is out of its range, and this is
--- noted. Whatever is written in front, the same tokens are left.
+-- noted. Whatever is written at the front, the same tokens are left.
 pub record Success {V W : Type 0} (view : V → W) (F : Form W) (Fits : W → Type 0)
     (old : State) (v : V) (new : State) : Type 0 where
   pub written : W
@@ -26,13 +26,13 @@ pub record Success {V W : Type 0} (view : V → W) (F : Form W) (Fits : W → Ty
       ⊎ ((¬ Fits written) × (new.1 ≡ true))
   pub only : (w : W) → (rest : List (List ℕ)) → F old.0 w rest → rest ≡ new.0
 
--- a value of this form is read, or nothing of the form is in front
+-- a value of this form is read, or nothing of the form is at the front
 abbrev pub Reads : {V W : Type 0} → (V → W) → Form W → (W → Type 0) → State → Option V → State →
     Type 0
 Reads view F Fits old None new = (w : _) → (rest : List (List ℕ)) → ¬ F old.0 w rest
 Reads view F Fits old (Some v) new = Success view F Fits old v new
 
--- the token in front is taken, if there is one
+-- the first token is taken, if there is one
 abbrev pub Takes : State → Option (Bor (List ℕ)) → State → Type 0
 Takes old None new = old.0 ≡ []
 Takes old (Some token) new = (old.0 ≡ token.now ∷ new.0) × (new.1 ≡ old.1)
@@ -44,7 +44,7 @@ Notes old (Err Syntax) result new = result ≡ None
 Notes old (Err Range) None new = ⊥
 Notes old (Err Range) (Some other) new = new ≡ true
 
--- where nothing else follows: Syntax before Range
+-- if nothing else follows: Syntax before Range
 abbrev pub verdict : {V : Type 0} → Option V → State → Result V LineFault
 verdict None new = Err Syntax
 verdict (Some v) (token ∷ tokens, out) = Err Syntax

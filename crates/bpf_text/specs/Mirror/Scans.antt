@@ -1,4 +1,4 @@
--- What the scanner says of a line.
+-- What the scanner answers for a line.
 use Rattle.std.specs.Prelude.{◌≡◌, ◌↔◌, List, [], ◌∷◌, ℕ, false}
 use Rattle.bpf_text.specs.Tokens.{Leads, Ends, is_blank}
 use Rattle.bpf_text.specs.declared.token.Scan.{Scan}

@@ -6,7 +6,7 @@ use Rattle.bpf_types.specs.Line.{swap_width_bits}
 use Rattle.bpf_canonical.specs.Canonical.{operands_text, operand_text, place_text, register, with_sign}
 use Rattle.bpf_canonical.proofs.text.Text.push_operands.Goals as goal
 
--- what is written of a line of this form
+-- what is written for a line of this form
 of_line : {new : List ℕ} (old : List ℕ) {l m : Line} → l ≡ m → new ≡ old ++ operands_text m → new ≡ old ++ operands_text l
 of_line old is e = e ∙ ap (λ k. old ++ operands_text k) (sym is)
 
