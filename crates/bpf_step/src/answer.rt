@@ -10,7 +10,7 @@ use ocp_regions::AccessFault;
 pub enum MachineFault {
     /// An access to memory is refused: outside of all regions, or a store to the arguments.
     Access(AccessFault),
-    /// A local call where the most that can be are open.
+    /// A local call when the greatest number of local calls is open.
     CallDepth,
 }
 
@@ -35,12 +35,12 @@ impl From<AccessFault> for MachineFault {
     }
 }
 
-/// What an instruction needs of the engine.
+/// What an instruction needs from the engine.
 #[derive(Clone, Copy)]
 pub enum Need {
     /// An engine call, by its number.
     Call(i32),
-    /// The end of the procedure: EXIT where no local call is open.
+    /// The end of the procedure: EXIT when no local call is open.
     LastExit,
     /// The end of the procedure by a fault.
     Fault(MachineFault),
@@ -51,6 +51,6 @@ pub enum Need {
 pub enum Local {
     /// The machine did it.
     Stepped,
-    /// The engine has to do it. The machine is as before.
+    /// The engine has to do it. The machine is unchanged.
     NeedsEngine(Need),
 }

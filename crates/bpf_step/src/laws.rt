@@ -17,7 +17,7 @@ use ocp_loader::{
 };
 use ocp_regions::{cleared_memory_is_the_first_one, stores_keep_the_addresses};
 
-/// The step of an admitted image is that of the line whose octets stand at the place.
+/// The step of an admitted image is that of the line whose octets are at the place.
 pub fn steps_are_those_of_the_lines()
     ensures { (profile : Profile) (image : List ℕ) (lines : List Line) (s : State) (l : Line) →
         IsAdmittedAs profile image lines → IsAt lines s.place l → one_step image s ≡ step l s }
@@ -26,7 +26,7 @@ pub fn steps_are_those_of_the_lines()
 }
 
 /// The machine of an admitted image never meets an undefined opcode, a place outside the code or
-/// the second half of a wide load, whatever it runs and whatever the engine answers.
+/// the second half of a wide load, whatever it executes and whatever the engine answers.
 pub fn instructions_are_always_found()
     ensures { (profile : Profile) (image : List ℕ) (s : State) →
         IsAdmitted profile image → Reaches image s → IsFound image s }
@@ -45,8 +45,8 @@ pub fn r10_is_the_frame_pointer_of_the_depth()
     lines_stand_at_their_places();
 }
 
-/// A machine of a profile that is started anew is as a new one of that profile: nothing is left of
-/// what it did.
+/// A machine of a profile that is started again equals a new one of that profile, started with the
+/// same arguments: nothing is left of what it did.
 pub fn machines_started_anew_are_as_new()
     ensures new { (profile : Profile) (before : List ℕ) → length before ≤ ARGUMENT_OCTETS →
         HasMemoryOf profile (machine_at_start profile before) }
@@ -59,7 +59,7 @@ pub fn machines_started_anew_are_as_new()
     cleared_memory_is_the_first_one();
 }
 
-/// Whatever a machine does, it keeps which addresses there are: so it stays one of its profile.
+/// No instruction and no engine call changes a machine's addresses, so it stays one of its profile.
 pub fn machines_keep_their_addresses()
     ensures stepped { (profile : Profile) (image : List ℕ) (s t : State) → HasMemoryOf profile s →
         one_step image s ≡ Next t → HasMemoryOf profile t }
@@ -69,7 +69,7 @@ pub fn machines_keep_their_addresses()
     stores_keep_the_addresses();
 }
 
-/// So does a machine that does instructions by itself.
+/// Nor does a run of instructions that a machine executes by itself.
 pub fn runs_keep_the_addresses()
     ensures { (image breakpoints : List ℕ) (pass : Bool) (s t : State) (n : ℕ) →
         local_run image breakpoints pass s n ≡ Some t → HasAddressesOf s t }

@@ -6,7 +6,7 @@ ghost use Rattle.bpf_values.specs.Value.{operate, arithmetic_result, negation, s
 
 use bpf_types::{Extension, Operation, Order, SwapWidth, Width, low_half};
 
-/// An operation on two numbers of so many bits. Signed division truncates toward zero, and the
+/// An operation on two numbers of one width. Signed division truncates toward zero, and the
 /// least number by -1 is itself; a signed remainder has the sign of the first number.
 macro_rules! operate {
     ($operation:ident, $dst:ident, $src:ident, $bits:literal) => {

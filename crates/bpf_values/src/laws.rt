@@ -16,7 +16,7 @@ pub fn signed_numbers_are_in_twos_complement()
 {}
 
 /// A byte order instruction reads the low octets of a number, the lowest first in little-endian
-/// order, and else the highest first.
+/// order, and otherwise the highest first.
 #[tactic(auto, using(crate::proofs::Exchanged::read_in_order))]
 pub fn byte_order_instructions_read_octets_in_order()
     ensures { (order : Order) (width : SwapWidth) (a : ℕ) → a < 2 ^ 64 →

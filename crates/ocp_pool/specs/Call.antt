@@ -23,13 +23,13 @@ abbrev pub pool_add : ℕ → ℕ → Option ℕ → Option Called
 pool_add r1 r2 (Some old) = Some (PoolAdd r1 r2 ((old + r2) % 2 ^ 64))
 pool_add r1 r2 None = None
 
--- call 6: the word at the index R1 becomes R3 where it equals R2
+-- call 6: the word at the index R1 becomes R3 if it equals R2
 abbrev pub pool_compare_set : ℕ → ℕ → ℕ → Option ℕ → Option Called
 pool_compare_set r1 r2 r3 (Some old) = Some (PoolCompareSet r1 r2 r3 old)
 pool_compare_set r1 r2 r3 None = None
 
 -- what the call of a number, 1 to 6, does, by R1, R2, R3, the pool's words and the mailbox's words;
--- none where the index is no pool word's
+-- none if the index is no pool word's
 abbrev pub engine_call : ℤ → ℕ → ℕ → ℕ → List ℕ → List ℕ → Option Called
 engine_call number r1 r2 r3 pool mailbox =
     if unsigned_abs number == 1 then pool_get r1 (slice_get pool r1)
@@ -57,7 +57,7 @@ number_of (NextParam word) = 4
 number_of (StepEnd step) = 5
 number_of (PoolCompareSet index expected value old) = 6
 
--- next_param answers 1 where there was a word
+-- next_param answers 1 if there was a word
 abbrev pub was_there : Option ℕ → ℕ
 was_there (Some word) = 1
 was_there None = 0
@@ -71,7 +71,7 @@ r0_of (NextParam word) = was_there word
 r0_of (StepEnd step) = 0
 r0_of (PoolCompareSet index expected value old) = old
 
--- what a call answers in R1, where it writes it
+-- what a call answers in R1, if it writes it
 abbrev pub r1_of : Called → Option ℕ
 r1_of (NextParam word) = word
 r1_of _ = None

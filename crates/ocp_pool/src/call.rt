@@ -9,11 +9,11 @@ ghost use Rattle.ocp_pool.specs.Call.{number_of, r0_of, r1_of, operation_of, fau
 /// | 1 | pool_get | none | word R1 of the pool | |
 /// | 2 | pool_set | word R1 of the pool = R2 | the word before | |
 /// | 3 | pool_add | word R1 of the pool = it + R2, modulo 2^64 | the new word | |
-/// | 4 | next_param | the oldest word is taken out of the mailbox | 1, or 0 where it is empty | the word, if any |
+/// | 4 | next_param | the oldest word is taken out of the mailbox | 1, or 0 if it is empty | the word, if any |
 /// | 5 | step_end | a step ends, whose number is R1 modulo 65,536 | 0 | |
-/// | 6 | pool_compare_set | word R1 of the pool = R3, where it equals R2 | the word before | |
+/// | 6 | pool_compare_set | word R1 of the pool = R3, if it equals R2 | the word before | |
 ///
-/// Call 6 is one of profile Two alone.
+/// Only profile Two has call 6.
 #[derive(Clone, Copy)]
 pub enum Called {
     PoolGet {
@@ -53,7 +53,7 @@ pub enum PoolOperation {
         index: u64,
         value: u64,
     },
-    /// The word at the index becomes the value where it equals what is expected.
+    /// The word at the index becomes the value if it equals what is expected.
     CompareSet {
         index: u64,
         expected: u64,
@@ -83,7 +83,7 @@ impl Called {
         }
     }
 
-    /// What the caller finds in R0.
+    /// What the caller gets in R0.
     pub fn r0(self) -> u64
         ensures { result ≡ r0_of self }
     {
@@ -96,7 +96,7 @@ impl Called {
         }
     }
 
-    /// What the caller finds in R1, where the call writes it.
+    /// What the caller gets in R1, if the call writes it.
     pub fn r1(self) -> Option<u64>
         ensures { result ≡ r1_of self }
     {

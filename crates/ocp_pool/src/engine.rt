@@ -12,7 +12,7 @@ use crate::pool::Pool;
 use bpf_step::{MAX_SLOTS, Machine};
 use std::alloc::Allocator;
 
-/// Call 6: writes the word at the index where it equals what is expected.
+/// Call 6: writes the word at the index if it equals what is expected.
 fn compare_set<A: Allocator>(
     pool: &mut Pool<A>,
     index: u64,
@@ -77,9 +77,9 @@ fn call_of<A: Allocator>(
     }
 }
 
-/// Does an engine call: R0, and R1 where the call writes it, get its answer, every other register
-/// stays, and the place moves one slot on. It refuses with BadPoolIndex where R1 is no index of the
-/// pool at a call 1 to 3 or 6; then nothing changes.
+/// Executes an engine call: R0, and R1 if the call writes it, get its answer, every other register
+/// is unchanged, and the place moves one slot on. Refused with BadPoolIndex if R1 is no index of
+/// the pool at a call 1 to 3 or 6; then nothing changes.
 pub fn engine_call<A: Allocator, B: Allocator>(
     number: i32,
     machine: &mut Machine<A>,

@@ -1,5 +1,5 @@
-//! What procedures share and are sent: the pool of words, a procedure's mailbox, and the engine
-//! calls that use them.
+//! What procedures share, and what they are sent: the pool of words, a procedure's mailbox, and the
+//! engine calls that use them.
 #![tactic(auto)]
 
 pub mod call;

@@ -4,7 +4,7 @@ ghost use Rattle.std.specs.Prelude.{◌≡◌, ◌≤◌, ◌+◌, ◌++◌, ◌
 use arrayvec::ArrayVec;
 use std::marker::Model;
 
-/// How many words a mailbox has room for.
+/// The most words of a mailbox.
 pub const MAX_MAILBOX_WORDS: usize = 16;
 
 /// At most 16 words, the oldest first. Contracts see their list.
@@ -38,7 +38,7 @@ impl Mailbox {
         self.words.clear();
     }
 
-    /// How many words there are.
+    /// The number of words.
     pub fn len(&self) -> usize
         ensures value { result ≡ length self.now }
         ensures bound { result ≤ MAX_MAILBOX_WORDS }
@@ -46,14 +46,14 @@ impl Mailbox {
         self.words.len()
     }
 
-    /// Whether there is room for so many words more.
+    /// Whether there is room for `count` more words.
     pub fn has_room(&self, count: usize) -> bool
         ensures { IsTrue result ↔ (length self.now + count ≤ MAX_MAILBOX_WORDS) }
     {
         count <= self.words.remaining_capacity()
     }
 
-    /// Puts words behind those that are there. There must be room for all of them.
+    /// Appends words. There must be room for all of them.
     pub fn append(&mut self, words: &[u64])
         requires { length self.old + length words.now ≤ MAX_MAILBOX_WORDS }
         ensures { self.new ≡ self.old ++ words.now }
@@ -64,7 +64,7 @@ impl Mailbox {
         }
     }
 
-    /// Takes the oldest word out, where there is one.
+    /// Removes and returns the oldest word, if there is one.
     pub fn take(&mut self) -> Option<u64>
         ensures value { result ≡ slice_get self.old 0 }
         ensures rest { self.new ≡ drop 1 self.old }

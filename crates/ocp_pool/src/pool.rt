@@ -23,7 +23,7 @@ impl<A: Allocator> Model for Pool<A> {
 }
 
 impl<A: Allocator> Pool<A> {
-    /// So many words, all zero. It refuses where there is no memory for them.
+    /// The given number of words, all zero. Refused if there is no memory for them.
     pub fn new(alloc: A, words: u16) -> Result<Self, AllocError>
         requires some { 1 ≤ words }
         requires few { words ≤ MAX_POOL_WORDS }
@@ -34,7 +34,7 @@ impl<A: Allocator> Pool<A> {
         })
     }
 
-    /// How many words there are.
+    /// The number of words.
     pub fn words(&self) -> usize
         ensures value { result ≡ length self.now }
         ensures some { 1 ≤ result }
@@ -59,7 +59,7 @@ impl<A: Allocator> Pool<A> {
         self.words[index] = value;
     }
 
-    /// The word at an index, where it is one of the pool.
+    /// The word at an index, if it is one of the pool.
     pub fn get(&self, index: u64) -> Option<u64>
         ensures { result ≡ slice_get self.now index }
     {

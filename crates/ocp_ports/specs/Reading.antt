@@ -11,7 +11,7 @@ abbrev pub max_chunk : ℕ
 max_chunk = 4096
 
 -- What was read of an input before the last read is within a limit. That read gave the octets
--- `last`, and so many are left.
+-- `last`, and `rest` is left.
 pub record ReadsWhile (IsWithin : List ℕ → Type 0) (input : List ℕ)
     (left : Option (List ℕ)) : Type 0 where
   pub before : List ℕ

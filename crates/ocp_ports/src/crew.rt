@@ -8,12 +8,12 @@ pub trait Crew<E> {
     // What it needs to work.
     ghost ready: { Self → Type 0 };
 
-    // What it may answer to an engine, so many workers, their budget and how many turns each takes: the engine that it
-    // gives back, or its refusal.
+    // The answers that it may give for an engine, the number of workers, the budget and the turns of each: the engine
+    // that it gives back, or its refusal.
     ghost answers: { Self → E → ℕ → ℕ → ℕ → Result E CrewFault → Type 0 };
 
-    /// Has so many workers take turns at the engine's running procedures: each takes so many turns,
-    /// of up to a budget of instructions. It gives the engine back, or drops it where it refuses.
+    /// Lets `workers` workers take turns at the engine's running procedures: each takes `turns`
+    /// turns, of up to `budget` instructions. It gives the engine back, or drops it if it refuses.
     fn work(&self, engine: E, workers: u16, budget: u32, turns: u32) -> Result<E, CrewFault>
         requires ready { ready self.now }
         requires some { 1 ≤ workers }

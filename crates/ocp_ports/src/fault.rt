@@ -15,7 +15,7 @@ pub enum ConsoleFault {
     /// This line has more than 40,000 octets.
     #[error("line {0} is too long")]
     LineTooLong(u32),
-    /// This line has no form that the console knows.
+    /// This line is no command of the console.
     #[error("line {0} is no command")]
     Syntax(u32),
     /// A read failed.
@@ -27,7 +27,7 @@ pub enum ConsoleFault {
     /// Memory ran out.
     #[error("out of memory")]
     Memory,
-    /// The crew refused, memory aside.
+    /// The crew refused, for a reason other than memory.
     #[error("the workers failed")]
     Workers,
 }

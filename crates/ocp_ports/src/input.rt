@@ -14,8 +14,8 @@ pub const CHUNK: usize = 4096;
 /// The most octets of an input that is read whole.
 pub const MAX_INPUT: usize = 1_048_576;
 
-/// The whole input, or none where it has too many octets. It begins a read only while what it has
-/// read is no more than are allowed. A failed read is `Read`; else `Memory` alone is refused.
+/// The whole input, or `None` if it has too many octets. It begins a read only while what it has
+/// read is within the limit. A failed read is refused as `Read`; else only `Memory` is refused.
 pub fn read_whole<R: Source, A: Allocator>(
     alloc: A,
     reader: &mut R,

@@ -1,5 +1,5 @@
 //! Where the commands read and write: sources and sinks that count their failed calls, whole inputs
-//! and whole outputs. And who does the work of a console's `work` lines.
+//! and whole outputs. Also who does the work of a console's `work` lines.
 #![tactic(auto)]
 
 mod crew;

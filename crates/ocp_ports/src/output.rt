@@ -8,7 +8,7 @@ use crate::fault::ConsoleFault;
 use crate::ports::Sink;
 use std::alloc::{AllocError, Allocator};
 
-/// Writes all of the octets. The only refusal is `Write`, where a write failed; then a prefix of
+/// Writes all of the octets. The only refusal is `Write`, if a write failed; then a prefix of
 /// them was written.
 pub fn write_whole<W: Sink>(writer: &mut W, octets: &[u8]) -> Result<(), ConsoleFault>
     requires { W.failed_writes writer.old < 2 ^ 64 - 1 }

@@ -5,13 +5,13 @@ ghost use Rattle.ocp_ports.specs.Ports.{Takes, Puts, failures};
 
 /// What a command reads from.
 pub trait Source {
-    // The octets that are left, where they are known.
+    // The octets that are left, if they are known.
     ghost remaining: { Self → Option (List ℕ) } = { λ _. None };
 
     // How many reads failed.
     ghost failed_reads: { Self → ℕ };
 
-    /// Reads some octets to the start of the buffer, or fails. It gives none only at the end.
+    /// Reads some octets to the start of the buffer, or fails. It reads none only at the end.
     fn read(&mut self, buffer: &mut [u8]) -> Option<usize>
         requires { failed_reads self.old < 2 ^ 64 - 1 }
         ensures bound { IfSome result (λ count. count ≤ length buffer.new) }
@@ -21,7 +21,7 @@ pub trait Source {
 
 /// What a command writes to.
 pub trait Sink {
-    // The octets that were written, where they are known.
+    // The octets that were written, if they are known.
     ghost contents: { Self → Option (List ℕ) } = { λ _. None };
 
     // How many writes failed.

@@ -168,14 +168,14 @@ same_lengths : (m n : ℕ) → replicate {A = ℕ} m 0 ≡ replicate {A = ℕ} n
 same_lengths m n e = sym (length-replicate {A = ℕ} m 0) ∙ ap length e ∙ length-replicate {A = ℕ} n 0
 
 module _ (s a w s' a' w' : List ℕ) (ls : length s ≡ 4096) (ls' : length s' ≡ 4096) (la : length a ≡ 256) (la' : length a' ≡ 256) where
-  -- where the work regions are as long, the addresses are the same
+  -- if the work regions have the same length, the addresses are the same
   pub same_addresses : length w ≡ length w' → zeros_over (memory_of s a w) ≡ zeros_over (memory_of s' a' w')
   same_addresses l =
       sym (cleared_regions s a w)
       ∙ same_memory _ _ _ _ _ _ (ap (λ n. replicate n 0) (ls ∙ sym ls')) (ap (λ n. replicate n 0) (la ∙ sym la')) (ap (λ n. replicate n 0) l)
       ∙ cleared_regions s' a' w'
 
-  -- and only there
+  -- and only then
   pub as_long : IsWorkLength (length w) → IsWorkLength (length w') → zeros_over (memory_of s a w) ≡ zeros_over (memory_of s' a' w') → length w ≡ length w'
   as_long lw lw' e =
       same_lengths (length w) (length w')

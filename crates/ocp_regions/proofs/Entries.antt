@@ -48,7 +48,7 @@ front : (b : Bool) (v : ℕ) (r s : Option ℕ) → cond b (Some v) (or_else r s
 front true v r s = refl
 front false v r s = refl
 
--- what stands in front comes first
+-- the entries of the first list come first
 pub octet_in-append : (xs ys : List (ℕ × ℕ)) (q : ℕ) → octet_in (xs ++ ys) q ≡ or_else (octet_in xs q) (octet_in ys q)
 octet_in-append [] ys q = refl
 octet_in-append (x ∷ xs) ys q = ap (cond (is_at (nat_cmp q) x.0) (Some x.1)) (octet_in-append xs ys q) ∙ front (is_at (nat_cmp q) x.0) x.1 (octet_in xs q) (octet_in ys q)

@@ -1,4 +1,4 @@
--- Regions of which the front or the end is zero: what their copies, their comparison and their stores come to.
+-- Regions of which the front or the end is zero: their copies, their comparison and their stores.
 use Rattle.std.proofs.Common.{◌≡◌, ℕ, ◌+◌, ◌-◌, ◌≤◌, List, [], ◌++◌, length, min, max, take, drop, replicate, refl, sym, ap, ◌∙◌, arith}
 use Rattle.std.proofs.Common.{length-drop, length-append}
 use Rattle.std.proofs.Math.Seq.{length-sets, drop_at, length-take-le, take-add}
@@ -9,7 +9,7 @@ use borrow.Rule.Slice.PartMut.{put_mid}
 use Rattle.ocp_regions.specs.Memory.{IsZeroBelow, IsZeroFrom}
 use Rattle.ocp_regions.proofs.Numbers.{part_written}
 
--- fewer of the octets in front, and fewer at the end
+-- fewer of the octets at the start, and fewer at the end
 pub zero_below_too : (m n : ℕ) (xs : List ℕ) → IsZeroBelow n xs → m ≤ n → IsZeroBelow m xs
 zero_below_too m n xs z h = (
   omega (arith, z.0, h),
@@ -48,7 +48,7 @@ length_over a k xs os e h = simp (length-append, length-take, length-drop) (omeg
 pub length_part : (a k : ℕ) (xs : List ℕ) → a + k ≤ length xs → length (take k (drop a xs)) ≡ k
 length_part a k xs h = length-take-le k (drop a xs) (omega (arith, length-drop a xs, h))
 
--- what a store leaves of the zeros behind it
+-- what a store leaves of the zeros after it
 pub written_from : (n at : ℕ) (xs os : List ℕ) → IsZeroFrom n xs → at + length os ≤ n → IsZeroFrom n (sets xs at os)
 written_from n at xs os z h =
     let long = length-sets xs at os in
@@ -64,7 +64,7 @@ over_end m zs us h e =
     let none : drop (length zs - m) (drop m zs) ≡ [] = drop_all (length zs - m) (drop m zs) (simp length-drop (omega arith)) in
     rw none (ap (λ v. take m zs ++ v) (append-nil us))
 
--- the zeros in front of the others are put, and then what stands behind them
+-- the zeros before the others are put, and then what follows them
 pub copied_from : (n m a k : ℕ) (xs ys os us : List ℕ) → IsZeroBelow n xs → IsZeroBelow m ys → length xs ≡ length ys →
     a ≡ min n m → k ≡ m - a → os ≡ replicate (length (take k (drop a xs))) 0 → us ≡ take (length ys - m) (drop m ys) →
     put_mid m (length (put_mid a k xs os) - m) (put_mid a k xs os) us ≡ ys
@@ -87,7 +87,7 @@ copied_from n m a k xs ys os us z y l ea ek put copied =
     ∙ ap (λ v. v ++ us) (front ∙ sym y.1)
     ∙ ap (λ v. take m ys ++ v) eu ∙ take-append-drop m ys
 
--- the zeros behind the others are put, and then what stands in front of them
+-- the zeros after the others are put, and then what precedes them
 pub copied_below : (n m e k : ℕ) (xs ys os us : List ℕ) → IsZeroFrom n xs → IsZeroFrom m ys → length xs ≡ length ys →
     e ≡ max n m → k ≡ e - m → os ≡ replicate (length (take k (drop m xs))) 0 → us ≡ take m ys →
     us ++ drop m (put_mid m k xs os) ≡ ys
@@ -104,7 +104,7 @@ copied_below n m e k xs ys os us z y l ee ek put eu =
     ∙ replicate-append-replicate k (length xs - e) 0 ∙ ap (λ v. replicate v 0) rest ∙ sym y.1 in
     ap (λ v. us ++ v) end ∙ ap (λ v. v ++ drop m ys) eu ∙ take-append-drop m ys
 
--- regions with the same zeros in front or behind are the same where their other octets are
+-- regions with the same zeros at the start or at the end are the same if their other octets are
 pub same_from : (n : ℕ) (xs ys : List ℕ) → IsZeroBelow n xs → IsZeroBelow n ys → drop n xs ≡ drop n ys → xs ≡ ys
 same_from n xs ys z y e = same_parts n xs ys (z.1 ∙ sym y.1) e
 

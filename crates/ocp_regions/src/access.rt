@@ -7,7 +7,7 @@ ghost use Rattle.ocp_regions.specs.Memory.{number_of, low_octets};
 
 use bpf_types::Size;
 
-/// The index of an address in a region, where so many octets from there on lie in the region.
+/// The index of an address in a region, if all `count` octets from there on are in the region.
 #[inline(always)]
 pub(crate) fn index_within(first: u64, octets: usize, address: u64, count: usize) -> Option<usize>
     requires { first + octets ≤ 2 ^ 32 }
@@ -22,7 +22,7 @@ pub(crate) fn index_within(first: u64, octets: usize, address: u64, count: usize
     }
 }
 
-/// So many octets of a region from an index on.
+/// The `count` octets of a region from an index on.
 #[inline(always)]
 pub(crate) fn part(region: &[u8], index: usize, count: usize) -> &[u8]
     requires { index + count ≤ length region.now }
@@ -97,7 +97,7 @@ pub(crate) fn zero(octets: &mut [u8])
     octets.fill(0);
 }
 
-/// Puts octets in front of a region, and zeros behind them.
+/// Puts octets at the start of a region, and zeros after them.
 #[tactic(auto, using(crate::proofs::Numbers::front_put))]
 pub(crate) fn put_in_front(region: &mut [u8], octets: &[u8])
     requires { length octets.now ≤ length region.old }

@@ -1,4 +1,4 @@
-//! Octets of a region of which the front or the end is known to be zero, and only the others move.
+//! Regions of which the front or the end is known to be zero, so that only the other octets move.
 // The index that bounds the zeros goes with the region.
 ghost use Rattle.std.specs.Prelude.{◌≡◌, ◌≤◌, ◌+◌, ◌↔◌, IsTrue, length, replicate, vec_capacity};
 ghost use Rattle.std.proofs.lemmas.List.Edits.{sets};
@@ -9,10 +9,10 @@ use crate::access::{are_same, write_at, zero};
 use bpf_types::Size;
 use std::alloc::Allocator;
 
-/// How many octets are looked at together: those of one frame of the stack.
+/// The octets that are looked at together: those of one frame of the stack.
 const BLOCK_OCTETS: usize = 512;
 
-/// Takes the octets of a region that is as long.
+/// Takes the octets of a region of the same length.
 pub(crate) fn copy_from_index(region: &mut [u8], index: usize, other: &[u8], first: usize)
     requires length { length region.old ≡ length other.now }
     requires own { IsZeroBelow index region.old }
@@ -23,7 +23,7 @@ pub(crate) fn copy_from_index(region: &mut [u8], index: usize, other: &[u8], fir
     region[first..].copy_from_slice(&other[first..]);
 }
 
-/// Takes the octets of a region that is as long.
+/// Takes the octets of a region of the same length.
 pub(crate) fn copy_below_index(region: &mut [u8], index: usize, other: &[u8], end: usize)
     requires length { length region.old ≡ length other.now }
     requires own { IsZeroFrom index region.old }
@@ -123,7 +123,7 @@ pub(crate) fn zero_blocks(region: &[u8]) -> usize
     blocks * BLOCK_OCTETS
 }
 
-/// Writes the low octets of a number, the lowest first, and keeps the index behind them.
+/// Writes the low octets of a number, the lowest first, and keeps the index at or after their end.
 pub(crate) fn write_below_index(
     region: &mut [u8],
     index: &mut usize,

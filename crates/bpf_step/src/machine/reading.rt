@@ -17,8 +17,8 @@ impl<A: Allocator> Machine<A> {
         self.registers
     }
 
-    /// Reads octets of the memory from an address on, one into each of the slice. It refuses with
-    /// AccessOutside where one of them is not there, and the slice keeps its octets.
+    /// Reads octets of the memory from an address on, one into each of the slice. Refused with
+    /// AccessOutside if one of them is not there; the slice is then unchanged.
     pub fn octets(&self, address: u64, octets: &mut [u8]) -> Result<(), AccessFault>
         ensures ok { OnOk result
             (octets_at self.now.memory address (length octets.old) ≡ Some octets.new) }
