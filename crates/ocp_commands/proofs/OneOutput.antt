@@ -7,7 +7,7 @@ use Rattle.ocp_commands.specs.declared.listing.ListFault.{ListFault}
 use Rattle.ocp_commands.specs.declared.listing.ListFault.TheVariants as fault
 use Rattle.ocp_commands.specs.Listings.{image_in, HasImage, HasListFault, Lists, list_fault_line}
 
--- what the law of bpf_listing says of listings and faults
+-- what the law of bpf_listing states about listings and faults
 abbrev pub OneListing : Type 0
 OneListing = (image a b : List ℕ) → IsListed image [] a → IsListed image [] b → a ≡ b
 

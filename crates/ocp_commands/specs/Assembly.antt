@@ -1,4 +1,4 @@
--- What `asm` writes of its input.
+-- What `asm` writes for its input.
 use Rattle.std.specs.Prelude.{◌≡◌, ◌<◌, ℕ, Bool, true, false, List, ◌++◌, length, codes, ◌⊎◌}
 use Rattle.std.specs.Fmt.{decimal}
 use Rattle.ocp_profile.specs.declared.profile.Profile.{Profile}
@@ -15,7 +15,7 @@ use Rattle.ocp_ports.specs.Reading.{max_input, IsShort}
 abbrev pub image_line : List ℕ → List ℕ
 image_line image = encode_lower image ++ codes "\n"
 
--- what stands behind the line number in the line of a fault: of a load fault its number too
+-- what follows the line number in the line of a fault: for a load fault its number too
 abbrev pub why_name : Why → List ℕ
 why_name why.Syntax = codes "Syntax"
 why_name why.Range = codes "Range"
@@ -23,7 +23,7 @@ why_name why.DuplicateLabel = codes "DuplicateLabel"
 why_name why.UnknownLabel = codes "UnknownLabel"
 why_name (why.Load fault) = codes "Load " ++ decimal (number_of fault)
 
--- the input is too long, and the output says so
+-- the input is too long, and the output states it
 pub record IsTooLong (input output : List ℕ) : Type 0 where
   pub many : max_input < length input
   pub text : output ≡ error_line 0 (codes "TooLong")
@@ -43,7 +43,7 @@ pub record HasImageLine (profile : Profile) (input output : List ℕ) : Type 0 w
   pub meant : IsImageOfText profile input image
   pub text : output ≡ image_line image
 
--- what `asm` writes of an input, and whether it is an image: else it is the line of a fault
+-- what `asm` writes for an input, and whether it is an image: else it is the line of a fault
 abbrev pub Assembles : Profile → List ℕ → List ℕ → Bool → Type 0
 Assembles profile input output true = HasImageLine profile input output
 Assembles profile input output false = IsTooLong input output ⊎ HasFaultLine profile input output

@@ -1,4 +1,4 @@
--- What `check` writes of its input.
+-- What `check` writes for its input.
 use Rattle.std.specs.Prelude.{◌≡◌, ◌≤◌, ◌<◌, ◌⊎◌, ℕ, nat_le, Bool, true, false, if◌then◌else◌, List, ◌++◌, length, None, Err, codes}
 use Rattle.std.specs.Fmt.{decimal}
 use Rattle.ocp_profile.specs.declared.profile.Profile.{Profile}
@@ -54,7 +54,7 @@ pub record IsShown (image : List ℕ) (words most : ℕ) : Type 0 where
   pub asks : AsksWell image words
   pub round : IsWithin image most
 
--- what `check` writes of an input, with this many words of pool, and whether all is shown of its
+-- what `check` writes for an input, with this many words of pool, and whether all is shown of its
 -- image: else it is the line of the first fault, or the image may be run and not all is shown
 unfoldable pub Checks : Profile → ℕ → List ℕ → List ℕ → Bool → Type 0
 Checks profile pool input output true =

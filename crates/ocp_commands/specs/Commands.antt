@@ -5,10 +5,10 @@ use Rattle.ocp_ports.specs.declared.fault.ConsoleFault.{ConsoleFault}
 use Rattle.ocp_ports.specs.declared.fault.ConsoleFault.TheVariants as faults
 use Rattle.ocp_ports.specs.Printing.{PrintsPrefix}
 
--- A command's meaning: `Gives output done` says that the output is `output`; where `done` is false
--- it is the line of a fault.
--- Its whole output went out, and the command answers so; or a write failed, and a prefix of it went
--- out; or a read failed or memory ran out, and nothing went out.
+-- A command's meaning: `Gives output done` states that the output is `output`; if `done` is false
+-- it is not what was asked for.
+-- The whole output was written, and the command answers `done`; or a write failed, and a prefix of
+-- it was written; or a read failed or memory ran out, and nothing was written.
 abbrev pub Writes : (List ℕ → Bool → Type 0) → Option (List ℕ) → Option (List ℕ) →
     Result Bool ConsoleFault → Type 0
 Writes Gives old new (Ok done) = (output : List ℕ) × Gives output done × Appends old new output

@@ -1,4 +1,4 @@
--- What `list` writes of its input.
+-- What `list` writes for its input.
 use Rattle.std.specs.Prelude.{◌≡◌, ◌≢◌, ◌<◌, ℕ, ◌%◌, ◌==◌, ◌||◌, Bool, true, false, if◌then◌else◌, List, [], ◌∷◌, ◌++◌, length, Option, Some, None, codes}
 use Rattle.std.specs.Fmt.{decimal}
 use Rattle.std.specs.Result.{result_ok}
@@ -26,7 +26,7 @@ abbrev pub digits_of : List ℕ → List ℕ
 digits_of [] = []
 digits_of (octet ∷ octets) = onto_digits octet (digits_of octets)
 
--- the image that a text says: pairs of hexadecimal digits of both cases, and behind them spaces and
+-- the image that a text spells: pairs of hexadecimal digits of both cases, then spaces and
 -- newlines
 abbrev pub image_in : List ℕ → Option (List ℕ)
 image_in text = result_ok (decode_of (digits_of text))
@@ -64,7 +64,7 @@ HasListFault input (fault.Decode why slot) =
 
 -- ---- the output
 
--- what `list` writes of an input, and whether it is a listing: else it is the line of the first
+-- what `list` writes for an input, and whether it is a listing: else it is the line of the first
 -- fault
 abbrev pub Lists : List ℕ → List ℕ → Bool → Type 0
 Lists input output true = (image : List ℕ) × HasImage input image × IsListed image [] output

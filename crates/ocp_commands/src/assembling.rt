@@ -24,7 +24,7 @@ fn image_text<A: Allocator>(alloc: A, image: &[u8]) -> Result<String<A>, AllocEr
     Ok(text)
 }
 
-/// What stands behind the line number in the line of a fault.
+/// What follows the line number in the line of a fault.
 fn name_of_why<A: Allocator>(alloc: A, why: Why) -> Result<String<A>, AllocError>
     ensures { IfOk result (λ text. string_bytes text ≡ why_name why) }
 {
@@ -40,7 +40,7 @@ fn name_of_why<A: Allocator>(alloc: A, why: Why) -> Result<String<A>, AllocError
     }
 }
 
-/// The output where the text has a fault in this line.
+/// The output if the text has a fault in this line.
 fn output_of_fault<A: Allocator + Copy>(
     alloc: A,
     line: u64,
@@ -55,7 +55,7 @@ fn output_of_fault<A: Allocator + Copy>(
     Ok(Output::of_fault(text))
 }
 
-/// The output where the input is too long.
+/// The output if the input is too long.
 fn output_too_long<A: Allocator>(alloc: A, profile: Profile) -> Result<Output<A>, AllocError>
     ensures { (input : List ℕ) → max_input < length input →
         IfOk result (λ output. Assembles profile input output.text.items output.done) }
@@ -64,7 +64,7 @@ fn output_too_long<A: Allocator>(alloc: A, profile: Profile) -> Result<Output<A>
     Ok(Output::of_fault(text))
 }
 
-/// The output where the text means this image.
+/// The output if the text means this image.
 fn output_of_image<A: Allocator>(alloc: A, image: &[u8]) -> Result<Output<A>, AllocError>
     ensures { (profile : Profile) (input : List ℕ) → IsShort input →
         IsImageOfText profile input image.now →
@@ -93,7 +93,7 @@ fn output_of<A: Allocator + Copy>(
 /// Reads assembly text, and writes the image that it means under the profile as one line of
 /// lower-case hexadecimal digits.
 ///
-/// False where the output is the line of a fault of the input: `error 0 TooLong` (over 1,048,576
+/// False if the output is the line of a fault of the input: `error 0 TooLong` (over 1,048,576
 /// octets), which is found first, or `error <line> <name>` with the name of the assembler's fault,
 /// which is `Load <number>` for a fault of the image. Only `Read`, `Write` and `Memory` are
 /// refused. The output is made whole before it is written, so that nothing is written after `Read`

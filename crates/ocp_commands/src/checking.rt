@@ -19,7 +19,7 @@ use ocp_profile::Profile;
 use std::alloc::{AllocError, Allocator};
 use text_lines::octets_of;
 
-/// Why an input is not checked, in the order in which it is asked.
+/// Why an input is not checked, in the order in which faults are looked for.
 #[derive(Clone, Copy)]
 pub(crate) enum CheckFault {
     /// The input has over 1,048,576 octets.
@@ -165,7 +165,7 @@ fn output_of<A: Allocator + Copy>(
 /// False if not all is shown: then there is a line for each place that may fault, and one if no
 /// bound of a round is shown. False too if the output is the line of a fault of the input:
 /// `error 0 TooLong` (over 1,048,576 octets), `error 0 Hex`, or `error <slot> Load <number>` with
-/// the loader's fault, asked in this order. Only `Read`, `Write` and `Memory` are refused. The
+/// the loader's fault, looked for in this order. Only `Read`, `Write` and `Memory` are refused. The
 /// output is made whole before it is written, so that nothing is written after `Read` and
 /// `Memory`, and a prefix of it after `Write`.
 pub fn check<R: Source, W: Sink, A: Allocator + Copy>(

@@ -1,5 +1,5 @@
 //! The commands of the ground tools: `asm` makes an image of assembly text, `list` a listing of an
-//! image, and `check` says what no run of an image ever does.
+//! image, and `check` states what no run of an image ever does.
 #![tactic(auto)]
 
 mod assembling;

@@ -14,12 +14,12 @@ use ocp_ports::{ConsoleFault, Sink, Source, error_text, read_whole};
 use std::alloc::{AllocError, Allocator};
 use text_lines::octets_of;
 
-/// Why an input has no listing, in the order in which it is asked.
+/// Why an input has no listing, in the order in which faults are looked for.
 #[derive(Clone, Copy)]
 pub(crate) enum ListFault {
     /// The input has over 1,048,576 octets.
     TooLong,
-    /// The input is not an even number of hexadecimal digits with spaces and newlines behind them.
+    /// The input is not an even number of hexadecimal digits with spaces and newlines after them.
     Hex,
     /// The image is not whole slots of 8 octets.
     Ragged,
@@ -55,7 +55,7 @@ fn fault_line<A: Allocator>(alloc: A, fault: ListFault) -> Result<String<A>, All
     }
 }
 
-/// The output where the input has a fault.
+/// The output if the input has a fault.
 fn output_of_fault<A: Allocator>(alloc: A, fault: ListFault) -> Result<Output<A>, AllocError>
     ensures { (input : List ℕ) → HasListFault input fault →
         IfOk result (λ output. Lists input output.text.items output.done) }
@@ -84,7 +84,7 @@ pub(crate) fn digits(text: &[u8]) -> &[u8]
     digits
 }
 
-/// No line is longer, with its newline: so a listing is written in one pass.
+/// No line is longer, with its newline, so a listing is written in one pass.
 const LONGEST_LINE: usize = MAX_TEXT_LENGTH + 1;
 
 /// The output for an image. The listing is written into a vector that is no longer needed.
@@ -122,11 +122,11 @@ fn output_of<A: Allocator + Copy>(alloc: A, input: Vec<u8, A>) -> Result<Output<
 }
 
 /// Reads an image in hexadecimal digits of both cases, and writes its listing; spaces and newlines
-/// behind the digits are nothing. The empty input has the empty listing. It does no more than
+/// after the digits are ignored. The empty input has the empty listing. It does no more than
 /// decode: an image that no loader would take has its listing too.
 ///
-/// False where the output is the line of a fault of the input: `error 0 TooLong` (over 1,048,576
-/// octets), `error 0 Hex`, `error 0 Ragged`, `error <slot> Decode <number>`, asked in this order.
+/// False if the output is the line of a fault of the input: `error 0 TooLong` (over 1,048,576
+/// octets), `error 0 Hex`, `error 0 Ragged`, `error <slot> Decode <number>`, found in this order.
 /// Only `Read`, `Write` and `Memory` are refused. The output is made whole before it is written, so
 /// that nothing is written after `Read` and `Memory`, and a prefix of it after `Write`.
 pub fn list<R: Source, W: Sink, A: Allocator + Copy>(

@@ -6,7 +6,7 @@ ghost use Rattle.ocp_ports.specs.Outcomes.{CountsFailure, PrintsText};
 use ocp_ports::{ConsoleFault, Sink, write_whole};
 use std::alloc::{Allocator, Global};
 
-/// What a command writes: what was asked for, or else the line of a fault of the input.
+/// What a command writes: what was asked for, or else why not: places, or a fault of the input.
 #[derive(Drop)]
 pub(crate) struct Output<A: Allocator = Global> {
     pub text: Vec<u8, A>,
@@ -28,7 +28,7 @@ impl<A: Allocator> Output<A> {
         Output { text, done: false }
     }
 
-    /// The output where the input has a fault.
+    /// The output if the input has a fault.
     pub fn of_fault(line: String<A>) -> Output<A>
         ensures { (result.text.items ≡ string_bytes line) × (result.done ≡ false) }
     {

@@ -1,4 +1,4 @@
-//! What the command `check` writes of an image.
+//! What the command `check` writes for an image.
 
 ghost use Rattle.std.specs.Prelude.{◌≡◌, IfOk, string_bytes};
 ghost use Rattle.ocp_commands.specs.Checks.{verdict, words_line, round_line};
@@ -46,7 +46,7 @@ pub(crate) fn verdict_text<A: Allocator + Copy>(
     Ok(text)
 }
 
-/// A range, as it is said of a register.
+/// The text of a register's range.
 fn range_text<A: Allocator>(alloc: A, known: Option<Range>) -> Result<String<A>, AllocError> {
     match known {
         Some(range) => {
@@ -58,7 +58,7 @@ fn range_text<A: Allocator>(alloc: A, known: Option<Range>) -> Result<String<A>,
     }
 }
 
-/// What may happen of an access.
+/// What may happen at an access.
 fn access_text<A: Allocator + Copy>(
     alloc: A,
     fault: &str,

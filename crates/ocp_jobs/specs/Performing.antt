@@ -1,4 +1,4 @@
--- What the program does of a job.
+-- What the program does for a job.
 use Rattle.std.specs.Prelude.{◌≡◌, ℕ, Bool, true, List, Option, Result, Ok, Err}
 use Rattle.ocp_ports.specs.Outcomes.{TellsReads, TellsWrites}
 use Rattle.ocp_ports.specs.Reading.{IsShort, ReadsWhile}
@@ -15,12 +15,12 @@ use Rattle.ocp_console.specs.Reading.{IsWithin}
 use Rattle.ocp_console.specs.Script.{IsWorkless, Prints, PrintsBy, WritesScript, transcript}
 use Rattle.ocp_jobs.specs.Status.{status_of}
 
--- a run has done what it was asked for where it came to its script's end
+-- a run has done what it was asked for if it reached its script's end
 abbrev pub answer_of_run : Result Unit ConsoleFault → Result Bool ConsoleFault
 answer_of_run (Ok x) = Ok true
 answer_of_run (Err fault) = Err fault
 
--- what a run writes of a script, and what it answers: for a script without `work` lines it is the
+-- what a run writes for a script, and what it answers: for a script without `work` lines it is the
 -- transcript, for every script what its lines write with this crew
 pub record Runs (crew : CrewAnswers) (settings : Settings) (script : List ℕ)
     (old new : Option (List ℕ)) (answer : Result Bool ConsoleFault) : Type 0 where
@@ -29,7 +29,7 @@ pub record Runs (crew : CrewAnswers) (settings : Settings) (script : List ℕ)
   pub prints : IsWorkless script → Prints old new (transcript settings script) ending
   pub writes : PrintsBy old new (WritesScript crew settings script) ending
 
--- what the command of a job writes of an input, and what it answers: whether it did what it was
+-- what the command of a job writes for an input, and what it answers: whether it did what it was
 -- asked for, or a fault
 abbrev pub Answers : CrewAnswers → Job → List ℕ → Option (List ℕ) → Option (List ℕ) →
     Result Bool ConsoleFault → Type 0
@@ -47,8 +47,8 @@ Leaves (Check s) input left = ReadsWhile IsShort input left
 Leaves Listing input left = ReadsWhile IsShort input left
 Leaves (Run settings) input left = ReadsWhile IsWithin input left
 
--- what is written for a job and an input, and the status that the program ends with: it is that of
--- what the command answers, which tells of a read or a write just where one failed
+-- what is written for a job and an input, and the exit status of the program: it is that of what
+-- the command answers, which is a failed read or write if and only if one failed
 pub record Performs (crew : CrewAnswers) (job : Job) (input : List ℕ) (old new : Option (List ℕ))
     (reads_before reads_after writes_before writes_after : ℕ) (status : ℕ) : Type 0 where
   pub answer : Result Bool ConsoleFault

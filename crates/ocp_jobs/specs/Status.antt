@@ -1,4 +1,4 @@
--- The status that the program ends with.
+-- The exit status of the program.
 use Rattle.std.specs.Prelude.{◌≡◌, ◌≢◌, ◌⊎◌, ℕ, Bool, if◌then◌else◌, Result, Ok, Err}
 use Rattle.clap.specs.Values.{kind_of}
 use Rattle.clap.specs.declared.error.Error.{Error}
@@ -8,7 +8,7 @@ use Rattle.ocp_ports.specs.declared.fault.ConsoleFault.TheVariants as faults
 use Rattle.ocp_words.specs.declared.job.WordsFault.{WordsFault}
 use Rattle.ocp_words.specs.declared.job.WordsFault.TheVariants.{Usage, Memory}
 
--- with a fault of the input it is 1, and 3 where a device or the workers failed, or memory was
+-- with a fault of the input it is 1, and 3 if a device or the workers failed, or memory was
 -- refused
 abbrev pub status_of_fault : ConsoleFault → ℕ
 status_of_fault faults.TooManyLines = 1
@@ -19,8 +19,8 @@ status_of_fault faults.Write = 3
 status_of_fault faults.Memory = 3
 status_of_fault faults.Workers = 3
 
--- with a command's answer it is 0 where the command did what it was asked for, and 1 where its
--- output is the line of a fault of the input
+-- with a command's answer it is 0 if the command did what it was asked for, and 1 if it did
+-- not
 abbrev pub status_of : Result Bool ConsoleFault → ℕ
 status_of (Ok done) = if done then 0 else 1
 status_of (Err fault) = status_of_fault fault
@@ -29,8 +29,8 @@ status_of (Err fault) = status_of_fault fault
 abbrev pub AsksForText : Error → Type 0
 AsksForText error = (kind_of error ≡ DisplayHelp) ⊎ (kind_of error ≡ DisplayVersion)
 
--- With words that are no job it is 2 where they are a mistake. It is 3 where memory was refused, or
--- where the text that they ask for was not printed, and else 0.
+-- With words that are no job it is 2 if they are a mistake. It is 3 if memory was refused, or
+-- if the text that they ask for was not printed, and else 0.
 abbrev pub IsWordsStatus : WordsFault → ℕ → Type 0
 IsWordsStatus Memory status = status ≡ 3
 IsWordsStatus (Usage error) status =

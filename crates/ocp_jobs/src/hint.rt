@@ -1,4 +1,4 @@
-//! What is said of an input that is refused.
+//! Hints about an input that is refused.
 
 use crate::kept::{Keeps, Text};
 use ocp_console::MAX_LINES;
@@ -18,8 +18,8 @@ pub(crate) fn keeps_of(job: Job) -> Keeps {
     }
 }
 
-/// The line of a script that is refused, if it is a line; the octets are the script without so many
-/// lines at its front.
+/// The line of a script that is refused, if it is a line; the octets are the script without its
+/// first `before` lines.
 fn refused_line<'a>(
     profile: Profile,
     text: &'a [u8],
@@ -40,7 +40,7 @@ fn refused_line<'a>(
     })
 }
 
-/// What of the input of a job is refused, if it can be said.
+/// What of the input of a job is refused, if that is known.
 fn refusal_of<'a>(
     job: Job,
     octets: &'a [u8],
@@ -56,7 +56,7 @@ fn refusal_of<'a>(
     }
 }
 
-/// Says on standard error what did not fit in an input, if it can be said.
+/// Prints on standard error what was unexpected in an input, if that is known.
 pub(crate) fn say_hint<E: Eprint>(
     rt: &E,
     job: Job,

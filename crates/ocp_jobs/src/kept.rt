@@ -1,4 +1,4 @@
-//! What a job read and wrote, as far as a hint needs it.
+//! What a job read and wrote, to the extent that a hint needs it.
 
 ghost use Rattle.std.specs.Prelude.{◌≡◌, ◌≤◌, length};
 
@@ -15,21 +15,21 @@ use std::mem::swap;
 pub(crate) enum Keeps {
     /// All of it.
     Whole,
-    /// The lines that stand in the last read, from the front of the first of them on.
+    /// The lines in the last read, from the front of the first of them on.
     LastLines,
 }
 
-/// What was read, as far as it is kept. Where memory is refused for it, nothing is.
+/// What was read, to the extent that it is kept. Nothing is kept if memory for it is refused.
 #[derive(Drop)]
 pub(crate) struct Text {
     keeps: Keeps,
     octets: Vec<u8>,
     /// Room for what is kept next.
     spare: Vec<u8>,
-    /// How many lines stand in front of what is kept.
+    /// The number of lines before what is kept.
     before: u64,
-    /// How many lines end in what is kept, and where the line behind them begins; 0 where all is
-    /// kept.
+    /// The number of lines that end in what is kept, and where the line after them begins; 0 if all
+    /// is kept.
     ended: u64,
     open: usize,
     is_lost: bool,
@@ -38,7 +38,7 @@ pub(crate) struct Text {
 /// The most octets whose newlines are counted at a time, so that the count fits into an octet.
 const PIECE: usize = 255;
 
-/// How many newlines a piece has. No octet ends the loop, so that it takes many of them at a time.
+/// The number of newlines of a piece. No octet ends the loop, so that it takes many at a time.
 fn newlines_in(piece: &[u8]) -> u8
     requires { length piece.now ≤ 255 }
 {
@@ -49,7 +49,7 @@ fn newlines_in(piece: &[u8]) -> u8
     count
 }
 
-/// How many newlines there are.
+/// The number of newlines.
 fn newlines(octets: &[u8]) -> u64 {
     let mut count = 0u64;
     for piece in octets.chunks(PIECE) {
@@ -71,7 +71,7 @@ impl Text {
         }
     }
 
-    /// Keeps the line that has not ended, and no line in front of it.
+    /// Keeps the line that has not ended, and no line before it.
     fn cut(&mut self) -> Result<(), AllocError> {
         self.spare.clear();
         self.spare
@@ -83,7 +83,7 @@ impl Text {
         Ok(())
     }
 
-    /// Goes on with these octets behind the line that has not ended.
+    /// Appends these octets to the line that has not ended.
     fn go_on(&mut self, octets: &[u8]) -> Result<(), AllocError> {
         if self.ended != 0 {
             self.cut()?;
@@ -118,13 +118,13 @@ impl Text {
         }
     }
 
-    /// How many lines stand in front of what is kept.
+    /// The number of lines before what is kept.
     pub fn before(&self) -> u64 {
         self.before
     }
 }
 
-/// A source that keeps what it read, as far as the hints of its job need it.
+/// A source that keeps what it read, to the extent that the hints of its job need it.
 #[derive(Drop)]
 pub struct KeptSource<S: Source + Drop> {
     /// Where it reads from.
@@ -156,7 +156,7 @@ impl<S: Source + Drop> Source for KeptSource<S> {
     }
 }
 
-/// How many octets of an output are kept: more than the line of a fault has.
+/// The number of octets of an output that are kept: more than the line of a fault has.
 const FRONT: usize = 64;
 
 /// The front of what was written.
@@ -172,7 +172,7 @@ impl Front {
         }
     }
 
-    /// Takes octets that were written, as far as there is room.
+    /// Takes octets that were written, up to the room that is left.
     fn take(&mut self, octets: &[u8]) {
         for octet in octets {
             if self.octets.try_push(*octet).is_err() {

@@ -1,5 +1,5 @@
-//! What the program does of a job: its command, from a source to a sink, the exit status, and on
-//! standard error a hint where an input is refused.
+//! What the program does for a job: its command, from a source to a sink, the exit status, and on
+//! standard error a hint if an input is refused.
 #![tactic(auto)]
 
 mod hint;

@@ -46,10 +46,10 @@ fn answer_of<R: Source, W: Sink, C: Crew<Engine>>(
     }
 }
 
-/// Does a job, and gives the exit status: 0 where its command did what it was asked for, 1 with a
-/// fault of the input, of which it says on standard error what did not fit, and 3 where a device or
-/// the workers failed or memory was refused, which it says by name. What is said does not change
-/// what is written, nor the status.
+/// Does a job, and returns the exit status: 0 if its command did what it was asked for; 1 if the
+/// input has a fault, or `check` does not show all, with a hint on standard error if one is known;
+/// and 3 if a device or the workers failed or memory was refused, with its name on standard error.
+/// The text on standard error changes neither what is written nor the status.
 pub fn perform<E: Eprint + AllocGlobal, R: Source + Drop, W: Sink + Drop, C: Crew<Engine>>(
     rt: &E,
     crew: &C,

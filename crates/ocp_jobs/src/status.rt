@@ -1,4 +1,4 @@
-//! The status that the program ends with.
+//! The exit status of the program.
 
 ghost use Rattle.std.specs.Prelude.{◌≡◌};
 ghost use Rattle.std.specs.Process.{exit_status};
@@ -13,8 +13,8 @@ const INPUT_FAULT: u8 = 1;
 /// The exit status of a device that failed, of memory that was refused, or of workers that failed.
 const MACHINE_FAULT: u8 = 3;
 
-/// Says on standard error what failed in the machine, and gives the exit status of it, whether or
-/// not it could be said.
+/// Prints on standard error what failed in the machine, and returns its exit status, whether or
+/// not it could be printed.
 pub(crate) fn machine_fault<E: Eprint>(rt: &E, name: &str) -> ExitCode
     ensures { exit_status result ≡ 3 }
 {

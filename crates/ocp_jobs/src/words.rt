@@ -17,7 +17,7 @@ use std::{env, io};
 /// The exit status of a mistake in the words.
 const WORDS_FAULT: u8 = 2;
 
-/// What is said of words that are refused.
+/// The text about words that are refused.
 const WANTED_WORDS: &str = "The commands are run, asm, list and check. run takes --apid 0 to 2046, \
                             --pool 1 to 256, --journal 1 to 1000000 and --profile 1 or 2, asm \
                             --profile 1 or 2, check --pool 1 to 256 and --profile 1 or 2; numbers \
@@ -48,8 +48,8 @@ pub fn job_of_words<R: Env + AllocGlobal>(rt: &R) -> Result<Job, WordsFault> {
     job_of(alloc, &given)
 }
 
-/// Prints the text that the words ask for, or says on standard error what is wrong with them, and
-/// gives the exit status: 2 for a mistake, 3 where memory was refused or where the text was not
+/// Prints the text that the words ask for, or on standard error what is wrong with them, and
+/// returns the exit status: 2 for a mistake, 3 if memory was refused or the text was not
 /// printed, else 0.
 pub fn refuse_words<R: Print + Eprint>(rt: &R, fault: WordsFault) -> ExitCode
     ensures status { IsWordsStatus fault (exit_status result) }

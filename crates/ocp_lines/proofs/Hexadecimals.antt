@@ -22,7 +22,7 @@ pub one_more : (digits : List ℕ) (i value digit : ℕ) → i < length digits �
 one_more digits i value digit lt e is =
     fold_more (λ value digit. with_digit value (hex_digit_value digit)) (Some 0) digits i 0 lt ∙ rw (e, is) refl
 
--- no number has an octet behind it that is no digit
+-- no digit after an octet that is no digit makes a number
 none_stays : (digits : List ℕ) → fold (λ value digit. with_digit value (hex_digit_value digit)) None digits ≡ None
 none_stays [] = refl
 none_stays (digit ∷ digits) = none_stays digits

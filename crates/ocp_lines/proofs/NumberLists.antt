@@ -6,7 +6,7 @@ use Rattle.std.specs.List.{flat_map}
 use Rattle.ocp_lines.specs.Words.{Word, number_up_to}
 use Rattle.ocp_lines.specs.Grammar.{numbers, one_to_eight, parameters_in, both}
 
--- numbers in front of those that follow
+-- numbers before those that follow
 abbrev pub behind : List ℕ → Option (List ℕ) → Option (List ℕ)
 behind ns None = None
 behind ns (Some ms) = Some (ns ++ ms)

@@ -9,7 +9,7 @@ fold-rises : (value : ℕ) (digits : List ℕ) → value ≤ fold (λ value digi
 fold-rises value [] = omega arith
 fold-rises value (digit ∷ digits) = omega (arith, fold-rises (value * 10 + (digit - 48)) digits)
 
--- more digits say no smaller number
+-- more digits spell no smaller number
 pub value-rises : (word : List ℕ) (i : ℕ) → value_of (take i word) ≤ value_of word
 value-rises word i =
     let all : value_of word ≡ fold (λ value digit. value * 10 + (digit - 48)) (value_of (take i word)) (drop i word) =

@@ -1,4 +1,4 @@
--- The octets that a word says, where they are at most so many.
+-- The octets that a word spells, if they are not too many.
 use Rattle.std.proofs.Common.{◌≡◌, ◌≤◌, ◌<◌, ◌/◌, ℕ, List, refl, Some, None, Result, Ok, Err, true, false, length, leb, cond, Bool, arith}
 use Rattle.std.specs.Result.{result_ok}
 use Rattle.std.proofs.lemmas.Bool.{leb-true, leb-false}
@@ -7,7 +7,7 @@ use Rattle.hex.specs.declared.error.FromHexError.{FromHexError}
 use Rattle.hex.proofs.HexLemmas.{decode_of-ok}
 use Rattle.ocp_lines.specs.Words.{at_most, octets_up_to}
 
--- a word that is not too long says what its digits say
+-- a word that is not too long spells what its digits spell
 pub few_octets : (most : ℕ) (word : List ℕ) → length word / 2 ≤ most → result_ok (decode_of word) ≡ octets_up_to most word
 few_octets most word few = by_result (decode_of word) refl
   where
@@ -19,7 +19,7 @@ few_octets most word few = by_result (decode_of word) refl
     by_result (Err e) is = refl
     by_result (Ok bytes) is = by_size bytes is (leb (length bytes) most) refl
 
--- a word that is too long says none
+-- a word that is too long spells none
 pub many_octets : (most : ℕ) (word : List ℕ) → most < length word / 2 → None ≡ octets_up_to most word
 many_octets most word many = by_result (decode_of word) refl
   where

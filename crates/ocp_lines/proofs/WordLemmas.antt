@@ -77,7 +77,7 @@ none_is_space (a ∷ text) (suc n) le h =
     let first : eqb a 32 ≡ false = not_true (eqb a 32) (h 0 (omega arith) (omega arith)) in
     rw first (none_is_space text n (omega (arith, le)) (λ k low lt passes. h (suc k) (omega arith) (omega (arith, lt)) passes))
 
--- the place of the first space
+-- the position of the first space
 pub first_space : (text : List ℕ) (n : ℕ) → IsFirstByte (is_byte 32) text (Some n) → (n < length text) × (list_all is_solid (take n text) ≡ true) × (get_or text n 0 ≡ 32)
 first_space text n h =
     (h.0.high, none_is_space text n (omega (arith, h.0.high)) h.0.before, eqb-true (get_or text n 0) 32 h.1)

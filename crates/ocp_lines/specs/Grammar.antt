@@ -1,4 +1,4 @@
--- The lines of a console script, and what each says.
+-- The lines of a console script, and the meaning of each.
 use Rattle.std.specs.Prelude.{ℕ, ◌-◌, ◌^◌, ◌≤◌, ◌&&◌, ◌==◌, Bool, true, false, nat_le, nat_eq, if◌then◌else◌, List, [], ◌∷◌, length, Option, Some, None, codes}
 use Rattle.std.specs.List.{starts_with}
 use Rattle.std.specs.Str.{bytes_eq}
@@ -15,13 +15,13 @@ use Rattle.ocp_lines.specs.declared.command.TheConstants.{MAX_OCTETS_LENGTH, MAX
 use Rattle.ocp_lines.specs.declared.command.Command.{Command}
 use Rattle.ocp_lines.specs.declared.command.Command.TheVariants as command
 
--- ---- what a line can say
+-- ---- what a line can mean
 
 -- nothing, a packet's octets, a request with its acknowledgement flags, a time, some steps of a
 -- procedure, a round of it; a breakpoint that is set or cleared at a place of a procedure, whether
--- a procedure is traced, the trace records that are kept, a view of a procedure, so many octets of
--- its memory from an address on; a word of the pool, a word and the value that it gets, the number
--- of events; the reports of the completions that wait; so many workers with a budget and turns
+-- a procedure is traced, the trace records that are kept, a view of a procedure, a number of octets
+-- of its memory from an address on; a word of the pool, a word and the value that it gets, the
+-- number of events; the reports of the completions that are due; workers with a budget and turns
 pub data Meaning : Type 0 where
   Nothing : Meaning
   Up : List ℕ → Meaning
@@ -85,7 +85,7 @@ three_words f (word ∷ next ∷ []) = None
 three_words f (word ∷ next ∷ last ∷ []) = f word next last
 three_words f (word ∷ next ∷ last ∷ other ∷ words) = None
 
--- a first word, and those behind it
+-- a first word, and those after it
 abbrev pub first_word : {X : Type 0} → (Word → List Word → Option X) → List Word → Option X
 first_word f [] = None
 first_word f (word ∷ words) = f word words
@@ -107,7 +107,7 @@ three (Some x) None c f = None
 three (Some x) (Some y) None f = None
 three (Some x) (Some y) (Some z) f = Some (f x y z)
 
--- ---- what the words say
+-- ---- what the words mean
 
 -- an identifier, a place or a step
 abbrev pub short : Word → Option ℕ
@@ -173,7 +173,7 @@ load_in words =
     first_word (λ id rest.
     both (short id) (word_or_none (octets_up_to MAX_OCTETS_LENGTH) rest) Load) words
 
--- the budget of an activation, and the words behind it: under profile Two a word says it, and under
+-- the budget of an activation, and the words after it: under profile Two a word gives it, and under
 -- One it is 0
 abbrev pub budget_in : Profile → List Word → Option (ℕ × List Word)
 budget_in One words = Some (0, words)
@@ -309,7 +309,7 @@ abbrev pub words_say : Profile → List Word → Option Meaning
 words_say profile [] = Some Nothing
 words_say profile (name ∷ words) = command_in profile name words
 
--- The command that a line says, or none where its form is no other's. A line whose first octet is
+-- The command of a line, or none if its form is no command's. A line whose first octet is
 -- `#` is a comment.
 unfoldable pub command_of : Profile → List ℕ → Option Meaning
 command_of profile line =
@@ -322,16 +322,16 @@ IsCarried profile request =
     HasFittingBudget profile request
     × (length (request_data profile request) ≤ MAX_TELECOMMAND_DATA)
 
--- what a line of a profile can say
+-- what a line of a profile can mean
 abbrev pub IsSayable : Profile → Meaning → Type 0
 IsSayable profile (Send ack request) = IsCarried profile request
 IsSayable profile _ = Unit {0}
 
--- a command that a line of a profile can say
+-- a command that a line of a profile can mean
 abbrev pub Fits : Profile → Command → Type 0
 Fits profile command = IsSayable profile (meaning_of command)
 
--- ---- which lines take memory: those with a word in the place of hexadecimal digits
+-- ---- which lines take memory: those with a word in the position of hexadecimal digits
 
 -- how many words an activation with hexadecimal digits has
 abbrev pub activation_words : Profile → ℕ

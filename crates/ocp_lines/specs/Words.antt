@@ -26,16 +26,16 @@ pieces (octet ∷ octets) = if octet == 32 then [] ∷ pieces octets else onto o
 abbrev pub is_solid : ℕ → Bool
 is_solid octet = not (octet == 32)
 
--- the words of a text, which are parted by spaces
+-- the words of a text, which are separated by spaces
 abbrev pub words_of : List ℕ → List Word
 words_of text = filter (λ piece. not (is_empty piece)) (pieces text)
 
--- ---- what a word says
+-- ---- what a word spells
 
 abbrev pub is_digit : ℕ → Bool
 is_digit octet = nat_le 48 octet && nat_le octet 57
 
--- the number that decimal digits say
+-- the number that decimal digits spell
 abbrev pub value_of : List ℕ → ℕ
 value_of digits = fold (λ value digit. value * 10 + (digit - 48)) 0 digits
 
@@ -49,21 +49,21 @@ abbrev pub at_most : ℕ → Option (List ℕ) → Option (List ℕ)
 at_most most None = None
 at_most most (Some octets) = if nat_le (length octets) most then Some octets else None
 
--- hexadecimal digits of both cases, an even number of them: at most so many octets
+-- hexadecimal digits of both cases, an even number of them: at most `most` octets
 abbrev pub octets_up_to : ℕ → Word → Option (List ℕ)
 octets_up_to most word = at_most most (result_ok (decode_of word))
 
--- a number with one more hexadecimal digit behind it
+-- a number followed by one more hexadecimal digit
 abbrev pub with_digit : Option ℕ → Option ℕ → Option ℕ
 with_digit None digit = None
 with_digit (Some value) None = None
 with_digit (Some value) (Some digit) = Some (value * 16 + digit)
 
--- the number that hexadecimal digits of both cases say, or none where an octet is no such digit
+-- the number that hexadecimal digits of both cases spell, or none if an octet is no such digit
 abbrev pub hexadecimal : List ℕ → Option ℕ
 hexadecimal digits = fold (λ value digit. with_digit value (hex_digit_value digit)) (Some 0) digits
 
--- the number that 1 to 16 hexadecimal digits say
+-- the number that 1 to 16 hexadecimal digits spell
 abbrev pub sixteen_digits : List ℕ → Option ℕ
 sixteen_digits digits =
     if nat_le 1 (length digits) && nat_le (length digits) MAX_ADDRESS_DIGITS

@@ -1,12 +1,12 @@
-//! What a line says.
+//! The command of a line.
 
 ghost use Rattle.std.specs.Prelude.{◌<◌, ◌≤◌};
 
 use obcp_messages::Request;
 use pus_fields::MAX_TELECOMMAND_DATA;
 
-/// The most octets that a word says: the most code that a telecommand carries, whose identifier and
-/// length take four octets before it.
+/// The most octets that a word gives: the most code that a telecommand carries, whose identifier
+/// and length take four octets before it.
 pub const MAX_OCTETS_LENGTH: usize = MAX_TELECOMMAND_DATA - 4;
 
 /// The most instructions of a `step` or a `round` line.
@@ -31,7 +31,7 @@ pub struct Flags {
     pub ghost in_range: { number < 16 },
 }
 
-/// A number from 1 up to a most.
+/// A number from 1 to `MOST`.
 #[derive(Clone, Copy)]
 pub struct Count<const MOST: u32> {
     pub number: u32,
@@ -48,7 +48,7 @@ pub struct Shift {
     pub turns: Count<MAX_TURNS>,
 }
 
-/// What a line says.
+/// The command of a line.
 #[derive(Drop)]
 pub enum Command<'a> {
     /// A blank line or a comment: nothing.
@@ -104,9 +104,9 @@ pub enum Command<'a> {
         index: u64,
         value: u64,
     },
-    /// `journal`: how many events there were.
+    /// `journal`: the number of events.
     Journal,
-    /// `drain`: the reports of the completions that wait.
+    /// `drain`: the reports of the completions that are due.
     Drain,
     /// `work <workers> <budget> <turns>`: workers take turns at the running procedures.
     Work(Shift),

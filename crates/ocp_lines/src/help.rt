@@ -1,7 +1,7 @@
-//! What help says of a script. Nothing is proved of this text; `.ci/commands` compares it.
+//! The help text about a script. No proof covers this text; `.ci/commands` compares it.
 
-/// The lines of a script with the verbs of `send`, and what the numbers of its transcript say: the
-/// text behind the options in the help of the command that runs one.
+/// The lines of a script with the verbs of `send`, and the meaning of its transcript's numbers: the
+/// text after the options in the help of the command that runs one.
 pub const SCRIPT_HELP: &str = "Console lines:
   send <flags> <verb> ..                  a request; flags are a sum: 1 acceptance, 2 start,
                                           8 completion

@@ -1,4 +1,4 @@
-//! The lines of a console script: the octets of a line in, the command that they say out.
+//! The lines of a console script: the octets of a line in, its command out.
 #![tactic(auto)]
 
 mod command;

@@ -15,7 +15,7 @@ use crate::words::{
 use ocp_profile::Profile;
 use std::alloc::{AllocError, Allocator};
 
-/// The number that a word says, if it is at least 1 and at most so much.
+/// The number that a word spells, if it is at least 1 and at most `MOST`.
 fn count<const MOST: u32>(word: &[u8]) -> Option<Count<MOST>>
     ensures { option_map (λ count. count.number) result ≡ from_one (number_up_to MOST word.now) }
 {
@@ -206,12 +206,12 @@ fn plain_command<'a>(name: &[u8], arguments: &'a [u8]) -> Option<Command<'a>>
     }
 }
 
-/// The command that a line says, without its newline, or none where it is no command. A line of
-/// spaces alone is blank, and one whose first octet is `#` a comment: both say nothing. Words are
-/// parted by spaces, numbers are decimal digits, and octets pairs of hexadecimal digits of both
-/// cases. An activation has a budget under profile Two, and under One none. The octets that the
-/// line says stand in the scratch vector, in the place of what it held, and the command borrows
-/// them. Only memory is refused, and only for a line with a word in the place of octets.
+/// The command of a line, without its newline, or `None` if it is no command. A line of spaces
+/// alone is blank, and one whose first octet is `#` a comment: both do nothing. Words are separated
+/// by spaces, numbers are decimal digits, and octets pairs of hexadecimal digits of both cases. An
+/// activation has a budget under profile Two, and under One none. The octets that the line gives
+/// replace the content of the scratch vector, and the command borrows them. Only memory is refused,
+/// and only for a line with a word in the position of octets.
 #[tactic(auto, unfolding(crate::specs::Grammar::command_of))]
 pub fn read_command<'a, A: Allocator>(
     scratch: &'a mut Vec<u8, A>,
@@ -221,7 +221,7 @@ pub fn read_command<'a, A: Allocator>(
     ensures command { IfOk result
         (λ command. option_map meaning_of command ≡ command_of profile line.now) }
     ensures memory { OnErr result (IsTrue (takes_octets profile (words_of line.now))) }
-    // A request that it says is one that a telecommand of the profile can carry.
+    // A request in it is one that a telecommand of the profile can carry.
     ensures fits { IfOk result (λ command. IfSome command (Fits profile)) }
 {
     if line.starts_with(b"#") {

@@ -51,7 +51,7 @@ fn load<'a, A: Allocator>(
     }
 }
 
-/// The budget of an activation, and what stands behind it: under profile Two a word says it, and
+/// The budget of an activation, and what follows it: under profile Two a word gives it, and
 /// under One there is none, which is 0.
 fn budget(profile: Profile, text: &[u8]) -> Option<(u32, &[u8])>
     ensures { MatchOption result (budget_in profile (words_of text.now) ≡ None)

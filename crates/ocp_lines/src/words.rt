@@ -1,4 +1,4 @@
-//! The words of a line, and what they say.
+//! The words of a line, and their values.
 
 ghost use Rattle.std.specs.Prelude.{◌≡◌, ◌<◌, ◌≤◌, ◌-◌, ◌/◌, ◌∷◌, [], length, vec_capacity, true, take, slice_index, IfOk, OnErr, IfSome, IfNone, MatchOption, ◌≢◌, ◌⊎◌};
 ghost use Rattle.std.specs.List.{list_all};
@@ -17,7 +17,7 @@ const MAX_ADDRESS_DIGITS: usize = 16;
 /// The most octets of a text of which each is looked at by itself for a space.
 const SHORT_TEXT: usize = 64;
 
-/// How many octets stand before the first space.
+/// The number of octets before the first space.
 #[inline(always)]
 fn word_length(text: &[u8]) -> usize
     ensures bound { result ≤ length text.now }
@@ -38,7 +38,7 @@ fn word_length(text: &[u8]) -> usize
     text.len()
 }
 
-/// The first word, and what stands behind it.
+/// The first word, and what follows it.
 pub(crate) fn next_word(text: &[u8]) -> Option<(&[u8], &[u8])>
     ensures { MatchOption result (words_of text.now ≡ [])
         (λ found. words_of text.now ≡ found.0.now ∷ words_of found.1.now) }
@@ -92,7 +92,7 @@ pub(crate) fn three_words(text: &[u8]) -> Option<(&[u8], &[u8], &[u8])>
     Some((word, next, last))
 }
 
-/// The one word of a text, or the empty word where there is none.
+/// The one word of a text, or the empty word if there is none.
 fn word_or_none(text: &[u8]) -> Option<&[u8]>
     ensures some { IfSome result (λ word. (words_of text.now ≡ word.now ∷ [])
         ⊎ ((words_of text.now ≡ []) × (word.now ≡ []))) }
@@ -110,7 +110,7 @@ fn word_or_none(text: &[u8]) -> Option<&[u8]>
     }
 }
 
-/// The number that a word says, if it is at most so much.
+/// The number that a word spells, if it is at most `most`.
 pub(crate) fn number(word: &[u8], most: u64) -> Option<u64>
     ensures value { result ≡ number_up_to most word.now }
     ensures bound { IfSome result (λ value. value ≤ most) }
@@ -132,7 +132,7 @@ pub(crate) fn number(word: &[u8], most: u64) -> Option<u64>
     Some(value)
 }
 
-/// The number that a word says, if it has at most 16 bits.
+/// The number that a word spells, if it has at most 16 bits.
 pub(crate) fn short(word: &[u8]) -> Option<u16>
     ensures { result ≡ short word.now }
 {
@@ -140,7 +140,7 @@ pub(crate) fn short(word: &[u8]) -> Option<u16>
     Some(value as u16)
 }
 
-/// The number that a word says, if it has at most 32 bits.
+/// The number that a word spells, if it has at most 32 bits.
 pub(crate) fn long(word: &[u8]) -> Option<u32>
     ensures { result ≡ long word.now }
 {
@@ -148,14 +148,14 @@ pub(crate) fn long(word: &[u8]) -> Option<u32>
     Some(value as u32)
 }
 
-/// The number that the one word of a text says, if it has at most 16 bits.
+/// The number that the one word of a text spells, if it has at most 16 bits.
 pub(crate) fn one_short(text: &[u8]) -> Option<u16>
     ensures { result ≡ id_in (words_of text.now) }
 {
     short(one_word(text)?)
 }
 
-/// The numbers that two words say, if each has at most 16 bits.
+/// The numbers that two words spell, if each has at most 16 bits.
 pub(crate) fn two_shorts(text: &[u8]) -> Option<(u16, u16)>
     ensures { result ≡ two_shorts (words_of text.now) }
 {
@@ -164,7 +164,7 @@ pub(crate) fn two_shorts(text: &[u8]) -> Option<(u16, u16)>
     Some((value, short(next)?))
 }
 
-/// What a hexadecimal digit is worth, in either case.
+/// The value of a hexadecimal digit, in either case.
 fn digit(octet: u8) -> Option<u8>
     ensures value { result ≡ hex_digit_value octet }
     ensures bound { IfSome result (λ digit. digit < 16) }
@@ -177,7 +177,7 @@ fn digit(octet: u8) -> Option<u8>
     }
 }
 
-/// The number that hexadecimal digits say.
+/// The number that hexadecimal digits spell.
 fn hexadecimal(digits: &[u8]) -> Option<u64>
     requires { length digits.now ≤ MAX_ADDRESS_DIGITS }
     ensures { result ≡ hexadecimal digits.now }
@@ -189,7 +189,7 @@ fn hexadecimal(digits: &[u8]) -> Option<u64>
     Some(value)
 }
 
-/// The address that a word says: `0x` and 1 to 16 hexadecimal digits.
+/// The address that a word spells: `0x` and 1 to 16 hexadecimal digits.
 pub(crate) fn address(word: &[u8]) -> Option<u64>
     ensures { result ≡ address_in word.now }
 {
@@ -200,7 +200,7 @@ pub(crate) fn address(word: &[u8]) -> Option<u64>
     hexadecimal(digits)
 }
 
-/// The octets that a word of pairs of digits says, if they are not more than `most`. They are in
+/// The octets that a word of pairs of digits spells, if they are not more than `most`. They are in
 /// the scratch vector.
 fn octets<'a, A: Allocator>(
     scratch: &'a mut Vec<u8, A>,
@@ -217,8 +217,8 @@ fn octets<'a, A: Allocator>(
     octets_of(scratch, word)
 }
 
-/// The octets that the one word of a text says, if they are not more than `most`; none if there is
-/// no word. They are in the scratch vector.
+/// The octets that the one word of a text spells, if they are not more than `most`; none if there
+/// is no word. They are in the scratch vector.
 pub(crate) fn last_octets<'a, A: Allocator>(
     scratch: &'a mut Vec<u8, A>,
     text: &[u8],

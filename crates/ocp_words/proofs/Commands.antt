@@ -1,4 +1,4 @@
--- What a command is once something is added to it.
+-- What a command is after something is added to it.
 use Rattle.std.proofs.Common.{◌≡◌, Result, Ok, Err, ap, ap₂, refl, ◌∙◌, false}
 use Rattle.std.specs.Prelude.{IfOk}
 use Rattle.clap.specs.Words.{App, Rule, app_of, rule_of, with_rule, with_subcommand}

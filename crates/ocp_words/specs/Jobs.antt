@@ -14,23 +14,23 @@ use Rattle.clap.specs.declared.error.kind.ErrorKind.TheVariants.{InvalidValue}
 use Rattle.ocp_words.specs.declared.job.WordsFault.{WordsFault}
 use Rattle.ocp_words.specs.declared.job.WordsFault.TheVariants.{Usage, Memory}
 
--- the option's text is this number, which has so many bits
+-- the option's text is this number, which fits into `bits` bits
 abbrev pub HasNumber : ℕ → Text → List Row → ℕ → Type 0
 HasNumber bits id rows n =
     (text : Text) × (one_of id rows ≡ Some text) × ParsesUnsigned {E = Unit {0}} bits 10 text (Ok n)
 
--- the number of the profile stands in these rows
+-- the number of the profile is in these rows
 abbrev pub HasProfile : List Row → Profile → Type 0
 HasProfile rows profile = HasNumber 8 (codes "profile") rows (number_of profile)
 
--- the settings are the numbers that stand in these rows
+-- the settings are the numbers that are in these rows
 pub record HasSettings (rows : List Row) (s : Settings) : Type 0 where
   pub profile : HasProfile rows s.profile
   pub apid : HasNumber 16 (codes "apid") rows s.apid
   pub pool_words : HasNumber 16 (codes "pool") rows s.pool_words
   pub capacity : HasNumber 32 (codes "journal") rows s.capacity
 
--- the settings of a check are the numbers that stand in these rows
+-- the settings of a check are the numbers that are in these rows
 pub record HasCheckSettings (rows : List Row) (s : CheckSettings) : Type 0 where
   pub profile : HasProfile rows s.profile
   pub pool_words : HasNumber 16 (codes "pool") rows s.pool_words
@@ -51,7 +51,7 @@ IsJob (Some found) (Check s) = (found.0 ≡ codes "check") × HasCheckSettings f
 IsJob (Some found) Listing = found.0 ≡ codes "list"
 IsJob (Some found) (Run s) = (found.0 ≡ codes "run") × HasSettings found.1 s
 
--- a mistake in the words, or no memory
+-- a mistake in the words, or out of memory
 abbrev pub IsMistake : WordsFault → Type 0
 IsMistake (Usage error) = kind_of error ≡ InvalidValue
 IsMistake Memory = Unit {0}

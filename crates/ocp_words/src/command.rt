@@ -1,4 +1,4 @@
-//! The commands that there are.
+//! The program's commands.
 
 ghost use Rattle.std.specs.Prelude.{◌≡◌, ℕ, IfOk, codes, pos, false};
 ghost use Rattle.clap.specs.Words.{app_of, rule_of, new_app};
@@ -13,7 +13,7 @@ use ocp_lines::SCRIPT_HELP;
 use ocp_profile::{MAX_APID, MAX_CAPACITY, MAX_POOL_WORDS};
 use std::alloc::{AllocError, Global};
 
-/// A command with no options, and what help says of it.
+/// A command with no options, and its help text.
 fn plain_command<'a>(
     alloc: Global,
     name: &'a str,

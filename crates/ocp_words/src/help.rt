@@ -1,7 +1,7 @@
-//! What help and a mistake say of the commands. Nothing is proved of these texts; `.ci/commands`
-//! compares them.
+//! The texts of help and of mistakes about the commands. No proof covers these texts;
+//! `.ci/commands` compares them.
 
-/// What `--version` prints behind the name.
+/// What `--version` prints after the name.
 pub(crate) const VERSION: &str = "0.1.0";
 
 pub(crate) const OCP_USAGE: &str = "ocp [COMMAND] < FILE";

@@ -8,16 +8,16 @@ use clap::Error;
 use ocp_profile::{MAX_APID, MAX_CAPACITY, MAX_POOL_WORDS, Profile};
 use std::alloc::{AllocError, AllocFailed};
 
-/// What a run of the console is made with.
+/// The settings of a run of the console.
 #[derive(Clone, Copy)]
 pub struct Settings {
     /// The profile that the engine follows.
     pub profile: Profile,
     /// The engine's application process identifier, 0 to 2,046.
     pub apid: u16,
-    /// How many words the pool has, 1 to 256.
+    /// The number of words of the pool, 1 to 256.
     pub pool_words: u16,
-    /// How many entries the journal takes, 1 to 1,000,000.
+    /// The number of entries that the journal takes, 1 to 1,000,000.
     pub capacity: u32,
     pub ghost apid_in_range: { apid ≤ MAX_APID },
     pub ghost pool_in_range: { (1 ≤ pool_words) × (pool_words ≤ MAX_POOL_WORDS) },
@@ -49,12 +49,12 @@ impl Settings {
     }
 }
 
-/// What an image is checked for.
+/// The settings of a check of an image.
 #[derive(Clone, Copy)]
 pub struct CheckSettings {
     /// The profile under which the image is loaded.
     pub profile: Profile,
-    /// How many words the pool has, 1 to 256.
+    /// The number of words of the pool, 1 to 256.
     pub pool_words: u16,
 }
 

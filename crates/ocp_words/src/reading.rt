@@ -104,7 +104,7 @@ fn fault_of_error(error: Error) -> WordsFault {
     }
 }
 
-/// The job that these words ask the program's command for.
+/// The job that these words ask for, as the program's command reads them.
 fn job_of_words<'a>(command: &mut Command<'a>, words: &'a [&'a str]) -> Result<Job, WordsFault>
     requires { app_of command.old ≡ ocp }
     ensures { IfOk result (IsJob (subcommand_of ocp (map (λ word. word.now) words.entry.now))) }
