@@ -14,12 +14,12 @@ use Rattle.ocp_debug.specs.declared.command.DebugFault.TheVariants.{NotLoaded, N
 
 -- ---- refusals
 
--- a breakpoint stands at this place
+-- a breakpoint is set at this place
 abbrev pub is_set : ℕ → List ℕ → Bool
 is_set place breakpoints = list_any (λ at. at == place) breakpoints
 
--- a breakpoint is to be set: the place is that of an instruction, none stands there, and fewer than
--- eight are set
+-- why a breakpoint can't be set, if it can't: the place is not that of an instruction, one is set
+-- there, or eight are set
 abbrev pub set_fault : Rec → ℕ → Option DebugFault
 set_fault r place =
     if not (is_some (line_of r.image place)) then Some NotAnInstruction
@@ -27,7 +27,7 @@ set_fault r place =
     else if nat_le MAX_BREAKPOINTS (length r.breakpoints) then Some BreaksFull
     else None
 
--- why a command is refused of a record, where it is
+-- why a command on a record is refused, if it is
 abbrev pub fault_in : Command → Rec → Option DebugFault
 fault_in (SetBreak place) r = set_fault r place
 fault_in (ClearBreak place) r = if is_set place r.breakpoints then None else Some NotSet

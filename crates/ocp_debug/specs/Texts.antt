@@ -59,7 +59,7 @@ register_lines index [] = []
 register_lines index (register ∷ registers) =
     register_line index register ++ register_lines (index + 1) registers
 
--- 12 lines, or one where the procedure is not loaded
+-- 12 lines, or one if the procedure is not loaded
 abbrev pub view_lines : ℕ → Option View → List ℕ
 view_lines id None = codes "view " ++ decimal id ++ codes " NotLoaded\n"
 view_lines id (Some view) = view_line id view ++ register_lines 0 view.registers
@@ -76,7 +76,7 @@ outcome_text outcome.NotLoaded = codes "NotLoaded"
 outcome_text outcome.NotRunning = codes "NotRunning"
 outcome_text outcome.JournalFull = codes "JournalFull"
 
--- each with a space in front
+-- each after a space
 abbrev pub words_text : List ℕ → List ℕ
 words_text [] = []
 words_text (word ∷ words) = codes " " ++ word_text word ++ words_text words

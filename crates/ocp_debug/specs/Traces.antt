@@ -22,7 +22,7 @@ trace_of id outcome r line = record {
   line = line;
 }
 
--- where a line stands at the place; it always does in a table
+-- one record if a line is at the place; in a table one always is
 abbrev pub traces_at : Option Line → ℕ → InstructionOutcome → Rec → List Trace
 traces_at None id outcome r = []
 traces_at (Some line) id outcome r = trace_of id outcome r line ∷ []

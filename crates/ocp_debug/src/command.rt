@@ -18,14 +18,14 @@ pub enum DebugFault {
     NotLoaded,
     /// The place is not the first slot of an instruction.
     NotAnInstruction,
-    /// A breakpoint stands there already.
+    /// A breakpoint is set there already.
     AlreadySet,
     /// Eight breakpoints are set.
     BreaksFull,
-    /// No breakpoint stands there.
+    /// No breakpoint is set there.
     NotSet,
     /// There is no room for a further journal entry.
     JournalFull,
-    /// Not all octets lie in the procedure's memory.
+    /// Not all octets are in the procedure's memory.
     OutsideMemory,
 }

@@ -7,8 +7,8 @@ use crate::{Command, DebugFault, MAX_BREAKPOINTS};
 use ocp_table::Table;
 use std::alloc::Allocator;
 
-/// Decides: why a command is refused. No procedure has the id: NotLoaded. A breakpoint is refused
-/// as NotAnInstruction, AlreadySet and BreaksFull, and a clearing as NotSet.
+/// Decides why a command is refused. If no procedure has the id: NotLoaded. After that a breakpoint
+/// is refused as NotAnInstruction, AlreadySet or BreaksFull, and a clearing as NotSet.
 pub fn fault_of<A: Allocator>(table: &Table<A>, id: u16, command: Command) -> Option<DebugFault>
     ensures { result ≡ fault_on command (get table.now.records id) }
 {
@@ -29,7 +29,7 @@ pub fn fault_of<A: Allocator>(table: &Table<A>, id: u16, command: Command) -> Op
     }
 }
 
-/// Enacts a command. Where it is refused nothing changes.
+/// Does a command. If it is refused, nothing changes.
 pub fn apply<A: Allocator>(
     table: &mut Table<A>,
     id: u16,

@@ -5,14 +5,14 @@ ghost use Rattle.ocp_debug.specs.Clauses.{Command as Asked, Records, Trace as Ma
 
 use ocp_table::laws::debugging_keeps_runs;
 
-/// Whether records are given up one after another or all at once, the same ones are kept.
+/// The same records are kept, whether the others are dropped one after another or all at once.
 pub fn keeping_is_kept_up()
     ensures { (old new : List Made) →
         last_traces (last_traces old ++ new) ≡ last_traces (old ++ new) }
 {}
 
 /// A debugger's command leaves each procedure's image, machine, mailbox and control, and what
-/// remains of its budget.
+/// remains of its budget, as they are.
 pub fn commands_keep_runs()
     ensures { (command : Asked) (id q : ℕ) (m : Records) →
         run_of (get (records_by (command_effect command id m) m) q) ≡ run_of (get m q) }

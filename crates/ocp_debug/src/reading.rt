@@ -6,16 +6,15 @@ use crate::{DebugFault, View};
 use ocp_table::Table;
 use std::alloc::Allocator;
 
-/// Status, cause, place, depth, what is pending and the registers of a procedure, where it is
-/// loaded.
+/// Status, cause, place, depth, what is pending and the registers of a procedure, if it is loaded.
 pub fn view<A: Allocator>(table: &Table<A>, id: u16) -> Option<View>
     ensures { result ≡ view_at (get table.now.records id) }
 {
     table.view(id)
 }
 
-/// Reads octets of a procedure's memory from an address on, one into each of the slice. Refused as
-/// NotLoaded, and as OutsideMemory where one of them is not there; the slice then keeps its octets.
+/// Fills the slice with octets of a procedure's memory, from an address on. Refused as NotLoaded,
+/// and as OutsideMemory if one of them is not there; the slice then keeps its octets.
 pub fn memory<A: Allocator>(
     table: &Table<A>,
     id: u16,

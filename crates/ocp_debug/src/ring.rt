@@ -51,7 +51,7 @@ impl<A: Allocator> TraceRing<A> {
         self.records.get(index as usize)
     }
 
-    /// Adds a record. A full ring gives up its oldest one.
+    /// Adds a record. A full ring drops its oldest one.
     pub fn push(&mut self, trace: Trace)
         ensures { self.new ≡ last_traces (self.old ++ trace ∷ []) }
     {
@@ -71,8 +71,8 @@ impl<A: Allocator> TraceRing<A> {
 
     /// Appends the line of each record, the oldest first.
     ///
-    /// The only refusal is that of memory, and comes only where the lines do not fit into the
-    /// capacity that `output` has. It leaves `output` as it was.
+    /// It is refused only for memory, and only if the lines do not fit into the capacity that
+    /// `output` has. Then `output` stays as it was.
     pub fn write_lines<B: Allocator>(&self, output: &mut Vec<u8, B>) -> Result<(), AllocError>
         ensures { Appends (flat_map trace_line self.now) output.old output.new result }
     {

@@ -6,7 +6,7 @@ use crate::{StepOutcome, Trace, TraceRing};
 use ocp_table::{InstructionAnswer, Place, Pool, Table};
 use std::alloc::Allocator;
 
-/// The place of the next instruction, where the procedure is traced.
+/// The place of the next instruction, if the procedure is traced.
 fn traced_place<A: Allocator>(table: &Table<A>, id: u16, at: Place) -> Option<u16>
     ensures { result ≡ traced_place (get table.now.records id) }
 {
@@ -17,8 +17,8 @@ fn traced_place<A: Allocator>(table: &Table<A>, id: u16, at: Place) -> Option<u1
     Some(record.execution.machine().place())
 }
 
-/// Notes the instruction at this place, where it was done and is traced, by its outcome and the
-/// table after it.
+/// Adds the record of the instruction at this place, if it was done and is traced, by its outcome
+/// and the table after it.
 fn note<A: Allocator>(
     ring: &mut TraceRing<A>,
     table: &Table<A>,
@@ -30,7 +30,7 @@ fn note<A: Allocator>(
     ensures { ring.new ≡ last_traces (ring.old
         ++ option_to_list (trace_after id place outcome (get table.now.records id))) }
 {
-    // There are no more records than are kept: its own clause says so.
+    // There are no more records than are kept, by the contract of `len`.
     let _few = ring.len();
     let Some(place) = place else {
         return;

@@ -23,7 +23,7 @@ pub(crate) fn append_to<B: Allocator>(
     output.extend_from_slice(text.as_slice())
 }
 
-/// Appends a word in 16 hexadecimal digits, with a space in front.
+/// Appends a space and then a word in 16 hexadecimal digits.
 pub fn push_spaced_word<const ROOM: usize>(text: &mut bpf_canonical::Text<ROOM>, word: u64)
     requires { length text.old + 17 ≤ ROOM }
     ensures items { text.new ≡ text.old ++ codes " " ++ word_text word }

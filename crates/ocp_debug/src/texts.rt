@@ -71,8 +71,8 @@ fn push_registers(text: &mut Text, registers: &[u64; 11])
 /// Appends the lines of a view: the status and the eleven registers, or that the procedure is not
 /// loaded.
 ///
-/// The only refusal is that of memory, and comes only where the text does not fit into the capacity
-/// that `output` has. It leaves `output` as it was.
+/// It is refused only for memory, and only if the text does not fit into the capacity that `output`
+/// has. Then `output` stays as it was.
 pub fn view_text<B: Allocator>(
     id: u16,
     view: Option<View>,
@@ -114,7 +114,7 @@ pub(crate) fn line_of(trace: &Trace) -> Text
     text
 }
 
-/// Appends words, each with a space in front.
+/// Appends words, each after a space.
 fn push_words(text: &mut Text, words: &[u64])
     requires { length text.old + 17 * length words.now ≤ TEXT_OCTETS }
     ensures items { text.new ≡ text.old ++ words_text words.now }
@@ -127,8 +127,8 @@ fn push_words(text: &mut Text, words: &[u64])
 
 /// Appends the line of a trace record.
 ///
-/// The only refusal is that of memory, and comes only where the text does not fit into the capacity
-/// that `output` has. It leaves `output` as it was.
+/// It is refused only for memory, and only if the text does not fit into the capacity that `output`
+/// has. Then `output` stays as it was.
 pub fn trace_text<B: Allocator>(trace: &Trace, output: &mut Vec<u8, B>) -> Result<(), AllocError>
     ensures { Appends (trace_line trace.now) output.old output.new result }
 {

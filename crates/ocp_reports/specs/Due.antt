@@ -8,7 +8,7 @@ use Rattle.ocp_reports.specs.declared.origin.Origin.{Origin}
 use Rattle.ocp_reports.specs.Origin.{Dispatch}
 use Rattle.ocp_reports.specs.Reports.{dispatch_of_notice}
 
--- what the report of a completion repeats of its request: it goes to the request's source, and says
+-- what the report of a completion repeats of its request: it goes to the request's source, and has
 -- the time at which it is sent
 abbrev pub origin_of_due : ℕ → Due → Origin
 origin_of_due time due = record {
@@ -18,8 +18,8 @@ origin_of_due time due = record {
   time = time;
 }
 
--- the report of a completion that waited, sent at this time: [1,8] where it failed, and else [1,7]
--- where it was asked for
+-- the report of a completion that waited, sent at this time: [1,8] if it failed, and else [1,7] if
+-- it was asked for
 abbrev pub due_dispatches : ℕ → Due → List Dispatch
 due_dispatches time due =
     option_map_or (dispatch_of_notice (origin_of_due time due) [])

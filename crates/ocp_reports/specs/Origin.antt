@@ -23,7 +23,7 @@ origin_of_packet request time = record {
   time = time;
 }
 
--- a report on its way: where it goes, and the time that it says
+-- a report that is sent: where it goes, and the time in it
 pub record Dispatch : Type 0 where
   pub destination : ℕ
   pub time : ℕ

@@ -7,7 +7,7 @@ use Rattle.pus_fields.specs.TelemetryFaults as reading
 use Rattle.obcp_messages.specs.Report.{service_of, kind_of, report_data}
 use Rattle.ocp_reports.specs.Origin.{Dispatch}
 
--- what the packet of a report says: the sequence count is that of all reports before it
+-- a report's packet: its sequence count is the number of reports before it modulo SEQUENCE_COUNTS
 abbrev pub telemetry_of : ℕ → ℕ → Dispatch → Telemetry
 telemetry_of apid count dispatch = record {
   apid = apid;
@@ -19,7 +19,7 @@ telemetry_of apid count dispatch = record {
   payload = report_data dispatch.report;
 }
 
--- the packets of reports, of which so many were sent before
+-- the packets of reports, after `count` packets that were sent before
 abbrev pub packets : ℕ → ℕ → List Dispatch → List (List ℕ)
 packets apid count [] = []
 packets apid count (dispatch ∷ dispatches) =

@@ -12,8 +12,8 @@ use Rattle.verification.specs.Reports.{reports_of_outcome}
 use Rattle.ocp_reports.specs.declared.origin.Origin.{Origin}
 use Rattle.ocp_reports.specs.Origin.{Dispatch, dispatch_of}
 
--- the report of a notice about the request of this identifier; the answer report, where there is
--- one, stands at its place
+-- the report of a notice about the request of this identifier; for the answer it is the answer
+-- report, if there is one
 abbrev pub report_of : List ℕ → List Report → Notice → List Report
 report_of request answer notice.Accepted = report.Accepted request ∷ []
 report_of request answer (notice.NotAccepted failure) =

@@ -5,18 +5,18 @@ use Rattle.verification.specs.declared.notice.Notice.TheVariants as notice
 use Rattle.ocp_reports.specs.declared.buffer.TheConstants.{MAX_PACKETS, MAX_PACKET_OCTETS}
 use Rattle.ocp_reports.specs.Packets.{together}
 
--- one packet more, of at most so many octets, has room after these
+-- one packet more, of at most `octets` octets, has room after these
 pub record HasRoomAfter (packets : List (List ℕ)) (octets : ℕ) : Type 0 where
   pub few : length packets + 1 ≤ MAX_PACKETS
   pub room : length (together packets) + octets ≤ MAX_PACKET_OCTETS
 
--- at most one packet was added, of at most so many octets
+-- at most one packet was added, of at most `octets` octets
 pub record GrowsWithin (old new : List (List ℕ)) (octets : ℕ) : Type 0 where
   pub few : length new ≤ length old + 1
   pub short : length (together new) ≤ length (together old) + octets
 
--- the octets of a notice's packet are at most so many: those of a status report of 16 procedures,
--- of a failed start with a bad code, and of any other failure
+-- the most octets of a notice's packet: of a status report of 16 procedures, of a failed start with
+-- a bad code, and of any other notice
 abbrev pub most_octets : Notice → ℕ
 most_octets notice.Answer = 68
 most_octets (notice.NotStarted failure) = 28

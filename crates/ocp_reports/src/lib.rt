@@ -1,5 +1,4 @@
-//! The reports of a request, octet for octet: where they go, what they say and the packets that
-//! they are.
+//! The reports of a request, octet for octet: where they go, what they contain, and their packets.
 #![tactic(auto)]
 
 mod buffer;

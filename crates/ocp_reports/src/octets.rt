@@ -1,4 +1,4 @@
-//! Octets that are kept or handed out.
+//! Octets and reports that are kept, each with several handles.
 
 ghost use Rattle.std.specs.Prelude.{◌≡◌, ◌↔◌, ℕ, List, [], ◌∷◌, ◌++◌, ◌==◌, All, IsTrue, IfOk, OnOk, length};
 ghost use Rattle.std.specs.Arc.{arc_value};
@@ -34,7 +34,7 @@ impl<A: Allocator> Octets<A> {
         })
     }
 
-    /// One more handle. It takes no memory, and is refused where 2^63 - 1 share the octets.
+    /// One more handle. It takes no memory, and is refused if 2^63 - 1 share the octets.
     pub fn share(&self) -> Result<Self, AllocError>
         ensures { IfOk result (λ handle. handle ≡ self.now) }
     {
@@ -113,7 +113,7 @@ pub struct Reports<A: Allocator = Global> {
     packets: Arc<KeptPackets<A>, A>,
 }
 
-/// One call wherever reports end, in place of a drop of their parts there.
+/// Kept as one call: the proof of each caller is then shorter.
 impl<A: Allocator> Drop for Reports<A> {
     fn drop(self) {
         let Self { packets: _ } = self;
@@ -164,8 +164,8 @@ impl<A: Allocator> Reports<A> {
     }
 }
 
-/// The reports of a request, seen as their list, with a handle for each of those who keep them.
-/// All handles are taken before anything is changed, since one more may be refused.
+/// The reports of a request, seen as their list, with a handle for each who keeps them: the caller,
+/// the journal and the seat. All are taken before anything is changed, since one may be refused.
 #[derive(Drop)]
 pub struct SharedReports<A: Allocator = Global> {
     answer: Reports<A>,

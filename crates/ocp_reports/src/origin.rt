@@ -19,8 +19,8 @@ impl Origin {
     ghost use Rattle.ocp_reports.specs.Origin.{origin_of_packet};
     ghost use Rattle.ocp_reports.specs.Due.{origin_of_due};
 
-    /// That of a packet whose secondary header is not read: its reports go to destination 0, and no
-    /// report of success is asked for.
+    /// The origin of a packet whose secondary header is not read: its reports go to destination 0,
+    /// and no report of success is asked for.
     pub fn of_packet(request: [u8; 4], time: u32) -> Origin
         ensures { result ≡ origin_of_packet request time }
     {
@@ -32,8 +32,8 @@ impl Origin {
         }
     }
 
-    /// That of a completion that waited, sent at this time: its report goes to the source of the
-    /// request.
+    /// The origin of a completion that waited, sent at this time: its report goes to the source of
+    /// the request.
     pub fn of_due(due: &Due, time: u32) -> Origin
         ensures { result ≡ origin_of_due time due.now }
     {

@@ -24,7 +24,7 @@ pub struct Sender {
     pub count: SequenceCount,
 }
 
-/// A sequence count after so many more packets.
+/// A sequence count after `packets` more packets.
 #[tactic(auto, using(crate::proofs::Packets::counts))]
 pub fn count_after(count: SequenceCount, packets: usize) -> SequenceCount
     ensures { result ≡ (count + packets) % SEQUENCE_COUNTS }

@@ -5,7 +5,7 @@ use Rattle.std.specs.Prelude.{ℕ, ◌-◌, ◌≤◌, ◌==◌, min, Bool, fals
 abbrev pub budget_of : ℕ → Option ℕ
 budget_of budget = if budget == 0 then None else Some budget
 
--- what is left after one more instruction, and after so many
+-- what is left after one more instruction, and after n more
 abbrev pub one_less : Option ℕ → Option ℕ
 one_less None = None
 one_less (Some left) = Some (left - 1)
@@ -19,12 +19,12 @@ abbrev pub is_spent : Option ℕ → Bool
 is_spent None = false
 is_spent (Some left) = left == 0
 
--- so many instructions are at most what is left
+-- n instructions are at most what is left
 abbrev pub IsWithin : Option ℕ → ℕ → Type 0
 IsWithin None n = Unit {0}
 IsWithin (Some left) n = n ≤ left
 
--- so many, or what is left where that is less
+-- n, or what is left if that is less
 abbrev pub within : Option ℕ → ℕ → ℕ
 within None n = n
 within (Some left) n = min n left

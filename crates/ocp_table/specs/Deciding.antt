@@ -35,7 +35,7 @@ use Rattle.ocp_table.specs.RequestTable.{Directive, Step, Decision, Loads, Unloa
 abbrev pub is_full : Records → Bool
 is_full m = nat_le MAX_PROCEDURES (len m)
 
--- the first fault of an image, as a report says it
+-- the first fault of an image, as a report gives it
 abbrev pub bad_code : LoadFault → StartFailure
 bad_code fault = BadCode (number_of fault) (slot_of fault)
 
@@ -53,7 +53,7 @@ outcome_of_call (Some call) = Called call
 outcome_of_call None = Faulted (Pool BadPoolIndex)
 
 -- what the outcome of a machine is for its procedure. A place without an instruction has none: no
--- procedure of a table stands there, since it does not come in an image that may be run.
+-- procedure of a table is there, since no image that may be run has such a place.
 abbrev pub outcome_of : Outcome → State → List ℕ → List ℕ → Option InstructionOutcome
 outcome_of (Next s) machine pool mailbox = Some Ran
 outcome_of (Needs need.LastExit) machine pool mailbox = Some Ended
@@ -63,13 +63,13 @@ outcome_of (Needs (need.Call number)) machine pool mailbox =
     (engine_call number (read machine 1) (read machine 2) (read machine 3) pool mailbox))
 outcome_of NoInstruction machine pool mailbox = None
 
--- where nothing is left of the budget, that is a fault, and else the instruction is done
+-- a fault if nothing is left of the budget; else the instruction is done
 abbrev pub outcome_unheld : Rec → List ℕ → Option InstructionOutcome
 outcome_unheld r pool =
     if is_spent r.remaining then Some (Faulted BudgetSpent)
     else outcome_of (one_step r.image r.machine) r.machine pool r.mailbox
 
--- a breakpoint that stands at the place holds the procedure before that, unless the pass flag is on
+-- a breakpoint at the place holds the procedure before that, unless the pass flag is on
 abbrev pub outcome_in : Rec → List ℕ → Option InstructionOutcome
 outcome_in r pool =
     if breaks_at r.control.pass r.breakpoints r.machine.place then Some Broke
@@ -79,7 +79,7 @@ abbrev pub outcome_at : Option Rec → List ℕ → Option InstructionOutcome
 outcome_at None pool = None
 outcome_at (Some r) pool = outcome_in r pool
 
--- where there is none the procedure does not run
+-- without an outcome the procedure does not run
 abbrev pub effect_of_step : Option InstructionOutcome → ℕ → Effect
 effect_of_step (Some outcome) id = Changed id (Stepped outcome)
 effect_of_step None id = Kept (Failed NotRunning)
@@ -110,7 +110,7 @@ effect_by (Changes change) id o full = Changed id change
 effect_by (Steps pool) id o full = effect_of_step (outcome_at o pool) id
 effect_by (Fails failure) id o full = Kept (Failed failure)
 
--- by the record of the procedure, where it is loaded
+-- by the record of the procedure, if it is loaded
 abbrev pub effect_on : Directive → ℕ → Option Rec → Bool → Effect
 effect_on directive id o full = effect_by (decision_on directive o) id o full
 

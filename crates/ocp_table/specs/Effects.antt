@@ -63,7 +63,7 @@ pub data Effect : Type 0 where
 
 -- ---- the parts of a record after a change
 
--- the machine after an outcome: it stays where no next one is given
+-- the machine after an outcome: it stays if no next one is given
 abbrev pub machine_after : Outcome → State → State
 machine_after (Next s) m = s
 machine_after (Needs need) m = m
@@ -104,7 +104,7 @@ abbrev pub control_on_hold : Pending → Control → Control
 control_on_hold pending c =
     record { status = Held; pending = pending; pass = false; cause = c.cause }
 
--- an instruction was done: the pass flag goes off
+-- an instruction was done: the pass flag is cleared
 abbrev pub without_pass : Control → Control
 without_pass c = record { status = c.status; pending = c.pending; pass = false; cause = c.cause }
 
@@ -202,7 +202,7 @@ new_record profile image = record {
   remaining = None;
 }
 
--- what an effect leaves of the record of its procedure, where that is loaded and stays
+-- what an effect leaves of the record of its procedure, if that is loaded and stays
 abbrev pub record_after : Effect → Rec → Rec
 record_after (Changed id change) r = record_by change r
 record_after effect r = r
@@ -222,19 +222,19 @@ records_by (Kept why) m = m
 
 -- ---- the outbox after an effect
 
--- a completion that does not come, since something else came in between: it is reported whatever
--- its flags are
+-- the completion of what something else overtook: its failure is reported whatever its flags are
 abbrev pub failed_completion : Pending → List Due
 failed_completion pending.Nothing = []
 failed_completion (pending.Stop s from) = record { origin = from; failure = Some Overtaken } ∷ []
 failed_completion (pending.Suspend s from) = record { origin = from; failure = Some Overtaken } ∷ []
 
--- one that comes: it is reported where its flag is set
+-- the completion of what was done: it is reported if its flag is set
 abbrev pub due_completion : PendingOrigin → List Due
 due_completion from =
     if wants_completion from.ack then record { origin = from; failure = None } ∷ [] else []
 
--- what waits to be reported after the end of a step: its completion where it matches
+-- what waits to be reported after the end of a step: the completion of what is pending, if it
+-- matches
 abbrev pub dues_at_step_end : Pending → ℕ → List Due
 dues_at_step_end pending.Nothing k = []
 dues_at_step_end (pending.Stop s from) k = if matches s k then due_completion from else []
@@ -263,7 +263,7 @@ dues_by_change (BreakSet place) pending = []
 dues_by_change (BreakCleared place) pending = []
 dues_by_change (TraceSet on) pending = []
 
--- that of a procedure that is loaded
+-- the same for a procedure that is loaded; else nothing
 abbrev pub dues_of : Change → Option Rec → List Due
 dues_of change None = []
 dues_of change (Some r) = dues_by_change change r.control.pending
@@ -272,7 +272,7 @@ abbrev pub failed_completion_of : Option Rec → List Due
 failed_completion_of None = []
 failed_completion_of (Some r) = failed_completion r.control.pending
 
--- a procedure that is loaded or unloaded had nothing pending: this leaves nothing unsaid
+-- what a loaded or unloaded procedure had pending would be overtaken: it had nothing pending
 abbrev pub dues_by : Effect → Records → List Due
 dues_by (Loaded profile id image) m = failed_completion_of (get m id)
 dues_by (Unloaded id) m = failed_completion_of (get m id)
@@ -310,7 +310,7 @@ table_by effect t = record t {
 abbrev pub with_procedure : ℕ → Rec → Procedures → Procedures
 with_procedure id r t = record t { records = insert t.records id r }
 
--- a table with what is set in the record of a procedure, where that is loaded
+-- a table with what is set in the record of a procedure, if that is loaded
 abbrev pub table_with : ℕ → (Rec → Rec) → Procedures → Procedures
 table_with id set t = record t { records = records_with (get t.records id) id set t.records }
 
@@ -331,7 +331,7 @@ pool_by effect pool = pool
 
 -- ---- answers
 
--- why what was asked failed, where it did
+-- why what was asked failed, if it did
 abbrev pub failure_of : Effect → Option StartFailure
 failure_of (Kept (Failed failure)) = Some failure
 failure_of effect = None
@@ -351,14 +351,13 @@ step_outcome_of (Called call) = step.Called
 step_outcome_of Ended = step.Ended
 step_outcome_of (Faulted fault) = step.Faulted (fault_number fault)
 
--- the answer to an instruction event: where none is done, the procedure is not loaded or does not
--- run
+-- the answer to an instruction event: if none is done, the procedure is not loaded or does not run
 abbrev pub step_outcome : Effect → StepOutcome
 step_outcome (Changed id (Stepped outcome)) = step_outcome_of outcome
 step_outcome (Kept (Failed failure.NotLoaded)) = step.NotLoaded
 step_outcome effect = step.NotRunning
 
--- how an instruction event is refused, where it is
+-- how an instruction event is refused, if it is
 abbrev pub refusal_of : Effect → Option StepOutcome
 refusal_of (Kept (Failed failure)) = Some (step_outcome (Kept (Failed failure)))
 refusal_of effect = None

@@ -1,4 +1,4 @@
--- The number of the fault that a procedure ends in, as texts, views and traces say it.
+-- The number of the fault that a procedure ends in, as texts, views and traces show it.
 use Rattle.std.specs.Prelude.{ℕ}
 use Rattle.bpf_step.specs.Machine as machine
 use Rattle.ocp_pool.specs.Call as pool

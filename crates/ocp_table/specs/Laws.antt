@@ -1,4 +1,4 @@
--- What the laws of the table say.
+-- What the laws of the table state.
 use Rattle.std.specs.Prelude.{◌≡◌, ◌⊎◌, List, [], ℕ, Option, Some, None}
 use Rattle.ocp_profile.specs.declared.profile.Profile.{Profile}
 use Rattle.bpf_step.specs.Machine.{State, machine_at_start, machine_at_restart}
@@ -7,19 +7,19 @@ use Rattle.ocp_table.specs.Records.{Rec}
 use Rattle.ocp_table.specs.Effects.{Change, BreakSet, BreakCleared, TraceSet}
 use Rattle.ocp_table.specs.RequestTable.{Directive, Load, Unload, Activate, Step}
 
--- the machine of a procedure, where it is loaded
+-- the machine of a procedure, if it is loaded
 abbrev pub machine_of : Option Rec → Option State
 machine_of None = None
 machine_of (Some r) = Some r.machine
 
--- a machine that was there is started anew with some arguments
+-- a machine that was there is restarted with some arguments
 abbrev pub IsRestarted : Option State → State → Type 0
 IsRestarted None machine = ⊥
 IsRestarted (Some before) machine =
     (arguments : List ℕ) × (machine ≡ machine_at_restart arguments before)
 
--- the machine that there is afterwards is the one that was there, or a new one of some profile, or
--- the one that was there was started anew
+-- the machine that there is afterwards is the one that was there, or that one restarted, or a new
+-- one of some profile
 abbrev pub IsKeptOrStarted : Option State → Option State → Type 0
 IsKeptOrStarted old new =
     (machine : State) → new ≡ Some machine →
@@ -47,7 +47,7 @@ pub record Run : Type 0 where
   pub control : Control
   pub remaining : Option ℕ
 
--- that of a procedure, where it is loaded
+-- that of a procedure, if it is loaded
 abbrev pub run_of : Option Rec → Option Run
 run_of None = None
 run_of (Some r) = Some (record {

@@ -30,7 +30,7 @@ is_outbox_full m outbox = nat_le OUTBOX_PLACES (length outbox + pendings m)
 abbrev pub has_no_place : Procedures → Bool
 has_no_place t = is_outbox_full t.records t.outbox
 
--- there is a place for what is pending beside what waits
+-- there is a place for what is pending, after what waits
 abbrev pub HasPlaceBeside : List Due → Pending → Type 0
 HasPlaceBeside outbox pending = length outbox + places_of pending ≤ OUTBOX_PLACES
 

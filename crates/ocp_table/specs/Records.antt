@@ -16,7 +16,7 @@ pub record Execution : Type 0 where
   pub image : List ℕ
   pub machine : State
 
--- the image may be run by some profile, and the machine stands at an instruction of it
+-- the image may be run by some profile, and the machine is at an instruction of it
 pub record IsAdmittedAt (image : List ℕ) (machine : State) : Type 0 where
   pub admitted : (profile : Profile) × IsOk (load_result profile image)
   pub begins : IsPlace image 0
@@ -24,8 +24,8 @@ pub record IsAdmittedAt (image : List ℕ) (machine : State) : Type 0 where
 
 -- the mailbox has the words that the procedure was sent and has not taken, the oldest first; the
 -- control is what requests and instructions set: the status, what is pending, the pass flag, and
--- why the procedure became inactive; the breakpoints are places of the program; the budget is the
--- number of instructions that an activation allows, of which so many remain, where it has one
+-- why the procedure became inactive; the breakpoints are places of the program; what remains of the
+-- budget is the number of instructions that the activation still allows, if it set one
 pub record Rec : Type 0 where
   pub image : List ℕ
   pub machine : State

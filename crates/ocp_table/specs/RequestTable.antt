@@ -1,6 +1,6 @@
 -- The request table: what each request, and an instruction event, does to a procedure that is not
 -- loaded (None), inactive, running or held, with p pending and n words in its mailbox. `Deciding`
--- says what effect that has, and `Effects` what the effect makes of the records.
+-- defines what effect that has, and `Effects` what the effect makes of the records.
 use Rattle.std.specs.Prelude.{ℕ, ◌+◌, Bool, nat_le, if◌then◌else◌, List, length, Option, Some, None}
 use Rattle.obcp_types.specs.declared.status.Status.{Status}
 use Rattle.obcp_types.specs.declared.status.Status.TheVariants.{Inactive, Running, Held}
@@ -17,7 +17,7 @@ use Rattle.ocp_table.specs.Effects.{Change, Started, Sent, Pended, Quit, Resumed
 -- what is asked of a procedure: to load an image that its profile admits, to be dropped, to start
 -- with a budget (0 is none) and arguments, to stop or to be held at the end of a step (0 is any),
 -- with the request's origin and whether no place is free for what would be pending, to run on, to
--- end at once, to take words, to do its next instruction, with the pool as it stands
+-- end at once, to take words, to do its next instruction, with the pool as it is
 pub data Directive : Type 0 where
   Load : Profile → List ℕ → Directive
   Unload : Directive
@@ -44,7 +44,7 @@ communication words there =
     if nat_le (there + length words) MAX_MAILBOX_WORDS then Changes (Sent words)
     else Fails MailboxFull
 
--- a stop or suspend becomes pending where a place is free for it, and else what was pending stays
+-- a stop or suspend becomes pending if a place is free for it; else what was pending stays
 abbrev pub postponement : Bool → Pending → Decision
 postponement full pending = if full then Fails OutboxFull else Changes (Pended pending)
 
@@ -90,7 +90,7 @@ transition (Step pool) (Some Inactive) p n = Fails NotRunning
 transition (Step pool) (Some Running) p n = Steps pool
 transition (Step pool) (Some Held) p n = Fails NotRunning
 
--- why it fails by the table, where it does
+-- why it fails by the table, if it does
 abbrev pub failure_by : Decision → Option StartFailure
 failure_by (Fails failure) = Some failure
 failure_by decision = None

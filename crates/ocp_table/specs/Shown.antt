@@ -37,7 +37,7 @@ module _ {A : Type 0} where
     remaining = r.remaining;
   }
 
--- what a request asks, where all places for pending and unreported completions are taken or not
+-- what a request asks, by whether all places for pending and unreported completions are taken
 abbrev pub directive_of : D.Directive → Bool → Directive
 directive_of directive.Unload full = Unload
 directive_of (directive.Activate budget arguments) full = Activate budget arguments.now
@@ -66,23 +66,23 @@ abbrev pub effect_decided : ℕ → B.Decision → Effect
 effect_decided id decision.Unloads = Unloaded id
 effect_decided id (decision.Changes change) = Changed id (change_of change)
 
--- what holds of the change, where a change was decided
+-- what holds of the change, if a change was decided
 abbrev pub IfChanges : B.Decision → (Change → Type 0) → Type 0
 IfChanges decision.Unloads P = Unit {0}
 IfChanges (decision.Changes change) P = P (change_of change)
 
--- the effect of a directive on a record of the table, in which whether the table is full is not
--- asked
+-- the effect of a directive on a record of the table, which does not depend on whether the table is
+-- full
 abbrev pub effect_of_record : {A : Type 0} → Directive → Record A → Effect
 effect_of_record directive r = effect_on directive (id_of r) (Some (record_of r)) true
 
--- what an effect on the own record files, by what is pending there
+-- what an effect on the procedure's own record adds to the outbox, by what is pending there
 abbrev pub dues_of_effect : Effect → Pending → List Due
 dues_of_effect (Changed id change) pending = dues_by_change change pending
 dues_of_effect (Unloaded id) pending = failed_completion pending
 dues_of_effect effect pending = []
 
--- arguments that the machine's memory has room for
+-- the machine's memory has room for the arguments
 abbrev pub HasFewArguments : Directive → Type 0
 HasFewArguments (Activate budget arguments) = length arguments ≤ ARGUMENT_OCTETS
 HasFewArguments other = Unit {0}
@@ -93,7 +93,7 @@ FitsIn (Started budget arguments) o = length arguments ≤ ARGUMENT_OCTETS
 FitsIn (Sent words) o = words_of o + length words ≤ MAX_MAILBOX_WORDS
 FitsIn other o = Unit {0}
 
--- a change whose completion finds a place, where all places are taken or not
+-- the completion of a change finds a place, by whether all places are taken
 abbrev pub HasPlaceFor : Bool → Change → Type 0
 HasPlaceFor full (Pended pending) = full ≡ false
 HasPlaceFor full other = Unit {0}

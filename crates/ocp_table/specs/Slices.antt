@@ -31,7 +31,7 @@ pub record Store : Type 0 where
   pub outbox : List Due
   pub pool : List ℕ
 
--- that of a table and a pool
+-- the store of a table and a pool
 abbrev pub store_of : Procedures → List ℕ → Store
 store_of t pool = record { records = t.records; outbox = t.outbox; pool = pool }
 
@@ -59,12 +59,12 @@ is_running_status Inactive = false
 is_running_status Running = true
 is_running_status Held = false
 
--- a procedure that is there runs
+-- a procedure is loaded and runs
 abbrev pub is_running : Option Rec → Bool
 is_running None = false
 is_running (Some r) = is_running_status r.control.status
 
--- a procedure that is there is traced
+-- a procedure is loaded and is traced
 abbrev pub is_traced : Option Rec → Bool
 is_traced None = false
 is_traced (Some r) = r.traced
@@ -161,7 +161,7 @@ EndNoStep id n s =
 
 -- ---- instructions that a machine does by itself
 
--- the pass flag goes off with the first of them
+-- the first of them clears the pass flag
 abbrev pub control_after : ℕ → Control → Control
 control_after zero c = c
 control_after (suc n) c = without_pass c
@@ -182,13 +182,13 @@ pub record RunsBy (m : Records) (id : ℕ) (r : Rec) (n : ℕ) (machine : State)
   pub within : IsWithin r.remaining n
   pub ran : local_run r.image r.breakpoints r.control.pass r.machine n ≡ Some machine
 
--- the answer to the last of so many events that are answered so, after this one
+-- the last answer after n more events that are each answered `Ran`, from this answer on
 abbrev pub last_ran : ℕ → StepOutcome → StepOutcome
 last_ran zero last = last
 last_ran (suc n) last = S.Ran
 
--- so many events lead from a store to another, after each of them a slice goes on, and the last
--- outcome so far becomes another
+-- n events lead from a store to another, after each of them a slice goes on, and the last outcome
+-- so far becomes another
 pub record Leads (id n : ℕ) (s : Store) (last : StepOutcome) (t : Store) (next : StepOutcome)
     : Type 0 where
   pub store : store_after_events id n s ≡ t

@@ -39,11 +39,11 @@ abbrev pub snapshot_at : Option Rec → Option Snapshot
 snapshot_at None = None
 snapshot_at (Some r) = snapshot_by r.control.status r
 
--- the machine after so many instructions that it does by itself
+-- the machine after `count` instructions that it does by itself
 abbrev pub run_of : Snapshot → ℕ → Option State
 run_of s count = local_run s.image s.breakpoints s.pass s.machine count
 
--- how many it does by itself, up to a number and to what is left of its budget: none where it is
+-- how many it does by itself, up to a number and to what is left of its budget: none if it is
 -- traced
 abbrev pub count_by : Bool → Snapshot → ℕ → ℕ
 count_by true s n = 0
@@ -52,7 +52,7 @@ count_by false s n = local_count s.image s.breakpoints s.pass s.machine n
 abbrev pub count_of : Snapshot → ℕ → ℕ
 count_of s n = count_by s.traced s (within s.remaining n)
 
--- another machine that did so many instructions is put back: the pass flag goes off, and they are
+-- another machine that did `count` instructions is put back: the pass flag is cleared, and they are
 -- taken from the budget
 abbrev pub record_after_work : ℕ → State → Rec → Rec
 record_after_work count machine r = record r {
@@ -61,12 +61,12 @@ record_after_work count machine r = record r {
   remaining = less count r.remaining;
 }
 
--- the procedure gives its own machine for it, where it is loaded
+-- the procedure gives its own machine for it, if it is loaded
 abbrev pub machine_for : Option Rec → State → State
 machine_for None machine = machine
 machine_for (Some r) machine = r.machine
 
--- the machine and its saved places stand at instructions of the procedure, where it is loaded
+-- the machine and its saved places are at instructions of the procedure, if it is loaded
 abbrev pub StandsAt : Option Rec → State → Type 0
 StandsAt None machine = Unit {0}
 StandsAt (Some r) machine = StandsIn r.image machine

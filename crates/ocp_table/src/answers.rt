@@ -8,7 +8,7 @@ use ocp_pool::Called;
 /// What an instruction event did to a running procedure.
 #[derive(Clone, Copy)]
 pub enum InstructionOutcome {
-    /// A breakpoint stands at the place: the procedure is held, and nothing was run.
+    /// A breakpoint is set at the place: the procedure is held, and nothing was run.
     Broke,
     Ran,
     /// An engine call was answered.
@@ -23,7 +23,7 @@ pub enum InstructionOutcome {
 /// table has no journal, and never answers the last one.
 #[derive(Clone, Copy, PartialEq, Eq, Debug)]
 pub enum StepOutcome {
-    /// A breakpoint stands at the place: the procedure is held, and nothing was run.
+    /// A breakpoint is set at the place: the procedure is held, and nothing was run.
     Broke,
     Ran,
     /// An engine call was answered.

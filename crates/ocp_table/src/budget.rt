@@ -2,7 +2,7 @@
 ghost use Rattle.std.specs.Prelude.{◌≡◌};
 ghost use Rattle.ocp_table.specs.Clauses.{less, within};
 
-/// What is left after so many more instructions.
+/// What is left after `count` more instructions.
 #[inline(always)]
 pub(crate) fn less(count: u32, remaining: Option<u32>) -> Option<u32>
     ensures { result ≡ less count remaining }
@@ -10,7 +10,7 @@ pub(crate) fn less(count: u32, remaining: Option<u32>) -> Option<u32>
     remaining.map(|left| left.saturating_sub(count))
 }
 
-/// Takes so many instructions from what is left. Where no budget is set, nothing is written.
+/// Takes `count` instructions from what is left. Writes nothing if no budget is set.
 #[inline(always)]
 pub(crate) fn spend(count: u32, remaining: &mut Option<u32>)
     ensures { remaining.new ≡ less count remaining.old }
@@ -20,7 +20,7 @@ pub(crate) fn spend(count: u32, remaining: &mut Option<u32>)
     }
 }
 
-/// So many, or what is left where that is less.
+/// `most`, or what is left if that is less.
 #[inline(always)]
 pub(crate) fn within(remaining: Option<u32>, most: u32) -> u32
     ensures { result ≡ within remaining most }

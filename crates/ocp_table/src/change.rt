@@ -11,8 +11,8 @@ use std::alloc::Allocator;
 /// What a request does to the record of its procedure.
 #[derive(Clone, Copy)]
 pub enum Change<'a> {
-    /// It starts from its first instruction, with a budget of so many instructions, where it is not
-    /// 0, and with these arguments. What was pending is overtaken, and the mailbox is empty.
+    /// It starts from its first instruction, with these arguments and a budget of `budget`
+    /// instructions (0 is no budget). What was pending is overtaken, and the mailbox is empty.
     Started { budget: u32, arguments: &'a [u8] },
     /// It gets these words into its mailbox.
     Sent(&'a [u64]),
@@ -41,8 +41,8 @@ pub struct Decided<'a> {
 }
 
 impl<A: Allocator> Record<A> {
-    /// Decides what a directive does, where all places for completions are taken or not, or why it
-    /// fails.
+    /// Decides what a directive does, or why it fails. `full` says whether there is no room for one
+    /// more completion.
     pub(crate) fn decide<'a>(
         &self,
         directive: Directive<'a>,
@@ -98,7 +98,7 @@ impl<A: Allocator> Record<A> {
         }
     }
 
-    /// Enacts what was decided. What it overtakes goes to the outbox.
+    /// Makes the change. The completion that it overtakes goes to the outbox.
     pub(crate) fn enact(&mut self, change: Change<'_>, outbox: &mut Outbox)
         requires fits { FitsIn (change_of change) (Some (record_of self.old)) }
         requires place { HasPlaceBeside outbox.old.items self.old.control.pending }

@@ -14,8 +14,8 @@ pub enum Cause {
     Fault(ProcedureFault),
 }
 
-/// What is done at the end of a step: of any step where the number is 0, and else of that one. It
-/// has the origin of its request, to which its completion is reported.
+/// What is done at the end of a step: of any step if the number is 0, and else of that one. It has
+/// the origin of its request, to which its completion is reported.
 #[derive(Clone, Copy)]
 pub enum Pending {
     Nothing,
@@ -28,7 +28,7 @@ pub enum Pending {
 pub struct Control {
     pub status: Status,
     pub pending: Pending,
-    /// The next instruction is done although a breakpoint stands at its place.
+    /// The next instruction is done even if a breakpoint is set at its place.
     pub pass: bool,
     pub cause: Cause,
 }
@@ -44,7 +44,7 @@ ghost use Rattle.std.specs.Prelude.{◌≡◌};
 ghost use Rattle.ocp_table.specs.Clauses.{control_at_step_end, control_by_outcome, control_on_hold, inactive, matches, without_pass};
 
 impl Control {
-    /// That of a procedure that became inactive: nothing is pending.
+    /// The control of a procedure that became inactive: nothing is pending.
     pub(crate) fn inactive(cause: Cause) -> Control
         ensures { result ≡ inactive cause }
     {
@@ -56,7 +56,7 @@ impl Control {
         }
     }
 
-    /// The next instruction passes no breakpoint. Where that is so already, nothing is written.
+    /// Clears the pass flag. Writes nothing if it is clear already.
     #[inline(always)]
     pub(crate) fn end_pass(&mut self)
         ensures { self.new ≡ without_pass self.old }
@@ -88,7 +88,7 @@ impl Control {
         }
     }
 
-    /// An instruction event was done so.
+    /// Updates the control after an instruction event with this outcome.
     #[inline(always)]
     pub(crate) fn follow(&mut self, outcome: InstructionOutcome)
         ensures { self.new ≡ control_by_outcome outcome self.old }

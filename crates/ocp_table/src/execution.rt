@@ -12,7 +12,7 @@ use std::alloc::{AllocError, Allocator};
 use std::marker::Model;
 
 /// A program and the machine that runs it, each with room for any image and profile. The machine
-/// always stands at an instruction of the program.
+/// is always at an instruction of the program.
 #[derive(Drop)]
 pub struct Execution<A: Allocator> {
     program: Program<A>,
@@ -48,7 +48,7 @@ impl<A: Allocator> Execution<A> {
     }
 
     /// Becomes the program of an image that may be run under the profile, and a machine at its
-    /// first instruction. Else refused with the first fault of the image; then nothing is changed.
+    /// first instruction. Else it is refused with the image's first fault, and nothing is changed.
     pub(crate) fn load(
         &mut self,
         lines: &mut Lines<A>,
@@ -78,8 +78,8 @@ impl<A: Allocator> Execution<A> {
         })
     }
 
-    /// Becomes the same as another one, whose machine's memory has the same addresses. A program
-    /// that is the same already is not copied.
+    /// Becomes equal to another one, whose machine's memory has the same addresses. A program that
+    /// is equal already is not copied.
     pub(crate) fn copy_from(&mut self, other: &Execution<A>)
         requires { HasAddressesOf self.old.machine other.now.machine }
         ensures { self.new ≡ other.now }
@@ -116,7 +116,7 @@ impl<A: Allocator> Execution<A> {
         self.machine.exchange(machine);
     }
 
-    /// Starts the machine anew with at most 256 octets of arguments.
+    /// Restarts the machine with at most 256 octets of arguments.
     pub(crate) fn start(&mut self, arguments: &[u8])
         requires { length arguments.now ≤ ARGUMENT_OCTETS }
         ensures image { self.new.image ≡ self.old.image }
@@ -161,8 +161,8 @@ impl<A: Allocator> Execution<A> {
         }
     }
 
-    /// Does instructions that need no engine, at most so many, and says how many. It stops before a
-    /// breakpoint, which the pass flag lets the first instruction pass.
+    /// Does instructions that need no engine, up to `budget`, and returns their number. It stops
+    /// before a breakpoint, but the pass flag lets the first instruction pass one.
     #[inline(always)]
     pub(crate) fn advance(&mut self, breakpoints: &[u16], pass: bool, budget: u32) -> u32
         ensures ran { local_run self.old.image breakpoints.now pass self.old.machine result ≡

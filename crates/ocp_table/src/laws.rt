@@ -17,7 +17,7 @@ pub fn failures_change_nothing()
         failure_of effect ≡ Some failure → records_by effect m ≡ m }
 {}
 
-/// A directive leaves every other procedure's record.
+/// A directive leaves every other procedure's record as it is.
 pub fn a_directive_changes_its_own_procedure()
     ensures { (directive : Asked) (id other : ℕ) (m : Records) →
         other ≢ id → get (records_by (effect_in directive id m) m) other ≡ get m other }
@@ -29,8 +29,8 @@ pub fn only_running_procedures_step()
         is_some (failure_of (effect_in (Step pool) id m)) ≡ true }
 {}
 
-/// A request leaves each procedure's machine, or starts it anew, or loads a new one: it is never
-/// changed in the midst of its run.
+/// A request leaves each procedure's machine as it is, restarts it, or loads a new one. It never
+/// changes a machine in the middle of its run.
 pub fn requests_keep_or_start_machines()
     ensures { (directive : Asked) (id q : ℕ) (m : Records) → IsRequest directive →
         IsKeptOrStarted
@@ -38,30 +38,30 @@ pub fn requests_keep_or_start_machines()
         (machine_of (get (records_by (effect_in directive id m) m) q)) }
 {}
 
-/// What was loaded under an identifier that was free is unloaded again, and then nothing is left of
-/// it.
+/// An unload takes a load back: after a load under a free identifier and an unload, the table is as
+/// it was.
 pub fn an_unload_takes_a_load_back()
     ensures { (t : Procedures) (id : ℕ) (profile : Profile) (image : List ℕ) →
         get t.records id ≡ None →
         table_after Unload id (with_procedure id (new_record profile image) t) ≡ t }
 {}
 
-/// A request that loads, drops and starts no procedure leaves each procedure's machine.
+/// A request that loads, drops and starts no procedure leaves each procedure's machine as it is.
 pub fn other_requests_keep_machines()
     ensures { (directive : Asked) (id q : ℕ) (m : Records) → LeavesMachines directive →
         machine_of (get (records_by (effect_in directive id m) m) q) ≡ machine_of (get m q) }
 {}
 
-/// What a debugger changes leaves each procedure's image, machine, mailbox and control, and what is
-/// left of its budget.
+/// A debugger's change leaves each procedure's image, machine, mailbox and control, and what is
+/// left of its budget, as they are.
 pub fn debugging_keeps_runs()
     ensures { (change : Change) (id q : ℕ) (m : Records) → IsDebugging change →
         run_of (get (records_by (Changed id change) m) q) ≡ run_of (get m q) }
 {}
 
-/// Instructions that a machine does by itself, of which so many are left of the budget, are as many
-/// instruction events of its procedure: each is answered so, and a slice goes on after it. They
-/// move the machine, the pass flag goes off with the first, and each takes one from the budget.
+/// Instructions that a machine does by itself, within what is left of the budget, are as many
+/// instruction events of its procedure: each is answered `Ran`, and a slice goes on after it. They
+/// move the machine, the first clears the pass flag, and each takes one from the budget.
 pub fn local_instructions_are_events()
     ensures { (s : Store) (id n : ℕ) (r : Rec) (machine : State) (last : StepOutcome) →
         RunsBy s.records id r n machine →

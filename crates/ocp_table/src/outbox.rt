@@ -10,7 +10,7 @@ use verification::is_completion_asked;
 /// The completions that wait to be reported, the oldest first.
 pub(crate) type Outbox = ArrayVec<Due, OUTBOX_PLACES>;
 
-/// What was pending is overtaken. That is reported whatever the flags of its request are.
+/// What was pending is overtaken. It is reported whatever the flags of its request are.
 pub(crate) fn overtake(outbox: &mut Outbox, pending: Pending)
     requires { HasPlaceBeside outbox.old.items pending }
     ensures { outbox.new.items ≡ outbox.old.items ++ failed_completion pending }
@@ -24,7 +24,7 @@ pub(crate) fn overtake(outbox: &mut Outbox, pending: Pending)
     });
 }
 
-// A step ends: what is pending for it is completed. That is reported where the flag of its request is set.
+// A step ends: what is pending for it is completed, and reported if the flag of its request is set.
 fn end_step(outbox: &mut Outbox, pending: Pending, step: u16)
     requires { HasPlaceBeside outbox.old.items pending }
     ensures { outbox.new.items ≡ outbox.old.items ++ dues_at_step_end pending step }

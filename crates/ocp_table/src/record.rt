@@ -14,15 +14,15 @@ use std::alloc::Allocator;
 /// How many breakpoints a procedure has at most.
 pub const MAX_BREAKPOINTS: usize = 8;
 
-/// A procedure under its id. What a search and a choice of the next one read comes first, apart
-/// from what each turn writes: no thread waits for the other's there.
+/// A procedure under its id. The fields that a search and the choice of the next procedure read
+/// come first, apart from those that each turn writes: so no thread waits for another's writes.
 #[derive(Drop)]
 pub struct Record<A: Allocator> {
     pub id: u16,
     pub control: Control,
     pub breakpoints: ArrayVec<u16, MAX_BREAKPOINTS>,
     pub traced: bool,
-    /// How many instructions are left of the budget, where one is set.
+    /// How many instructions are left of the budget, if one is set.
     pub remaining: Option<u32>,
     pub execution: Execution<A>,
     pub mailbox: Mailbox,

@@ -17,7 +17,7 @@ impl<A: Allocator> Record<A> {
         matches!(self.control.status, Status::Running)
     }
 
-    // Does instructions that need no engine, at most so many and at most what is left of the budget, and says how many.
+    // Does instructions that need no engine, up to `budget` and what is left of the procedure's budget, and returns their number.
     #[inline(always)]
     #[tactic(auto, using(crate::proofs::Slicing::local_count_within, crate::proofs::Budgets::within_most, crate::proofs::Budgets::within_left))]
     fn run(&mut self, budget: u32) -> u32
@@ -73,8 +73,8 @@ impl<A: Allocator> Record<A> {
         }
     }
 
-    /// Does instructions until the budget is used or they go no further: what needs no engine is
-    /// done in stretches, and what does as an event.
+    /// Does instructions until the budget is used or they go no further. Instructions that need no
+    /// engine are done in stretches, each other one as an event.
     pub(crate) fn instructions(
         &mut self,
         pool: &mut Pool<A>,

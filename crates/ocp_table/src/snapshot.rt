@@ -43,7 +43,7 @@ impl<A: Allocator> Model for Snapshot<A> {
 }
 
 impl<A: Allocator> Snapshot<A> {
-    /// That of a procedure, where it runs.
+    /// The snapshot of a procedure, if it runs.
     pub fn take(alloc: A, procedure: &Record<A>) -> Result<Option<Self>, AllocError>
     where
         A: Copy,
@@ -61,9 +61,9 @@ impl<A: Allocator> Snapshot<A> {
         }
     }
 
-    /// Becomes that of a procedure in the same memory: none is asked for. It is refused exactly if
-    /// the procedure does not run, or if its machine's memory has other addresses; then nothing is
-    /// changed.
+    /// Becomes the snapshot of a procedure, in the same memory: none is asked for. It is refused
+    /// exactly if the procedure does not run, or if its machine's memory has other addresses; then
+    /// nothing is changed.
     pub fn retake(&mut self, procedure: &Record<A>) -> bool
         ensures taken { IsTrue result →
             snapshot_at (Some (record_of procedure.now)) ≡ Some self.new }
@@ -104,17 +104,17 @@ impl<A: Allocator> Snapshot<A> {
             && self.execution.is_same(&procedure.execution)
     }
 
-    /// The machine as it stood.
+    /// The machine as it was.
     pub fn machine(&self) -> &Machine<A>
         ensures { result.now ≡ self.now.machine }
     {
         self.execution.machine()
     }
 
-    /// Makes a machine like the one that stood, and lets it do instructions that need no engine, at
-    /// most so many and at most what was left of the budget. It says how many it did: none where
-    /// the procedure is traced. It stops before the first instruction that needs the engine, and
-    /// before a breakpoint, which the pass flag lets the first instruction pass.
+    /// Makes a machine equal to the snapshot's, and lets it do instructions that need no engine, up
+    /// to `budget` and to what was left of the procedure's. It returns how many it did: none if the
+    /// procedure is traced. It stops before the first instruction that needs the engine, and before
+    /// a breakpoint, but the pass flag lets the first instruction pass one.
     #[tactic(auto, using(crate::proofs::Slicing::local_count_within, crate::proofs::Budgets::within_left))]
     pub fn run(&self, machine: &mut Machine<A>, budget: u32) -> u32
         requires { HasAddressesOf machine.old self.now.machine }

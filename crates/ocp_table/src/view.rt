@@ -13,6 +13,6 @@ pub struct View {
     pub depth: usize,
     pub pending: Pending,
     pub registers: [u64; 11],
-    /// How many instructions are left of the budget, where one is set.
+    /// How many instructions are left of the budget, if one is set.
     pub remaining: Option<u32>,
 }

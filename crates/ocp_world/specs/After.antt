@@ -87,7 +87,7 @@ after w e = record {
   answer = answer_by (effect_of w e).reply w;
 }
 
--- whether the answer is not that of an event which is refused and leaves the world as it was
+-- whether the answer is that of an accepted event: a refused one leaves the world as it was
 abbrev pub is_accepted : Answer → Bool
 is_accepted (Requested (Ok reports)) = true
 is_accepted (Requested (Err fault)) = false

@@ -4,7 +4,7 @@ use Rattle.ocp_world.specs.declared.answers.EngineFault.{EngineFault}
 use Rattle.ocp_world.specs.declared.answers.EngineFault.TheVariants.{Discarded, JournalFull, Memory, NothingDue}
 use Rattle.ocp_world.specs.After.{Answer, Requested, is_accepted}
 
--- its result is its answer; memory is refused only where the event would be accepted
+-- its result is its answer; memory is refused only if the event would be accepted
 abbrev pub Answers : Result (List (List ℕ)) EngineFault → Answer → Type 0
 Answers (Ok reports) answer = answer ≡ Requested (Ok reports)
 Answers (Err Memory) answer = is_accepted answer ≡ true

@@ -7,7 +7,7 @@ use Rattle.ocp_debug.specs.declared.command.Command.{Command}
 use Rattle.ocp_debug.specs.Commands.{command_effect, command_result}
 use Rattle.ocp_world.specs.Effect.{Effect, Steps, Commands}
 
--- an instruction of this effect on the records is answered by its outcome
+-- an instruction with this effect on the records is answered by its outcome
 abbrev pub instruction_effect : table.Effect → Effect
 instruction_effect effect = record { on_records = effect; reply = Steps (step_outcome effect) }
 

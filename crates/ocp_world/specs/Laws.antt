@@ -1,4 +1,4 @@
--- What the laws of the world say.
+-- What the laws of the world state.
 use Rattle.std.specs.Prelude.{◌≡◌, ℕ, ◌==◌, ◌&&◌, Bool, false, List, ◌++◌, Result, Ok, Err}
 use Rattle.std.specs.FinMap.{get}
 use Rattle.ocp_profile.specs.declared.profile.Profile.{Profile}

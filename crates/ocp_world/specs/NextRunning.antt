@@ -17,12 +17,12 @@ pub record IsLeast (P : ℕ → Type 0) (id : ℕ) : Type 0 where
   pub holds : P id
   pub least : (other : ℕ) → P other → id ≤ other
 
--- the least number of which this holds, or none where it holds of none
+-- the least number of which this holds, or none if it holds of none
 abbrev pub IsLeastOf : (ℕ → Type 0) → Option ℕ → Type 0
 IsLeastOf P None = (id : ℕ) → P id → ⊥
 IsLeastOf P (Some id) = IsLeast P id
 
--- where a procedure above the one before runs, the least such one; else the least of all that run
+-- the least that runs above the one before; if none runs above it, the least of all that run
 pub record IsNextAfter (m : Records) (before : ℕ) (next : Option ℕ) : Type 0 where
   pub above : (id : ℕ) → RunsAbove m before id → IsLeastOf (RunsAbove m before) next
   pub round : ((id : ℕ) → RunsAbove m before id → ⊥) → IsLeastOf (Runs m) next

@@ -9,7 +9,7 @@ abbrev pub replay_from : World → List Event → World
 replay_from w [] = w
 replay_from w (e ∷ es) = replay_from (after w e).world es
 
--- the world of a profile and an application process with so many pool words, after events
+-- the world of a profile and an application process with `words` pool words, after events
 abbrev pub replay : Profile → ℕ → ℕ → List Event → World
 replay profile apid words es = replay_from (opening profile apid words) es
 

@@ -43,7 +43,7 @@ outcome_by (Kept (Failed failure)) = outcome.NotStarted failure
 outcome_by (Changed id (Pended pending)) = outcome.Started
 outcome_by effect = outcome.Done
 
--- an accepted request, with its answer report where it has one
+-- an accepted request, with its answer report if it has one
 abbrev pub start_effect : Origin → List Report → table.Effect → Effect
 start_effect origin answer effect = record {
   on_records = effect;
@@ -58,8 +58,8 @@ status_report m = report.Status (statuses_of m)
 abbrev pub directive_effect : Origin → Directive → ℕ → Records → Effect
 directive_effect origin asked id m = start_effect origin [] (effect_in asked id m)
 
--- where the completion of a stop or suspend goes that becomes pending: this many events were
--- accepted before it
+-- where the completion of a stop or suspend goes that becomes pending; its number is how many
+-- events were accepted before it
 abbrev pub pending_origin : Origin → ℕ → PendingOrigin
 pending_origin origin event = record {
   event = event;
@@ -68,16 +68,16 @@ pending_origin origin event = record {
   ack = origin.ack;
 }
 
--- that of the next event of a world, and whether a completion more would find no place there
+-- that of the next event of a world, and whether one more completion would find no place there
 abbrev pub next_origin : Origin → World → PendingOrigin
 next_origin origin w = pending_origin origin w.events
 
 abbrev pub has_no_place : World → Bool
 has_no_place w = is_outbox_full w.records w.outbox
 
--- what a request asks for, and of which procedure: a load is under the profile of the world, and a
--- stop or suspend has the origin of its event and knows whether no place is free; a request for the
--- status asks nothing of any procedure
+-- what a request asks for, and of which procedure: a load has the profile of the world, and a stop
+-- or suspend has the origin of its event and whether no place is free; a request for the status
+-- asks nothing of any procedure
 abbrev pub directive_by : Command → Profile → PendingOrigin → Bool → Option (ℕ × Directive)
 directive_by (command.Load id code) profile from full = Some (id, directive.Load profile code)
 directive_by (command.Unload id) profile from full = Some (id, directive.Unload)
@@ -92,7 +92,7 @@ directive_by (command.Communicate id words) profile from full =
 directive_by command.Status profile from full = None
 directive_by (command.Abort id) profile from full = Some (id, directive.Abort)
 
--- it is done to its procedure; where nothing is asked, the statuses of all procedures are reported
+-- it is done to its procedure; if nothing is asked, the statuses of all procedures are reported
 abbrev pub effect_asked : Option (ℕ × Directive) → Origin → Records → Effect
 effect_asked (Some asked) origin m = directive_effect origin asked.1 asked.0 m
 effect_asked None origin m = start_effect origin (status_report m ∷ []) (Kept Unasked)

@@ -10,16 +10,16 @@ use Rattle.ocp_table.specs.Budgets.{IsWithin}
 use Rattle.ocp_table.specs.Snapshots.{record_after_work}
 use Rattle.ocp_world.specs.World.{World}
 
--- the world in which this machine is put back into a procedure after so many instructions, each an
--- accepted event that takes one from its budget, and its pass flag is off
+-- the world in which this machine is put back into a procedure after `count` instructions, each an
+-- accepted event that takes one from its budget, and its pass flag is clear
 abbrev pub world_after_work : ℕ → State → ℕ → World → World
 world_after_work id machine count w = record w {
   records = records_with (get w.records id) id (record_after_work count machine) w.records;
   events = w.events + count;
 }
 
--- the procedure under this id runs and is not traced, and its machine does so many instructions by
--- itself, at least one and no more than what remains of its budget, which leave it so
+-- the procedure under this id runs and is not traced, and its machine does n instructions by
+-- itself, at least one and no more than what remains of its budget, and becomes this machine
 pub record RunsAlone (w : World) (id : ℕ) (r : Rec) (n : ℕ) (machine : State) : Type 0 where
   pub held : get w.records id ≡ Some r
   pub running : r.control.status ≡ Running

@@ -14,7 +14,7 @@ use Rattle.ocp_world.specs.After.{after}
 abbrev pub is_running_status : Status → Bool
 is_running_status = table.is_running_status
 
--- whether the procedure of a record, where there is one, runs
+-- whether a procedure is loaded and runs
 abbrev pub is_running : Option Rec → Bool
 is_running = table.is_running
 

@@ -21,7 +21,7 @@ pub record World : Type 0 where
   pub reports : ℕ
   pub traces : List Trace
 
--- a world of a profile in which no procedure is loaded, with so many pool words, all of them 0
+-- a world of a profile in which no procedure is loaded, with `words` pool words, all of them 0
 abbrev pub opening : Profile → ℕ → ℕ → World
 opening profile apid words = record {
   profile = profile;

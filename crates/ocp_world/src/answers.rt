@@ -36,8 +36,8 @@ impl From<AllocError> for EngineFault {
     }
 }
 
-/// Why octets are discarded, as they were read, where they are: then the request is refused so in
-/// every world of this application process, and else it is accepted.
+/// Why octets are discarded, if they are, by how they were read. Then every world of this
+/// application process refuses the request for this cause; else each accepts it.
 #[tactic(auto, using(crate::proofs::Refusals::request_discard))]
 pub fn discard_of(read: &Result<Tc<'_>, TcFault>) -> Option<Discard>
     ensures cause { result ≡ discard_of read.now }

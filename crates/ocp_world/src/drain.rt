@@ -9,7 +9,7 @@ use ocp_reports::{PacketBuffer, count_after};
 use std::alloc::Allocator;
 
 impl<A: Allocator> State<A> {
-    /// Whether a completion waits to be reported: else a drain is refused.
+    /// Whether a completion waits to be reported. If none does, a drain is refused.
     pub fn is_due(&self) -> bool
         ensures { (w : World) (by time : ℕ) → IsWorld w self.now →
             IsUndue (after w (Drain by time)).answer result }
@@ -18,8 +18,8 @@ impl<A: Allocator> State<A> {
     }
 
     /// Writes the reports of all completions that wait, the oldest first, at this time, each to the
-    /// source of its request: then none waits any more. The keeper keeps them before anything is
-    /// changed. It fails if none waits, and if the keeper finds no memory; then nothing is changed.
+    /// source of its request. Then none waits. The keeper keeps them before anything is changed. It
+    /// fails if none waits, and if the keeper finds no memory; then nothing is changed.
     pub fn drain<K: Keeps>(
         &mut self,
         keeper: &mut K,

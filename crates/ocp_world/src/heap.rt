@@ -7,8 +7,8 @@ use ocp_reports::{PacketList, SharedReports};
 use std::alloc::{AllocError, Allocator};
 use std::marker::Model;
 
-/// Where the copy of a request's octets and its reports take their memory, seen as whether some of
-/// it was refused since this was made.
+/// The allocator of the copy of a request's octets and of its reports, seen as whether it refused
+/// some of their memory since this was made.
 #[derive(Drop)]
 pub struct Heap<A: Allocator> {
     alloc: A,
@@ -22,7 +22,7 @@ impl<A: Allocator> Model for Heap<A> {
 }
 
 impl<A: Allocator> Heap<A> {
-    /// One at which nothing was refused.
+    /// A heap that has refused nothing.
     pub fn new(alloc: A) -> Self
         ensures { result ≡ false }
     {
@@ -32,7 +32,7 @@ impl<A: Allocator> Heap<A> {
         }
     }
 
-    /// The allocator, for what keeps no note of a refusal here.
+    /// The allocator, for memory whose refusal is not noted here.
     pub fn alloc(&self) -> A
     where
         A: Copy,
@@ -40,7 +40,7 @@ impl<A: Allocator> Heap<A> {
         self.alloc
     }
 
-    /// Hands on what was made, and notes where its memory was refused.
+    /// Returns what was made, and notes if its memory was refused.
     pub fn note<T>(&mut self, made: Result<T, AllocError>) -> Result<T, AllocError>
         ensures same { result ≡ made }
         ensures refused { OnErr result (self.new ≡ true) }
@@ -51,7 +51,7 @@ impl<A: Allocator> Heap<A> {
     }
 }
 
-/// Keeps a copy of the reports, with a handle for each of those who have them.
+/// Keeps a copy of the reports, with a handle for each who has them.
 impl<A: Allocator + Copy> Keeps for Heap<A> {
     type Kept = SharedReports<A>;
 

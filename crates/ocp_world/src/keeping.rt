@@ -10,7 +10,7 @@ pub trait Keeps {
     /// What is kept of the reports.
     type Kept: Drop;
 
-    // It stands for these packets.
+    // The kept value holds these packets.
     ghost holds: { Self.Kept → List (List ℕ) → Type 0 };
 
     // Memory was refused.

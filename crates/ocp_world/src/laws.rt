@@ -32,13 +32,13 @@ pub fn only_running_procedures_step()
     ocp_table::laws::only_running_procedures_step();
 }
 
-/// An instruction event is answered by the outcome that a slice asks.
+/// An instruction event is answered by the outcome that decides whether a slice goes on.
 pub fn instructions_are_answered_by_their_outcomes()
     ensures { (w : World) (by id : ℕ) →
         (after w (Step by id)).answer ≡ Stepped (next_outcome w id) }
 {}
 
-/// An instruction leaves every other procedure's record.
+/// An instruction leaves every other procedure's record as it is.
 pub fn an_instruction_changes_its_own_procedure()
     ensures { (w : World) (by id other : ℕ) →
         other ≢ id → get (after w (Step by id)).world.records other ≡ get w.records other }
@@ -46,8 +46,8 @@ pub fn an_instruction_changes_its_own_procedure()
     a_directive_changes_its_own_procedure();
 }
 
-/// A request leaves each procedure's machine, or starts it anew, or the procedure goes: it is never
-/// changed in the midst of its run.
+/// A request leaves each procedure's machine as it is, starts it, or unloads the procedure. It
+/// never changes a machine in the middle of its run.
 pub fn requests_keep_or_start_machines()
     ensures { (w : World) (by time : ℕ) (octets : List ℕ) (id : ℕ) →
         let next = (after w (Request by time octets)).world in
@@ -56,7 +56,8 @@ pub fn requests_keep_or_start_machines()
     ocp_table::laws::requests_keep_or_start_machines();
 }
 
-/// A drain empties the outbox, and leaves all procedures, the pool and the trace records.
+/// A drain empties the outbox, and leaves all procedures, the pool and the trace records as they
+/// are.
 #[tactic(auto, using(crate::proofs::Lawful::drain_empties_outbox, crate::proofs::Lawful::drain_keeps_records, crate::proofs::Lawful::drain_keeps_pool, crate::proofs::Lawful::drain_keeps_traces))]
 pub fn a_drain_empties_the_outbox_alone()
     ensures outbox { (w : World) (by time : ℕ) → (after w (Drain by time)).world.outbox ≡ [] }
@@ -67,8 +68,8 @@ pub fn a_drain_empties_the_outbox_alone()
 {}
 
 /// A write of a pool word from outside is accepted exactly if the pool has a word at its index.
-/// Then that word is the value; every other word, all procedures, the completions that wait, the
-/// count of reports and the trace records stay.
+/// Then that word becomes the value; every other word, all procedures, the completions that wait,
+/// the count of reports and the trace records stay.
 #[tactic(auto, using(crate::proofs::Putting::put_accepted, crate::proofs::Putting::put_word_set, crate::proofs::Putting::put_keeps_records, crate::proofs::Putting::put_keeps_outbox, crate::proofs::Putting::put_keeps_reports, crate::proofs::Putting::put_keeps_traces))]
 pub fn a_write_from_outside_changes_its_word_alone()
     ensures accepted { (w : World) (by index value : ℕ) →
@@ -85,8 +86,8 @@ pub fn a_write_from_outside_changes_its_word_alone()
         (after w (Put by index value)).world.traces ≡ w.traces }
 {}
 
-/// Each event but a load, an unload and an activation leaves the machine of every procedure, apart
-/// from the instruction of a running procedure, which changes its own.
+/// Only a load, an unload, an activation and an own instruction while it runs change a procedure's
+/// machine. Every other event leaves it as it is.
 pub fn only_starts_and_own_instructions_change_machines()
     ensures { (w : World) (e : Event) (id : ℕ) →
         may_change_machine w e id ≡ false →
@@ -98,8 +99,8 @@ pub fn only_starts_and_own_instructions_change_machines()
     debugging_keeps_runs();
 }
 
-/// A debugger's command leaves all of each procedure but its breakpoints and its trace flag, and
-/// the pool, the completions that wait, the count of reports and the trace records.
+/// A debugger's command changes at most breakpoints and trace flags of procedures. It leaves the
+/// pool, the completions that wait, the count of reports and the trace records as they are.
 pub fn a_debugger_changes_breakpoints_and_trace_flags_alone()
     ensures procedures { (w : World) (by own id : ℕ) (command : Asked) →
         let next = (after w (Debug by own command)).world in
@@ -127,7 +128,7 @@ pub fn trace_records_are_appended_by_instructions()
         (after w (Drain by time)).world.traces ≡ w.traces }
 {}
 
-/// No world answers that the journal is full: a world has none.
+/// No world answers that the journal is full: a world has no journal.
 #[tactic(auto, using(crate::proofs::Refusals::request_has_room, crate::proofs::Refusals::step_has_room, crate::proofs::Refusals::command_has_room, crate::proofs::Refusals::put_has_room))]
 pub fn worlds_have_no_full_journal()
     ensures request { (w : World) (e : Event) → (after w e).answer ≢ Requested (Err JournalFull) }

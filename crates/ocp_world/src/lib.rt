@@ -1,5 +1,5 @@
 //! The world of an engine: what each event does in it and what is answered, the replay of events,
-//! and the state that stands for it.
+//! and the state that represents it.
 #![tactic(auto)]
 
 mod answers;

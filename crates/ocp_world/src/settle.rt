@@ -9,7 +9,7 @@ use bpf_step::Machine;
 use std::alloc::{AllocError, Allocator};
 
 impl<A: Allocator> State<A> {
-    /// Gives a procedure a machine that did so many instructions apart, in exchange for its own.
+    /// Gives a procedure a machine that did `count` instructions apart, in exchange for its own.
     pub fn settle(&mut self, id: u16, count: u32, machine: &mut Machine<A>)
         requires stands { StandsAt (get self.old.table.records id) machine.old }
         ensures world { (w : World) → IsWorld w self.old →
@@ -20,7 +20,7 @@ impl<A: Allocator> State<A> {
         self.table.settle(id, count, machine);
     }
 
-    /// A machine like that of a procedure, where it is loaded.
+    /// A copy of a procedure's machine, if the procedure is loaded.
     pub fn machine(&self, alloc: A, id: u16) -> Result<Option<Machine<A>>, AllocError>
     where
         A: Copy,
@@ -35,10 +35,10 @@ impl<A: Allocator> State<A> {
     }
 }
 
-/// Instructions that a machine does by itself are as many instruction events of its procedure,
-/// where that runs and is not traced and its budget holds so many: each is answered so and takes
-/// one from the budget, and they move the machine alone and set the pass flag off. The function
-/// does nothing when it runs: its contract is the law.
+/// Instructions that a machine does by itself are as many instruction events of its procedure, if
+/// that runs, is not traced and has them left of its budget. Each is answered `Ran` and takes one
+/// from the budget; they move the machine alone and clear the pass flag. The function does nothing
+/// when it runs: its contract is the law.
 pub fn instructions_done_alone_are_events()
     ensures world { (w : World) (by id n : ℕ) (r : Rec) (machine : Machined) →
         RunsAlone w id r n machine →

@@ -19,8 +19,8 @@ impl<A: Allocator> State<A> {
         outcome.is_on() && self.table.refusal(id).is_none()
     }
 
-    /// Does instructions of one procedure until the budget is used or they go no further. Each of
-    /// them is an accepted event, if the first is.
+    /// Does instructions of one procedure until the budget is used or they go no further. If the
+    /// first of them is an accepted event, each of them is.
     pub fn instructions(&mut self, id: u16, budget: u32, extent: Extent) -> Round
         requires { 1 ≤ budget }
         ensures world { (w : World) (by : ℕ) → IsWorld w self.old →

@@ -29,7 +29,7 @@ pub struct State<A: Allocator> {
 }
 
 impl<A: Allocator> State<A> {
-    /// Why an instruction event is refused, where it is.
+    /// Why an instruction event is refused, if it is.
     pub fn refusal(&self, id: u16) -> Option<StepOutcome>
         ensures { (w : World) (by : ℕ) → IsWorld w self.now →
             IsRefusal (after w (Step by id)).answer result }
@@ -49,7 +49,7 @@ impl<A: Allocator> State<A> {
         ocp_debug::instruction(&mut self.table, id, &mut self.pool, &mut self.ring)
     }
 
-    /// Why a debugger's command is refused, where it is.
+    /// Why a debugger's command is refused, if it is.
     pub fn fault_of(&self, id: u16, command: Command) -> Option<DebugFault>
         ensures { (w : World) (by : ℕ) → IsWorld w self.now →
             IsDebugFault (after w (Debug by id command)).answer result }
@@ -67,7 +67,7 @@ impl<A: Allocator> State<A> {
         ocp_debug::apply(&mut self.table, id, command)
     }
 
-    /// The pool word at an index, if there is one: else it can't be written.
+    /// The index of a pool word, if there is one at this index; else it can't be written.
     pub fn word_index(&self, index: u64) -> Option<u16>
         ensures word { IfSome result (λ word. (word ≡ index) × (word < length self.now.pool)) }
         ensures few { IfSome result (λ word. word < MAX_POOL_WORDS) }
@@ -92,7 +92,7 @@ impl<A: Allocator> State<A> {
 }
 
 impl<A: Allocator + Copy> State<A> {
-    /// The state of a profile in which no procedure is loaded, with so many pool words, all of them
+    /// The state of a profile in which no procedure is loaded, with `words` pool words, all of them
     /// 0.
     pub fn new(alloc: A, profile: Profile, apid: Apid, words: u16) -> Result<Self, AllocError>
         requires some { 1 ≤ words }
@@ -263,7 +263,7 @@ impl<A: Allocator> State<A> {
     }
 
     /// Does what a telecommand asks for, as it was read at this time, and writes its reports. The
-    /// event has this number: so many were accepted before it. The keeper keeps the reports before
+    /// event's number is how many were accepted before it. The keeper keeps the reports before
     /// anything is changed. Memory is answered only if the keeper finds none.
     #[tactic(auto, unfolding(crate::specs::Requests::command_of))]
     pub fn receive<K: Keeps>(

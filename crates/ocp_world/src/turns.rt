@@ -44,8 +44,8 @@ fn next_of(rows: &[StatusRow], before: Option<u16>) -> Option<u16>
 }
 
 impl<A: Allocator> State<A> {
-    /// The least running procedure above the one before, or where there is none the least running
-    /// one.
+    /// The least running procedure above the one before, or the least running one if none is above
+    /// it.
     pub fn next_running(&self, before: Option<u16>) -> Option<u16>
         ensures pick { (w : World) → IsWorld w self.now → IsNextRunning w.records before result }
         ensures runs { (w : World) → IsWorld w self.now → IfSome result (Runs w.records) }

@@ -10,7 +10,7 @@ use Rattle.ocp_table.specs.Outbox.{HasPlaces}
 use Rattle.slab.specs.Slab.{Slab, get, entries, slab_len, with_value}
 
 module _ {T : Type 0} (id_of : T → ℕ) where
-  -- no id stands under two keys
+  -- no id is under two keys
   abbrev pub IsDistinct : Slab T → Type 0
   IsDistinct s =
       (i j : ℕ) (r q : T) → get s i ≡ Some r → get s j ≡ Some q → id_of r ≡ id_of q → i ≡ j
@@ -19,7 +19,7 @@ module _ {T : Type 0} (id_of : T → ℕ) where
   abbrev pub IsAbsent : Slab T → ℕ → Type 0
   IsAbsent s id = (key : ℕ) (r : T) → get s key ≡ Some r → id_of r ≢ id
 
-  -- at most so many records as a table may hold, with room for so many, and no id stands twice
+  -- no more records than a table may hold, room for that many, and no id under two keys
   pub record IsSound (s : Slab T) : Type 0 where
     pub distinct : IsDistinct s
     pub few : slab_len s ≤ MAX_PROCEDURES
@@ -29,8 +29,8 @@ module _ {T X : Type 0} (id_of : T → ℕ) (shown : T → X) where
   abbrev pub contents : Slab T → FinMap nat_cmp X
   contents s = from_entries (map (λ e. (id_of e.1, shown e.1)) (entries s))
 
-  -- a record is under this key, and is the one that the map has under this id, where another one
-  -- with this id may be put
+  -- a record is under this key, and is the one that the map has under this id; another one with
+  -- this id may replace it
   pub record IsUnder (s : Slab T) (key id : ℕ) : Type 0 where
     pub held : T
     pub at : get s key ≡ Some held
@@ -41,7 +41,7 @@ module _ {T X : Type 0} (id_of : T → ℕ) (shown : T → X) where
     pub sound : (new : T) → id_of new ≡ id → IsSound id_of (with_value s key new)
 
 module _ {T : Type 0} (id_of : T → ℕ) (shown : T → Rec) where
-  -- and there is a place for what is pending and what waits
+  -- and there is room for what is pending and what waits
   pub record IsHolding (s : Slab T) (outbox : List Due) : Type 0 where
     pub sound : IsSound id_of s
     pub places : HasPlaces (contents id_of shown s) outbox

@@ -10,7 +10,7 @@ use Rattle.ocp_world.specs.declared.answers.EngineFault.TheVariants as engine
 use Rattle.ocp_world.specs.declared.answers.PutFault.TheVariants as put
 use Rattle.ocp_world.specs.After.{Answer, Requested, Stepped, Commanded, Written, is_accepted}
 
--- why octets are discarded, where they are
+-- why octets are discarded, if they are
 abbrev pub discard_of : Result Telecommand TcFault → Option Discard
 discard_of (Ok telecommand) = None
 discard_of (Err (fault.Rejected rejection request)) = None

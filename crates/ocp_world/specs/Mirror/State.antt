@@ -1,4 +1,4 @@
--- Which worlds a state stands for, and what a request or a drain makes of it.
+-- Which worlds a state represents, and what a request or a drain makes of it.
 use Rattle.std.specs.Prelude.{◌≡◌, ◌%◌, ℕ, List, Result, Ok, Err}
 use Rattle.space_packet.specs.declared.range.TheConstants.{SEQUENCE_COUNTS}
 use Rattle.ocp_debug.specs.Traces.{last_traces}
@@ -19,7 +19,7 @@ module _ {A : Type 0} where
     pub count : s.sender.count ≡ w.reports % SEQUENCE_COUNTS
     pub ring : s.ring ≡ last_traces w.traces
 
-  -- the state stands for the next world, or where there are no reports for the old one
+  -- the state represents the next world, or the old one if there are no reports
   abbrev pub StandsAfter : Result (List (List ℕ)) EngineFault → World → World → State A → Type 0
   StandsAfter (Ok reports) old new s = IsWorld new s
   StandsAfter (Err fault) old new s = IsWorld old s
@@ -29,8 +29,8 @@ module _ {A : Type 0} where
   DoesIn w effect result new =
       Answers result (answer_by effect.reply w) × StandsAfter result w (world_after effect w) new
 
-  -- whatever world the state stood for, the result and the new state are those of what was decided
-  -- in it
+  -- in every world that the state represented, the result and the new state are those of what was
+  -- decided in it
   abbrev pub Does : State A → State A → Result (List (List ℕ)) EngineFault
       → (World → Effect) → Type 0
   Does old new result decide =
