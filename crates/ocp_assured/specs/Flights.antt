@@ -22,22 +22,23 @@ MachinesAreReached =
 
 -- ---- faults
 
--- no instruction event of a procedure with this image is answered fault 1, 2 or 3, after whatever
--- events of a new engine
+-- no instruction event of a procedure with this image is answered fault 1, 2 or 3, after any events
+-- of a new engine
 abbrev pub NeverFaultsInFlight : List ℕ → Type 0
 NeverFaultsInFlight image =
     (profile : Profile) (apid words : ℕ) (es : List Event) (by id number : ℕ) →
     image_after profile apid words es id ≡ Some image → number ≤ 3 →
     (after (replay profile apid words es) (Step by id)).answer ≢ Stepped (outcome.Faulted number)
 
--- none is answered fault 4, if the pool has so many words or more
+-- none is answered fault 4, if the pool has at least `asked` words
 abbrev pub AsksWellInFlight : List ℕ → ℕ → Type 0
 AsksWellInFlight image asked =
     (profile : Profile) (apid words : ℕ) (es : List Event) (by id : ℕ) →
     image_after profile apid words es id ≡ Some image → asked ≤ words →
     (after (replay profile apid words es) (Step by id)).answer ≢ Stepped (outcome.Faulted 4)
 
--- an engine with this journal answers an instruction of a procedure with this image so
+-- no engine, with any journal, answers an instruction of a procedure with this image fault 1, 2 or
+-- 3
 abbrev pub NeverFaultsInJournals : List ℕ → Type 0
 NeverFaultsInJournals image =
     (log : Log) (by id number : ℕ) →

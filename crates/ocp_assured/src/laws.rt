@@ -34,9 +34,9 @@ pub fn images_that_never_fault_do_not_in_flight()
     the_machine_faults_by_its_image();
 }
 
-/// If an image asks for words of a pool of a size alone, as `ocp_check::check_pool` shows, then no
+/// If an image asks only for words of a pool of a size, as `ocp_check::check_pool` shows, then no
 /// instruction of a procedure with this image is answered fault 4 in flight, in an engine that has
-/// as many pool words or more.
+/// at least as many pool words.
 pub fn images_that_ask_well_do_so_in_flight()
     ensures events { (image : List ℕ) (asked : ℕ) →
         AsksWell image asked → AsksWellInFlight image asked }
@@ -51,7 +51,7 @@ pub fn images_that_ask_well_do_so_in_flight()
 
 /// If an image does fewer instructions than a bound without the end of a step, as
 /// `ocp_check::check_rounds` shows, then each round of a procedure with this image has at most that
-/// many instructions in flight, the one counted that ends the step or the procedure.
+/// many instructions in flight, counting the one that ends the step or the procedure.
 pub fn rounds_are_within_their_bound_in_flight()
     ensures { (image : List ℕ) (most : ℕ) → IsWithin image most → IsWithinInFlight image most }
 {

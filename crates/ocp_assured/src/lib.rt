@@ -1,5 +1,5 @@
-//! What the checker of images shows of one machine, said of flights: of every list of events of
-//! every engine in which such an image is loaded.
+//! What the checker of images shows of one machine, stated for flights: for every list of events
+//! of every engine in which such an image is loaded.
 #![tactic(auto)]
 
 pub mod laws;

@@ -12,8 +12,8 @@ use Rattle.ocp_world.specs.World.{Event}
 use Rattle.ocp_world.specs.Replay.{replay}
 use Rattle.ocp_core.specs.Own.{Own, Start, Local, Call, own_events, image_after}
 
--- a start begins anew, with a work region as large as before; an instruction is the image's at the
--- machine's place; an engine call puts its answers in, and the place goes one slot on
+-- a start restarts it, with a work region as large as before; an instruction is the image's at the
+-- machine's place; an engine call puts its answers in, and the place moves on by one slot
 abbrev pub state_by : List ℕ → Own → State → State
 state_by image (Start arguments) s = machine_at_restart arguments s
 state_by image Local s = machine_after (one_step image s) s
@@ -27,7 +27,7 @@ alone_from image s (event ∷ events) = alone_from image (state_by image event s
 abbrev pub alone : Profile → List ℕ → List Own → State
 alone profile image own = alone_from image (machine_at_start profile []) own
 
--- where there is an image
+-- the same, if there is an image
 abbrev pub alone_if : Profile → Option (List ℕ) → List Own → Option State
 alone_if profile None own = None
 alone_if profile (Some image) own = Some (alone profile image own)
@@ -37,7 +37,7 @@ abbrev pub alone_after : Profile → ℕ → ℕ → List Event → ℕ → Opti
 alone_after profile apid words es id =
     alone_if profile (image_after profile apid words es id) (own_events profile apid words es id)
 
--- the law: each procedure's machine in the world, where it is loaded, is its machine alone
+-- the law: each procedure's machine in the world, if it is loaded, is its machine alone
 abbrev pub IsFactored : Type 0
 IsFactored =
     (profile : Profile) (apid words : ℕ) (es : List Event) (id : ℕ) →

@@ -18,7 +18,7 @@ use Rattle.ocp_core.specs.History.{gather_along, Does}
 
 -- ---- the budget that was given
 
--- that of the last activation that was done, 0 where it had none; a load and an unload leave none
+-- that of the last activation that was done, 0 if it had none; a load and an unload leave none
 abbrev pub given_budget_by : ℕ → Effect → ℕ → ℕ
 given_budget_by id (Loaded profile other image) given = if id == other then 0 else given
 given_budget_by id (Unloaded other) given = if id == other then 0 else given
@@ -48,7 +48,7 @@ is_use (Stepped outcome.Called) = true
 is_use (Stepped outcome.Ended) = true
 is_use answer = false
 
--- an instruction event of the procedure that is so answered
+-- an instruction event of the procedure that has such an answer
 abbrev pub uses : ℕ → World → Event → Bool
 uses id w (Step by other) = (id == other) && is_use (after w (Step by other)).answer
 uses id w event = false
@@ -58,15 +58,15 @@ use_count_by id w e used =
     if begins_anew id (effect_of w e).on_records then 0
     else if uses id w e then used + 1 else used
 
--- how many events of the procedure were so answered since its last activation
+-- how many events of the procedure had such an answer since its last activation
 abbrev pub use_count : Profile → ℕ → ℕ → List Event → ℕ → ℕ
 use_count profile apid words es id =
     gather_along (use_count_by id) 0 (opening profile apid words) es
 
 -- ---- the laws
 
--- with a budget above 0 they are no more than that: after every list of events, and so at each
--- point between an activation and the next one, or the unload
+-- with a budget n > 0 they are at most n: after every list of events, and so at each point between
+-- an activation and the next one, or the unload
 abbrev pub IsWithinBudget : Type 0
 IsWithinBudget =
     (profile : Profile) (apid words : ℕ) (es : List Event) (id : ℕ) →

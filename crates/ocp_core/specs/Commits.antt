@@ -13,14 +13,14 @@ use Rattle.ocp_core.specs.Tickets.{WorkContents}
 abbrev pub IsFresh : Log → WorkContents → Type 0
 IsFresh log w = snapshot_at (get (world_of log).records w.id) ≡ Some w.base
 
--- the instructions are one entry, are so many events, and leave the machine of the work, with the
--- pass flag off and so much less of the budget
+-- the instructions are one entry and `count` events; they leave the machine of the work, with the
+-- pass flag clear, and take `count` from the budget
 pub record IsCommitted (old new : Log) (by : ℕ) (w : WorkContents) : Type 0 where
   pub journal : new ≡ with_entry old (Steps by w.id w.count)
   pub world : world_of new ≡ world_after_work w.id w.end w.count (world_of old)
 
--- a work without instructions is refused as empty, one whose procedure has changed as stale, and
--- then one that finds the journal full; nothing is changed
+-- a work without instructions is refused as empty, after that one whose procedure has changed as
+-- stale, and then one that finds the journal full; nothing is changed
 abbrev pub Commits : Log → Log → ℕ → WorkContents → CommitOutcome → Type 0
 Commits old new by w Empty = (w.count ≡ 0) × (new ≡ old)
 Commits old new by w Stale = (w.count ≢ 0) × (IsFresh old w → ⊥) × (new ≡ old)
@@ -30,8 +30,8 @@ Commits old new by w (Committed count) =
     (w.count ≢ 0) × IsFresh old w × (is_full old ≡ false) × (count ≡ w.count)
     × IsCommitted old new by w
 
--- what a work is after it was handed in: one that was committed has the machine that it began with,
--- after no instructions, and any other is as it was
+-- what a work is after it was handed in: one that was committed has the machine that it began with
+-- and no instructions, and any other is as it was
 abbrev pub work_after : WorkContents → CommitOutcome → WorkContents
 work_after w Empty = w
 work_after w Stale = w

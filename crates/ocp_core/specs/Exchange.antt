@@ -15,7 +15,7 @@ is_felt (Stepped outcome.Ended) = true
 is_felt (Stepped (outcome.Faulted number)) = true
 is_felt answer = false
 
--- both of them are so answered
+-- both of them have such an answer
 abbrev pub are_felt : World → Event → Event → Bool
 are_felt w one two = is_felt (after w one).answer && is_felt (after (after w one).world two).answer
 
@@ -53,7 +53,7 @@ MayBeExchanged =
     are_felt w (Step by i) (Step by' j) ≡ false →
     IsExchanged w (Step by i) (Step by' j) es
 
--- the same two events in the midst of a list
+-- the same two events in the middle of a list
 pub record IsExchangedIn (w : World) (before : List Event) (one two : Event) (es : List Event)
     : Type 0 where
   pub earlier : List Answer

@@ -10,7 +10,7 @@ abbrev pub history_from : World → List Event → List Effect
 history_from w [] = []
 history_from w (e ∷ es) = (effect_of w e).on_records ∷ history_from (after w e).world es
 
--- from a new engine with this application process and so many pool words
+-- from a new engine with this application process and `words` pool words
 abbrev pub history : Profile → ℕ → ℕ → List Event → List Effect
 history profile apid words es = history_from (opening profile apid words) es
 
@@ -24,6 +24,6 @@ abbrev pub gather_along : {S : Type 0} → (World → Event → S → S) → S �
 gather_along add s w [] = s
 gather_along add s w (e ∷ es) = gather_along add (add w e s) (after w e).world es
 
--- an instruction event of the procedure, which this seat hands in, is this for it
+-- an instruction event of the procedure, by this seat, has this outcome
 abbrev pub Does : World → ℕ → ℕ → InstructionOutcome → Type 0
 Does w by id outcome = (effect_of w (Step by id)).on_records ≡ Changed id (Stepped outcome)

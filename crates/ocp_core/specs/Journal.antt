@@ -14,7 +14,7 @@ use Rattle.ocp_world.specs.After.{Answer, Requested, Stepped, Commanded, Written
 use Rattle.ocp_core.specs.Log.{Entry, Asked, Steps, Debugged, Drained, Wrote}
 use Rattle.ocp_core.specs.Marks.{MarkedEntry}
 
--- the event that a value of the code stands for
+-- the event that a value of the code is
 abbrev pub event_of : E.Event → Event
 event_of (event.Request by time octets) = Request by time octets.now
 event_of (event.Step by id) = Step by id
@@ -24,7 +24,7 @@ event_of (event.Trace by id on) = Debug by id (command.SetTrace on)
 event_of (event.Drain by time) = Drain by time
 event_of (event.PutWord by index value) = Put by index value
 
--- the entry that is handed to a store
+-- the entry that a store gets
 abbrev pub note_entry : T.Note → Entry
 note_entry (note.Request by time octets) = Asked by time octets.now
 note_entry (note.Steps by id count) = Steps by id count

@@ -12,7 +12,7 @@ use Rattle.ocp_world.specs.World.{World, Event, Request, Step, Debug, Drain, Put
 use Rattle.ocp_world.specs.After.{Answer, Requested, Stepped, Commanded, Written, after, is_accepted}
 use Rattle.ocp_world.specs.Replay.{replay}
 
--- a request with its seat and time; so many instructions of one procedure with their seat; a
+-- a request with its seat and time; a number of instructions of one procedure with their seat; a
 -- debugger's command to a procedure with its seat; a drain with its seat and time; or a write of
 -- the pool word at an index with its seat and value
 pub data Entry : Type 0 where
@@ -33,8 +33,8 @@ events_of (Wrote by index value) = Put by index value ∷ []
 abbrev pub expand : List Entry → List Event
 expand entries = flat_map events_of entries
 
--- the profile, the application process identifier, the number of pool words, the number of entries
--- at most, and the entries
+-- the profile, the application process identifier, the number of pool words, the largest number of
+-- entries, and the entries
 pub record Log : Type 0 where
   pub profile : Profile
   pub apid : ℕ

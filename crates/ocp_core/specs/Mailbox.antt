@@ -10,7 +10,7 @@ use Rattle.ocp_world.specs.World.{Event}
 use Rattle.ocp_world.specs.Replay.{replay}
 use Rattle.ocp_core.specs.History.{history, gather, Does}
 
--- a start begins both anew
+-- a start empties both
 abbrev pub sent_words_by : Change → List ℕ → List ℕ
 sent_words_by (Started budget arguments) words = []
 sent_words_by (Sent more) words = words ++ more
@@ -53,7 +53,7 @@ WordsComeInOrder =
     slice_get (sent_words profile apid words es id)
     (length (taken_words profile apid words es id))
 
--- and none exactly where all were taken
+-- and none exactly if all were taken
 abbrev pub NoneIsLeft : Type 0
 NoneIsLeft =
     (profile : Profile) (apid words : ℕ) (es : List Event) (by id : ℕ) (word : Option ℕ) →

@@ -1,4 +1,4 @@
--- The marks of a journal: the answer that was given with each entry. They are those of the replay.
+-- The marks of a journal: the answer that was given to each entry. They are those of the replay.
 use Rattle.std.specs.Prelude.{ℕ, zero, suc, ◌==◌, List, [], ◌∷◌, filter, Option, Some, None}
 use Rattle.ocp_table.specs.declared.answers.StepOutcome.{StepOutcome}
 use Rattle.ocp_debug.specs.declared.command.Command.{Command}
@@ -9,7 +9,7 @@ use Rattle.ocp_world.specs.Replay.{replay_from}
 use Rattle.ocp_world.specs.Slice.{next_outcome}
 use Rattle.ocp_core.specs.Log.{Entry, Asked, Steps, Debugged, Drained, Wrote, Log, events_of}
 
--- the outcome of the last of so many instructions, or the one before them
+-- the outcome of the last of `count` instructions, or the one before them
 abbrev pub last_outcome : World → ℕ → ℕ → StepOutcome → ℕ → StepOutcome
 last_outcome w by id last zero = last
 last_outcome w by id last (suc count) =
@@ -24,7 +24,7 @@ mark_in w (Debugged by id command) = (after w (Debug by id command)).answer
 mark_in w (Drained by time) = (after w (Drain by time)).answer
 mark_in w (Wrote by index value) = (after w (Put by index value)).answer
 
--- an entry with its mark: the answer that was given with it
+-- an entry with its mark: the answer that was given to it
 pub record MarkedEntry : Type 0 where
   pub entry : Entry
   pub mark : Answer
@@ -40,7 +40,7 @@ unfoldable pub entries_with_marks : Log → List MarkedEntry
 entries_with_marks log =
     entries_with_marks_from (opening log.profile log.apid log.words) log.entries
 
--- the seat that handed an entry in
+-- the seat that an entry came from
 abbrev pub by_of : Entry → ℕ
 by_of (Asked by time octets) = by
 by_of (Steps by id count) = by
@@ -48,7 +48,7 @@ by_of (Debugged by id command) = by
 by_of (Drained by time) = by
 by_of (Wrote by index value) = by
 
--- the debugger's command that an entry is, where it is one, with the id of its procedure
+-- the debugger's command that an entry is, if it is one, with the id of its procedure
 abbrev pub command_of : Entry → Option (ℕ × Command)
 command_of (Debugged by id command) = Some (id, command)
 command_of other = None

@@ -1,4 +1,4 @@
--- Where each stop or suspend stands that became pending, by the number of its event: how many
+-- What became of each stop or suspend that became pending, by the number of its event: how many
 -- events were accepted before it.
 use Rattle.std.specs.Prelude.{◌≡◌, ◌≤◌, ℕ, ◌+◌, ◌==◌, if◌then◌else◌, Bool, true, List, [], ◌∷◌, ◌++◌, map, length, Option, Some}
 use Rattle.std.specs.List.{count_by, flat_map, list_all, list_any}
@@ -27,7 +27,7 @@ abbrev pub numbers : (World → Event → List ℕ) → Profile → ℕ → ℕ 
 numbers give profile apid words es =
     gather_along (λ w e ns. ns ++ give w e) [] (opening profile apid words) es
 
--- how often a number stands in a list, and whether it does
+-- how often a number is in a list, and whether it is
 abbrev pub count : ℕ → List ℕ → ℕ
 count n ns = count_by (λ m. m == n) ns
 
@@ -109,8 +109,8 @@ places profile apid words es =
     pending_numbers w.records ++ due_numbers w.outbox ++ all_drain_numbers profile apid words es
     ++ all_silent profile apid words es
 
--- the law: each number of a stop or suspend that became pending stands in one of the places, once,
--- and no other number stands there
+-- the law: each number of a stop or suspend that became pending is in one of the places, once, and
+-- no other number is there
 abbrev pub EachStandsOnce : Type 0
 EachStandsOnce =
     (profile : Profile) (apid words : ℕ) (es : List Event) (n : ℕ) →
@@ -133,7 +133,7 @@ EachGivesOneReport =
     (profile : Profile) (apid words : ℕ) (es : List Event) (time : ℕ) →
     list_all (gives_one_report time) (replay profile apid words es).outbox ≡ true
 
--- the law: what is pending and what waits to be reported have their places
+-- the law: there is room for what is pending and what waits to be reported
 abbrev pub PlacesSuffice : Type 0
 PlacesSuffice =
     (profile : Profile) (apid words : ℕ) (es : List Event) →

@@ -9,7 +9,7 @@ use Rattle.ocp_world.specs.World.{Event}
 use Rattle.ocp_core.specs.History.{history, gather}
 
 -- it was started with arguments, whatever its budget; it did an instruction that needs no engine;
--- or it made the engine call of this number, and was answered this in R0, and in R1 where the call
+-- or it made the engine call of this number, and was answered this in R0, and in R1 if the call
 -- writes it
 pub data Own : Type 0 where
   Start : List ℕ → Own
@@ -27,7 +27,7 @@ own_by_change (Started budget arguments) = Start arguments ∷ []
 own_by_change (Stepped outcome) = own_by_outcome outcome
 own_by_change change = []
 
--- a load of the procedure begins them anew
+-- a load of the procedure starts a new list
 abbrev pub add_own : ℕ → Effect → List Own → List Own
 add_own id (Loaded profile other image) own = if id == other then [] else own
 add_own id (Changed other change) own = if id == other then own ++ own_by_change change else own
@@ -42,6 +42,6 @@ add_image id (Loaded profile other image) before = if id == other then Some imag
 add_image id (Unloaded other) before = if id == other then None else before
 add_image id effect before = before
 
--- the image of its last load, where it was not unloaded since then
+-- the image of its last load, if it was not unloaded since then
 abbrev pub image_after : Profile → ℕ → ℕ → List Event → ℕ → Option (List ℕ)
 image_after profile apid words es id = gather (add_image id) None (history profile apid words es)

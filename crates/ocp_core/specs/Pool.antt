@@ -56,7 +56,7 @@ abbrev pub pool_from : List ℕ → List PoolOperation → List ℕ
 pool_from pool [] = pool
 pool_from pool (operation ∷ operations) = pool_from (pool_with operation pool) operations
 
--- the pool of so many words, all of them 0 at first, after operations: engine calls of procedures
+-- the pool of `words` words, all of them 0 at first, after operations: engine calls of procedures
 -- and writes from outside
 abbrev pub pool_after : ℕ → List PoolOperation → List ℕ
 pool_after words operations = pool_from (replicate words 0) operations
@@ -79,14 +79,14 @@ pub record Calls (o : Option Rec) (number : ℤ) : Type 0 where
   pub unspent : is_spent rec.remaining ≡ false
   pub calls : one_step rec.image rec.machine ≡ Needs (need.Call number)
 
--- it is answered as the table of the engine calls says, by R1, R2, R3, this pool and its mailbox
+-- it is answered by the table of the engine calls, from R1, R2, R3, this pool and its mailbox
 pub record IsAnswered (o : Option Rec) (pool : List ℕ) (call : Call) : Type 0 where
   pub number : ℤ
   pub calls : Calls o number
   pub given : engine_call number (read calls.rec.machine 1) (read calls.rec.machine 2)
       (read calls.rec.machine 3) pool calls.rec.mailbox ≡ Some call
 
--- the law: each engine call is so answered, on the pool of the operations before it
+-- the law: each engine call is answered in this way, on the pool of the operations before it
 abbrev pub CallsAreAnswered : Type 0
 CallsAreAnswered =
     (profile : Profile) (apid words : ℕ) (es : List Event) (by id : ℕ) (call : Call) →

@@ -47,7 +47,7 @@ ArePossible image s [] = Unit {0}
 ArePossible image s (event ∷ events) =
     IsPossible image s event × ArePossible image (state_by image event s) events
 
--- the image of a procedure, where it is loaded
+-- the image of a procedure, if it is loaded
 abbrev pub image_of : Option Rec → Option (List ℕ)
 image_of None = None
 image_of (Some r) = Some r.image

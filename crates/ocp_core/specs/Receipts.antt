@@ -14,14 +14,14 @@ use Rattle.ocp_core.specs.Log.{Log, Asked, Steps, Drained, entry_for, answer_in,
 use Rattle.ocp_core.specs.Marks.{MarkedEntry, entries_with_marks}
 use Rattle.ocp_core.specs.Journal.{entry_with_mark}
 
--- the reports without what comes beside them
+-- the reports of an answer, without the rest of it
 abbrev pub reports_in : {E : Type 0} → Result (List (List ℕ) × E) EngineFault
     → Result (List (List ℕ)) EngineFault
 reports_in (Ok answer) = Ok answer.0
 reports_in (Err fault) = Err fault
 
--- the event is answered as this journal says, and leaves the journal that it leaves; where it finds
--- no memory it leaves this one
+-- the answer is that of the event on the old journal, and the new journal is the one that the event
+-- leaves; if the event finds no memory, the journal stays
 abbrev pub Enters : Log → Log → Event → Answer → Type 0
 Enters old new e (Requested result) =
     Answers result (answer_in old e)
@@ -31,8 +31,8 @@ Enters old new e (Stepped outcome) = (Stepped outcome ≡ answer_in old e) × (n
 Enters old new e (Commanded result) = (Commanded result ≡ answer_in old e) × (new ≡ log_after old e)
 Enters old new e (Written result) = (Written result ≡ answer_in old e) × (new ≡ log_after old e)
 
--- what an event that is answered so adds to the journal: its entry with the answer as its mark
--- where the answer accepts, and nothing where it refuses
+-- what an event with this answer adds to the journal: its entry with the answer as its mark if the
+-- answer accepts, and nothing if it refuses
 abbrev pub event_entries : Event → Answer → List MarkedEntry
 event_entries e answer =
     if is_accepted answer then record { entry = entry_for e; mark = answer } ∷ [] else []
@@ -45,12 +45,12 @@ marked_request by time octets reports =
 abbrev pub marked_drain : ℕ → ℕ → List (List ℕ) → MarkedEntry
 marked_drain by time reports = record { entry = Drained by time; mark = Requested (Ok reports) }
 
--- the entry, where there is one
+-- the entry, if there is one
 abbrev pub entries_in : {A : Type 0} → Option (N.Entry A) → List MarkedEntry
 entries_in None = []
 entries_in (Some entry) = entry_with_mark entry ∷ []
 
--- so many instructions of one procedure, and the outcome of the last
+-- `count` instructions of one procedure, and the outcome of the last
 abbrev pub count_entries : ℕ → ℕ → ℕ → StepOutcome → List MarkedEntry
 count_entries by id count last = record { entry = Steps by id count; mark = Stepped last } ∷ []
 
@@ -58,7 +58,7 @@ count_entries by id count last = record { entry = Steps by id count; mark = Step
 abbrev pub step_entries : ℕ → ℕ → StepOutcome → List MarkedEntry
 step_entries by id outcome = event_entries (Step by id) (Stepped outcome)
 
--- a slice, which is refused where it did no instruction
+-- a slice, which is refused if it did no instruction
 abbrev pub slice_entries : ℕ → ℕ → Slice → List MarkedEntry
 slice_entries by id slice =
     if slice.count == 0 then [] else count_entries by id slice.count slice.last

@@ -35,7 +35,7 @@ TakesMemory log (Debug by id command) = ⊥
 TakesMemory log (Drain by time) = is_accepted (answer_in log (Drain by time)) ≡ true
 TakesMemory log (Put by index value) = ⊥
 
--- the event is refused so
+-- the event has this refusal
 abbrev pub IsRefusedBy : Log → Event → RunRefusal → Type 0
 IsRefusedBy log e JournalFull = finds_full log e ≡ true
 IsRefusedBy log e Memory = TakesMemory log e
@@ -62,9 +62,9 @@ abbrev pub Applies : {A : Type 0} → Log → Log → Event → Result (G.Answer
 Applies old new e (Ok answer) = IsDone old new e (answer_of answer)
 Applies old new e (Err refusal) = IsRefusedBy old e refusal × (new ≡ old)
 
--- a run ends, with this journal, before the event of this index, which is refused so; out of memory
--- it may also end before the first event, since room for all answers is taken there. A run of no
--- events does not end before one.
+-- a run ends, with this journal, before the event of this index, which has this refusal; out of
+-- memory it may also end before the first event, since room for all answers is taken there. A run
+-- of no events does not end before one.
 abbrev pub StopsAt : Log → RunRefusal → ℕ → Option Event → Type 0
 StopsAt log Memory zero (Some e) = Unit {0}
 StopsAt log refusal index (Some e) = IsRefusedBy log e refusal

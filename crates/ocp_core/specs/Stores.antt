@@ -1,4 +1,4 @@
--- What an event does to an engine, whatever keeps its entries: a store is seen as any value, with
+-- What an event does to an engine with any store of its entries: a store is seen as any value, with
 -- the log of all its entries, whether there is no room for an entry, and the store with one more.
 use Rattle.std.specs.Prelude.{◌≡◌, ℕ, Bool, if◌then◌else◌, List, Ok}
 use Rattle.ocp_table.specs.declared.answers.Slice.{Slice}
@@ -39,7 +39,7 @@ slice_store log is_full with_entry s by id budget =
     else with_entry s (Steps by id (slice_count w by id budget)))
     else s
 
--- the slice of as many instructions as the round has at most
+-- the slice up to the largest number of instructions of the round
 abbrev pub round_at : {S : Type 0} → (S → Log) → (S → Entry → Bool) → S → ℕ → ℕ → ℕ → Round
 round_at log is_full s by id budget =
     let w = world_of (log s) in
@@ -50,7 +50,7 @@ abbrev pub round_store : {S : Type 0} → (S → Log) → (S → Entry → Bool)
 round_store log is_full with_entry s by id budget =
     slice_store log is_full with_entry s by id (round_budget (world_of (log s)) by id budget)
 
--- what was kept of reports stands for those that the entry's event is answered
+-- what was kept of reports holds those that answer the entry's event
 abbrev pub HoldsAnswer : {K : Type 0} → (K → List (List ℕ) → Type 0) → K → World → Entry → Type 0
 HoldsAnswer holds kept w entry =
     (reports : List (List ℕ)) × holds kept reports × (Requested (Ok reports) ≡ mark_in w entry)

@@ -11,7 +11,7 @@ pub record TicketContents : Type 0 where
   pub id : ℕ
   pub base : Snapshot
 
--- so many instructions were done, which left the machine so
+-- `count` instructions were done, and left the machine `end`
 pub record WorkContents : Type 0 where
   pub id : ℕ
   pub base : Snapshot
@@ -26,8 +26,8 @@ ticket_by id (Some base) = Some (record { id = id; base = base })
 abbrev pub ticket_at : ℕ → Option Rec → Option TicketContents
 ticket_at id o = ticket_by id (snapshot_at o)
 
--- the machine does that many instructions by itself, and they leave it so; they are no more than
--- what remains of the budget, and none where the procedure is traced
+-- the machine does `count` instructions by itself, and they leave it `end`; they are no more than
+-- what remains of the budget, and none if the procedure is traced
 pub record IsRun (w : WorkContents) : Type 0 where
   pub ran : run_of w.base w.count ≡ Some w.end
   pub within : IsWithin w.base.remaining w.count

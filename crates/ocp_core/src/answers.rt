@@ -6,7 +6,7 @@ use std::alloc::{Allocator, Global};
 /// What an event of a run was answered.
 #[derive(Drop)]
 pub enum Answer<A: Allocator = Global> {
-    /// That of a request or of a drain.
+    /// The answer to a request or to a drain.
     Requested(Result<Reports<A>, EngineFault>),
     Stepped(StepOutcome),
     Commanded(Result<(), DebugFault>),
@@ -21,7 +21,7 @@ pub enum RunRefusal {
 }
 
 /// Where a run ended: the refusal, the index of the refused event, and the answers of the events
-/// before it, which stand.
+/// before it, which stay done.
 #[derive(Drop)]
 pub struct RunFault<A: Allocator = Global> {
     pub refusal: RunRefusal,
@@ -35,10 +35,10 @@ pub enum CommitOutcome {
     /// It has no instruction.
     Empty,
     /// Its procedure is not loaded or does not run, or its program, machine, breakpoints, pass
-    /// flag, trace flag or remaining budget are not those that the work began with.
+    /// flag, trace flag or remaining budget is not the one that the work began with.
     Stale,
     /// There is no room for a further journal entry.
     JournalFull,
-    /// So many instructions were done.
+    /// This many instructions were done.
     Committed(u32),
 }

@@ -1,5 +1,5 @@
-//! The calls of an engine, over whatever keeps its entries. Each takes the store of the entries and
-//! the state that they make.
+//! The calls of an engine, over any store of its entries. Each takes that store and the state that
+//! the entries make.
 
 ghost use Rattle.std.specs.Prelude.{◌≡◌, ◌≤◌, ◌<◌, true, Err, IfOk, OnOk, OnErr};
 ghost use Rattle.ocp_table.specs.Slices.{slice_of};
@@ -19,7 +19,7 @@ use ocp_world::{Extent, State, discard_of};
 use pus_fields::read_tc;
 use std::alloc::Allocator;
 
-// Does instructions of one procedure as far as a slice or a round goes.
+// Does instructions of one procedure, to the end of a slice or a round.
 #[inline(always)]
 fn instructions<S: Store, A: Allocator>(
     store: &mut S,
@@ -99,8 +99,8 @@ pub fn slice<S: Store, A: Allocator>(
     Slice { count, last }
 }
 
-/// Does instructions of one procedure as `slice` does, which also end with the first that ends a
-/// step. The round answers the number of that step, if one ended.
+/// Does instructions of one procedure as `slice` does, but at most up to the first that ends a
+/// step. It answers the number of that step, if one ended.
 pub fn round<S: Store, A: Allocator>(
     store: &mut S,
     state: &mut State<A>,
@@ -119,8 +119,8 @@ pub fn round<S: Store, A: Allocator>(
     instructions(store, state, by, id, budget, Extent::Round)
 }
 
-/// Does a debugger's command, which a seat hands in. Refused as the command is, and then if there
-/// is no room for its entry; then nothing is changed.
+/// Does a debugger's command of a seat. Refused as the command is, and after that if there is no
+/// room for its entry; then nothing is changed.
 pub fn command<S: Store, A: Allocator>(
     store: &mut S,
     state: &mut State<A>,
@@ -175,9 +175,9 @@ pub fn put_word<S: Store, A: Allocator>(
     Ok(())
 }
 
-/// Takes the octets of a telecommand packet, which a seat hands in at a time in whole seconds, and
-/// writes its reports. Refused, in this order, if the octets are discarded, if there is no room for
-/// an entry, and if the keeper finds no memory; then nothing is changed.
+/// Takes the octets of a telecommand packet from a seat, at a time in whole seconds, and writes its
+/// reports. Refused, in this order, if the octets are discarded, if there is no room for an entry,
+/// and if the keeper finds no memory; then nothing is changed.
 pub fn request<S: RequestStore, A: Allocator>(
     store: &mut S,
     state: &mut State<A>,
@@ -210,8 +210,8 @@ pub fn request<S: RequestStore, A: Allocator>(
     Ok(store.push_request(by, time, octets, copy, kept))
 }
 
-/// Writes the reports of the completions that wait, the oldest first, at a time in whole seconds,
-/// each to the source of its request; none waits then. A seat hands it in. Refused, in this order,
+/// Writes the reports of the completions that wait, for a seat: the oldest first, at a time in
+/// whole seconds, each to the source of its request. None waits after it. Refused, in this order,
 /// if none waits, if there is no room for an entry, and if the keeper finds no memory; then nothing
 /// is changed.
 pub fn drain<S: RequestStore, A: Allocator>(

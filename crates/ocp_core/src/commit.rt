@@ -1,4 +1,4 @@
-//! Tickets of the engine, and how their works come back.
+//! Tickets of the engine, and the commit of their works.
 
 ghost use Rattle.std.specs.Prelude.{◌≡◌, IfOk, IsTrue, Some, false};
 ghost use Rattle.ocp_core.specs.Clauses.{Commits, Grows, commit_entries, get, ticket_at, work_after, world_of};
@@ -10,7 +10,7 @@ use ocp_world::instructions_done_alone_are_events;
 use std::alloc::{AllocError, Allocator};
 
 impl<A: Allocator> Engine<A> {
-    /// A copy of a procedure that runs apart: none where the procedure is not running.
+    /// A copy of a procedure, to run apart; none if the procedure is not running.
     pub fn ticket(&self, alloc: A, id: u16) -> Result<Option<Ticket<A>>, AllocError>
     where
         A: Copy,
@@ -47,17 +47,17 @@ impl<A: Allocator> Engine<A> {
     }
 
     /// Puts a work's instructions into its procedure, as events that happen here. Refused, in this
-    /// order, where there are none, where the procedure is not what the work began with, and where
-    /// the journal is full; then nothing is changed. The work is dropped.
+    /// order, if there are none, if the procedure is not what the work began with, and if the
+    /// journal is full; then nothing is changed. The work is dropped.
     pub fn commit(&mut self, by: u16, mut work: Work<A>) -> CommitOutcome
         ensures commits { Commits self.old self.new by work result }
     {
         self.hand_in(by, &mut work)
     }
 
-    /// As `commit`, with a work that stays: no memory is given back, and no machine is copied.
-    /// Where it is committed, the procedure has the machine that ran, and the work the procedure's,
-    /// which is as it began, after no instructions.
+    /// As `commit`, with a work that stays: no memory is given back, and no machine is copied. If
+    /// the work is committed, the procedure gets the machine that ran. The work gets the machine
+    /// that the procedure had, which is the one that it began with, and has no instructions.
     pub fn hand_in(&mut self, by: u16, work: &mut Work<A>) -> CommitOutcome
         ensures commits { Commits self.old self.new by work.old result }
         ensures gain { Grows self.old self.new (commit_entries by work.old.id result) }

@@ -9,8 +9,8 @@ use crate::{Command, DebugFault, Engine, calls};
 use std::alloc::{AllocError, Allocator};
 
 impl<A: Allocator> Engine<A> {
-    /// Does a debugger's command, which a seat hands in. Refused as the command is, and then where
-    /// the journal is full; then nothing is changed.
+    /// Does a debugger's command of a seat. Refused as the command is, and after that if the
+    /// journal is full; then nothing is changed.
     pub(crate) fn command(&mut self, by: u16, id: u16, command: Command) -> Result<(), DebugFault>
         ensures answer { Commanded result ≡ answer_in self.old (Debug by id command) }
         ensures journal { self.new ≡ log_after self.old (Debug by id command) }
@@ -18,9 +18,9 @@ impl<A: Allocator> Engine<A> {
         calls::command(&mut self.journal, &mut self.state, by, id, command)
     }
 
-    /// Sets a breakpoint at the slot of an instruction. Refused, in this order, where the procedure
-    /// is not loaded, where no instruction begins at the slot, where a breakpoint stands there,
-    /// where eight are set, and where the journal is full; then nothing is changed.
+    /// Sets a breakpoint at the slot of an instruction. Refused, in this order, if the procedure is
+    /// not loaded, if no instruction begins at the slot, if it has a breakpoint, if eight are set,
+    /// and if the journal is full; then nothing is changed.
     pub fn set_break(&mut self, by: u16, id: u16, place: u16) -> Result<(), DebugFault>
         ensures answer { Commanded result ≡
             answer_in self.old (Debug by id (Command.SetBreak place)) }
@@ -29,8 +29,8 @@ impl<A: Allocator> Engine<A> {
         self.command(by, id, Command::SetBreak(place))
     }
 
-    /// Clears the breakpoint at a slot. Refused, in this order, where the procedure is not loaded,
-    /// where none stands there, and where the journal is full; then nothing is changed.
+    /// Clears the breakpoint at a slot. Refused, in this order, if the procedure is not loaded, if
+    /// the slot has none, and if the journal is full; then nothing is changed.
     pub fn clear_break(&mut self, by: u16, id: u16, place: u16) -> Result<(), DebugFault>
         ensures answer { Commanded result ≡
             answer_in self.old (Debug by id (Command.ClearBreak place)) }
@@ -40,7 +40,7 @@ impl<A: Allocator> Engine<A> {
     }
 
     /// Sets whether each instruction of a procedure leaves a trace record. Refused, in this order,
-    /// where the procedure is not loaded, and where the journal is full; then nothing is changed.
+    /// if the procedure is not loaded, and if the journal is full; then nothing is changed.
     pub fn trace(&mut self, by: u16, id: u16, on: bool) -> Result<(), DebugFault>
         ensures answer { Commanded result ≡ answer_in self.old (Debug by id (Command.SetTrace on)) }
         ensures journal { self.new ≡ log_after self.old (Debug by id (Command.SetTrace on)) }
@@ -48,18 +48,18 @@ impl<A: Allocator> Engine<A> {
         self.command(by, id, Command::SetTrace(on))
     }
 
-    /// Reads octets of a procedure's memory from an address on, one into each of the slice.
-    /// Refused, in this order, where the procedure is not loaded, and where one of them is not
-    /// there; the slice then keeps its octets.
+    /// Fills the slice with octets of a procedure's memory, from an address on. Refused, in this
+    /// order, if the procedure is not loaded, and if one of the octets is not in its memory; the
+    /// slice then keeps its octets.
     pub fn memory(&self, id: u16, address: u64, octets: &mut [u8]) -> Result<(), DebugFault>
         ensures { Reads (get (world_of self.now).records id) address octets.old octets.new result }
     {
         ocp_debug::memory(&self.state.table, id, address, octets)
     }
 
-    /// Appends the lines of the last 256 trace records, the oldest first. The only refusal is that
-    /// of memory, and comes only where the lines do not fit into the capacity that the output has;
-    /// the output then stays as it was.
+    /// Appends the lines of the last 256 trace records, the oldest first. It is refused only for
+    /// memory, and only if the lines do not fit into the capacity that the output has; the output
+    /// then stays as it was.
     pub fn trace_lines<B: Allocator>(&self, output: &mut Vec<u8, B>) -> Result<(), AllocError>
         ensures { Appends (flat_map trace_line (last_traces (world_of self.now).traces))
             output.old output.new result }

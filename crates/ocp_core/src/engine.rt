@@ -26,7 +26,7 @@ pub struct Engine<A: Allocator = Global> {
     packets: PacketBuffer<A>,
 }
 
-/// One call wherever an engine ends, in place of a drop of each of its parts there.
+/// Kept as one call: the proof of each caller is then shorter.
 impl<A: Allocator> Drop for Engine<A> {
     fn drop(self) {
         let Self {
@@ -75,9 +75,9 @@ impl<A: Allocator + Copy> Engine<A> {
         })
     }
 
-    /// Takes the octets of a telecommand packet, which a seat hands in at a time in whole seconds,
-    /// and answers its reports. Refused, in this order, where the octets are discarded, where the
-    /// journal is full, and where there is no memory; then nothing is changed.
+    /// Takes the octets of a telecommand packet from a seat, at a time in whole seconds, and
+    /// answers its reports. Refused, in this order, if the octets are discarded, if the journal is
+    /// full, and if there is no memory; then nothing is changed.
     pub fn request(
         &mut self,
         alloc: A,
@@ -94,8 +94,8 @@ impl<A: Allocator + Copy> Engine<A> {
         Ok(reports)
     }
 
-    /// `request`, with the receipt of its entry, at a heap that notes whether the copy of the
-    /// octets or the reports found no memory. Memory is answered only then.
+    /// `request`, with the receipt of its entry. The heap notes whether the copy of the octets or
+    /// the reports found no memory. Memory is answered only then.
     pub fn request_in(
         &mut self,
         heap: &mut Heap<A>,
@@ -123,10 +123,9 @@ impl<A: Allocator + Copy> Engine<A> {
         )
     }
 
-    /// Reports the completions that wait, the oldest first, at a time in whole seconds, each to the
-    /// source of its request; none waits then. A seat hands it in. Refused, in this order, where
-    /// none waits, where the journal is full, and where there is no memory; then nothing is
-    /// changed.
+    /// Reports the completions that wait, for a seat: the oldest first, at a time in whole seconds,
+    /// each to the source of its request. None waits after it. Refused, in this order, if none
+    /// waits, if the journal is full, and if there is no memory; then nothing is changed.
     pub fn drain(&mut self, alloc: A, by: u16, time: u32) -> Result<Reports<A>, EngineFault>
         ensures answer { Answers result (answer_in self.old (world.Drain by time)) }
         ensures journal { OnOk result (self.new ≡ log_after self.old (world.Drain by time)) }
@@ -160,8 +159,8 @@ impl<A: Allocator + Copy> Engine<A> {
 }
 
 impl<A: Allocator> Engine<A> {
-    /// Does what a seat asks, and answers it, with a copy of the entry that the journal gained, if
-    /// it gained one. All memory is taken before anything is changed.
+    /// Does what a seat asks. It returns the answer, with a copy of the entry that the journal
+    /// gained, if it gained one. All memory is taken before anything is changed.
     pub fn apply<I: Input<A>>(&mut self, by: u16, input: I) -> (I::Answer, Option<Entry<A>>)
         ensures enters { Enters self.old self.new (I.event by input) (I.answer result.0) }
         ensures receipt { entries_in result.1 ≡
@@ -173,8 +172,8 @@ impl<A: Allocator> Engine<A> {
         input.enter(self, by)
     }
 
-    /// Does one instruction of a running procedure. Refused, in this order, where the procedure is
-    /// not loaded, where it is not running, and where the journal is full; then nothing is changed.
+    /// Does one instruction of a running procedure. Refused, in this order, if the procedure is not
+    /// loaded, if it is not running, and if the journal is full; then nothing is changed.
     pub fn step(&mut self, by: u16, id: u16) -> StepOutcome
         ensures answer { Stepped result ≡ answer_in self.old (world.Step by id) }
         ensures journal { self.new ≡ log_after self.old (world.Step by id) }
@@ -184,7 +183,7 @@ impl<A: Allocator> Engine<A> {
 
     /// Does instructions of one procedure, at least one, until the budget is used, the procedure no
     /// longer runs, or an instruction is refused, ends it or faults. They are one journal entry, or
-    /// none where none was done.
+    /// none if none was done.
     pub fn slice(&mut self, by: u16, id: u16, budget: u32) -> Slice
         requires { 1 ≤ budget }
         ensures within { result.count ≤ budget }
@@ -195,9 +194,9 @@ impl<A: Allocator> Engine<A> {
         calls::slice(&mut self.journal, &mut self.state, by, id, budget)
     }
 
-    /// Does instructions of one procedure as `slice` does, which also end with the first that ends
-    /// a step. The round answers the number of that step, if one ended. Its instructions are one
-    /// journal entry, or none if none was done.
+    /// Does instructions of one procedure as `slice` does, but at most up to the first that ends a
+    /// step. It answers the number of that step, if one ended. Its instructions are one journal
+    /// entry, or none if none was done.
     pub fn round(&mut self, by: u16, id: u16, budget: u32) -> Round
         requires { 1 ≤ budget }
         ensures within { result.count ≤ budget }
@@ -219,8 +218,8 @@ impl<A: Allocator> Engine<A> {
         calls::put_word(&mut self.journal, &mut self.state, by, index, value)
     }
 
-    /// The procedure whose turn is next: the least running one above the one before, or where there
-    /// is none the least running one. None exactly where none runs.
+    /// The procedure whose turn is next: the least running one above the one before, or the least
+    /// running one if none is above it. None exactly if none runs.
     pub fn next_running(&self, after: Option<u16>) -> Option<u16>
         ensures pick { IsNextRunning (world_of self.now).records after result }
         ensures runs { IfSome result (Runs (world_of self.now).records) }
@@ -229,14 +228,14 @@ impl<A: Allocator> Engine<A> {
         self.state.next_running(after)
     }
 
-    /// What is shown of a procedure, where it is loaded.
+    /// What is shown of a procedure, if it is loaded.
     pub fn view(&self, id: u16) -> Option<View>
         ensures { result ≡ view_at (get (world_of self.now).records id) }
     {
         self.state.table.view(id)
     }
 
-    /// The pool word at an index, where there is one.
+    /// The pool word at an index, if there is one.
     pub fn pool_word(&self, index: u64) -> Option<u64>
         ensures { result ≡ slice_get (world_of self.now).pool index }
     {

@@ -1,10 +1,10 @@
-//! What is handed to the engine, and what it keeps of it.
+//! The events of a run, and the journal entries that they leave.
 
 use crate::{Command, Octets, Reports, StepOutcome};
 use std::alloc::{Allocator, Global};
 
-/// An event of a run. The octets of a request are borrowed. `by` is the number of the seat that
-/// hands it in, and the time is in whole seconds.
+/// An event of a run. The octets of a request are borrowed. `by` is the number of the seat that it
+/// comes from, and the time is in whole seconds.
 #[derive(Clone, Copy)]
 pub enum Event<'a> {
     Request {
@@ -50,7 +50,7 @@ pub enum Event<'a> {
 
 /// What the journal keeps: a request, a number of instructions of one procedure, done one after the
 /// other, a debugger's command, a drain, or a write of a pool word. The mark of an entry is the
-/// answer that was given with it.
+/// answer that was given to it.
 #[derive(Drop)]
 pub enum Entry<A: Allocator = Global> {
     /// Its mark is a copy of the reports that were answered.
@@ -95,7 +95,7 @@ pub enum Entry<A: Allocator = Global> {
     },
 }
 
-/// An entry as it is handed to a store: its octets are borrowed, and it has no mark.
+/// An entry as a store gets it: its octets are borrowed, and it has no mark.
 #[derive(Clone, Copy)]
 pub enum Note<'a> {
     Request {
@@ -129,7 +129,7 @@ impl<A: Allocator> Entry<A> {
     ghost use Rattle.std.specs.Prelude.{◌≡◌, ◌↔◌, ◌<◌, ◌^◌, IsTrue, Ok, length};
     ghost use Rattle.ocp_core.specs.Clauses.{Commanded, Debugged, by_of, command_of, entry_of, entry_with_mark, events_of, mark_of};
 
-    /// That of a debugger's command, which a seat hands in.
+    /// The entry of a seat's debugger's command.
     pub(crate) fn of_command(by: u16, id: u16, command: Command) -> Self
         ensures entry { entry_of result ≡ Debugged by id command }
         ensures mark { mark_of result ≡ Commanded (Ok tt) }
@@ -141,7 +141,7 @@ impl<A: Allocator> Entry<A> {
         }
     }
 
-    /// The seat that handed it in.
+    /// The seat that it came from.
     pub fn by(&self) -> u16
         ensures { result ≡ by_of (entry_of self.now) }
     {
@@ -167,7 +167,7 @@ impl<A: Allocator> Entry<A> {
         }
     }
 
-    /// The debugger's command that it is, where it is one, with the id of its procedure.
+    /// The debugger's command that it is, if it is one, with the id of its procedure.
     pub(crate) fn command(&self) -> Option<(u16, Command)>
         ensures { result ≡ command_of (entry_of self.now) }
     {

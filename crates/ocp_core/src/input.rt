@@ -9,17 +9,17 @@ use crate::{Command, DebugFault, Engine, EngineFault, Entry, PutFault, Reports, 
 use ocp_world::Heap;
 use std::alloc::{Allocator, Global};
 
-/// What may be asked of an engine: one event, of whatever seat.
+/// What may be asked of an engine: one event, of any seat.
 pub trait Input<A: Allocator> {
     /// What it is answered.
     type Answer: Drop;
 
-    // The event that it is by the seat of a number.
+    // The event that it is, asked by the seat with this number.
     ghost event: { ℕ → Self → world.Event };
 
     ghost answer: { Self.Answer → after.Answer };
 
-    /// The answer where there is no room for a further journal entry.
+    /// The answer if there is no room for a further journal entry.
     fn full(self) -> Self::Answer
         ensures { (by : ℕ) → answer result ≡ full_answer (event by self) };
 

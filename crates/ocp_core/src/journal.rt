@@ -38,8 +38,8 @@ impl<A: Allocator> Model for Journal<A> {
 }
 
 impl<A: Allocator> Journal<A> {
-    /// A journal without entries, with room for so many, of an engine of a profile with 1 to 256
-    /// pool words.
+    /// A journal without entries, with room for `capacity` entries, of an engine of a profile with
+    /// 1 to 256 pool words.
     #[tactic(auto, unfolding(crate::specs::Marks::entries_with_marks, crate::specs::Log::world_of))]
     pub fn new(
         alloc: A,
@@ -186,7 +186,7 @@ impl<A: Allocator> Store for Journal<A> {
     }
 }
 
-/// The octets of a request have two handles, that of its entry and that of its receipt.
+/// The octets of a request have two handles: one for its entry, one for its receipt.
 impl<A: Allocator + Copy> RequestStore for Journal<A> {
     ghost use Rattle.std.specs.Prelude.{Ok};
     ghost use Rattle.ocp_core.specs.Clauses.{Requested};

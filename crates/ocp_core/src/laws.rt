@@ -25,7 +25,7 @@ pub use procedures::{
     words_are_taken_in_the_order_sent,
 };
 
-/// The mark of each new entry of a journal is the answer that was given with it, and the older
+/// The mark of each new entry of a journal is the answer that was given to it, and the older
 /// entries and marks stay. What is refused adds none.
 pub fn entries_are_marked_by_their_answers()
     ensures event { (old new : Log) (e : Event) (answer : Answer) → Enters old new e answer →

@@ -34,7 +34,7 @@ fn steps<A: Allocator>(state: &mut State<A>, id: u16, count: u32)
     }
 }
 
-// Does the events of an entry, the first of which is that of this number.
+// Does the events of an entry, the first of which has this number.
 fn enter<A: Allocator, B: Allocator>(
     state: &mut State<A>,
     apid: Apid,
@@ -69,9 +69,9 @@ fn enter<A: Allocator, B: Allocator>(
     }
 }
 
-/// The machine of a procedure at the end of a journal, where it is loaded there. It is the machine
-/// of the journal's replay, and the one that its image and its own events make: its starts, its
-/// instructions, and the answers of its engine calls. The only refusal is that of memory.
+/// The machine of a procedure at the end of a journal, if it is loaded there. It is the machine of
+/// the journal's replay, and the one that its image and its own events make: its starts, its
+/// instructions, and the answers to its engine calls. It is refused only for memory.
 pub fn replay_one<A: Allocator + Copy, B: Allocator>(
     alloc: A,
     journal: &Journal<B>,

@@ -76,16 +76,16 @@ pub trait RequestStore: Store {
     /// Who keeps the reports.
     type Keeper: Keeps;
 
-    /// What is taken of a request's octets before anything is changed.
+    /// What is kept of a request's octets before anything is changed.
     type KeptOctets: Drop;
 
     /// What the caller of a request or of a drain gets.
     type Receipt: Drop;
 
-    // It stands for these octets.
+    // The kept value holds these octets.
     ghost keeps_octets: { Self.KeptOctets → List ℕ → Type 0 };
 
-    // It stands for an entry and the reports that its event was answered.
+    // The receipt holds an entry and the reports that answered its event.
     ghost is_receipt: { Self.Receipt → logs.Entry → List (List ℕ) → Type 0 };
 
     /// Takes what the entry of a request needs. It fails for memory alone.

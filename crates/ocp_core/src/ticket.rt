@@ -11,23 +11,23 @@ use ocp_table::Snapshot;
 use std::alloc::{Allocator, Global};
 use std::marker::Model;
 
-/// What a ticket and its work have of a procedure. It stands on the heap, so that a ticket becomes
-/// a work, and goes from call to call, where it is.
+/// What a ticket and its work have of a procedure. It is on the heap, so that it does not move when
+/// a ticket becomes a work, or is passed from call to call.
 #[derive(Drop)]
 pub(crate) struct Parts<A: Allocator> {
     pub(crate) base: Snapshot<A>,
     pub(crate) machine: Machine<A>,
 }
 
-/// A copy of a running procedure: its program, its machine, which is to compare with, another
-/// machine with the same addresses, which is to become like it and to run, the breakpoints, the
-/// pass flag, the trace flag and what remains of the budget.
+/// A copy of a running procedure: its program, its machine, which is compared at the commit,
+/// another machine with the same addresses, which becomes equal to it and runs, the breakpoints,
+/// the pass flag, the trace flag and what remains of the budget.
 pub struct Ticket<A: Allocator = Global> {
     pub(crate) id: u16,
     pub(crate) parts: Box<Parts<A>, A>,
 }
 
-/// One call wherever a ticket ends, in place of a drop of each of its parts there.
+/// Kept as one call: the proof of each caller is then shorter.
 impl<A: Allocator> Drop for Ticket<A> {
     fn drop(self) {
         let Self { id: _, parts: _ } = self;
@@ -44,7 +44,7 @@ impl<A: Allocator> Model for Ticket<A> {
     ghost invariant = { λ t. HasAddressesOf t.parts.value.machine t.parts.value.base.machine };
 }
 
-/// What a ticket did: its machine is the one that it began with after that many instructions that
+/// What a ticket did: its machine is the one that it began with, after `count` instructions that
 /// need no engine.
 pub struct Work<A: Allocator = Global> {
     pub(crate) id: u16,
@@ -52,7 +52,7 @@ pub struct Work<A: Allocator = Global> {
     pub(crate) count: u32,
 }
 
-/// One call wherever a work ends, in place of a drop of each of its parts there.
+/// Kept as one call: the proof of each caller is then shorter.
 impl<A: Allocator> Drop for Work<A> {
     fn drop(self) {
         let Self {
@@ -81,10 +81,10 @@ impl<A: Allocator> Ticket<A> {
         self.id
     }
 
-    /// Does instructions that need no engine, at most so many, and no more than what remains of the
-    /// procedure's budget: none where the procedure is traced. It stops before the first one that
-    /// needs the engine, and before a breakpoint, which the pass flag lets the first instruction
-    /// pass.
+    /// Does instructions that need no engine, up to `budget` and to what remains of the procedure's
+    /// own budget. It does none if the procedure is traced. It stops before the first one that
+    /// needs the engine, and before a breakpoint, but the pass flag lets the first instruction pass
+    /// one.
     pub fn run(self, budget: u32) -> Work<A>
         ensures id { result.id ≡ self.id }
         ensures base { result.base ≡ self.base }
@@ -106,7 +106,7 @@ impl<A: Allocator> Work<A> {
         self.id
     }
 
-    /// The ticket that it was, in the same memory.
+    /// The ticket that it was made of, in the same memory.
     pub fn into_ticket(self) -> Ticket<A>
         ensures { result ≡ record { id = self.id; base = self.base } }
     {

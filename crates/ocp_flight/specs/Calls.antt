@@ -1,5 +1,5 @@
--- What an event does to an engine whose journal is handed down: what it does to any engine, with
--- the log of all entries, and with the room that those have that are held.
+-- What an event does to an engine whose journal is handed down: what it does to any engine with
+-- the log of all entries, but the room is that for the entries held.
 use Rattle.std.specs.Prelude.{ℕ}
 use Rattle.ocp_table.specs.declared.answers.Slice.{Slice}
 use Rattle.ocp_table.specs.declared.answers.Round.{Round}
@@ -8,7 +8,7 @@ use Rattle.ocp_world.specs.After.{Answer}
 use Rattle.ocp_core.specs.Stores.{answer_at, event_store, slice_at, slice_store, round_at, round_store}
 use Rattle.ocp_flight.specs.Flown.{Flown, is_full, with_entry}
 
--- an event that would be accepted is refused if its entry has no room
+-- an event that would be accepted is refused if there is no room for its entry
 abbrev pub answer_in : Flown → Event → Answer
 answer_in f e = answer_at (λ (g : Flown). g.log) is_full f e
 
@@ -27,7 +27,7 @@ slice_after f by id budget =
 abbrev pub round_in : Flown → ℕ → ℕ → ℕ → Round
 round_in f by id budget = round_at (λ (g : Flown). g.log) is_full f by id budget
 
--- and so are those of a round
+-- the instructions of a round are one entry
 abbrev pub round_after : Flown → ℕ → ℕ → ℕ → Flown
 round_after f by id budget =
     round_store (λ (g : Flown). g.log) is_full with_entry f by id budget

@@ -60,7 +60,7 @@ entry_in octets =
     else if kind == 7 then Some (Wrote by id (big_number 8 (drop 5 octets)))
     else None
 
--- the law: the octets of an entry say which it is
+-- the law: the octets of an entry determine it
 abbrev pub EntriesAreReadBack : Type 0
 EntriesAreReadBack =
     (entry : Entry) → IsEntryInRange entry → entry_in (entry_octets entry) ≡ Some entry

@@ -12,8 +12,8 @@ use Rattle.ocp_flight.specs.declared.faults.ReleaseFault.TheVariants.{NotHeld, S
 use Rattle.ocp_flight.specs.declared.faults.EntryFault.{EntryFault}
 use Rattle.ocp_flight.specs.declared.faults.EntryFault.TheVariants.{Released, NotYet, TooShort}
 
--- the log of all entries, whose capacity is the most entries that are held; how many were released;
--- and the most octets that the entries held have together
+-- the log of all entries, whose capacity is the largest number of entries held; how many were
+-- released; and the largest number of octets that the entries held have together
 pub record Flown : Type 0 where
   pub log : Log
   pub released : ℕ
@@ -69,7 +69,7 @@ release_answer f count =
     else if nat_le (2 ^ 63) (length (expand f.log.entries)) then Err Spent
     else Ok tt
 
--- so many of the oldest more are released; no entry of the log changes
+-- the oldest `count` of the entries held are released; no entry of the log changes
 abbrev pub release_after : Flown → ℕ → Flown
 release_after f count =
     if nat_lt (held_count f) count then f

@@ -24,8 +24,7 @@ ReleasesKeepTheLog =
     × (released_entries (release_after f count) ++ held_entries (release_after f count) ≡
     released_entries f ++ held_entries f)
 
--- an engine that has the same parameters and was given all entries has the same world, whatever
--- its capacity
+-- an engine with the same parameters that got all entries has the same world, whatever its capacity
 abbrev pub SameEntriesSameWorld : Type 0
 SameEntriesSameWorld =
     (f : Flown) (engine : Log) →

@@ -71,9 +71,9 @@ impl<A: Allocator + Copy> Flight<A> {
 }
 
 impl<A: Allocator> Flight<A> {
-    /// Takes the octets of a telecommand packet, which a seat hands in at a time in whole seconds,
-    /// and writes its reports. Refused, in this order, if the octets are discarded, and if the
-    /// entry has no room; then nothing is changed.
+    /// Takes the octets of a telecommand packet from a seat, at a time in whole seconds, and writes
+    /// its reports. Refused, in this order, if the octets are discarded, and if there is no room
+    /// for the entry; then nothing is changed.
     pub fn request(
         &mut self,
         by: u16,
@@ -100,7 +100,8 @@ impl<A: Allocator> Flight<A> {
     }
 
     /// Does one instruction of a running procedure. Refused, in this order, if the procedure is not
-    /// loaded, if it is not running, and if the entry has no room; then nothing is changed.
+    /// loaded, if it is not running, and if there is no room for the entry; then nothing is
+    /// changed.
     pub fn step(&mut self, by: u16, id: u16) -> StepOutcome
         ensures answer { Stepped result ≡ answer_in self.old (Step by id) }
         ensures log { self.new ≡ flown_after self.old (Step by id) }
@@ -120,8 +121,8 @@ impl<A: Allocator> Flight<A> {
         calls::slice(&mut self.store, &mut self.state, by, id, budget)
     }
 
-    /// Does instructions of one procedure as `slice` does, which also end with the first that ends
-    /// a step. The round answers the number of that step, if one ended.
+    /// Does instructions of one procedure as `slice` does, but at most up to the first that ends a
+    /// step. It answers the number of that step, if one ended.
     pub fn round(&mut self, by: u16, id: u16, budget: u32) -> Round
         requires { 1 ≤ budget }
         ensures within { result.count ≤ budget }
@@ -132,7 +133,8 @@ impl<A: Allocator> Flight<A> {
     }
 
     /// Writes the pool word at an index from outside; nothing else changes. Refused, in this order,
-    /// if the pool has no such word, and if the entry has no room; then nothing is changed.
+    /// if the pool has no such word, and if there is no room for the entry; then nothing is
+    /// changed.
     pub fn put_word(&mut self, by: u16, index: u64, value: u64) -> Result<(), PutFault>
         ensures answer { Written result ≡ answer_in self.old (Put by index value) }
         ensures log { self.new ≡ flown_after self.old (Put by index value) }
@@ -141,7 +143,7 @@ impl<A: Allocator> Flight<A> {
         calls::put_word(&mut self.store, &mut self.state, by, index, value)
     }
 
-    // Does a debugger's command, which a seat hands in.
+    // Does a debugger's command of a seat.
     fn command(&mut self, by: u16, id: u16, command: Command) -> Result<(), DebugFault>
         ensures answer { Commanded result ≡ answer_in self.old (Debug by id command) }
         ensures log { self.new ≡ flown_after self.old (Debug by id command) }
@@ -151,7 +153,7 @@ impl<A: Allocator> Flight<A> {
 
     /// Sets a breakpoint at the slot of an instruction. Refused, in this order, if the procedure is
     /// not loaded, if no instruction begins at the slot, if it has a breakpoint, if eight are set,
-    /// and if the entry has no room; then nothing is changed.
+    /// and if there is no room for the entry; then nothing is changed.
     pub fn set_break(&mut self, by: u16, id: u16, place: u16) -> Result<(), DebugFault>
         ensures answer { Commanded result ≡
             answer_in self.old (Debug by id (command.SetBreak place)) }
@@ -161,7 +163,7 @@ impl<A: Allocator> Flight<A> {
     }
 
     /// Clears the breakpoint at a slot. Refused, in this order, if the procedure is not loaded, if
-    /// the slot has none, and if the entry has no room; then nothing is changed.
+    /// the slot has none, and if there is no room for the entry; then nothing is changed.
     pub fn clear_break(&mut self, by: u16, id: u16, place: u16) -> Result<(), DebugFault>
         ensures answer { Commanded result ≡
             answer_in self.old (Debug by id (command.ClearBreak place)) }
@@ -171,7 +173,8 @@ impl<A: Allocator> Flight<A> {
     }
 
     /// Sets whether each instruction of a procedure leaves a trace record. Refused, in this order,
-    /// if the procedure is not loaded, and if the entry has no room; then nothing is changed.
+    /// if the procedure is not loaded, and if there is no room for the entry; then nothing is
+    /// changed.
     pub fn trace(&mut self, by: u16, id: u16, on: bool) -> Result<(), DebugFault>
         ensures answer { Commanded result ≡
             answer_in self.old (Debug by id (command.SetTrace on)) }
@@ -181,8 +184,8 @@ impl<A: Allocator> Flight<A> {
     }
 
     /// Writes the reports of the completions that wait, the oldest first, at a time in whole
-    /// seconds, each to the source of its request; none waits then. Refused, in this order, if none
-    /// waits, and if the entry has no room; then nothing is changed.
+    /// seconds, each to the source of its request. None waits after it. Refused, in this order, if
+    /// none waits, and if there is no room for the entry; then nothing is changed.
     pub fn drain(
         &mut self,
         by: u16,
@@ -205,7 +208,7 @@ impl<A: Allocator> Flight<A> {
         )
     }
 
-    /// Gives up a number of the oldest entries, which were copied out before. The state stays.
+    /// Drops the oldest `count` entries, which the caller has copied before. The state stays.
     /// Refused, in this order, if fewer are held, and from 2^63 events on; then nothing is changed.
     pub fn release(&mut self, count: u64) -> Result<(), ReleaseFault>
         ensures answer { result ≡ release_answer self.old count }
@@ -256,8 +259,8 @@ impl<A: Allocator> Flight<A> {
         self.store.count()
     }
 
-    /// The procedure whose turn is next: the least running one above the one before, or if there is
-    /// none the least running one. None exactly if none runs.
+    /// The procedure whose turn is next: the least running one above the one before, or the least
+    /// running one if none is above it. None exactly if none runs.
     pub fn next_running(&self, after: Option<u16>) -> Option<u16>
         ensures pick { IsNextRunning (world_of self.now.log).records after result }
         ensures runs { IfSome result (Runs (world_of self.now.log).records) }
@@ -281,8 +284,8 @@ impl<A: Allocator> Flight<A> {
         self.state.pool.get(index)
     }
 
-    /// Reads octets of a procedure's memory from an address on, one into each of the slice.
-    /// Refused, in this order, if the procedure is not loaded, and if one of them is not there; the
+    /// Fills the slice with octets of a procedure's memory, from an address on. Refused, in this
+    /// order, if the procedure is not loaded, and if one of the octets is not in its memory; the
     /// slice then keeps its octets.
     pub fn memory(&self, id: u16, address: u64, octets: &mut [u8]) -> Result<(), DebugFault>
         ensures { Reads (get (world_of self.now.log).records id) address octets.old octets.new

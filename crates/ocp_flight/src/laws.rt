@@ -3,7 +3,7 @@
 ghost use Rattle.ocp_flight.specs.Entries.{EntriesAreReadBack};
 ghost use Rattle.ocp_flight.specs.Laws.{ReplaysReleasedAndHeld, ReleasesKeepTheLog, SameEntriesSameWorld};
 
-/// The octets of a journal entry say which entry it is.
+/// The octets of a journal entry determine the entry.
 pub fn entries_are_read_back()
     ensures { EntriesAreReadBack }
 {}
@@ -15,8 +15,8 @@ pub fn the_state_is_the_replay_of_all_entries()
     ensures release { ReleasesKeepTheLog }
 {}
 
-/// An engine on ground that is given all entries, those that were released and those that are
-/// held, has the same world. So a mission of any length is replayed in pieces.
+/// An engine on ground that gets all entries, those that were released and those that are held,
+/// has the same world. So a mission of any length can be replayed in pieces.
 pub fn the_same_entries_make_the_same_world()
     ensures { SameEntriesSameWorld }
 {}

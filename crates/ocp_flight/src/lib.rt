@@ -1,5 +1,5 @@
-//! An engine whose journal is handed down: it holds the last entries in a bounded store, and gives
-//! up the oldest when it is told to. Its state is the replay of all entries since it was opened.
+//! An engine whose journal is handed down: it holds the last entries in a bounded store, and drops
+//! the oldest when it is told to. Its state is the replay of all entries since it was opened.
 #![tactic(auto)]
 
 mod faults;

@@ -18,7 +18,7 @@ use std::marker::Model;
 /// The most octets that a store may have room for.
 pub const MAX_OCTETS: u32 = 1_073_741_824;
 
-/// From this number of events on no entry is released.
+/// From this number of events on, no entry is released.
 pub const MOST_EVENTS: u64 = 9_223_372_036_854_775_808;
 
 /// How many entries more, and how many octets more, may be held.
@@ -28,8 +28,8 @@ pub struct Room {
     pub octets: usize,
 }
 
-/// A bounded store of entries, as a packet store of ECSS-E-ST-70-41C service 15: it holds the last
-/// ones as octets, and gives up the oldest when it is told to. All room is reserved when it is
+/// A bounded store of entries, like a packet store of ECSS-E-ST-70-41C service 15: it holds the
+/// last ones as octets, and drops the oldest when it is told to. All room is reserved when it is
 /// made. Contracts see the log of all entries.
 #[derive(Drop)]
 pub struct BoundedStore<A: Allocator = Global> {
@@ -58,7 +58,7 @@ impl<A: Allocator> Model for BoundedStore<A> {
     ghost invariant = { IsKept };
 }
 
-// Adds an entry that has room, given in two parts.
+// Adds an entry, for which there is room, given in two parts.
 fn enter<A: Allocator>(tape: &mut Tape<A>, history: &mut History, head: &[u8], packet: &[u8])
     requires { tapes.has_room tape.old (length head.now + length packet.now) ≡ true }
     ensures tape { tape.new ≡
@@ -152,8 +152,8 @@ impl<A: Allocator> BoundedStore<A> {
         Ok(length)
     }
 
-    /// Gives up a number of the oldest entries. Refused, in this order, if fewer are held, and from
-    /// 2^63 events on; then nothing is changed.
+    /// Drops the oldest `count` entries. Refused, in this order, if fewer are held, and from 2^63
+    /// events on; then nothing is changed.
     pub fn release(&mut self, count: u64) -> Result<(), ReleaseFault>
         ensures answer { result ≡ release_answer self.old count }
         ensures store { self.new ≡ release_after self.old count }

@@ -16,13 +16,13 @@ abbrev pub extent : List (List ℕ) → ℕ
 extent [] = 0
 extent (p ∷ ps) = length p + extent ps
 
--- the pieces, the most that there may be, and the most octets that they may have together
+-- the pieces, the largest number of them, and the largest number of octets that they have together
 pub record TapeContents : Type 0 where
   pub pieces : List (List ℕ)
   pub most : ℕ
   pub room : ℕ
 
--- whether one more piece of this length has room
+-- whether there is room for one more piece of this length
 abbrev pub has_room : TapeContents → ℕ → Bool
 has_room t n =
     if nat_lt (length t.pieces) t.most then nat_le (extent t.pieces + n) t.room else false

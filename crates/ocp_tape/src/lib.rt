@@ -1,4 +1,4 @@
-//! Pieces of octets in a ring, the oldest first, and the list of all that there ever were, which
+//! Pieces of octets in a ring, the oldest first, and the list of all pieces since the start, which
 //! only proofs read.
 #![tactic(auto)]
 

@@ -14,7 +14,7 @@ use std::marker::Model;
 #[derive(Drop)]
 pub struct Tape<A: Allocator = Global> {
     octets: HeapCircularBuffer<u8, A>,
-    // Where each piece ends. Places are counts of octets modulo 2^32.
+    // Where each piece ends: a count of octets since the start, modulo 2^32.
     ends: HeapCircularBuffer<u32, A>,
     // Where the oldest piece begins.
     start: u32,
@@ -31,14 +31,14 @@ impl<A: Allocator> Model for Tape<A> {
     ghost invariant = { IsCut };
 }
 
-// The number of octets from one place to another.
+// The number of octets from one end to another.
 fn distance(from: u32, to: u32) -> u32
     ensures { result ≡ distance from to }
 {
     to.wrapping_sub(from)
 }
 
-// The place where the piece of this index begins.
+// Where the piece of this index begins.
 fn beginning<A: Allocator>(start: u32, ends: &HeapCircularBuffer<u32, A>, index: usize) -> u32
     requires { index ≤ length ends.now.items }
     ensures { result ≡ get_or (start ∷ ends.now.items) index 0 }
@@ -52,7 +52,7 @@ fn beginning<A: Allocator>(start: u32, ends: &HeapCircularBuffer<u32, A>, index:
     }
 }
 
-// Adds octets that have room.
+// Adds octets, for which there is room.
 fn extend<A: Allocator>(octets: &mut HeapCircularBuffer<u8, A>, more: &[u8])
     requires { length octets.old.items + length more.now ≤ octets.old.capacity }
     ensures { octets.new ≡ buffer (octets.old.items ++ more.now) octets.old.capacity }
@@ -62,7 +62,7 @@ fn extend<A: Allocator>(octets: &mut HeapCircularBuffer<u8, A>, more: &[u8])
     }
 }
 
-// Adds the place of an end that has room.
+// Adds an end, for which there is room.
 fn append<A: Allocator>(ends: &mut HeapCircularBuffer<u32, A>, end: u32)
     requires { length ends.old.items < ends.old.capacity }
     ensures { ends.new ≡ buffer (ends.old.items ++ end ∷ []) ends.old.capacity }
@@ -131,7 +131,7 @@ impl<A: Allocator> Tape<A> {
         self.octets.capacity() - self.octets.len()
     }
 
-    /// Whether one more piece of a length has room.
+    /// Whether there is room for one more piece of this length.
     pub fn has_room(&self, length: usize) -> bool
         ensures { result ≡ has_room self.now length }
     {
@@ -167,7 +167,7 @@ impl<A: Allocator> Tape<A> {
         }
     }
 
-    /// Adds a piece that has room, given in two parts.
+    /// Adds a piece, for which there is room, given in two parts.
     pub fn push(&mut self, head: &[u8], tail: &[u8])
         requires { has_room self.old (length head.now + length tail.now) ≡ true }
         ensures { self.new ≡
@@ -180,7 +180,7 @@ impl<A: Allocator> Tape<A> {
         append(&mut self.ends, start.wrapping_add(length));
     }
 
-    /// Gives up the oldest piece.
+    /// Drops the oldest piece.
     pub fn pop(&mut self)
         requires { 1 ≤ length self.old.pieces }
         ensures { self.new ≡ record self.old { pieces = drop 1 self.old.pieces } }
@@ -192,7 +192,7 @@ impl<A: Allocator> Tape<A> {
         }
     }
 
-    /// Gives up a number of the oldest pieces.
+    /// Drops the oldest `count` pieces.
     pub fn release(&mut self, count: usize)
         requires { count ≤ length self.old.pieces }
         ensures { self.new ≡ record self.old { pieces = drop count self.old.pieces } }

@@ -2,12 +2,12 @@
 //! law.
 ghost use Rattle.ocp_core.specs.Budget.{IsWithinBudget, RemainsAreCounted, FaultsSpent};
 
-/// A procedure that was activated with a budget does no more instructions than that until it is
-/// activated or unloaded again: since its last activation at most so many of its instruction events
-/// are answered that the instruction ran, that it was an engine call, or that it was the last exit.
+/// A procedure that was activated with a budget of n > 0 does at most n instructions until it is
+/// activated again or unloaded: since its last activation at most n of its instruction events are
+/// answered that the instruction ran, that it was an engine call, or that it was the last exit.
 /// What remains of the budget is what was given less what was used, whatever happened in between.
-/// It is the fault BudgetSpent exactly where an instruction that no breakpoint holds finds the
-/// budget spent.
+/// An instruction event of a running procedure is the fault BudgetSpent exactly if no breakpoint
+/// holds it and the budget is spent.
 pub fn budgets_are_kept()
     ensures within { IsWithinBudget }
     ensures remains { RemainsAreCounted }

@@ -2,10 +2,9 @@
 //! event. The functions do nothing when they run: their contracts are the laws.
 ghost use Rattle.ocp_core.specs.Outbox.{EachStandsOnce, IsReportedOnceAtMost, EachGivesOneReport, PlacesSuffice};
 
-/// Each stop or suspend that became pending stands in exactly one place, once: it is pending, its
-/// completion waits in the outbox, a drain has sent the report of its completion, or the end of a
-/// step matched it while its completion flag was off. There are 64 places for those that are
-/// pending or wait.
+/// Each stop or suspend that became pending is in exactly one of four states, once: it is pending,
+/// its completion waits in the outbox, a drain has sent the report of its completion, or the end of
+/// a step matched it while its completion flag was off. At most 64 of them are pending or wait.
 #[tactic(auto, using(crate::proofs::Completions::each_stands_once, crate::proofs::Completions::places_suffice))]
 pub fn each_completion_stands_in_one_place()
     ensures place { EachStandsOnce }

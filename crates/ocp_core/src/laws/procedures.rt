@@ -6,8 +6,8 @@ ghost use Rattle.ocp_core.specs.Pool.{PoolIsOfOperations, CallsAreAnswered, Call
 ghost use Rattle.ocp_core.specs.Mailbox.{WordsComeInOrder, NoneIsLeft};
 ghost use Rattle.ocp_core.specs.Exchange.{MayBeExchanged, MayBeExchangedInLists};
 
-/// A procedure's machine is what its image and its own events make of it: its starts, its
-/// instructions, and the answers that its engine calls were given.
+/// A procedure's machine is the one that its image and its own events make: its starts, its
+/// instructions, and the answers to its engine calls.
 #[tactic(auto, using(crate::proofs::Factorisation::factorisation))]
 pub fn machines_follow_from_their_own_events()
     ensures { IsFactored }
@@ -21,21 +21,21 @@ pub fn own_events_are_those_of_the_image()
     ensures events { OwnEventsArePossible }
 {}
 
-/// An instruction event is fault 1, 2 or 3 exactly where the image's instruction at the machine's
-/// place can't be done. An answer that gives the number of a fault is that of such an event.
+/// An instruction event is fault 1, 2 or 3 exactly if the image's instruction at the machine's
+/// place can't be done. An answer with the number of a fault is that of such an event.
 pub fn the_machine_faults_by_its_image()
     ensures fault { FaultsOfMachine }
     ensures answer { FaultsAreAnswered }
 {}
 
-/// The pool is what the operations of all procedures make of it, in order.
+/// The pool is the one that the operations of all procedures, and the writes from outside, make.
 #[tactic(auto, using(crate::proofs::Pools::pool_is))]
 pub fn the_pool_follows_from_its_operations()
     ensures { PoolIsOfOperations }
 {}
 
 /// An engine call is answered by the table of engine calls, with words of the pool that the
-/// operations before it left. It is fault 4 exactly where it names a word that this pool does not
+/// operations before it left. It is fault 4 exactly if it names a word that this pool does not
 /// have.
 pub fn engine_calls_answer_from_the_pool()
     ensures table { CallsAreAnswered }
@@ -44,15 +44,15 @@ pub fn engine_calls_answer_from_the_pool()
 {}
 
 /// A procedure takes the words that it was sent since its last start in the order in which they
-/// were sent, and finds none exactly where it has taken all of them.
+/// were sent, and finds none exactly if it has taken all of them.
 pub fn words_are_taken_in_the_order_sent()
     ensures word { WordsComeInOrder }
     ensures none { NoneIsLeft }
 {}
 
-/// Two instructions of two procedures, one after the other, may change places where at most one of
-/// them is an engine call, an end or a fault: each event keeps its answer, and the worlds left are
-/// the same, but for the order of the trace records of these two.
+/// Two instructions of two procedures, one after the other, may be exchanged if at most one of them
+/// is an engine call, an end or a fault: each event keeps its answer, and the worlds left are the
+/// same, but for the order of the trace records of these two.
 #[tactic(auto, using(crate::proofs::Exchanges::may_be_exchanged, crate::proofs::Exchanges::may_be_exchanged_in_lists))]
 pub fn instructions_of_two_procedures_change_places()
     ensures adjacent { MayBeExchanged }
