@@ -1,11 +1,11 @@
--- How much the reports of a request, and of a drain, are at most (ECSS-E-ST-70-41C, 8.1 and 8.18).
+-- The largest size of the reports of a request, and of a drain (ECSS-E-ST-70-41C, 8.1 and 8.18).
 use Rattle.std.specs.Prelude.{◌≤◌, ℕ, List, length, All}
 use Rattle.ocp_world.specs.World.{Request, Drain}
 use Rattle.ocp_flight.specs.Flown.{Flown}
 use Rattle.ocp_flight.specs.Calls.{answer_in}
 use Rattle.ocp_c.specs.Replies.{packets_in}
 
--- at most so many packets, each of at most so many octets
+-- at most `count` packets, each of at most `most` octets
 pub record AreWithin (count most : ℕ) (packets : List (List ℕ)) : Type 0 where
   pub few : length packets ≤ count
   pub short : All (λ packet. length packet ≤ most) packets

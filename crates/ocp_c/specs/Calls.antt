@@ -1,5 +1,5 @@
--- What a call through a handle answers and leaves: nothing where the handle is closed, else what
--- the engine's call does to what it holds: the log of all entries, and how many were released.
+-- What a call through a handle answers and leaves: nothing if the handle is closed, else what the
+-- engine's call does to what it holds: the log of all entries, and how many were released.
 use Rattle.std.specs.Prelude.{ℕ, Option, Some, None, Result, Err}
 use Rattle.ocp_table.specs.declared.answers.Slice.{Slice}
 use Rattle.ocp_table.specs.declared.answers.Round.{Round}
@@ -40,7 +40,7 @@ outcome_of (Requested reports) = S.JournalFull
 outcome_of (Commanded result) = S.JournalFull
 outcome_of (Written result) = S.JournalFull
 
--- an outcome as C sees it; a refusal leaves what stood there
+-- an outcome as C sees it; a refusal leaves what was there
 abbrev pub outcome_or : StepOutcome → Outcome → Outcome
 outcome_or S.Broke before = record { kind = 0; fault = 0 }
 outcome_or S.Ran before = record { kind = 1; fault = 0 }
@@ -71,7 +71,7 @@ number_by_outcome S.NotLoaded count before = before
 number_by_outcome S.NotRunning count before = before
 number_by_outcome S.JournalFull count before = before
 
--- how many instructions C is told of
+-- how many instructions C gets as done
 abbrev pub count_of_slice : Slice → ℕ → ℕ
 count_of_slice slice before = number_by_outcome slice.last slice.count before
 
@@ -80,7 +80,7 @@ abbrev pub step_number : Option ℕ → ℕ
 step_number None = 65536
 step_number (Some step) = step
 
--- what C is told of the step of a round
+-- the step of a round that C gets
 abbrev pub step_of_round : Round → ℕ → ℕ
 step_of_round round before = number_by_outcome round.last (step_number round.step) before
 

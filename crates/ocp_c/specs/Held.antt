@@ -1,4 +1,4 @@
--- What a handle of C's owns: nothing at null, else the box of an engine.
+-- What a handle of C's owns: nothing if it is null, else the box of an engine.
 use base.Fml.{Fml, feq}
 use denote.RattleType.{RattleType}
 use denote.RawPtr.{Ptr, null_ptr}

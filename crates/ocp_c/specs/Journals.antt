@@ -1,4 +1,4 @@
--- What C is told of the journal.
+-- What C gets of the journal.
 use Rattle.std.specs.Prelude.{ℕ, Result, Ok, Err}
 use Rattle.ocp_flight.specs.declared.faults.EntryFault.{EntryFault}
 use Rattle.ocp_flight.specs.declared.faults.EntryFault.TheVariants as entry

@@ -28,7 +28,7 @@ opening profile apid words entries octets =
     if profile == 1 then opening_of One apid words entries octets
     else (if profile == 2 then opening_of Two apid words entries octets else Err status.BadProfile)
 
--- the engine is open and begins so, or there was no memory
+-- the engine is open and begins with this, or there was no memory
 abbrev pub IsOpened : Flown → ℕ → Option Flown → Type 0
 IsOpened flown number None = number ≡ number_of status.Memory
 IsOpened flown number (Some held) = (number ≡ number_of status.Done) × (held ≡ flown)

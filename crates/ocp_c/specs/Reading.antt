@@ -84,7 +84,7 @@ abbrev pub procedure_or : ℕ → Option View → Procedure → Procedure
 procedure_or room None before = before
 procedure_or room (Some view) before = if nat_le 11 room then procedure_of view else before
 
--- the registers from the front on; what is behind them stays
+-- the registers from the front on; what follows them stays
 abbrev pub registers_or : ℕ → Option View → List ℕ → List ℕ
 registers_or room None before = before
 registers_or room (Some view) before =

@@ -27,6 +27,6 @@ packets_in (Stepped outcome) = []
 packets_in (Commanded result) = []
 packets_in (Written result) = []
 
--- their octets, one report behind the other
+-- their octets, one report after the other
 abbrev pub reports_in : Answer → List ℕ
 reports_in answer = together (packets_in answer)

@@ -77,7 +77,7 @@ impl Handle {
         Handle::none(at, alloc)
     }
 
-    /// The engine, where one is open. The handle is then closed until `put`.
+    /// The engine, if one is open. The handle is then closed until `put`.
     pub fn take(&mut self, alloc: Global) -> Option<Box<OpenEngine>>
         ensures left { self.new.held ≡ None }
         ensures taken { MatchOption result (self.old.held ≡ None)

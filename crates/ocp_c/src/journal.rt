@@ -1,5 +1,4 @@
-//! The journal's calls: what it has room for, which entries it holds, their octets, and their
-//! release.
+//! The journal's calls: its room, the entries that it holds, their octets, and their release.
 
 ghost use Rattle.std.specs.Prelude.{◌≡◌, length};
 ghost use Rattle.ocp_flight.specs.Flown.{entry_answer, entry_written, release_after, release_answer, room};
@@ -52,7 +51,7 @@ pub extern "C" fn ocp_first_entry(alloc: Global, handle: &mut Handle, index: &mu
     Status::Done.number()
 }
 
-/// Gives up a number of the oldest entries.
+/// Drops a number of the oldest entries.
 #[unsafe(no_mangle)]
 pub extern "C" fn ocp_release(alloc: Global, handle: &mut Handle, count: u64) -> u32
     ensures status { result ≡ answers handle.old.held
@@ -68,7 +67,7 @@ pub extern "C" fn ocp_release(alloc: Global, handle: &mut Handle, count: u64) ->
     Status::of_release(given).number()
 }
 
-// Tells how long an entry is.
+// Writes how long an entry is.
 fn tell_length(given: Result<usize, EntryFault>, told: &mut usize)
     ensures { told.new ≡ length_or given told.old }
 {

@@ -1,4 +1,4 @@
-//! Laws of what C is handed. The functions do nothing when they run: their contracts are the laws.
+//! Laws of what C gets. The functions do nothing when they run: their contracts are the laws.
 ghost use Rattle.ocp_c.specs.Bounds.{RequestsHaveFewReports, DrainsHaveFewReports};
 
 /// A request has at most four reports of at most 68 octets, and a drain at most 64 of at most 25.

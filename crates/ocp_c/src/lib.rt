@@ -1,5 +1,5 @@
 //! The engine for C: one export for each call of the header `ocp_engine.h`. A handle holds an
-//! engine whose journal is handed down, and each export says of it what the engine's call says.
+//! engine whose journal is handed down, and each export does what the engine's call does.
 #![tactic(auto)]
 
 ghost use Rattle.std.specs.Prelude.{◌≡◌, ◌==◌, if◌then◌else◌, length, slice_get, Ok, Err};
@@ -156,7 +156,7 @@ pub extern "C" fn ocp_slice(
     Status::of_outcome(slice.last).number()
 }
 
-// Tells a number of a slice whose last instruction was done.
+// Writes a number of a slice whose last instruction was done.
 fn tell(last: StepOutcome, number: u32, told: &mut u32)
     ensures { told.new ≡ number_by_outcome last number told.old }
 {

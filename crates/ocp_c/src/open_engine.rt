@@ -7,7 +7,7 @@ use ocp_flight::Flight;
 use ocp_reports::PacketBuffer;
 use std::marker::Model;
 
-/// An engine, and the room that its reports are written to. Contracts see the engine.
+/// An engine, and the buffer that its reports are written to. Contracts see the engine.
 pub struct OpenEngine {
     pub(crate) engine: Flight,
     pub(crate) packets: PacketBuffer,

@@ -50,9 +50,9 @@ fn open_profile(
     }
 }
 
-/// An engine. Refused, in this order, if the profile is not 1 or 2, the application process
-/// identifier is above 2,046, there are not 1 to 256 pool words, the journal has not room for 1 to
-/// 1,000,000 entries, or not for 1 to 1,073,741,824 octets, and if there is no memory.
+/// An engine. Refused, in this order, if the profile is not 1 or 2, if the application process
+/// identifier is above 2,046, if the pool words are not 1 to 256, if the entries are not 1 to
+/// 1,000,000, if the octets are not 1 to 1,073,741,824, and if there is no memory.
 #[tactic(auto, unfolding(crate::specs::Opening::opening))]
 pub fn open(
     alloc: Global,

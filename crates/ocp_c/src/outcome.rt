@@ -5,7 +5,7 @@ ghost use Rattle.ocp_c.specs.Calls.{outcome_or};
 
 use ocp_flight::StepOutcome;
 
-/// Its kind as the header numbers them, and the number of the fault where it faulted.
+/// Its kind as the header numbers them, and the number of the fault if it faulted.
 #[repr(C)]
 #[derive(Clone, Copy)]
 pub struct Outcome {
@@ -14,7 +14,7 @@ pub struct Outcome {
 }
 
 impl Outcome {
-    /// Shows an outcome. A refusal leaves what stood there.
+    /// Writes an outcome. A refusal leaves what was there.
     pub fn show(&mut self, outcome: StepOutcome)
         ensures { self.new ≡ outcome_or outcome self.old }
     {

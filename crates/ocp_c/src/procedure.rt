@@ -5,7 +5,7 @@ ghost use Rattle.ocp_c.specs.Reading.{procedure_of, cause_number, fault_of_cause
 
 use ocp_table::{Cause, Pending, View};
 
-/// Its fields are numbers as the header says.
+/// Its fields are numbers as the header defines them.
 #[repr(C)]
 #[derive(Clone, Copy)]
 pub struct Procedure {
@@ -58,7 +58,7 @@ fn budget_numbers(remaining: Option<u32>) -> (u32, u32)
 }
 
 impl Procedure {
-    /// That of a view.
+    /// The procedure of a view.
     pub fn of(view: View) -> Procedure
         ensures { result ≡ procedure_of view }
     {

@@ -17,7 +17,7 @@ ghost use Rattle.ocp_c.specs.Records.{kept_record, record_or, record_status, tra
 use crate::{Handle, Procedure, Record, Status};
 use std::alloc::Global;
 
-// The identifier that a number is, where it is one.
+// The identifier that a number is, if it is one.
 fn identifier_in(number: u32) -> Option<u16>
     ensures { result ≡ identifier_in number }
 {
@@ -84,7 +84,7 @@ pub extern "C" fn ocp_memory(
     Status::of_command(given).number()
 }
 
-// Writes registers from the front on.
+// Writes registers to the front of a buffer.
 fn show_registers(values: &[u64; 11], registers: &mut [u64])
     requires { 11 ≤ length registers.old }
     ensures { registers.new ≡ values.now ++ drop 11 registers.old }

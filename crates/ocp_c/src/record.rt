@@ -16,7 +16,7 @@ pub struct Record {
 }
 
 impl Record {
-    /// Shows a trace record.
+    /// Writes a trace record.
     pub fn show(&mut self, trace: &Trace)
         ensures { self.new ≡ record_of trace.now self.old }
     {

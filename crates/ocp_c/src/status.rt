@@ -84,7 +84,7 @@ impl Status {
         }
     }
 
-    /// That of an instruction.
+    /// The status of an instruction.
     pub fn of_outcome(outcome: StepOutcome) -> Status
         ensures { result ≡ status_of outcome }
     {
@@ -96,7 +96,7 @@ impl Status {
         }
     }
 
-    /// That of a write of a pool word.
+    /// The status of a write of a pool word.
     pub fn of_put(given: Result<(), PutFault>) -> Status
         ensures { result ≡ status_of_put given }
     {
@@ -107,7 +107,7 @@ impl Status {
         }
     }
 
-    /// That of a debugger's command.
+    /// The status of a debugger's command.
     pub fn of_command(given: Result<(), DebugFault>) -> Status
         ensures { result ≡ status_of_command given }
     {
@@ -123,7 +123,7 @@ impl Status {
         }
     }
 
-    // That of discarded octets.
+    // The status of discarded octets.
     fn of_discard(cause: Discard) -> Status
         ensures { result ≡ status_of_discard cause }
     {
@@ -136,7 +136,7 @@ impl Status {
         }
     }
 
-    /// That of a request or a drain that is refused.
+    /// The status of a request or a drain that is refused.
     pub fn of_fault(fault: EngineFault) -> Status
         ensures { result ≡ status_of_fault fault }
     {
@@ -148,7 +148,7 @@ impl Status {
         }
     }
 
-    /// That of an entry that is read.
+    /// The status of an entry that is read.
     pub fn of_entry(given: Result<usize, EntryFault>) -> Status
         ensures { result ≡ status_of_entry given }
     {
@@ -160,7 +160,7 @@ impl Status {
         }
     }
 
-    /// That of a release.
+    /// The status of a release.
     pub fn of_release(given: Result<(), ReleaseFault>) -> Status
         ensures { result ≡ status_of_release given }
     {

@@ -141,7 +141,7 @@ trace_lines state = flat_map trace_line (last_traces (world_of state.engine).tra
 abbrev pub view_text : State → ℕ → List ℕ
 view_text state id = view_lines id (view_at (get (world_of state.engine).records id))
 
--- the line of so many octets of a procedure's memory
+-- the line of some octets of a procedure's memory
 abbrev pub memory_text : State → ℕ → ℕ → ℕ → List ℕ
 memory_text state id address count =
     memory_line id address (memory_at (get (world_of state.engine).records id) address count)
@@ -178,8 +178,8 @@ on_put state index value =
 
 -- ---- each line
 
--- what a line asks for: that this is the next state, and this is printed; or that so many workers
--- take turns, with their budget and how many turns each takes
+-- what a line asks for: that this is the next state, and this is printed; or that a number of
+-- workers take turns, with their budget and how many turns each takes
 pub data Effect : Type 0 where
   Does : State × List ℕ → Effect
   Works : ℕ → ℕ → ℕ → Effect
@@ -209,6 +209,6 @@ abbrev pub response : State → Option Meaning → Option Effect
 response state None = None
 response state (Some said) = Some (effect_of state said)
 
--- what a line asks for; none where it is no command
+-- what a line asks for; none if it is no command
 unfoldable pub respond : State → List ℕ → Option Effect
 respond state line = response state (command_of state.profile line)

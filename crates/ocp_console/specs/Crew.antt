@@ -1,4 +1,4 @@
--- What a line does where a crew does the work.
+-- What a line does if a crew does the work.
 use Rattle.std.specs.Prelude.{◌≡◌, ℕ, List, Result, Ok, Err}
 use Rattle.ocp_core.specs.Log.{Log}
 use Rattle.ocp_ports.specs.declared.fault.ConsoleFault.{ConsoleFault}
@@ -8,7 +8,7 @@ use Rattle.ocp_ports.specs.declared.crew.CrewFault.TheVariants as refusal
 use Rattle.ocp_console.specs.Answering.{State, Effect, Does, Works}
 use Rattle.ocp_console.specs.Texts.{work_line}
 
--- What a crew may answer. It is given an engine, which is its journal, the number of workers, their
+-- What a crew may answer. It gets an engine, which is its journal, the number of workers, their
 -- budget and how many turns each takes; it gives an engine back, or it refuses.
 abbrev pub CrewAnswers : Type 1
 CrewAnswers = Log → ℕ → ℕ → ℕ → Result Log CrewFault → Type 0
@@ -26,7 +26,7 @@ HasRefused crew state (Does next) refused = ⊥
 HasRefused crew state (Works workers budget turns) refused =
     crew state.engine workers budget turns (Err refused)
 
--- how a run ends where its crew refused
+-- how a run ends if its crew refused
 abbrev pub crew_fault : CrewFault → ConsoleFault
 crew_fault refusal.Memory = faults.Memory
 crew_fault refusal.Workers = faults.Workers

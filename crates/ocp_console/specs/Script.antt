@@ -22,7 +22,7 @@ Run = List ℕ × Result Unit ConsoleFault
 abbrev pub with_prefix : List ℕ → Run → Run
 with_prefix text run = (text ++ run.0, run.1)
 
--- what a line leads to: it ends the run with a fault of this name, or it has this effect
+-- what a line leads to: it ends the run with the fault of this name, or it has this effect
 pub data Step : Type 0 where
   Ends : List ℕ → ConsoleFault → Step
   Goes : Effect → Step
@@ -40,7 +40,7 @@ step_of state before line =
 
 -- ---- a script without `work` lines
 
--- the run of a line of this number, and of what follows it; at a `work` line it is not followed up
+-- the run of a line of this number, and of what follows it; it stops before a `work` line
 abbrev pub run_step : (State → Run) → ℕ → Step → Run
 run_step rest number (Ends name fault) = (error_line number name, Err fault)
 run_step rest number (Goes (Does next)) = with_prefix next.1 (rest next.0)
@@ -52,7 +52,7 @@ run_of state before [] = ([], Ok tt)
 run_of state before (line ∷ lines) =
     run_step (λ next. run_of next (before + 1) lines) (before + 1) (step_of state before line)
 
--- the transcript of a script, up to its first `work` line where it has one, and how its run ends
+-- the transcript of a script, up to its first `work` line if it has one, and how its run ends
 abbrev pub transcript : Settings → List ℕ → Run
 transcript settings octets = run_of (opening settings) 0 (lines_of octets)
 
@@ -68,8 +68,8 @@ AreWorkless (line ∷ lines) =
 abbrev pub IsWorkless : List ℕ → Type 0
 IsWorkless octets = AreWorkless (lines_of octets)
 
--- The run's text went out, and it ended so; or there was a fault of the device or of memory, and a
--- prefix of it went out.
+-- The run's text went out, and it had this ending; or there was a fault of the device or of memory,
+-- and a prefix of it went out.
 abbrev pub Prints : Option (List ℕ) → Option (List ℕ) → Run → Result Unit ConsoleFault → Type 0
 Prints old new run (Ok x) = Appends old new run.0 × (run.1 ≡ Ok x)
 Prints old new run (Err faults.Read) = PrintsPrefix old new run.0
@@ -88,7 +88,7 @@ Prints old new run (Err (faults.Syntax n)) = Appends old new run.0 × (run.1 ≡
 abbrev pub Writing : Type 1
 Writing = List ℕ → Result Unit ConsoleFault → Type 0
 
--- a failed read, a failed write and being out of memory, which end a run wherever it stands
+-- a failed read, a failed write and being out of memory, which end a run at any point
 abbrev pub IsFailure : Result Unit ConsoleFault → Type 0
 IsFailure (Ok x) = ⊥
 IsFailure (Err faults.Read) = Unit {0}
@@ -109,7 +109,7 @@ abbrev pub Follows : List ℕ → Writing → Writing
 Follows text More written result =
     ((more : List ℕ) × (written ≡ text ++ more) × More more result) ⊎ BreaksOff text written result
 
--- nothing more is written, and the run ends so
+-- nothing more is written, and the run has this ending
 abbrev pub Stops : Result Unit ConsoleFault → Writing
 Stops ending written result = (written ≡ []) × (result ≡ ending)
 

@@ -47,7 +47,7 @@ discard_name discard.OtherApid = codes "OtherApid"
 abbrev pub discard_line : Discard → List ℕ
 discard_line why = codes "discarded " ++ discard_name why ++ codes "\n"
 
--- a request or a drain that is refused for a reason of this name
+-- a request or a drain that is refused for the reason with this name
 abbrev pub refusal_line : List ℕ → List ℕ
 refusal_line name = codes "refused " ++ name ++ codes "\n"
 
@@ -77,7 +77,7 @@ abbrev pub ending_text : List ℕ → Result (Unit {0}) DebugFault → List ℕ
 ending_text word (Ok done) = word
 ending_text word (Err fault) = debug_fault_name fault
 
--- the line of a command at a place, which begins so and ends so
+-- the line of a command at a place, with this front and this ending
 abbrev pub place_line : List ℕ → ℕ → ℕ → List ℕ → List ℕ
 place_line front id place end =
     front ++ decimal id ++ codes " " ++ decimal place ++ codes " " ++ end ++ codes "\n"

@@ -17,7 +17,7 @@ use std::alloc::{AllocError, Allocator};
 /// What a console keeps from line to line.
 #[derive(Drop)]
 pub(crate) struct Console<A: Allocator> {
-    /// The profile of the lines and telecommands, which the engine follows.
+    /// The profile of the lines and telecommands, which is the engine's.
     pub profile: Profile,
     pub engine: Engine<A>,
     /// The application process identifier of the ground's telecommands.
@@ -180,7 +180,7 @@ impl<A: Allocator + Copy> Console<A> {
         Ok(Reply::Printed)
     }
 
-    /// The console after the crew's work, or none where the crew refused: then the engine is gone.
+    /// The console after the crew's work, or none if the crew refused: then the engine is lost.
     pub fn work<C: Crew<Engine<A>>>(self, crew: &C, shift: Shift) -> Result<Console<A>, CrewFault>
         requires { C.ready crew.now }
         ensures done { IfOk result (λ console.

@@ -7,7 +7,7 @@ use crate::text::{Text, write_text};
 use ocp_debug::{DebugFault, fault_name};
 use std::alloc::{AllocError, Allocator};
 
-/// This word where a command was done, and else the name of its refusal.
+/// This word if a command was done, else the name of its refusal.
 fn ending(word: &'static str, answer: Result<(), DebugFault>) -> &'static str
     ensures { result.now ≡ ending_text word.now answer }
 {
@@ -17,7 +17,7 @@ fn ending(word: &'static str, answer: Result<(), DebugFault>) -> &'static str
     }
 }
 
-/// The line of a command at a place, which begins so, with this word where it was done.
+/// The line of a command at a place: it begins with `front`, and has this word if it was done.
 fn place_text(
     front: &[u8],
     id: u16,
@@ -40,7 +40,7 @@ fn place_text(
     text
 }
 
-/// Writes the line of a breakpoint that is to be set.
+/// Writes the line of a `break` command.
 pub(crate) fn break_text<A: Allocator>(
     id: u16,
     place: u16,
@@ -53,7 +53,7 @@ pub(crate) fn break_text<A: Allocator>(
     write_text(&text, output)
 }
 
-/// Writes the line of a breakpoint that is to be cleared.
+/// Writes the line of an `unbreak` command.
 pub(crate) fn unbreak_text<A: Allocator>(
     id: u16,
     place: u16,
@@ -66,7 +66,7 @@ pub(crate) fn unbreak_text<A: Allocator>(
     write_text(&text, output)
 }
 
-/// Writes the line of a trace flag that is to be set or cleared.
+/// Writes the line of a `trace` command that sets or clears a trace flag.
 pub(crate) fn switch_text<A: Allocator>(
     id: u16,
     on: bool,

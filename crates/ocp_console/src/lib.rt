@@ -1,5 +1,5 @@
-//! The console: a script of lines in, its transcript out. It hands on the commands of the ground
-//! tools, and the words of the command line.
+//! The console: a script of lines in, its transcript out. It also exports the commands of the
+//! ground tools, and the words of the command line.
 #![tactic(auto)]
 
 mod console;

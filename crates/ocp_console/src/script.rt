@@ -19,13 +19,13 @@ use std::alloc::Allocator;
 /// each.
 ///
 /// For each line in turn and in this order it answers `TooManyLines` (over 100,000), `LineTooLong`
-/// (over 40,000 octets, a carriage return included and the newline not) and `Syntax`; `Read` just
-/// where a read failed, `Write` just where a write failed, and `Memory`. After these three a prefix
-/// of the transcript was written.
+/// (over 40,000 octets, a carriage return included and the newline not) and `Syntax`; `Read`
+/// exactly if a read failed, `Write` exactly if a write failed, and `Memory`. After these three a
+/// prefix of the transcript was written.
 ///
-/// A `work` line is one call of the crew, which is given the engine. The lines behind it go on with
-/// the engine that the crew gives back. Where the crew refuses, the run ends as it says, `Memory`
-/// or `Workers`, with the transcript so far.
+/// A `work` line is one call of the crew, which gets the engine. The lines after it use the engine
+/// that the crew gives back. If the crew refuses, the run ends with its refusal, `Memory` or
+/// `Workers`, and with the transcript so far.
 pub fn run<R: Source, W: Sink, C: Crew<Engine<A>>, A: Allocator + Copy>(
     alloc: A,
     settings: Settings,

@@ -26,7 +26,7 @@ pub(crate) struct Session<A: Allocator> {
     pub ghost few: { before ≤ MAX_LINES },
 }
 
-/// How many octets stand before the first newline.
+/// How many octets are before the first newline.
 fn line_length(octets: &[u8]) -> usize
     ensures bound { result ≤ length octets.now }
     ensures line { is_one_line (take result octets.now) ≡ true }
@@ -51,8 +51,8 @@ impl<A: Allocator> Session<A> {
         }
     }
 
-    /// The first of these lines and the octets behind its newline, where the session has nothing of
-    /// it, it ends in these octets, and lines and line have room for it.
+    /// The first line of these octets, and the octets after its newline. None if the session has
+    /// the beginning of a line, if no line ends here, or if the line is too long or one too many.
     pub fn whole_line<'a>(&self, octets: &'a [u8]) -> Option<(&'a [u8], &'a [u8])>
         ensures parts { IfSome result
             (λ found. octets.now ≡ found.0.now ++ 10 ∷ found.1.now) }
@@ -71,8 +71,8 @@ impl<A: Allocator> Session<A> {
         Some((&octets[..count], &octets[count + 1..]))
     }
 
-    /// Takes the octets that go on with the line, as far as lines and line have room for them, and
-    /// answers how many they are.
+    /// Takes the octets that continue the line, up to its most octets, or none if it is one line
+    /// too many, and returns how many they are.
     pub fn fill(&mut self, octets: &[u8]) -> Result<usize, AllocError>
         ensures console { self.new.console ≡ self.old.console }
         ensures before { self.new.before ≡ self.old.before }

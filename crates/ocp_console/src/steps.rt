@@ -19,7 +19,7 @@ use ocp_ports::{ConsoleFault, Crew, CrewFault, Sink, error_text, write_whole};
 use std::alloc::Allocator;
 use text_lines::without_carriage_return;
 
-/// Writes why a run ends, and says it.
+/// Writes why a run ends, and returns it.
 fn refuse<W: Sink, A: Allocator + Copy>(
     alloc: A,
     writer: &mut W,
@@ -43,7 +43,7 @@ fn refuse<W: Sink, A: Allocator + Copy>(
     }
 }
 
-/// How a run ends where its crew refused.
+/// How a run ends if its crew refused.
 fn fault_of(refused: CrewFault) -> ConsoleFault
     ensures { result ≡ crew_fault refused }
 {
@@ -53,8 +53,8 @@ fn fault_of(refused: CrewFault) -> ConsoleFault
     }
 }
 
-/// What a line does, after some lines before it, or what it asks of the crew, which the contract
-/// alone speaks of.
+/// What a line does, after some lines before it, or what it asks of the crew. Only the contract
+/// uses the crew.
 fn line_answer<W: Sink, C: Crew<Engine<A>>, A: Allocator + Copy>(
     alloc: A,
     console: &mut Console<A>,
@@ -93,8 +93,8 @@ fn line_answer<W: Sink, C: Crew<Engine<A>>, A: Allocator + Copy>(
     }
 }
 
-/// Has the crew do what a `work` line asks for, and writes that it is done. Where the crew refuses,
-/// the engine is gone.
+/// Has the crew do what a `work` line asks for, and writes that it is done. If the crew refuses,
+/// the engine is lost.
 fn work<W: Sink, C: Crew<Engine<A>>, A: Allocator + Copy>(
     alloc: A,
     console: Console<A>,
@@ -120,7 +120,7 @@ fn work<W: Sink, C: Crew<Engine<A>>, A: Allocator + Copy>(
     }
 }
 
-/// Takes an octet that does not go on with its line: it ends it, or there is no room for it.
+/// Takes an octet that does not continue its line: it ends it, or there is no room for it.
 fn feed<W: Sink, C: Crew<Engine<A>>, A: Allocator + Copy>(
     session: &mut Session<A>,
     alloc: A,
@@ -173,8 +173,8 @@ fn feed<W: Sink, C: Crew<Engine<A>>, A: Allocator + Copy>(
     Ok(asked)
 }
 
-/// Takes octets up to the end of a line, or all of them where none ends: the octets that are left,
-/// and what the line asks of the crew.
+/// Takes octets up to the end of a line, or all of them if none ends. It returns the octets that
+/// are left, and what the line asks of the crew.
 fn take_line<'a, W: Sink, C: Crew<Engine<A>>, A: Allocator + Copy>(
     session: &mut Session<A>,
     alloc: A,

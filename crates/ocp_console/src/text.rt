@@ -4,7 +4,7 @@ ghost use Rattle.std.specs.Prelude.{◌≡◌, OnOk};
 
 use std::alloc::{AllocError, Allocator};
 
-/// A line, or the front of one. But for pairs of hexadecimal digits it has at most 64 octets.
+/// A line, or the front of one. Without pairs of hexadecimal digits it has at most 64 octets.
 pub(crate) type Text = bpf_canonical::Text<64>;
 
 /// Writes the text to a vector, in place of what it held.

@@ -50,7 +50,7 @@ fn name_of_discard(why: Discard) -> &'static str
     }
 }
 
-/// The line of a request or a drain that is refused for a reason of this name.
+/// The line of a request or a drain that is refused for the reason with this name.
 fn refusal_text(name: &str) -> Text
     requires { length name.now ≤ 11 }
     ensures { result ≡ refusal_line name.now }
@@ -158,7 +158,7 @@ fn put_ending(answer: Result<(), PutFault>) -> &'static str
     }
 }
 
-/// Writes the line of a word of the pool that is to get a value.
+/// Writes the line of a `put` command.
 pub(crate) fn put_text<A: Allocator>(
     index: u64,
     value: u64,
@@ -199,7 +199,7 @@ pub(crate) fn pool_text<A: Allocator>(
     write_text(&text, output)
 }
 
-/// Writes the line of a journal with so many events.
+/// Writes the line of a journal with this many events.
 pub(crate) fn journal_text<A: Allocator>(
     events: u64,
     output: &mut Vec<u8, A>,

@@ -1,5 +1,5 @@
-//! Another board behind the lock: what a call under the lock answers is the board's own, and what a
-//! turn answers and tells its gate stands on it.
+//! Another board behind the lock: a call under the lock returns the board's own answer, and what a
+//! turn answers and tells its gate depends on it.
 
 ghost use Rattle.std.specs.Prelude.{◌≡◌, ◌+◌, length};
 
@@ -15,7 +15,7 @@ use std::sync::Wait;
 use std::sync::atomic::{AtomicU64, Ordering};
 use std::sync::ledger::Blank;
 
-// How a board meets a turn.
+// What a board does with a turn.
 #[derive(Clone, Copy)]
 pub(crate) enum Meets {
     AsItsBook,
@@ -25,8 +25,8 @@ pub(crate) enum Meets {
     AsFull,
 }
 
-// A book that counts its calls, refuses each third event by itself, as for a full journal, and meets the turns as it was told to,
-// where it was. Others may see how many tickets were asked for.
+// A book that counts its calls, refuses each third event by itself, as for a full journal, and does with the turns what it was told
+// to, if it was. Others may see how many tickets were asked for.
 #[derive(Drop)]
 pub(crate) struct Counting<'a, L: Naming> {
     book: Book<L>,
@@ -49,7 +49,7 @@ impl<'a, L: Naming> Counting<'a, L> {
         }
     }
 
-    // A ticket is asked for, and this is how the turn is met.
+    // A ticket is asked for, and this is what the board does with the turn.
     fn meet(&mut self) -> Meets {
         self.calls = self.calls.saturating_add(1);
         self.taken.fetch_add(1, Ordering::SeqCst);
@@ -117,7 +117,7 @@ fn are_the_boards<R: Wait>(rt: &R, alloc: Global) -> bool {
     through::<Brand, _>(rt, alloc, engine, Blank::new(65))
 }
 
-// Whether every call through the lock is one call of the board, and each third event is refused.
+// Whether each call through the lock is one call of the board, and each third event is refused.
 fn through<L: Naming, R: Wait>(rt: &R, alloc: Global, engine: Engine, blank: Blank) -> bool
     requires name { blank.name ≡ L.name }
     requires parts { blank.parts ≡ L.parts }
@@ -202,7 +202,7 @@ fn is_stepped<L: Naming, B: Board<L>, R: Wait>(
 }
 
 // The events 9 to 14: the first and the fourth are refused as for a full journal, and the fifth
-// since the breakpoint is there.
+// because the breakpoint is there.
 fn is_debugged<L: Naming, B: Board<L>, R: Wait>(
     rt: &R,
     shared: &SharedEngine<L, B>,
@@ -261,7 +261,8 @@ impl Gate for Listening {
     }
 }
 
-// How the board meets each turn of seat 2: procedures 1 and 2 run, and come one after the other.
+// What the board does with each turn of seat 2: procedures 1 and 2 run, and come one after the
+// other.
 const MEETS: [Meets; 9] = [
     Meets::AsItsBook,
     Meets::AsChanged,
@@ -274,8 +275,8 @@ const MEETS: [Meets; 9] = [
     Meets::AsItsBook,
 ];
 
-// The budget of each of these turns, what it answers, and what its gate hears. Without a budget nothing is done off the lock, so
-// that one step is made under it, of which the board refuses the third.
+// The budget of each of these turns, what it answers, and what its gate hears. Without a budget nothing is done without the lock, so
+// one step is made under it. The board refuses the third of these steps.
 const TURNS: [(u32, Turn, Heard); 9] = [
     (
         10,
@@ -338,7 +339,7 @@ fn turns_answer_and_tell_their_gate(rt: HostRuntime) {
     assert!(rt; are_told(&rt, rt.alloc()));
 }
 
-// Whether the turns on a new engine are answered and told so.
+// Whether the turns on a new engine answer this, and their gates hear this.
 fn are_told<R: Wait>(rt: &R, alloc: Global) -> bool {
     let Some(engine) = with_loops(alloc, 100, 2) else {
         return false;
@@ -347,7 +348,7 @@ fn are_told<R: Wait>(rt: &R, alloc: Global) -> bool {
     by_script::<Brand, _>(rt, alloc, engine, Blank::new(65))
 }
 
-// The turns of seat 2 over a board that meets them so.
+// The turns of seat 2 over a board with this script.
 fn by_script<L: Naming, R: Wait>(rt: &R, alloc: Global, engine: Engine, blank: Blank) -> bool
     requires name { blank.name ≡ L.name }
     requires parts { blank.parts ≡ L.parts }
@@ -377,7 +378,7 @@ fn are_met<L: Naming, B: Board<L>, R: Wait>(
     is_receipted(&two)
 }
 
-// Whether a turn answers so, and its gate hears so.
+// Whether a turn answers this, and its gate hears this.
 fn is_met<L: Naming, B: Board<L>, R: Wait>(
     rt: &R,
     alloc: Global,

@@ -1,4 +1,4 @@
-//! The console and the ground commands over devices that fail, and over memory that is refused.
+//! The console and the ground commands with devices that fail, and with memory that is refused.
 use crate::devices::{Giver, Taker};
 use crate::heap::Refusing;
 use ocp_console::{ConsoleFault, Crew, CrewFault, Device, Settings, asm, list, run};
@@ -6,7 +6,7 @@ use ocp_core::{Engine, Entry};
 use ocp_profile::Profile;
 use std::alloc::{Allocator, Global};
 
-/// How many growths are refused at most before a call has to succeed.
+/// The most growths that are refused before a call has to succeed.
 const MOST: u64 = 400;
 
 /// More octets than any of these outputs has.
@@ -38,7 +38,7 @@ const TEXT: &[u8] = b"mov64 r1, 3\nsub64 r1, 1\njne64 r1, 0, -2\nexit\n";
 
 const IMAGE: &[u8] = b"b70100000300000017010000010000005501feff000000009500000000000000\n";
 
-/// The commands. A script is run with a crew that refuses each work, as it is said here.
+/// The commands. A script is run with a crew that refuses each work with this fault.
 #[derive(Clone, Copy)]
 enum Command {
     Assemble,
@@ -139,7 +139,8 @@ fn is_done(alloc: Global, command: Command, giver: Giver, taker: Taker, output: 
     end == End::Done && taker.kept() == output
 }
 
-/// Whether a command whose writer takes so many octets ends by it, and these are the first.
+/// Whether a command whose writer takes `room` octets ends with a failed write, and the writer has
+/// the first octets of the output.
 fn is_cut(
     alloc: Global,
     command: Command,
@@ -167,8 +168,8 @@ fn a_writer_of_some_octets_holds_the_first(rt: HostRuntime) {
     }
 }
 
-/// Whether a command whose reader fails after so many calls ends by it, and a prefix of the output
-/// was written.
+/// Whether a command whose reader fails after `good` calls ends with a failed read, and wrote a
+/// prefix of the output.
 fn is_unread(
     alloc: Global,
     command: Command,
@@ -197,9 +198,9 @@ fn a_reader_that_fails_ends_a_command(rt: HostRuntime) {
     }
 }
 
-/// Does a command, at first with no memory, then with one more block each time, until it is done,
-/// and tells whether a growth was refused, and after each refusal a prefix of the output was
-/// written.
+/// Does a command, at first with no memory, then with one more block each time, until it is done.
+/// It answers whether a growth was refused, and whether after each refusal a prefix of the output
+/// was written.
 fn is_refused(
     heap: &Refusing<Global>,
     alloc: Global,
@@ -231,7 +232,8 @@ fn each_growth_of_a_command_is_refused(rt: HostRuntime) {
 /// A script whose second line asks for the crew.
 const WORKED: &[u8] = b"journal\nwork 2 100 1000\njournal\n";
 
-/// Whether a script with a crew that refuses so ends as wanted, with what it wrote before.
+/// Whether a script with a crew that refuses with this fault ends as wanted, with what it wrote
+/// before.
 fn is_refused_work(alloc: Global, fault: CrewFault, wanted: End) -> bool {
     let giver = Giver::new(WORKED, ROOM, MOST);
     let taker = Taker::new(alloc, ROOM, ROOM, true);
@@ -245,7 +247,7 @@ fn a_crew_that_refuses_ends_the_run(rt: HostRuntime) {
     assert!(rt; is_refused_work(rt.alloc(), CrewFault::Memory, End::Memory));
 }
 
-/// Each kind of line that leaves an entry, and between them the time is set twice. The last line
+/// Each kind of line that leaves an entry; between them the time is set twice. The last line
 /// gives the crew the engine.
 const JOURNALED: &[u8] = b"send 0 load 7 9500000000000000
 time 86400
@@ -262,7 +264,7 @@ drain
 work 1 1 1
 ";
 
-/// Of each of its entries the seat, and the time of a request or a drain or else the identifier of
+/// The seat of each of its entries, and the time of a request or a drain, or else the identifier of
 /// the procedure.
 const ENTRIES: [(u16, u32); 9] = [
     (0, 0),
@@ -301,7 +303,7 @@ fn are_the_entries(entries: &[Entry]) -> bool {
     true
 }
 
-/// A crew that refuses each work but on an engine whose journal has the entries of the lines.
+/// A crew that refuses each work, except on an engine whose journal has the entries of the lines.
 #[derive(Drop)]
 struct Auditor;
 

@@ -17,7 +17,7 @@ use std::thread::Threads;
 
 const LIMIT: u32 = 1_000_000_000;
 
-// A new engine with loops, on which so many workers made that number of turns.
+// A new engine with loops, on which `workers` workers made `turns` turns each.
 fn worked<R: Threads + Wait + Sync, G: Gate + Sync>(
     rt: &R,
     alloc: Global,
@@ -33,7 +33,7 @@ fn worked<R: Threads + Wait + Sync, G: Gate + Sync>(
     work(rt, alloc, engine, workers, 100, turns, gate).ok()
 }
 
-// Whether three loops are at their end, after so many events.
+// Whether three loops are at their end, after 3,006 events.
 fn are_done(engine: Option<Engine>) -> bool {
     match engine {
         Some(engine) => {
@@ -53,7 +53,7 @@ fn three_loops_end_under_any_number_of_workers(rt: HostRuntime) {
     assert!(rt; are_done(worked(&rt, rt.alloc(), 3, 16, 1000, &Open)));
 }
 
-// Holds each seat's first call until the other's has begun, and seat 1's on until a commit of seat 2 was answered.
+// Holds each seat's first call until the other's has begun, and then seat 1's until a commit of seat 2 was answered.
 #[derive(Drop)]
 struct Meeting {
     // The id of each seat's first call, or 0.
@@ -123,7 +123,7 @@ fn two_workers_run_at_once(rt: HostRuntime) {
     assert!(rt; are_met(engine, &gate));
 }
 
-// Holds each call until as many have begun as there are seats. Each of these is another seat's, since no seat goes on before.
+// Holds each call until as many have begun as there are seats. Each of these is another seat's, since no seat continues before.
 #[derive(Drop)]
 struct Gathering {
     seats: u64,
@@ -146,7 +146,7 @@ impl Gate for Gathering {
     fn after(&self, _seat: u16, _id: u16, _outcome: CommitOutcome) {}
 }
 
-// Whether so many seats each had a thread of its own.
+// Whether `workers` seats each had a thread of its own.
 fn are_gathered<R: Threads + Wait + Sync>(rt: &R, alloc: Global, workers: u16) -> bool
     requires { workers ≤ 64 }
 {
@@ -207,7 +207,7 @@ fn mixed<L: Naming + Send + Sync, R: Threads + Wait + Sync>(
     shared.close(seats).ok()
 }
 
-// So many seats.
+// `count` seats.
 pub(crate) fn seats_of<L: Naming, R: Wait>(
     rt: &R,
     alloc: Global,
@@ -221,7 +221,7 @@ pub(crate) fn seats_of<L: Naming, R: Wait>(
     Some(seats)
 }
 
-// Turns of a seat, each behind a call that meets another procedure.
+// Turns of a seat, each after a call that meets another procedure.
 fn calls<L: Naming, R: Wait>(rt: &R, alloc: Global, shared: &SharedEngine<L>, seat: &mut Seat<L>) {
     for round in 0..48 {
         let id = (seat.number().wrapping_add(round) % 16) as u8 + 1;

@@ -42,7 +42,7 @@ pub struct Taker {
     kept: Vec<u8>,
     /// How many octets it takes at a call at most.
     piece: usize,
-    /// How many octets it takes at all.
+    /// How many octets it takes in all.
     room: usize,
     /// Whether a full one fails.
     fails: bool,

@@ -1,12 +1,12 @@
-//! An allocator that hands out so many blocks, and then refuses.
+//! An allocator that gives out a number of blocks, and then refuses.
 
 ghost use Rattle.std.specs.Prelude.{◌≡◌, IfSome};
 
 use std::alloc::{AllocError, Allocator};
 use std::sync::atomic::{AtomicU64, Ordering};
 
-/// Passes each growth on to the inner allocator while the number that is left is above 0, and
-/// refuses it else. What was handed out is always taken back.
+/// Passes each growth on to the inner allocator while `left` is above 0, and refuses it else. What
+/// was given out is always taken back.
 #[derive(Drop)]
 pub struct Refusing<B> {
     inner: B,
@@ -14,7 +14,7 @@ pub struct Refusing<B> {
 }
 
 impl<B> Refusing<B> {
-    /// One that hands out so many blocks.
+    /// An allocator that gives out `left` blocks.
     pub fn new(inner: B, left: u64) -> Self {
         Refusing {
             inner,
@@ -22,7 +22,7 @@ impl<B> Refusing<B> {
         }
     }
 
-    /// From now on it hands out so many blocks.
+    /// From now on it gives out `left` blocks.
     pub fn allow(&self, left: u64) {
         self.left.store(left, Ordering::SeqCst);
     }

@@ -1,6 +1,6 @@
 //! Hostile use, by tests alone: growths of memory that are refused one after another, devices that
-//! fail, threads that share one engine, and another board behind their lock. Beside the tests the
-//! crate has the allocator that refuses.
+//! fail, threads that share one engine, and another board behind their lock. Apart from the tests
+//! the crate has the allocator that refuses.
 #![tactic(auto)]
 
 #[cfg(test)]

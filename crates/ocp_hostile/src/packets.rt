@@ -1,4 +1,4 @@
-//! Telecommand packets, written by a script that knows the tables of the profile alone, and engines
+//! Telecommand packets, written by a script that knows only the tables of the profile, and engines
 //! that took them.
 
 ghost use Rattle.std.specs.Prelude.{◌≤◌};
@@ -44,7 +44,7 @@ pub(crate) fn load_loop(id: u8) -> [u8; 49] {
     packet
 }
 
-// The load of the loop as procedure 1 with a count of 0x7f00_01f3, which takes over four milliards of instructions.
+// The load of the loop as procedure 1 with a count of 0x7f00_01f3, which takes over 4,000,000,000 instructions.
 pub(crate) fn load_long() -> [u8; 49] {
     let mut packet = LOAD_LOOP;
     packet[22] = 0x7f;
@@ -78,7 +78,7 @@ pub(crate) fn takes(alloc: Global, engine: &mut Engine, octets: &[u8]) -> bool {
     engine.request(alloc, 0, 0, octets).is_ok()
 }
 
-// Whether an engine takes the loops with the ids 1 to a number, each loaded and activated.
+// Whether an engine takes the loops with the ids 1 to `count`, each loaded and activated.
 fn takes_loops(alloc: Global, engine: &mut Engine, count: u8) -> bool
     requires { count ≤ 16 }
 {
@@ -90,7 +90,7 @@ fn takes_loops(alloc: Global, engine: &mut Engine, count: u8) -> bool
     true
 }
 
-// A new engine with room for so many entries that took the loops with the ids 1 to a number.
+// A new engine with room for `capacity` entries that took the loops with the ids 1 to `count`.
 pub(crate) fn with_loops(alloc: Global, capacity: u32, count: u8) -> Option<Engine>
     requires capacity_from { 1 ≤ capacity }
     requires capacity_to { capacity ≤ 10000 }

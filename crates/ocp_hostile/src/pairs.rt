@@ -53,7 +53,7 @@ fn step_and_wait<L: Naming, R: Wait>(
     false
 }
 
-// Each thread's first step is answered while the other one waits for it; one seat makes a request besides.
+// Each thread's first step is answered while the other one waits for it; one seat also makes a request.
 fn both<L: Naming + Send + Sync, R: Threads + Wait + Sync>(
     rt: &R,
     alloc: Global,
@@ -107,7 +107,7 @@ fn closed<L: Naming>(
     shared.close(seats).ok()
 }
 
-// A shared engine that is not closed, since a seat is missing, and the seats that were handed in.
+// A shared engine that is not closed, because a seat is missing, and the seats that were handed in.
 fn refused<L: Naming>(
     shared: SharedEngine<L>,
     seats: Vec<Seat<L>>,
@@ -193,8 +193,8 @@ fn is_met_by_a_budget<R: Threads + Wait + Sync>(rt: &R, alloc: Global) -> bool {
     false
 }
 
-// Whether the turns of seat 2 on a new engine were all made meanwhile: none where the work of seat
-// 1 was not stale then.
+// Whether the turns of seat 2 on a new engine were all made meanwhile; none if the work of seat 1
+// was not stale then.
 fn is_met<R: Threads + Wait + Sync>(rt: &R, alloc: Global, budget: u32) -> Option<bool> {
     let mut engine = with_loops(alloc, 100, 0)?;
     if !takes(alloc, &mut engine, &load_long()) || !takes(alloc, &mut engine, &activate_loop(1)) {

@@ -18,7 +18,7 @@ pub record IsReceipted (entries : List MarkedEntry) (seats : List SeatContents) 
       entries
   pub receipts : All (λ (s : SeatContents). s.receipts ≡ entries_by entries s.number) seats
 
--- why a book of so many seats is not closed, in this order
+-- why a book with n seats given out is not closed, in this order
 abbrev pub RefusesClose : ℕ → List MarkedEntry → List SeatContents → CloseFault → Type 0
 RefusesClose n entries seats MissingSeat = IsWhole seats n → ⊥
 RefusesClose n entries seats ReceiptMismatch =

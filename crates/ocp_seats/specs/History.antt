@@ -11,8 +11,8 @@ abbrev pub world_before : Log → ℕ → World
 world_before log index = world_of (record log { entries = take index log.entries })
 
 -- The entries since the start are one history. The receipts of each seat are its entries, in their
--- order, each is by a seat, and there are no others. Each mark, so each answer that a seat was
--- given, is the one in the world before its entry.
+-- order, each is by a seat, and there are no others. Each mark, and so each answer that a seat got,
+-- is the one in the world before its entry.
 pub record IsHistory (log : Log) (start : ℕ) (seats : List SeatContents) : Type 0 where
   pub entries :
       map (λ (m : MarkedEntry). m.entry) (drop start (entries_with_marks log))

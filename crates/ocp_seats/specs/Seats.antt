@@ -13,7 +13,7 @@ use Rattle.ocp_core.specs.Commits.{Commits}
 use Rattle.ocp_seats.specs.declared.seat.SeatFault.{SeatFault}
 use Rattle.ocp_seats.specs.declared.seat.SeatFault.TheVariants as seat
 
--- the engine, the number of its entries at the start, the number of seats handed out, the procedure
+-- the engine, the number of its entries at the start, the number of seats given out, the procedure
 -- taken last by any seat, and how many entries came since the start
 pub record BookContents : Type 0 where
   pub engine : Log
@@ -34,7 +34,7 @@ pub record Gains (old new : SeatContents) (entries : List MarkedEntry) : Type 0 
   pub receipts : new.receipts ≡ old.receipts ++ entries
   pub share : new.share ≡ old.share + length entries
 
--- the engine's journal gained these entries, and what else the book keeps stays
+-- the engine's journal gained these entries, and the book keeps all else
 pub record GrowsBy (old new : BookContents) (entries : List MarkedEntry) : Type 0 where
   pub engine : Grows old.engine new.engine entries
   pub start : new.start ≡ old.start
@@ -42,8 +42,8 @@ pub record GrowsBy (old new : BookContents) (entries : List MarkedEntry) : Type 
   pub taken : new.taken ≡ old.taken
   pub count : new.count ≡ old.count + length entries
 
--- An event that a seat asked for was answered so, as the engine's journal says. The journal and the
--- seat's receipts gained the entry of an accepted answer, and a refused event changed neither.
+-- An event that a seat asked for got this answer, which is the engine's. The journal and the seat's
+-- receipts gained the entry of an accepted answer, and a refused event changed neither.
 pub record Serves (old new : BookContents) (seat after : SeatContents) (e : Event)
     (answer : Answer) : Type 0 where
   pub enters : Enters old.engine new.engine e answer
@@ -51,8 +51,8 @@ pub record Serves (old new : BookContents) (seat after : SeatContents) (e : Even
   pub gains : Gains seat after (event_entries e answer)
   pub refused : is_accepted answer ≡ false → (new ≡ old) × (after ≡ seat)
 
--- A slice of a procedure that a seat asked for was answered so, within its budget and as the engine
--- does it. The journal and the seat's receipts gained its entry, or none where it did nothing.
+-- A slice of a procedure that a seat asked for got this answer, within its budget and as the engine
+-- does it. The journal and the seat's receipts gained its entry, or none if it did nothing.
 pub record ServesSlice (old new : BookContents) (seat after : SeatContents) (id budget : ℕ)
     (slice : Slice) : Type 0 where
   pub within : slice.count ≤ budget
@@ -61,7 +61,7 @@ pub record ServesSlice (old new : BookContents) (seat after : SeatContents) (id 
   pub book : GrowsBy old new (slice_entries seat.number id slice)
   pub gains : Gains seat after (slice_entries seat.number id slice)
 
--- A work that a seat handed in came to this outcome, as the engine commits it. The journal and the
+-- A work that a seat handed in had this outcome, as the engine commits it. The journal and the
 -- seat's receipts gained the entry of a committed one.
 pub record ServesWork (old new : BookContents) (seat after : SeatContents) (work : WorkContents)
     (outcome : CommitOutcome) : Type 0 where
@@ -69,7 +69,7 @@ pub record ServesWork (old new : BookContents) (seat after : SeatContents) (work
   pub book : GrowsBy old new (commit_entries seat.number work.id outcome)
   pub gains : Gains seat after (commit_entries seat.number work.id outcome)
 
--- the book handed out its next seat
+-- the book gave out its next seat
 pub record HandsOut (old new : BookContents) (seat : SeatContents) : Type 0 where
   pub below : old.seats < 64
   pub engine : new.engine ≡ old.engine
@@ -81,7 +81,7 @@ pub record HandsOut (old new : BookContents) (seat : SeatContents) : Type 0 wher
   pub receipts : seat.receipts ≡ []
   pub share : seat.share ≡ 0
 
--- why no seat is handed out; memory only where there is one
+-- why no seat is given out; memory only if there is one
 abbrev pub RefusesSeat : BookContents → SeatFault → Type 0
 RefusesSeat old seat.SeatsFull = old.seats ≡ 64
 RefusesSeat old seat.Memory = old.seats < 64

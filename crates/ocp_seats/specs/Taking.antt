@@ -15,7 +15,7 @@ pub record Takes (old new : BookContents) (given : TicketContents) : Type 0 wher
   pub ticket : ticket_at given.id (get (world_of old.engine).records given.id) ≡ Some given
   pub book : new ≡ record old { taken = Some given.id }
 
--- why nothing is taken; memory only where a procedure runs
+-- why nothing is taken; memory only if a procedure runs
 abbrev pub RefusesTake : BookContents → TakeFault → Type 0
 RefusesTake old NoneRunning = IsNextRunning (world_of old.engine).records old.taken None
 RefusesTake old Memory = IsNextRunning (world_of old.engine).records old.taken None → ⊥

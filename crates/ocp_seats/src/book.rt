@@ -13,9 +13,9 @@ use std::marker::Model;
 use std::sync::ledger;
 use std::sync::ledger::{Blank, Share};
 
-/// An engine with what its seats are counted by: the procedure taken last by any seat, the number
-/// of its entries at the start, the number of seats handed out, the count of the entries since, and
-/// the share that is not handed out. What each turn writes comes first, beside the lock.
+/// An engine with the counts for its seats: the procedure taken last by any seat, the number of its
+/// entries at the start, the number of seats given out, the count of the entries since, and the
+/// share that is not given out. The fields that each turn writes come first, next to the lock.
 pub struct Book<L: Naming, A: Allocator = Global> {
     taken: Option<u16>,
     pub(crate) engine: Engine<A>,
@@ -25,7 +25,7 @@ pub struct Book<L: Naming, A: Allocator = Global> {
     rest: Share<L>,
 }
 
-/// One call wherever a book ends, in place of a drop of each of its parts there.
+/// Kept as one call: the proof of each caller is then shorter.
 impl<L: Naming, A: Allocator> Drop for Book<L, A> {
     fn drop(self) {
         let _engine = self.into_engine();
@@ -52,8 +52,8 @@ impl<L: Naming, A: Allocator> Model for Book<L, A> {
 }
 
 impl<L: Naming, A: Allocator> Book<L, A> {
-    /// A book that counts from the engine's entries on, with the blank of a ledger of 65 parts. Its
-    /// name has the engine's room and its journal.
+    /// A book that counts the entries after those of the engine, with the blank of a ledger of 65
+    /// parts. Its name has the engine's room and its journal.
     #[tactic(auto, using(crate::proofs::Going::goes_on_start))]
     pub fn new(engine: Engine<A>, blank: Blank) -> Self
         requires name { blank.name ≡ L.name }
@@ -100,9 +100,9 @@ impl<L: Naming, A: Allocator> Book<L, A> {
         })
     }
 
-    /// The next running procedure after the one that was taken last, which becomes the one taken.
-    /// Refused, in this order, where none runs and where there is no memory for its ticket; then
-    /// nothing is changed.
+    /// A ticket for the next running procedure after the one that was taken last. It becomes the
+    /// one taken last. Refused, in this order, if none runs and if there is no memory for its
+    /// ticket; then nothing is changed.
     pub fn take(&mut self, alloc: A) -> Result<Ticket<A>, TakeFault>
     where
         A: Copy,
@@ -121,9 +121,9 @@ impl<L: Naming, A: Allocator> Book<L, A> {
         Ok(ticket)
     }
 
-    /// As `take`, with a ticket that there is, which becomes the one that is taken, or stays where
-    /// none is. It keeps its memory, and none is asked for, where its machine has the addresses of
-    /// the procedure's.
+    /// As `take`, into an existing ticket, which stays if the call is refused. If the ticket's
+    /// machine has the addresses of the procedure's, the ticket keeps its memory and no memory is
+    /// asked for.
     pub fn take_into(&mut self, alloc: A, ticket: &mut Ticket<A>) -> Result<(), TakeFault>
     where
         A: Copy,
@@ -149,7 +149,7 @@ impl<L: Naming, A: Allocator> Book<L, A> {
         &self.engine
     }
 
-    /// How many seats are handed out.
+    /// How many seats were given out.
     pub fn seat_count(&self) -> u16
         ensures value { result ≡ self.now.seats }
         ensures most { result ≤ 64 }
@@ -165,7 +165,7 @@ impl<L: Naming, A: Allocator> Book<L, A> {
         &self.engine.journal().entries()[self.start..]
     }
 
-    /// The engine, without the seats' count.
+    /// The engine, without the counts for its seats.
     pub fn into_engine(self) -> Engine<A>
         ensures { result ≡ self.engine }
     {

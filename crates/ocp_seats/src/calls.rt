@@ -24,7 +24,7 @@ impl<L: Naming, A: Allocator> Book<L, A> {
         answer
     }
 
-    /// `Engine::slice` with the seat's number: at most so many instructions.
+    /// `Engine::slice` with the seat's number: up to `budget` instructions.
     #[tactic(auto, using(crate::proofs::Going::goes_on_further))]
     pub fn slice(&mut self, seat: &mut Seat<L, A>, id: u16, budget: u32) -> Slice
         requires { 1 ≤ budget }

@@ -12,14 +12,14 @@ use std::alloc::{Allocator, Global};
 /// Why a book is not closed, in this order.
 #[derive(Clone, Copy, PartialEq, Eq, Debug)]
 pub enum CloseFault {
-    /// The seats are not those that the book handed out, each once.
+    /// The seats are not those that the book gave out, each once.
     MissingSeat,
     /// An entry since the start is by none of the seats, or the receipts of a seat are not its
     /// entries with their marks.
     ReceiptMismatch,
 }
 
-/// A book that is not closed, with the seats that were handed back.
+/// A book that is not closed, with the seats that were given back.
 #[derive(Drop)]
 pub struct NotClosed<L: Naming, A: Allocator = Global> {
     pub why: CloseFault,
@@ -28,9 +28,10 @@ pub struct NotClosed<L: Naming, A: Allocator = Global> {
 }
 
 impl<L: Naming, A: Allocator> Book<L, A> {
-    /// The engine, where the seats are those handed out, each once, each entry since the start is
-    /// by one of them, and each seat's receipts are its entries with their marks, in order. Its
-    /// journal is the one at the start, gone on. Else the book and the seats come back.
+    /// The engine, if the seats are those given out, each once, each entry since the start is by
+    /// one of them, and each seat's receipts are its entries with their marks, in order. Its
+    /// journal is the one at the start, followed by these entries. Else the book and the seats come
+    /// back.
     pub fn close(self, seats: Vec<Seat<L, A>, A>) -> Result<Engine<A>, NotClosed<L, A>>
         ensures ok { IfOk result (λ engine. engine ≡ self.engine) }
         ensures whole { IfOk result (λ _. IsWhole seats.items self.seats) }

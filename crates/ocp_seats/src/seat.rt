@@ -11,7 +11,7 @@ use std::alloc::{Allocator, Global};
 use std::marker::{Brand, Model};
 use std::sync::ledger::{Book, Ledger, Share};
 
-/// How many seats one book hands out.
+/// How many seats one book gives out at most.
 pub const MAX_SEATS: u16 = 64;
 
 /// Which shared engine it is: how many entries it has room for after its start, and its journal at
@@ -36,7 +36,7 @@ pub struct Seat<L: Naming, A: Allocator = Global> {
     pub(crate) receipts: Vec<Entry<A>, A>,
 }
 
-/// One call wherever a seat ends, in place of a drop of each of its parts there.
+/// Kept as one call: the proof of each caller is then shorter.
 impl<L: Naming, A: Allocator> Drop for Seat<L, A> {
     fn drop(self) {
         let Self {
@@ -63,15 +63,15 @@ impl<L: Naming, A: Allocator> Model for Seat<L, A> {
 }
 
 impl<L: Naming, A: Allocator> Seat<L, A> {
-    /// 1, 2 and so on, in the order in which seats are handed out.
+    /// 1, 2 and so on, in the order in which the book gave the seats out.
     pub fn number(&self) -> u16
         ensures { result ≡ self.now.number }
     {
         self.number
     }
 
-    /// One for each entry that the seat's calls appended, the oldest first: a copy of the entry
-    /// with its mark.
+    /// A receipt for each entry that the seat's calls appended, the oldest first: a copy of the
+    /// entry with its mark.
     pub fn receipts(&self) -> &[Entry<A>]
         ensures value { map entry_with_mark result.now ≡ self.now.receipts }
         ensures length { length result.now ≡ length self.now.receipts }
@@ -106,10 +106,10 @@ impl<L: Naming, A: Allocator> Seat<L, A> {
     }
 }
 
-/// Why no seat is handed out, in this order.
+/// Why no seat is given out, in this order.
 #[derive(Clone, Copy, PartialEq, Eq, Debug)]
 pub enum SeatFault {
-    /// All are handed out.
+    /// All are given out.
     SeatsFull,
     Memory,
 }

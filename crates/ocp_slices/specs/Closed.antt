@@ -11,19 +11,19 @@ use Rattle.ocp_seats.specs.Closing.{IsWhole}
 use Rattle.ocp_seats.specs.History.{IsHistory}
 use Rattle.ocp_slices.specs.Continuing.{IsWithin}
 
--- the journal is the one at the start, gone on; the seats' numbers are 1 to their number, each
--- once; and the entries since the start are, with their marks, just the seats' receipts
+-- the journal is the one at the start, followed by further entries; the n seats have the numbers 1
+-- to n, each once; and the further entries are, with their marks, exactly the seats' receipts
 pub record IsClosed (start now : Log) (seats : List SeatContents) : Type 0 where
   pub goes_on : GoesOn start now
   pub whole : IsWhole seats (length seats)
   pub history : IsHistory now (length start.entries) seats
 
--- a mismatch is told only where the seats' numbers are 1 to their number, each once
+-- a mismatch is answered only if the n seats have the numbers 1 to n, each once
 abbrev pub RefusesShared : List SeatContents → CloseFault → Type 0
 RefusesShared seats MissingSeat = Unit {0}
 RefusesShared seats ReceiptMismatch = IsWhole seats (length seats)
 
--- the entry is instructions of one procedure, by one of so many workers, within their budget
+-- the entry is instructions of one procedure, by one of `crew` workers, within their budget
 abbrev pub IsWorked : ℕ → ℕ → Entry → Type 0
 IsWorked crew budget (Asked by time octets) = ⊥
 IsWorked crew budget (Steps by id count) =
@@ -32,8 +32,8 @@ IsWorked crew budget (Debugged by id command) = ⊥
 IsWorked crew budget (Drained by time) = ⊥
 IsWorked crew budget (Wrote by index value) = ⊥
 
--- so many workers have worked: the journal is the one at the start, followed by one history of as
--- many seats, whose entries are instructions alone, within the budget, the last of each done, and
+-- `crew` workers have worked: the journal is the one at the start, followed by one history of
+-- `crew` seats, whose entries are only instructions, within the budget, the last of each done, and
 -- no more of a seat than its turns
 pub record HasWorked (start now : Log) (crew budget turns : ℕ) : Type 0 where
   pub seats : List SeatContents

@@ -1,12 +1,11 @@
--- How a seat goes on over many turns.
+-- What a seat gains in many turns.
 use Rattle.std.specs.Prelude.{◌≡◌, ◌≤◌, ◌<◌, ◌⊎◌, ℕ, true, List, ◌++◌, All, length, slice_index_or}
 use Rattle.ocp_world.specs.After.{is_accepted}
 use Rattle.ocp_core.specs.Log.{Entry, Asked, Steps, Debugged, Drained, Wrote}
 use Rattle.ocp_core.specs.Marks.{MarkedEntry}
 use Rattle.ocp_seats.specs.Seats.{SeatContents}
 
--- instructions of one procedure, at least one and no more than a budget, or one where the budget
--- is 0
+-- instructions of one procedure, at least one and no more than a budget, or one if the budget is 0
 abbrev pub IsWithin : ℕ → ℕ → Type 0
 IsWithin budget count = (1 ≤ count) × ((count ≤ budget) ⊎ (count ≡ 1))
 
@@ -18,8 +17,8 @@ IsShift number budget (Debugged by id command) = ⊥
 IsShift number budget (Drained by time) = ⊥
 IsShift number budget (Wrote by index value) = ⊥
 
--- the seat keeps its number, and its old receipts begin its new ones; those that came are so many
--- at most, each of instructions of the seat within the budget, of which the last was done
+-- the seat keeps its number and its old receipts, and then come at most `turns` new ones, each of
+-- instructions of the seat within the budget, of which the last was done
 pub record Continues (turns budget : ℕ) (old new : SeatContents) : Type 0 where
   pub number : new.number ≡ old.number
   pub more : List MarkedEntry
@@ -28,7 +27,7 @@ pub record Continues (turns budget : ℕ) (old new : SeatContents) : Type 0 wher
   pub shifts : All (λ (m : MarkedEntry). IsShift old.number budget m.entry) more
   pub done : All (λ (m : MarkedEntry). is_accepted m.mark ≡ true) more
 
--- each seat goes on, and none comes or goes
+-- each seat continues, and none comes or goes
 pub record AllContinue (turns budget : ℕ) (olds news : List SeatContents) : Type 0 where
   pub count : length news ≡ length olds
   pub each : (k : ℕ) (d : SeatContents) → k < length olds →

@@ -6,7 +6,7 @@ use Rattle.ocp_world.specs.Replay.{replay_from}
 use Rattle.ocp_world.specs.NextRunning.{Runs}
 use Rattle.ocp_core.specs.Log.{Log, expand, world_of}
 
--- the event is an instruction of a procedure that runs, by one of so many workers, and is done
+-- the event is an instruction of a procedure that runs, by one of `crew` workers, and is done
 abbrev pub IsInstruction : ℕ → World → Event → Type 0
 IsInstruction crew w (Request by time octets) = ⊥
 IsInstruction crew w (Step by id) =
@@ -15,7 +15,7 @@ IsInstruction crew w (Debug by id command) = ⊥
 IsInstruction crew w (Drain by time) = ⊥
 IsInstruction crew w (Put by index value) = ⊥
 
--- each event is an instruction of a procedure that runs, by one of so many workers, in the world
+-- each event is an instruction of a procedure that runs, by one of `crew` workers, in the world
 -- that the events before it leave, and it is done
 abbrev pub AreInstructions : ℕ → World → List Event → Type 0
 AreInstructions crew w [] = Unit {0}
@@ -23,7 +23,7 @@ AreInstructions crew w (e ∷ es) =
     IsInstruction crew w e × AreInstructions crew (after w e).world es
 
 -- the world of the later journal is that of the earlier one after a list of instruction events of
--- running procedures, each by one of so many workers; these are the single events of the entries
+-- running procedures, each by one of `crew` workers; these are the single events of the entries
 -- that came
 pub record IsInstructed (start now : Log) (crew : ℕ) : Type 0 where
   pub events : List Event

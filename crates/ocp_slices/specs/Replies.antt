@@ -13,7 +13,7 @@ use Rattle.ocp_seats.specs.declared.seat.SeatFault.{SeatFault}
 use Rattle.ocp_seats.specs.Seats.{SeatContents, Gains}
 
 -- a seat, or why none; a ticket, or why none; and, each with the number of the seat that asked: the
--- outcome of a work, the slice of a procedure within a budget, and what an event was answered
+-- outcome of a work, the slice of a procedure within a budget, and the answer to an event
 pub data Reply : Type 0 where
   SeatReply : Result SeatContents SeatFault → Reply
   TakeReply : Result TicketContents TakeFault → Reply
@@ -25,23 +25,23 @@ pub data Reply : Type 0 where
 abbrev pub StepReply : ℕ → ℕ → StepOutcome → Reply
 StepReply by id outcome = EventReply (Step by id) (Stepped outcome)
 
--- the board answered a seat's event so, and the seat gained the entry of an accepted answer
+-- the board gave this answer to a seat's event, and the seat gained the entry of an accepted one
 pub record IsServed (answers : Reply → Type 0) (old new : SeatContents) (e : Event)
     (answer : Answer) : Type 0 where
   pub given : answers (EventReply e answer)
   pub gains : Gains old new (event_entries e answer)
 
--- The board answered a seat's slice of a procedure so, within its budget, and the seat gained its
--- entry, or none where it did nothing.
+-- The board gave this answer to a seat's slice of a procedure, within its budget, and the seat
+-- gained its entry, or none if it did nothing.
 pub record IsSliced (answers : Reply → Type 0) (old new : SeatContents) (id budget : ℕ)
     (slice : Slice) : Type 0 where
   pub given : answers (SliceReply old.number id budget slice)
   pub within : slice.count ≤ budget
   pub gains : Gains old new (slice_entries old.number id slice)
 
--- The board answered a seat that handed in a work so, and the seat gained the entry of a committed
--- one. The outcome is Empty just where the work has no instructions; where it is Committed, all of
--- them are.
+-- The board gave this outcome to a seat that handed in a work, and the seat gained the entry of a
+-- committed one. The outcome is Empty exactly if the work has no instructions; if it is Committed,
+-- all of them are.
 pub record IsHandedIn (answers : Reply → Type 0) (old new : SeatContents) (work : WorkContents)
     (outcome : CommitOutcome) : Type 0 where
   pub given : answers (CommitReply old.number work outcome)

@@ -36,9 +36,9 @@ pub record Asks (answers : Reply → Type 0) (budget by : ℕ) (o : StepOutcome)
   pub hands_in : HandsIn answers budget by C.Empty
   pub answered : answers (StepReply by hands_in.work.id o)
 
--- what a turn answers is what the board answered, and the seat gains the entry of what was
--- committed or stepped, or nothing; at least one instruction is committed and no more than the
--- budget, one is stepped, and a step of a full journal is no step
+-- a turn answers what the board answered, and the seat gains the entry of what was committed or
+-- stepped, or nothing; at least one instruction is committed and no more than the budget, or one is
+-- stepped, and a step that finds the journal full is no step
 abbrev pub IsTurn : (Reply → Type 0) → ℕ → SeatContents → SeatContents → Turn → Type 0
 IsTurn answers budget old new Idle = answers (TakeReply (Err T.NoneRunning)) × (new ≡ old)
 IsTurn answers budget old new (Committed count) =
@@ -55,7 +55,7 @@ IsTurn answers budget old new Full =
     ⊎ Asks answers budget old.number S.JournalFull) × (new ≡ old)
 IsTurn answers budget old new NoMemory = answers (TakeReply (Err T.Memory)) × (new ≡ old)
 
--- what a turn answers where there is no ticket
+-- what a turn answers if there is no ticket
 abbrev pub turn_without : TakeFault → Turn
 turn_without T.NoneRunning = Idle
 turn_without T.Memory = NoMemory

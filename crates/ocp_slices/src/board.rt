@@ -1,4 +1,4 @@
-//! What stands behind the lock.
+//! The value behind the lock.
 
 ghost use Rattle.std.specs.Prelude.{◌≡◌, ◌≤◌, [], None, Ok, Err, IfOk, IfErr, OnOk, OnErr};
 ghost use Rattle.ocp_core.specs.Clauses.{work_after};
@@ -7,11 +7,11 @@ ghost use Rattle.ocp_slices.specs.Replies.{Reply, SeatReply, TakeReply, IsServed
 use crate::{Book, CommitOutcome, Input, Naming, Seat, SeatFault, Slice, TakeFault, Ticket, Work};
 use std::alloc::Global;
 
-/// What a call under the lock asks of the value behind it. `Book` meets it with the whole meaning
-/// of its calls; what is said here is what a caller of the lock can know: what its own seat gains,
-/// and that it is answered what the board answers.
+/// What a call under the lock asks of the value behind it. `Book` implements it, and its own calls
+/// state their whole meaning. This trait states what a caller of the lock can know: what its own
+/// seat gains, and that it gets the board's answer.
 pub trait Board<L: Naming> {
-    // What it may answer. Where this may be any relation, an answer is known to be one only if the board gave it.
+    // What it may answer. If this may be any relation, an answer is known to be one only if the board gave it.
     ghost answers: { Reply → Type 0 } = { λ _. Unit {0} };
 
     /// The next seat.
@@ -20,8 +20,8 @@ pub trait Board<L: Naming> {
         ensures receipts { IfOk result (λ seat. (seat.receipts ≡ []) × (seat.share ≡ 0)) }
         ensures number { IfOk result (λ seat. (1 ≤ seat.number) × (seat.number ≤ 64)) };
 
-    /// A ticket for the next running procedure, in turn. A spare one becomes it, where there is
-    /// one; it stays where none runs or there is no memory.
+    /// A ticket for the next running procedure, in turn. A spare ticket becomes it, if there is
+    /// one. The spare ticket stays if none runs or there is no memory.
     fn take(&mut self, alloc: Global, spare: &mut Option<Ticket>) -> Result<Ticket, TakeFault>
         ensures given { answers (TakeReply result) }
         ensures used { OnOk result (spare.new ≡ None) }

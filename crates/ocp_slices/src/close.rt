@@ -15,10 +15,10 @@ pub struct StillShared<L: Naming> {
 }
 
 impl<L: Naming> SharedEngine<L> {
-    /// Closes the book behind the lock, as its own call does, and hands out the engine. Refused, in
-    /// this order, where the seats are not those that were handed out, each once, and where the
-    /// entries since the start are not just the seats' receipts; then the shared engine and the
-    /// seats come back.
+    /// Closes the book behind the lock, as its own call does, and returns the engine. Refused, in
+    /// this order, if the seats are not those that were given out, each once, and if the entries
+    /// since the start are not exactly the seats' receipts; then the shared engine and the seats
+    /// come back.
     #[tactic(auto, using(crate::proofs::Closing::closed_by, crate::proofs::Closing::refused_by))]
     pub fn close(self, seats: Vec<Seat<L>>) -> Result<Engine, StillShared<L>>
         ensures ok { IfOk result (λ engine. IsClosed L.log engine seats.items) }

@@ -16,8 +16,8 @@ use std::sync::ledger::Blank;
 use std::thread;
 use std::thread::Threads;
 
-/// Makes that number of turns in each seat, one thread for each; where no thread can be made, one
-/// seat after another. A turn that finds no memory is spent.
+/// Makes `turns` turns in each seat, with one thread for each seat. If no thread can be made, the
+/// seats take their turns one after another. A turn that finds no memory is spent.
 pub fn workers<
     L: Naming + Send + Sync,
     B: Board<L> + Send,
@@ -46,12 +46,11 @@ pub fn workers<
     );
 }
 
-/// Shares an engine, lets so many workers make that number of turns each with a budget of
-/// instructions, and closes it. The engine comes back with its journal gone on by one history of as
-/// many seats: each further entry is instructions of one procedure by one of the workers, at least
-/// one and at most the budget, or one where the budget is 0, and no worker has more of them than
-/// turns. So its world is the world before it after a list of instruction events of running
-/// procedures.
+/// Shares an engine, lets `crew` workers make `turns` turns each with a budget of instructions, and
+/// closes it. The engine comes back with its journal followed by new entries, which are one history
+/// of `crew` seats: each is instructions of one procedure by one of the workers, at least one and
+/// at most the budget, or one if the budget is 0. No worker has more entries than turns. So the new
+/// world is the old one after a list of instruction events of running procedures.
 pub fn work<R: Threads + Wait + Sync, G: Gate + Sync>(
     rt: &R,
     alloc: Global,
@@ -71,7 +70,7 @@ pub fn work<R: Threads + Wait + Sync, G: Gate + Sync>(
     work_as::<Brand, R, G>(rt, alloc, engine, blank, crew, budget, turns, gate)
 }
 
-// The same under a name.
+// `work`, with a name for the shared engine.
 fn work_as<L: Naming + Send + Sync, R: Threads + Wait + Sync, G: Gate + Sync>(
     rt: &R,
     alloc: Global,
@@ -100,7 +99,7 @@ fn work_as<L: Naming + Send + Sync, R: Threads + Wait + Sync, G: Gate + Sync>(
     }
 }
 
-/// So many seats, with no receipts.
+/// `crew` seats, with no receipts.
 #[tactic(auto, using(crate::proofs::Working::fresh_none, crate::proofs::Working::fresh_more))]
 fn seats_of<L: Naming, B: Board<L>, R: Wait>(
     rt: &R,
@@ -125,8 +124,8 @@ fn seats_of<L: Naming, B: Board<L>, R: Wait>(
 pub enum WorkFault {
     /// There is no memory for the seats.
     Memory,
-    /// A seat was not handed out, or the shared engine was not closed. No schedule is known that
-    /// leads here.
+    /// A seat was not given out, or the shared engine was not closed. No schedule is known that
+    /// leads to this.
     NotClosed,
 }
 

@@ -1,5 +1,5 @@
 //! One engine behind a lock, for the threads of a caller: each change is one call under the lock,
-//! and slices run off it. And the crew of threads of a console's `work` lines.
+//! and slices run without it. Also the crew of threads for a console's `work` lines.
 #![tactic(auto)]
 
 mod board;

@@ -17,17 +17,16 @@ use std::marker::PhantomData;
 use std::sync::ledger::Blank;
 use std::sync::{Mutex, MutexGuard, Wait};
 
-/// How often a thread looks whether the lock is free before it sleeps, and how often it pauses
-/// between two looks: about a millisecond in all. The lock is held for a part of a microsecond, and
-/// to be woken takes longer.
+/// How often a thread checks whether the lock is free before it sleeps, and how often it pauses
+/// between two checks: about a millisecond in all. The lock is held for less than a microsecond,
+/// and a sleeping thread takes longer to wake.
 const LOOKS: u32 = 8_000;
 
 const PAUSES: u32 = 2;
 
-/// One engine for several threads: a board behind a lock, which is the book of an engine where
-/// nothing else is said. Each call of a seat holds the lock once. It answers what the board
-/// answers, and the seat gains the receipt of what was accepted: its own arguments, its own number
-/// and the answer that it was given.
+/// One engine for several threads: a board behind a lock, by default the book of an engine. Each
+/// call of a seat takes the lock once. It returns the board's answer, and the seat gains the
+/// receipt of what was accepted: its own arguments, its own number and the answer that it got.
 #[derive(Drop)]
 pub struct SharedEngine<L: Naming, B: Board<L> = Book<L>> {
     pub(crate) board: Mutex<B>,
@@ -75,9 +74,9 @@ impl<L: Naming, B: Board<L>> SharedEngine<L, B> {
         self.board.into_inner()
     }
 
-    /// The next seat, with a number of 1 to 64 and no receipts. Refused, in this order, where 64
-    /// are handed out, and where there is no memory for the receipts of all entries that the engine
-    /// has room for.
+    /// The next seat, with a number of 1 to 64 and no receipts. Refused, in this order, if 64 were
+    /// given out, and if there is no memory for the receipts of all entries that the engine has
+    /// room for.
     pub fn seat<R: Wait>(&self, rt: &R, alloc: Global) -> Result<Seat<L>, SeatFault>
         ensures given { B.answers (SeatReply result) }
         ensures receipts { IfOk result (λ seat. (seat.receipts ≡ []) × (seat.share ≡ 0)) }
@@ -87,17 +86,17 @@ impl<L: Naming, B: Board<L>> SharedEngine<L, B> {
     }
 
     /// A ticket for the running procedure with the least id above the one taken last by any seat,
-    /// else with the least id. Refused, in this order, where none runs, and where there is no
-    /// memory for the two copies of its machine.
+    /// else with the least id. Refused, in this order, if none runs, and if there is no memory for
+    /// the two copies of its machine.
     pub fn take<R: Wait>(&self, rt: &R, alloc: Global) -> Result<Ticket, TakeFault>
         ensures given { B.answers (TakeReply result) }
     {
         self.lock(rt).take(alloc, &mut None)
     }
 
-    /// Puts a work's instructions into its procedure. Refused, in this order, where there are none,
-    /// where the procedure is not what the work began with, and where the journal is full; the work
-    /// is dropped then.
+    /// Puts a work's instructions into its procedure. Refused, in this order, if there are none, if
+    /// the procedure is not what the work began with, and if the journal is full; the work is
+    /// dropped then.
     pub fn commit<R: Wait>(&self, rt: &R, seat: &mut Seat<L>, mut work: Work) -> CommitOutcome
         ensures handed_in { IsHandedIn B.answers seat.old seat.new work result }
     {
@@ -126,8 +125,8 @@ impl<L: Naming, B: Board<L>> SharedEngine<L, B> {
     }
 
     /// Reports the completions that wait, the oldest first, at a time in whole seconds, as the
-    /// engine's call with the seat's number. Refused, in this order, where none waits, where the
-    /// journal is full, and where there is no memory.
+    /// engine's call with the seat's number. Refused, in this order, if none waits, if the journal
+    /// is full, and if there is no memory.
     pub fn drain<R: Wait>(
         &self,
         rt: &R,
@@ -149,7 +148,7 @@ impl<L: Naming, B: Board<L>> SharedEngine<L, B> {
         self.lock(rt).apply(seat, Step { id })
     }
 
-    /// Does instructions of one procedure, at most so many, as the engine's call with the seat's
+    /// Does up to `budget` instructions of one procedure, as the engine's call with the seat's
     /// number.
     pub fn slice<R: Wait>(&self, rt: &R, seat: &mut Seat<L>, id: u16, budget: u32) -> Slice
         requires { 1 ≤ budget }

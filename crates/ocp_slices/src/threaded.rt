@@ -11,9 +11,8 @@ use std::sync::Wait;
 use std::thread::Threads;
 
 /// A crew of threads. It shares the engine between as many seats as there are workers, with one
-/// thread for each, and closes it: the journal that comes back is the one that was given, gone on
-/// by one history of what the workers did, which is instructions alone, within their budget and
-/// turns.
+/// thread for each, and closes it. The journal that comes back is the given one, followed by one
+/// history of what the workers did: only instructions, within their budget and turns.
 #[derive(Drop)]
 pub struct Threaded<'a, R: Threads + Wait + Sync> {
     pub rt: &'a R,

@@ -1,4 +1,4 @@
-//! Turns: take a procedure, run it off the lock, and put its work back.
+//! Turns: take a procedure, run it without the lock, and put its work back.
 
 ghost use Rattle.std.specs.Prelude.{◌≡◌, ℕ, IfSome};
 ghost use Rattle.ocp_slices.specs.Continuing.{Continues};
@@ -14,14 +14,14 @@ use std::sync::Wait;
 
 /// What is called before and after each commit of a turn, with no lock held.
 pub trait Gate {
-    /// The seat is about to hand in so many instructions of a procedure.
+    /// The seat is about to hand in `count` instructions of a procedure.
     fn before(&self, seat: u16, id: u16, count: u32);
 
     /// They were handed in, with this outcome.
     fn after(&self, seat: u16, id: u16, outcome: CommitOutcome);
 }
 
-/// Holds no one up.
+/// A gate that does nothing.
 #[derive(Drop)]
 pub struct Open;
 
@@ -36,7 +36,7 @@ impl Gate for Open {
 pub enum Turn {
     /// No procedure runs.
     Idle,
-    /// So many instructions were done off the lock, and are events now.
+    /// This many instructions were done without the lock, and are events now.
     Committed(u32),
     /// The procedure could do none by itself, so one instruction was done under the lock, with this
     /// outcome.
@@ -59,7 +59,7 @@ fn turn_without(fault: TakeFault) -> Turn
     }
 }
 
-/// Hands in the work of a turn, and does one instruction of its procedure where it could do none by
+/// Hands in the work of a turn, and does one instruction of its procedure if that could do none by
 /// itself: the work's outcome, and what the turn answers.
 fn put_back<L: Naming, B: Board<L>>(
     board: &mut B,
@@ -83,8 +83,8 @@ fn put_back<L: Naming, B: Board<L>>(
 }
 
 impl<L: Naming, B: Board<L>> SharedEngine<L, B> {
-    /// Takes the next running procedure, runs it off the lock for at most so many instructions, and
-    /// commits what it did. Where it could do none by itself, one instruction of it is done under
+    /// Takes the next running procedure, runs it without the lock for up to `budget` instructions,
+    /// and commits what it did. If it could do none by itself, one instruction of it is done under
     /// the lock. It answers what the board answered. No lock is held while the procedure runs or
     /// the gate is called.
     pub fn turn<R: Wait, G: Gate>(
@@ -102,8 +102,8 @@ impl<L: Naming, B: Board<L>> SharedEngine<L, B> {
         turn
     }
 
-    /// A turn that begins with what was taken. Where more follow, what the next one begins with is
-    /// taken under the same lock, into the memory of a spare ticket where there is one.
+    /// A turn that begins with what was taken. If more turns follow, the ticket of the next one is
+    /// taken under the same lock, into the memory of a spare ticket if there is one.
     #[tactic(auto, using(crate::proofs::Turning::did, crate::proofs::Turning::idle))]
     fn turn_by<R: Wait, G: Gate>(
         &self,
@@ -145,8 +145,8 @@ impl<L: Naming, B: Board<L>> SharedEngine<L, B> {
         (turn, next)
     }
 
-    /// That many turns, one after the other. The lock is taken once between two of them. From the
-    /// second on none asks for memory, where all procedures have machines of one size.
+    /// Makes `turns` turns, one after the other. It takes the lock once between two of them. From
+    /// the second on none asks for memory, if all procedures have machines of one size.
     #[tactic(auto, using(crate::proofs::Continuing::continues_unchanged, crate::proofs::Continuing::continues_by_turn))]
     pub fn turns<R: Wait, G: Gate>(
         &self,

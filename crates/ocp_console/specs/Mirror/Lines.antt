@@ -6,12 +6,12 @@ use Rattle.ocp_ports.specs.declared.fault.ConsoleFault.TheVariants.{Write}
 use Rattle.ocp_console.specs.Reading.{AreShort}
 use Rattle.ocp_console.specs.declared.session.TheConstants.{MAX_LINES}
 
--- a line so far: no newline stands in it
+-- a line so far: it has no newline
 abbrev pub is_one_line : List ℕ → Bool
 is_one_line [] = true
 is_one_line (octet ∷ octets) = if octet == 10 then false else is_one_line octets
 
--- the octets that were taken are so many lines, each of them short, and this line that has not
+-- the octets that were taken are `before` lines, each of them short, and this line that has not
 -- ended
 pub record HasTaken (before : ℕ) (line octets : List ℕ) : Type 0 where
   pub done : List Line
@@ -26,7 +26,7 @@ pub record TakesUpTo (before : ℕ) (line octets left : List ℕ) : Type 0 where
   pub parts : front ++ left ≡ octets
   pub taken : HasTaken before line front
 
--- the count of failed writes rose, just where the answer is `Write`
+-- the count of failed writes rose exactly if the answer is `Write`
 abbrev pub CountsWrites : {T : Type 0} → ℕ → ℕ → Result T ConsoleFault → Type 0
 CountsWrites old new result =
     MatchResult result (λ _. new ≡ old) (λ fault. (fault ≡ Write) ↔ (old < new))

@@ -15,7 +15,7 @@ abbrev pub effect_by : State → List ℕ → Reply → Effect
 effect_by after output Printed = Does (after, output)
 effect_by after output (Work shift) = works_of shift
 
--- where the crew is asked, nothing was done yet
+-- if the crew is asked, nothing was done yet
 abbrev pub IsKept : State → State → Reply → Type 0
 IsKept before after Printed = Unit {0}
 IsKept before after (Work shift) = after ≡ before

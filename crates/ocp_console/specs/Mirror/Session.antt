@@ -12,7 +12,7 @@ use Rattle.ocp_console.specs.Mirror.Replies.{works_of}
 use Rattle.ocp_console.specs.declared.session.TheConstants.{MAX_LINE_OCTETS}
 use Rattle.ocp_console.specs.Script.{Writing, Goes, AtStep, Writes}
 
--- What the run of these lines writes behind a line that was done, or whose work is still left to
+-- What the run of these lines writes after a line that was done, or whose work is still left to
 -- the crew.
 abbrev pub after_line : CrewAnswers → State → ℕ → Option Shift → List Line → Writing
 after_line crew state before None lines = Writes crew state before lines
@@ -24,7 +24,7 @@ after_line crew state before (Some shift) lines =
 abbrev pub rest_of : {A : Type 0} → CrewAnswers → Session A → List ℕ → Writing
 rest_of crew s more = Writes crew (state_of s.console) s.before (lines_of (s.line.items ++ more))
 
--- the same, where a line's work may be left to the crew
+-- the same, if a line's work may be left to the crew
 abbrev pub rest_with : {A : Type 0} → CrewAnswers → Session A → Option Shift → List ℕ → Writing
 rest_with crew s asked more =
     after_line crew (state_of s.console) s.before asked (lines_of (s.line.items ++ more))
