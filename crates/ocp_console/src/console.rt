@@ -114,7 +114,7 @@ impl<A: Allocator + Copy> Console<A> {
         }
     }
 
-    /// Does what a line says that needs no crew.
+    /// Does what a line asks for, or returns the work that it asks of the crew.
     pub fn obey(&mut self, alloc: A, command: Command<'_>) -> Result<Reply, AllocError>
         requires { IsSayable self.old.profile (meaning_of command) }
         ensures effect { IfOk result

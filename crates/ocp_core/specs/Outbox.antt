@@ -117,7 +117,7 @@ EachStandsOnce =
     count n (places profile apid words es) ≡
     (if is_in n (all_pending profile apid words es) then 1 else 0)
 
--- the law: so its completion is reported once at most
+-- the law: so its completion is reported at most once
 abbrev pub IsReportedOnceAtMost : Type 0
 IsReportedOnceAtMost =
     (profile : Profile) (apid words : ℕ) (es : List Event) (n : ℕ) →

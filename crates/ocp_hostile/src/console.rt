@@ -103,7 +103,7 @@ impl<E: Drop> Crew<E> for Refuser {
     }
 }
 
-/// Does a command from one device to the other, and tells how it ended and what the other device
+/// Does a command from one device to the other, and returns how it ended and what the other device
 /// holds.
 fn perform<A: Allocator + Copy>(
     alloc: A,

@@ -87,7 +87,7 @@ impl InstructionOutcome {
 }
 
 impl Extent {
-    /// Whether events that go so far end with one that ended this step.
+    /// Whether events of this extent end after one that ended this step.
     #[inline(always)]
     pub fn ends_with(self, step: Option<u16>) -> bool
         ensures { result ≡ ends_with self step }
@@ -100,7 +100,7 @@ impl Extent {
 }
 
 impl StepOutcome {
-    /// That of an instruction event which did so.
+    /// The outcome of an instruction event, by what it did to its procedure.
     #[inline(always)]
     pub(crate) fn of(outcome: InstructionOutcome) -> StepOutcome
         ensures outcome { result ≡ step_outcome_of outcome }

@@ -34,7 +34,7 @@ opening profile apid words = record {
   traces = [];
 }
 
--- the octets of a request, with the seat that handed them in and the time; one instruction of a
+-- the octets of a request, with the seat that they came from and the time; one instruction of a
 -- procedure, with the seat; a debugger's command to a procedure, with the seat; the sending of the
 -- completions that wait, with the seat that asked for it and the time; or a write of the pool word
 -- at an index from outside, with the seat, the index and the value

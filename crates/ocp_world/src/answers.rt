@@ -10,7 +10,7 @@ use std::alloc::AllocError;
 /// order: discarded, a full journal, memory; those of a drain: nothing due, a full journal, memory.
 #[derive(Clone, Copy, PartialEq, Eq, Debug)]
 pub enum EngineFault {
-    /// The octets are no telecommand for this engine, and nobody is told.
+    /// The octets are no telecommand for this engine, and no report is sent.
     Discarded(Discard),
     /// There is no room for a further journal entry.
     JournalFull,

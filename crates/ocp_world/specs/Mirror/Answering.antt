@@ -21,12 +21,12 @@ abbrev pub IsDiscard : Answer → Option Discard → Type 0
 IsDiscard answer None = is_accepted answer ≡ true
 IsDiscard answer (Some cause) = answer ≡ Requested (Err (engine.Discarded cause))
 
--- an instruction event is refused so, or it is accepted
+-- an instruction event is refused with this outcome, or it is accepted
 abbrev pub IsRefusal : Answer → Option StepOutcome → Type 0
 IsRefusal answer None = is_accepted answer ≡ true
 IsRefusal answer (Some outcome) = (is_accepted answer ≡ false) × (Stepped outcome ≡ answer)
 
--- a debugger's command is refused so, or it is accepted
+-- a debugger's command is refused with this fault, or it is accepted
 abbrev pub IsDebugFault : Answer → Option DebugFault → Type 0
 IsDebugFault answer None = is_accepted answer ≡ true
 IsDebugFault answer (Some fault) = answer ≡ Commanded (Err fault)
