@@ -14,7 +14,7 @@ use Rattle.ocp_core.specs.Alone.{state_by, alone_from, alone}
 use Rattle.ocp_core.specs.Possible.{IsPossible, ArePossible, OwnEventsArePossible}
 use Rattle.ocp_assured.specs.Flights.{round_by, round_from, instructions_in_round}
 
--- the image reaches the machine of this profile, by a round of so many instructions from one that it reaches
+-- the image reaches the machine of this profile, by a round of n instructions from one that it reaches
 pub record Flies (profile : Profile) (image : List ℕ) (n : ℕ) (s : State) : Type 0 where
   pub reached : Reaches image s
   pub memory : HasMemoryOf profile s

@@ -62,7 +62,7 @@ pub open_line : (c : ℕ) (p : List ℕ) → is_one_line (c ∷ p) ≡ true → 
 open_line c [] e = let s = one_line-cons c [] e in rw s.0 refl
 open_line c (d ∷ p) e = let s = one_line-cons c (d ∷ p) e in rw (s.0, open_line d p s.1) refl
 
--- some line with at least so many octets is the first
+-- some line with at least n octets is the first
 abbrev pub Begins : List Line → ℕ → Type 0
 Begins [] n = ⊥
 Begins (line ∷ lines) n = n ≤ length (octets_of line)
@@ -77,7 +77,7 @@ onto-some c [] = omega arith
 onto-some c (Ended l ∷ ls) = omega arith
 onto-some c (Open l ∷ ls) = omega arith
 
--- a line that goes on has more octets
+-- a line that continues has more octets
 pub longer_line : (p : List ℕ) (c : ℕ) (rest : List ℕ) → is_one_line p ≡ true → eqb c 10 ≡ false → Begins (lines_of (p ++ c ∷ rest)) (suc (length p))
 longer_line [] c rest e h = rw h (onto-some c (lines_of rest))
 longer_line (a ∷ p) c rest e h = let s = one_line-cons a p e in rw s.0 (onto-begins a (lines_of (p ++ c ∷ rest)) (suc (length p)) (longer_line p c rest s.1 h))

@@ -198,7 +198,7 @@ line_done old new crew state next before p line asked empty one h = (
 pub not_newline : (c : ℕ) → (c ≡ 10 → ⊥) → eqb c 10 ≡ false
 not_newline c ne = elim (eqb_tells c 10) [ inl h ↦ absurd (ne h.1) | inr h ↦ h.0 ]
 
--- a line that has its most octets, and one more
+-- a line that has the most octets, and one more
 pub full_line : (p : List ℕ) (c : ℕ) (more : List ℕ) (n : ℕ) → is_one_line p ≡ true → (c ≡ 10 → ⊥) → length p ≡ n → Begins (lines_of (p ++ c ∷ more)) (n + 1)
 full_line p c more n one ne e =
     let state : suc (length p) ≡ n + 1 = omega (arith, e) in
@@ -214,7 +214,7 @@ SoFar old new whole rest octets left =
 pub none_so_far : (a : Option (List ℕ)) (whole : List ℕ → Writing) (octets : List ℕ) → SoFar a a whole whole octets octets
 none_so_far a whole octets = ([], Appends-nil a, λ more later ending w. w)
 
--- octets that go on with a line write nothing
+-- octets that continue a line write nothing
 same_text : (line piece left more : List ℕ) → (line ++ piece) ++ (left ++ more) ≡ line ++ ((piece ++ left) ++ more)
 same_text line piece left more = append_assoc line piece (left ++ more) ∙ ap (λ (t : List ℕ). line ++ t) (sym (append_assoc piece left more))
 
@@ -224,7 +224,7 @@ filled_on crew state before line after octets piece left parts is more later end
     subst (λ (t : List ℕ). Writes crew state before (lines_of (line ++ (t ++ more))) later ending) (sym parts)
     (subst (λ (t : List ℕ). Writes crew state before (lines_of t) later ending) (same_text line piece left more) (subst (λ (t : List ℕ). Writes crew state before (lines_of (t ++ (left ++ more))) later ending) is w))
 
--- a step that answers what stands in front of what is left behind it
+-- a step that answers what comes before what it leaves
 pub more_answered : (old mid new : Option (List ℕ)) (whole rest after : List ℕ → Writing) (octets left behind : List ℕ) (onto : List ℕ → List ℕ) → ((more : List ℕ) → left ++ more ≡ onto (behind ++ more)) → SoFar old mid whole rest octets left
     → (sent : List ℕ) × Appends mid new sent × ((more later : List ℕ) (ending : Result Unit ConsoleFault) → after more later ending → rest (onto more) (sent ++ later) ending) → SoFar old new whole after octets behind
 more_answered old mid new whole rest after octets left behind onto cut so_far h = (
@@ -244,7 +244,7 @@ ended_at old mid new whole rest octets left behind onto e cut so_far h = (
   λ more. so_far.2 more h.0 (Err e) (subst (λ (t : List ℕ). rest t h.0 (Err e)) (sym (cut more)) (h.2 (behind ++ more))),
 )
 
--- what is left is answered as far as the rest behind it
+-- what is left is answered, up to the rest that follows it
 pub gone_on : (old mid new : Option (List ℕ)) (whole rest after : List ℕ → Writing) (octets left behind : List ℕ) → SoFar old mid whole rest octets left
     → (sent : List ℕ) × Appends mid new sent × ((more later : List ℕ) (ending : Result Unit ConsoleFault) → after (behind ++ more) later ending → rest (left ++ more) (sent ++ later) ending) → SoFar old new whole after octets behind
 gone_on old mid new whole rest after octets left behind so_far h = (

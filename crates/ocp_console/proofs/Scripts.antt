@@ -5,12 +5,12 @@ use Rattle.std.proofs.KnownBytes.{Appends-trans, Appends-nil, Consumes-trans, Co
 use Rattle.ocp_ports.specs.declared.fault.ConsoleFault.{ConsoleFault}
 use Rattle.ocp_console.specs.Script.{Writing, PrintsBy}
 
--- what was read so far was answered, and the rest of the script is written so
+-- what was read so far was answered, and the rest of the script is written like this
 abbrev pub Answered : Option (List ℕ) → Option (List ℕ) → Option (List ℕ) → Option (List ℕ) → (List ℕ → Writing) → (List ℕ → Writing) → Type 0
 Answered input left old new whole rest =
     (fed : List ℕ) × Consumes input left fed × (sent : List ℕ) × Appends old new sent × ((more later : List ℕ) (ending : Result Unit ConsoleFault) → rest more later ending → whole (fed ++ more) (sent ++ later) ending)
 
--- a fact of each script that begins so
+-- a fact of each script that begins with these octets
 pub of_some : (a b : Option (List ℕ)) (fed : List ℕ) (P : List ℕ → Type 0) → Consumes a b fed → ((more : List ℕ) → P (fed ++ more)) → IfSome a P
 of_some None b fed P h all = tt
 of_some (Some xs) None fed P h all = absurd h

@@ -26,7 +26,7 @@ newline_taken before line after octets o one le is empty t = record {
   room = λ ne. absurd (ne empty);
 }
 
--- octets that go on with a line
+-- octets that continue a line
 pub piece_taken : (before : ℕ) (line after octets piece : List ℕ) → (0 < length piece → before < 100000) → after ≡ line ++ piece → HasTaken before line octets → HasTaken before after (octets ++ piece)
 piece_taken before line after octets piece few is t = record {
   done = t.done;
@@ -57,7 +57,7 @@ more_taken before next line after octets left piece behind cut step t = record {
   taken = step t.front t.taken;
 }
 
--- a step that takes what is left, as far as what stands behind it
+-- a step that takes what is left, up to what follows it
 pub taken_on : (before next : ℕ) (line after octets left behind : List ℕ) → ((front : List ℕ) → HasTaken before line front → TakesUpTo next after (front ++ left) behind) → TakesUpTo before line octets left → TakesUpTo next after octets behind
 taken_on before next line after octets left behind step t = subst (λ (o : List ℕ). TakesUpTo next after o behind) t.parts (step t.front t.taken)
 

@@ -15,7 +15,8 @@ use Rattle.ocp_console.specs.Script as script
 use Rattle.ocp_profile.specs.declared.profile.Profile.{Profile}
 use Rattle.ocp_console.specs.Script.{Run, with_prefix, Writing, BreaksOff, Follows, Stops, AtStep, Writes, WritesScript, PrintsBy, Prints, Ends, Goes, step_of, run_step, run_of, transcript, AreWorkless, IsWorkless}
 
--- what was written is the text of a run, which ended so; or there was a failure, and it is a prefix
+-- what was written is the text of a run with this ending; or there was a failure, and it is a
+-- prefix
 abbrev Fits : Run → Writing
 Fits run written result = ((written ≡ run.0) × (result ≡ run.1)) ⊎ BreaksOff run.0 written result
 

@@ -11,7 +11,7 @@ use Rattle.ocp_reports.specs.Packets.{IsTelemetryPacket, together}
 use Rattle.ocp_reports.specs.Pieces.{pieces, Fills, ArePackets}
 use Rattle.ocp_reports.specs.Room.{HasRoomAfter, GrowsWithin}
 
--- a telemetry packet has 19 octets beside its payload
+-- a telemetry packet has 19 octets and its payload
 pub length-telemetry : (tm : Telemetry) → length (telemetry_octets tm) ≡ 19 + length tm.payload
 unfolding telemetry_octets
 length-telemetry tm =

@@ -1,4 +1,4 @@
--- A machine that stands at an instruction has an outcome.
+-- A machine at an instruction has an outcome.
 use Rattle.std.proofs.Common.{◌≡◌, ◌<◌, ℕ, ℤ, Bool, true, false, cond, List, Option, Some, None, refl, sym, ap, ◌∙◌}
 use Rattle.std.specs.Prelude.{Result, Ok, Err, IsSome, IsOk}
 use Rattle.bpf_types.specs.declared.line.Line.{Line}
@@ -83,12 +83,12 @@ able_in r pool able =
       ]
     ]
 
--- what stands under an Ok
+-- the value of an Ok
 pub lines_of : {X E : Type 0} (r : Result X E) → IsOk r → (x : X) × (r ≡ Ok x)
 lines_of (Ok x) is = (x, refl)
 lines_of (Err e) is = absurd (cc)
 
--- an instruction's place is below the most slots
+-- an instruction's place is below the largest number of slots
 pub small_place : (image : List ℕ) (slot : ℕ) → ((l : Line) → line_of image slot ≡ Some l → IsLineAt image slot l) → IsPlace image slot → slot < MAX_SLOTS
 small_place image slot known place =
     elim (line_of image slot) as (λ o. line_of image slot ≡ o → IsSome o → slot < MAX_SLOTS) [

@@ -49,7 +49,7 @@ holds m id = record {
 pub asked : (d : Directive) (id : ℕ) (m : Records) → IsAsked d m (effect_in d id m)
 asked d id m = each (λ d effect. IsAsked d m effect) id (get m id) (is_full m) (holds m id) d
 
--- a stop or a suspend knows whether all places are taken
+-- a stop or a suspend says whether all places are taken
 abbrev pub Knows : Bool → Directive → Type 0
 Knows full (Stop s from there) = there ≡ full
 Knows full (Suspend s from there) = there ≡ full

@@ -26,7 +26,7 @@ less-next n (Some left) = ap Some (omega arith)
 
 -- ---- within what is left
 
--- a fewer number is within it too
+-- a smaller number is within it too
 pub within-fewer : (o : Option ℕ) (n k : ℕ) → n ≤ k → IsWithin o k → IsWithin o n
 within-fewer None n k fewer is = tt
 within-fewer (Some left) n k fewer is = omega (arith, fewer, is)
@@ -44,7 +44,7 @@ pub within_most : (o : Option ℕ) (most : ℕ) → within o most ≤ most
 within_most None most = omega arith
 within_most (Some left) most = min-le_left most left
 
--- so many that are at most as many as a stretch may have are left
+-- n instructions are left if n is no more than a stretch may have
 pub within_left : (o : Option ℕ) (most n : ℕ) → n ≤ within o most → IsWithin o n
 within_left None most n is = tt
 within_left (Some left) most n is = omega (arith, is, min-le_right most left)

@@ -1,4 +1,4 @@
--- A slab of records with ids of their own, seen as a map: what a lookup finds, and what a change at one key makes of it.
+-- A slab of records with different ids, seen as a map: what a lookup finds, and what a change at one key makes of it.
 use Rattle.std.proofs.Common.{◌≡◌, ◌≢◌, ℕ, suc, ◌+◌, ◌<◌, ◌≤◌, length, true, false, cond, get_or, is_some, count_by, List, [], ◌∷◌, map, Option, Some, None, refl, sym, ap, subst, ◌∙◌, inl, inr, arith, Contains}
 use Rattle.std.specs.Prelude.{◌==◌, IsSome, IfSome, IfNone}
 use Rattle.std.proofs.lemmas.Bool.{cases_eq, eqb-true}
@@ -16,7 +16,7 @@ module _ {T X : Type 0} (id_of : T → ℕ) (shown : T → X) where
   abbrev pair : ℕ × T → ℕ × X
   pair e = (id_of e.1, shown e.1)
 
-  -- what is found stands in the list
+  -- what is found is in the list
   owner : (q : ℕ) (es : List (ℕ × T)) (x : X) → map.find nat_cmp q (map pair es) ≡ Some x → (e : ℕ × T) × Contains es e × (id_of e.1 ≡ q) × (shown e.1 ≡ x)
   owner q [] x h = absurd (cc)
   owner q (e ∷ es) x h =
@@ -25,7 +25,7 @@ module _ {T X : Type 0} (id_of : T → ℕ) (shown : T → X) where
         | false ↦ λ t k. let l = owner q es x k in (l.0, Contains-cons _ _ _ l.1, l.2, l.3)
       ] refl (subst (λ b. cond b (Some (shown e.1)) (map.find nat_cmp q (map pair es)) ≡ Some x) (unsigned_tied q (id_of e.1)) h)
 
-  -- what is not found does not stand in the list
+  -- what is not found is not in the list
   missing : (q : ℕ) (es : List (ℕ × T)) → map.find nat_cmp q (map pair es) ≡ None → (e : ℕ × T) → Contains es e → id_of e.1 ≢ q
   missing q [] h e c = absurd (omega (arith, c.1))
   missing q (d ∷ es) h e c =
@@ -229,7 +229,7 @@ module _ {T X : Type 0} (id_of : T → ℕ) (shown : T → X) where
   len-contents s apart = len_of_slots s.slots apart
 
 module _ {X : Type 0} where
-  -- to insert what is there already changes nothing
+  -- to remove what is not there, or to insert what is there already, changes nothing
   pub remove-same : (m : map.FinMap nat_cmp X) (k : ℕ) → map.get m k ≡ None → map.remove m k ≡ m
   remove-same m k h = map.same_map nat_cmp_total map.nat_cmp-IsAntisymmetric _ _ (λ q.
       map.get-remove nat_cmp_total m k q
@@ -248,7 +248,7 @@ module _ {X : Type 0} where
         | false ↦ λ e. refl
       ] refl)
 
-  -- what was inserted where nothing was is removed again
+  -- a removal takes back an insertion under a free key
   pub remove-insert : (m : map.FinMap nat_cmp X) (k : ℕ) (x : X) → map.get m k ≡ None → map.remove (map.insert m k x) k ≡ m
   remove-insert m k x h = map.same_map nat_cmp_total map.nat_cmp-IsAntisymmetric _ _ (λ q.
       map.get-remove nat_cmp_total (map.insert m k x) k q

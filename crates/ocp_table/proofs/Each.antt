@@ -21,7 +21,7 @@ use Rattle.ocp_table.specs.Effects.{Effect, Loaded, Unloaded, Changed, Kept, Sta
 use Rattle.ocp_table.specs.RequestTable.{Directive, Load, Unload, Activate, Stop, Suspend, Resume, Abort, Communicate, Step, Changes, Fails, postponement, communication, transition}
 use Rattle.ocp_table.specs.Deciding.{bad_code, effect_of_load, outcome_in, effect_of_step, effect_by, effect_on}
 
--- what has to hold of each form, with what is known where it comes
+-- what has to hold of each form, with what is known when it comes
 pub record Holds (P : Directive → Effect → Type 0) (id : ℕ) (o : Option Rec) (full : Bool) : Type 0 where
   pub failed : (d : Directive) (failure : StartFailure) → P d (Kept (Failed failure))
   pub loaded : (profile : Profile) (image : List ℕ) → o ≡ None → full ≡ false → P (Load profile image) (Loaded profile id image)

@@ -13,7 +13,7 @@ use Rattle.ocp_table.proofs.ContentsLemmas.{slab_len-with_value}
 use Rattle.ocp_table.proofs.Fitting.{fits_by, fits-with}
 use Rattle.ocp_table.proofs.Rooms.{pendings-empty, place_there}
 
--- nothing is set where none is there
+-- nothing is set if there is no record
 pub unset : (m : Records) (id : ℕ) (set : Rec → Rec) → map.get m id ≡ None → m ≡ records_with (map.get m id) id set m
 unset m id set none = ap (λ o. records_with o id set m) (sym none)
 

@@ -64,7 +64,7 @@ module _ (m : Records) (q : ℕ) where
   of_some : (a b : State) → Some a ≡ Some b → a ≡ b
   of_some a b e = cc
 
-  -- what the law says of one machine
+  -- what the law states of one machine
   abbrev Comes : State → Type 0
   Comes machine = (machine_of (get m q) ≡ Some machine) ⊎ (((profile : Profile) × (machine ≡ machine_at_start profile [])) ⊎ IsRestarted (machine_of (get m q)) machine)
 
@@ -76,7 +76,7 @@ module _ (m : Records) (q : ℕ) where
         | false ↦ λ here. inl here
       ] (sym (ap machine_of (get-insert nat_cmp_total m id r q)) ∙ is)
 
-  -- a record that is put in has the machine that was there, which was started anew
+  -- a record that is put in has the machine that was there, restarted
   put_restarted : (id : ℕ) (r new : Rec) (arguments : List ℕ) → get m id ≡ Some r → new.machine ≡ machine_at_restart arguments r.machine → IsFit (insert m id new)
   put_restarted id r new arguments here start machine is =
       elim (eq_by_cmp nat_cmp q id) as (λ b. eq_by_cmp nat_cmp q id ≡ b → machine_of (cond b (Some new) (get m q)) ≡ Some machine → Comes machine) [
@@ -129,7 +129,7 @@ module _ (m : Records) (q : ℕ) where
 -- ---- a part of each record stays
 
 module _ {X : Type 0} (part : Option Rec → X) (m : Records) (q : ℕ) where
-  -- where a change leaves the part in every record
+  -- if a change leaves the part in every record
   part_stays : (id : ℕ) (c : Change) → ((r : Rec) → part (Some (record_by c r)) ≡ part (Some r)) → (o : Option Rec) → get m id ≡ o → part (get (with_change o id c m) q) ≡ part (get m q)
   part_stays id c kept None is = refl
   part_stays id c kept (Some r) is =

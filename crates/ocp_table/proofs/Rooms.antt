@@ -69,7 +69,7 @@ place_there m outbox id r fits is = let there = pendings-there m id r is in omeg
 
 -- ---- effects
 
--- only where a place is free does something become pending
+-- something becomes pending only if a place is free
 abbrev pub IsRoomy : Bool → Effect → Type 0
 IsRoomy full (Changed id change) = HasPlaceFor full change
 IsRoomy full effect = Unit {0}

@@ -156,7 +156,7 @@ only_answer id s last = elim (goes_on id s) as (λ b. cond b (slice_last id (sto
   | false ↦ refl
 ]
 
--- the events of a slice or a round of this budget are so many, and its last outcome is this
+-- a slice or a round of this budget has n events, and this is its last outcome
 pub record Comes (extent : Extent) (id budget : ℕ) (s : Store) (n : ℕ) (o : StepOutcome) : Type 0 where
   pub count : slice_count id s (most_events extent id s budget) ≡ n
   pub last : slice_last id s S.Ran (most_events extent id s budget) ≡ o
@@ -375,7 +375,7 @@ ran_some zero last h = absurd (omega (arith, h))
 ran_some (suc n) last h = refl
 
 module _ {A : Type 0} where
-  -- so many events are made, and the slice or round goes on
+  -- n events are made, and the slice or round goes on
   pub record IsSliced (extent : Extent) (old now : Record A) (outbox filed : List Due) (pool left : List ℕ) (n : ℕ) (last : StepOutcome) : Type 0 where
     pub running : now.control.status ≡ Running
     pub named : now.id ≡ old.id
@@ -443,7 +443,7 @@ module _ {A : Type 0} where
     runs_on true r h = h
     runs_on false r h = absurd (cc)
 
-    -- the event in the midst of the slice
+    -- the event in the middle of the slice
     abbrev start : Records → Store
     start m = record { records = m; outbox = outbox; pool = pool }
 
@@ -548,7 +548,7 @@ refused id m outbox pool (suc budget) failure o r is answers off some same =
       store = ap (by_effect m outbox pool id) is ∙ ap (λ kept. record { records = m; outbox = kept; pool = pool }) (append-nil outbox) ∙ ap (λ x. record { records = x; outbox = outbox; pool = pool }) (sym same);
     }
 
--- the budget of a round is at least one event, where that of a slice is
+-- the budget of a round is at least one event, if that of a slice is
 pub most-some : (extent : Extent) (id budget : ℕ) (s : Store) → 1 ≤ budget → 1 ≤ most_events extent id s budget
 most-some extent id budget s some =
     let split = most-split extent id 0 budget s (λ is. unended-none id s) (omega (arith, some)) in
@@ -564,7 +564,7 @@ pub still-step : (id : ℕ) (m : Records) (outbox : List Due) (pool : List ℕ) 
 still-step id m outbox pool r held off =
     sym (ap step_ended (ap (λ o. effect_on (Step pool) id o (is_full m)) held ∙ still_of pool id r (is_full m) r.control.status off))
 
--- what a slice of a procedure that is not loaded comes to
+-- a slice of a procedure that is not loaded has one event, which is refused
 pub absent-count : (id : ℕ) (m : Records) (outbox : List Due) (pool : List ℕ) (budget : ℕ) → map.get m id ≡ None → 1 ≤ budget → 1 ≡ slice_count id (record { records = m; outbox = outbox; pool = pool }) budget
 absent-count id m outbox pool zero absent some = absurd (omega (arith, some))
 absent-count id m outbox pool (suc budget) absent some =
@@ -585,11 +585,11 @@ absent-step-ended id m outbox pool absent = sym (ap step_ended (absent-step pool
 pub absent-store : (id : ℕ) (m : Records) (outbox : List Due) (pool : List ℕ) → map.get m id ≡ None → store_after_events id 1 (record { records = m; outbox = outbox; pool = pool }) ≡ record { records = m; outbox = outbox; pool = pool }
 absent-store id m outbox pool absent = ap (by_effect m outbox pool id) (absent-step pool id m absent) ∙ ap (λ kept. record { records = m; outbox = kept; pool = pool }) (append-nil outbox)
 
--- whether a slice goes on after an outcome, where that lets it
+-- whether a slice goes on after an outcome, if that lets it
 pub goes_then : (o : StepOutcome) (running : Bool) {on goes : Bool} → on ≡ is_on o → on ≡ true → goes ≡ running → goes ≡ cond (is_on o) running false
 goes_then o running is true_is goes_is = goes_is ∙ ap (λ b. cond b running false) (sym true_is ∙ is)
 
--- and where it does not
+-- and if it does not
 pub goes_else : (o : StepOutcome) (running : Bool) {on goes : Bool} → on ≡ is_on o → on ≡ false → goes ≡ false → goes ≡ cond (is_on o) running false
 goes_else o running is false_is goes_is = goes_is ∙ ap (λ b. cond b running false) (sym false_is ∙ is)
 

@@ -38,7 +38,7 @@ table_is profile m n o p is files = ap (λ x. table_of profile x o) is ∙ ap (t
 pub absent-step : (pool : List ℕ) (id : ℕ) (m : Records) → map.get m id ≡ None → effect_in (Step pool) id m ≡ Kept (Failed NotLoaded)
 absent-step pool id m is = ap (λ o. effect_on (Step pool) id o (is_full m)) is
 
--- a load of code that may not be run fails, where the table has room
+-- a load of code that may not be run fails, if the table has room
 pub load_fails : (t : Procedures) (id : ℕ) (code : List ℕ) (fault : LoadFault) → map.get t.records id ≡ None → is_full t.records ≡ false → load_result t.profile code ≡ Err fault → effect_in (Load t.profile code) id t.records ≡ Kept (Failed (bad_code fault))
 load_fails t id code fault free room is =
     ap (λ o. effect_on (Load t.profile code) id o (is_full t.records)) free
@@ -135,7 +135,7 @@ module _ (m : Records) (id : ℕ) (change : Change) where
   pub outbox-changed : (r : Rec) (outbox : List Due) → map.get m id ≡ Some r → outbox ++ dues_by_change change r.control.pending ≡ outbox_by (Changed id change) m outbox
   outbox-changed r outbox here = sym (ap (λ o. outbox ++ dues_of change o) here)
 
--- ---- what was decided, where no procedure has the id
+-- ---- what was decided, if no procedure has the id
 
 module _ (m : Records) (id : ℕ) (none : map.get m id ≡ None) where
   pub records-kept : (d : B.Decision) → m ≡ records_by (effect_decided id d) m

@@ -33,7 +33,7 @@ equal Equal p = refl
 equal Greater p = absurd p
 
 module _ {X : Type 0} (f : X → ℕ) where
-  -- of one entry, where it is there
+  -- of one entry, if it is there
   abbrev pub of : Option X → ℕ
   of None = 0
   of (Some x) = f x

@@ -1,4 +1,4 @@
--- What a tape's fields say of its pieces.
+-- What a tape's fields give of its pieces.
 use Rattle.std.proofs.Common.{◌≡◌, ◌≤◌, ◌<◌, ◌+◌, ◌^◌, ℕ, List, [], ◌∷◌, length, take, drop, get_or, sym, ap, ◌∙◌, arith}
 use Rattle.std.specs.Prelude.{Some, slice_get}
 use Rattle.std.specs.Option.{option_map}

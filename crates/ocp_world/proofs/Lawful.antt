@@ -121,7 +121,7 @@ debugging (SetBreak place) = tt
 debugging (ClearBreak place) = tt
 debugging (SetTrace on) = tt
 
--- a record that runs so
+-- a record with this run
 rec_of : Option Run → Option Rec
 rec_of None = None
 rec_of (Some run) = Some (record { image = run.image; machine = run.machine; mailbox = run.mailbox; control = run.control; breakpoints = []; traced = false; remaining = run.remaining })

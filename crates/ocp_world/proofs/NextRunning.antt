@@ -29,7 +29,7 @@ module _ (from : ℕ) (rows : List StatusRow) (i : ℕ) (d : StatusRow) (within 
   abbrev row : StatusRow
   row = get_or rows i d
 
-  -- one more row that is passed by
+  -- one more row that is passed over
   pub passed : runs_from from row ≡ false → first_from from (take (i + 1) rows) ≡ None
   passed not =
       ap (first_from from) (take_more rows i d within) ∙ first_from-past from (take i rows) (row ∷ []) none
@@ -179,7 +179,7 @@ module _ (m : Records) (rising : IsStrictlyIncreasing (map (λ row. row.id) (map
   is_next None = after_none (first_from 0 (map row_of (entries m))) first_of_all refl
   is_next (Some before) = after_one before (first_from (before + 1) (map row_of (entries m))) (first_above before)
 
--- ---- what the next one is known by
+-- ---- what defines the next one
 
 module _ (m : Records) (before id : ℕ) (is : IsNextRunning m (Some before) (Some id)) where
   not_stopped : is_running (get m id) ≡ false → ⊥

@@ -133,7 +133,7 @@ kept_step (Kept (Failed failure)) is w h = λ i. record w { outbox = append-nil 
 
 -- ---- a debugger's command
 
--- what a command does, by why it is refused, where it is
+-- what a command does, by why it is refused, if it is
 abbrev debug_effect_of : Option DebugFault → DebugCommand → ℕ → Effect
 debug_effect_of fault command id = record { on_records = debug_effect_by fault command id; reply = Commands (result_of fault) }
 

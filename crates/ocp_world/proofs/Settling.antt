@@ -36,7 +36,7 @@ less-more n (Some left) =
     let both : left - suc n - 1 ≡ left - suc (suc n) = omega arith in
     ap Some both
 
--- where one more is within it, it is not spent
+-- if one more is within it, it is not spent
 unspent_first : (o : Option ℕ) → IsWithin o 1 → is_spent o ≡ false
 unspent_first None within = refl
 unspent_first (Some left) within = grind (arith, nat_tests, within)
@@ -49,7 +49,7 @@ unspent_later n (Some left) within =
 
 -- ---- one instruction
 
--- the world with this record of the procedure, after so many more events
+-- the world with this record of the procedure, after n more events
 abbrev with_record : ℕ → Rec → ℕ → World → World
 with_record id r count w = record w { records = map.insert w.records id r; events = w.events + count }
 

@@ -27,7 +27,7 @@ none_counted events = omega arith
 same_outcome : (a b : StepOutcome) → Stepped a ≡ Stepped b → a ≡ b
 same_outcome a b is = cc
 
--- what a slice or a round of a store comes to is what it comes to in its world
+-- a slice or a round of a store has the same count and outcome in its world
 module _ (extent : Extent) (w : World) (by id budget n : ℕ) (o : StepOutcome) (comes : Comes extent id budget (store_of w) n o) where
   pub counted_so : n ≡ slice_count w by id (most_events extent w by id budget)
   counted_so = sym (whole_count extent w by id budget ∙ comes.count)

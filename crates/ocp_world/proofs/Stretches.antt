@@ -94,7 +94,7 @@ no_traces_of id (Called call) r off = ap (λ b. traces_if b id (Called call) r) 
 no_traces_of id Ended r off = ap (λ b. traces_if b id Ended r) off
 no_traces_of id (Faulted number) r off = ap (λ b. traces_if b id (Faulted number) r) off
 
--- what an event of a procedure leaves that is not traced
+-- what an event leaves of a procedure that is not traced
 record IsUntraced (id : ℕ) (m : Records) (e : Effect) : Type 0 where
   pub none : traces_by e m ≡ []
   pub still : is_traced (get (records_by e m) id) ≡ false

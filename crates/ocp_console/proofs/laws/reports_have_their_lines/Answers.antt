@@ -7,7 +7,7 @@ use Rattle.ocp_reports.specs.Packets.{IsTelemetryPacket}
 use Rattle.ocp_console.specs.Texts.{HasLine, line_of}
 use Rattle.ocp_console.proofs.laws.reports_have_their_lines.Goals as goal
 
--- what stands under an Ok
+-- the value of an Ok
 said_by : (r : Result Telemetry TmFault) → IsOk r → (tm : Telemetry) × (r ≡ Ok tm)
 said_by (Ok tm) is = (tm, refl)
 said_by (Err fault) is = absurd (cc is)

@@ -1,4 +1,4 @@
--- Any thread may give a block back where it may to the inner allocator.
+-- Any thread may give a block back if it may give it to the inner allocator.
 use mir.Syntax.{Dict}
 use denote.RattleType.{RattleType}
 use denote.Param.Send.{Frees}

@@ -1,4 +1,4 @@
--- It asks the handle, and refuses where there is none. Assumes `Logic`.
+-- It asks the handle, and refuses if there is none. Assumes `Logic`.
 use mathlib.Core.Path.{◌≡◌, refl}
 use mathlib.Core.Bool.{true, false}
 use Prim.Native.Nat.{ℕ, ◌<◌, ◌^◌}
