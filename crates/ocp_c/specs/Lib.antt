@@ -2,6 +2,7 @@ pub mod Held
 pub mod Statuses
 pub mod Calls
 pub mod Opening
+pub mod Sizes
 pub mod Packets
 pub mod Replies
 pub mod Reading

@@ -27,6 +27,7 @@ mod outcome;
 mod procedure;
 mod reading;
 mod record;
+mod size;
 mod status;
 
 pub use handle::Handle;
@@ -44,7 +45,7 @@ use std::alloc::Global;
 pub(crate) const SEAT: u16 = 0;
 
 /// The version of the interface: the major one in the upper 16 bits, the minor one in the lower.
-pub const VERSION: u32 = 0x0001_0000;
+pub const VERSION: u32 = 0x0001_0001;
 
 /// The version of the interface that the library has.
 #[unsafe(no_mangle)]

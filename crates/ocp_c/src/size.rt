@@ -1,0 +1,71 @@
+//! How much memory an open takes.
+
+ghost use Rattle.std.specs.Prelude.{◌≡◌, ◌≤◌, Ok, Err};
+ghost use Rattle.core.specs.Int.{next_multiple_of};
+ghost use Rattle.ocp_flight.specs.Flown.{Flown};
+ghost use Rattle.ocp_c.specs.declared.status.Status.{Status as Refusal};
+ghost use Rattle.ocp_c.specs.Opening.{opening};
+ghost use Rattle.ocp_c.specs.Sizes.{sum_of_pieces};
+
+use ocp_flight::MAX_OCTETS;
+use ocp_profile::{MAX_CAPACITY, MAX_POOL_WORDS};
+
+// 16 records of procedures, and 16 executions that wait for a load.
+const PROCEDURES: usize = 16 * 816 + 16 * 584;
+
+// The room for a program: its octets, and 2,049 operations of 8 octets.
+const PROGRAM: usize = 16_384 + 16_400;
+
+// The memory of a machine: stack, arguments, work.
+const MACHINE: usize = 4_096 + 256 + 4_096;
+
+// 2,048 lines, in which a load reads its image.
+const LINES: usize = 2_048 * 24;
+
+// 256 trace records.
+const TRACES: usize = 256 * 112;
+
+// The reports of a call, and the lengths of 64 of them.
+const REPORTS: usize = 1_600 + 64 * 2;
+
+// What the handle points to.
+const ENGINE: usize = 1_856;
+
+/// The octets of the pieces that an open takes with any numbers: 87 of its 90.
+pub const FIXED: usize =
+    PROCEDURES + 16 * (PROGRAM + MACHINE) + LINES + TRACES + REPORTS + ENGINE;
+
+// A number of octets, rounded up to a multiple of 16.
+fn rounded(octets: usize) -> usize
+    requires { octets ≤ 2_000_000_000 }
+    ensures value { result ≡ next_multiple_of octets 16 }
+    ensures few { result ≤ 2_000_000_016 }
+{
+    octets.next_multiple_of(16)
+}
+
+/// The octets that an open takes of a block whose pieces begin at multiples of 16, or 0 if it
+/// refuses these numbers.
+#[unsafe(no_mangle)]
+#[tactic(auto, unfolding(crate::specs::Opening::opening))]
+pub extern "C" fn ocp_size(profile: u32, pool_words: u32, entries: u32, octets: u32) -> usize
+    ensures refused { (why : Refusal) → opening profile 0 pool_words entries octets ≡ Err why →
+        result ≡ 0 }
+    ensures size { (flown : Flown) → opening profile 0 pool_words entries octets ≡ Ok flown →
+        result ≡ sum_of_pieces pool_words entries octets }
+{
+    if !matches!(profile, 1 | 2)
+        || pool_words < 1
+        || pool_words > u32::from(MAX_POOL_WORDS)
+        || entries < 1
+        || entries > MAX_CAPACITY
+        || octets < 1
+        || octets > MAX_OCTETS
+    {
+        return 0;
+    }
+    FIXED
+        + rounded(8 * pool_words as usize)
+        + rounded(4 * entries as usize)
+        + rounded(octets as usize)
+}
