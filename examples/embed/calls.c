@@ -1,5 +1,6 @@
-/* Each call of the library with wrong arguments, and with each growth of memory refused in turn: it gives the status that
- * the header names, and nothing else is changed. This file has the heap functions itself, so it is linked with no other. */
+/* Each call of the library with wrong arguments, and ocp_open with each of its pieces of memory refused in turn: it gives the
+ * status that the header names, and nothing else is changed. No call but ocp_open and ocp_close may call the heap. This file has
+ * the heap functions itself, so it is linked with no other. */
 #include "error_control.h"
 #include "fixed_heap.h"
 #include "ocp_engine.h"
@@ -9,11 +10,13 @@
 #include <stdlib.h>
 #include <string.h>
 
-/* ---- a heap that refuses one growth */
+/* ---- a heap that refuses one piece, and is called in ocp_open and ocp_close alone */
 
-static size_t growths;             /* how many there were */
-static size_t asked;               /* the octets of all of them */
+static size_t pieces;              /* how many were asked for */
+static size_t asked;               /* their octets, each rounded up to a multiple of 16 */
 static size_t refused = SIZE_MAX;  /* the one that is refused, from 0 on */
+static bool may_call;
+static size_t wrong_calls;
 
 static struct fixed_heap_answer answer_of(void *piece)
 {
@@ -23,20 +26,32 @@ static struct fixed_heap_answer answer_of(void *piece)
 
 struct fixed_heap_answer rattle_alloc(size_t octets, size_t align)
 {
-    asked += octets;
-    return answer_of(growths++ == refused ? NULL : malloc(octets == 0 ? align : octets));
+    (void)align;
+    wrong_calls += !may_call;
+    asked += (octets + 15) / 16 * 16;
+    return answer_of(pieces++ == refused ? NULL : malloc(octets));
 }
 
 struct fixed_heap_answer rattle_realloc(void *piece, size_t kept, size_t octets, size_t align)
 {
     (void)kept;
-    return answer_of(growths++ == refused ? NULL : realloc(piece, octets == 0 ? align : octets));
+    (void)align;
+    wrong_calls++;
+    return answer_of(realloc(piece, octets));
 }
 
 void rattle_dealloc(void *piece)
 {
+    wrong_calls += !may_call;
     free(piece);
 }
+
+/* The two calls that may call the heap. */
+static uint32_t status_of_heap_call;
+
+#define WITH_HEAP(call) (may_call = true, status_of_heap_call = call, may_call = false, status_of_heap_call)
+#define ocp_open(...) WITH_HEAP((ocp_open)(__VA_ARGS__))
+#define ocp_close(...) WITH_HEAP((ocp_close)(__VA_ARGS__))
 
 /* ---- what is wanted */
 
@@ -57,7 +72,7 @@ static void want(int line, const char *call, uint32_t wanted, uint32_t given)
 /* ---- packets */
 
 enum { APID = 291, LOAD = 1, UNLOAD = 2, ACTIVATE = 3, STOP = 4, SUSPEND = 5, RESUME = 6, STATUS = 8, LONGEST = 65542, POOL_WORDS = 16,
-       OCTETS = 100000 /* of most journals */, MOST_OCTETS = 1073741824, STEPS_ENTRY = 9, PUT_WORD_ENTRY = 13 };
+       OCTETS = 100000 /* of most journals */, MOST_OCTETS = 1073741824, STEPS_ENTRY = 9, PUT_WORD_ENTRY = 13, PIECES = 90 /* of ocp_open */ };
 
 static uint8_t packet[LONGEST + 1];
 static uint8_t reports[OCP_DRAIN_REPORTS];
@@ -157,26 +172,6 @@ static uint32_t request(uint8_t subtype, const uint8_t *data, size_t length)
         HOLDS(is_same(&before, &after) && written == 77 && reports[0] == 77); \
     } while (false)
 
-/* A call with each growth refused in turn, until it asks for no further one. */
-static void each_growth(const char *name, uint32_t (*call)(void))
-{
-    for (size_t number = 0; number < 1000; number++) {
-        struct seen before = see();
-        growths = 0;
-        refused = number;
-        uint32_t status = call();
-        refused = SIZE_MAX;
-        if (status == OCP_DONE) {
-            want(__LINE__, name, true, growths <= number && number > 0);
-            return;
-        }
-        struct seen after = see();
-        want(__LINE__, name, OCP_MEMORY, status);
-        HOLDS(is_same(&before, &after));
-    }
-    want(__LINE__, name, OCP_DONE, OCP_MEMORY);
-}
-
 /* ---- the tests */
 
 /* Every call but ocp_open on a handle that is not open. What the pointers point to stays. */
@@ -246,30 +241,52 @@ static void numbers(void)
     WANT(OCP_DONE, ocp_open(&engine, 1, 0, 1, 1, MOST_OCTETS));
     WANT(OCP_DONE, ocp_close(&engine));
     WANT(OCP_NOT_OPEN, ocp_close(&engine));
-    each_growth("ocp_open", open_small);
-    WANT(OCP_DONE, ocp_close(&engine));
 }
 
-/* The octets that ocp_open asks for: docs/EMBED.md, "Memory". */
+/* ocp_open with each of its pieces refused in turn: what it took is given back, and the handle stays closed. */
+static void each_piece(void)
+{
+    size_t of_open = 0;
+    for (size_t number = 0; number <= of_open; number++) {
+        pieces = 0;
+        refused = number;
+        uint32_t status = open_small();
+        refused = SIZE_MAX;
+        of_open = pieces;
+        WANT(number < of_open ? OCP_MEMORY : OCP_DONE, status);
+        WANT(number < of_open ? OCP_NOT_OPEN : OCP_DONE, ocp_close(&engine));
+    }
+    HOLDS(of_open == PIECES);
+}
+
+/* What ocp_size says is what ocp_open asks for: nothing if it is refused. */
 static void size_of(int line, uint32_t profile, uint32_t pool_words, uint32_t entries, uint32_t octets)
 {
-    asked = growths = 0;
-    want(line, "ocp_open", OCP_DONE, ocp_open(&engine, profile, APID, pool_words, entries, octets));
-    want(line, "the octets", true, asked == 44616 + 8 * (size_t)pool_words + 4 * (size_t)entries + octets);
-    want(line, "the pieces", 8, (uint32_t)growths);
-    want(line, "ocp_close", OCP_DONE, ocp_close(&engine));
+    size_t size = ocp_size(profile, pool_words, entries, octets);
+    asked = pieces = 0;
+    uint32_t status = ocp_open(&engine, profile, APID, pool_words, entries, octets);
+    bool is_open = status == OCP_DONE;
+    want(line, "ocp_size", true, size == asked && (size != 0) == is_open);
+    want(line, "the pieces", is_open ? PIECES : 0, (uint32_t)pieces);
+    want(line, "ocp_open", false, status == OCP_MEMORY);
+    want(line, "ocp_close", is_open ? OCP_DONE : OCP_NOT_OPEN, ocp_close(&engine));
 }
 
+/* Numbers at both ends of their ranges, beside them, and around multiples of 16 octets. */
 static void sizes(void)
 {
-    for (uint32_t profile = 1; profile <= 2; profile++) {
-        size_of(__LINE__, profile, 1, 1, 1);
-        size_of(__LINE__, profile, 256, 1, 1);
-        size_of(__LINE__, profile, 3, 1000000, 7);
-        size_of(__LINE__, profile, 16, 1000, 65536);
-        size_of(__LINE__, profile, 16, 17, 19);
-        size_of(__LINE__, profile, 16, 1, MOST_OCTETS);
-    }
+    static const uint32_t words[] = {0, 1, 2, 3, 16, 17, 255, 256, 257, UINT32_MAX};
+    static const uint32_t entries[] = {0, 1, 3, 4, 5, 1000, 999999, 1000000, 1000001, 0x80000000, UINT32_MAX};
+    static const uint32_t octets[] = {0, 1, 15, 16, 17, 65549, MOST_OCTETS, MOST_OCTETS + 1, UINT32_MAX};
+    for (uint32_t profile = 0; profile <= 3; profile++)
+        for (size_t one = 0; one < sizeof words / sizeof *words; one++)
+            for (size_t two = 0; two < sizeof entries / sizeof *entries; two++)
+                for (size_t three = 0; three < sizeof octets / sizeof *octets; three++)
+                    if (octets[three] != MOST_OCTETS || one == two)
+                        size_of(__LINE__, profile, words[one], entries[two], octets[three]);
+    for (uint32_t number = 1; number <= 200; number++)
+        size_of(__LINE__, 1 + number % 2, 1 + number * 7919 % 256, 1 + number * 104729 % 1000000, 1 + number * 1299709 % 1000000);
+    HOLDS(ocp_size(1, 1, 1, 1) == 763568 && ocp_size(2, 256, 1000000, MOST_OCTETS) == 1078507392);
 }
 
 static uint32_t load(void)
@@ -412,13 +429,6 @@ static void pool_words(void)
     static const uint64_t none[] = {POOL_WORDS, POOL_WORDS + 1, 255, 256, 65536, 65539, 0x100000000, 0x100000003, UINT64_MAX};
     for (size_t at = 0; at < sizeof none / sizeof *none; at++)
         REFUSED(OCP_NO_WORD, ocp_put_word(&engine, none[at], 1));
-
-    /* no memory is asked for */
-    growths = 0;
-    refused = 0;
-    PUT(0, 5);
-    refused = SIZE_MAX;
-    HOLDS(growths == 0);
 
     /* a procedure reads what was written last, and a word that is not there is its fault 4 */
     WANT(OCP_DONE, request(LOAD, load_reader, sizeof load_reader));
@@ -823,16 +833,6 @@ static void trace_records(void)
 
 /* ---- memory */
 
-/* A call that asks for no memory. */
-static void no_growth(const char *name, uint32_t (*call)(void))
-{
-    growths = 0;
-    refused = 0;
-    want(__LINE__, name, OCP_DONE, call());
-    want(__LINE__, name, 0, (uint32_t)growths);
-    refused = SIZE_MAX;
-}
-
 static uint32_t unload(void)
 {
     return request(UNLOAD, id_7, sizeof id_7);
@@ -845,26 +845,40 @@ static uint32_t slice(void)
     return ocp_slice(&engine, 7, 1000, &count, &outcome);
 }
 
-static uint32_t release_all(void)
+/* Loads or unloads procedures 8 to 22, upwards or downwards, the loads with the longest image. */
+static void fifteen(uint8_t subtype, bool upwards)
 {
-    return ocp_release(&engine, 20 - see().room);
+    static uint8_t data[4 + 2048 * 8] = {0, 0, 2048 * 8 >> 8, 0};
+    struct ocp_view view;
+    uint64_t registers[11];
+    for (int slot = 0; slot < 2048; slot++)
+        data[4 + slot * 8] = slot < 2047 ? 0x05 : 0x95;
+    for (uint8_t number = 0; number < 15; number++) {
+        data[1] = upwards ? 8 + number : 22 - number;
+        WANT(OCP_DONE, request(subtype, data, subtype == LOAD ? sizeof data : 2));
+        WANT(subtype == LOAD ? OCP_DONE : OCP_NOT_LOADED, ocp_view(&engine, data[1], &view, registers, 11));
+    }
 }
 
-/* After ocp_open only loads ask for memory, each growth refused in turn. */
+/* Sixteen procedures are loaded and unloaded in turns, one of them is run, and the heap is not called. */
 static void memory(void)
 {
-    WANT(OCP_DONE, ocp_open(&engine, 1, APID, POOL_WORDS, 20, OCTETS));
-    for (int turn = 0; turn < 20; turn++) {
-        each_growth("load", turn % 2 == 0 ? load : load_rounds_7);
+    WANT(OCP_DONE, ocp_open(&engine, 1, APID, POOL_WORDS, 100, 300000));
+    wrong_calls = 0;
+    for (int turn = 0; turn < 8; turn++) {
+        fifteen(LOAD, turn % 2 == 0);
+        WANT(OCP_DONE, turn % 2 == 0 ? load() : load_rounds_7());
         HOLDS(see().view_status == OCP_DONE);
-        no_growth("activate", activate);
-        no_growth("stop", stop);
-        no_growth("slice", slice);
-        no_growth("drain", drain);
-        no_growth("unload", unload);
+        WANT(OCP_DONE, activate());
+        WANT(OCP_DONE, stop());
+        WANT(OCP_DONE, slice());
+        WANT(OCP_DONE, drain());
+        WANT(OCP_DONE, unload());
         HOLDS(see().view_status == OCP_NOT_LOADED);
-        no_growth("release", release_all);
+        fifteen(UNLOAD, turn % 4 < 2);
+        WANT(OCP_DONE, ocp_release(&engine, 100 - see().room));
     }
+    HOLDS(wrong_calls == 0);
     WANT(OCP_DONE, ocp_close(&engine));
 }
 
@@ -873,6 +887,7 @@ int main(void)
     closed_handle();
     version();
     numbers();
+    each_piece();
     sizes();
     packets();
     procedures();
@@ -884,6 +899,7 @@ int main(void)
     releases();
     trace_records();
     memory();
+    HOLDS(wrong_calls == 0);
     printf("calls: %d answers, %d faults\n", tried, faults);
     return faults != 0;
 }

@@ -167,14 +167,9 @@ static void take(size_t length)
         hand_down();
         status = ocp_request(&engine, cycle, input, length, reports, sizeof reports, &written);
     }
-    switch (status) {
-    case OCP_DONE:
+    if (status == OCP_DONE) {
         send_reports(written);
-        break;
-    case OCP_MEMORY:
-        fprintf(stderr, "flight: cycle %lu: no memory for a request\n", (unsigned long)cycle);
-        break;
-    default: /* discarded: what comes after it is read */
+    } else { /* discarded: what comes after it is read */
         broken++;
         fprintf(stderr, "flight: cycle %lu: a packet is discarded, status %lu\n", (unsigned long)cycle, (unsigned long)status);
     }
@@ -284,7 +279,7 @@ int main(int words, char **word)
         fprintf(stderr, "usage: flight [MILLISECONDS [JOURNAL]] < TELECOMMANDS > REPORTS\n");
         return 2;
     }
-    if (ocp_version() >> 16 != OCP_VERSION >> 16 || open_engine(&engine, &parameters) != OCP_DONE)
+    if (ocp_version() < OCP_VERSION || ocp_version() >> 16 != OCP_VERSION >> 16 || open_engine(&engine, &parameters) != OCP_DONE)
         end("no engine of this version, or no memory for it");
     if (words == 3 && !begin_journal(word[2], &parameters))
         end("the journal can't be written");

@@ -1,5 +1,5 @@
 /* The least that a program does with an engine: open, load, activate, slice, view. The procedure is that of the front page;
- * it ends with 7 in R0. */
+ * it ends with 7 in R0. The program also prints how many octets of memory the engine takes. */
 #include "ocp_engine.h"
 
 #include <inttypes.h>
@@ -17,6 +17,7 @@ int main(void)
     struct ocp_engine engine = OCP_CLOSED;
     uint8_t reports[OCP_REQUEST_REPORTS];
     size_t written;
+    printf("%zu octets of memory\n", ocp_size(1, 16, 1000, 65536));
     if (ocp_open(&engine, 1, 291, 16, 1000, 65536) != OCP_DONE)
         return 1;
     if (ocp_request(&engine, 0, load, sizeof load, reports, sizeof reports, &written) != OCP_DONE)

@@ -22,9 +22,8 @@ static uint32_t seconds;
 static const char *name_of(uint32_t status)
 {
     static const char *const names[] = {
-        [OCP_MEMORY] = "Memory", [OCP_JOURNAL_FULL] = "JournalFull", [OCP_DISCARDED_SHORT] = "Short",
-        [OCP_DISCARDED_VERSION] = "Version", [OCP_DISCARDED_LENGTH] = "Length",
-        [OCP_DISCARDED_NOT_TELECOMMAND] = "NotTelecommand", [OCP_DISCARDED_OTHER_APID] = "OtherApid",
+        [OCP_JOURNAL_FULL] = "JournalFull", [OCP_DISCARDED_SHORT] = "Short", [OCP_DISCARDED_VERSION] = "Version",
+        [OCP_DISCARDED_LENGTH] = "Length", [OCP_DISCARDED_NOT_TELECOMMAND] = "NotTelecommand", [OCP_DISCARDED_OTHER_APID] = "OtherApid",
         [OCP_NOTHING_DUE] = "NothingDue", [OCP_NOT_LOADED] = "NotLoaded", [OCP_NOT_RUNNING] = "NotRunning",
         [OCP_NOT_AN_INSTRUCTION] = "NotAnInstruction", [OCP_ALREADY_SET] = "AlreadySet",
         [OCP_BREAKS_FULL] = "BreaksFull", [OCP_NOT_SET] = "NotSet", [OCP_OUTSIDE_MEMORY] = "OutsideMemory",

@@ -1,7 +1,7 @@
 /* An engine for on-board control procedures: the library libocp_c.a for C and C++.
  *
  * Link libocp_c.a and one heap: liblibc_c.a of the toolchain takes memory from malloc, fixed_heap.c takes it from one block
- * of the program.
+ * of the program. Only ocp_open asks for memory, and only ocp_open and ocp_close give it back.
  *
  * Rules for all calls:
  * - A call returns a status: OCP_DONE or a refusal. A refused call changes neither the engine nor what its pointers point to;
@@ -10,7 +10,8 @@
  *   other argument.
  * - One thread at a time uses a handle, one call at a time, never from a signal handler. The program does not copy a handle,
  *   and neither reads nor writes its field.
- * - Two threads may each use a handle of their own if the heap functions allow it: malloc does, fixed_heap.c does not.
+ * - Two threads may each use a handle of their own. To open and close handles they need heap functions that allow two threads:
+ *   malloc does, fixed_heap.c does not.
  * - Journal entries of this library have seat 0.
  * - Numbers in packets and entries are big-endian.
  */
@@ -47,7 +48,7 @@ extern "C" {
  * becomes 0, with a change by which a program for the older header may go wrong: a call, a status or a field is gone, has
  * another type, number or place, or means something else. The minor version grows by 1 if something is only added: the
  * program then works with the newer library. */
-#define OCP_VERSION ((uint32_t)0x00010000)
+#define OCP_VERSION ((uint32_t)0x00010001)
 
 /* The version of the library. A program may use it if
  * `ocp_version() >= OCP_VERSION && ocp_version() >> 16 == OCP_VERSION >> 16`. Needs no handle, and is never refused. */
@@ -69,7 +70,7 @@ enum {
     OCP_BAD_CAPACITY = 6, /* the journal's entries; OCP_BAD_OCTETS follows below */
 
     /* room */
-    OCP_MEMORY = 7,           /* out of memory */
+    OCP_MEMORY = 7,           /* out of memory; only ocp_open returns it */
     OCP_BUFFER_TOO_SMALL = 8, /* the buffer is shorter than the call requires */
     OCP_JOURNAL_FULL = 9,     /* the journal has no room for this entry, by its entries or its octets: release some */
 
@@ -120,12 +121,18 @@ struct ocp_engine {
 #define OCP_CLOSED {0}
 
 /* Opens an engine without procedures: profile 1 or 2, application process identifier 0 to 2,046, 1 to 256 pool words (all 0),
- * and a journal that holds 1 to 1,000,000 entries of together 1 to 1,073,741,824 octets. Allocates the whole journal.
+ * and a journal that holds 1 to 1,000,000 entries of together 1 to 1,073,741,824 octets. Takes all memory of the engine: room for
+ * 16 procedures of 2,048 slots, and for the whole journal.
  * Refusals: OCP_ALREADY_OPEN, OCP_BAD_PROFILE, OCP_BAD_APID, OCP_BAD_POOL_WORDS, OCP_BAD_CAPACITY, OCP_BAD_OCTETS, OCP_MEMORY. */
 uint32_t ocp_open(struct ocp_engine *engine, uint32_t profile, uint32_t apid, uint32_t pool_words, uint32_t entries,
                   uint32_t octets);
 
-/* Frees all memory of the engine and closes the handle.
+/* How many octets ocp_open takes with these numbers of a block whose pieces begin at multiples of 16, as those of fixed_heap.c
+ * do; 0 if ocp_open refuses one of them. Needs no handle. Octets:
+ *   763,520 + 8 * pool_words + 4 * entries + octets, each of these three rounded up to a multiple of 16 */
+size_t ocp_size(uint32_t profile, uint32_t pool_words, uint32_t entries, uint32_t octets);
+
+/* Gives back all memory of the engine and closes the handle.
  * Refusal: OCP_NOT_OPEN. */
 uint32_t ocp_close(struct ocp_engine *engine);
 
@@ -141,19 +148,18 @@ uint32_t ocp_close(struct ocp_engine *engine);
  * none). The rest of the buffer stays as it was.
  * A request that is rejected or that fails returns OCP_DONE: its reports say so.
  * Refusals: OCP_NOT_OPEN, OCP_BUFFER_TOO_SMALL (under OCP_REQUEST_REPORTS), the five OCP_DISCARDED_.. in their order,
- * OCP_JOURNAL_FULL, OCP_MEMORY (a load alone asks for memory). */
+ * OCP_JOURNAL_FULL. */
 uint32_t ocp_request(struct ocp_engine *engine, uint32_t time, const uint8_t *packet, size_t packet_length,
                      uint8_t *reports, size_t reports_length, size_t *written);
 
 /* Reports all completions that wait, the oldest first, at a time in whole seconds. Writes the reports as ocp_request does.
- * Asks for no memory.
  * Refusals: OCP_NOT_OPEN, OCP_BUFFER_TOO_SMALL (under OCP_DRAIN_REPORTS), OCP_NOTHING_DUE, OCP_JOURNAL_FULL. */
 uint32_t ocp_drain(struct ocp_engine *engine, uint32_t time, uint8_t *reports, size_t reports_length, size_t *written);
 
 /* ---- inputs */
 
 /* Sets the pool word at an index to a value; procedures and ocp_pool_word read it. Nothing else of the engine changes. It is one
- * event and one journal entry, and asks for no memory.
+ * event and one journal entry.
  * Refusals: OCP_NOT_OPEN, OCP_NO_WORD, OCP_JOURNAL_FULL. */
 uint32_t ocp_put_word(struct ocp_engine *engine, uint64_t index, uint64_t value);
 

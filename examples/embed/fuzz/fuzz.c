@@ -4,8 +4,9 @@
  *
  * An input is a list of calls: an octet says which, the next ones are its numbers. The library is not instrumented, so an input
  * counts as new when a call answers or a procedure is as none before. Requests are raw octets, or get a header and
- * their error control here. Growths of memory are refused where the input says so. What is asked of the library:
+ * their error control here. A piece of memory of ocp_open is refused if the input says so. What is asked of the library:
  *
+ * - it calls the heap in ocp_open and ocp_close alone;
  * - it stays within its arguments and its heap, which the sanitizer sees;
  * - a status is one that the call lists, and a refusal changes neither events, room, view nor pool;
  * - the entries, given to a second engine before they are released, give the same reports, events, views and pool. */
@@ -18,11 +19,12 @@
 #include <stdlib.h>
 #include <string.h>
 
-enum { APID = 291, POOL_WORDS = 4, PROCEDURES = 4, REPORTS = 1 << 20 };
+enum { APID = 291, POOL_WORDS = 4, PROCEDURES = 4, REPORTS = 1 << 20, PIECES = 90 /* of ocp_open */ };
 
-/* ---- a heap that refuses one growth */
+/* ---- a heap that refuses one piece */
 
-static size_t growths, refused = SIZE_MAX;
+static size_t pieces, refused;
+static bool may_call;
 
 static struct fixed_heap_answer answer_of(void *piece)
 {
@@ -32,17 +34,22 @@ static struct fixed_heap_answer answer_of(void *piece)
 
 struct fixed_heap_answer rattle_alloc(size_t octets, size_t align)
 {
-    return answer_of(growths++ == refused ? NULL : malloc(octets == 0 ? align : octets));
+    (void)align;
+    if (!may_call)
+        abort();
+    return answer_of(pieces++ == refused ? NULL : malloc(octets));
 }
 
 struct fixed_heap_answer rattle_realloc(void *piece, size_t kept, size_t octets, size_t align)
 {
-    (void)kept;
-    return answer_of(growths++ == refused ? NULL : realloc(piece, octets == 0 ? align : octets));
+    (void)piece, (void)kept, (void)octets, (void)align;
+    abort();
 }
 
 void rattle_dealloc(void *piece)
 {
+    if (!may_call)
+        abort();
     free(piece);
 }
 
@@ -302,8 +309,7 @@ static uint32_t hand_down(struct ocp_engine *engine, uint64_t count)
 {
     static uint8_t entry[OCP_LONGEST_ENTRY], reports[OCP_DRAIN_REPORTS];
     uint64_t first;
-    size_t length, written, kept = refused;
-    refused = SIZE_MAX;
+    size_t length, written;
     HOLDS(ocp_first_entry(engine, &first) == OCP_DONE);
     for (uint64_t index = first; index < first + count; index++) {
         HOLDS(ocp_entry(engine, index, entry, sizeof entry, &length) == OCP_DONE);
@@ -312,7 +318,6 @@ static uint32_t hand_down(struct ocp_engine *engine, uint64_t count)
         again.length += written;
         HOLDS(ocp_release(&second, 1) == OCP_DONE);
     }
-    refused = kept;
     return ocp_release(engine, count);
 }
 
@@ -428,6 +433,18 @@ static uint32_t call(struct ocp_engine *engine, uint32_t profile)
     }
 }
 
+/* Opens an engine. If a piece is refused, it opens only then. */
+static void begin_engine(struct ocp_engine *engine, uint32_t profile, uint32_t space)
+{
+    may_call = true;
+    pieces = 0;
+    refused = number(1);
+    if (refused < PIECES)
+        HOLDS(ocp_open(engine, profile, APID, POOL_WORDS, capacity, space) == OCP_MEMORY && ocp_close(engine) == OCP_NOT_OPEN);
+    refused = SIZE_MAX;
+    HOLDS(ocp_open(engine, profile, APID, POOL_WORDS, capacity, space) == OCP_DONE);
+}
+
 int LLVMFuzzerTestOneInput(const uint8_t *octets, size_t length)
 {
     static struct seen before, after;
@@ -437,27 +454,24 @@ int LLVMFuzzerTestOneInput(const uint8_t *octets, size_t length)
     flown.length = again.length = 0;
     uint32_t profile = 1 + (number(1) & 1), sizes = number(1) % 8, space = sizes == 1 ? 300 : 100000;
     capacity = sizes == 0 ? 8 : 900;
-    refused = SIZE_MAX;
-    HOLDS(ocp_open(&engine, profile, APID, POOL_WORDS, capacity, space) == OCP_DONE);
+    begin_engine(&engine, profile, space);
     HOLDS(ocp_open(&second, profile, APID, POOL_WORDS, 1, OCP_LONGEST_ENTRY) == OCP_DONE);
+    may_call = false;
     if (number(1) & 1)
         begin_procedure(&engine, profile);
     for (int calls = 0; left > 0 && calls < 890; calls++) {
-        uint32_t refusal = number(1);
-        growths = 0;
-        refused = refusal < 32 ? refusal : SIZE_MAX;
         see(&engine, &before);
         uint32_t which = left > 0 ? *input : 0;
         uint32_t status = call(&engine, profile);
-        HOLDS(status != OCP_MEMORY || refused != SIZE_MAX);
+        HOLDS(status != OCP_MEMORY);
         see(&engine, &after);
         HOLDS(status == OCP_DONE || memcmp(&before, &after, sizeof before) == 0);
         for (int id = 0; id < PROCEDURES; id++)
             tell(3, after.view[id].status * 8 + after.view[id].cause, after.view[id].pending * 8 + after.view[id].depth);
         tell(4, which % 16, status);
     }
-    refused = SIZE_MAX;
     compare_engines(&engine);
+    may_call = true;
     HOLDS(ocp_close(&engine) == OCP_DONE && ocp_close(&second) == OCP_DONE);
     return 0;
 }
