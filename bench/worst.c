@@ -4,11 +4,9 @@
  * the library's alone. `counted` and the functions `outside_..` are in worst_x86_64.S and worst_aarch64.S; the library is linked
  * with its calls of `memcpy` and the others renamed to those. A line for each call that the plan marks:
  *
- *   status instructions stack copied calls-of-memory alloc realloc dealloc asked left most reach
+ *   status instructions stack copied calls-of-memory calls-of-the-heap
  *
- * `instructions` is 0 where the processor does not count them (callgrind does, for x86-64). `asked` is the octets of all pieces
- * that the call asks the heap for, `left` what it leaves taken, `most` what it took in between, `reach` the octets of the block
- * that were ever used. */
+ * `instructions` is 0 if the processor does not count them (callgrind does, for x86-64). */
 #include "ocp_engine.h"
 
 #define memcpy heap_memcpy
@@ -28,9 +26,9 @@ enum { STACK = 16384 / sizeof(uint64_t) };
 
 static const uint64_t PATTERN = 0xa5a5a5a5a5a5a5a5;
 
-/* What one call asks of the functions outside of the library. `asked` is the octets of all pieces, heads with them. */
+/* What one call asks of the functions outside of the library. */
 static struct {
-    size_t copied, calls, alloc, realloc, dealloc, asked;
+    size_t copied, calls, heap_calls;
 } outside;
 
 /* The outside functions' stack lies below that of the call. */
@@ -84,30 +82,21 @@ void *own_memset(void *to, int octet, size_t octets)
     return to;
 }
 
-/* A piece that was asked for, with its head. */
-static struct fixed_heap_answer noted(struct fixed_heap_answer got)
-{
-    if (got.ok)
-        outside.asked += sizeof(struct head) + ((struct head *)got.piece - 1)->octets;
-    return got;
-}
-
 struct fixed_heap_answer own_alloc(size_t octets, size_t align)
 {
-    outside.alloc++;
-    return noted(fixed_alloc(octets, align));
+    outside.heap_calls++;
+    return fixed_alloc(octets, align);
 }
 
 struct fixed_heap_answer own_realloc(void *piece, size_t kept, size_t octets, size_t align)
 {
-    outside.realloc++;
-    struct fixed_heap_answer got = fixed_realloc(piece, kept, octets, align);
-    return got.ok && got.piece != piece ? noted(got) : got;
+    outside.heap_calls++;
+    return fixed_realloc(piece, kept, octets, align);
 }
 
 void own_dealloc(void *piece)
 {
-    outside.dealloc++;
+    outside.heap_calls++;
     fixed_dealloc(piece);
 }
 
@@ -161,7 +150,7 @@ struct step {
 };
 
 enum { END, OPEN, CLOSE, REQUEST, DRAIN, SLICE, STEP, NEXT, SET_BREAK, CLEAR_BREAK, TRACE, MEMORY, VIEW, POOL_WORD, EVENTS, ROOM,
-       ENTRY, NOTHING, BLOCK, PUT_WORD, ROUND, FIRST_ENTRY, RELEASE, TRACE_RECORD, VERSION };
+       ENTRY, NOTHING, PUT_WORD, ROUND, FIRST_ENTRY, RELEASE, TRACE_RECORD, VERSION, SIZE };
 
 enum { ANY = 255 }; /* in place of a status: each is right */
 
@@ -209,6 +198,7 @@ static void words_of(const struct step *step, uint64_t *words)
         [RELEASE] = {WORD(ocp_release), own, step->a},
         [TRACE_RECORD] = {WORD(ocp_trace_record), own, step->a, WORD(&record), WORD(registers), 11},
         [VERSION] = {WORD(ocp_version)},
+        [SIZE] = {WORD(ocp_size), step->a, step->b, step->c, step->d},
         [ENTRY] = {WORD(ocp_entry), own, step->a, WORD(octets), sizeof octets, WORD(&written)},
 #ifdef HAS_PUT_WORD
         [PUT_WORD] = {WORD(ocp_put_word), own, step->a, step->b},
@@ -223,27 +213,11 @@ static void words_of(const struct step *step, uint64_t *words)
         words[at] = all[step->call][at];
 }
 
-/* A new block of this many octets. */
-static void begin_block(size_t size)
-{
-    lowest = (struct head *)block;
-    *lowest = (struct head){size - sizeof *lowest, false};
-    if (size < sizeof block)
-        *(struct head *)(block + size) = (struct head){sizeof block - size - sizeof *lowest, true};
-    in_use = most_in_use = reach = 0;
-}
-
 static bool make(const struct step *step)
 {
     uint64_t words[8];
-    if (step->call == BLOCK) {
-        begin_block(step->a == 0 ? sizeof block : step->a);
-        return true;
-    }
     words_of(step, words);
-    size_t before = in_use;
-    most_in_use = in_use;
-    outside.copied = outside.calls = outside.alloc = outside.realloc = outside.dealloc = outside.asked = 0;
+    outside.copied = outside.calls = outside.heap_calls = 0;
     uint64_t instructions = step->marked ? counted(words) : uncounted(words);
     uint32_t status = (uint32_t)words[0];
     if (step->marked) {
@@ -253,8 +227,7 @@ static bool make(const struct step *step)
         for (size_t at = untouched; at < STACK; at++)
             stacks[STACK + at] = PATTERN;
         const uint64_t said[] = {status, instructions, (STACK - untouched) * sizeof *stacks, outside.copied, outside.calls,
-                                 outside.alloc, outside.realloc, outside.dealloc, outside.asked, in_use - before,
-                                 most_in_use - before, reach};
+                                 outside.heap_calls};
         for (size_t at = 0; at < sizeof said / sizeof *said; at++)
             put_number(said[at]);
         end_line();
