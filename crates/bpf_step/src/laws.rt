@@ -69,7 +69,7 @@ pub fn machines_keep_their_addresses()
     stores_keep_the_addresses();
 }
 
-/// Nor does a run of instructions that a machine executes by itself.
+/// A run of instructions that a machine executes by itself does not change its addresses.
 pub fn runs_keep_the_addresses()
     ensures { (image breakpoints : List ℕ) (pass : Bool) (s t : State) (n : ℕ) →
         local_run image breakpoints pass s n ≡ Some t → HasAddressesOf s t }

@@ -30,7 +30,7 @@ IsNameless s = s.name ≡ None
 abbrev pub HasWidth : Statement → Type 0
 HasWidth s = s.unknown_width ≡ None
 
--- a number is in place of a width, and no extension of the class has it
+-- the number of a width: that of the extension, or one that no extension of the class has
 abbrev pub IsExtended : Extension → Option ℕ → ℕ → Type 0
 IsExtended extension None n = n ≡ extension_bits extension
 IsExtended extension (Some unknown) n =
@@ -38,7 +38,7 @@ IsExtended extension (Some unknown) n =
     × ((other : Extension) → extension_width other ≡ extension_width extension →
     extension_bits other ≢ n)
 
--- the same for a byte order instruction
+-- the number of a width: that of the byte order instruction, or one that none has
 abbrev pub IsSwapWidth : SwapWidth → Option ℕ → ℕ → Type 0
 IsSwapWidth width None n = n ≡ swap_width_bits width
 IsSwapWidth width (Some unknown) n =

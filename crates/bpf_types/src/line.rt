@@ -235,7 +235,7 @@ pub enum Line {
     Jump {
         distance: i16,
     },
-    /// The same by the imm field.
+    /// A jump that is always taken, by the imm field.
     LongJump {
         distance: i32,
     },

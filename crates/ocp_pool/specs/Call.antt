@@ -90,7 +90,7 @@ pool_with (Add index value) pool = slice_set pool index ((slice_index pool index
 pool_with (CompareSet index expected value) pool =
     if slice_index pool index == expected then slice_set pool index value else pool
 
--- and after one, if there is one
+-- the pool after an operation, if there is one
 abbrev pub pool_after_operation : Option PoolOperation → List ℕ → List ℕ
 pool_after_operation (Some operation) pool = pool_with operation pool
 pool_after_operation None pool = pool

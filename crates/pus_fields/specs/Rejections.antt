@@ -42,7 +42,7 @@ IsRejected Pec least octets header field = IsWhole least header field × (¬ Has
 IsRejected PusVersion least octets header field =
     IsWhole least header field × HasErrorControl octets × (pus_version field ≢ 2)
 
--- it is rejected for none of the reasons
+-- the packet is rejected for none of the reasons
 pub record IsSound (least : ℕ) (octets : List ℕ) (header : Primary) (field : List ℕ) : Type 0 where
   pub whole : IsWhole least header field
   pub checked : HasErrorControl octets

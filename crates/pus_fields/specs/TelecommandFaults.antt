@@ -1,4 +1,4 @@
--- What can be wrong with octets that are to be a telecommand, in order: the first fault is the
+-- What can be wrong with octets that should be a telecommand, in order: the first fault is the
 -- answer.
 use Rattle.std.specs.Prelude.{◌≡◌, ◌≢◌, ℕ, ◌-◌, ◌%◌, ◌^◌, ◌==◌, not, true, false, List, length, take, drop, slice_index, slice_range, if◌then◌else◌, Result, Ok, Err, Option, Some, None}
 use Rattle.byteorder.specs.Endian.{big_number}

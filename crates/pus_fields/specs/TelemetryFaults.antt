@@ -1,4 +1,4 @@
--- What can be wrong with octets that are to be telemetry, in order: the first fault is the answer.
+-- What can be wrong with octets that should be telemetry, in order: the first fault is the answer.
 use Rattle.std.specs.Prelude.{◌≡◌, ◌≢◌, ℕ, ◌-◌, ◌%◌, ◌^◌, ◌==◌, ◌⊎◌, ◌&&◌, true, false, List, length, drop, slice_index, slice_range, if◌then◌else◌, Result, Ok, Err, Option, Some, None}
 use Rattle.byteorder.specs.Endian.{big_number}
 use Rattle.space_packet.specs.declared.primary.Primary.{Primary}

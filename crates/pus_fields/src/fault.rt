@@ -38,7 +38,7 @@ pub enum Rejection {
     PusVersion,
 }
 
-/// The first thing that is wrong with octets that are to be a telecommand: each discard comes
+/// The first thing that is wrong with octets that should be a telecommand: each discard comes
 /// before each rejection.
 #[derive(Clone, Copy, Debug, PartialEq, Eq)]
 pub enum TcFault {
@@ -48,7 +48,7 @@ pub enum TcFault {
     Rejected(Rejection, [u8; 4]),
 }
 
-/// The first thing that is wrong with octets that are to be telemetry, in this order.
+/// The first thing that is wrong with octets that should be telemetry, in this order.
 #[derive(Clone, Copy, Debug, PartialEq, Eq)]
 pub enum TmFault {
     /// There are fewer than 7 octets.

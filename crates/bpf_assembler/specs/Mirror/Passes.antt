@@ -68,7 +68,7 @@ pub record IsCollected (text : List ℕ) (m : BTreeMap (Bor (List ℕ)) ℕ)
   pub labels : AreLabels m lines
   pub rows : map entry rs ≡ entries_of 1 0 lines
 
--- or memory was refused, or the text has a first line at fault
+-- why the first pass failed: memory was refused, or the text has a first line at fault
 abbrev pub IsFaultOfLines : List ℕ → AsmFault → Type 0
 IsFaultOfLines text Memory = Unit {0}
 IsFaultOfLines text (At n y) = HasLineFault text n y
