@@ -40,7 +40,8 @@ fn instructions<S: Store, A: Allocator>(
     ensures world { IsWorld (world_of (S.log store.new)) state.new }
     ensures within { result.count ≤ budget }
 {
-    if let Some(last) = state.refusal(id) {
+    let place = state.table.place(id);
+    if let Some(last) = state.refusal(id, place) {
         return Round {
             count: 0,
             last,
@@ -54,7 +55,7 @@ fn instructions<S: Store, A: Allocator>(
             step: None,
         };
     }
-    let round = state.instructions(id, budget, extent);
+    let round = state.instructions(id, place, budget, extent);
     store.push_steps(by, id, round.count, round.last);
     round
 }

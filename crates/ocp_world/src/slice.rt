@@ -5,23 +5,23 @@ ghost use Rattle.ocp_world.specs.Clauses.{IsWorld, Step, World, after, get, is_a
 ghost use Rattle.ocp_table.specs.declared.answers.Extent.TheVariants as extents;
 
 use crate::{Extent, Round, State};
-use ocp_table::StepOutcome;
+use ocp_table::{Place, StepOutcome};
 use std::alloc::Allocator;
 
 impl<A: Allocator> State<A> {
     // Whether a slice goes on after this outcome.
-    fn goes_on(&self, id: u16, outcome: StepOutcome) -> bool
+    fn goes_on(&self, id: u16, place: Place, outcome: StepOutcome) -> bool
         ensures goes { (w : World) → IsWorld w self.now →
             result ≡ (if is_on outcome then is_running (get w.records id) else false) }
         ensures accepted { (w : World) (by : ℕ) → IsWorld w self.now → result ≡ true →
             is_accepted (after w (Step by id)).answer ≡ true }
     {
-        outcome.is_on() && self.table.refusal(id).is_none()
+        outcome.is_on() && self.table.refusal(id, place).is_none()
     }
 
-    /// Does instructions of one procedure until the budget is used or they go no further. If the
-    /// first of them is an accepted event, each of them is.
-    pub fn instructions(&mut self, id: u16, budget: u32, extent: Extent) -> Round
+    /// Does instructions of one procedure, by its place, until the budget is used or they go no
+    /// further. If the first of them is an accepted event, each of them is.
+    pub fn instructions(&mut self, id: u16, place: Place, budget: u32, extent: Extent) -> Round
         requires { 1 ≤ budget }
         ensures world { (w : World) (by : ℕ) → IsWorld w self.old →
             IsWorld (replay_from w (replicate result.count (Step by id))) self.new }
@@ -37,7 +37,8 @@ impl<A: Allocator> State<A> {
         ensures step { (w : World) (by : ℕ) → IsWorld w self.old → extent ≡ extents.Round →
             result.step ≡ step_at w by id result.count }
     {
-        if let Some(round) = self.table.instructions(id, &mut self.pool, budget, extent) {
+        let pool = &mut self.pool;
+        if let Some(round) = self.table.instructions(id, place, pool, budget, extent) {
             return round;
         }
         // Each instruction of a traced procedure makes a trace record.
@@ -47,7 +48,7 @@ impl<A: Allocator> State<A> {
             let count = done + 1;
             let step = answer.step;
             last = answer.outcome;
-            if !self.goes_on(id, last) {
+            if !self.goes_on(id, place, last) {
                 return Round { count, last, step };
             }
             if extent.ends_with(step) {

@@ -13,7 +13,7 @@ use ocp_pool::{MAX_POOL_WORDS, Pool};
 use ocp_profile::Profile;
 use ocp_reports::{Origin, PacketBuffer, Sender, count_after};
 use ocp_table::laws::an_unload_takes_a_load_back;
-use ocp_table::{Change, Decision, Directive, InstructionAnswer, StepOutcome, Table};
+use ocp_table::{Change, Decision, Directive, InstructionAnswer, Place, StepOutcome, Table};
 use pus_fields::{Tc, TcFault};
 use space_packet::{Apid, SequenceCount};
 use std::alloc::{AllocError, Allocator};
@@ -29,12 +29,12 @@ pub struct State<A: Allocator> {
 }
 
 impl<A: Allocator> State<A> {
-    /// Why an instruction event is refused, if it is.
-    pub fn refusal(&self, id: u16) -> Option<StepOutcome>
+    /// Why an instruction event of a procedure is refused, by its place, if it is.
+    pub fn refusal(&self, id: u16, place: Place) -> Option<StepOutcome>
         ensures { (w : World) (by : ℕ) → IsWorld w self.now →
             IsRefusal (after w (Step by id)).answer result }
     {
-        self.table.refusal(id)
+        self.table.refusal(id, place)
     }
 
     /// Does one instruction of a procedure.
