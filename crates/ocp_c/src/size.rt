@@ -36,7 +36,7 @@ pub const FIXED: usize =
     PROCEDURES + 16 * (PROGRAM + MACHINE) + LINES + TRACES + REPORTS + ENGINE;
 
 // A number of octets, rounded up to a multiple of 16.
-fn rounded(octets: usize) -> usize
+fn round_up(octets: usize) -> usize
     requires { octets ≤ 2_000_000_000 }
     ensures value { result ≡ next_multiple_of octets 16 }
     ensures few { result ≤ 2_000_000_016 }
@@ -65,7 +65,7 @@ pub extern "C" fn ocp_size(profile: u32, pool_words: u32, entries: u32, octets: 
         return 0;
     }
     FIXED
-        + rounded(8 * pool_words as usize)
-        + rounded(4 * entries as usize)
-        + rounded(octets as usize)
+        + round_up(8 * pool_words as usize)
+        + round_up(4 * entries as usize)
+        + round_up(octets as usize)
 }

@@ -263,8 +263,8 @@ impl<A: Allocator> State<A> {
     }
 
     /// Does what a telecommand asks for, as it was read at this time, and writes its reports. The
-    /// event's number is how many were accepted before it. The keeper keeps the reports before
-    /// anything is changed. Memory is answered only if the keeper finds none.
+    /// event has this number: `event` events were accepted before it. Memory is answered only if
+    /// the keeper finds none for the reports; then nothing is changed.
     #[tactic(auto, unfolding(crate::specs::Requests::command_of))]
     pub fn receive<K: Keeps>(
         &mut self,
