@@ -30,7 +30,7 @@ NeverFaultsInFlight image =
     image_after profile apid words es id ≡ Some image → number ≤ 3 →
     (after (replay profile apid words es) (Step by id)).answer ≢ Stepped (outcome.Faulted number)
 
--- none is answered fault 4, if the pool has at least `asked` words
+-- no such event is answered fault 4, if the pool has at least `asked` words
 abbrev pub AsksWellInFlight : List ℕ → ℕ → Type 0
 AsksWellInFlight image asked =
     (profile : Profile) (apid words : ℕ) (es : List Event) (by id : ℕ) →

@@ -23,8 +23,8 @@ pub fn machines_in_flight_are_reached()
     own_events_are_those_of_the_image();
 }
 
-/// If no machine of an image meets a fault of its own, as `ocp_check::check` shows, then no
-/// instruction of a procedure with this image is answered fault 1, 2 or 3 in flight.
+/// If no machine of an image meets a fault of its own, no instruction of a procedure with this
+/// image is answered fault 1, 2 or 3 in flight. `ocp_check::check` shows the condition.
 pub fn images_that_never_fault_do_not_in_flight()
     ensures events { (image : List ℕ) → NeverFaults image → NeverFaultsInFlight image }
     ensures journal { (image : List ℕ) → NeverFaults image → NeverFaultsInJournals image }
@@ -34,9 +34,9 @@ pub fn images_that_never_fault_do_not_in_flight()
     the_machine_faults_by_its_image();
 }
 
-/// If an image asks only for words of a pool of a size, as `ocp_check::check_pool` shows, then no
-/// instruction of a procedure with this image is answered fault 4 in flight, in an engine that has
-/// at least as many pool words.
+/// If an image asks only for words of a pool of n words, no instruction of a procedure with this
+/// image is answered fault 4 in flight, in an engine with at least n pool words.
+/// `ocp_check::check_pool` shows the condition.
 pub fn images_that_ask_well_do_so_in_flight()
     ensures events { (image : List ℕ) (asked : ℕ) →
         AsksWell image asked → AsksWellInFlight image asked }
@@ -49,9 +49,9 @@ pub fn images_that_ask_well_do_so_in_flight()
     engine_calls_answer_from_the_pool();
 }
 
-/// If an image does fewer instructions than a bound without the end of a step, as
-/// `ocp_check::check_rounds` shows, then each round of a procedure with this image has at most that
-/// many instructions in flight, counting the one that ends the step or the procedure.
+/// If an image does fewer than n instructions without the end of a step, each round of a procedure
+/// with this image has at most n instructions in flight, counting the one that ends the step or the
+/// procedure. `ocp_check::check_rounds` shows the condition.
 pub fn rounds_are_within_their_bound_in_flight()
     ensures { (image : List ℕ) (most : ℕ) → IsWithin image most → IsWithinInFlight image most }
 {

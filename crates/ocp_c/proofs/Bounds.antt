@@ -1,4 +1,4 @@
--- How much the reports of a request, and of a drain, are at most, and that they fit into a buffer of C's.
+-- The largest size of the reports of a request, and of a drain, and that they fit into a buffer of C's.
 use Rattle.std.proofs.Common.{◌≡◌, ◌≤◌, ℕ, ◌+◌, ◌*◌, true, false, cond, List, [], ◌∷◌, length, refl, sym, subst, arith}
 use Rattle.std.specs.Prelude.{Ok, All}
 use Rattle.std.specs.List.{sum_by}

@@ -35,7 +35,7 @@ use Rattle.ocp_world.specs.Replay.{replay_from, replay}
 use Rattle.ocp_world.proofs.Asked.{each_asked}
 use Rattle.ocp_world.proofs.ByKind.{IsPlain, each_kind}
 
--- ---- an image is loaded only where there is room
+-- ---- an image is loaded only if there is room
 
 abbrev HasRoom : Records → Effect → Type 0
 HasRoom m (Loaded profile id image) = is_full m ≡ false

@@ -1,4 +1,4 @@
--- What waits to be reported repeats a request identifier of four octets at most, after every list of events.
+-- What waits to be reported repeats a request identifier of at most four octets, after every list of events.
 use Rattle.std.proofs.Common.{◌≡◌, ◌≤◌, ℕ, ◌+◌, Bool, true, false, cond, List, [], ◌∷◌, length, Option, Some, None, refl, ap, ◌∙◌, arith}
 use Rattle.std.specs.Prelude.{Result, Ok, Err, nat_le, nat_lt}
 use Rattle.std.specs.FinMap.{get}

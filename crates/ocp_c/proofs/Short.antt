@@ -55,7 +55,7 @@ use Rattle.ocp_c.proofs.Origins.{excess, four_octets}
 
 -- ---- packets
 
--- each report has at most so many octets of data
+-- each report has at most `most` octets of data
 abbrev pub AreShort : ℕ → List Dispatch → Type 0
 AreShort most [] = Unit {0}
 AreShort most (d ∷ ds) = (length (report_data d.report) ≤ most) × AreShort most ds
@@ -64,7 +64,7 @@ short-append : (most : ℕ) (xs ys : List Dispatch) → AreShort most xs → Are
 short-append most [] ys p q = q
 short-append most (x ∷ xs) ys p q = (p.0, short-append most xs ys p.1 q)
 
--- a packet has 19 octets beside them
+-- a packet has 19 octets in addition to them
 length-telemetry : (tm : Telemetry) → length (telemetry_octets tm) ≡ 19 + length tm.payload
 unfolding telemetry_octets
 length-telemetry tm =
@@ -83,7 +83,7 @@ short_packets most apid n (d ∷ ds) p =
 
 -- ---- the reports of an outcome
 
--- at most so many, each with at most so many octets of data
+-- at most `count`, each with at most `most` octets of data
 pub record Are (count most : ℕ) (ds : List Dispatch) : Type 0 where
   pub few : length ds ≤ count
   pub short : AreShort most ds
@@ -92,7 +92,7 @@ length-fault : (fault : StartFault) → length (fault_data fault) ≤ 5
 length-fault (BadCode number slot) = omega arith
 length-fault (Plain code) = omega arith
 
--- an answer report, where there is one, is short
+-- an answer report, if there is one, is short
 abbrev Fits : List Report → Type 0
 Fits [] = Unit {0}
 Fits (r ∷ []) = length (report_data r) ≤ 49

@@ -71,7 +71,7 @@ number_by_outcome S.NotLoaded count before = before
 number_by_outcome S.NotRunning count before = before
 number_by_outcome S.JournalFull count before = before
 
--- how many instructions C gets as done
+-- the count of a slice that C gets
 abbrev pub count_of_slice : Slice → ℕ → ℕ
 count_of_slice slice before = number_by_outcome slice.last slice.count before
 

@@ -6,7 +6,7 @@ use Rattle.ocp_c.specs.declared.status.Status.TheVariants as status
 use Rattle.ocp_reports.specs.Packets.{together}
 use Rattle.ocp_c.specs.Statuses.{status_of_fault}
 
--- that of an answer
+-- the status of an answer
 abbrev pub status_of_reply : Answer → Status
 status_of_reply (Requested (Ok reports)) = status.Done
 status_of_reply (Requested (Err fault)) = status_of_fault fault

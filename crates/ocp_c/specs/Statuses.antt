@@ -52,7 +52,7 @@ number_of status.Spent = 29
 number_of status.Released = 30
 number_of status.NoRecord = 31
 
--- that of an instruction
+-- the status of an instruction
 abbrev pub status_of : StepOutcome → Status
 status_of S.Broke = status.Done
 status_of S.Ran = status.Done
@@ -63,13 +63,13 @@ status_of S.NotLoaded = status.NotLoaded
 status_of S.NotRunning = status.NotRunning
 status_of S.JournalFull = status.JournalFull
 
--- that of a write of a pool word
+-- the status of a write of a pool word
 abbrev pub status_of_put : Result (Unit {0}) PutFault → Status
 status_of_put (Ok done) = status.Done
 status_of_put (Err put.BadPoolIndex) = status.NoWord
 status_of_put (Err put.JournalFull) = status.JournalFull
 
--- that of a debugger's command
+-- the status of a debugger's command
 abbrev pub status_of_command : Result (Unit {0}) DebugFault → Status
 status_of_command (Ok done) = status.Done
 status_of_command (Err debug.NotLoaded) = status.NotLoaded
@@ -80,7 +80,7 @@ status_of_command (Err debug.NotSet) = status.NotSet
 status_of_command (Err debug.JournalFull) = status.JournalFull
 status_of_command (Err debug.OutsideMemory) = status.OutsideMemory
 
--- that of discarded octets
+-- the status of discarded octets
 abbrev pub status_of_discard : Discard → Status
 status_of_discard discard.Short = status.DiscardedShort
 status_of_discard discard.Version = status.DiscardedVersion
@@ -88,21 +88,21 @@ status_of_discard discard.Length = status.DiscardedLength
 status_of_discard discard.NotTelecommand = status.DiscardedNotTelecommand
 status_of_discard discard.OtherApid = status.DiscardedOtherApid
 
--- that of a request or a drain that is refused
+-- the status of a request or a drain that is refused
 abbrev pub status_of_fault : EngineFault → Status
 status_of_fault (engine.Discarded cause) = status_of_discard cause
 status_of_fault engine.JournalFull = status.JournalFull
 status_of_fault engine.Memory = status.Memory
 status_of_fault engine.NothingDue = status.NothingDue
 
--- that of an entry that is read
+-- the status of an entry that is read
 abbrev pub status_of_entry : Result ℕ EntryFault → Status
 status_of_entry (Ok length) = status.Done
 status_of_entry (Err entry.Released) = status.Released
 status_of_entry (Err entry.NotYet) = status.NoEntry
 status_of_entry (Err (entry.TooShort length)) = status.BufferTooSmall
 
--- that of a release
+-- the status of a release
 abbrev pub status_of_release : Result (Unit {0}) ReleaseFault → Status
 status_of_release (Ok done) = status.Done
 status_of_release (Err release.NotHeld) = status.NotHeld

@@ -51,7 +51,7 @@ pub extern "C" fn ocp_first_entry(alloc: Global, handle: &mut Handle, index: &mu
     Status::Done.number()
 }
 
-/// Drops a number of the oldest entries.
+/// Drops the oldest `count` entries.
 #[unsafe(no_mangle)]
 pub extern "C" fn ocp_release(alloc: Global, handle: &mut Handle, count: u64) -> u32
     ensures status { result ≡ answers handle.old.held

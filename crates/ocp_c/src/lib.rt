@@ -1,5 +1,5 @@
 //! The engine for C: one export for each call of the header `ocp_engine.h`. A handle holds an
-//! engine whose journal is handed down, and each export does what the engine's call does.
+//! engine whose journal is handed down, and each export does with it what the engine's call does.
 #![tactic(auto)]
 
 ghost use Rattle.std.specs.Prelude.{◌≡◌, ◌==◌, if◌then◌else◌, length, slice_get, Ok, Err};

@@ -71,8 +71,8 @@ impl<A: Allocator> Session<A> {
         Some((&octets[..count], &octets[count + 1..]))
     }
 
-    /// Takes the octets that continue the line, up to its most octets, or none if it is one line
-    /// too many, and returns how many they are.
+    /// Takes the octets that continue the line, up to its end or its limit, or none if it is one
+    /// line too many. It returns how many they are.
     pub fn fill(&mut self, octets: &[u8]) -> Result<usize, AllocError>
         ensures console { self.new.console ≡ self.old.console }
         ensures before { self.new.before ≡ self.old.before }

@@ -1,4 +1,4 @@
--- With a budget above 0 no more instructions are done than that.
+-- With a budget of n > 0 at most n instructions are done.
 use Rattle.std.proofs.Common.{◌≡◌, ◌≤◌, ℕ, ◌+◌, ◌-◌, Option, Some, None, Bool, true, false, cond, List, length, refl, sym, ap, subst, ◌∙◌, arith}
 use Rattle.std.specs.Prelude.{◌==◌, ◌&&◌, nat_lt}
 use Rattle.std.proofs.lemmas.Bool.{eqb-true, eqb-false}
@@ -57,7 +57,7 @@ less_one used (Some k) = ap Some (omega arith)
 kept_started : (budget : ℕ) → IsKept (budget_of budget) budget 0
 kept_started budget = record { counted = less_none (budget_of budget); within = λ some. omega arith }
 
--- where something is left, less than what was given was used
+-- if something is left, less than what was given was used
 left_over : (given used : ℕ) → is_spent (less used (budget_of given)) ≡ false → 1 ≤ given → used + 1 ≤ given
 left_over given used unspent some = elim (given == 0) as (λ b. (given == 0) ≡ b → is_spent (less used (cond b None (Some given))) ≡ false → used + 1 ≤ given) [
   | true ↦ λ e h. let none : given ≡ 0 = eqb-true given 0 e in absurd (omega arith)
@@ -98,7 +98,7 @@ module _ (q : ℕ) (o : Option Rec) (given used : ℕ) (is : IsKeptOf o given us
 
 -- ---- an instruction
 
--- it is done only where its budget is not spent
+-- it is done only if its budget is not spent
 abbrev IsAble : Option Rec → InstructionOutcome → Type 0
 IsAble None outcome = ⊥
 IsAble (Some r) Ran = is_spent r.remaining ≡ false

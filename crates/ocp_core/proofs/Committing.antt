@@ -70,7 +70,7 @@ alone log w some fresh run found = record {
   ran = subst (λ s. run_of s w.count ≡ Some w.end) (sym found.same) run.ran;
 }
 
--- the machine that is put back stands in the procedure
+-- the machine that is put back is at an instruction of the procedure
 stands_at : (o : Option Rec) (base : Snapshot) (machine : Machined) → IsOf o base → StandsIn base.image machine → StandsAt o machine
 stands_at o base machine found stands =
     subst (λ x. StandsAt x machine) (sym found.held) (subst (λ s. StandsIn s.image machine) (sym found.same) stands)
@@ -79,7 +79,7 @@ stands_at o base machine found stands =
 given_at : (o : Option Rec) (base : Snapshot) (machine : Machined) → IsOf o base → machine_for o machine ≡ base.machine
 given_at o base machine found = ap (λ x. machine_for x machine) found.held ∙ ap (λ s. s.machine) found.same
 
--- what the law says of the instructions of a run
+-- what the law states of the instructions of a run
 abbrev pub AreEvents : Type 0
 AreEvents = (v : World) (by id n : ℕ) (r : Rec) (machine : Machined) → RunsAlone v id r n machine → replay_from v (replicate n (Step by id)) ≡ world_after_work id machine n v
 
@@ -102,7 +102,7 @@ module _ {A : Type 0} where
       subst (λ m. StandsAt (get m w.id) w.end) (sym stands.records)
       (stands_at (get (world_of log).records w.id) w.base w.end (is_of (get (world_of log).records w.id) w.base fresh) run.stands)
 
-  -- the state after a commit stands for the new journal's world
+  -- the state after a commit represents the new journal's world
   pub IsWorld-committed : AreEvents → (log new : Log) (by : ℕ) (w : WorkContents) (s : State A) → (w.count ≡ 0 → ⊥) → IsFresh log w → IsRun w → new ≡ with_entry log (Steps by w.id w.count) → IsWorld (world_after_work w.id w.end w.count (world_of log)) s → IsWorld (world_of new) s
   IsWorld-committed law log new by w s some fresh run is stands =
       IsWorld-with_entry log new (Steps by w.id w.count) s is
@@ -121,7 +121,7 @@ head_of x y xs ys is = cc
 tail_of : (x y : Answer) (xs ys : List Answer) → x ∷ xs ≡ y ∷ ys → xs ≡ ys
 tail_of x y xs ys is = cc
 
--- instructions that are all answered so have that as their last outcome
+-- instructions that are all answered `Ran` have that as their last outcome
 pub last_of_run : (w : World) (by id n : ℕ) → answers w (replicate n (Step by id)) ≡ replicate n (Stepped S.Ran) → last_outcome w by id S.Ran n ≡ S.Ran
 last_of_run w by id zero all = refl
 last_of_run w by id (suc n) all =

@@ -1,4 +1,4 @@
--- Each stop or suspend that became pending stands in one place, its completion is reported once at most, and its place was
+-- Each stop or suspend that became pending is in one place, its completion is reported at most once, and its place was
 -- free.
 use Rattle.std.proofs.Common.{◌≡◌, ◌≤◌, ℕ, ◌+◌, List, [], ◌∷◌, ◌++◌, map, length, Option, Some, None, Bool, true, false, cond, refl, sym, ap, subst, ◌∙◌, arith, ⊎_elim}
 use Rattle.std.specs.Prelude.{◌==◌, ◌||◌, ◌&&◌, nat_lt}
@@ -287,10 +287,10 @@ module _ (f : ℕ → ℕ) where
       let is = balanced profile apid words es in
       omega (arith, last, third, second, held, waits, is)
 
--- ---- each number became pending once at most
+-- ---- each number became pending at most once
 
 module _ (n : ℕ) where
-  -- and not yet, where it is that of an event to come
+  -- and not yet, if it is that of an event to come
   abbrev Fresh : ℕ → List ℕ → Type 0
   Fresh events ns = (count n ns ≤ 1) × (events ≤ n → count n ns ≡ 0)
 

@@ -27,7 +27,7 @@ counted_by (Puts (Err fault)) w taken = cc
 pub counted : (w : World) (e : Event) → is_accepted (after w e).answer ≡ true → AreCounted w (e ∷ [])
 counted w e taken = counted_by (effect_of w e).reply w taken
 
--- and any event is one more at most
+-- and any event is at most one more
 at_most : (b : Bool) (n : ℕ) → cond b (n + 1) n ≤ n + 1
 at_most true n = omega arith
 at_most false n = omega arith
@@ -44,7 +44,7 @@ one_more (Puts (Err fault)) n = omega arith
 
 -- ---- events of a list
 
--- so many instructions, each of them accepted
+-- n instructions, each of them accepted
 pub counted_steps : (w : World) (by id n : ℕ) → (replay_from w (replicate n (Step by id))).events ≡ w.events + n → AreCounted w (replicate n (Step by id))
 counted_steps w by id n is = is ∙ ap (λ k. w.events + k) (sym (length-replicate n (Step by id)))
 
@@ -52,7 +52,7 @@ grows : (w : World) (es : List Event) → (replay_from w es).events ≤ w.events
 grows w [] = omega arith
 grows w (e ∷ es) = omega (arith, one_more (effect_of w e).reply w.events, grows (after w e).world es)
 
--- where all events of a list are accepted, so are the first ones
+-- if all events of a list are accepted, so are the first ones
 pub first_counted : (w : World) (xs ys : List Event) → AreCounted w (xs ++ ys) → AreCounted w xs
 first_counted w xs ys all =
     let whole : (replay_from (replay_from w xs) ys).events ≡ w.events + length (xs ++ ys) = ap (λ v. v.events) (sym (replay_from-append w xs ys)) ∙ all in

@@ -151,7 +151,7 @@ stable_outcome id (Needs (need.Fault fault)) r p p' quiet = refl
 stable_outcome id (Needs (need.Call number)) r p p' quiet = stable_call id (engine_call number (read r.machine 1) (read r.machine 2) (read r.machine 3) p r.mailbox) _ quiet
 stable_outcome id NoInstruction r p p' quiet = refl
 
--- a spent budget is a fault whatever the pool
+-- a spent budget is a fault, for any pool
 stable_unheld : (id : ℕ) (b : Bool) (r : Rec) (p p' : List ℕ) → IsQuiet id (turn_of (cond b (Some (Faulted BudgetSpent)) (outcome_of (one_step r.image r.machine) r.machine p r.mailbox))) → turn_of (cond b (Some (Faulted BudgetSpent)) (outcome_of (one_step r.image r.machine) r.machine p' r.mailbox)) ≡ turn_of (cond b (Some (Faulted BudgetSpent)) (outcome_of (one_step r.image r.machine) r.machine p r.mailbox))
 stable_unheld id true r p p' quiet = refl
 stable_unheld id false r p p' quiet = stable_outcome id (one_step r.image r.machine) r p p' quiet
@@ -378,7 +378,7 @@ may_be_exchanged w by i by' j es apart felt =
     either p q (inl quiet) = inl (ap is_felt (sym p) ∙ quiet)
     either p q (inr quiet) = inr (ap is_felt (sym q) ∙ quiet)
 
--- ---- in the midst of a list
+-- ---- in the middle of a list
 
 pub may_be_exchanged_in_lists : MayBeExchangedInLists
 may_be_exchanged_in_lists w before by i by' j es apart felt =

@@ -73,7 +73,7 @@ grows_entered log new e (Stepped outcome) is = grows_event log new e (Stepped ou
 grows_entered log new e (Commanded result) is = grows_event log new e (Commanded result) is.0 is.1
 grows_entered log new e (Written result) is = grows_event log new e (Written result) is.0 is.1
 
--- the entry that is handed out is the one that the journal gained
+-- the entry that is returned is the one that the journal gained
 pub grows_receipt : {A : Type 0} (log new : Log) (e : Event) (a : Answer) (entry : Option (N.Entry A)) → Enters log new e a → entries_in entry ≡ event_entries e a → Grows log new (entries_in entry)
 grows_receipt log new e a entry is same = subst (λ es. Grows log new es) (sym same) (grows_entered log new e a is)
 
@@ -140,7 +140,7 @@ grows_sliced log new by id budget s low is left =
     (subst (λ x. Grows log (slice_log log by id budget) (slice_entries by id x)) (sym is)
     (grows_slice log by id budget low))
 
--- how many instructions it does at least and at most
+-- the least and the largest number of its instructions
 
 pub slice_count_some : (w : World) (by id budget : ℕ) → 1 ≤ budget → 1 ≤ slice_count w by id budget
 slice_count_some w by id zero low = absurd (omega (arith, low))

@@ -1,4 +1,4 @@
--- What an engine's journal says of its events.
+-- What an engine's journal determines of its events.
 use Rattle.std.proofs.Common.{◌≡◌, ℕ, List, [], ◌∷◌, refl, sym, ap, ◌∙◌}
 use Rattle.std.specs.Prelude.{Result}
 use Rattle.pus_fields.specs.declared.fault.TcFault.{TcFault}

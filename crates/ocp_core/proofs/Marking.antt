@@ -86,7 +86,7 @@ module _ {A : Type 0} where
   abbrev pub stored : Profile → ℕ → ℕ → ℕ → List (N.Entry A) → Log
   stored profile apid words capacity entries = record { profile = profile; apid = apid; words = words; capacity = capacity; entries = map entry_of entries }
 
-  -- its entry, and its mark where that is what the entry's events are answered
+  -- its entry, and its mark if that is the answer to the entry's events
   pub marks_more : (items : List (N.Entry A)) (e : N.Entry A) (log : Log) → map entry_with_mark items ≡ entries_with_marks log → mark_of e ≡ mark_in (world_of log) (entry_of e) → map entry_with_mark (items ++ e ∷ []) ≡ entries_with_marks (with_entry log (entry_of e))
   marks_more items e log so_far is =
       map-append entry_with_mark items (e ∷ [])

@@ -46,7 +46,7 @@ abbrev number_in : Option Call → ℕ
 number_in (Some call) = number_of call
 number_in None = 5
 
--- what call 5 does is the end of a step
+-- call 5 ends a step
 ends_step : (called : ℤ) (call : Call) (r1 r2 r3 : ℕ) (pool mailbox : List ℕ) → engine_call called r1 r2 r3 pool mailbox ≡ Some call → called ≡ pos 5 → number_of call ≡ 5
 ends_step called call r1 r2 r3 pool mailbox is five =
     let found : Some (StepEnd (r1 % 2 ^ 16)) ≡ Some call = subst (λ n. engine_call n r1 r2 r3 pool mailbox ≡ Some call) five is in

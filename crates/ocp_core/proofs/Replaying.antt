@@ -69,7 +69,7 @@ module _ {A : Type 0} (keeps : (w : World) (e : Event) → is_accepted (after w 
   stands_after (Err engine.JournalFull) has does = refused_stands engine.JournalFull does.0 does.1
   stands_after (Err engine.NothingDue) has does = refused_stands engine.NothingDue does.0 does.1
 
--- one whose keeper finds memory finds it whatever is kept of the packets
+-- one whose keeper finds memory does so whatever is kept of the packets
 pub memory_found : {X : Type 0} (r : Result X EngineFault) (packets : List (List ℕ)) → (r ≡ Err engine.Memory → false ≡ true) → HasMemory (with_packets r packets)
 memory_found (Ok kept) packets finds = tt
 memory_found (Err engine.Memory) packets finds = let refused = finds refl in cc
@@ -77,7 +77,7 @@ memory_found (Err (engine.Discarded cause)) packets finds = tt
 memory_found (Err engine.JournalFull) packets finds = tt
 memory_found (Err engine.NothingDue) packets finds = tt
 
--- what holds of a result where it is one, follows so
+-- what follows from what holds of an Ok result
 pub where_ok : {X E : Type 0} {P Q : Type 0} → (r : Result X E) → (P → Q) → OnOk r P → OnOk r Q
 where_ok (Ok x) so p = so p
 where_ok (Err e) so p = tt

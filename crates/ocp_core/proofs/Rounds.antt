@@ -1,4 +1,4 @@
--- How many instructions a slice or a round has at most.
+-- The largest number of instructions of a slice or a round.
 use Rattle.std.proofs.Common.{◌≤◌, ℕ, zero, suc, Bool, true, false, cond, arith}
 use Rattle.std.specs.Prelude.{is_some}
 use Rattle.ocp_table.specs.declared.answers.Extent.{Extent}

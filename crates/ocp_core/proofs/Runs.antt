@@ -1,4 +1,4 @@
--- The events of a run: what each leaves, one more of them.
+-- The events of a run: what each leaves, and one more event.
 use Rattle.std.proofs.Common.{◌≡◌, ◌≢◌, ℕ, zero, suc, ◌+◌, ◌<◌, Bool, true, false, cond, List, [], ◌∷◌, ◌++◌, Some, map, take, length, get_or, refl, sym, ap, subst, ◌∙◌}
 use Rattle.std.specs.Prelude.{Result, Ok, Err, OnOk, OnErr, slice_get}
 use Rattle.std.specs.Option.{option_map}
@@ -111,7 +111,7 @@ module _ (log : Log) (e : Event) where
         | false ↦ λ a. (a, refl)
       ] is
 
-  -- one that is answered with a full journal would be accepted, since no world answers so
+  -- one that is answered with a full journal would be accepted, since no world gives this answer
   pub full_event : full_answer e ≢ answer → full_answer e ≡ answer_in log e → finds_full log e ≡ true
   full_event never is =
       elim (is_accepted answer) as (λ b. is_accepted answer ≡ b → full_answer e ≡ cond b (cond (is_full log) (full_answer e) answer) answer → cond b (is_full log) false ≡ true) [

@@ -18,7 +18,8 @@ use Rattle.ocp_core.specs.History.{gather_along, Does}
 
 -- ---- the budget that was given
 
--- that of the last activation that was done, 0 if it had none; a load and an unload leave none
+-- the budget of the last activation that was done, 0 if it had none; a load and an unload leave
+-- none
 abbrev pub given_budget_by : ℕ → Effect → ℕ → ℕ
 given_budget_by id (Loaded profile other image) given = if id == other then 0 else given
 given_budget_by id (Unloaded other) given = if id == other then 0 else given

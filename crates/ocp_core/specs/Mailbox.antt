@@ -53,7 +53,7 @@ WordsComeInOrder =
     slice_get (sent_words profile apid words es id)
     (length (taken_words profile apid words es id))
 
--- and none exactly if all were taken
+-- the law: it gives none exactly if all words sent were taken
 abbrev pub NoneIsLeft : Type 0
 NoneIsLeft =
     (profile : Profile) (apid words : ℕ) (es : List Event) (by id : ℕ) (word : Option ℕ) →

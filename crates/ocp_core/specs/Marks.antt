@@ -53,6 +53,6 @@ abbrev pub command_of : Entry → Option (ℕ × Command)
 command_of (Debugged by id command) = Some (id, command)
 command_of other = None
 
--- those of one seat, in order
+-- the entries of one seat, in order
 abbrev pub entries_by : List MarkedEntry → ℕ → List MarkedEntry
 entries_by entries by = filter (λ m. by_of m.entry == by) entries

@@ -64,7 +64,7 @@ due_numbers dues = map (λ (due : Due). due.origin.event) dues
 
 -- ---- the third place: a drain reports its completion
 
--- once for each report that is sent of it
+-- its number, once for each report that is sent of it
 abbrev pub report_numbers : ℕ → Due → List ℕ
 report_numbers time due = map (λ (dispatch : Dispatch). due.origin.event) (due_dispatches time due)
 

@@ -79,7 +79,7 @@ pub record Calls (o : Option Rec) (number : ℤ) : Type 0 where
   pub unspent : is_spent rec.remaining ≡ false
   pub calls : one_step rec.image rec.machine ≡ Needs (need.Call number)
 
--- it is answered by the table of the engine calls, from R1, R2, R3, this pool and its mailbox
+-- the call is answered by the table of the engine calls, from R1, R2, R3, this pool and its mailbox
 pub record IsAnswered (o : Option Rec) (pool : List ℕ) (call : Call) : Type 0 where
   pub number : ℤ
   pub calls : Calls o number

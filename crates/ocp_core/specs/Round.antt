@@ -16,7 +16,7 @@ round_of w by id slice = record {
   step = step_at w by id slice.count;
 }
 
--- the slice up to the largest number of instructions of the round
+-- the slice whose budget is the largest number of instructions of the round
 abbrev pub round_in : Log → ℕ → ℕ → ℕ → Round
 round_in log by id budget =
     let w = world_of log in round_of w by id (slice_in log by id (round_budget w by id budget))

@@ -39,7 +39,7 @@ slice_store log is_full with_entry s by id budget =
     else with_entry s (Steps by id (slice_count w by id budget)))
     else s
 
--- the slice up to the largest number of instructions of the round
+-- the slice whose budget is the largest number of instructions of the round
 abbrev pub round_at : {S : Type 0} → (S → Log) → (S → Entry → Bool) → S → ℕ → ℕ → ℕ → Round
 round_at log is_full s by id budget =
     let w = world_of (log s) in

@@ -22,7 +22,7 @@ abbrev pub ticket_by : ℕ → Option Snapshot → Option TicketContents
 ticket_by id None = None
 ticket_by id (Some base) = Some (record { id = id; base = base })
 
--- of a procedure that is loaded and runs
+-- the ticket of a procedure that is loaded and runs
 abbrev pub ticket_at : ℕ → Option Rec → Option TicketContents
 ticket_at id o = ticket_by id (snapshot_at o)
 

@@ -21,7 +21,7 @@ pub enum RunRefusal {
 }
 
 /// Where a run ended: the refusal, the index of the refused event, and the answers of the events
-/// before it, which stay done.
+/// before it, which keep their effect.
 #[derive(Drop)]
 pub struct RunFault<A: Allocator = Global> {
     pub refusal: RunRefusal,
@@ -34,8 +34,8 @@ pub struct RunFault<A: Allocator = Global> {
 pub enum CommitOutcome {
     /// It has no instruction.
     Empty,
-    /// Its procedure is not loaded or does not run, or its program, machine, breakpoints, pass
-    /// flag, trace flag or remaining budget is not the one that the work began with.
+    /// Its procedure is not loaded, does not run, or is not what the work began with: its program,
+    /// machine, breakpoints, pass flag, trace flag or remaining budget is another.
     Stale,
     /// There is no room for a further journal entry.
     JournalFull,

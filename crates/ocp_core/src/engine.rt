@@ -48,8 +48,8 @@ impl<A: Allocator> Model for Engine<A> {
 }
 
 impl<A: Allocator + Copy> Engine<A> {
-    /// An engine of a profile without procedures, for the application process 0 to 2,046, with 1 to
-    /// 256 pool words and room for 1 to 1,000,000 journal entries, all of it reserved here.
+    /// An engine of a profile without procedures, for the application process 0 to 2,046. It has 1
+    /// to 256 pool words and room for 1 to 1,000,000 journal entries. All room is reserved here.
     pub fn new(
         alloc: A,
         profile: Profile,

@@ -75,9 +75,9 @@ impl<A: Allocator + Copy> Engine<A> {
 
     /// Does events in order, and answers each; an accepted one leaves its entry in the journal. It
     /// ends before the first event that is refused because the journal is full or there is no
-    /// memory, with that refusal, the event's index and the answers of the events before it, which
-    /// stay done. Room for all answers is taken first: if there is none, the index is 0. A later
-    /// instruction takes no memory.
+    /// memory. It then returns that refusal, the event's index and the answers of the events before
+    /// it, which keep their effect. Room for all answers is taken first: if there is none, the
+    /// index is 0. A later instruction takes no memory.
     pub fn run(&mut self, alloc: A, events: &[Event<'_>]) -> Result<Vec<Answer<A>, A>, RunFault<A>>
         ensures answers { IfOk result (λ v.
             map answer_of v.items ≡ answers (world_of self.old) (map event_of events.now)) }

@@ -19,9 +19,9 @@ pub(crate) struct Parts<A: Allocator> {
     pub(crate) machine: Machine<A>,
 }
 
-/// A copy of a running procedure: its program, its machine, which is compared at the commit,
-/// another machine with the same addresses, which becomes equal to it and runs, the breakpoints,
-/// the pass flag, the trace flag and what remains of the budget.
+/// A copy of a running procedure: its program, breakpoints, pass flag, trace flag and remaining
+/// budget, and two machines with the same addresses. The first is the procedure's machine, for the
+/// comparison at the commit. The second becomes equal to it, and runs.
 pub struct Ticket<A: Allocator = Global> {
     pub(crate) id: u16,
     pub(crate) parts: Box<Parts<A>, A>,

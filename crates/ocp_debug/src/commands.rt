@@ -7,8 +7,9 @@ use crate::{Command, DebugFault, MAX_BREAKPOINTS};
 use ocp_table::Table;
 use std::alloc::Allocator;
 
-/// Decides why a command is refused. If no procedure has the id: NotLoaded. After that a breakpoint
-/// is refused as NotAnInstruction, AlreadySet or BreaksFull, and a clearing as NotSet.
+/// Decides why a command is refused. It is NotLoaded if no procedure has the id. Then a breakpoint
+/// is refused as NotAnInstruction, AlreadySet and BreaksFull, in this order, and a clearing as
+/// NotSet.
 pub fn fault_of<A: Allocator>(table: &Table<A>, id: u16, command: Command) -> Option<DebugFault>
     ensures { result ≡ fault_on command (get table.now.records id) }
 {

@@ -1,4 +1,4 @@
--- A store gains an entry, and gives up the oldest.
+-- A store gains an entry, and drops the oldest.
 use Rattle.std.proofs.Common.{◌≡◌, ◌≤◌, ◌<◌, ◌+◌, ◌^◌, ℕ, true, false, List, [], ◌∷◌, ◌++◌, map, length, drop, sym, ap, subst, ◌∙◌, arith, length-append}
 use Rattle.std.proofs.lemmas.List.{map-append, drop-append-le, drop-drop, length-drop}
 use Rattle.ocp_profile.specs.declared.limits.TheConstants.{MAX_APID, MAX_CAPACITY}
@@ -80,7 +80,7 @@ module _ {A : Type 0} (s : Inside A) (e : Entry) (p : List ℕ) (is : p ≡ entr
         long = omega (arith, counted, kept.long, some, sizes);
       }
 
--- ---- an entry that has room
+-- ---- an entry for which there is room
 
 module _ {A : Type 0} (s : Inside A) (kept : IsKept s) (f : Flown) (view : flown_of s ≡ f) (e : Entry) (range : IsEntryInRange e) (free : is_full f e ≡ false)
     (head packet : List ℕ) (octets : head ++ packet ≡ entry_octets e) where
@@ -101,7 +101,7 @@ module _ {A : Type 0} (s : Inside A) (kept : IsKept s) (f : Flown) (view : flown
         let all = subst (λ g. AreCounted (world_of g.log) (events_of e)) (sym view) accepted in
         kept_more s e (head ++ packet) octets range tape history events taped noted kept left counted some few all
 
--- ---- the oldest entries are given up
+-- ---- the oldest entries are dropped
 
 module _ {A : Type 0} (s : Inside A) (count : ℕ) (tape : TapeContents) (taped : tape ≡ record s.tape { pieces = drop count s.tape.pieces }) where
   abbrev less : Inside A

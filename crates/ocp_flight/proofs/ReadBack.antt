@@ -1,4 +1,4 @@
--- The octets of an entry say which it is.
+-- The octets of an entry determine it.
 use Rattle.std.proofs.Common.{◌≡◌, ◌<◌, ℕ, true, false, List, [], ◌++◌, arith}
 use Rattle.std.specs.Prelude.{◌^◌, Some}
 use Rattle.byteorder.specs.Endian.{big_bytes, big_number}

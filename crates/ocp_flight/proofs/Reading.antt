@@ -12,7 +12,7 @@ use Rattle.ocp_flight.specs.Flown.{length_told, octets_written, entry_answer, en
 use Rattle.ocp_flight.specs.Mirror.Kept.{entries_read, flown_of, IsKept}
 use Rattle.ocp_flight.specs.declared.store.BoundedStore.TheInside.{Inside}
 
--- ---- what is told of an entry
+-- ---- the answer about an entry
 
 pub none_told : (o : Option Entry) (size : ℕ) → None ≡ option_map length (option_map entry_octets o) → length_told size o ≡ Err NotYet
 none_told None size is = refl

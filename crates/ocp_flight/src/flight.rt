@@ -43,9 +43,9 @@ impl<A: Allocator> Model for Flight<A> {
 }
 
 impl<A: Allocator + Copy> Flight<A> {
-    /// An engine of a profile without procedures, for the application process 0 to 2,046, with 1 to
-    /// 256 pool words, and a store of 1 to 1,000,000 entries and of 1 to 1,073,741,824 octets, all
-    /// of it reserved here.
+    /// An engine of a profile without procedures, for the application process 0 to 2,046. It has 1
+    /// to 256 pool words, and a store of 1 to 1,000,000 entries and of 1 to 1,073,741,824 octets.
+    /// All room is reserved here.
     pub fn new(
         alloc: A,
         profile: Profile,

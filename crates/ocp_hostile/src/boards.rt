@@ -25,8 +25,8 @@ pub(crate) enum Meets {
     AsFull,
 }
 
-// A book that counts its calls, refuses each third event by itself, as for a full journal, and does with the turns what it was told
-// to, if it was. Others may see how many tickets were asked for.
+// A book that counts its calls, and refuses each third event by itself, as for a full journal. It does with the turns what it was
+// told to, if it was. Others may see how many tickets were asked for.
 #[derive(Drop)]
 pub(crate) struct Counting<'a, L: Naming> {
     book: Book<L>,

@@ -4,7 +4,7 @@ use Rattle.pus_fields.specs.Telecommand.{Telecommand, request_id}
 use Rattle.obcp_messages.specs.declared.report.Report.{Report}
 use Rattle.ocp_reports.specs.declared.origin.Origin.{Origin}
 
--- that of a telecommand: its reports go to its source
+-- the origin of a telecommand: its reports go to its source
 abbrev pub origin_of : Telecommand → ℕ → Origin
 origin_of tc time = record {
   request = request_id tc.apid tc.count;
@@ -13,8 +13,8 @@ origin_of tc time = record {
   time = time;
 }
 
--- that of a packet whose secondary header is not read: its reports go to destination 0, and no
--- report of success is asked for
+-- the origin of a packet whose secondary header is not read: its reports go to destination 0, and
+-- no report of success is asked for
 abbrev pub origin_of_packet : List ℕ → ℕ → Origin
 origin_of_packet request time = record {
   request = request;

@@ -7,12 +7,12 @@ abbrev pub pieces : List ℕ → List ℕ → List (List ℕ)
 pieces octets [] = []
 pieces octets (n ∷ ns) = take n octets ∷ pieces (drop n octets) ns
 
--- they are all of the octets
+-- the pieces are all of the octets
 abbrev pub Fills : List ℕ → List ℕ → Type 0
 Fills octets [] = octets ≡ []
 Fills octets (n ∷ ns) = (n ≤ length octets) × Fills (drop n octets) ns
 
--- they are all of the octets, and each of them is a telemetry packet
+-- the pieces are all of the octets, and each of them is a telemetry packet
 pub record ArePackets (octets lengths : List ℕ) : Type 0 where
   pub whole : Fills octets lengths
   pub telemetry : All IsTelemetryPacket (pieces octets lengths)

@@ -1,4 +1,4 @@
--- Journals that go on.
+-- Journals that grow.
 use Rattle.std.proofs.Common.{◌≡◌, List, [], ◌∷◌, ◌++◌, length, drop, map, refl, ap, sym, subst, ◌∙◌, append_assoc}
 use Rattle.std.proofs.lemmas.List.{append-nil}
 use Rattle.ocp_core.specs.Log.{Log, Entry}

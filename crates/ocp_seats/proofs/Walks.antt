@@ -16,7 +16,7 @@ pub record Walked (entries : List MarkedEntry) (i : ℕ) (places : List ℕ) (se
   pub within : All (λ (s : SeatContents). get_or places s.number 0 ≤ length s.receipts) seats
   pub long : length places ≡ 65
 
--- two places of the list at which the test passes, where one passes
+-- two places of the list at which the test passes are one, if it passes once
 count_positive : {X : Type 0} (p : X → Bool) (xs : List X) (i : ℕ) (d : X) → i < length xs → p (get_or xs i d) ≡ true → 1 ≤ count_by p xs
 count_positive p [] i d lt this = absurd (omega arith)
 count_positive p (x ∷ xs) zero d lt this = grind (arith, common_steps)
@@ -59,7 +59,7 @@ step_same p entries receipts i place e lt is lt' is' this so_far =
 step_other : (p : MarkedEntry → Bool) (entries : List MarkedEntry) (i : ℕ) (e : MarkedEntry) → i < length entries → e ≡ get_or entries i e → p e ≡ false → filter p (take (i + 1) entries) ≡ filter p (take i entries)
 step_other p entries i e lt is this = rw (filter_more p entries i e lt, ← is, this) (append-nil (filter p (take i entries)))
 
--- what a receipt at a place says of the rest of the entries
+-- what a receipt at a place gives of the rest of the entries
 rest_is : (p : MarkedEntry → Bool) (entries : List MarkedEntry) (i : ℕ) (e : MarkedEntry) → i < length entries → e ≡ get_or entries i e → p e ≡ true → filter p entries ≡ filter p (take i entries) ++ e ∷ filter p (drop (i + 1) entries)
 rest_is p entries i e lt is this =
     let parts : take i entries ++ e ∷ drop (i + 1) entries ≡ entries = ap (λ (l : List MarkedEntry). take i entries ++ l) (ap (λ (x : MarkedEntry). x ∷ drop (i + 1) entries) is ∙ sym (drop_more entries i e lt)) ∙ take-append-drop i entries in
@@ -134,7 +134,7 @@ not_by_any entries i seats e lt is none good =
     let (k, s, lt', read, by) = good.covered i e lt in
     none k s lt' (ap (λ (x : SeatContents). x.number) read ∙ (by ∙ ap (λ (x : MarkedEntry). by_of x.entry) (sym is)))
 
--- the seat's next receipt is the entry, where the seats' receipts are the entries
+-- the seat's next receipt is the entry, if the seats' receipts are the entries
 pub next_is : (entries : List MarkedEntry) (i : ℕ) (places : List ℕ) (seats : List SeatContents) → Walked entries i places seats
     → (e : MarkedEntry) → i < length entries → e ≡ get_or entries i e
     → (m : ℕ) (s : SeatContents) → m < length seats → s ≡ get_or seats m s → s.number ≡ by_of e.entry

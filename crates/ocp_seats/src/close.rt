@@ -28,10 +28,10 @@ pub struct NotClosed<L: Naming, A: Allocator = Global> {
 }
 
 impl<L: Naming, A: Allocator> Book<L, A> {
-    /// The engine, if the seats are those given out, each once, each entry since the start is by
-    /// one of them, and each seat's receipts are its entries with their marks, in order. Its
-    /// journal is the one at the start, followed by these entries. Else the book and the seats come
-    /// back.
+    /// The engine, whose journal is the one at the start, followed by the entries of the seats.
+    /// Refused, in this order, if the seats are not those given out, each once, and if an entry
+    /// since the start is by none of them or a seat's receipts are not its entries with their
+    /// marks, in order. Then the book and the seats come back.
     pub fn close(self, seats: Vec<Seat<L, A>, A>) -> Result<Engine<A>, NotClosed<L, A>>
         ensures ok { IfOk result (λ engine. engine ≡ self.engine) }
         ensures whole { IfOk result (λ _. IsWhole seats.items self.seats) }

@@ -1,4 +1,4 @@
--- What a closed book says of the engine behind the lock.
+-- What a closed book gives of the engine behind the lock.
 use Rattle.std.proofs.Common.{◌≡◌, ℕ, List, sym, subst, length}
 use Rattle.ocp_core.specs.Log.{Log}
 use Rattle.ocp_core.specs.Marks.{MarkedEntry}

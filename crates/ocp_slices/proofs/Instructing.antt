@@ -22,7 +22,7 @@ append : (crew : ℕ) (w : World) (xs ys : List Event) → AreInstructions crew 
 append crew w [] ys one two = two
 append crew w (x ∷ xs) ys one two = (one.0, append crew (after w x).world xs ys one.1 two)
 
--- the entries behind others have the marks of a journal that begins in the world which those leave
+-- the entries after others have the marks of a journal that begins in the world which those leave
 drop_marked : (w : World) (xs ys : List Entry) → drop (length xs) (entries_with_marks_from w (xs ++ ys)) ≡ entries_with_marks_from (replay_from w (expand xs)) ys
 drop_marked w [] ys = refl
 drop_marked w (x ∷ xs) ys = drop_marked (replay_from w (events_of x)) xs ys ∙ ap (λ (v : World). entries_with_marks_from v ys) (sym (replay_from-append w (events_of x) (expand xs)))
@@ -39,7 +39,7 @@ module _ (refused : (w : World) (e : Event) → is_accepted (after w e).answer �
   stays w by id again o none (suc count) =
       subst (λ (v : World). is_done (last_outcome v by id (next_outcome w id) count) ≡ false) (sym (refused w (Step by id) again)) (stays w by id again (next_outcome w id) again count)
 
-  -- so where the last one is done, the first one is
+  -- so if the last one is done, the first one is
   first : (w : World) (by id : ℕ) (o : StepOutcome) (count : ℕ) → is_done (last_outcome w by id o (suc count)) ≡ true → (b : Bool) → is_accepted (after w (Step by id)).answer ≡ b → b ≡ true
   first w by id o count done true is = refl
   first w by id o count done false is =

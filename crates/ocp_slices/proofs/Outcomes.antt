@@ -1,4 +1,4 @@
--- What a commit's outcome says of its work, and how many instructions are done at most.
+-- What a commit's outcome gives of its work, and the largest number of instructions that are done.
 use Rattle.std.proofs.Common.{◌≡◌, ◌≤◌, ◌↔◌, ℕ, zero, suc, Bool, true, false, cond, Option, Some, None, List, is_some, refl, arith}
 use Rattle.bpf_step.specs.Machine.{State}
 use Rattle.bpf_step.specs.Runs.{local_run, local_count}

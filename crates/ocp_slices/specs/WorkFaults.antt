@@ -4,7 +4,7 @@ use Rattle.ocp_seats.specs.declared.seat.SeatFault.TheVariants as seat
 use Rattle.ocp_slices.specs.declared.crew.WorkFault.{WorkFault}
 use Rattle.ocp_slices.specs.declared.crew.WorkFault.TheVariants.{Memory, NotClosed}
 
--- if a seat is refused
+-- the fault if a seat is refused
 abbrev pub fault_of_seat : SeatFault → WorkFault
 fault_of_seat seat.SeatsFull = NotClosed
 fault_of_seat seat.Memory = Memory

@@ -110,23 +110,23 @@ effect_by (Changes change) id o full = Changed id change
 effect_by (Steps pool) id o full = effect_of_step (outcome_at o pool) id
 effect_by (Fails failure) id o full = Kept (Failed failure)
 
--- by the record of the procedure, if it is loaded
+-- the effect of a directive, by the record of its procedure, if it is loaded
 abbrev pub effect_on : Directive → ℕ → Option Rec → Bool → Effect
 effect_on directive id o full = effect_by (decision_on directive o) id o full
 
--- in these records
+-- its effect in these records
 abbrev pub effect_in : Directive → ℕ → Records → Effect
 effect_in directive id m = effect_on directive id (get m id) (is_full m)
 
--- what it leaves of a table
+-- what a directive leaves of a table
 abbrev pub table_after : Directive → ℕ → Procedures → Procedures
 table_after directive id t = table_by (effect_in directive id t.records) t
 
--- what it is answered by a table
+-- the answer of a table to a directive
 abbrev pub answer_after : Directive → ℕ → Procedures → Result (Unit {0}) StartFailure
 answer_after directive id t = start_result (effect_in directive id t.records)
 
--- it is done to a table, or it fails
+-- a directive is done to a table, or it fails
 pub record Executes (directive : Directive) (id : ℕ) (old new : Procedures)
     (result : Result (Unit {0}) StartFailure) : Type 0 where
   pub answer : result ≡ answer_after directive id old

@@ -32,8 +32,8 @@ use Rattle.ocp_table.specs.Faults.{fault_number}
 use Rattle.ocp_table.specs.Budgets.{budget_of, one_less}
 
 -- what an event does to the record of its procedure: it is started with a budget (0 is none) and
--- arguments, sent words, a stop or suspend becomes pending, it is made inactive, it runs on, an
--- instruction event is done, or a debugger sets or clears a breakpoint or sets the trace flag
+-- arguments; it is sent words; a stop or suspend becomes pending; it is made inactive; it runs on;
+-- an instruction event is done; or a debugger sets or clears a breakpoint or sets the trace flag
 pub data Change : Type 0 where
   Started : ℕ → List ℕ → Change
   Sent : List ℕ → Change
@@ -51,8 +51,8 @@ pub data Why : Type 0 where
   Failed : StartFailure → Why
 
 -- what an event does to the records, to the outbox and to the pool: a procedure is loaded, by a
--- profile and an image, unloaded or changed, the outbox is emptied, the pool word at an index
--- becomes a value, written from outside, or all of it stays
+-- profile and an image, unloaded or changed; the outbox is emptied; the pool word at an index is
+-- set to a value from outside; or all of it stays
 pub data Effect : Type 0 where
   Loaded : Profile → ℕ → List ℕ → Effect
   Unloaded : ℕ → Effect

@@ -47,7 +47,7 @@ pub record Run : Type 0 where
   pub control : Control
   pub remaining : Option ℕ
 
--- that of a procedure, if it is loaded
+-- what a procedure runs by, if it is loaded
 abbrev pub run_of : Option Rec → Option Run
 run_of None = None
 run_of (Some r) = Some (record {

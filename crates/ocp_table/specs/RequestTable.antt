@@ -14,10 +14,10 @@ use Rattle.ocp_table.specs.declared.control.Pending.{Pending}
 use Rattle.ocp_table.specs.declared.control.Pending.TheVariants as pending
 use Rattle.ocp_table.specs.Effects.{Change, Started, Sent, Pended, Quit, Resumed}
 
--- what is asked of a procedure: to load an image that its profile admits, to be dropped, to start
--- with a budget (0 is none) and arguments, to stop or to be held at the end of a step (0 is any),
--- with the request's origin and whether no place is free for what would be pending, to run on, to
--- end at once, to take words, to do its next instruction, with the pool as it is
+-- What is asked of a procedure: to load an image that its profile admits; to be dropped; to start
+-- with a budget (0 is none) and arguments; to stop, or to be held, at the end of a step (0 is any);
+-- to run on; to end at once; to take words; or to do its next instruction, with the pool as it is.
+-- A stop or suspend has the request's origin, and whether no place is free for it.
 pub data Directive : Type 0 where
   Load : Profile → List ℕ → Directive
   Unload : Directive

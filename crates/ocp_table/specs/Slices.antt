@@ -47,7 +47,7 @@ store_after id s = record {
   pool = pool_by (effect_of_event id s) s.pool;
 }
 
--- what it is answered
+-- the answer to it
 abbrev pub answer_to : ℕ → Store → StepOutcome
 answer_to id s = step_outcome (effect_of_event id s)
 

@@ -34,7 +34,7 @@ snapshot_by Inactive r = None
 snapshot_by Running r = Some (snapshot_of r)
 snapshot_by Held r = None
 
--- of a procedure that is loaded and runs
+-- the snapshot of a procedure that is loaded and runs
 abbrev pub snapshot_at : Option Rec → Option Snapshot
 snapshot_at None = None
 snapshot_at (Some r) = snapshot_by r.control.status r

@@ -1,5 +1,5 @@
 //! The request table: what a request does to the record of its procedure, or why it fails; and how
-//! that is enacted.
+//! the record is changed.
 ghost use Rattle.std.specs.Prelude.{◌≡◌, ◌++◌, false, Some, IfOk};
 ghost use Rattle.ocp_table.specs.Clauses.{FitsIn, HasFewArguments, HasPlaceBeside, HasPlaceFor, IfChanges, change_of, decision_of, decision_on, directive_of, dues_by_change, record_by, record_of};
 

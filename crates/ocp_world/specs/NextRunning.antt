@@ -8,7 +8,7 @@ use Rattle.ocp_world.specs.Slice.{is_running}
 abbrev pub Runs : Records → ℕ → Type 0
 Runs m id = is_running (get m id) ≡ true
 
--- and its id is above the one before
+-- the procedure is loaded and runs, and its id is above the one before
 pub record RunsAbove (m : Records) (before id : ℕ) : Type 0 where
   pub runs : Runs m id
   pub above : before < id

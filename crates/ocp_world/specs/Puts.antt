@@ -5,7 +5,7 @@ use Rattle.ocp_table.specs.Effects.{Kept, Unasked, WordPut}
 use Rattle.ocp_world.specs.declared.answers.PutFault.TheVariants.{BadPoolIndex}
 use Rattle.ocp_world.specs.Effect.{Effect, Puts}
 
--- by whether the index is that of a pool word
+-- its effect, by whether the index is that of a pool word
 abbrev pub put_effect_if : Bool → ℕ → ℕ → Effect
 put_effect_if true index value = record { on_records = WordPut index value; reply = Puts (Ok tt) }
 put_effect_if false index value = record {

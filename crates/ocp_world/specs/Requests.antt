@@ -68,7 +68,7 @@ pending_origin origin event = record {
   ack = origin.ack;
 }
 
--- that of the next event of a world, and whether one more completion would find no place there
+-- the same for the next event of a world, and whether one more completion would find no place there
 abbrev pub next_origin : Origin → World → PendingOrigin
 next_origin origin w = pending_origin origin w.events
 
@@ -92,7 +92,7 @@ directive_by (command.Communicate id words) profile from full =
 directive_by command.Status profile from full = None
 directive_by (command.Abort id) profile from full = Some (id, directive.Abort)
 
--- it is done to its procedure; if nothing is asked, the statuses of all procedures are reported
+-- what is asked is done to its procedure; if nothing is, the statuses of all are reported
 abbrev pub effect_asked : Option (ℕ × Directive) → Origin → Records → Effect
 effect_asked (Some asked) origin m = directive_effect origin asked.1 asked.0 m
 effect_asked None origin m = start_effect origin (status_report m ∷ []) (Kept Unasked)

@@ -8,9 +8,9 @@ use Rattle.ocp_table.specs.Records.{Records}
 use Rattle.ocp_debug.specs.declared.command.Command.{Command}
 use Rattle.ocp_debug.specs.declared.trace.Trace.{Trace}
 
--- the profile, the application process, its procedures, the completions that wait to be reported,
--- the oldest first, the words of its pool, how many events it has accepted and how many reports it
--- has sent, and all trace records that were made, the oldest first
+-- the profile; the application process; its procedures; the completions that wait to be reported,
+-- the oldest first; the words of its pool; how many events it has accepted; how many reports it has
+-- sent; and all trace records that were made, the oldest first
 pub record World : Type 0 where
   pub profile : Profile
   pub apid : ℕ

@@ -86,8 +86,8 @@ pub fn a_write_from_outside_changes_its_word_alone()
         (after w (Put by index value)).world.traces ≡ w.traces }
 {}
 
-/// Only a load, an unload, an activation and an own instruction while it runs change a procedure's
-/// machine. Every other event leaves it as it is.
+/// A procedure's machine changes only by its load, its unload, its activation and, while it runs,
+/// its own instruction. Every other event leaves it as it is.
 pub fn only_starts_and_own_instructions_change_machines()
     ensures { (w : World) (e : Event) (id : ℕ) →
         may_change_machine w e id ≡ false →

@@ -28,7 +28,7 @@ pub fn the_machine_faults_by_its_image()
     ensures answer { FaultsAreAnswered }
 {}
 
-/// The pool is the one that the operations of all procedures, and the writes from outside, make.
+/// The pool is what the operations of all procedures and the writes from outside make, in order.
 #[tactic(auto, using(crate::proofs::Pools::pool_is))]
 pub fn the_pool_follows_from_its_operations()
     ensures { PoolIsOfOperations }

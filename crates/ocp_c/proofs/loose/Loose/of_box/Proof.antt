@@ -1,4 +1,4 @@
--- `of_box`: what the box owns goes over to its pointer and its allocator.
+-- `of_box`: what the box owns becomes owned by its pointer and its allocator.
 use Rattle.std.proofs.Common.{◌≡◌, List, [], ◌∷◌, ◌++◌, refl, sym, ap, ◌∙◌, subst}
 use mir.Syntax.{Args, a_type, dcons, dnil}
 use mir.Val.{Val, vptr}
