@@ -282,9 +282,9 @@ static void sizes(void)
         for (size_t one = 0; one < sizeof words / sizeof *words; one++)
             for (size_t two = 0; two < sizeof entries / sizeof *entries; two++)
                 for (size_t three = 0; three < sizeof octets / sizeof *octets; three++)
-                    if (octets[three] != MOST_OCTETS || one == two)
+                    if (octets[three] == MOST_OCTETS ? one == two && (one == 1 || one == 7) : (one + two + three) % 3 == 0)
                         size_of(__LINE__, profile, words[one], entries[two], octets[three]);
-    for (uint32_t number = 1; number <= 200; number++)
+    for (uint32_t number = 1; number <= 100; number++)
         size_of(__LINE__, 1 + number % 2, 1 + number * 7919 % 256, 1 + number * 104729 % 1000000, 1 + number * 1299709 % 1000000);
     HOLDS(ocp_size(1, 1, 1, 1) == 763568 && ocp_size(2, 256, 1000000, MOST_OCTETS) == 1078507392);
 }

@@ -18,6 +18,7 @@
 #include "ocp_engine.h"
 #include "show.h"
 
+#include <ctype.h>
 #include <inttypes.h>
 #include <stdbool.h>
 #include <stdio.h>
@@ -30,12 +31,9 @@ static struct ocp_engine engine = OCP_CLOSED;
 static uint64_t events, until = UINT64_MAX;
 static uint16_t ids[MOST_IDS];
 static int id_count;
-static bool has_reports;
+static bool has_reports, is_over;
 
-/* ---- what ends the replay early */
-
-static bool is_over;
-
+/* Ends the replay early. */
 static void stop(const char *name, uint64_t offset, const char *why)
 {
     if (!is_over)
@@ -43,42 +41,11 @@ static void stop(const char *name, uint64_t offset, const char *why)
     is_over = true;
 }
 
-/* ---- the files, as one */
+/* ---- the files, as one, and their records: the parameters, and each entry after its length */
 
-static char **parts; /* their names */
-static int part_count, part = -1;
-static FILE *file;
-static uint64_t offset; /* in this file */
-
-static bool next_file(void)
-{
-    if (part + 1 >= part_count)
-        return false;
-    if (file != NULL)
-        fclose(file);
-    offset = 0;
-    file = fopen(parts[++part], "rb");
-    if (file == NULL)
-        stop(parts[part], 0, "the file can't be read");
-    return file != NULL;
-}
-
-/* Reads this many octets; gives how many there were. */
-static size_t read_octets(uint8_t *octets, size_t length)
-{
-    size_t got = 0;
-    while (got < length) {
-        size_t more = file != NULL ? fread(octets + got, 1, length - got, file) : 0;
-        if (more == 0 && !next_file())
-            break;
-        got += more;
-        offset += more;
-    }
-    return got;
-}
-
-/* ---- records: the parameters, and each entry after its length */
-
+static char **part; /* the names of the files that are left; a null follows the last one */
+static FILE *file;  /* the first of them, if it is open */
+static uint64_t offset;
 static uint8_t record[LONGEST_RECORD];
 static uint8_t *const entry = record + NUMBER_OCTETS;
 static const char *record_file; /* where it begins */
@@ -91,8 +58,28 @@ static void stop_at_record(const char *why)
 
 static void begin_record(void)
 {
-    record_file = parts[part < 0 ? 0 : part];
+    record_file = *part != NULL ? *part : record_file;
     record_offset = offset;
+}
+
+/* Reads this many octets; gives how many there were. */
+static size_t read_octets(uint8_t *octets, size_t length)
+{
+    size_t got = 0;
+    while (got < length && *part != NULL && !is_over) {
+        if (file == NULL && (file = fopen(*part, "rb")) == NULL)
+            stop(*part, 0, "the file can't be read");
+        size_t more = file != NULL ? fread(octets + got, 1, length - got, file) : 0;
+        got += more;
+        offset += more;
+        if (more == 0 && file != NULL) {
+            fclose(file);
+            file = NULL;
+            if (*++part != NULL)
+                offset = 0;
+        }
+    }
+    return got;
 }
 
 /* Reads the rest of a record of which some octets are there, and gives whether it is whole. */
@@ -171,34 +158,35 @@ static void give_entries(void)
 
 /* ---- the words */
 
-/* The number that a word is, if it has digits alone and is at most the greatest. */
+/* The number that a word is, if it has digits alone and is at most the greatest, which is less than UINT64_MAX. */
 static bool number_of(const char *word, uint64_t greatest, uint64_t *number)
 {
-    size_t digits = word != NULL ? strspn(word, "0123456789") : 0;
-    if (digits == 0 || digits > 19 || word[digits] != '\0')
+    char *end;
+    if (word == NULL || !isdigit((unsigned char)*word))
         return false;
-    *number = strtoull(word, NULL, 10);
-    return *number <= greatest;
+    *number = strtoull(word, &end, 10);
+    return *end == '\0' && *number <= greatest;
 }
 
+/* Reads the options; the names of the files move to the front. */
 static bool read_words(char **word)
 {
+    char **names = part = word;
     uint64_t number;
-    for (parts = word; *word != NULL; word++) {
-        if (strcmp(*word, "--reports") == 0) {
+    for (; *word != NULL; word++) {
+        if (strncmp(*word, "--", 2) != 0)
+            *names++ = *word;
+        else if (strcmp(*word, "--reports") == 0)
             has_reports = true;
-        } else if (strcmp(*word, "--until") == 0 && number_of(word[1], UINT64_MAX - 1, &until)) {
+        else if (strcmp(*word, "--until") == 0 && number_of(word[1], UINT64_MAX - 1, &until))
             word++;
-        } else if (strcmp(*word, "--view") == 0 && id_count < MOST_IDS && number_of(word[1], UINT16_MAX, &number)) {
-            ids[id_count++] = (uint16_t)number;
-            word++;
-        } else if (strncmp(*word, "--", 2) == 0) {
+        else if (strcmp(*word, "--view") == 0 && id_count < MOST_IDS && number_of(word[1], UINT16_MAX, &number))
+            ids[id_count++] = (uint16_t)number, word++;
+        else
             return false;
-        } else {
-            parts[part_count++] = *word;
-        }
     }
-    return part_count > 0;
+    *names = NULL;
+    return names > part;
 }
 
 int main(int words, char **word)
