@@ -161,7 +161,7 @@ static uint32_t request(uint8_t subtype, const uint8_t *data, size_t length)
     return ocp_request(&engine, 5, packet, telecommand(subtype, data, length), reports, OCP_REQUEST_REPORTS, &written);
 }
 
-/* A call that has to be refused: nothing that is seen of the engine changes, nor what is behind the pointers. */
+/* A call that has to be refused: nothing that is seen of the engine changes, nor what the pointers point to. */
 #define REFUSED(status, call) \
     do { \
         struct seen before = see(); \
@@ -541,7 +541,7 @@ static void rounds(void)
     WANT(OCP_DONE, ocp_close(&engine));
 }
 
-/* A journal with room for four entries: what comes behind them is refused, and what is refused before that too. */
+/* A journal with room for four entries: what comes after them is refused, and what is refused before that too. */
 static void full_journal(void)
 {
     struct ocp_outcome outcome;
