@@ -4,8 +4,9 @@
  * of the program. Only ocp_open asks for memory, and only ocp_open and ocp_close give it back.
  *
  * Rules for all calls:
- * - A call returns a status: OCP_DONE or a refusal. A refused call changes neither the engine nor what its pointers point to;
- *   only ocp_entry still writes the length. If several refusals apply, the call returns the first one of its list.
+ * - A call with a handle returns a status: OCP_DONE or a refusal. A refused call changes neither the engine nor what its
+ *   pointers point to; only ocp_entry still writes the length. If several refusals apply, the call returns the first one of its
+ *   list.
  * - A pointer is not null, also for a buffer of length 0. It points to memory that lasts through the call and overlaps no
  *   other argument.
  * - One thread at a time uses a handle, one call at a time, never from a signal handler. The program does not copy a handle,
