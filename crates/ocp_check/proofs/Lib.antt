@@ -7,4 +7,5 @@ pub mod Sound
 pub mod Falls
 pub mod Counted
 pub mod Signs
+pub mod Strides
 pub mod Asked

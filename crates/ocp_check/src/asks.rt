@@ -11,7 +11,7 @@ ghost use Rattle.ocp_check.specs.Never.{AsksWell};
 use crate::certificate::{Node, Row};
 use crate::checker::check;
 use crate::covering::node_at;
-use crate::range::{Range, is_within};
+use crate::range::{Range, Stride, is_within};
 use crate::rounds::STEP_END;
 use bpf_types::Line;
 use ocp_loader::{MAX_SLOTS, Program};
@@ -35,6 +35,7 @@ fn line_asks_well(row: &Row, line: Line, words: u16) -> bool
                         Some(Range {
                             low: 0,
                             high: u64::from(words) - 1,
+                            stride: Stride::One,
                         }),
                     ))
         }

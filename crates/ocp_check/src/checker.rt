@@ -9,7 +9,7 @@ ghost use Rattle.ocp_check.specs.Mirror.Fits.{Fits, FitsAfter};
 
 use crate::certificate::Node;
 use crate::covering::{covers, node_at};
-use crate::range::{Range, only};
+use crate::range::{Range, Stride, only};
 use crate::steps::is_kept;
 use bpf_step::frame::FRAME_POINTER;
 use bpf_step::laws::machines_started_anew_are_as_new;
@@ -26,6 +26,7 @@ pub fn at_start() -> Node
     let number = Some(Range {
         low: 0,
         high: ARGUMENT_OCTETS as u64,
+        stride: Stride::One,
     });
     Node {
         row: [

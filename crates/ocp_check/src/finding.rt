@@ -8,7 +8,7 @@
 use crate::certificate::{Node, after_return};
 use crate::checker::at_start;
 use crate::covering::{range_of, range_of_operand, with_register};
-use crate::range::{Range, is_empty, only, refinement, result_of, sum};
+use crate::range::{Range, follows, is_empty, lesser, only, refinement, result_of, stride_of, sum};
 use crate::steps::{at_call, target};
 use bpf_step::{FRAME_OCTETS, MAX_LOCAL_CALLS};
 use bpf_types::{Comparison, Line, Operand, Reg, Width};
@@ -80,6 +80,7 @@ fn hull(a: Option<Range>, b: Option<Range>) -> Option<Range> {
         (Some(a), Some(b)) => Some(Range {
             low: if a.low < b.low { a.low } else { b.low },
             high: if a.high > b.high { a.high } else { b.high },
+            stride: lesser(stride_of(a), stride_of(b)),
         }),
         _ => None,
     }
@@ -124,10 +125,15 @@ fn widening(landmarks: &[u64], old: Option<Range>, new: Option<Range>) -> Option
         return Some(Range {
             low,
             high: new.high,
+            stride: new.stride,
         });
     }
     match landmark_above(landmarks, new.high) {
-        Some(high) => Some(Range { low, high }),
+        Some(high) => Some(Range {
+            low,
+            high,
+            stride: new.stride,
+        }),
         None => None,
     }
 }
@@ -136,7 +142,12 @@ fn widening(landmarks: &[u64], old: Option<Range>, new: Option<Range>) -> Option
 fn is_same(a: Option<Range>, b: Option<Range>) -> bool {
     match (a, b) {
         (None, None) => true,
-        (Some(a), Some(b)) => a.low == b.low && a.high == b.high,
+        (Some(a), Some(b)) => {
+            a.low == b.low
+                && a.high == b.high
+                && follows(a.stride, b.stride)
+                && follows(b.stride, a.stride)
+        }
         _ => false,
     }
 }

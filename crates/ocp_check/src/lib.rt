@@ -23,6 +23,6 @@ pub use asks::check_pool;
 pub use certificate::{Node, Row};
 pub use checker::check;
 pub use examining::{Findings, examine};
-pub use range::Range;
+pub use range::{Range, Stride};
 pub use refusal::{Refusal, Why};
 pub use rounds::check_rounds;

@@ -3,7 +3,7 @@ ghost use Rattle.std.specs.Prelude.{◌*◌, ◌≡◌, ◌≤◌, ◌<◌, ◌+
 ghost use Rattle.std.specs.Int.{w64, cast_unsigned};
 ghost use Rattle.bpf_types.specs.declared.line.Width.{Width};
 ghost use Rattle.bpf_values.specs.Value.{arithmetic_result, is_taken, modulus, passes};
-ghost use Rattle.ocp_check.specs.Mirror.Ranges.{IsIn, IsThere, half_of, just, test_without_signs};
+ghost use Rattle.ocp_check.specs.Mirror.Ranges.{IsIn, IsMultiple, IsThere, half_of, just, test_without_signs};
 
 use bpf_types::{Comparison, Operation, Width};
 use ocp_regions::{ARGUMENT_OCTETS, ARGUMENTS, STACK, STACK_OCTETS};
@@ -14,12 +14,88 @@ const WORK: u64 = 0x3000_0000;
 /// How many octets the work region has under every profile.
 const WORK_OCTETS: u64 = 1024;
 
-/// The numbers from `low` to `high`. If `high` is less there is none: a machine of which this is
-/// known never comes about.
+/// Numbers of which each is a multiple of one, two, four or eight.
+#[derive(Clone, Copy, Debug)]
+pub enum Stride {
+    One,
+    Two,
+    Four,
+    Eight,
+}
+
+/// The numbers from `low` to `high` that are multiples of the stride. If `high` is less there is
+/// none: a machine of which this is known never comes about.
 #[derive(Clone, Copy, Debug)]
 pub struct Range {
     pub low: u64,
     pub high: u64,
+    pub stride: Stride,
+}
+
+/// The greatest stride of which a number is a multiple.
+fn stride_of_number(number: u64) -> Stride
+    ensures { IsMultiple result number }
+{
+    if number % 8 == 0 {
+        Stride::Eight
+    } else if number % 4 == 0 {
+        Stride::Four
+    } else if number % 2 == 0 {
+        Stride::Two
+    } else {
+        Stride::One
+    }
+}
+
+/// The stride of a range; that of its number, if it has one.
+pub fn stride_of(range: Range) -> Stride
+    ensures { (v : ℕ) → IsIn (Some range) v → IsMultiple result v }
+{
+    if range.low == range.high {
+        stride_of_number(range.low)
+    } else {
+        range.stride
+    }
+}
+
+/// The stride of numbers that have one or the other.
+pub fn lesser(a: Stride, b: Stride) -> Stride
+    ensures first { (v : ℕ) → IsMultiple a v → IsMultiple result v }
+    ensures second { (v : ℕ) → IsMultiple b v → IsMultiple result v }
+{
+    if follows(a, b) {
+        b
+    } else if follows(b, a) {
+        a
+    } else {
+        Stride::One
+    }
+}
+
+/// Whether each multiple of the first stride is one of the second.
+pub fn follows(a: Stride, b: Stride) -> bool
+    ensures { IsTrue result → (v : ℕ) → IsMultiple a v → IsMultiple b v }
+{
+    match (a, b) {
+        (_, Stride::One) => true,
+        (Stride::Two, Stride::Two) => true,
+        (Stride::Four, Stride::Two) => true,
+        (Stride::Four, Stride::Four) => true,
+        (Stride::Eight, _) => true,
+        _ => false,
+    }
+}
+
+/// The greatest number of a range.
+fn top_of(range: Range) -> u64
+    ensures { (v : ℕ) → IsIn (Some range) v → v ≤ result }
+{
+    match range.stride {
+        Stride::One => range.high,
+        Stride::Two => range.high - range.high % 2,
+        Stride::Four => range.high - range.high % 4,
+        Stride::Eight => range.high - range.high % 8,
+    }
 }
 
 /// One number.
@@ -30,6 +106,7 @@ pub fn only(number: u64) -> Option<Range>
     Some(Range {
         low: number,
         high: number,
+        stride: Stride::One,
     })
 }
 
@@ -51,7 +128,10 @@ pub fn is_within(inner: Option<Range>, outer: Option<Range>) -> bool
         (_, None) => true,
         (None, Some(_)) => false,
         (Some(inner), Some(outer)) => {
-            inner.high < inner.low || (outer.low <= inner.low && inner.high <= outer.high)
+            inner.high < inner.low
+                || (outer.low <= inner.low
+                    && inner.high <= outer.high
+                    && follows(stride_of(inner), outer.stride))
         }
     }
 }
@@ -63,11 +143,13 @@ pub fn sum(a: Option<Range>, b: Option<Range>) -> Option<Range>
     let (Some(a), Some(b)) = (a, b) else {
         return None;
     };
+    let stride = lesser(stride_of(a), stride_of(b));
     match (a.low.checked_add(b.low), a.high.checked_add(b.high)) {
-        (Some(low), Some(high)) => Some(Range { low, high }),
+        (Some(low), Some(high)) => Some(Range { low, high, stride }),
         (None, None) => Some(Range {
             low: a.low.wrapping_add(b.low),
             high: a.high.wrapping_add(b.high),
+            stride,
         }),
         _ => None,
     }
@@ -84,6 +166,7 @@ fn difference(a: Option<Range>, b: Option<Range>) -> Option<Range>
         Some(Range {
             low: a.low - b.high,
             high: a.high - b.low,
+            stride: Stride::One,
         })
     } else {
         None
@@ -99,7 +182,11 @@ fn product(a: Option<Range>, b: Option<Range>) -> Option<Range>
     };
     let low = a.low.checked_mul(b.low)?;
     let high = a.high.checked_mul(b.high)?;
-    Some(Range { low, high })
+    Some(Range {
+        low,
+        high,
+        stride: Stride::One,
+    })
 }
 
 /// What is known of a shift to the left by 1 to 4, which multiplies by 2 to 16.
@@ -124,6 +211,7 @@ fn shift_right(a: Option<Range>) -> Option<Range>
     Some(Range {
         low: 0,
         high: a.high,
+        stride: Stride::One,
     })
 }
 
@@ -137,6 +225,7 @@ fn quotient(a: Option<Range>) -> Option<Range>
     Some(Range {
         low: 0,
         high: a.high,
+        stride: Stride::One,
     })
 }
 
@@ -153,6 +242,7 @@ fn remainder(b: Option<Range>) -> Option<Range>
         Some(Range {
             low: 0,
             high: b.high - 1,
+            stride: Stride::One,
         })
     }
 }
@@ -167,6 +257,7 @@ fn conjunction(b: Option<Range>) -> Option<Range>
     Some(Range {
         low: 0,
         high: b.high,
+        stride: Stride::One,
     })
 }
 
@@ -179,6 +270,7 @@ fn low(a: Option<Range>) -> Option<Range>
         _ => Some(Range {
             low: 0,
             high: 0xffff_ffff,
+            stride: Stride::One,
         }),
     }
 }
@@ -227,11 +319,13 @@ fn range_by_test(width: Width, comparison: Comparison, held: bool, b: Range) -> 
             Some(Range {
                 low: 0,
                 high: b.high - 1,
+                stride: Stride::One,
             })
         }
         (Comparison::LessOrEqual, true) | (Comparison::Greater, false) => Some(Range {
             low: 0,
             high: b.high,
+            stride: Stride::One,
         }),
         (Comparison::Equal, true) | (Comparison::NotEqual, false) => Some(b),
         _ => None,
@@ -263,6 +357,7 @@ fn refinement_unsigned(
                 Some(Range {
                     low: a.low,
                     high: b.high - 1,
+                    stride: a.stride,
                 })
             }
         }
@@ -273,6 +368,7 @@ fn refinement_unsigned(
                 Some(Range {
                     low: b.low,
                     high: a.high,
+                    stride: a.stride,
                 })
             }
         }
@@ -283,6 +379,7 @@ fn refinement_unsigned(
                 Some(Range {
                     low: a.low,
                     high: b.high,
+                    stride: a.stride,
                 })
             }
         }
@@ -293,6 +390,7 @@ fn refinement_unsigned(
                 Some(Range {
                     low: b.low + 1,
                     high: a.high,
+                    stride: a.stride,
                 })
             }
         }
@@ -301,16 +399,22 @@ fn refinement_unsigned(
             if b.low != b.high {
                 Some(a)
             } else if a.low == b.low && a.high == b.low {
-                Some(Range { low: 1, high: 0 })
+                Some(Range {
+                    low: 1,
+                    high: 0,
+                    stride: Stride::One,
+                })
             } else if a.low == b.low && a.low < a.high {
                 Some(Range {
                     low: a.low + 1,
                     high: a.high,
+                    stride: a.stride,
                 })
             } else if a.high == b.low && a.low < a.high {
                 Some(Range {
                     low: a.low,
                     high: a.high - 1,
+                    stride: a.stride,
                 })
             } else {
                 Some(a)
@@ -353,7 +457,11 @@ fn greatest_without_sign(width: Width) -> Range
         Width::W32 => 0x7fff_ffff,
         Width::W64 => 0x7fff_ffff_ffff_ffff,
     };
-    Range { low: high, high }
+    Range {
+        low: high,
+        high,
+        stride: Stride::One,
+    }
 }
 
 /// Whether the first operand of a test of signed numbers is the second one or greater, if the test
@@ -378,6 +486,7 @@ fn upward(width: Width, a: Range, b: Range) -> Range
     Range {
         low: if b.low < a.low { a.low } else { b.low },
         high: if a.high < half { a.high } else { half },
+        stride: a.stride,
     }
 }
 
@@ -436,12 +545,13 @@ pub fn is_there(base: Option<Range>, offset: i16, octets: u64, writes: bool) -> 
     match sum(base, only(distance)) {
         None => false,
         Some(at) => {
+            let top = top_of(at);
             at.high < at.low
-                || (STACK <= at.low && at.high <= STACK + STACK_OCTETS as u64 - octets)
-                || (WORK <= at.low && at.high <= WORK + WORK_OCTETS - octets)
+                || (STACK <= at.low && top <= STACK + STACK_OCTETS as u64 - octets)
+                || (WORK <= at.low && top <= WORK + WORK_OCTETS - octets)
                 || (!writes
                     && ARGUMENTS <= at.low
-                    && at.high <= ARGUMENTS + ARGUMENT_OCTETS as u64 - octets)
+                    && top <= ARGUMENTS + ARGUMENT_OCTETS as u64 - octets)
         }
     }
 }

@@ -1,19 +1,28 @@
 -- What is known of a register, of all registers, and of an access.
-use Rattle.std.specs.Prelude.{◌≡◌, ◌≤◌, ◌<◌, ◌⊎◌, ℕ, ◌+◌, ◌^◌, Bool, false, List, length, slice_index, slice_index_or, Option, Some, None}
+use Rattle.std.specs.Prelude.{◌≡◌, ◌≤◌, ◌<◌, ◌⊎◌, ℕ, ◌+◌, ◌%◌, ◌^◌, Bool, false, List, length, slice_index, slice_index_or, Option, Some, None}
 use Rattle.bpf_types.specs.declared.line.Width.{Width}
 use Rattle.bpf_types.specs.declared.line.Width.TheVariants.{W32, W64}
 use Rattle.bpf_types.specs.declared.line.Comparison.{Comparison}
 use Rattle.bpf_types.specs.declared.line.Comparison.TheVariants as comparison
 use Rattle.ocp_check.specs.declared.range.Range.{Range}
+use Rattle.ocp_check.specs.declared.range.Stride.{Stride}
+use Rattle.ocp_check.specs.declared.range.Stride.TheVariants.{One, Two, Four, Eight}
+
+-- the number is a multiple of the stride
+abbrev pub IsMultiple : Stride → ℕ → Type 0
+IsMultiple One v = Unit {0}
+IsMultiple Two v = v % 2 ≡ 0
+IsMultiple Four v = v % 4 ≡ 0
+IsMultiple Eight v = v % 8 ≡ 0
 
 -- the number is one of those that are known of; if nothing is known, any number is
 abbrev pub IsIn : Option Range → ℕ → Type 0
 IsIn None v = Unit {0}
-IsIn (Some r) v = (r.low ≤ v) × (v ≤ r.high)
+IsIn (Some r) v = (r.low ≤ v) × (v ≤ r.high) × IsMultiple r.stride v
 
 -- one number
 abbrev pub just : ℕ → Option Range
-just number = Some (record { low = number; high = number })
+just number = Some (record { low = number; high = number; stride = One })
 
 -- from this number on a number of the width has a sign
 abbrev pub half_of : Width → ℕ

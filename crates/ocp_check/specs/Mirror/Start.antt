@@ -3,13 +3,15 @@ use Rattle.std.specs.Prelude.{[], ◌∷◌, Some, None}
 use Rattle.ocp_regions.specs.declared.regions.TheConstants.{ARGUMENTS, ARGUMENT_OCTETS}
 use Rattle.bpf_step.specs.declared.frame.TheConstants.{FRAME_POINTER}
 use Rattle.ocp_check.specs.declared.certificate.Node.{Node}
+use Rattle.ocp_check.specs.declared.range.Stride.TheVariants.{One}
 use Rattle.ocp_check.specs.Mirror.Ranges.{just}
 
 -- R1 is the address of the arguments, R2 their number, R10 the end of the stack, and all others are
 -- zero
 abbrev pub node_at_start : Node
 node_at_start = record {
-  row = just 0 ∷ just ARGUMENTS ∷ Some (record { low = 0; high = ARGUMENT_OCTETS }) ∷ just 0
+  row = just 0 ∷ just ARGUMENTS
+      ∷ Some (record { low = 0; high = ARGUMENT_OCTETS; stride = One }) ∷ just 0
       ∷ just 0 ∷ just 0 ∷ just 0 ∷ just 0 ∷ just 0 ∷ just 0 ∷ just FRAME_POINTER ∷ [];
   depth = 0;
   promise = None;
