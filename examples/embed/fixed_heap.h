@@ -1,7 +1,7 @@
 /* The three functions by which the library takes memory, and the block of fixed_heap.c.
  *
  * A program links one implementation of them: fixed_heap.c, liblibc_c.a of the toolchain (over malloc), or its own. It owes the
- * library what is said of each function here. Only ocp_open takes pieces; it gives them back if it is refused, else ocp_close
+ * library what this header states of each function. Only ocp_open takes pieces; it gives them back if it is refused, else ocp_close
  * does.
  *
  * fixed_heap.c passes out a static block from its start, in pieces that begin at multiples of 16. The block is whole again when

@@ -33,7 +33,7 @@ impl Desk {
         self.engine = engine;
     }
 
-    /// So many workers make that number of turns each.
+    /// Each of a number of workers makes `turns` turns.
     fn work<R: Threads + Wait + Sync>(
         &mut self,
         rt: &R,
@@ -101,7 +101,7 @@ impl Calls for Desk {
     }
 }
 
-/// An engine of a profile, an application process identifier, so many pool words, and so many
+/// An engine of a profile and an application process identifier, with numbers of pool words and of
 /// entries, in words.
 fn engine_of(
     alloc: Global,
