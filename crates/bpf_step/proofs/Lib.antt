@@ -7,3 +7,4 @@ pub mod Ops
 pub mod Runs
 pub mod Same
 pub mod Accesses
+pub mod Left

@@ -13,3 +13,4 @@ pub mod Listed
 pub mod Room
 mod InOrder
 mod Loaded
+mod Found
