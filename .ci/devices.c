@@ -5,7 +5,7 @@
 #include <unistd.h>
 
 /* A standard input that gives at most PIECE octets at a call and a standard output that takes no more, and of which the call of
-   number READ, or WRITE, fails: that one alone, so that a program that tries it again gets on. */
+   number READ, or WRITE, fails: only that one, so a program that tries it again succeeds. */
 
 typedef struct {
     long calls, failing;

@@ -59,7 +59,7 @@ def sources():
 
 
 class Change:
-    """A change: where it is, how to make it (which answers how to take it back), and what the place says before and after."""
+    """A change: its place, how to make it (which answers how to undo it), and the text before and after."""
 
     def __init__(self, module, function, line, make, words):
         self.module, self.function, self.line, self.make = module, function, line, make
@@ -186,7 +186,7 @@ def is_import_or_docstring(node):
 
 
 def excuses():
-    """For each change that shows nowhere, the reason. In the file a reason stands above its changes, behind `#`."""
+    """For each change that shows nowhere, the reason. In the file a reason is above its changes, after `#`."""
     reason, found = "", {}
     with open(EXCUSES) as file:
         for line in file.read().splitlines():
@@ -224,7 +224,7 @@ class Runs:
         self.spans = {name: [(it.lineno, it.end_lineno) for it in ast.walk(tree) if isinstance(it, ast.FunctionDef)] for name, tree in sources.trees.items()}
 
     def of(self, change):
-        """The cases that enter the function of a change; all of them where it is in none."""
+        """The cases that enter the function of a change; all of them if it is in none."""
         spans = [it for it in self.spans[change.module] if it[0] <= change.line <= it[1]]
         if not spans:
             return [case for case, _ in self.runs]

@@ -8,8 +8,9 @@
 #include <sys/mman.h>
 #include <unistd.h>
 
-/* Refuses the growth of number REFUSE that a program asks for (1 is the first), with LENGTH as many from it on, and then makes
-   the file REFUSED; so it does where the C library has no memory. The first eight octets of the file ASKED are how many growths it asked for. */
+/* Refuses the growth of number REFUSE that a program asks for (1 is the first), or LENGTH growths from it on, and then makes the
+   file REFUSED; it also does so if the C library has no memory. The first eight octets of the file ASKED are the number of growths
+   that the program asked for. */
 
 static atomic_ulong here, *asked = &here;
 static unsigned long refused, length;
@@ -41,7 +42,7 @@ static int is_refused(void) {
     return refused != 0 && number >= refused && number - refused < length;
 }
 
-/* The block, and the file that says so where there is none. */
+/* The block, and the file that says so if there is none. */
 static void *told(void *block) {
     const char *file = block ? NULL : getenv("REFUSED");
     int out = file ? open(file, O_WRONLY | O_CREAT, 0644) : -1;

@@ -130,7 +130,7 @@ class Console:
             return [f"refused {refused}"]
 
     def work(self, words):
-        """Each worker's turns, one behind another: what a case prints is the same in whichever order workers come."""
+        """Each worker's turns, one after another: what a case prints is the same in any order of the workers."""
         workers, most, turns = exactly(words, 3)
         workers, most, turns = positive(workers, 16), positive(most, 1000000), positive(turns, 1000000)
         last = None

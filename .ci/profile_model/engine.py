@@ -30,7 +30,7 @@ class Procedure:
         self.breaks, self.traced = set(), False
 
     def start(self, machine, budget):
-        """What remains is None where the budget is 0, or none is given."""
+        """What remains is None if the budget is 0, or none is given."""
         self.machine, self.mailbox, self.passes, self.remaining = machine, [], False, budget or None
         self.status, self.cause = "running", "none"
 
@@ -327,7 +327,7 @@ class Engine:
         return done
 
     def turn(self, last, most):
-        """One turn of a worker, behind that of the procedure `last`; the procedure that it was of, or None where none runs."""
+        """One turn of a worker, after that of the procedure `last`; the procedure that it was of, or None if none runs."""
         running = sorted(name for name, it in self.procedures.items() if it.status == "running")
         if not running:
             return None

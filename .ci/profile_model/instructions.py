@@ -14,7 +14,7 @@ CUT_WIDE, UNKNOWN, BAD_REGISTER, RESERVED, WRITES_FRAME = 1, 2, 3, 4, 5
 
 
 class BadSlot(Exception):
-    """A slot where no instruction begins that may be loaded."""
+    """A slot at which no instruction begins that may be loaded."""
 
 
 class Instruction:
@@ -79,7 +79,7 @@ def row_of(opcode, dst, src, offset, imm, after):
 
 
 def decoded(slot, after):
-    """The instruction that begins with a slot of 8 octets, where `after` is the next one or None."""
+    """The instruction that begins with a slot of 8 octets, `after` is the next one or None."""
     opcode, registers, offset, imm = struct.unpack("<BBhi", slot)
     dst, src = registers & 15, registers >> 4
     if opcode == 0x18 and after is None:
@@ -97,7 +97,7 @@ def decoded(slot, after):
 
 
 def instructions(image):
-    """The places of an image where instructions begin, with them, as far as they are some: BadSlot then has the place."""
+    """The places of an image at which instructions begin, with them, up to a slot that begins none: BadSlot then has the place."""
     slots, place = [image[at : at + 8] for at in range(0, len(image), 8)], 0
     while place < len(slots):
         try:

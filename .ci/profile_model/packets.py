@@ -28,7 +28,7 @@ def error_control(octets):
 
 
 def telecommand(packet, apid):
-    """The flags, source, service, subtype and payload of a telecommand; source and fault where it is rejected."""
+    """The flags, source, service, subtype and payload of a telecommand; source and fault if it is rejected."""
     if len(packet) < 7:
         raise Discarded("Short")
     head = number(packet[0:2])

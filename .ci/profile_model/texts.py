@@ -112,7 +112,7 @@ def encoded(opcode, dst=0, src=0, offset=0, imm=0):
 
 
 def with_place(read, tokens, shape):
-    """Operands of a load or a store, and the distance that may stand at the end of the brackets."""
+    """Operands of a load or a store, and the distance that may be at the end of the brackets."""
     if len(tokens) == len(shape):
         return *shaped(tokens, shape), 0
     end = shape.index("]")
@@ -145,7 +145,7 @@ def opcode_of(table, name):
 
 
 def access(read, name, rest):
-    """A load or a store; None where the name is of neither."""
+    """A load or a store; None if the name is of neither."""
     if opcode := opcode_of(LOADS | SIGNED_LOADS, name):
         dst, src, offset = with_place(read, rest, list("x,[x]"))
         return encoded(opcode, read.register(dst), read.register(src), offset)

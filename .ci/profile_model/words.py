@@ -10,7 +10,7 @@ class Syntax(Exception):
 
 
 def decimal(word, greatest):
-    """A number; none has more than 20 digits behind its zeros in front."""
+    """A number; none has more than 20 digits after its leading zeros."""
     digits = re.fullmatch(b"0*(?P<value>[0-9]{1,20})", word)
     if not digits or int(digits["value"]) > greatest:
         raise Syntax
@@ -52,7 +52,7 @@ def text_of(word):
 
 
 def payload_of(profile, words):
-    """Subtype and payload of the request that the words behind `send` and the flags say."""
+    """Subtype and payload of the request that the words after `send` and the flags say."""
     verb, words = words[0], words[1:]
     two = lambda value: value.to_bytes(2, "big")
     if verb == b"load":

@@ -22,7 +22,7 @@ KEEPER = None               # what ends the runs of a server that was killed (ke
 
 
 def sentence(said):
-    """The first line of what a command says of a fault, without the number of the line."""
+    """The first line in which a command describes a fault, without the number of the line."""
     return re.sub(r"^(line \d+: |the input: )", "", said.strip().split("\n")[0])
 
 

@@ -127,7 +127,7 @@ def faults(page):
 
 def verdict(page):
     """What may fault is marked in the text and in the listing, with why; a mended text is said never to fault."""
-    page.set("text", "; reads behind its arguments\n\tadd64 r1, r2\n\tldxb r0, [r1]\n\texit\n")
+    page.set("text", "; reads after its arguments\n\tadd64 r1, r2\n\tldxb r0, [r1]\n\texit\n")
     why = "may be AccessOutside: r1 is 0x20000000 to 0x20000100"
     page.until("what may fault", lambda: page.shown("verdict").startswith(f"slot 1   {why}"))
     page.check("page: its line", page.marks("text", "may") == [[3, why]])
@@ -278,14 +278,14 @@ def files(page, ocp, folder):
     page.until("the tab before", lambda: "mov64 r3, 9" in page.shown("listing"))
     page.check("page: the tab before has its procedure's number", page.find("id").get_attribute("value") == before != "12")
     page.find("tabs").find_elements(page.by.TAG_NAME, "button")[2].click()
-    page.until("the tab behind", lambda: "mov64 r4, 8" in page.shown("listing"))
-    page.check("page: so has the tab behind", page.find("id").get_attribute("value") == "12")
+    page.until("the tab after it", lambda: "mov64 r4, 8" in page.shown("listing"))
+    page.check("page: so has the tab after it", page.find("id").get_attribute("value") == "12")
     page.find("tabs").find_elements(page.by.TAG_NAME, "button")[1].click()
     page.until("the tab before, again", lambda: "mov64 r3, 9" in page.shown("listing"))
 
 
 def big(page, ocp):
-    """A pass of 16 procedures and 100,000 events: a click is answered within 0.3 s, or later where processes wait for cores."""
+    """A pass of 16 procedures and 100,000 events: a click is answered within 0.3 s, or later if processes wait for cores."""
     image = ocp(["asm"], "a: add64 r0, 1\nstxdw [r10-8], r0\nja a\n").strip()
     script = "".join(f"send 0 load {number} {image}\nsend 0 activate {number}\n" for number in range(16))
     page.set("script", script + "".join(f"step {index % 16} 16\n" for index in range(6250)))
@@ -345,7 +345,7 @@ def example(page):
         page.key(page.keys.ARROW_LEFT)
         time.sleep(0.3)
     page.until("the octets of the address", lambda: page.script(changed) == "03 00")
-    page.until("the line behind the store", lambda: [line for line, _ in page.marks("text", "next")] == [10])
+    page.until("the line after the store", lambda: [line for line, _ in page.marks("text", "next")] == [10])
     page.until("the store in words", lambda: page.shown("last") == "The last event did stxdw [r2+0], r1 at place 7, line 9: r2+0 is 0x10000ff8. It changed "
                "stack 10000ff8: 00 → 03, 10000ffb: 30 → 00.")
     mended = page.find("text").get_attribute("value").replace("jle64 r1, 3", "jlt64 r1, 3")
@@ -397,12 +397,12 @@ def newcomer(page, ocp):
     page.press("Load", "Activate", "Step")
     page.script("document.getElementById('help').open = true; scrollTo(0, 0)")
     page.key(page.keys.END, page.keys.ARROW_LEFT, page.keys.ARROW_RIGHT)
-    page.until("the line that is next stands above the foot", lambda: page.marks("text", "next") == [[18, ""]] and page.script(
+    page.until("the line that is next is above the foot", lambda: page.marks("text", "next") == [[18, ""]] and page.script(
         "return document.querySelector('.bar.next').getBoundingClientRect().bottom <= document.querySelector('footer').getBoundingClientRect().top"))
     page.script("scrollTo(0, 0)")
     page.find("text").send_keys(page.keys.CONTROL, page.keys.END)
     page.find("text").send_keys("exit", page.keys.BACKSPACE * 4)
-    page.check("page: what is written stands above the foot", page.script("const area = document.getElementById('text');"
+    page.check("page: what is written is above the foot", page.script("const area = document.getElementById('text');"
                "return area.getBoundingClientRect().top + 4 + 18 * area.value.split('\\n').length - area.scrollTop <= document.querySelector('footer').getBoundingClientRect().top"))
     page.script("document.getElementById('help').open = false; scrollTo(0, 1e6)")
     page.key("f")
@@ -423,7 +423,7 @@ def newcomer(page, ocp):
 
 
 def nothing_overlaps(page):
-    """At 1280 and 800 columns nothing stands over another thing, and nothing is wider than the page."""
+    """At 1280 and 800 columns nothing is over another thing, and nothing is wider than the page."""
     for width in (1280, 800):
         page.driver.set_window_size(width, 1000)
         time.sleep(0.3)

@@ -10,7 +10,7 @@ def words_of(line):
 
 
 def decimal(word, most=2**64 - 1):
-    """The number of a word; None where it is none, or a greater one."""
+    """The number of a word; None if it is none, or a greater one."""
     digits = word.lstrip("0")
     if not re.fullmatch("[0-9]+", word) or len(digits) > 20:
         return None

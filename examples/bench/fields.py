@@ -1,4 +1,4 @@
-"""What is written into the page's fields, and what the page says of it."""
+"""What is written into the page's fields, and what the page then says."""
 import time
 
 
@@ -16,11 +16,11 @@ def numbers(page):
     page.write("number", "10")
     page.write("id", "7x")
     page.press("Reload")
-    page.until("a procedure that is none", lambda: page.shown("message") == "A procedure is decimal digits, and stands here as 7x.")
+    page.until("a procedure that is none", lambda: page.shown("message") == "A procedure is decimal digits; found 7x.")
     page.write("id", "7")
     page.write("number", "0x2")
     page.press("Mark place")
-    page.until("a place that is none", lambda: page.shown("message") == "A place is decimal digits, and stands here as 0x2.")
+    page.until("a place that is none", lambda: page.shown("message") == "A place is decimal digits; found 0x2.")
     page.write("number", "10")
     for written in ("0x10", "1 2", ""):
         page.write("pool", f"{written}\t")
@@ -31,8 +31,8 @@ def numbers(page):
 
 
 def shield(page, shielded):
-    """The page says where a build of a text in C may read more than the text."""
-    page.check("page: what it says of a shield", page.script("return document.getElementById('unshielded').checkVisibility()") == (shielded is False))
+    """The page says if a build of a text in C may read more than the text."""
+    page.check("page: its words on a shield", page.script("return document.getElementById('unshielded').checkVisibility()") == (shielded is False))
 
 
 def profiles(page):

@@ -75,7 +75,7 @@ def some_octets(chance, address, key):
 
 
 def answer_to(address, octets):
-    """The status and the body of an answer; None where the connection was closed without one."""
+    """The status and the body of an answer; None if the connection was closed without one."""
     host, port, _ = client.place_of(address)
     with socket.create_connection((host, port), 15) as line:
         line.sendall(octets)

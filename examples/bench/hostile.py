@@ -1,4 +1,4 @@
-"""Texts, scripts and clients that mean harm: the bench answers in time, keeps within its bounds, and leaves nothing behind."""
+"""Texts, scripts and clients that mean harm: the bench answers in time, keeps within its bounds, and leaves no process or file."""
 import json
 import os
 import signal
@@ -45,7 +45,7 @@ def running(part):
 
 
 def with_way(way, work):
-    """Does something with builds behind this shield, or behind none."""
+    """Does something with builds under this shield, or under none."""
     usual, shield.way_of = shield.way_of, lambda run: way
     try:
         return work()
@@ -58,7 +58,7 @@ def ways():
 
 
 def files_that_are_read(check, program):
-    """A text reads the file of another only where there is no shield."""
+    """A text reads the file of another only if there is no shield."""
     with tempfile.TemporaryDirectory() as folder:
         secret = Path(folder) / "secret"
         secret.write_text("extern int from_another_file;\n")
@@ -70,7 +70,7 @@ def files_that_are_read(check, program):
                 check(f"a file of another text, {way.__name__ if way else 'no shield'}", is_read == (way is None))
             text = '#include "ocp.h"\n' + ENTRY.replace("3;", "/* \f0 text.c:99 */ 3;")
             image, _, places, faults, said = with_way(way, lambda: texts.built(program, text))
-            check("a text of its own behind the shield", (image, faults, said) == (IMAGE, [], "") and places == {0: 3, 1: 3})
+            check("a text of its own under the shield", (image, faults, said) == (IMAGE, [], "") and places == {0: 3, 1: 3})
     if not ways():
         print("skipped: no bubblewrap or unshare that a user may use")
 
@@ -234,7 +234,7 @@ def strangers(check, address):
 
 
 def raw(address, *lines, body=b"{}"):
-    """The status of a request whose lines are given as they stand."""
+    """The status of a request whose lines are given as they are."""
     host, port, path = client.place_of(address)
     with socket.create_connection((host, port), 5) as line:
         head = [f"POST {path}names HTTP/1.1", "Content-Type: application/json", *lines, "", ""]

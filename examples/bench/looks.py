@@ -111,7 +111,7 @@ def visits_of_line(talk, before, number, places, count, again, resume):
         events.append(0)
     answers = talk.ask([f"break {number} {place}" for place in places])
     if any(answer.endswith("BreaksFull") for answer in answers):
-        raise Refused("8 breakpoints stand already in this procedure: take one away to look for other places")
+        raise Refused("this procedure has 8 breakpoints: remove one to look for other places")
     mine = [place for place, answer in zip(places, answers) if answer.endswith(" set")]
     while done < count:
         shown = talk.ask([f"{again} {count - done}", f"view {number}"])

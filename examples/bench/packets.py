@@ -24,7 +24,7 @@ def number(octets):
 
 
 class Fields:
-    """The fields of a packet: first octet, octet behind the last one, bits, name, value."""
+    """The fields of a packet: first octet, octet after the last one, bits, name, value."""
 
     def __init__(self, octets):
         self.octets = octets
@@ -32,7 +32,7 @@ class Fields:
         self.at = 0
 
     def bits(self, size, *parts):
-        """Several fields in so many octets, the highest bits first."""
+        """Several fields in a number of octets, the highest bits first."""
         if self.at + size > len(self.octets):
             return self.rest("cut")
         value, left = number(self.octets[self.at:self.at + size]), 8 * size
@@ -46,7 +46,7 @@ class Fields:
         self.bits(size, (8 * size, name, says))
 
     def rest(self, name, end=0, says=None):
-        """All octets but so many at the end."""
+        """All octets but a number of them at the end."""
         last = len(self.octets) - end
         if self.at < last:
             part = self.octets[self.at:last]
@@ -64,7 +64,7 @@ def is_of(named):
 
 
 def dissected(octets, profile, names):
-    """The fields of a packet of either kind, as far as it goes."""
+    """The fields of a packet of either kind, up to its end."""
     fields = Fields(octets)
     fields.bits(2, (3, "packet version", None), (1, "type", is_of({0: "telemetry", 1: "telecommand"})),
                 (1, "secondary header", is_of({0: "none", 1: "there"})), (11, "APID", None))
@@ -129,7 +129,7 @@ def report_fields(fields, names):
 
 
 def telecommand(line, count, apid, profile):
-    """The octets that a `send` or an `up` line gives to the engine; None where it gives none."""
+    """The octets that a `send` or an `up` line gives to the engine; None if it gives none."""
     words = words_of(line)
     if words[:1] == ["up"]:
         return bytes.fromhex("".join(words[1:])) if re.fullmatch("([0-9a-fA-F]{2})*", "".join(words[1:])) else None

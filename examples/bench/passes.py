@@ -1,6 +1,6 @@
-"""What the built program says of a pass: its lines, its events, and the state at a moment.
+"""What the built program prints for a pass: its lines, its events, and the state at a moment.
 
-Nothing here knows what an instruction does. A moment is (done, count): so many whole lines, and then so many instructions of
+Nothing here knows what an instruction does. A moment is (done, count): `done` whole lines, and then `count` instructions of
 the next line, which is a `step` line. Its state is what the program prints for just these lines. What was read of lines that
 two scripts have in common is read once.
 """
@@ -99,7 +99,7 @@ class Pass:
         return run([self.program, "run", *self.words], "".join(line + "\n" for line in lines))
 
     def read(self, begin, other):
-        """Runs the script once as it is, and once with a look behind each line that is not read already."""
+        """Runs the script once as it is, and once with a look after each line that is not read already."""
         plain, self.said, self.status = self.ask(self.lines)
         self.rows = other.rows[:begin] if other else []
         self.shared = (other.key if other else None, begin)
@@ -162,7 +162,7 @@ class Pass:
         return row, count
 
     def loaded(self, done):
-        """The procedures that are loaded behind so many lines, each with its status and cause."""
+        """The procedures that are loaded after a number of lines, each with its status and cause."""
         found = {}
         for row in self.rows[:done]:
             found.update(row["status"])
@@ -227,7 +227,7 @@ class Pass:
         return state
 
     def mailbox(self, done, number, answers):
-        """The words that wait: their count by what still finds room, and the last ones that were put; None where it is not known."""
+        """The words that wait: their count by what still finds room, and the last ones that were put; None if it is not known."""
         sizes = (8, 8, 4, 2, 1)
         fits = [re.match(r"tm 1 7 ", shown) is not None for shown in answers]
         if len(answers) != len(sizes) or not all(fit or shown.endswith("0019") for fit, shown in zip(fits, answers)):

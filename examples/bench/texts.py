@@ -21,7 +21,7 @@ SAYS = {"Syntax": "this is no instruction of the assembly: docs/CARD.md has them
 
 
 def newest(name):
-    """The program under this name, the newest of those with a version behind it; None where there is none."""
+    """The program under this name, the newest of those with a version after it; None if there is none."""
     versions = {}
     for folder in os.get_exec_path():
         try:
@@ -35,7 +35,7 @@ def newest(name):
 
 
 def programs():
-    """The programs of the compiler by their variables, None where one is missing."""
+    """The programs of the compiler by their variables, None if one is missing."""
     return {name: shutil.which(given) if (given := os.environ.get(name)) else newest(program) for name, program in CLANG.items()}
 
 
@@ -68,7 +68,7 @@ def listing_of(program, image):
 
 
 def verdict_of(program, image, options):
-    """What `ocp check` says of an image: the slots that may fault, each with why, and the other lines."""
+    """The verdict of `ocp check` on an image: the slots that may fault, each with the reason, and the other lines."""
     words = [f"--{name}={options[name]}" for name in ("profile", "pool")]
     output, _, status = run([program, "check", *words], image) if image else ("", "", 0)
     slots, lines = {}, []
@@ -82,7 +82,7 @@ def verdict_of(program, image, options):
 
 
 def places_of_assembly(text, listing):
-    """Slot to line: the n-th instruction of the listing stands in the n-th line that has one."""
+    """Slot to line: the n-th instruction of the listing is in the n-th line that has one."""
     lines = [number for number, line in enumerate(text.split("\n"), 1)
              if re.sub(r"^\s*[A-Za-z_]\w*\s*:", "", line.split(";")[0]).strip()]
     return {slot: line for (slot, _), line in zip(listing, lines)} if len(lines) == len(listing) else {}
@@ -103,7 +103,7 @@ class Build:
         return run([*self.words, *words, self.file], "", 16_000, self.file.parent, self.surroundings, self.allowance)
 
     def places(self):
-        """Slot to line by examples/c/lines; what stands in a header belongs to the line that brought it in."""
+        """Slot to line by examples/c/lines; what is in a header belongs to the line that includes it."""
         try:
             table, _, status = self.run(os.path.realpath(sys.executable), "-I", "-B", LINES)
         except Refused:

@@ -26,7 +26,7 @@ typedef unsigned long word; /* 64 bits */
  * pool_set   writes that word, and gives the word before
  * pool_add   adds to that word, and gives the sum
  * step_end   ends a step: a stop or suspend that is pending for it is done here
- * pool_compare_set   (profile 2) writes that word where it has the expected value, and gives the word before
+ * pool_compare_set   (profile 2) writes that word if it has the expected value, and gives the word before
  *
  * An index that the pool does not have is fault 4, and ends the procedure. */
 static word (*const pool_get)(word index) = (void *)1;
@@ -35,8 +35,8 @@ static word (*const pool_add)(word index, word value) = (void *)3;
 static word (*const step_end)(word step) = (void *)5;
 static word (*const pool_compare_set)(word index, word expected, word value) = (void *)6;
 
-/* The oldest word of the mailbox, which is taken out. Gives 1 where there was one, and else 0. The call writes R1 as
- * well as R0, which no C function does, so it is written as assembly. */
+/* The oldest word of the mailbox, which is taken out. Gives 1 if there was one, and else 0. The call also writes R1,
+ * which no C function does: so it is in assembly. */
 static inline __attribute__((always_inline)) word next_param(word *parameter)
 {
     register word there asm("r0");

@@ -1,5 +1,5 @@
 /* A scrub of the work region: writes a pattern, reads it back, and does so again with the pattern inverted. The result
- * is how many words read otherwise than they were written: 0 for a memory without a fault. */
+ * is how many words differ from what was written: 0 for a memory without a fault. */
 #include "ocp.h"
 
 #define WORDS (WORK_OCTETS / sizeof(word))

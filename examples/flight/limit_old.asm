@@ -6,7 +6,7 @@
 ; Arguments: none.
 ; Steps:     step 1 is one look.
 ;
-; New here:  what a procedure knows that has to outlive it stands in the pool.
+; New here:  what has to outlive a procedure is kept in the pool.
 
 look:   mov64 r1, 0
         call 1                  ; r0 = the value

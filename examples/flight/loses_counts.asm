@@ -1,4 +1,4 @@
-; loses_counts: counts in a word of the pool, wrongly where others count in it.
+; loses_counts: counts in a word of the pool, wrongly if others count in it.
 ;
 ; It reads the word, adds to it, and writes it back. What another procedure
 ; wrote in between is lost. `counter` does it right.

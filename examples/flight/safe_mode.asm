@@ -1,7 +1,7 @@
 ; safe_mode: brings a spacecraft into its safe mode, in four steps.
 ;
 ; Each step turns one thing, and ends with its own number, so that ground can
-; hold the sequence, or stop it, behind each of them.
+; hold the sequence, or stop it, after each of them.
 ;
 ;   step   what is done               the pool's word
 ;   1      the payload is off         word 1 = 1

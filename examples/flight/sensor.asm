@@ -1,4 +1,4 @@
-; sensor: writes a measured temperature where the thermostat reads it.
+; sensor: writes a measured temperature for the thermostat to read.
 ;
 ; Arguments: one octet, the temperature.
 ; Result:    word 0 of the pool is the temperature.

@@ -9,12 +9,12 @@
 ;
 ; New here:  where the arguments are. At the start r1 is the address of the
 ;            first one and r2 is how many there are. Also reading an octet from
-;            memory, and a loop that asks at its beginning, so that it may go
-;            round no time at all.
+;            memory, and a loop that tests at its beginning, so that it may have
+;            no turn at all.
 
         mov64 r3, 0             ; the first sum
         mov64 r4, 0             ; the second sum
-        add64 r2, r1            ; r2 = the address behind the last argument
+        add64 r2, r1            ; r2 = the address after the last argument
 next:   jge64 r1, r2, done      ; all octets read
         ldxb r5, [r1]           ; the octet at address r1
         add64 r3, r5

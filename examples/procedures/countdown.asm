@@ -4,10 +4,10 @@
 ; back as long as the counter is not zero.
 ;
 ; Arguments: none.
-; Result:    r0 = how often the loop went round (10), r6 = the counter (0).
+; Result:    r0 = the turns of the loop (10), r6 = the counter (0).
 ;
-; New here:  a label (`again:`), moving and adding numbers, a jump that asks
-;            something, and `exit`, which ends the procedure.
+; New here:  a label (`again:`), moving and adding numbers, a jump with a
+;            condition, and `exit`, which ends the procedure.
 
         mov64 r0, 0             ; no round so far
         mov64 r6, 10            ; the counter

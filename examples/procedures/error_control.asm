@@ -1,19 +1,19 @@
-; error_control: the error control that stands at the end of each packet, over
-; the arguments.
+; error_control: the error control at the end of each packet, over the
+; arguments.
 ;
 ; It is the remainder of a division of polynomials over bits, by
 ; x^16 + x^12 + x^5 + 1. The register of 16 bits starts with all ones. For each
-; bit, highest first, it is shifted up by one; where a one falls out at bit 16,
+; bit, highest first, it is shifted up by one; if a one falls out at bit 16,
 ; the polynomial (11021 in hexadecimal) is taken away by exclusive-or.
 ;
 ; Arguments: any octets, 0 to 256 of them.
 ; Result:    r0 = the error control of these octets.
 ;
 ; New here:  a loop within a loop, numbers in hexadecimal, and `jset`, which
-;            jumps where any of the bits that it names is set.
+;            jumps if any of the bits that it names is set.
 
         mov64 r0, 0xffff        ; the register: all ones
-        add64 r2, r1            ; r2 = the address behind the last argument
+        add64 r2, r1            ; r2 = the address after the last argument
 octet:  jge64 r1, r2, done
         ldxb r3, [r1]
         lsh64 r3, 8

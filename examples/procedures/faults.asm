@@ -1,7 +1,7 @@
 ; faults: goes wrong on purpose, in the way that its argument says.
 ;
 ; Arguments: one octet.
-;            1  reads on behind the argument region: fault 1, AccessOutside
+;            1  reads beyond the argument region:    fault 1, AccessOutside
 ;            2  writes to the arguments:             fault 2, WriteToArguments
 ;            3  calls itself without an end:         fault 3, CallDepth
 ;            any other: ends well.
@@ -19,7 +19,7 @@
 
 outside:
         mov64 r0, 0             ;  5
-walk:   ldxb r3, [r1]           ;  6  fails behind the 256th octet
+walk:   ldxb r3, [r1]           ;  6  fails after the 256th octet
         add64 r0, 1             ;  7
         add64 r1, 1             ;  8
         ja walk                 ;  9

@@ -10,14 +10,14 @@
 ;            r2 = samples that are too high.
 ;
 ; New here:  the stack. r10 is the end of this procedure's frame, so what is
-;            kept stands below it: [r10-8] and [r10-16]. Also turning round the
-;            octets of a number (`be`), keeping its sign (`movsx64`), signed
+;            kept is below it: [r10-8] and [r10-16]. Also reversing the octets
+;            of a number (`be`), keeping its sign (`movsx64`), signed
 ;            comparisons (`jslt`, `jsgt`), and a part of the code that is called
 ;            from several places.
 
-        mov64 r6, r1            ; r6 = where the next number stands
+        mov64 r6, r1            ; r6 = the address of the next number
         mov64 r9, r1
-        add64 r9, r2            ; r9 = the address behind the last argument
+        add64 r9, r2            ; r9 = the address after the last argument
         stdw [r10-8], 0         ; too low: none so far
         stdw [r10-16], 0        ; too high: none so far
         call local number

@@ -6,7 +6,7 @@
 ; even number of samples, the upper one of the two in the middle.
 ;
 ; Arguments: samples, one octet each, 0 to 256 of them.
-; Result:    r0 = the median, or -1 where there is no sample.
+; Result:    r0 = the median, or -1 if there is no sample.
 ;
 ; New here:  the work region, 1,024 octets from 0x30000000 that may be read and
 ;            written; arguments may only be read. And `lddw`, which takes a number
@@ -14,13 +14,13 @@
 ;            `mov64` too).
 
         jeq64 r2, 0, nothing
-        lddw r9, 0x30000000     ; r9 = where the sorted ones begin
+        lddw r9, 0x30000000     ; r9 = the start of the sorted ones
         mov64 r3, 0             ; r3 = how many are sorted
 next:   mov64 r4, r1
         add64 r4, r3
         ldxb r5, [r4]           ; r5 = the sample to put in
         mov64 r6, r9
-        add64 r6, r3            ; r6 = the place behind the sorted ones
+        add64 r6, r3            ; r6 = the place after the sorted ones
 down:   jeq64 r6, r9, put       ; it is the least so far
         ldxb r7, [r6-1]
         jle64 r7, r5, put

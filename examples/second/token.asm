@@ -10,7 +10,7 @@
         mov64 r7, 3             ; three rounds
 
 take:   mov64 r1, 0             ; word 0
-        mov64 r2, 0             ; where nobody has the token
+        mov64 r2, 0             ; if nobody has the token
         mov64 r3, r6            ; it is mine
         call 6                  ; r0 = who had it
         jne64 r0, 0, take       ; somebody: ask again

@@ -6,7 +6,7 @@ import { KEYS, here, mark, passRead, walk, walkTo } from "./walk.js";
 import { showHistory } from "./state.js";
 import { draw, eventAt } from "./timeline.js";
 
-// What was written is read first: the walk is in the pass that stands on the page.
+// What was written is read first: the walk is in the pass that the page shows.
 const press = guarded(async key => { await caughtUp(); await KEYS[key](); });
 document.addEventListener("keydown", event => {
     if (event.key === "Escape") document.activeElement.blur();
@@ -27,7 +27,7 @@ at("listing").onclick = guarded(event => event.target.dataset.slot !== undefined
 at("mark").onclick = guarded(() => mark(numberIn("number", "A place")));
 at("more-records").ontoggle = guarded(() => showHistory(it.moment, walkTo));
 addEventListener("resize", () => draw(here()));
-// What is reached by Tab, or written, is scrolled until it stands above the foot.
+// What is reached by Tab, or written, is scrolled until it is above the foot.
 new ResizeObserver(([foot]) => document.documentElement.style.setProperty("--foot", `${foot.target.offsetHeight}px`)).observe(document.querySelector("footer"));
 matchMedia("(prefers-color-scheme: dark)").onchange = () => draw(here());
 

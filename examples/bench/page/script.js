@@ -1,4 +1,4 @@
-// The script of a pass: by hand or by buttons, with what each line printed behind it, and the packets of one line.
+// The script of a pass: by hand or by buttons, with what each line printed after it, and the packets of one line.
 import { at, button, caughtUp, guarded, it, keep, keepInView, later, make, numberIn, options, question, save, say } from "./shared.js";
 import { editor } from "./editor.js";
 import { imageShown } from "./texts.js";
@@ -6,7 +6,7 @@ import { inWords, readRequests } from "./words.js";
 
 const field = editor(at("script"));
 const USUAL = { apid: 291, pool: 16, journal: 100000, profile: 1 };
-let turn = 0, walk = null, goal = null, drawn = [-1, -1], packetTurn = 0, behind = -1;
+let turn = 0, walk = null, goal = null, drawn = [-1, -1], packetTurn = 0, after = -1;
 
 export function whenRead(work) { walk = work; }
 const sent = () => ({ script: at("script").value, options: options() });
@@ -34,7 +34,7 @@ export const readScript = guarded(async (place = null) => {
     await walk(there, found.from);
 });
 
-// A question about the pass; the pass is sent again where the server has dropped it.
+// A question about the pass; the pass is sent again if the server has dropped it.
 export async function askPass(name, body) {
     try { return await question(name, { pass: it.key, ...body }); } catch (fault) {
         if (fault.status !== 410) throw fault;
@@ -127,17 +127,17 @@ export async function showPackets(line) {
     if (!packets.length) at("packets").textContent = "This line has no packets: a send, an up and a drain line have some.";
 }
 
-// Puts lines behind the line of the cursor, or behind those that were put there before.
+// Puts lines after the line of the cursor, or after those that were put there before.
 export function insert(...added) {
     const area = at("script"), from = area.selectionStart;
-    const end = from === 0 || from === behind ? from : area.value.indexOf("\n", from) + 1 || area.value.length;
+    const end = from === 0 || from === after ? from : area.value.indexOf("\n", from) + 1 || area.value.length;
     const head = area.value.slice(0, end), whole = `${head}${head && !head.endsWith("\n") ? "\n" : ""}${added.join("\n")}\n`;
     area.value = `${whole}${area.value.slice(end)}`;
-    area.selectionStart = area.selectionEnd = behind = whole.length;
+    area.selectionStart = area.selectionEnd = after = whole.length;
     return readScript([Infinity, 0]);
 }
 function imageOrRefusal() {
-    if (!imageShown()) throw new Error("The text has no image: mend its faults first.");
+    if (!imageShown()) throw new Error("The text has no image: correct its faults first.");
     return imageShown();
 }
 // Puts the image of the text into the last line that loads the procedure, and runs the pass anew.
@@ -170,7 +170,7 @@ export function start() {
     }
     at("index-of-word").hidden = !it.knows.includes("put");
     at("reload").onclick = guarded(async () => { await caughtUp(); await reload(numberIn("id", "A procedure")); });
-    at("script").addEventListener("input", () => { behind = -1; });
+    at("script").addEventListener("input", () => { after = -1; });
     at("script").addEventListener("input", later(() => readScript()));
     at("save-script").onclick = () => save("pass.ocp", at("script").value);
 }

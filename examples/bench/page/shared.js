@@ -4,9 +4,9 @@ export const it = {
     names: {}, clang: false, knows: [],
     texts: [], tab: 0,                                  // the texts, and the one that is shown
     key: null, lines: [], rows: [], starts: [0], total: 0,  // the pass as the program ran it
-    moment: [0, 0], chosen: null, state: null,          // where the walk stands
+    moment: [0, 0], chosen: null, state: null,          // where the walk is
     marks: new Map(),                                   // identifier to the places that the page marks
-    stay: false,                                        // whether the text in view stays, whatever procedure is
+    stay: false,                                        // whether the text in view stays for any procedure that is
 };
 
 // A line that steps a procedure, with its identifier, and how such a line ends.
@@ -41,7 +41,7 @@ export function options() {
 // The number in a field of which the page itself has to make use.
 export function numberIn(name, what) {
     const number = numberOf(at(name).value);
-    if (typeof number !== "number") throw new Error(`${what} is decimal digits, and stands here as ${number || "nothing"}.`);
+    if (typeof number !== "number") throw new Error(`${what} is decimal digits; found ${number || "nothing"}.`);
     return number;
 }
 
@@ -77,7 +77,7 @@ export function bringBack() {
     it.tab = Math.min(Number(localStorage.getItem("bench tab")) || 0, Math.max(0, it.texts.length - 1));
 }
 
-// How much of a box stands above the foot of the page; all of it where nearly nothing does.
+// How much of a box is above the foot of the page; all of it if nearly nothing is.
 export function heightSeen(box) {
     const room = document.querySelector("footer").getBoundingClientRect().top - box.getBoundingClientRect().top;
     return room > 80 ? Math.min(box.clientHeight, room) : box.clientHeight;

@@ -112,7 +112,7 @@ function showRegion(name, found, past) {
     else if (name === "stack" && box.scrollTop === 0) box.scrollTop = box.scrollHeight;
 }
 
-// Frames and records: a run with the trace on. They come behind the state, and are asked for where they are looked at.
+// Frames and records: a run with the trace on. They come after the state, and are asked for when they are looked at.
 export async function showHistory(moment, walkTo) {
     const mine = ++lookTurn, id = it.chosen, view = it.state && it.state.views[id];
     const depth = view ? Number(view[0].split(" ")[7]) : 0;

@@ -7,7 +7,7 @@ const field = editor(at("text"));
 const listings = new Map(), verdicts = new Map();
 const NOT_CHECKED = { slots: {}, lines: [] };
 
-// What `ocp check` says of an image under the profile and with the pool of now, if it was asked.
+// The verdict of `ocp check` on an image, under the present profile and pool, if it was asked.
 const verdictKey = (image, { profile, pool } = options()) => `${profile} ${pool} ${image}`;
 const verdictOf = image => verdicts.get(verdictKey(image)) || NOT_CHECKED;
 let asked = 0, listed = "";

@@ -1,4 +1,4 @@
-// The walk: a moment is so many whole lines, and then so many instructions of the next one. Every state is the program's.
+// The walk: a moment is a number of whole lines, and then a number of instructions of the next one. Every state is the program's.
 import { at, BROKE, FAULTED, guarded, it, say, STEPS } from "./shared.js";
 import { askPass, showPackets, showReports, showRows } from "./script.js";
 import { instructionAt, readListing, showPlace } from "./texts.js";
@@ -29,8 +29,8 @@ export async function passRead(place, from) {
     readTimeline();
     at("slider").max = it.total;
     const [done, count] = place || it.moment;
-    const stands = done <= last() && (!count || (it.rows[done] && count < it.rows[done].events));
-    await walk(stands ? [done, count] : [last(), 0]);
+    const isThere = done <= last() && (!count || (it.rows[done] && count < it.rows[done].events));
+    await walk(isThere ? [done, count] : [last(), 0]);
 }
 
 async function stateAt([done, count], id) {
@@ -42,7 +42,7 @@ async function stateAt([done, count], id) {
     return states.get(key);
 }
 
-// Goes to a moment. `id` is the procedure to look at, where it is not the one that the last line names.
+// Goes to a moment. `id` is the procedure to look at, if it is not the one that the last line names.
 export async function walk(to, id = null) {
     const began = performance.now();
     again = { to, id };
@@ -56,8 +56,8 @@ export async function walk(to, id = null) {
             const moment = wanted.to, event = here(), line = moment[1] ? moment[0] : Math.max(0, moment[0] - 1);
             const row = it.rows[line] || { status: {}, events: 0 }, touched = Object.keys(row.status)[0];
             if (wanted.id !== null) it.chosen = wanted.id; else if (touched !== undefined) it.chosen = Number(touched);
-            const stands = moment[1] || row.events ? momentOf(Math.max(0, event - 1)) : moment;
-            const [state, before] = await Promise.all([stateAt(moment, it.chosen), stateAt(row.free ? [line, 0] : stands, it.chosen)]);
+            const earlier = moment[1] || row.events ? momentOf(Math.max(0, event - 1)) : moment;
+            const [state, before] = await Promise.all([stateAt(moment, it.chosen), stateAt(row.free ? [line, 0] : earlier, it.chosen)]);
             if (again || key !== it.key) continue;
             await show(moment, event, line, state, before);
             requestAnimationFrame(() => setTimeout(() => { at("where").dataset.took = Math.round(performance.now() - began); }));
@@ -84,7 +84,7 @@ async function show(moment, event, line, state, before) {
     showPlace(image, placeNow());
 }
 
-// At the end of a pass that a line with a fault has cut: which line, and how it should stand.
+// At the end of a pass that a line with a fault has cut: which line, and its right form.
 function refused(moment) {
     const row = it.rows.at(-1);
     return row?.fault && moment[0] === last() && !moment[1] ?
