@@ -1,5 +1,5 @@
 /* DPDK's interpreter as a peer of bench/bodies: one image a line in hexadecimal digits, and for each one line: `refused`, `crashed`
- * where its verifier or interpreter divides in a way that the processor refuses, or the octets that it left in the memory that R1
+ * if its verifier or interpreter divides in a way that the processor refuses, or the octets that it left in the memory that R1
  * pointed to.
  *
  * Usage: bodies_dpdk < images */

@@ -1,4 +1,4 @@
-// The error control in C, as what stands beside the library's: a register of 16 bits by x^16 + x^12 + x^5 + 1, preset to ones, an
+// The error control in C, to compare with the library's: a register of 16 bits by x^16 + x^12 + x^5 + 1, preset to ones, an
 // octet at a time over one table, and eight octets at a time over eight tables. It prints for each how many megabytes it takes in a
 // second, in the least of many blocks.
 #include <stdint.h>

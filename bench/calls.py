@@ -8,7 +8,7 @@ BELOW = f"{ROOT}/crates/ocp_seats/out"
 
 
 def built():
-    """Proves the program where it is not proved yet, and gives its path; or None where the seats below it are not proved."""
+    """Proves the program if it is not proved yet, and gives its path; or None if the seats below it are not proved."""
     if not os.path.isdir(BELOW):
         print("calls: skipped, ocp_seats is not proved yet")
         return None

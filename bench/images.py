@@ -6,8 +6,8 @@ mem     2,000 loads and stores of 8 octets on the stack
 loop    a jump taken back a thousand times
 
 There is no division, no shift by a register and no arithmetic shift of 32 bits: some peers lack them. Each image comes in two
-endings: EXIT, for peers that refuse jumps back, and a jump to the first instruction, which runs for as long as it is let. Behind
-that jump stand eight instructions that are never reached, for breakpoints.
+endings: EXIT, for peers that refuse jumps back, and a jump to the first instruction, which runs as long as it may. After
+that jump come eight instructions that are never reached, for breakpoints.
 """
 import random
 import struct

@@ -36,7 +36,7 @@ class Difference:
 
 
 def measure(differences, rounds):
-    """Runs all of them in turn, so many times: a disturbance then meets each of them alike."""
+    """Runs all of them in turn, `rounds` times: a disturbance then meets each of them alike."""
     for _ in range(rounds):
         for difference in differences:
             for run in difference.runs:

@@ -1,4 +1,4 @@
-/* Makes the calls of a plan, and says of each what it took: for the script `worst`, on x86-64 Linux and on a bare aarch64.
+/* Makes the calls of a plan, and prints what each one took: for the script `worst`, on x86-64 Linux and on a bare aarch64.
  *
  * A call is made on a stack of its own, and the heap and memory functions that it calls have another one, so what is counted is
  * the library's alone. `counted` and the functions `outside_..` are in worst_x86_64.S and worst_aarch64.S; the library is linked

@@ -444,7 +444,7 @@ class Pipes:
 
 
 class Socket:
-    """An engine behind a port of the loopback, "tcp" or "udp"; `own` is the UDP port that its reports come to."""
+    """An engine at a port of the loopback, "tcp" or "udp"; `own` is the UDP port that its reports come to."""
 
     def __init__(self, kind, port, own=0):
         self.socket = socket.socket(socket.AF_INET, socket.SOCK_STREAM if kind == "tcp" else socket.SOCK_DGRAM)
@@ -538,7 +538,7 @@ def warn_of_loads(words, options):
 
 
 def request_of(words):
-    """The request that the words of one command stand for, or ValueError."""
+    """The request that the words of one command name, or ValueError."""
     verb, rest = words[0], words[1:]
     if verb not in FORMS:
         raise ValueError(f"no command `{verb}`; there are {', '.join(FORMS)}")
@@ -670,8 +670,8 @@ def asked(ground, request, options, shown):
 def options_of(words):
     parser = argparse.ArgumentParser(description=__doc__, formatter_class=argparse.RawDescriptionHelpFormatter)
     link = parser.add_mutually_exclusive_group(required=True)
-    link.add_argument("--tcp", type=int, metavar="PORT", help="an engine behind a TCP port of the loopback")
-    link.add_argument("--udp", type=int, metavar="PORT", help="an engine behind a UDP port of the loopback")
+    link.add_argument("--tcp", type=int, metavar="PORT", help="an engine at a TCP port of the loopback")
+    link.add_argument("--udp", type=int, metavar="PORT", help="an engine at a UDP port of the loopback")
     link.add_argument("--pipe", metavar="COMMAND", help="an engine that is started, and spoken to by pipes")
     link.add_argument("--print", action="store_true", help="print the packets, and send them nowhere")
     parser.add_argument("--own", type=int, default=0, metavar="PORT", help="own UDP port (default: any)")
@@ -694,7 +694,7 @@ def options_of(words):
 
 
 def link_of(options):
-    """The engine that the options name; its packets are kept where they say so."""
+    """The engine that the options name; its packets are kept if they say so."""
     kept = open(options.capture, "wb") if options.capture else None
     if options.pipe is not None:
         link = Pipes(shlex.split(options.pipe) or [""])

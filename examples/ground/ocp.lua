@@ -101,7 +101,7 @@ local function error_control(octets)
     return sum
 end
 
--- A reader of data, one field behind the other; `short` where a field is not there whole.
+-- A reader of data, one field after the other; `short` if a field is not whole.
 local function reader(data, tree)
     local self = { at = 0, short = false }
     function self.take(one, octets)
@@ -172,7 +172,7 @@ local function verification(read, subtype)
     return text
 end
 
--- Services and data behind the secondary header; gives the text of the packet.
+-- Services and data after the secondary header; gives the text of the packet.
 local function content(tvb, tree, telecommand, first, size)
     local service, subtype = tvb(7, 1):uint(), tvb(8, 1):uint()
     local names = service == 18 and SUBTYPES or service == 1 and not telecommand and VERIFICATIONS or {}
@@ -252,7 +252,7 @@ local function packet(tvb, root)
     return text
 end
 
--- How many octets the packet there says that it has, or nil where its header is cut.
+-- How many octets the packet there says that it has, or nil if its header is cut.
 local function size_at(tvb, at) return tvb:len() - at >= PRIMARY and tvb(at + 4, 2):uint() + 7 or nil end
 
 -- The packets of one datagram, record or reassembled piece.

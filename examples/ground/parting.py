@@ -106,7 +106,7 @@ class Parting:
 
     def _may_begin(self, here):
         """Whether a packet may begin with the octets that are here. A telecommand may with any, so that the engine answers it
-        whatever is wrong with it; a report, as far as it is here, with a plausible header alone."""
+        also if something is wrong with it; a report only with the beginning of a plausible header."""
         if self.kind.type == 1:
             return True
         return self._plausible(self.at) is not None if here >= PRIMARY else self.begins[here - 1].match(self.rest, self.at)

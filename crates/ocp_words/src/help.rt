@@ -13,7 +13,7 @@ Without a command, ocp does what run does with its defaults.
 
 Exit status:
   0  done, also after help and version
-  1  the input has a fault: the last line of the output names it
+  1  the input has a fault: the last line of the output names it; or check did not show all
   2  the command line is refused: standard error says why
   3  a read, a write, memory or the workers failed: standard error says 'fault <name>'
 
@@ -60,7 +60,8 @@ Fault lines:
   error 0 TooLong, error 0 Hex, error 0 Load <n>, error <slot> Load <n>
 
 Exit status:
-  0 all is shown, 1 else, 2 a mistake in the words, 3 a device or memory failed
+  0 all is shown, 1 not all is shown, or the output is a fault line,
+  2 the command line is refused, 3 a read, a write or memory failed
 
 Manual: docs/AUTHOR.md, section 3";
 
