@@ -1,5 +1,5 @@
 -- A piece that is added.
-use Rattle.std.proofs.Common.{◌≡◌, ◌≤◌, ◌<◌, ◌+◌, ◌^◌, ℕ, true, List, [], ◌∷◌, ◌++◌, length, get_or, ap, ◌∙◌, arith, length-append}
+use Rattle.std.proofs.Common.{◌≡◌, ◌≤◌, ◌<◌, ◌+◌, ◌^◌, ℕ, true, List, [], ◌∷◌, ◌++◌, length, get_or, refl, sym, ap, ◌∙◌, arith, length-append}
 use Rattle.std.specs.Prelude.{◌%◌}
 use Rattle.circular_buffer.specs.Buffer.{Buffer, buffer}
 use Rattle.ocp_tape.specs.Pieces.{pieces, total, has_room}
@@ -9,11 +9,16 @@ use Rattle.ocp_tape.proofs.Cut.{pieces-more, total-more, most-of-room, octets-of
 use Rattle.ocp_tape.proofs.Places.{distance-on, lengths-more}
 use Rattle.ocp_tape.proofs.Insides.{count, size}
 
+-- an end that is added is the newest
+newest : (start : ℕ) (ends : List ℕ) (end : ℕ) → get_or (start ∷ (ends ++ end ∷ [])) (length (ends ++ end ∷ [])) 0 ≡ end
+newest start [] end = refl
+newest start (e ∷ ends) end = newest e ends end
+
 module _ {A : Type 0} (t : Inside A) (cut : IsCut t) (p : List ℕ) (room : has_room (contents_of t) (length p) ≡ true) (octets ends : Buffer ℕ) (end : ℕ)
     (put : octets ≡ buffer (t.octets.items ++ p) t.octets.capacity) (ended : ends ≡ buffer (t.ends.items ++ end ∷ []) t.ends.capacity)
-    (at : end ≡ (get_or (t.start ∷ t.ends.items) (length t.ends.items) 0 + length p) % 2 ^ 32) where
+    (at : end ≡ (t.end + length p) % 2 ^ 32) where
   abbrev new : Inside A
-  new = record { octets = octets; ends = ends; start = t.start }
+  new = record { octets = octets; ends = ends; start = t.start; end = end }
 
   fits : length t.octets.items + length p ≤ t.octets.capacity
   fits = omega (arith, octets-of-room (contents_of t) (length p) room, size t cut)
@@ -26,7 +31,7 @@ module _ {A : Type 0} (t : Inside A) (cut : IsCut t) (p : List ℕ) (room : has_
       let last = get_or (t.start ∷ t.ends.items) (length t.ends.items) 0 in
       ap (λ b. lengths_of t.start b.items) ended
       ∙ lengths-more t.start t.ends.items end
-      ∙ ap (λ n. lengths_of t.start t.ends.items ++ n ∷ []) (ap (distance last) at ∙ distance-on last (length p) short)
+      ∙ ap (λ n. lengths_of t.start t.ends.items ++ n ∷ []) (ap (distance last) (at ∙ ap (λ n. (n + length p) % 2 ^ 32) cut.last) ∙ distance-on last (length p) short)
 
   pub taped_more : contents_of new ≡ record (contents_of t) { pieces = (contents_of t).pieces ++ p ∷ [] }
   taped_more =
@@ -39,6 +44,7 @@ module _ {A : Type 0} (t : Inside A) (cut : IsCut t) (p : List ℕ) (room : has_
       let counts : length ends.items ≡ length t.ends.items + 1 = ap (λ b. length b.items) ended ∙ length-append t.ends.items (end ∷ []) in
       let left = most-of-room (contents_of t) (length p) room in
       record {
+        last = sym (ap (λ es. get_or (t.start ∷ es) (length es) 0) (ap (λ b. b.items) ended) ∙ newest t.start t.ends.items end);
         whole = omega (arith, ap total lengths, total-more (lengths_of t.start t.ends.items) (length p), cut.whole, sizes);
         within = omega (arith, sizes, fits, ap (λ b. b.capacity) put);
         few = omega (arith, counts, left, count t cut, ap (λ b. b.capacity) ended);

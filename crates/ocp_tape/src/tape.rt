@@ -16,8 +16,9 @@ pub struct Tape<A: Allocator = Global> {
     octets: HeapCircularBuffer<u8, A>,
     // Where each piece ends: a count of octets since the start, modulo 2^32.
     ends: HeapCircularBuffer<u32, A>,
-    // Where the oldest piece begins.
+    // Where the oldest piece begins, and where the newest ends.
     start: u32,
+    end: u32,
 }
 
 impl<A: Allocator> Model for Tape<A> {
@@ -98,6 +99,7 @@ impl<A: Allocator> Tape<A> {
             octets: HeapCircularBuffer::with_capacity(alloc, room as usize)?,
             ends: HeapCircularBuffer::with_capacity(alloc, most as usize)?,
             start: 0,
+            end: 0,
         })
     }
 
@@ -173,11 +175,11 @@ impl<A: Allocator> Tape<A> {
         ensures { self.new ≡
             record self.old { pieces = self.old.pieces ++ (head.now ++ tail.now) ∷ [] } }
     {
-        let start = beginning(self.start, &self.ends, self.ends.len());
-        let length = (head.len() + tail.len()) as u32;
         extend(&mut self.octets, head);
         extend(&mut self.octets, tail);
-        append(&mut self.ends, start.wrapping_add(length));
+        let length = (head.len() + tail.len()) as u32;
+        self.end = self.end.wrapping_add(length);
+        append(&mut self.ends, self.end);
     }
 
     /// Drops the oldest piece.

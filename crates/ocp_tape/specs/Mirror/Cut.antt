@@ -1,5 +1,5 @@
 -- Pieces by where they end. Places are counts of octets modulo 2^32.
-use Rattle.std.specs.Prelude.{◌≡◌, ◌≤◌, ◌<◌, ℕ, ◌+◌, ◌-◌, ◌%◌, ◌^◌, List, [], ◌∷◌, length}
+use Rattle.std.specs.Prelude.{◌≡◌, ◌≤◌, ◌<◌, ℕ, ◌+◌, ◌-◌, ◌%◌, ◌^◌, List, [], ◌∷◌, length, get_or}
 use Rattle.ocp_tape.specs.Pieces.{TapeContents, total, pieces}
 use Rattle.ocp_tape.specs.declared.tape.Tape.TheInside.{Inside}
 
@@ -21,6 +21,7 @@ module _ {A : Type 0} where
   }
 
   pub record IsCut (t : Inside A) : Type 0 where
+    pub last : t.end ≡ get_or (t.start ∷ t.ends.items) (length t.ends.items) 0
     pub whole : total (lengths_of t.start t.ends.items) ≡ length t.octets.items
     pub within : length t.octets.items ≤ t.octets.capacity
     pub few : length t.ends.items ≤ t.ends.capacity

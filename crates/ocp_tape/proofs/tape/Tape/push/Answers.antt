@@ -1,4 +1,4 @@
-use Rattle.std.proofs.Common.{◌≡◌, ◌+◌, ◌^◌, ◌++◌, ◌∷◌, [], length, get_or, true, sym, ap, subst, ◌∙◌, arith, length-append, append_assoc}
+use Rattle.std.proofs.Common.{◌≡◌, ◌+◌, ◌^◌, ◌++◌, ◌∷◌, [], length, true, sym, ap, subst, ◌∙◌, arith, length-append, append_assoc}
 use Rattle.std.specs.Prelude.{◌%◌}
 use Rattle.circular_buffer.specs.Buffer.{Buffer, buffer}
 use Rattle.ocp_tape.specs.Pieces.{TapeContents, has_room}
@@ -33,8 +33,7 @@ invariant_of-self g c =
     let size_p = length-append c.args.head.now c.args.tail.now in
     let room = subst (λ n. has_room (contents_of t) n ≡ true) (sym size_p) (subst (λ t. has_room t (length c.args.head.now + length c.args.tail.now) ≡ true) (sym c.self.view_is) c.requires) in
     let put = c.extend-2.ensures ∙ ap (λ (b : Buffer _). buffer (b.items ++ c.args.tail.now) b.capacity) c.extend.ensures ∙ ap (λ xs. buffer xs t.octets.capacity) (append_assoc t.octets.items c.args.head.now c.args.tail.now) in
-    let last = c.beginning-start.ensures ∙ ap (λ n. get_or (t.start ∷ t.ends.items) n 0) c.len.ensures.len in
-    cut_more t c.self.invariant p room c.extend-2.new.octets c.append.new.ends _ put c.append.ensures (λ i. (last i + sym size_p i) % 2 ^ 32)
+    cut_more t c.self.invariant p room c.extend-2.new.octets c.append.new.ends _ put c.append.ensures (λ i. (t.end + sym size_p i) % 2 ^ 32)
 
 pub returns : goal.returns
 returns g c =
@@ -43,6 +42,5 @@ returns g c =
     let size_p = length-append c.args.head.now c.args.tail.now in
     let room = subst (λ n. has_room (contents_of t) n ≡ true) (sym size_p) (subst (λ t. has_room t (length c.args.head.now + length c.args.tail.now) ≡ true) (sym c.self.view_is) c.requires) in
     let put = c.extend-2.ensures ∙ ap (λ (b : Buffer _). buffer (b.items ++ c.args.tail.now) b.capacity) c.extend.ensures ∙ ap (λ xs. buffer xs t.octets.capacity) (append_assoc t.octets.items c.args.head.now c.args.tail.now) in
-    let last = c.beginning-start.ensures ∙ ap (λ n. get_or (t.start ∷ t.ends.items) n 0) c.len.ensures.len in
-    taped_more t c.self.invariant p room c.extend-2.new.octets c.append.new.ends _ put c.append.ensures (λ i. (last i + sym size_p i) % 2 ^ 32)
+    taped_more t c.self.invariant p room c.extend-2.new.octets c.append.new.ends _ put c.append.ensures (λ i. (t.end + sym size_p i) % 2 ^ 32)
     ∙ ap (λ (t : TapeContents). record t { pieces = t.pieces ++ p ∷ [] }) c.self.view_is
