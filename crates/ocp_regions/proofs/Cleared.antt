@@ -93,7 +93,7 @@ some_zeroed : (o : Option ℕ) → is_some (zeroed o) ≡ is_some o
 some_zeroed (Some x) = refl
 some_zeroed None = refl
 
-some_in_front : (o : Option ℕ) (os : Option (List ℕ)) → is_some (in_front o os) ≡ (is_some o && is_some os)
+pub some_in_front : (o : Option ℕ) (os : Option (List ℕ)) → is_some (in_front o os) ≡ (is_some o && is_some os)
 some_in_front (Some x) (Some xs) = refl
 some_in_front (Some x) None = refl
 some_in_front None os = refl
@@ -104,7 +104,7 @@ there_at m n q e =
     sym (some_zeroed (get m q)) ∙ ap is_some (sym (get-cleared m q)) ∙ ap (λ x. is_some (get x q)) e
     ∙ ap is_some (get-cleared n q) ∙ some_zeroed (get n q)
 
-there_from : (m n : Octets) (q k : ℕ) → zeros_over m ≡ zeros_over n → is_some (octets_at m q k) ≡ is_some (octets_at n q k)
+pub there_from : (m n : Octets) (q k : ℕ) → zeros_over m ≡ zeros_over n → is_some (octets_at m q k) ≡ is_some (octets_at n q k)
 there_from m n q zero e = refl
 there_from m n q (suc k) e =
     let next = (q + 1) % 2 ^ 64 in
@@ -130,7 +130,7 @@ kept_from m q (o ∷ os) h =
     let here = kept_at m q o (first_true _ _ both) in
     kept_from (insert m q o) next os (there_from (insert m q o) m next (length os) here ∙ second_true _ _ both) ∙ here
 
-stored_if : (there met : Bool) (m new written : Octets) → (if not there then Err AccessOutside else if met then Err WriteToArguments else Ok written) ≡ Ok new → (there ≡ true) × (written ≡ new)
+pub stored_if : (there met : Bool) (m new written : Octets) → (if not there then Err AccessOutside else if met then Err WriteToArguments else Ok written) ≡ Ok new → (there ≡ true) × (written ≡ new)
 stored_if true true m new written e = absurd cc
 stored_if true false m new written e = (refl, same_Ok written new e)
   where

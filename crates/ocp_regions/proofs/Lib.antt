@@ -3,3 +3,4 @@ pub mod Entries
 pub mod Numbers
 pub mod Written
 pub mod Zeros
+pub mod Accesses
