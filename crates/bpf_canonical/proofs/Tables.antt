@@ -72,38 +72,23 @@ stem_read stem.MoveExtended = refl
 pub plain_read : (m : Mnemonic) → IsPlain m → plain_meaning (mnemonic_name m) ≡ Some m
 plain_read (word.Classed s w) h = absurd h
 plain_read (word.ByteOrder order.Little) h = refl
-plain_read (word.ByteOrder _) h = refl
-plain_read word.LoadWide h = refl
 plain_read (word.Load size.Word) h = refl
-plain_read (word.Load _) h = refl
 plain_read (word.LoadExtended signed_size.Word) h = refl
-plain_read (word.LoadExtended _) h = refl
 plain_read (word.Store size.Word) h = refl
-plain_read (word.Store _) h = refl
 plain_read (word.StoreImmediate size.Word) h = refl
-plain_read (word.StoreImmediate _) h = refl
-plain_read word.Jump h = refl
-plain_read word.LongJump h = refl
-plain_read word.Call h = refl
-plain_read word.Exit h = refl
+plain_read _ h = refl
 
 -- the last two octets of a word are its class, and those before them its stem
 abbrev pub IsApart : List ℕ → Stem → Width → Type 0
 IsApart w s v = (take (length w - 2) w ≡ stem_name s) × (drop (length w - 2) w ≡ width_name v)
 
-name_apart : (s : Stem) (w : Width) → IsApart (stem_name s ++ width_name w) s w
-name_apart (stem.Arithmetic op.Add) W32 = (refl, refl)
-name_apart (stem.Arithmetic _) W32 = (refl, refl)
-name_apart (stem.Arithmetic op.Add) W64 = (refl, refl)
-name_apart (stem.Arithmetic _) W64 = (refl, refl)
-name_apart (stem.JumpIf comparison.Equal) W32 = (refl, refl)
-name_apart (stem.JumpIf _) W32 = (refl, refl)
-name_apart (stem.JumpIf comparison.Equal) W64 = (refl, refl)
-name_apart (stem.JumpIf _) W64 = (refl, refl)
-name_apart stem.Negate W32 = (refl, refl)
-name_apart stem.Negate W64 = (refl, refl)
-name_apart stem.MoveExtended W32 = (refl, refl)
-name_apart stem.MoveExtended W64 = (refl, refl)
+name_apart : (w : Width) (s : Stem) → IsApart (stem_name s ++ width_name w) s w
+name_apart W32 (stem.Arithmetic op.Add) = (refl, refl)
+name_apart W32 (stem.JumpIf comparison.Equal) = (refl, refl)
+name_apart W32 _ = (refl, refl)
+name_apart W64 (stem.Arithmetic op.Add) = (refl, refl)
+name_apart W64 (stem.JumpIf comparison.Equal) = (refl, refl)
+name_apart W64 _ = (refl, refl)
 
 pub parts_of : (w : List ℕ) (s : Stem) (v : Width) → w ≡ stem_name s ++ width_name v → IsApart w s v
-parts_of w s v is = subst (λ (t : List ℕ). IsApart t s v) (sym is) (name_apart s v)
+parts_of w s v is = subst (λ (t : List ℕ). IsApart t s v) (sym is) (name_apart v s)

@@ -7,6 +7,7 @@ use Rattle.bpf_types.specs.declared.line.Comparison.TheVariants as comparison
 use Rattle.bpf_types.specs.declared.line.Order.TheVariants as order
 use Rattle.bpf_types.specs.declared.line.Size.TheVariants as size
 use Rattle.bpf_types.specs.declared.line.SignedSize.TheVariants as signed_size
+use Rattle.bpf_types.specs.declared.line.Width.{Width}
 use Rattle.bpf_types.specs.declared.line.Width.TheVariants.{W32, W64}
 use Rattle.bpf_types.specs.Line.{operations, comparisons, orders, sizes, signed_sizes}
 use Rattle.bpf_canonical.specs.declared.mnemonic.Mnemonic.{Mnemonic}
@@ -32,34 +33,22 @@ abbrev named : List ℕ → List Mnemonic → Option Mnemonic
 named w [] = None
 named w (m ∷ ms) = if bytes_eq (mnemonic_name m) w then Some m else named w ms
 
+stem_back : (w : Width) (s : Stem) → named (mnemonic_name (word.Classed s w)) mnemonics ≡ Some (word.Classed s w)
+stem_back W32 (stem.Arithmetic op.Add) = refl
+stem_back W32 (stem.JumpIf comparison.Equal) = refl
+stem_back W32 _ = refl
+stem_back W64 (stem.Arithmetic op.Add) = refl
+stem_back W64 (stem.JumpIf comparison.Equal) = refl
+stem_back W64 _ = refl
+
 named_back : (m : Mnemonic) → named (mnemonic_name m) mnemonics ≡ Some m
-named_back (word.Classed (stem.Arithmetic op.Add) W32) = refl
-named_back (word.Classed (stem.Arithmetic _) W32) = refl
-named_back (word.Classed (stem.Arithmetic op.Add) W64) = refl
-named_back (word.Classed (stem.Arithmetic _) W64) = refl
-named_back (word.Classed (stem.JumpIf comparison.Equal) W32) = refl
-named_back (word.Classed (stem.JumpIf _) W32) = refl
-named_back (word.Classed (stem.JumpIf comparison.Equal) W64) = refl
-named_back (word.Classed (stem.JumpIf _) W64) = refl
-named_back (word.Classed stem.Negate W32) = refl
-named_back (word.Classed stem.Negate W64) = refl
-named_back (word.Classed stem.MoveExtended W32) = refl
-named_back (word.Classed stem.MoveExtended W64) = refl
+named_back (word.Classed s w) = stem_back w s
 named_back (word.ByteOrder order.Little) = refl
-named_back (word.ByteOrder _) = refl
-named_back word.LoadWide = refl
 named_back (word.Load size.Word) = refl
-named_back (word.Load _) = refl
 named_back (word.LoadExtended signed_size.Word) = refl
-named_back (word.LoadExtended _) = refl
 named_back (word.Store size.Word) = refl
-named_back (word.Store _) = refl
 named_back (word.StoreImmediate size.Word) = refl
-named_back (word.StoreImmediate _) = refl
-named_back word.Jump = refl
-named_back word.LongJump = refl
-named_back word.Call = refl
-named_back word.Exit = refl
+named_back _ = refl
 
 -- a word is the name of one mnemonic
 pub one_mnemonic : (m n : Mnemonic) → mnemonic_name m ≡ mnemonic_name n → m ≡ n

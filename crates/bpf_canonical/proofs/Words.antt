@@ -22,43 +22,28 @@ ends_in_class w =
     let last = drop (length w - 2) w in
     (bytes_eq last (codes "32") || bytes_eq last (codes "64")) && not (bytes_eq w (codes "ja32"))
 
-stem_ends : (s : Stem) (w : Width) → ends_in_class (stem_name s ++ width_name w) ≡ true
+stem_ends : (w : Width) (s : Stem) → ends_in_class (stem_name s ++ width_name w) ≡ true
 unfolding ends_in_class
-stem_ends (stem.Arithmetic op.Add) W32 = refl
-stem_ends (stem.Arithmetic _) W32 = refl
-stem_ends (stem.Arithmetic op.Add) W64 = refl
-stem_ends (stem.Arithmetic _) W64 = refl
-stem_ends (stem.JumpIf comparison.Equal) W32 = refl
-stem_ends (stem.JumpIf _) W32 = refl
-stem_ends (stem.JumpIf comparison.Equal) W64 = refl
-stem_ends (stem.JumpIf _) W64 = refl
-stem_ends stem.Negate W32 = refl
-stem_ends stem.Negate W64 = refl
-stem_ends stem.MoveExtended W32 = refl
-stem_ends stem.MoveExtended W64 = refl
+stem_ends W32 (stem.Arithmetic op.Add) = refl
+stem_ends W32 (stem.JumpIf comparison.Equal) = refl
+stem_ends W32 _ = refl
+stem_ends W64 (stem.Arithmetic op.Add) = refl
+stem_ends W64 (stem.JumpIf comparison.Equal) = refl
+stem_ends W64 _ = refl
 
 plain_ends : (m : Mnemonic) → IsPlain m → ends_in_class (mnemonic_name m) ≡ false
 unfolding ends_in_class
 plain_ends (word.Classed s w) h = absurd h
 plain_ends (word.ByteOrder order.Little) h = refl
-plain_ends (word.ByteOrder _) h = refl
-plain_ends word.LoadWide h = refl
 plain_ends (word.Load size.Word) h = refl
-plain_ends (word.Load _) h = refl
 plain_ends (word.LoadExtended signed_size.Word) h = refl
-plain_ends (word.LoadExtended _) h = refl
 plain_ends (word.Store size.Word) h = refl
-plain_ends (word.Store _) h = refl
 plain_ends (word.StoreImmediate size.Word) h = refl
-plain_ends (word.StoreImmediate _) h = refl
-plain_ends word.Jump h = refl
-plain_ends word.LongJump h = refl
-plain_ends word.Call h = refl
-plain_ends word.Exit h = refl
+plain_ends _ h = refl
 
 -- a word without a class is none with a class
 pub apart : (m : Mnemonic) (s : Stem) (w : Width) → IsPlain m → mnemonic_name m ≡ stem_name s ++ width_name w → ⊥
-apart m s w h e = let f : false ≡ true = sym (plain_ends m h) ∙ ap ends_in_class e ∙ stem_ends s w in cc
+apart m s w h e = let f : false ≡ true = sym (plain_ends m h) ∙ ap ends_in_class e ∙ stem_ends w s in cc
 
 kind_of : (m : Mnemonic) → ((s : Stem) × (w : Width) × (m ≡ word.Classed s w)) ⊎ IsPlain m
 kind_of (word.Classed s w) = inl (s, w, refl)

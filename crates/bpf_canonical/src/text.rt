@@ -73,6 +73,7 @@ impl<const ROOM: usize> Text<ROOM> {
     }
 
     /// Appends a number in decimal digits, with a sign if it is negative.
+    #[tactic(auto, using(crate::proofs::Rooms::few_digits))]
     pub(crate) fn push_signed(&mut self, number: i32)
         requires { length self.old + 11 ≤ ROOM }
         ensures items { self.new ≡ self.old ++ signed_decimal number }
@@ -85,6 +86,7 @@ impl<const ROOM: usize> Text<ROOM> {
     }
 
     /// Appends a number in decimal digits, always with its sign.
+    #[tactic(auto, using(crate::proofs::Rooms::few_digits))]
     pub(crate) fn push_with_sign(&mut self, number: i32)
         requires { length self.old + 11 ≤ ROOM }
         ensures items { self.new ≡ self.old ++ with_sign number }
@@ -95,6 +97,7 @@ impl<const ROOM: usize> Text<ROOM> {
     }
 
     /// Appends a distance of 16 bits in decimal digits, always with its sign.
+    #[tactic(auto, using(crate::proofs::Rooms::short_digits))]
     pub(crate) fn push_distance(&mut self, distance: i16)
         requires { length self.old + 6 ≤ ROOM }
         ensures items { self.new ≡ self.old ++ with_sign distance }
