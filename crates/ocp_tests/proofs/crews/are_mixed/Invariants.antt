@@ -1,5 +1,5 @@
 use Rattle.std.proofs.Common.{◌-◌, length}
-use Rattle.ocp_hostile.proofs.crews.are_mixed.Given as goal
+use Rattle.ocp_tests.proofs.crews.are_mixed.Given as goal
 
 abbrev pub ghosts-mixed-L-Ledger : goal.ghosts-mixed-L-Ledger
 ghosts-mixed-L-Ledger g a = record { name = a.blank.name; parts = a.blank.parts }

@@ -1,5 +1,5 @@
 use Rattle.std.proofs.Common.{◌-◌, length}
-use Rattle.ocp_hostile.proofs.pairs.is_met.Given as goal
+use Rattle.ocp_tests.proofs.pairs.is_met.Given as goal
 
 abbrev pub ghosts-meanwhile-L-Ledger : goal.ghosts-meanwhile-L-Ledger
 ghosts-meanwhile-L-Ledger g a = record { name = a.blank.name; parts = a.blank.parts }

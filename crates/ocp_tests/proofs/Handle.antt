@@ -27,10 +27,10 @@ use Rattle.std.specs.declared.option.Option.{Option}
 use Rattle.std.specs.declared.option.Option.TheVariants.{None, Some}
 use Rattle.std.specs.contracts.option.Option as O
 use Rattle.std.proofs.alloc.Calls.{Al, seen}
-use Rattle.ocp_hostile.specs.declared.heap.Refusing.{Refusing}
-use Rattle.ocp_hostile.specs.contracts.heap.Refusing as L
-use Rattle.ocp_hostile.specs.contracts.heap.Refusing.chosen as F
-use Rattle.ocp_hostile.specs.contracts.heap.Refusing.chosen.Key as key
+use Rattle.ocp_tests.specs.declared.heap.Refusing.{Refusing}
+use Rattle.ocp_tests.specs.contracts.heap.Refusing as L
+use Rattle.ocp_tests.specs.contracts.heap.Refusing.chosen as F
+use Rattle.ocp_tests.specs.contracts.heap.Refusing.chosen.Key as key
 
 abbrev pub shown_val : {X : Type 0} → Option (Bor X) → Val
 shown_val None = live 0 (of_list [])

@@ -38,11 +38,11 @@ use denote.RawPtr.{Ptr, block_ptr, null_ptr, ptr_val, rawptr_vals, rawptr_Tells}
 use denote.Builtin.{usize, RawPtr, RefOf}
 use denote.Triple.Call.{calls_at}
 use Rattle.std.proofs.alloc.Calls.{Al, α, seen, token, gives_key, Gives, at_gives, Gives-goes, Gives-Gives}
-use Rattle.ocp_hostile.specs.contracts.heap.Refusing as wrapper
-use Rattle.ocp_hostile.specs.contracts.heap.RefusingAllocator.deallocate as F
-use Rattle.ocp_hostile.specs.contracts.heap.RefusingAllocator.deallocate.Key as key
-use Rattle.ocp_hostile.proofs.heap.RefusingAllocator.deallocate.Statement as stated
-use Rattle.ocp_hostile.proofs.heap.RefusingAllocator.deallocate.Code as code
+use Rattle.ocp_tests.specs.contracts.heap.Refusing as wrapper
+use Rattle.ocp_tests.specs.contracts.heap.RefusingAllocator.deallocate as F
+use Rattle.ocp_tests.specs.contracts.heap.RefusingAllocator.deallocate.Key as key
+use Rattle.ocp_tests.proofs.heap.RefusingAllocator.deallocate.Statement as stated
+use Rattle.ocp_tests.proofs.heap.RefusingAllocator.deallocate.Code as code
 
 module _ (Z : Al) where
   abbrev args : Args

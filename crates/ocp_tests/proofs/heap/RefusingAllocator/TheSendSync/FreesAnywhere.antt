@@ -3,7 +3,7 @@ use mir.Syntax.{Dict}
 use denote.RattleType.{RattleType}
 use denote.Param.Send.{Frees}
 use Rattle.std.specs.declared.alloc.Allocator.{Ghosts}
-use Rattle.ocp_hostile.specs.contracts.heap.RefusingAllocator.TheImpl.{ghosts}
+use Rattle.ocp_tests.specs.contracts.heap.RefusingAllocator.TheImpl.{ghosts}
 
 module _ (A : RattleType) (g : Ghosts A.Denot) where
   pub frees : (d e : Dict) → Frees g g.dealloc_token → Frees (ghosts A g d e) (ghosts A g d e).dealloc_token

@@ -37,10 +37,10 @@ use denote.Builtin.{usize, RefOf}
 use denote.Triple.Call.{calls_at}
 use Rattle.std.specs.declared.result.Result.TheVariants.{Ok, Err}
 use Rattle.std.proofs.alloc.Calls.{Al, Answer, answer_val, Answer-typed, Answer-Ok, Answer-err, takes_key, Takes, at_takes, Answered, Takes-goes, Takes-gives, answers, token}
-use Rattle.ocp_hostile.specs.contracts.heap.RefusingAllocator.allocate as F
-use Rattle.ocp_hostile.specs.contracts.heap.RefusingAllocator.allocate.Key as key
-use Rattle.ocp_hostile.proofs.heap.RefusingAllocator.allocate.Statement as stated
-use Rattle.ocp_hostile.proofs.heap.RefusingAllocator.allocate.Code as code
+use Rattle.ocp_tests.specs.contracts.heap.RefusingAllocator.allocate as F
+use Rattle.ocp_tests.specs.contracts.heap.RefusingAllocator.allocate.Key as key
+use Rattle.ocp_tests.proofs.heap.RefusingAllocator.allocate.Statement as stated
+use Rattle.ocp_tests.proofs.heap.RefusingAllocator.allocate.Code as code
 use mathlib.Core.Path.{sym, subst}
 use lib.Dec.{T}
 use mir.Syntax.{place}
@@ -59,10 +59,10 @@ use denote.Triple.Call.{calls_at, calls_at_last}
 use Rattle.std.specs.declared.option.Option.{Option}
 use Rattle.std.specs.declared.option.Option.TheVariants.{None, Some}
 use Rattle.std.proofs.alloc.Shapes.{after, front, arm_body}
-use Rattle.ocp_hostile.specs.declared.heap.Refusing.{Refusing}
-use Rattle.ocp_hostile.specs.contracts.heap.Refusing as L
-use Rattle.ocp_hostile.proofs.Handle.{lent_key, Lends, at_lent, Told, shown_val, seen_if, Shown-typed, lent_goes, lent_Gives}
-use Rattle.ocp_hostile.proofs.heap.Refusing.chosen.Met as lent_met
+use Rattle.ocp_tests.specs.declared.heap.Refusing.{Refusing}
+use Rattle.ocp_tests.specs.contracts.heap.Refusing as L
+use Rattle.ocp_tests.proofs.Handle.{lent_key, Lends, at_lent, Told, shown_val, seen_if, Shown-typed, lent_goes, lent_Gives}
+use Rattle.ocp_tests.proofs.heap.Refusing.chosen.Met as lent_met
 
 module _ (Z : Al) where
   abbrev args : Args
@@ -160,4 +160,4 @@ allocate_spec 𝓤 𝓛 𝓜 𝓡 wired Y L g d d' met _ =
     entered 𝓤 𝓛.H (triple_of 𝓛 (F.signature Y) (F.spec Y g d d' 𝓛 𝓜.mem 𝓡.returns)) 𝓣.C 𝓣.Λ (key.name (args Z)) (here Z) (code.unfolded 𝓤 𝓛.H 𝓜 𝓡 wired (Y, tt) d d')
     (walk_Meets 𝓛 (ended Z) (stayed Z) (Goes-dropped 𝓛 2 (self Z) yes (λ κs x f. refl), (Goes-dropped 𝓛 2 (plain (λ _. usize)) yes (λ κs x f. refl), (Goes-dropped 𝓛 2 (plain (λ _. usize)) yes (λ κs x f. refl), tt))) c (WpFn 𝓤 𝓛.H 𝓣.C 𝓣.Λ (here Z)) (WpFn-mono 𝓤 𝓛.H 𝓛.laws 𝓣 (here Z))
     (walked 𝓛 (ended Z) (stayed Z) c (WpFn 𝓤 𝓛.H 𝓣.C 𝓣.Λ (here Z)) (λ κs. (shr_vals, (uint_vals w64, (uint_vals w64, tt)))) (λ κs. ((λ r vs s. s.0), (uint_Tells w64, (uint_Tells w64, tt))))
-    (λ κs qs bounds a τ are. walk Z 𝓛 𝓜.mem 𝓡.returns 𝓣 (met.allocate d') (lent_met.met 𝓤 𝓛 𝓜 𝓡 (code.calls-ocp_hostile::heap::Refusing::chosen 𝓡.env wired) Y L) κs.0 κs.1.0 qs.0 qs.1.0 bounds.0 a.0 a.1.0 a.1.1.0 τ are.1.0.1 are.1.1.0.1)))
+    (λ κs qs bounds a τ are. walk Z 𝓛 𝓜.mem 𝓡.returns 𝓣 (met.allocate d') (lent_met.met 𝓤 𝓛 𝓜 𝓡 (code.calls-ocp_tests::heap::Refusing::chosen 𝓡.env wired) Y L) κs.0 κs.1.0 qs.0 qs.1.0 bounds.0 a.0 a.1.0 a.1.1.0 τ are.1.0.1 are.1.1.0.1)))

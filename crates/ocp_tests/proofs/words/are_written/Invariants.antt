@@ -1,5 +1,5 @@
 use Rattle.std.proofs.Common.{◌-◌, length}
-use Rattle.ocp_hostile.proofs.words.are_written.Given as goal
+use Rattle.ocp_tests.proofs.words.are_written.Given as goal
 
 abbrev pub ghosts-written-L-Ledger : goal.ghosts-written-L-Ledger
 ghosts-written-L-Ledger g a = record { name = a.blank.name; parts = a.blank.parts }

@@ -1,5 +1,5 @@
 use Rattle.std.proofs.Common.{◌-◌, length}
-use Rattle.ocp_hostile.proofs.pairs.are_waited_for.Given as goal
+use Rattle.ocp_tests.proofs.pairs.are_waited_for.Given as goal
 
 abbrev pub ghosts-both-L-Ledger : goal.ghosts-both-L-Ledger
 ghosts-both-L-Ledger g a = record { name = a.blank.name; parts = a.blank.parts }

@@ -1,5 +1,5 @@
 use Rattle.std.proofs.Common.{◌-◌, length}
-use Rattle.ocp_hostile.proofs.boards.are_told.Given as goal
+use Rattle.ocp_tests.proofs.boards.are_told.Given as goal
 
 abbrev pub ghosts-by_script-L-Ledger : goal.ghosts-by_script-L-Ledger
 ghosts-by_script-L-Ledger g a = record { name = a.blank.name; parts = a.blank.parts }

@@ -1,5 +1,5 @@
 use Rattle.std.proofs.Common.{◌-◌, length}
-use Rattle.ocp_hostile.proofs.boards.are_the_boards.Given as goal
+use Rattle.ocp_tests.proofs.boards.are_the_boards.Given as goal
 
 abbrev pub ghosts-through-L-Ledger : goal.ghosts-through-L-Ledger
 ghosts-through-L-Ledger g a = record { name = a.blank.name; parts = a.blank.parts }
