@@ -32,7 +32,7 @@ class Refused(Exception):
 
 @contextmanager
 def folder():
-    """A folder for a while; the keeper takes it away if the server is gone before."""
+    """A folder for a while; the keeper removes it if the server ends before."""
     with tempfile.TemporaryDirectory(prefix="ocp-bench-", ignore_cleanup_errors=True) as path:
         if KEEPER:
             KEEPER.add(path)
@@ -154,7 +154,7 @@ class Child:
             TURNS.release()
 
     def drain(self, seconds=2):
-        """Waits until the pipes have no writer, so until the whole group is gone."""
+        """Waits until the pipes have no writer, so until the whole group has ended."""
         end = time.monotonic() + seconds
         if self.is_writing:
             self.pipes.unregister(self.process.stdin)

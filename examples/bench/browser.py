@@ -126,7 +126,7 @@ def faults(page):
 
 
 def verdict(page):
-    """What may fault is marked in the text and in the listing, with why; a mended text is said never to fault."""
+    """What may fault is marked in the text and in the listing, with why; the verdict on a corrected text is that it never faults."""
     page.set("text", "; reads after its arguments\n\tadd64 r1, r2\n\tldxb r0, [r1]\n\texit\n")
     why = "may be AccessOutside: r1 is 0x20000000 to 0x20000100"
     page.until("what may fault", lambda: page.shown("verdict").startswith(f"slot 1   {why}"))

@@ -39,7 +39,7 @@ class Connections:
             pass
 
     def know(self, connection):
-        """The connection has shown the secret; False where there are too many that have."""
+        """The connection has shown the secret; False if too many have."""
         with self.turn:
             if connection not in self.known and len(self.known) >= KNOWN:
                 return False

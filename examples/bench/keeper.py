@@ -1,4 +1,4 @@
-"""A process beside the server: when the server is gone, however it ended, it ends the runs and takes away the folders that
+"""A process for the server: when the server has ended, in any way, it ends the runs and removes the folders that
 are left.
 """
 import os

@@ -1,6 +1,6 @@
 """The words before a build of foreign text, so that it can read the compiler and the text, and nothing else.
 
-A text in C reads files: `#include "/etc/passwd"`, `.incbin`. Where the system lets a user have a name space of its own, by
+A text in C reads files: `#include "/etc/passwd"`, `.incbin`. If the system lets a user have a name space of its own, by
 bubblewrap or by `unshare`, a build has a file system of the folders of programs, of examples/c and of the text alone.
 """
 import functools

@@ -431,7 +431,7 @@ class Pipes:
         return self.process.stdout.read(BLOCK) if ready else None
 
     def close(self):
-        """Ends its input; an engine that goes on is ended with all that it has started."""
+        """Ends its input; an engine that still runs is ended with all that it has started."""
         self.process.stdin.close()
         self.process.stdout.close()
         for signal_number in (signal.SIGTERM, signal.SIGKILL):

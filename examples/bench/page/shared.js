@@ -1,4 +1,4 @@
-// What all parts of the page share: its state, the questions to the server, and what it says of faults.
+// What all parts of the page share: its state, the questions to the server, and its words on faults.
 export const at = name => document.getElementById(name);
 export const it = {
     names: {}, clang: false, knows: [],
