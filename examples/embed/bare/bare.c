@@ -66,7 +66,7 @@ static void run_cycle(void)
     release_entries();
 }
 
-/* One packet; nobody is told of one that is discarded, or that finds no memory or a full journal. */
+/* One packet. One that is discarded, or that finds the journal full, is dropped without a word. */
 static void take(size_t length)
 {
     size_t written;
