@@ -200,7 +200,7 @@ def excuses():
 # ---- which cases run what
 
 def functions_of(case, model):
-    """Where the functions of the model begin that a case enters."""
+    """The first lines of the functions of the model that a case enters."""
     entered = set()
 
     def trace(frame, *_):
