@@ -1,6 +1,7 @@
-"""Changes of the model of the profile, one at a time, and whether a case shows each: each number by one up and down, each
-comparison, each operator, each sign, each question turned, each printed or compared word, each refusal left out, each statement
-left out, each two refusals in the other order, each two neighbours of a list or of a call's operands in the other order.
+"""Changes of the model of the profile, one at a time, and whether a case shows each.
+
+A change is one of these: a number one up or down; another comparison, operator or sign; a question turned; another printed or compared
+word; a refusal or a statement left out; two refusals, or two neighbours of a list or of a call's operands, in the other order.
 """
 import ast
 import multiprocessing
