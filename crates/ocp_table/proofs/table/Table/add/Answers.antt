@@ -26,18 +26,18 @@ invariant_of-self-2 g c =
     let few : slab_len c.self.inside.records < MAX_PROCEDURES = few_from_room c.self.inside.records _ (sym (len-contents id_of record_of c.self.inside.records sound.distinct)) room in
     let free : get (contents id_of record_of c.self.inside.records) (id_of c.new.result) ≡ None = ap (get (contents id_of record_of c.self.inside.records)) c.new.ensures.id ∙ (rw (← c.self.view_is) at c.requires.absent) in
     let absent = IsAbsent-from_get id_of record_of c.self.inside.records (id_of c.new.result) sound.distinct free in
-    let new = Replaces-new id_of record_of c.self.inside.records _ _ c.insert_reserved.ensures.was_vacant absent in
-    let put = contents-put id_of record_of c.self.inside.records c.insert_reserved.new.self c.insert_reserved.result _ sound.distinct new c.insert_reserved.ensures.updates in (
+    let new = Replaces-new id_of record_of c.self.inside.records _ _ c.insert_reserved-key.ensures.was_vacant absent in
+    let put = contents-put id_of record_of c.self.inside.records c.insert_reserved-key.new.self c.insert_reserved-key.result _ sound.distinct new c.insert_reserved-key.ensures.updates in (
       record {
         sound = record {
-          distinct = IsDistinct-put id_of record_of c.self.inside.records c.insert_reserved.new.self c.insert_reserved.result _ sound.distinct new c.insert_reserved.ensures.updates;
-          few = omega (arith, c.insert_reserved.ensures.len, few);
-          room = omega (arith, c.insert_reserved.ensures.capacity, sound.room);
+          distinct = IsDistinct-put id_of record_of c.self.inside.records c.insert_reserved-key.new.self c.insert_reserved-key.result _ sound.distinct new c.insert_reserved-key.ensures.updates;
+          few = omega (arith, c.insert_reserved-key.ensures.len, few);
+          room = omega (arith, c.insert_reserved-key.ensures.capacity, sound.room);
         };
         places = fits-inserted _ _ _ (id_of c.new.result) (record_of c.new.result) put c.new.ensures.idle c.self.invariant.0.places;
       },
       record {
-        all = omega (arith, c.self.invariant.1.all, c.insert_reserved.ensures.len, c.in-Some.ensures.len);
+        all = omega (arith, c.self.invariant.1.all, c.insert_reserved-key.ensures.len, c.in-Some.ensures.len);
         room = omega (arith, c.self.invariant.1.room, c.pop.ensures.capacity);
       },
     )
@@ -47,8 +47,8 @@ returns-clause-ok g c =
     let sound = c.self.invariant.0.sound in
     let free : get (contents id_of record_of c.self.inside.records) (id_of c.new.result) ≡ None = ap (get (contents id_of record_of c.self.inside.records)) c.new.ensures.id ∙ (rw (← c.self.view_is) at c.requires.absent) in
     let absent = IsAbsent-from_get id_of record_of c.self.inside.records (id_of c.new.result) sound.distinct free in
-    let new = Replaces-new id_of record_of c.self.inside.records _ _ c.insert_reserved.ensures.was_vacant absent in
-    let put = contents-put id_of record_of c.self.inside.records c.insert_reserved.new.self c.insert_reserved.result _ sound.distinct new c.insert_reserved.ensures.updates in
+    let new = Replaces-new id_of record_of c.self.inside.records _ _ c.insert_reserved-key.ensures.was_vacant absent in
+    let put = contents-put id_of record_of c.self.inside.records c.insert_reserved-key.new.self c.insert_reserved-key.result _ sound.distinct new c.insert_reserved-key.ensures.updates in
     let made = c.in_default-load.ensures.ok in
     let shows = c.new.ensures.record c.self.inside.profile (ap (λ e. e.machine) made) ∙ ap (λ e. new_record c.self.inside.profile e.image) made in
     rw (← c.self.view_is) (table_is _ _ _ _ _ (put ∙ ap (λ i. insert (contents id_of record_of c.self.inside.records) i (record_of c.new.result)) c.new.ensures.id ∙ ap (insert (contents id_of record_of c.self.inside.records) c.args.id) shows) refl)
