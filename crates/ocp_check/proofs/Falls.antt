@@ -1,15 +1,16 @@
 -- What a line leaves ahead.
-use Rattle.std.proofs.Common.{◌≡◌, ◌≢◌, ◌≤◌, ◌<◌, ◌⊎◌, inl, inr, ℕ, zero, suc, ◌+◌, ◌-◌, ℤ, pos, Bool, true, false, List, [], ◌∷◌, ◌++◌, length, take, get_or, Option, Some, None, Result, Ok, Err, refl, sym, ap, subst, ◌∙◌, arith}
-use Rattle.std.specs.Prelude.{slice_get, slice_index, ◌==◌, if◌then◌else◌}
+use Rattle.std.proofs.Common.{◌≡◌, ◌≢◌, ◌≤◌, ◌<◌, ◌⊎◌, inl, inr, ℕ, zero, suc, ◌+◌, ◌-◌, ℤ, pos, Bool, true, false, List, [], ◌∷◌, ◌++◌, length, take, Option, Some, None, Result, Ok, Err, refl, sym, ap, subst, ◌∙◌, arith}
+use Rattle.std.specs.Prelude.{slice_get, ◌==◌, if◌then◌else◌}
 use Rattle.ocp_regions.specs.declared.fault.AccessFault.{AccessFault}
 use Rattle.ocp_regions.specs.Memory.{Octets}
 use Rattle.bpf_step.specs.declared.frame.Frame.{Frame}
 use Rattle.bpf_step.specs.declared.answer.Need.TheVariants as need
 use Rattle.bpf_moves.specs.Moves.{load_register, store_memory, move_by_jump}
 use Rattle.bpf_step.specs.Machine.{State, Outcome, Next, Needs, NoInstruction, state_after_write, state_after_jump}
-use Rattle.bpf_step.specs.Calls.{local_call, call_unless_full, state_after_call, state_after_return, restored_registers, frame_of, exit_to, last_frame, state_after_engine_call}
+use Rattle.bpf_step.specs.Calls.{local_call, call_unless_full, state_after_call, restored_registers, frame_of, exit_to, last_frame, state_after_engine_call}
 use Rattle.bpf_step.specs.Step.{outcome_by, one_step}
 use Rattle.bpf_step.specs.Reach.{Reaches, Started, Stepped, Answered}
+use Rattle.bpf_step.specs.Answers.{IsAnswer}
 use Rattle.ocp_check.specs.Rounds.{Round, Here, Further, Called}
 use Rattle.ocp_check.specs.declared.counting.Counter.{Counter}
 use Rattle.ocp_check.specs.declared.counting.Rank.{Rank}
@@ -47,13 +48,13 @@ falls_either ranks counters certificate most s true distance h g i = h i
 falls_either ranks counters certificate most s false distance h g i = g i
 
 pub falls_call : (ranks : List Rank) (counters : List Counter) (most : ℕ) (s : State) (number : ℤ) →
-    ((r0 : ℕ) (r1 : Option ℕ) → let t : State = state_after_engine_call s r0 r1 in value_at ranks counters t.place t.registers < value_at ranks counters s.place s.registers) → Falls ranks counters most s (Needs (need.Call number))
-falls_call ranks counters most s number h = λ r0 r1. let i = h r0 r1 in inl (omega (arith, i))
+    ((r0 : ℕ) (r1 : Option ℕ) → IsAnswer number r0 r1 → let t : State = state_after_engine_call s r0 r1 in value_at ranks counters t.place t.registers < value_at ranks counters s.place s.registers) → Falls ranks counters most s (Needs (need.Call number))
+falls_call ranks counters most s number h = λ r0 r1 is. let i = h r0 r1 is in inl (omega (arith, i))
 
 pub falls_end : (ranks : List Rank) (counters : List Counter) (most : ℕ) (s : State) (number : ℤ) → number ≡ pos 5 → s.frames ≡ [] →
-    ((r0 : ℕ) (r1 : Option ℕ) → let t : State = state_after_engine_call s r0 r1 in value_at ranks counters t.place t.registers < most) → Falls ranks counters most s (Needs (need.Call number))
-falls_end ranks counters most s number e z h = λ r0 r1.
-    let i = h r0 r1 in
+    ((r0 : ℕ) (r1 : Option ℕ) → IsAnswer number r0 r1 → let t : State = state_after_engine_call s r0 r1 in value_at ranks counters t.place t.registers < most) → Falls ranks counters most s (Needs (need.Call number))
+falls_end ranks counters most s number e z h = λ r0 r1 is.
+    let i = h r0 r1 is in
     let f : values_of_frames ranks counters s.frames ≡ 0 = ap (values_of_frames ranks counters) z in
     inr (e, omega (arith, i, f))
 
@@ -127,21 +128,21 @@ IsLow ranks counters most s = (ahead ranks counters s < most) × AreSteady ranks
 abbrev pub FallsFrom : List ℕ → List Rank → List Counter → ℕ → Type 0
 FallsFrom image ranks counters most = (u : State) → Reaches image u → AreSteady ranks counters u.frames → Falls ranks counters most u (one_step image u)
 
-after_call : (ranks : List Rank) (counters : List Counter) (most : ℕ) (s : State) (r0 : ℕ) (r1 : Option ℕ) (number : ℤ) → Falls ranks counters most s (Needs (need.Call number)) → IsLow ranks counters most s → IsLow ranks counters most (state_after_engine_call s r0 r1)
-after_call ranks counters most s r0 r1 number h l = (elim (h r0 r1) [ inl a ↦ omega (arith, a, l.0) | inr b ↦ b.1 ], l.1)
+after_call : (ranks : List Rank) (counters : List Counter) (most : ℕ) (s : State) (r0 : ℕ) (r1 : Option ℕ) (number : ℤ) → IsAnswer number r0 r1 → Falls ranks counters most s (Needs (need.Call number)) → IsLow ranks counters most s → IsLow ranks counters most (state_after_engine_call s r0 r1)
+after_call ranks counters most s r0 r1 number is h l = (elim (h r0 r1 is) [ inl a ↦ omega (arith, a, l.0) | inr b ↦ b.1 ], l.1)
 
 pub within : (image : List ℕ) (ranks : List Rank) (counters : List Counter) (most : ℕ) → ((s : State) → s.place ≡ 0 → s.frames ≡ [] → Reaches image s → value_at ranks counters s.place s.registers < most) → FallsFrom image ranks counters most → (s : State) → Reaches image s → IsLow ranks counters most s
-within image ranks counters most first falls s (Started profile image' arguments n) = let h = first s refl refl (Started profile image arguments n) in (omega (arith, h), tt)
+within image ranks counters most first falls s (Started profile image' arguments n octets) = let h = first s refl refl (Started profile image arguments n octets) in (omega (arith, h), tt)
 within image ranks counters most first falls s (Stepped image' before after r e) =
     let i = within image ranks counters most first falls before r in
     let l : Falls ranks counters most before (Next s) = subst (λ (o : Outcome). Falls ranks counters most before o) e (falls before r i.1) in
     (omega (arith, l.0, i.0), l.1)
-within image ranks counters most first falls s (Answered image' before number r0 r1 r e) =
+within image ranks counters most first falls s (Answered image' before number r0 r1 r e is) =
     let i = within image ranks counters most first falls before r in
-    after_call ranks counters most before r0 r1 number (subst (λ (o : Outcome). Falls ranks counters most before o) e (falls before r i.1)) i
+    after_call ranks counters most before r0 r1 number is (subst (λ (o : Outcome). Falls ranks counters most before o) e (falls before r i.1)) i
 
-not_ended : (ranks : List Rank) (counters : List Counter) (most : ℕ) (s : State) (r0 : ℕ) (r1 : Option ℕ) (number : ℤ) → number ≢ pos 5 → Falls ranks counters most s (Needs (need.Call number)) → ahead ranks counters (state_after_engine_call s r0 r1) < ahead ranks counters s
-not_ended ranks counters most s r0 r1 number n h = elim (h r0 r1) [ inl a ↦ a | inr b ↦ absurd (n b.0) ]
+not_ended : (ranks : List Rank) (counters : List Counter) (most : ℕ) (s : State) (r0 : ℕ) (r1 : Option ℕ) (number : ℤ) → number ≢ pos 5 → IsAnswer number r0 r1 → Falls ranks counters most s (Needs (need.Call number)) → ahead ranks counters (state_after_engine_call s r0 r1) < ahead ranks counters s
+not_ended ranks counters most s r0 r1 number n is h = elim (h r0 r1 is) [ inl a ↦ a | inr b ↦ absurd (n b.0) ]
 
 -- each instruction of a round leaves fewer ahead
 pub rounds : (image : List ℕ) (ranks : List Rank) (counters : List Counter) (most n : ℕ) (s t : State) → FallsFrom image ranks counters most → ((u : State) → Reaches image u → IsLow ranks counters most u) → Reaches image s → Round image n s t →
@@ -151,7 +152,7 @@ rounds image ranks counters most n s t falls low r (Further image' k s' u t' h e
     let i = rounds image ranks counters most k s u falls low r h in
     let l : Falls ranks counters most u (Next t) = subst (λ (o : Outcome). Falls ranks counters most u o) e (falls u i.0 (low u i.0).1) in
     (Stepped image u t i.0 e, omega (arith, i.1, l.0))
-rounds image ranks counters most n s t falls low r (Called image' k s' u number r0 r1 h e five) =
+rounds image ranks counters most n s t falls low r (Called image' k s' u number r0 r1 h e five is) =
     let i = rounds image ranks counters most k s u falls low r h in
-    let l = not_ended ranks counters most u r0 r1 number five (subst (λ (o : Outcome). Falls ranks counters most u o) e (falls u i.0 (low u i.0).1)) in
-    (Answered image u number r0 r1 i.0 e, omega (arith, i.1, l))
+    let l = not_ended ranks counters most u r0 r1 number five is (subst (λ (o : Outcome). Falls ranks counters most u o) e (falls u i.0 (low u i.0).1)) in
+    (Answered image u number r0 r1 i.0 e is, omega (arith, i.1, l))

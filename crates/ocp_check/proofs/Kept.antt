@@ -1,11 +1,12 @@
 -- What a row knows after a write.
-use Rattle.std.proofs.Common.{◌≡◌, ◌<◌, ◌⊎◌, inl, inr, ℕ, ◌+◌, List, [], ◌∷◌, length, get_or, set, Option, Some, None, refl, sym, ap, subst, ◌∙◌, arith, Result, Ok, Bool, true, false, ℤ}
+use Rattle.std.proofs.Common.{◌≡◌, ◌<◌, ◌⊎◌, inl, inr, ℕ, ◌+◌, ◌^◌, List, [], ◌∷◌, length, get_or, set, Option, Some, None, refl, sym, ap, subst, ◌∙◌, arith, Result, Ok, Bool, true, false, ℤ}
 use Rattle.std.specs.Prelude.{slice_get, if◌then◌else◌}
 use Rattle.ocp_profile.specs.declared.profile.Profile.{Profile}
 use Rattle.ocp_regions.specs.declared.fault.AccessFault.{AccessFault}
 use Rattle.ocp_regions.specs.Memory.{Octets, zeros, zeros_over, number_in_memory, memory_after_store}
+use Rattle.ocp_regions.specs.Access.{HasOctets}
 use Rattle.bpf_moves.specs.Moves.{load_register, store_memory, move_by_jump}
-use Rattle.bpf_step.specs.Calls.{state_after_engine_call}
+use Rattle.bpf_step.specs.Calls.{maybe_set, state_after_engine_call}
 use Rattle.bpf_step.specs.Step.{outcome_by}
 use Rattle.std.proofs.lemmas.List.{length-set, get_or-set_same, get_or-set_other}
 use Rattle.bpf_step.specs.Machine.{State, NoInstruction, state_after_write, state_after_jump}
@@ -65,6 +66,7 @@ covered certificate place from s c e i = record {
     returns = weaken certificate from.promise c.node.promise i.callers c.kept i.returns;
     profile = i.profile;
     memory = i.memory;
+    octets = i.octets;
   };
 }
 
@@ -78,6 +80,7 @@ restand certificate node next s t i d p f m a = record {
   returns = subst (λ (o : Option Range). Returns certificate o i.callers) (sym p) i.returns;
   profile = i.profile;
   memory = ap zeros_over m ∙ i.memory;
+  octets = subst HasOctets (sym m) i.octets;
 }
 
 pub fits_put : (certificate : Certificate) (place : ℕ) (node : Node) (s : State) (dst v slots : ℕ) (known : Option Range) → length node.row ≡ 11 → dst < 11 →
@@ -90,38 +93,38 @@ pub fits_jump : (certificate : Certificate) (place : ℕ) (node : Node) (s t : S
 fits_jump certificate place node s t dst known l d c e r f m i k = covered certificate place (record node { row = set node.row dst known }) t c e
     (restand certificate node (record node { row = set node.row dst known }) s t i refl refl f m (rw r (keep_in node.row s.registers dst known l d i.registers k)))
 
-pub fits_call : (certificate : Certificate) (node : Node) (slot one : ℕ) → one ≡ 1 → length node.row ≡ 11 →
-    ((t : State) (v : ℕ) → t.place ≡ slot → Matches certificate (record node { row = set node.row 0 None }) t → IsIn None v → Fits certificate (state_after_write t one v 1)) →
-    ((t : State) → t.place ≡ slot → Matches certificate (record node { row = set node.row 0 None }) t → Unit {0} → Fits certificate (state_after_jump t None)) →
-    (s : State) (r0 : ℕ) (r1 : Option ℕ) → s.place ≡ slot → Matches certificate node s → Fits certificate (state_after_engine_call s r0 r1)
-fits_call certificate node slot one is l write jump s r0 r1 e i = by r1
-  where
-    stands : Matches certificate (record node { row = set node.row 0 None }) (record s { registers = set s.registers 0 r0 })
-    stands = restand certificate node (record node { row = set node.row 0 None }) s (record s { registers = set s.registers 0 r0 }) i refl refl refl refl (put_in node.row s.registers 0 r0 None l (omega arith) i.registers tt)
+pub fits_call : (certificate : Certificate) (node next : Node) (s : State) (slot r0 : ℕ) (r1 : Option ℕ) → Covers certificate (slot + 1) next → s.place ≡ slot → Matches certificate node s → next.depth ≡ node.depth → next.promise ≡ node.promise →
+    AreIn next.row (state_after_engine_call s r0 r1).registers → Fits certificate (state_after_engine_call s r0 r1)
+fits_call certificate node next s slot r0 r1 c e i d p a = covered certificate (slot + 1) next (state_after_engine_call s r0 r1) c (ap (λ n. n + 1) e)
+    (restand certificate node next s (state_after_engine_call s r0 r1) i d p refl refl a)
 
-    by : (r : Option ℕ) → Fits certificate (state_after_engine_call s r0 r)
-    by (Some v) = subst (λ k. Fits certificate (state_after_write (record s { registers = set s.registers 0 r0 }) k v 1)) is (write (record s { registers = set s.registers 0 r0 }) v e stands tt)
-    by None = jump (record s { registers = set s.registers 0 r0 }) e stands tt
+-- what is known after an engine call that may write R1, and after another one
+pub answered_in : (row : List (Option Range)) (registers : List ℕ) (r0 : ℕ) (r1 : Option ℕ) (known : Option Range) → length row ≡ 11 → AreIn row registers → IsIn known r0 → AreIn (set (set row 0 known) 1 None) (maybe_set (set registers 0 r0) 1 r1)
+answered_in row registers r0 (Some v) known l a i = put_in (set row 0 known) (set registers 0 r0) 1 v None (length-set row 0 known ∙ l) (omega arith) (put_in row registers 0 r0 known l (omega arith) a i) tt
+answered_in row registers r0 None known l a i = keep_in (set row 0 known) (set registers 0 r0) 1 None (length-set row 0 known ∙ l) (omega arith) (put_in row registers 0 r0 known l (omega arith) a i) tt
+
+pub answered_in_r0 : (row : List (Option Range)) (registers : List ℕ) (r0 : ℕ) (r1 : Option ℕ) (known : Option Range) → length row ≡ 11 → AreIn row registers → IsIn known r0 → r1 ≡ None → AreIn (set row 0 known) (maybe_set (set registers 0 r0) 1 r1)
+answered_in_r0 row registers r0 r1 known l a i e = subst (λ o. AreIn (set row 0 known) (maybe_set (set registers 0 r0) 1 o)) (sym e) (put_in row registers 0 r0 known l (omega arith) a i)
 
 -- a law on loads, and one on stores
 abbrev pub LoadsAreThere : Type 0
-LoadsAreThere = (profile : Profile) (m : Octets) (writes : Bool) (q n : ℕ) → zeros_over m ≡ zeros profile → IsThere writes q n → (v : ℕ) × (number_in_memory m q n ≡ Ok v)
+LoadsAreThere = (profile : Profile) (m : Octets) (writes : Bool) (q n : ℕ) → zeros_over m ≡ zeros profile → HasOctets m → IsThere writes q n → (v : ℕ) × (number_in_memory m q n ≡ Ok v) × (v < 256 ^ n)
 
 abbrev pub StoresAreThere : Type 0
-StoresAreThere = (profile : Profile) (m : Octets) (q n v : ℕ) → zeros_over m ≡ zeros profile → IsThere true q n → (t : Octets) × (memory_after_store m q n v ≡ Ok t) × (zeros_over t ≡ zeros profile)
+StoresAreThere = (profile : Profile) (m : Octets) (q n v : ℕ) → zeros_over m ≡ zeros profile → HasOctets m → IsThere true q n → (t : Octets) × (memory_after_store m q n v ≡ Ok t) × (zeros_over t ≡ zeros profile) × HasOctets t
 
 pub fits_load : LoadsAreThere → (certificate : Certificate) (node : Node) (s : State) (dst q n : ℕ) (f : ℕ → ℕ) → Matches certificate node s → IsThere false q n →
-    ((v : ℕ) → Fits certificate (state_after_write s dst v 1)) → FitsAfter certificate s (outcome_by s (load_register s.registers s.memory dst f (number_in_memory s.memory q n)) NoInstruction)
+    ((v : ℕ) → v < 256 ^ n → Fits certificate (state_after_write s dst (f v) 1)) → FitsAfter certificate s (outcome_by s (load_register s.registers s.memory dst f (number_in_memory s.memory q n)) NoInstruction)
 fits_load law certificate node s dst q n f i h k =
-    let v = law i.profile s.memory false q n i.memory h in
-    subst (λ (r : Result ℕ AccessFault). FitsAfter certificate s (outcome_by s (load_register s.registers s.memory dst f r) NoInstruction)) (sym v.1) (k (f v.0))
+    let v = law i.profile s.memory false q n i.memory i.octets h in
+    subst (λ (r : Result ℕ AccessFault). FitsAfter certificate s (outcome_by s (load_register s.registers s.memory dst f r) NoInstruction)) (sym v.1) (k v.0 v.2)
 
 pub fits_store : StoresAreThere → (certificate : Certificate) (node : Node) (s : State) (slot q n v : ℕ) → s.place ≡ slot → Matches certificate node s → IsThere true q n →
     ((t : State) → t.place ≡ slot → Matches certificate node t → Fits certificate (state_after_jump t None)) → FitsAfter certificate s (outcome_by s (store_memory s.registers (memory_after_store s.memory q n v)) NoInstruction)
 fits_store law certificate node s slot q n v e i h k =
-    let t = law i.profile s.memory q n v i.memory h in
+    let t = law i.profile s.memory q n v i.memory i.octets h in
     subst (λ (r : Result Octets AccessFault). FitsAfter certificate s (outcome_by s (store_memory s.registers r) NoInstruction)) (sym t.1)
-    (k (record s { memory = t.0 }) e (record { registers = i.registers; callers = i.callers; saved = i.saved; few = i.few; returns = i.returns; profile = i.profile; memory = t.2 }))
+    (k (record s { memory = t.0 }) e (record { registers = i.registers; callers = i.callers; saved = i.saved; few = i.few; returns = i.returns; profile = i.profile; memory = t.2; octets = t.3 }))
 
 pub fits_either : (certificate : Certificate) (s : State) (taken : Bool) (distance : ℤ) → (taken ≡ true → Fits certificate (state_after_jump s (Some distance))) → (taken ≡ false → Fits certificate (state_after_jump s None)) →
     FitsAfter certificate s (outcome_by s (move_by_jump s.registers s.memory (if taken then Some distance else None)) NoInstruction)

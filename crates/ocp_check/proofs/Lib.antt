@@ -1,4 +1,3 @@
-pub mod Entries
 pub mod Memory
 pub mod Kept
 pub mod Called

@@ -9,6 +9,7 @@ use Rattle.ocp_check.specs.Mirror.Ranges.{IsIn, AreIn}
 use Rattle.ocp_check.specs.Mirror.Callers.{Caller, AreSaved, row_at_end, node_after_return}
 use Rattle.ocp_check.specs.Mirror.Fits.{Certificate, Matches, FitsAfter, Covers, Returns}
 use Rattle.ocp_regions.specs.Memory.{zeros, zeros_over}
+use Rattle.ocp_regions.specs.Access.{HasOctets}
 use Rattle.ocp_check.proofs.Kept.{put_in, covered}
 use Rattle.ocp_check.proofs.Called.{called, ended, last_exit}
 
@@ -28,6 +29,7 @@ fits_local certificate node s slot distance pointer promise l d e i p first afte
       returns = (record { promised = promise; kept = λ v h. h; covers = subst (λ n. Covers certificate (n + 1) (node_after_return node promise)) (sym e) after }, i.few, i.returns);
       profile = i.profile;
       memory = i.memory;
+      octets = i.octets;
     }))
 
 at_end : (promise : Option Range) (registers : List ℕ) → length registers ≡ 11 → IsIn promise (get_or registers 0 0) → AreIn (row_at_end promise) registers
@@ -65,6 +67,7 @@ ends certificate node s (c ∷ callers) a f r i (inr h) =
       returns = r.2;
       profile = i.profile;
       memory = subst (λ m. zeros_over m ≡ zeros i.profile) (sym t.3) i.memory;
+      octets = subst HasOctets (sym t.3) i.octets;
     }))
 
 pub fits_exit : (certificate : Certificate) (node : Node) (s : State) → Matches certificate node s →

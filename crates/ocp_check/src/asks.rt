@@ -8,17 +8,14 @@ ghost use Rattle.ocp_check.specs.Mirror.Ranges.{IsIn};
 ghost use Rattle.ocp_check.specs.Mirror.Fits.{Fits};
 ghost use Rattle.ocp_check.specs.Never.{AsksWell};
 
+use crate::answers::{NEXT_PARAM, STEP_END};
 use crate::certificate::{Node, Row};
 use crate::checker::check;
 use crate::covering::node_at;
 use crate::range::{Range, Stride, is_within};
-use crate::rounds::STEP_END;
 use bpf_types::Line;
 use ocp_loader::{MAX_SLOTS, Program};
 use std::alloc::Allocator;
-
-/// The number of the engine call that takes a word from the mailbox.
-const NEXT_PARAM: i32 = 4;
 
 /// Whether a line that is a call of the pool has a word's index in R1.
 fn line_asks_well(row: &Row, line: Line, words: u16) -> bool

@@ -14,7 +14,7 @@ use crate::steps::is_kept;
 use bpf_step::frame::FRAME_POINTER;
 use bpf_step::laws::machines_started_anew_are_as_new;
 use ocp_loader::{MAX_SLOTS, Program};
-use ocp_regions::{ARGUMENT_OCTETS, ARGUMENTS};
+use ocp_regions::{ARGUMENT_OCTETS, ARGUMENTS, memories_have_octets};
 use std::alloc::Allocator;
 
 /// What is known of a machine that is started: R1 is the address of the arguments, R2 their number,
@@ -77,6 +77,7 @@ pub fn check<A: Allocator>(program: &Program<A>, certificate: &[Option<Node>]) -
         FitsAfter certificate.now s (one_step program.now s) }
 {
     machines_started_anew_are_as_new();
+    memories_have_octets();
     if certificate.len() > MAX_SLOTS || !covers(certificate, 0, &at_start()) {
         return false;
     }

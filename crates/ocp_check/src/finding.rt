@@ -5,9 +5,11 @@
 //! next of some numbers, and after `WIDE_PASSES` to all numbers. So the time is linear in the
 //! slots.
 
+use crate::answers::after_engine_call;
 use crate::certificate::{Node, after_return};
 use crate::checker::at_start;
 use crate::covering::{range_of, range_of_operand, with_register};
+use crate::loading::numbers_of;
 use crate::range::{Range, follows, is_empty, lesser, only, refinement, result_of, stride_of, sum};
 use crate::steps::{at_call, target};
 use bpf_step::{FRAME_OCTETS, MAX_LOCAL_CALLS};
@@ -327,14 +329,17 @@ impl<A: Allocator> Search<A> {
                     },
                 );
             }
-            Line::Call { .. } => {
-                let answered = with_register(node, Reg::zero(), None);
-                self.write(slot, 1, &answered, Reg::one(), None);
+            Line::Call { number } => {
+                self.enter(
+                    slot,
+                    usize::from(slot) + 1,
+                    &after_engine_call(node, number),
+                );
             }
             Line::CallLocal { distance } => self.open(slot, distance, node),
             Line::Exit => self.close(node),
             Line::LoadWide { dst, value } => self.write(slot, 2, node, dst, only(value)),
-            Line::Load { dst, .. } => self.write(slot, 1, node, dst, None),
+            Line::Load { size, dst, .. } => self.write(slot, 1, node, dst, numbers_of(size)),
             Line::LoadExtended { dst, .. } => self.write(slot, 1, node, dst, None),
             Line::StoreImmediate { .. } | Line::Store { .. } => {
                 self.jump(slot, 0, node, Reg::zero(), node.row[0]);

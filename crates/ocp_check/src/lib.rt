@@ -5,6 +5,7 @@
 //! image with such a certificate never does.
 #![tactic(auto)]
 
+pub mod answers;
 pub mod asks;
 pub mod certificate;
 pub mod checker;
@@ -13,6 +14,7 @@ pub mod covering;
 pub mod examining;
 pub mod finding;
 pub mod laws;
+pub mod loading;
 pub mod range;
 pub mod ranking;
 pub mod refusal;

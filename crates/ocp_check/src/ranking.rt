@@ -4,10 +4,11 @@
 //! falls there may count how often the loop repeats. Its weight is the most instructions from one
 //! change of it to the next.
 
+use crate::answers::{STEP_END, may_write_r1};
 use crate::certificate::Node;
 use crate::counting::{COUNTERS, Counter, Rank, Step, Steps};
 use crate::covering::{node_at, range_of};
-use crate::rounds::{STEP_END, ahead_after, ahead_at, most_at, step_by, steps_of_call, steps_with};
+use crate::rounds::{ahead_after, ahead_at, most_at, step_by, steps_of_call, steps_with};
 use crate::steps::target;
 use bpf_types::{Line, Reg};
 use ocp_loader::Program;
@@ -84,7 +85,7 @@ fn changes(line: Line, register: u8) -> bool {
         | Line::LoadWide { dst, .. }
         | Line::Load { dst, .. }
         | Line::LoadExtended { dst, .. } => dst.number() == register,
-        Line::Call { .. } => register <= 1,
+        Line::Call { number } => register == 0 || (register == 1 && may_write_r1(number)),
         Line::CallLocal { .. } => register <= 5,
         _ => false,
     }

@@ -14,6 +14,7 @@ ghost use Rattle.ocp_check.specs.Mirror.Fits.{Fits, FitsAfter, Matches};
 ghost use Rattle.ocp_check.specs.Rounds.{IsWithin};
 ghost use Rattle.ocp_check.specs.Mirror.Ranks.{AreMoved, AreSteady, Falls, IsMoved, IsSteady, SavedAreSame, total_share, kept_steps, registers_of, share_of, value_at};
 
+use crate::answers::STEP_END;
 use crate::certificate::{Node, Row};
 use crate::checker::check;
 use crate::counting::{COUNTERS, Counter, Rank, Step, Steps, ahead_by};
@@ -22,9 +23,6 @@ use crate::steps::{place_after, target};
 use bpf_types::{Line, Operand, Operation, Reg, Width};
 use ocp_loader::{MAX_SLOTS, Program};
 use std::alloc::Allocator;
-
-/// The number of the engine call that ends a step.
-pub const STEP_END: i32 = 5;
 
 /// What an operation adds to its first operand, if it adds a number other than zero.
 pub fn step_by(width: Width, operation: Operation, operand: Operand) -> Step

@@ -1,5 +1,5 @@
 //! One instruction against a certificate.
-ghost use Rattle.std.specs.Prelude.{◌≡◌, ◌<◌, ◌+◌, ℕ, IsTrue, IfSome, Some, None, if◌then◌else◌, slice_index, slice_set, Option};
+ghost use Rattle.std.specs.Prelude.{◌≡◌, ◌<◌, ◌+◌, ◌^◌, ℕ, IsTrue, IfSome, Some, None, if◌then◌else◌, slice_index, slice_set, Option};
 ghost use Rattle.bpf_types.specs.Line.{octets_in};
 ghost use Rattle.ocp_regions.specs.Memory.{number_in_memory, memory_after_store};
 ghost use Rattle.bpf_moves.specs.Moves.{operand_in, address_in, load_register, store_memory, move_by_jump};
@@ -7,13 +7,16 @@ ghost use Rattle.bpf_values.specs.Value.{is_taken};
 ghost use Rattle.ocp_loader.specs.LineAt.{target};
 ghost use Rattle.bpf_step.specs.Machine.{State, NoInstruction, state_after_write, state_after_jump, place_by};
 ghost use Rattle.bpf_step.specs.Step.{step, outcome_by};
+ghost use Rattle.bpf_step.specs.Answers.{IsAnswer};
 ghost use Rattle.bpf_step.specs.Calls.{state_after_engine_call, local_call, exit_to, last_frame};
 ghost use Rattle.ocp_check.specs.Mirror.Ranges.{IsIn};
 ghost use Rattle.ocp_check.specs.Mirror.Fits.{Covers, Fits, Matches, FitsAfter};
 
+use crate::answers::after_engine_call;
 use crate::certificate::{Node, after_return};
 use crate::covering::{covers, range_of, range_of_operand, with_register};
 use crate::laws::accesses_are_there;
+use crate::loading::numbers_of;
 use crate::range::{Range, is_empty, is_there, is_within, only, refinement, result_of, sum};
 use bpf_step::{FRAME_OCTETS, MAX_LOCAL_CALLS};
 use bpf_types::{Comparison, Line, Operand, Reg, Size, Width};
@@ -80,7 +83,8 @@ fn is_kept_jumping(
     }
 }
 
-/// Whether a load is inside a region and fits the certificate. Nothing is known of the value.
+/// Whether a load, after which this is known of the value, is inside a region and fits the
+/// certificate.
 fn is_kept_loading(
     certificate: &[Option<Node>],
     slot: u16,
@@ -89,9 +93,11 @@ fn is_kept_loading(
     base: Reg,
     offset: i16,
     size: Size,
+    known: Option<Range>,
 ) -> bool
     ensures { IsTrue result → (s : State) (f : ℕ → ℕ) → s.place ≡ slot →
         Matches certificate.now node.now s →
+        ((v : ℕ) → v < 256 ^ octets_in size → IsIn known (f v)) →
         FitsAfter certificate.now s (outcome_by s (load_register s.registers s.memory dst f
         (number_in_memory s.memory (address_in s.registers base offset) (octets_in size)))
         NoInstruction) }
@@ -102,7 +108,7 @@ fn is_kept_loading(
         offset,
         size.octets() as u64,
         false,
-    ) && is_kept_writing(certificate, slot, 1, node, dst, None)
+    ) && is_kept_writing(certificate, slot, 1, node, dst, known)
 }
 
 /// Whether a store is inside a region that may be written, and fits the certificate.
@@ -137,14 +143,16 @@ fn is_kept_storing(
 }
 
 /// Whether an engine call fits the certificate, whatever it answers.
-fn is_kept_calling(certificate: &[Option<Node>], slot: u16, node: &Node) -> bool
+fn is_kept_calling(certificate: &[Option<Node>], slot: u16, node: &Node, number: i32) -> bool
     ensures { IsTrue result → (s : State) (r0 : ℕ) (r1 : Option ℕ) → s.place ≡ slot →
-        Matches certificate.now node.now s →
+        Matches certificate.now node.now s → IsAnswer number r0 r1 →
         Fits certificate.now (state_after_engine_call s r0 r1) }
 {
-    let changed = with_register(node, Reg::zero(), None);
-    is_kept_writing(certificate, slot, 1, &changed, Reg::one(), None)
-        && is_kept_jumping(certificate, slot, None, &changed, Reg::one(), None)
+    covers(
+        certificate,
+        usize::from(slot) + 1,
+        &after_engine_call(node, number),
+    )
 }
 
 /// Whether both ways of a conditional jump fit the certificate, by what its test shows.
@@ -300,7 +308,7 @@ pub fn is_kept(certificate: &[Option<Node>], slot: u16, node: &Node, line: Line)
                 i32::from(distance),
             )
         }
-        Line::Call { .. } => is_kept_calling(certificate, slot, node),
+        Line::Call { number } => is_kept_calling(certificate, slot, node, number),
         Line::CallLocal { distance } => is_kept_opening(certificate, slot, distance, node),
         Line::Exit => is_kept_ending(certificate, node),
         Line::LoadWide { dst, value } => is_kept_writing(
@@ -316,13 +324,33 @@ pub fn is_kept(certificate: &[Option<Node>], slot: u16, node: &Node, line: Line)
             dst,
             base,
             offset,
-        } => is_kept_loading(certificate, slot, node, dst, base, offset, size),
+        } => is_kept_loading(
+            certificate,
+            slot,
+            node,
+            dst,
+            base,
+            offset,
+            size,
+            numbers_of(size),
+        ),
         Line::LoadExtended {
             size,
             dst,
             base,
             offset,
-        } => { is_kept_loading(certificate, slot, node, dst, base, offset, size_of(size)) }
+        } => {
+            is_kept_loading(
+                certificate,
+                slot,
+                node,
+                dst,
+                base,
+                offset,
+                size_of(size),
+                None,
+            )
+        }
         Line::StoreImmediate {
             size,
             base,

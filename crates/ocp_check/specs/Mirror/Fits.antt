@@ -1,9 +1,11 @@
 -- What a certificate says of an image.
 use Rattle.std.specs.Prelude.{◌≡◌, ◌≤◌, ◌<◌, ℕ, ◌+◌, List, [], ◌∷◌, length, slice_get, Option, Some}
 use Rattle.ocp_profile.specs.declared.profile.Profile.{Profile}
+use Rattle.ocp_regions.specs.Access.{HasOctets}
 use Rattle.bpf_step.specs.declared.answer.Need.TheVariants as need
 use Rattle.bpf_step.specs.Machine.{State, Outcome, Next, Needs, NoInstruction, HasMemoryOf}
 use Rattle.bpf_step.specs.Calls.{state_after_engine_call}
+use Rattle.bpf_step.specs.Answers.{IsAnswer}
 use Rattle.ocp_check.specs.declared.range.Range.{Range}
 use Rattle.ocp_check.specs.declared.certificate.Node.{Node}
 use Rattle.ocp_check.specs.Mirror.Ranges.{IsIn, AreIn}
@@ -43,6 +45,7 @@ pub record Matches (certificate : Certificate) (node : Node) (s : State) : Type 
   pub returns : Returns certificate node.promise callers
   pub profile : Profile
   pub memory : HasMemoryOf profile s
+  pub octets : HasOctets s.memory
 
 -- a machine is as the certificate says at its place
 pub record Fits (certificate : Certificate) (s : State) : Type 0 where
@@ -54,7 +57,8 @@ pub record Fits (certificate : Certificate) (s : State) : Type 0 where
 abbrev pub FitsAfter : Certificate → State → Outcome → Type 0
 FitsAfter certificate s (Next t) = Fits certificate t
 FitsAfter certificate s (Needs (need.Call number)) =
-    (r0 : ℕ) (r1 : Option ℕ) → Fits certificate (state_after_engine_call s r0 r1)
+    (r0 : ℕ) (r1 : Option ℕ) → IsAnswer number r0 r1 →
+    Fits certificate (state_after_engine_call s r0 r1)
 FitsAfter certificate s (Needs need.LastExit) = Unit {0}
 FitsAfter certificate s (Needs (need.Fault f)) = ⊥
 FitsAfter certificate s NoInstruction = ⊥

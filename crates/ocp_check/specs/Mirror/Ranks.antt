@@ -1,9 +1,10 @@
 -- What ranks say of an image.
-use Rattle.std.specs.Prelude.{◌≡◌, ◌≤◌, ◌<◌, ◌⊎◌, ℕ, zero, suc, ◌+◌, ◌-◌, ◌*◌, ◌%◌, ◌^◌, pos, Bool, true, false, if◌then◌else◌, List, [], ◌∷◌, slice_get, slice_index, slice_index_or, Option, Some, None}
+use Rattle.std.specs.Prelude.{◌≡◌, ◌<◌, ◌⊎◌, ℕ, zero, suc, ◌+◌, ◌-◌, ◌*◌, ◌%◌, ◌^◌, pos, Bool, true, false, if◌then◌else◌, List, [], ◌∷◌, slice_get, slice_index, slice_index_or, Option, Some, None}
 use Rattle.bpf_step.specs.declared.frame.Frame.{Frame}
 use Rattle.bpf_step.specs.declared.answer.Need.TheVariants as need
 use Rattle.bpf_step.specs.Machine.{State, Outcome, Next, Needs}
 use Rattle.bpf_step.specs.Calls.{state_after_engine_call}
+use Rattle.bpf_step.specs.Answers.{IsAnswer}
 use Rattle.ocp_check.specs.declared.counting.Counter.{Counter}
 use Rattle.ocp_check.specs.declared.counting.Rank.{Rank}
 use Rattle.ocp_check.specs.declared.counting.Step.{Step}
@@ -91,7 +92,7 @@ abbrev pub Falls : List Rank → List Counter → ℕ → State → Outcome → 
 Falls ranks counters most s (Next t) =
     (ahead ranks counters t < ahead ranks counters s) × AreSteady ranks counters t.frames
 Falls ranks counters most s (Needs (need.Call number)) =
-    (r0 : ℕ) (r1 : Option ℕ) →
+    (r0 : ℕ) (r1 : Option ℕ) → IsAnswer number r0 r1 →
     (ahead ranks counters (state_after_engine_call s r0 r1) < ahead ranks counters s)
     ⊎ ((number ≡ pos 5) × (ahead ranks counters (state_after_engine_call s r0 r1) < most))
 Falls ranks counters most s _ = Unit {0}
