@@ -1,9 +1,9 @@
 /* Each call of the library with wrong arguments, and ocp_open with each of its pieces of memory refused in turn: it gives the
  * status that the header names, and nothing else is changed. No call but ocp_open and ocp_close may call the heap. This file has
  * the heap functions itself, so it is linked with no other. */
-#include "error_control.h"
 #include "fixed_heap.h"
 #include "ocp_engine.h"
+#include "telecommand.h"
 
 #include <inttypes.h>
 #include <stdio.h>
@@ -71,24 +71,17 @@ static void want(int line, const char *call, uint32_t wanted, uint32_t given)
 
 /* ---- packets */
 
-enum { APID = 291, LOAD = 1, UNLOAD = 2, ACTIVATE = 3, STOP = 4, SUSPEND = 5, RESUME = 6, STATUS = 8, LONGEST = 65542, POOL_WORDS = 16,
-       OCTETS = 100000 /* of most journals */, MOST_OCTETS = 1073741824, STEPS_ENTRY = 9, PUT_WORD_ENTRY = 13, PIECES = 90 /* of ocp_open */ };
+enum { APID = 291, ALL_REPORTS = 1 + 2 + 8, LONGEST = 65542, POOL_WORDS = 16, PIECES = 90 /* of ocp_open */ };
+enum { OCTETS = 100000 /* of most journals */, MOST_OCTETS = 1073741824, STEPS_ENTRY = 9, PUT_WORD_ENTRY = 13 };
 
 static uint8_t packet[LONGEST + 1];
 static uint8_t reports[OCP_DRAIN_REPORTS];
 
-/* A telecommand of service 18 with these octets of data; gives its length. */
+/* A telecommand with these octets of data; gives its length. */
 static size_t telecommand(uint8_t subtype, const uint8_t *data, size_t length)
 {
-    size_t field = 5 + length + 2;
-    const uint8_t head[11] = {0x18 | APID >> 8, APID & 255, 0xc0, 0, (uint8_t)((field - 1) >> 8), (uint8_t)(field - 1),
-                              0x2b, 18, subtype, 0, 9};
-    memcpy(packet, head, sizeof head);
-    memcpy(packet + sizeof head, data, length);
-    uint16_t control = error_control(packet, sizeof head + length);
-    packet[sizeof head + length] = (uint8_t)(control >> 8);
-    packet[sizeof head + length + 1] = (uint8_t)control;
-    return sizeof head + length + 2;
+    memcpy(packet + TELECOMMAND_HEAD, data, length);
+    return put_telecommand(packet, APID, 0, ALL_REPORTS, subtype, length);
 }
 
 /* mov64 r1, 1; call 5; ja -1 */

@@ -18,11 +18,12 @@
  *
  * Status: 0 the loop held the temperature, and both engines end alike; 1 it did not, and one line says why; 2 wrong words. */
 #include "entry.h"
-#include "error_control.h"
 #include "journal_file.h"
 #include "numbers.h"
 #include "ocp_engine.h"
 #include "show.h"
+#include "telecommand.h"
+#include "words.h"
 
 #include <inttypes.h>
 #include <stdio.h>
@@ -99,8 +100,7 @@ static uint64_t measured(void)
 
 /* ---- ground */
 
-enum { LOAD = 1, ACTIVATE = 3, SUSPEND = 5, RESUME = 6, COMMUNICATE = 7 };
-enum { MOST_CODE = 2048 * 8, MOST_ARGUMENTS = 256, HEAD = 11, CONTROL = 2, COMPLETED = 7 };
+enum { MOST_CODE = 2048 * 8, MOST_ARGUMENTS = 256, FLAGS = 1 + 8 /* acceptance and completion */, COMPLETED = 7 };
 
 static uint8_t code[MOST_CODE], arguments[MOST_ARGUMENTS];
 static size_t code_length, argument_count;
@@ -118,23 +118,16 @@ static uint32_t look_at_reports(size_t length)
     return completed;
 }
 
-/* A telecommand to the procedure, which asks for reports of acceptance and completion. */
+/* Sends a telecommand to the procedure. */
 static void send(uint8_t subtype, const uint8_t *data, size_t length)
 {
-    static uint8_t packet[HEAD + 4 + MOST_CODE + CONTROL];
+    static uint8_t packet[TELECOMMAND_HEAD + 4 + MOST_CODE + TELECOMMAND_CONTROL];
     static uint16_t count;
     size_t written;
-    put_number(packet, 0x1800 | APID, 2);
-    put_number(packet + 2, 0xc000 | (count++ & 0x3fff), 2);
-    put_number(packet + 4, HEAD - 6 + 2 + length + CONTROL - 1, 2);
-    packet[6] = 0x29;
-    packet[7] = 18;
-    packet[8] = subtype;
-    put_number(packet + 9, 1, 2);
-    put_number(packet + HEAD, PROCEDURE, 2);
-    memcpy(packet + HEAD + 2, data, length);
-    put_number(packet + HEAD + 2 + length, error_control(packet, HEAD + 2 + length), CONTROL);
-    must(ocp_request(&engine, cycle, packet, HEAD + 2 + length + CONTROL, reports, sizeof reports, &written), "ocp_request");
+    put_number(packet + TELECOMMAND_HEAD, PROCEDURE, 2);
+    memcpy(packet + TELECOMMAND_HEAD + 2, data, length);
+    length = put_telecommand(packet, APID, count++, FLAGS, subtype, 2 + length);
+    must(ocp_request(&engine, cycle, packet, length, reports, sizeof reports, &written), "ocp_request");
     look_at_reports(written);
 }
 
@@ -312,12 +305,9 @@ static void compare_engines(void)
 /* The octets of digits, to the end or to a newline. Gives how many they are, or 0 if they are none or too many. */
 static size_t octets_of(const char *digits, uint8_t *octets, size_t most)
 {
-    size_t length = strspn(digits, "0123456789abcdef");
-    if (length % 2 != 0 || length / 2 > most || (digits[length] != '\0' && digits[length] != '\n'))
-        return 0;
-    for (size_t at = 0; at < length / 2; at++)
-        octets[at] = (uint8_t)strtoul((char[]){digits[2 * at], digits[2 * at + 1], '\0'}, NULL, 16);
-    return length / 2;
+    size_t count = read_digits(digits, octets, most);
+    char next = digits[2 * count];
+    return next == '\0' || next == '\n' ? count : 0;
 }
 
 static bool read_code(const char *name)
@@ -334,10 +324,9 @@ static bool read_code(const char *name)
 
 int main(int words, char **word)
 {
-    char *rest = "";
-    unsigned long cycles = words > 3 ? strtoul(word[3], &rest, 10) : CYCLES;
-    if (words < 3 || words > 5 || *rest != '\0' || cycles == 0 || cycles > UINT32_MAX || !read_code(word[1]) ||
-        (argument_count = octets_of(word[2], arguments, sizeof arguments)) == 0) {
+    uint64_t cycles = CYCLES;
+    if (words < 3 || words > 5 || (words > 3 && !read_number(word[3], UINT32_MAX, &cycles)) || cycles == 0 ||
+        !read_code(word[1]) || (argument_count = octets_of(word[2], arguments, sizeof arguments)) == 0) {
         fprintf(stderr, "usage: control IMAGE ARGUMENTS [CYCLES [JOURNAL]], with digits in the file IMAGE and for ARGUMENTS\n");
         return 2;
     }

@@ -17,6 +17,7 @@
 #include "error_control.h"
 #include "journal_file.h"
 #include "ocp_engine.h"
+#include "words.h"
 
 #include <errno.h>
 #include <poll.h>
@@ -37,7 +38,8 @@ enum {
     LONGEST = HEADER + 65536,
     SHORTEST_OF_PROFILE = HEADER + 5 + 2,                /* a telecommand without data */
     LONGEST_OF_PROFILE = HEADER + 5 + 4 + 2048 * 8 + 2, /* a load of 2,048 slots */
-    QUIET = 1000, /* milliseconds */
+    QUIET = 1000,           /* milliseconds */
+    LONGEST_PERIOD = 60000, /* milliseconds */
     FAILED = 3
 };
 
@@ -273,9 +275,8 @@ static void cycles_by_clock(int64_t period)
 
 int main(int words, char **word)
 {
-    char *rest = "";
-    long period = words > 1 ? strtol(word[1], &rest, 10) : 0;
-    if (words > 3 || *rest != '\0' || period < 0 || period > 60000) {
+    uint64_t period = 0;
+    if (words > 3 || (words > 1 && !read_number(word[1], LONGEST_PERIOD, &period))) {
         fprintf(stderr, "usage: flight [MILLISECONDS [JOURNAL]] < TELECOMMANDS > REPORTS\n");
         return 2;
     }
@@ -286,7 +287,7 @@ int main(int words, char **word)
     if (period == 0)
         cycles_by_packets();
     else
-        cycles_by_clock(period);
+        cycles_by_clock((int64_t)period);
     if (held > 0) { /* the input ends within a packet */
         broken++;
         fprintf(stderr, "flight: cycle %lu: the input ends within a packet\n", (unsigned long)cycle);

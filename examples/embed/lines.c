@@ -8,10 +8,10 @@
 #include "journal_file.h"
 #include "ocp_engine.h"
 #include "show.h"
+#include "words.h"
 
 #include <inttypes.h>
 #include <stdio.h>
-#include <stdlib.h>
 #include <string.h>
 
 enum { LINE = 40002, MOST_MEMORY = 256, SECONDARY = 17 };
@@ -70,12 +70,10 @@ static bool up(const char *digits)
 {
     static uint8_t packet[LINE / 2];
     static uint8_t reports[OCP_REQUEST_REPORTS];
-    size_t length = strlen(digits), written = 0;
-    if (length % 2 != 0 || strspn(digits, "0123456789abcdefABCDEF") != length)
+    size_t length = read_digits(digits, packet, sizeof packet), written = 0;
+    if (digits[2 * length] != '\0')
         return false;
-    for (size_t at = 0; at < length / 2; at++)
-        packet[at] = (uint8_t)strtoul((char[]){digits[2 * at], digits[2 * at + 1], '\0'}, NULL, 16);
-    uint32_t status = ocp_request(&engine, seconds, packet, length / 2, reports, sizeof reports, &written);
+    uint32_t status = ocp_request(&engine, seconds, packet, length, reports, sizeof reports, &written);
     print_answer(status, reports, written);
     return true;
 }
@@ -200,12 +198,15 @@ static bool line_of_script(const char *line)
 int main(int words, char **word)
 {
     static char line[LINE];
-    uint32_t numbers[5];
+    uint64_t numbers[5];
     if (words < 6 || words > 7)
         return 2;
     for (int at = 0; at < 5; at++)
-        numbers[at] = (uint32_t)strtoul(word[at + 1], NULL, 10);
-    const struct parameters parameters = {numbers[0], numbers[1], numbers[2], numbers[3], numbers[4]};
+        if (!read_number(word[at + 1], UINT32_MAX, &numbers[at]))
+            return 2;
+    const struct parameters parameters = {.profile = (uint32_t)numbers[0], .apid = (uint32_t)numbers[1],
+                                          .pool_words = (uint32_t)numbers[2], .entries = (uint32_t)numbers[3],
+                                          .octets = (uint32_t)numbers[4]};
     if (open_engine(&engine, &parameters) != OCP_DONE)
         return 3;
     if (words == 7 && !begin_journal(word[6], &parameters))

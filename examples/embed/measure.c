@@ -3,16 +3,17 @@
  *
  *   cc -O2 measure.c libocp_c.a -o measure && ./measure */
 #define _POSIX_C_SOURCE 200809L
-#include "error_control.h"
 #include "fixed_heap.c"
+#include "numbers.h"
 #include "ocp_engine.h"
+#include "telecommand.h"
 
 #include <inttypes.h>
 #include <stdio.h>
 #include <stdlib.h>
 #include <time.h>
 
-enum { APID = 291, LOAD = 1, ACTIVATE = 3, STATUS = 8, SLOTS = 2048, ROUNDS = 10 };
+enum { APID = 291, PROCEDURE = 7, ALL_REPORTS = 1 + 2 + 8, ROUNDS = 10 };
 
 static struct ocp_engine engine = OCP_CLOSED;
 static uint32_t entries, octets; /* of the journal */
@@ -23,53 +24,32 @@ static uint32_t status;
 
 /* ---- packets */
 
-static void put(size_t at, uint32_t number)
+/* Makes a telecommand to the procedure of the data in the packet. */
+static void end_packet(uint8_t subtype, size_t data_length)
 {
-    packet[at] = (uint8_t)(number >> 8);
-    packet[at + 1] = (uint8_t)number;
+    put_number(packet + TELECOMMAND_HEAD, PROCEDURE, 2);
+    length = put_telecommand(packet, APID, 0, ALL_REPORTS, subtype, data_length);
 }
 
-/* Ends the telecommand whose data have this length. All reports are asked for. */
-static void end_packet(uint8_t subtype, size_t data)
+/* A load of n slots: instructions of this opcode and immediate, and a jump back to the first. */
+static void make_loop(uint32_t slots, uint8_t opcode, uint8_t immediate)
 {
-    put(0, 0x1800 | APID);
-    put(2, 0xc000);
-    put(4, (uint32_t)(5 + data + 2 - 1));
-    packet[6] = 0x2b;
-    packet[7] = 18;
-    packet[8] = subtype;
-    put(9, 9);
-    length = 11 + data;
-    put(length, error_control(packet, length));
-    length += 2;
-}
-
-/* A load of so many slots, all of this opcode and immediate, and then a jump back to the first. */
-static void make_loop(uint32_t id, uint32_t slots, uint8_t opcode, uint8_t immediate)
-{
+    uint8_t *code = packet + TELECOMMAND_HEAD + 4, *jump = code + (slots - 1) * 8;
     memset(packet, 0, sizeof packet);
-    put(11, id);
-    put(13, slots * 8);
-    for (uint32_t slot = 0; slot + 1 < slots; slot++) {
-        packet[15 + slot * 8] = opcode;
-        packet[15 + slot * 8 + 4] = immediate;
+    put_number(code - 2, slots * 8, 2);
+    for (uint8_t *slot = code; slot < jump; slot += 8) {
+        slot[0] = opcode;
+        slot[4] = immediate;
     }
-    packet[15 + (slots - 1) * 8] = 0x05;
-    packet[15 + (slots - 1) * 8 + 2] = (uint8_t)-slots;
-    packet[15 + (slots - 1) * 8 + 3] = (uint8_t)((65536 - slots) >> 8);
+    jump[0] = 0x05;
+    jump[2] = (uint8_t)-slots; /* the distance, its lowest octet first */
+    jump[3] = (uint8_t)(-slots >> 8);
     end_packet(LOAD, 4 + slots * 8);
 }
 
-/* Engine calls of the end of a step. */
-static void make_load(uint32_t id, uint32_t slots)
+static void make_activate(void)
 {
-    make_loop(id, slots, 0x85, 5);
-}
-
-static void make_activate(uint32_t id)
-{
-    memset(packet, 0, 32);
-    put(11, id);
+    memset(packet, 0, sizeof packet);
     end_packet(ACTIVATE, 4);
 }
 
@@ -107,7 +87,7 @@ static double seconds(void)
     return (double)now.tv_sec + (double)now.tv_nsec * 1e-9;
 }
 
-/* Nanoseconds of a slice of so many instructions, in a loop of 100 slots that adds to R0. */
+/* Nanoseconds of a slice of n instructions, in a loop of 100 slots that adds to R0. */
 static double slice_nanoseconds(uint32_t budget, uint32_t slices)
 {
     double least = 1e9;
@@ -115,15 +95,15 @@ static double slice_nanoseconds(uint32_t budget, uint32_t slices)
         entries = slices + 2;
         octets = 9 * slices + 10000;
         must(do_open);
-        make_loop(7, 100, 0x07, 1);
+        make_loop(100, 0x07, 1);
         must(do_request);
-        make_activate(7);
+        make_activate();
         must(do_request);
         double begun = seconds();
         for (uint32_t slice = 0; slice < slices; slice++) {
             uint32_t count;
             struct ocp_outcome last;
-            if (ocp_slice(&engine, 7, budget, &count, &last) != OCP_DONE || count != budget)
+            if (ocp_slice(&engine, PROCEDURE, budget, &count, &last) != OCP_DONE || count != budget)
                 exit(5);
         }
         double taken = (seconds() - begun) / slices * 1e9;
@@ -156,9 +136,10 @@ static void make_status(void)
     end_packet(STATUS, 0);
 }
 
+/* The longest load, of engine calls. */
 static void make_long_load(void)
 {
-    make_load(7, SLOTS);
+    make_loop(2048, 0x85, 5);
 }
 
 int main(void)

@@ -13,12 +13,13 @@
  * views of both procedures and the pool, as `replay` does, and on standard error how many calls a full journal refused.
  *
  * Status: 0 done, 1 a check fails, and one line says which, 2 wrong words. */
-#include "error_control.h"
 #include "fixed_heap.h"
 #include "journal_file.h"
 #include "numbers.h"
 #include "ocp_engine.h"
 #include "show.h"
+#include "telecommand.h"
+#include "words.h"
 
 #include <inttypes.h>
 #include <stdbool.h>
@@ -32,13 +33,7 @@ enum {
     COUNTER = 8,
     LONG = 9, /* loaded from time to time, with the longest image */
     ROUND = 1000,
-    LOAD = 1,
-    UNLOAD = 2,
-    ACTIVATE = 3,
-    STOP = 4,
-    SUSPEND = 5,
-    RESUME = 6,
-    STATUS = 8,
+    ALL_REPORTS = 1 + 2 + 8,
 
     INPUT = 0,
     SUM = 1,
@@ -113,7 +108,7 @@ static unsigned long resident_pages(void)
     return resident;
 }
 
-/* ---- telecommands, which ask for all reports */
+/* ---- telecommands */
 
 /* mov64 r1, 0; call 1; mov64 r1, 1; mov64 r2, r0; call 3; mov64 r1, 1; call 5; ja -8 */
 static const uint8_t adder[] = {
@@ -140,19 +135,13 @@ static void send_down(size_t length)
 /* Gives whether the engine took it: a full journal refuses it. */
 static bool send(uint8_t subtype, uint16_t id, const uint8_t *data, size_t length)
 {
-    static uint8_t packet[11 + 4 + sizeof longest + 2];
+    static uint8_t packet[TELECOMMAND_HEAD + 4 + sizeof longest + TELECOMMAND_CONTROL];
     static uint16_t sent;
-    size_t end = 11 + (subtype == STATUS ? 0 : 2) + length, written;
-    put_number(packet, 0x1800 | APID, 2);
-    put_number(packet + 2, 0xc000 | (sent++ & 0x3fff), 2);
-    put_number(packet + 4, end + 2 - 7, 2);
-    put_number(packet + 6, 0x2b12, 2); /* all flags, and service 18 */
-    packet[8] = subtype;
-    put_number(packet + 9, 1, 2);
-    put_number(packet + 11, id, 2);
-    memcpy(packet + end - length, data, length);
-    put_number(packet + end, error_control(packet, end), 2);
-    uint32_t status = ocp_request(&engine, cycle, packet, end + 2, reports, sizeof reports, &written);
+    size_t before = subtype == STATUS ? 0 : 2, written; /* only a status request names no procedure */
+    put_number(packet + TELECOMMAND_HEAD, id, 2);
+    memcpy(packet + TELECOMMAND_HEAD + before, data, length);
+    length = put_telecommand(packet, APID, sent++, ALL_REPORTS, subtype, before + length);
+    uint32_t status = ocp_request(&engine, cycle, packet, length, reports, sizeof reports, &written);
     if (status == OCP_DONE)
         send_down(written);
     else if (status != OCP_JOURNAL_FULL)
@@ -285,9 +274,8 @@ static void fly(uint32_t cycles)
 
 int main(int words, char **word)
 {
-    char *rest = "";
-    unsigned long cycles = words == 4 ? strtoul(word[1], &rest, 10) : 0;
-    if (words != 4 || *rest != '\0' || cycles == 0 || cycles > UINT32_MAX) {
+    uint64_t cycles;
+    if (words != 4 || !read_number(word[1], UINT32_MAX, &cycles) || cycles == 0) {
         fprintf(stderr, "usage: mission CYCLES JOURNAL REPORTS\n");
         return 2;
     }
@@ -303,7 +291,7 @@ int main(int words, char **word)
     show_view(&engine, COUNTER);
     for (uint64_t index = 0; index < POOL_WORDS; index++)
         show_word(&engine, index);
-    fprintf(stderr, "mission: %lu cycles, %" PRIu64 " calls refused by a full journal\n", cycles, refusals);
+    fprintf(stderr, "mission: %" PRIu64 " cycles, %" PRIu64 " calls refused by a full journal\n", cycles, refusals);
     may_call = true;
     return ocp_close(&engine) == OCP_DONE ? 0 : 1;
 }

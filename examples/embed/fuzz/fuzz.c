@@ -11,9 +11,9 @@
  * - a status is one that the call lists, and a refusal changes neither events, room, view nor pool;
  * - the entries, given to a second engine before they are released, give the same reports, events, views and pool. */
 #include "entry.h"
-#include "error_control.h"
 #include "fixed_heap.h"
 #include "ocp_engine.h"
+#include "telecommand.h"
 
 #include <stdio.h>
 #include <stdlib.h>
@@ -213,7 +213,7 @@ static void put_slot(uint8_t *slot)
     }
 }
 
-static uint8_t *const data = packet + 11; /* of a request */
+static uint8_t *const data = packet + TELECOMMAND_HEAD; /* of a request */
 static size_t data_length;
 
 static void put(uint32_t value, size_t octets)
@@ -271,35 +271,27 @@ static void put_data(uint8_t subtype, uint32_t profile)
     }
 }
 
-/* A telecommand of service 18. */
+/* A telecommand. */
 static uint32_t whole_request(struct ocp_engine *engine, uint32_t profile)
 {
     static const uint8_t subtypes[] = {1, 1, 1, 2, 3, 3, 3, 3, 4, 5, 6, 6, 7, 8, 12, 13};
     uint8_t subtype = subtypes[number(1) % sizeof subtypes], flags = (uint8_t)number(1);
     put_data(subtype, profile);
-    size_t field = 5 + data_length + 2;
-    const uint8_t head[11] = {0x18 | APID >> 8, APID & 255, 0xc0, 0, (uint8_t)((field - 1) >> 8), (uint8_t)(field - 1),
-                              (uint8_t)(0x20 | (flags & 15)), 18, subtype, 0, 9};
-    memcpy(packet, head, sizeof head);
-    put(error_control(packet, sizeof head + data_length), 2);
-    return request(engine, &flown, number(1), packet, sizeof head + data_length);
+    size_t length = put_telecommand(packet, APID, 0, flags & 15, subtype, data_length);
+    return request(engine, &flown, number(1), packet, length);
 }
 
 /* Loads and starts a procedure that ends steps for ever. */
 static void begin_procedure(struct ocp_engine *engine, uint32_t profile)
 {
-    static const uint8_t code[] = {0, 0, 0, 16, 0x85, 0, 0, 0, 5, 0, 0, 0, 0x05, 0, 0xfe, 0xff, 0, 0, 0, 0};
-    for (int activates = 0; activates < 2; activates++) {
-        const uint8_t head[11] = {0x18 | APID >> 8, APID & 255, 0xc0, 0, 0, 0, 0x20, 18, activates ? 3 : 1, 0, 9};
-        data_length = activates ? (profile == 2 ? 8 : 4) : sizeof code;
-        memcpy(packet, head, sizeof head);
-        memset(data, 0, data_length);
-        if (!activates)
-            memcpy(data, code, sizeof code);
-        packet[5] = (uint8_t)(5 + data_length + 1);
-        put(error_control(packet, sizeof head + data_length), 2);
-        HOLDS(request(engine, &flown, 0, packet, sizeof head + data_length) == OCP_DONE);
-    }
+    static const uint8_t load[] = {0, 0, 0, 16, 0x85, 0, 0, 0, 5, 0, 0, 0, 0x05, 0, 0xfe, 0xff, 0, 0, 0, 0};
+    memcpy(data, load, sizeof load);
+    size_t length = put_telecommand(packet, APID, 0, 0, LOAD, sizeof load);
+    HOLDS(request(engine, &flown, 0, packet, length) == OCP_DONE);
+    size_t activation = profile == 2 ? 8 : 4;
+    memset(data, 0, activation);
+    length = put_telecommand(packet, APID, 0, 0, ACTIVATE, activation);
+    HOLDS(request(engine, &flown, 0, packet, length) == OCP_DONE);
 }
 
 /* ---- the journal again */
