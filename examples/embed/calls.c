@@ -376,7 +376,7 @@ static void procedures(void)
     HOLDS(outcome.kind == 77 && view.status == 77 && registers[0] == 77 && wide == 77 && count == 77 && id == 77);
     HOLDS(octets[0] == 77);
 
-    /* a breakpoint that stands there, and a buffer that is longer than it has to be */
+    /* a breakpoint that is set already, and a buffer that is longer than it has to be */
     WANT(OCP_DONE, ocp_set_break(&engine, 7, 0));
     REFUSED(OCP_ALREADY_SET, ocp_set_break(&engine, 7, 0));
     WANT(OCP_DONE, ocp_clear_break(&engine, 7, 0));

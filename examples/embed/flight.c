@@ -3,8 +3,8 @@
  *   flight [MILLISECONDS [JOURNAL]]
  *
  * Time goes by in cycles. In each one every running procedure does a round in its turn: instructions up to the end of a step,
- * or SLICE of them. Every so many cycles the completions that wait are reported. The time in reports is the number of the
- * cycle. A cycle takes so many milliseconds; with 0, the default, one follows each packet, and the same packets give the same
+ * or SLICE of them. Every CYCLES_OF_DRAIN cycles the completions that wait are reported. The time in reports is the number of
+ * the cycle. A cycle takes MILLISECONDS; with 0, the default, one follows each packet, and the same packets give the same
  * reports. In each cycle, and if the journal is full, its entries are written to the file JOURNAL, if one is named, for the
  * tools `journal` and `replay`; then they are released. So the program flies on in constant memory.
  *
