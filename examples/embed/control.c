@@ -23,6 +23,7 @@
 #include "ocp_engine.h"
 #include "show.h"
 #include "telecommand.h"
+#include "turns.h"
 #include "words.h"
 
 #include <inttypes.h>
@@ -181,18 +182,17 @@ static void write_inputs(void)
 /* A round of each running procedure, by rising identifier. Gives whether there was one. */
 static bool give_rounds(void)
 {
-    uint32_t before = OCP_NO_PROCEDURE, count, step;
+    uint32_t last_id = OCP_NO_PROCEDURE, count, step;
     uint16_t id;
     struct ocp_outcome last;
-    while (ocp_next_running(&engine, before, &id) == OCP_DONE && (before == OCP_NO_PROCEDURE || id > before)) {
+    while (next_turn(&engine, &last_id, &id)) {
         must(ocp_round(&engine, id, ROUND, &count, &last, &step), "ocp_round");
         if (last.kind == OCP_ENDED)
             activate();
         else if (step == OCP_NO_STEP)
             fail("a round ends with no step");
-        before = id;
     }
-    return before != OCP_NO_PROCEDURE;
+    return last_id != OCP_NO_PROCEDURE;
 }
 
 static bool read_output(void)

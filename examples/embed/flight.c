@@ -17,6 +17,7 @@
 #include "error_control.h"
 #include "journal_file.h"
 #include "ocp_engine.h"
+#include "turns.h"
 #include "words.h"
 
 #include <errno.h>
@@ -193,16 +194,15 @@ static bool read_input(void)
 /* A round of each running procedure, by rising identifier. */
 static void give_rounds(void)
 {
-    uint32_t before = OCP_NO_PROCEDURE;
+    uint32_t last_id = OCP_NO_PROCEDURE;
     uint16_t id;
-    while (ocp_next_running(&engine, before, &id) == OCP_DONE && (before == OCP_NO_PROCEDURE || id > before)) {
+    while (next_turn(&engine, &last_id, &id)) {
         uint32_t count, step;
         struct ocp_outcome last;
         if (ocp_round(&engine, id, SLICE, &count, &last, &step) != OCP_DONE)
             end("a round is refused"); /* the journal had room for all rounds of a cycle */
         if (last.kind == OCP_FAULTED)
             fprintf(stderr, "flight: cycle %lu: procedure %u faulted: %lu\n", (unsigned long)cycle, id, (unsigned long)last.fault);
-        before = id;
     }
 }
 

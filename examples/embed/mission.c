@@ -19,6 +19,7 @@
 #include "ocp_engine.h"
 #include "show.h"
 #include "telecommand.h"
+#include "turns.h"
 #include "words.h"
 
 #include <inttypes.h>
@@ -209,17 +210,16 @@ static bool is_done(uint32_t status)
 
 static void give_rounds(uint64_t input)
 {
-    uint32_t before = OCP_NO_PROCEDURE, instructions, ended;
+    uint32_t last_id = OCP_NO_PROCEDURE, instructions, ended;
     uint16_t id;
     struct ocp_outcome last;
-    while (ocp_next_running(&engine, before, &id) == OCP_DONE && (before == OCP_NO_PROCEDURE || id > before)) {
+    while (next_turn(&engine, &last_id, &id)) {
         if (is_done(ocp_round(&engine, id, ROUND, &instructions, &last, &ended))) {
             sum += id == ADDER ? input : 0;
             count += id == COUNTER ? step : 0;
             if (ended != 1)
                 fail("a round ends with no step");
         }
-        before = id;
     }
 }
 

@@ -6,6 +6,7 @@
  * with room for them copies them out first. A packet whose octets stop coming is dropped after SILENCE milliseconds. */
 #include "board.h"
 #include "ocp_engine.h"
+#include "turns.h"
 
 #ifndef CYCLE
 #define CYCLE 20
@@ -38,15 +39,12 @@ static uint8_t reports[OCP_DRAIN_REPORTS];
 /* A slice of each running procedure, by rising identifier. */
 static void give_slices(void)
 {
-    uint32_t before = OCP_NO_PROCEDURE;
+    uint32_t last_id = OCP_NO_PROCEDURE, count;
     uint16_t id;
-    while (ocp_next_running(&engine, before, &id) == OCP_DONE && (before == OCP_NO_PROCEDURE || id > before)) {
-        uint32_t count;
-        struct ocp_outcome last;
+    struct ocp_outcome last;
+    while (next_turn(&engine, &last_id, &id))
         if (ocp_slice(&engine, id, SLICE, &count, &last) != OCP_DONE)
             return; /* the journal is full */
-        before = id;
-    }
 }
 
 static void release_entries(void)
