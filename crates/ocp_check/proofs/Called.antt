@@ -1,5 +1,5 @@
 -- Local calls and their ends.
-use Rattle.std.proofs.Common.{◌≡◌, ◌<◌, ℕ, ◌+◌, ◌-◌, ℤ, Bool, true, false, List, [], ◌∷◌, ◌++◌, length, take, get_or, set, Option, Some, refl, sym, ap, subst, ◌∙◌, arith, length-append}
+use Rattle.std.proofs.Common.{◌≡◌, ◌<◌, ℕ, zero, suc, ◌+◌, ◌-◌, ℤ, Bool, true, false, List, [], ◌∷◌, ◌++◌, length, take, get_or, set, Option, Some, None, refl, sym, ap, subst, ◌∙◌, arith, length-append}
 use Rattle.std.specs.Prelude.{slice_get, ◌==◌}
 use Rattle.std.proofs.lemmas.Bool.Decides.{nat_tests}
 use Rattle.std.proofs.lemmas.List.{length-set}
@@ -12,8 +12,9 @@ use Rattle.bpf_step.specs.Calls.{call_unless_full, local_call, state_after_call,
 use Rattle.ocp_check.specs.declared.range.Range.{Range}
 use Rattle.ocp_check.specs.Mirror.Ranges.{AreIn}
 use Rattle.ocp_check.specs.declared.certificate.Node.{Node}
-use Rattle.ocp_check.specs.Mirror.Callers.{Caller, Saves, AreSaved, row_after_return, range_at}
-use Rattle.ocp_check.proofs.Kept.{put_in}
+use Rattle.ocp_check.specs.Mirror.Forms.{IsForm, AreFormed}
+use Rattle.ocp_check.specs.Mirror.Callers.{Caller, Saves, AreSaved, row_after_return, forms_after_return, no_forms, range_at, form_at}
+use Rattle.ocp_check.proofs.Kept.{put_in, put_formed}
 
 as_many : (callers : List Caller) (frames : List Frame) → AreSaved callers frames → length frames ≡ length callers
 as_many [] frames h = ap length h
@@ -26,9 +27,9 @@ unless_full s distance false e = refl
 not_seven : (n : ℕ) → n < 7 → (n == 7) ≡ false
 not_seven n h = grind (arith, nat_tests)
 
-pub called : (callers : List Caller) (s : State) (node : Node) (distance : ℤ) → length callers < 7 → AreSaved callers s.frames → AreIn node.row s.registers →
-    (local_call s distance ≡ Next (state_after_call s distance)) × AreSaved (record { place = s.place; node = node } ∷ callers) (state_after_call s distance).frames
-called callers s node distance l h a = (
+pub called : (callers : List Caller) (s : State) (node : Node) (bases : ℕ → ℕ) (distance : ℤ) → length callers < 7 → AreSaved callers s.frames → AreIn node.row s.registers → AreFormed node.forms bases s.registers →
+    (local_call s distance ≡ Next (state_after_call s distance)) × AreSaved (record { place = s.place; node = node; bases = bases } ∷ callers) (state_after_call s distance).frames
+called callers s node bases distance l h a g = (
   unless_full s distance (length s.frames == 7) (not_seven (length s.frames) (omega (arith, l, as_many callers s.frames h))),
   (
     s.frames,
@@ -41,6 +42,11 @@ called callers s node distance l h a = (
       r8 = a.each 8 (omega arith);
       r9 = a.each 9 (omega arith);
       r10 = a.each 10 (omega arith);
+      form6 = g.each 6 (omega arith);
+      form7 = g.each 7 (omega arith);
+      form8 = g.each 8 (omega arith);
+      form9 = g.each 9 (omega arith);
+      form10 = g.each 10 (omega arith);
     },
     h,
   ),
@@ -80,8 +86,50 @@ restored c f row registers l v a =
     (put_in w6 _ 7 f.r7 k7 l6 (omega arith)
     (put_in row registers 6 f.r6 k6 l (omega arith) a v.r6) v.r7) v.r8) v.r9) v.r10
 
+none_formed : (k : ℕ) → k < 11 → (bases : ℕ → ℕ) (v : ℕ) → IsForm (get_or no_forms k None) bases v
+none_formed zero h bases v = tt
+none_formed (suc zero) h bases v = tt
+none_formed (suc (suc zero)) h bases v = tt
+none_formed (suc (suc (suc zero))) h bases v = tt
+none_formed (suc (suc (suc (suc zero)))) h bases v = tt
+none_formed (suc (suc (suc (suc (suc zero))))) h bases v = tt
+none_formed (suc (suc (suc (suc (suc (suc zero)))))) h bases v = tt
+none_formed (suc (suc (suc (suc (suc (suc (suc zero))))))) h bases v = tt
+none_formed (suc (suc (suc (suc (suc (suc (suc (suc zero)))))))) h bases v = tt
+none_formed (suc (suc (suc (suc (suc (suc (suc (suc (suc zero))))))))) h bases v = tt
+none_formed (suc (suc (suc (suc (suc (suc (suc (suc (suc (suc zero)))))))))) h bases v = tt
+none_formed (suc (suc (suc (suc (suc (suc (suc (suc (suc (suc (suc k))))))))))) h bases v = absurd (omega (arith, h))
+
+pub unformed : (bases : ℕ → ℕ) (registers : List ℕ) → AreFormed no_forms bases registers
+unformed bases registers = record { each = λ k h. none_formed k h bases (get_or registers k 0) }
+
+formed_again : (c : Caller) (f : Frame) (registers : List ℕ) → length registers ≡ 11 → Saves c f → AreFormed (forms_after_return c.node) c.bases (restored_registers registers f)
+formed_again c f registers l v =
+    let k6 = form_at c.node 6 in
+    let k7 = form_at c.node 7 in
+    let k8 = form_at c.node 8 in
+    let k9 = form_at c.node 9 in
+    let w6 = set no_forms 6 k6 in
+    let w7 = set w6 7 k7 in
+    let w8 = set w7 8 k8 in
+    let w9 = set w8 9 k9 in
+    let r6 = set registers 6 f.r6 in
+    let r7 = set r6 7 f.r7 in
+    let r8 = set r7 8 f.r8 in
+    let r9 = set r8 9 f.r9 in
+    let m6 : length r6 ≡ 11 = length-set registers 6 f.r6 ∙ l in
+    let m7 : length r7 ≡ 11 = length-set r6 7 f.r7 ∙ m6 in
+    let m8 : length r8 ≡ 11 = length-set r7 8 f.r8 ∙ m7 in
+    let m9 : length r9 ≡ 11 = length-set r8 9 f.r9 ∙ m8 in
+    put_formed w9 c.bases r9 10 f.r10 (form_at c.node 10) refl m9 (omega arith)
+    (put_formed w8 c.bases r8 9 f.r9 k9 refl m8 (omega arith)
+    (put_formed w7 c.bases r7 8 f.r8 k8 refl m7 (omega arith)
+    (put_formed w6 c.bases r6 7 f.r7 k7 refl m6 (omega arith)
+    (put_formed no_forms c.bases registers 6 f.r6 k6 refl l (omega arith) (unformed c.bases registers) v.form6) v.form7) v.form8) v.form9) v.form10
+
 pub ended : (c : Caller) (callers : List Caller) (s : State) (row : List (Option Range)) → length row ≡ 11 → AreSaved (c ∷ callers) s.frames → AreIn row s.registers →
     (t : State) × (exit_to s (last_frame s) ≡ Next t) × (t.place ≡ c.place + 1) × (t.memory ≡ s.memory) × AreSaved callers t.frames × AreIn (row_after_return c.node row) t.registers
+    × AreFormed (forms_after_return c.node) c.bases t.registers
 ended c callers s row l h a = (
   state_after_return s h.1,
   ap (exit_to s) (last_of s.frames h.0 h.1 h.2),
@@ -89,6 +137,7 @@ ended c callers s row l h a = (
   refl,
   subst (AreSaved callers) (sym (rest_of s.frames h.0 h.1 h.2)) h.4,
   restored c h.1 row s.registers l h.3 a,
+  formed_again c h.1 s.registers a.eleven h.3,
 )
 
 pub last_exit : (s : State) → AreSaved [] s.frames → exit_to s (last_frame s) ≡ Needs LastExit

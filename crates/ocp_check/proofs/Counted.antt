@@ -1,5 +1,5 @@
 -- What counters add.
-use Rattle.std.proofs.Common.{◌≡◌, ◌≤◌, ◌<◌, ◌⊎◌, inl, inr, ℕ, zero, suc, ◌+◌, ◌-◌, ◌*◌, ◌%◌, ◌^◌, Bool, true, false, List, [], ◌∷◌, length, get_or, set, Option, Some, None, refl, sym, ap, subst, ◌∙◌, arith}
+use Rattle.std.proofs.Common.{◌≡◌, ◌≤◌, ◌<◌, ◌⊎◌, inl, inr, ℕ, zero, suc, ◌+◌, ◌*◌, Bool, true, false, List, [], ◌∷◌, length, get_or, set, Option, Some, None, refl, sym, subst, ◌∙◌, arith}
 use Rattle.std.specs.Prelude.{slice_get, IfSome}
 use Rattle.std.proofs.Math.Nat.{mul-le-mul_left}
 use Rattle.std.proofs.lemmas.List.{get_or-set_same, get_or-set_other}
@@ -10,8 +10,8 @@ use Rattle.ocp_check.specs.Mirror.Ranges.{IsIn, AreIn}
 use Rattle.ocp_check.specs.declared.counting.Counter.{Counter}
 use Rattle.ocp_check.specs.declared.counting.Shift.{Shift}
 use Rattle.ocp_check.specs.declared.counting.Step.{Step}
-use Rattle.ocp_check.specs.declared.counting.Step.TheVariants.{Kept, By, Anywhere}
-use Rattle.ocp_check.specs.Mirror.Ranks.{way_of, share, share_of, total_share, IsMoved, AreMoved, kept_steps, registers_of}
+use Rattle.ocp_check.specs.declared.counting.Step.TheVariants.{Kept, Anywhere}
+use Rattle.ocp_check.specs.Mirror.Ranks.{share, share_of, total_share, IsMoved, AreMoved, kept_steps, registers_of}
 
 pub nearer : (weight old new : ℕ) → new + 1 ≤ old → weight * new + weight ≤ weight * old
 nearer weight old new h = let l = mul-le-mul_left {m = new + 1} {n = old} weight h in omega (arith, l)

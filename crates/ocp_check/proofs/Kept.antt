@@ -1,6 +1,7 @@
 -- What a row knows after a write.
-use Rattle.std.proofs.Common.{◌≡◌, ◌<◌, ◌⊎◌, inl, inr, ℕ, ◌+◌, ◌^◌, List, [], ◌∷◌, length, get_or, set, Option, Some, None, refl, sym, ap, subst, ◌∙◌, arith, Result, Ok, Bool, true, false, ℤ}
-use Rattle.std.specs.Prelude.{slice_get, if◌then◌else◌}
+use Rattle.std.proofs.Common.{◌≡◌, ◌<◌, ◌⊎◌, inl, inr, ℕ, ◌+◌, ◌*◌, ◌%◌, ◌^◌, List, [], ◌∷◌, length, get_or, set, Option, Some, None, refl, sym, ap, subst, ◌∙◌, arith, Result, Ok, Bool, true, false, ℤ}
+use Rattle.std.specs.Prelude.{slice_get, if◌then◌else◌, ◌==◌, ◌≢◌}
+use Rattle.std.proofs.lemmas.Bool.Decides.{nat_tests}
 use Rattle.ocp_profile.specs.declared.profile.Profile.{Profile}
 use Rattle.ocp_regions.specs.declared.fault.AccessFault.{AccessFault}
 use Rattle.ocp_regions.specs.Memory.{Octets, zeros, zeros_over, number_in_memory, memory_after_store}
@@ -11,6 +12,8 @@ use Rattle.bpf_step.specs.Step.{outcome_by}
 use Rattle.std.proofs.lemmas.List.{length-set, get_or-set_same, get_or-set_other}
 use Rattle.bpf_step.specs.Machine.{State, NoInstruction, state_after_write, state_after_jump}
 use Rattle.ocp_check.specs.declared.range.Range.{Range}
+use Rattle.ocp_check.specs.declared.form.Form.{Form}
+use Rattle.ocp_check.specs.Mirror.Forms.{IsForm, AreFormed}
 use Rattle.ocp_check.specs.Mirror.Ranges.{IsIn, AreIn, IsThere}
 use Rattle.ocp_check.specs.declared.certificate.Node.{Node}
 use Rattle.ocp_check.specs.Mirror.Callers.{Caller, AreSaved}
@@ -48,6 +51,18 @@ keep_in row registers dst known l d a i = record {
   ];
 }
 
+-- a register is changed together with its form
+pub put_formed : (forms : List (Option Form)) (bases : ℕ → ℕ) (registers : List ℕ) (dst v : ℕ) (form : Option Form) → length forms ≡ 11 → length registers ≡ 11 → dst < 11 → AreFormed forms bases registers → IsForm form bases v → AreFormed (set forms dst form) bases (set registers dst v)
+put_formed forms bases registers dst v form l n d a i = record {
+  each = λ k h. elim (same_or_not k dst) [
+    | inl e ↦ subst (λ j. IsForm (get_or (set forms dst form) j None) bases (get_or (set registers dst v) j 0)) (sym e)
+        (subst (λ o. IsForm o bases (get_or (set registers dst v) dst 0)) (sym (get_or-set_same forms dst form None (omega (arith, l, d))))
+        (subst (IsForm form bases) (sym (get_or-set_same registers dst v 0 (omega (arith, n, d)))) i))
+    | inr m ↦ subst (λ o. IsForm o bases (get_or (set registers dst v) k 0)) (sym (get_or-set_other forms dst k form None m))
+        (subst (IsForm (get_or forms k None) bases) (sym (get_or-set_other registers dst k v 0 m)) (a.each k h))
+  ];
+}
+
 -- what is promised may be said to be more
 weaken : (certificate : Certificate) (a b : Option Range) (callers : List Caller) → ((v : ℕ) → IsIn b v → IsIn a v) → Returns certificate a callers → Returns certificate b callers
 weaken certificate a b [] h r = tt
@@ -60,6 +75,8 @@ covered certificate place from s c e i = record {
   found = ap (λ p. slice_get certificate p) e ∙ c.found;
   stands = record {
     registers = record { eleven = i.registers.eleven; each = λ k h. c.weaker k h _ (i.registers.each k h) };
+    bases = (c.tied i.bases s.registers i.registers i.formed).0;
+    formed = (c.tied i.bases s.registers i.registers i.formed).1;
     callers = i.callers;
     saved = i.saved;
     few = omega (arith, i.few, c.deep);
@@ -71,9 +88,11 @@ covered certificate place from s c e i = record {
 }
 
 -- a machine stands as another does, with other registers
-restand : (certificate : Certificate) (node next : Node) (s t : State) → Matches certificate node s → next.depth ≡ node.depth → next.promise ≡ node.promise → t.frames ≡ s.frames → t.memory ≡ s.memory → AreIn next.row t.registers → Matches certificate next t
-restand certificate node next s t i d p f m a = record {
+restand : (certificate : Certificate) (node next : Node) (s t : State) → (i : Matches certificate node s) → next.depth ≡ node.depth → next.promise ≡ node.promise → t.frames ≡ s.frames → t.memory ≡ s.memory → AreIn next.row t.registers → AreFormed next.forms i.bases t.registers → Matches certificate next t
+restand certificate node next s t i d p f m a g = record {
   registers = a;
+  bases = i.bases;
+  formed = g;
   callers = i.callers;
   saved = subst (AreSaved i.callers) (sym f) i.saved;
   few = omega (arith, i.few, d);
@@ -83,28 +102,49 @@ restand certificate node next s t i d p f m a = record {
   octets = subst HasOctets (sym m) i.octets;
 }
 
-pub fits_put : (certificate : Certificate) (place : ℕ) (node : Node) (s : State) (dst v slots : ℕ) (known : Option Range) → length node.row ≡ 11 → dst < 11 →
-    Covers certificate place (record node { row = set node.row dst known }) → s.place + slots ≡ place → Matches certificate node s → IsIn known v → Fits certificate (state_after_write s dst v slots)
-fits_put certificate place node s dst v slots known l d c e i k = covered certificate place (record node { row = set node.row dst known }) (state_after_write s dst v slots) c e
-    (restand certificate node (record node { row = set node.row dst known }) s (state_after_write s dst v slots) i refl refl refl refl (put_in node.row s.registers dst v known l d i.registers k))
+abbrev pub changed : Node → ℕ → Option Range → Option Form → Node
+changed node dst known form = record node { row = set node.row dst known; forms = set node.forms dst form }
 
-pub fits_jump : (certificate : Certificate) (place : ℕ) (node : Node) (s t : State) (dst : ℕ) (known : Option Range) → length node.row ≡ 11 → dst < 11 →
-    Covers certificate place (record node { row = set node.row dst known }) → t.place ≡ place → t.registers ≡ s.registers → t.frames ≡ s.frames → t.memory ≡ s.memory → Matches certificate node s → IsIn known (get_or s.registers dst 0) → Fits certificate t
-fits_jump certificate place node s t dst known l d c e r f m i k = covered certificate place (record node { row = set node.row dst known }) t c e
-    (restand certificate node (record node { row = set node.row dst known }) s t i refl refl f m (rw r (keep_in node.row s.registers dst known l d i.registers k)))
+pub put_stands : (certificate : Certificate) (node : Node) (s t : State) (dst v : ℕ) (known : Option Range) (form : Option Form) → length node.row ≡ 11 → length node.forms ≡ 11 → dst < 11 →
+    (i : Matches certificate node s) → t.registers ≡ set s.registers dst v → t.frames ≡ s.frames → t.memory ≡ s.memory → IsIn known v → IsForm form i.bases v → Matches certificate (changed node dst known form) t
+put_stands certificate node s t dst v known form l n d i r f m k h = restand certificate node (changed node dst known form) s t i refl refl f m
+    (subst (λ (rs : List ℕ). AreIn (set node.row dst known) rs) (sym r) (put_in node.row s.registers dst v known l d i.registers k))
+    (subst (λ (rs : List ℕ). AreFormed (set node.forms dst form) i.bases rs) (sym r) (put_formed node.forms i.bases s.registers dst v form n i.registers.eleven d i.formed h))
 
-pub fits_call : (certificate : Certificate) (node next : Node) (s : State) (slot r0 : ℕ) (r1 : Option ℕ) → Covers certificate (slot + 1) next → s.place ≡ slot → Matches certificate node s → next.depth ≡ node.depth → next.promise ≡ node.promise →
-    AreIn next.row (state_after_engine_call s r0 r1).registers → Fits certificate (state_after_engine_call s r0 r1)
-fits_call certificate node next s slot r0 r1 c e i d p a = covered certificate (slot + 1) next (state_after_engine_call s r0 r1) c (ap (λ n. n + 1) e)
-    (restand certificate node next s (state_after_engine_call s r0 r1) i d p refl refl a)
+pub fits_put : (certificate : Certificate) (place : ℕ) (node : Node) (s : State) (dst v slots : ℕ) (known : Option Range) (form : Option Form) → length node.row ≡ 11 → length node.forms ≡ 11 → dst < 11 →
+    Covers certificate place (record node { row = set node.row dst known; forms = set node.forms dst form }) → s.place + slots ≡ place → (i : Matches certificate node s) → IsIn known v → IsForm form i.bases v → Fits certificate (state_after_write s dst v slots)
+fits_put certificate place node s dst v slots known form l n d c e i k h = covered certificate place (changed node dst known form) (state_after_write s dst v slots) c e
+    (put_stands certificate node s (state_after_write s dst v slots) dst v known form l n d i refl refl refl k h)
+
+pub fits_jump : (certificate : Certificate) (place : ℕ) (next : Node) (s t : State) →
+    Covers certificate place next → t.place ≡ place → t.registers ≡ s.registers → t.frames ≡ s.frames → t.memory ≡ s.memory → Matches certificate next s → Fits certificate t
+fits_jump certificate place next s t c e r f m i = covered certificate place next t c e
+    (restand certificate next next s t i refl refl f m (subst (λ (rs : List ℕ). AreIn next.row rs) (sym r) i.registers) (subst (λ (rs : List ℕ). AreFormed next.forms i.bases rs) (sym r) i.formed))
+
+-- a register of which nothing is known any more
+keep_formed : (forms : List (Option Form)) (bases : ℕ → ℕ) (registers : List ℕ) (dst : ℕ) → length forms ≡ 11 → dst < 11 → AreFormed forms bases registers → AreFormed (set forms dst None) bases registers
+keep_formed forms bases registers dst l d a = record {
+  each = λ k h. elim (same_or_not k dst) [
+    | inl e ↦ subst (λ j. IsForm (get_or (set forms dst None) j None) bases (get_or registers j 0)) (sym e) (subst (λ o. IsForm o bases (get_or registers dst 0)) (sym (get_or-set_same forms dst None None (omega (arith, l, d)))) tt)
+    | inr m ↦ subst (λ o. IsForm o bases (get_or registers k 0)) (sym (get_or-set_other forms dst k None None m)) (a.each k h)
+  ];
+}
+
+forget : (certificate : Certificate) (node : Node) (s : State) (dst : ℕ) → length node.row ≡ 11 → length node.forms ≡ 11 → dst < 11 → Matches certificate node s → Matches certificate (changed node dst None None) s
+forget certificate node s dst l n d i = restand certificate node (changed node dst None None) s s i refl refl refl refl (keep_in node.row s.registers dst None l d i.registers tt) (keep_formed node.forms i.bases s.registers dst n d i.formed)
 
 -- what is known after an engine call that may write R1, and after another one
-pub answered_in : (row : List (Option Range)) (registers : List ℕ) (r0 : ℕ) (r1 : Option ℕ) (known : Option Range) → length row ≡ 11 → AreIn row registers → IsIn known r0 → AreIn (set (set row 0 known) 1 None) (maybe_set (set registers 0 r0) 1 r1)
-answered_in row registers r0 (Some v) known l a i = put_in (set row 0 known) (set registers 0 r0) 1 v None (length-set row 0 known ∙ l) (omega arith) (put_in row registers 0 r0 known l (omega arith) a i) tt
-answered_in row registers r0 None known l a i = keep_in (set row 0 known) (set registers 0 r0) 1 None (length-set row 0 known ∙ l) (omega arith) (put_in row registers 0 r0 known l (omega arith) a i) tt
+pub answered : (certificate : Certificate) (node : Node) (s : State) (r0 : ℕ) (r1 : Option ℕ) (known : Option Range) → length node.row ≡ 11 → length node.forms ≡ 11 → Matches certificate node s → IsIn known r0 → Matches certificate (changed (changed node 0 known None) 1 None None) (state_after_engine_call s r0 r1)
+answered certificate node s r0 (Some v) known l n i k =
+    let t : State = record s { registers = set s.registers 0 r0 } in
+    put_stands certificate (changed node 0 known None) t (state_after_engine_call s r0 (Some v)) 1 v None None (length-set node.row 0 known ∙ l) (length-set node.forms 0 None ∙ n) (omega arith)
+    (put_stands certificate node s t 0 r0 known None l n (omega arith) i refl refl refl k tt) refl refl refl tt tt
+answered certificate node s r0 None known l n i k =
+    forget certificate (changed node 0 known None) (state_after_engine_call s r0 None) 1 (length-set node.row 0 known ∙ l) (length-set node.forms 0 None ∙ n) (omega arith)
+    (put_stands certificate node s (state_after_engine_call s r0 None) 0 r0 known None l n (omega arith) i refl refl refl k tt)
 
-pub answered_in_r0 : (row : List (Option Range)) (registers : List ℕ) (r0 : ℕ) (r1 : Option ℕ) (known : Option Range) → length row ≡ 11 → AreIn row registers → IsIn known r0 → r1 ≡ None → AreIn (set row 0 known) (maybe_set (set registers 0 r0) 1 r1)
-answered_in_r0 row registers r0 r1 known l a i e = subst (λ o. AreIn (set row 0 known) (maybe_set (set registers 0 r0) 1 o)) (sym e) (put_in row registers 0 r0 known l (omega arith) a i)
+pub answered_r0 : (certificate : Certificate) (node : Node) (s : State) (r0 : ℕ) (r1 : Option ℕ) (known : Option Range) → length node.row ≡ 11 → length node.forms ≡ 11 → Matches certificate node s → IsIn known r0 → r1 ≡ None → Matches certificate (changed node 0 known None) (state_after_engine_call s r0 r1)
+answered_r0 certificate node s r0 r1 known l n i k e = put_stands certificate node s (state_after_engine_call s r0 r1) 0 r0 known None l n (omega arith) i (ap (maybe_set (set s.registers 0 r0) 1) e) refl refl k tt
 
 -- a law on loads, and one on stores
 abbrev pub LoadsAreThere : Type 0
@@ -124,9 +164,54 @@ pub fits_store : StoresAreThere → (certificate : Certificate) (node : Node) (s
 fits_store law certificate node s slot q n v e i h k =
     let t = law i.profile s.memory q n v i.memory i.octets h in
     subst (λ (r : Result Octets AccessFault). FitsAfter certificate s (outcome_by s (store_memory s.registers r) NoInstruction)) (sym t.1)
-    (k (record s { memory = t.0 }) e (record { registers = i.registers; callers = i.callers; saved = i.saved; few = i.few; returns = i.returns; profile = i.profile; memory = t.2; octets = t.3 }))
+    (k (record s { memory = t.0 }) e (record { registers = i.registers; bases = i.bases; formed = i.formed; callers = i.callers; saved = i.saved; few = i.few; returns = i.returns; profile = i.profile; memory = t.2; octets = t.3 }))
 
 pub fits_either : (certificate : Certificate) (s : State) (taken : Bool) (distance : ℤ) → (taken ≡ true → Fits certificate (state_after_jump s (Some distance))) → (taken ≡ false → Fits certificate (state_after_jump s None)) →
     FitsAfter certificate s (outcome_by s (move_by_jump s.registers s.memory (if taken then Some distance else None)) NoInstruction)
 fits_either certificate s true distance f g = f refl
 fits_either certificate s false distance f g = g refl
+
+-- a base of which no register is becomes that of one
+abbrev with_number : (ℕ → ℕ) → ℕ → ℕ → ℕ → ℕ
+with_number bases base v b = if b == base then v else bases b
+
+number_itself : (bases : ℕ → ℕ) (base v : ℕ) → with_number bases base v base ≡ v
+number_itself bases base v = grind (arith, nat_tests)
+
+number_of_other : (bases : ℕ → ℕ) (base v b : ℕ) → b ≢ base → with_number bases base v b ≡ bases b
+number_of_other bases base v b n = grind (arith, nat_tests)
+
+still_formed : (o : Option Form) (bases : ℕ → ℕ) (base v x : ℕ) → ((f : Form) → o ≡ Some f → f.base ≢ base) → IsForm o bases x → IsForm o (with_number bases base v) x
+still_formed None bases base v x n h = tt
+still_formed (Some f) bases base v x n h = subst (λ k. x % 2 ^ 64 ≡ (f.times * k + f.plus) % 2 ^ 64) (sym (number_of_other bases base v f.base (n f refl))) h
+
+formed_itself : (bases : ℕ → ℕ) (base v : ℕ) → IsForm (Some (record { base = base; times = 1; plus = 0 })) (with_number bases base v) v
+formed_itself bases base v = let e = number_itself bases base v in omega (arith, e)
+
+pub based : (certificate : Certificate) (node : Node) (s : State) (at base : ℕ) → length node.forms ≡ 11 → at < 11 → ((k : ℕ) → k < 11 → (f : Form) → get_or node.forms k None ≡ Some f → f.base ≢ base) → Matches certificate node s →
+    Matches certificate (record node { forms = set node.forms at (Some (record { base = base; times = 1; plus = 0 })) }) s
+based certificate node s at base n d free i = record {
+  registers = i.registers;
+  bases = with_number i.bases base (get_or s.registers at 0);
+  formed = record {
+    each = λ k h. elim (same_or_not k at) [
+      | inl e ↦ subst (λ j. IsForm (get_or (set node.forms at form) j None) bases (get_or s.registers j 0)) (sym e)
+          (subst (λ o. IsForm o bases (get_or s.registers at 0)) (sym (get_or-set_same node.forms at form None (omega (arith, n, d)))) (formed_itself i.bases base (get_or s.registers at 0)))
+      | inr m ↦ subst (λ o. IsForm o bases (get_or s.registers k 0)) (sym (get_or-set_other node.forms at k form None m))
+          (still_formed (get_or node.forms k None) i.bases base (get_or s.registers at 0) (get_or s.registers k 0) (free k h) (i.formed.each k h))
+    ];
+  };
+  callers = i.callers;
+  saved = i.saved;
+  few = i.few;
+  returns = i.returns;
+  profile = i.profile;
+  memory = i.memory;
+  octets = i.octets;
+}
+  where
+    form : Option Form
+    form = Some (record { base = base; times = 1; plus = 0 })
+
+    bases : ℕ → ℕ
+    bases = with_number i.bases base (get_or s.registers at 0)

@@ -4,6 +4,7 @@ pub mod Called
 pub mod Opening
 pub mod Sound
 pub mod Falls
+pub mod Forms
 pub mod Counted
 pub mod Signs
 pub mod Strides

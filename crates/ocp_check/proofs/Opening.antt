@@ -10,19 +10,21 @@ use Rattle.ocp_check.specs.Mirror.Callers.{Caller, AreSaved, row_at_end, node_af
 use Rattle.ocp_check.specs.Mirror.Fits.{Certificate, Matches, FitsAfter, Covers, Returns}
 use Rattle.ocp_regions.specs.Memory.{zeros, zeros_over}
 use Rattle.ocp_regions.specs.Access.{HasOctets}
-use Rattle.ocp_check.proofs.Kept.{put_in, covered}
+use Rattle.ocp_check.proofs.Kept.{put_in, put_formed, covered}
 use Rattle.ocp_check.proofs.Called.{called, ended, last_exit}
 
-pub fits_local : (certificate : Certificate) (node : Node) (s : State) (slot : ℕ) (distance : ℤ) (pointer promise : Option Range) → length node.row ≡ 11 → node.depth < 7 → s.place ≡ slot → Matches certificate node s →
+pub fits_local : (certificate : Certificate) (node : Node) (s : State) (slot : ℕ) (distance : ℤ) (pointer promise : Option Range) → length node.row ≡ 11 → length node.forms ≡ 11 → node.depth < 7 → s.place ≡ slot → Matches certificate node s →
     IsIn pointer ((read s 10 + (2 ^ 64 - 512)) % 2 ^ 64) →
-    Covers certificate (target slot distance) (record { row = set node.row 10 pointer; depth = node.depth + 1; promise = promise }) →
+    Covers certificate (target slot distance) (record { row = set node.row 10 pointer; forms = set node.forms 10 None; depth = node.depth + 1; promise = promise }) →
     Covers certificate (slot + 1) (node_after_return node promise) → FitsAfter certificate s (local_call s distance)
-fits_local certificate node s slot distance pointer promise l d e i p first after =
-    let q = called i.callers s node distance (omega (arith, d, i.few)) i.saved i.registers in
-    let c : Caller = record { place = s.place; node = node } in
+fits_local certificate node s slot distance pointer promise l k d e i p first after =
+    let q = called i.callers s node i.bases distance (omega (arith, d, i.few)) i.saved i.registers i.formed in
+    let c : Caller = record { place = s.place; node = node; bases = i.bases } in
     subst (λ (o : Outcome). FitsAfter certificate s o) (sym q.0)
-    (covered certificate (target slot distance) (record { row = set node.row 10 pointer; depth = node.depth + 1; promise = promise }) (state_after_call s distance) first (ap (λ n. target n distance) e) (record {
+    (covered certificate (target slot distance) (record { row = set node.row 10 pointer; forms = set node.forms 10 None; depth = node.depth + 1; promise = promise }) (state_after_call s distance) first (ap (λ n. target n distance) e) (record {
       registers = put_in node.row s.registers 10 ((read s 10 + (2 ^ 64 - 512)) % 2 ^ 64) pointer l (omega arith) i.registers p;
+      bases = i.bases;
+      formed = put_formed node.forms i.bases s.registers 10 ((read s 10 + (2 ^ 64 - 512)) % 2 ^ 64) None k i.registers.eleven (omega arith) i.formed tt;
       callers = c ∷ i.callers;
       saved = q.1;
       few = omega (arith, i.few);
@@ -61,6 +63,8 @@ ends certificate node s (c ∷ callers) a f r i (inr h) =
     subst (λ (o : Outcome). FitsAfter certificate s o) (sym t.1)
     (covered certificate (c.place + 1) (node_after_return c.node promised) t.0 r.0.covers t.2 (record {
       registers = t.5;
+      bases = c.bases;
+      formed = t.6;
       callers = callers;
       saved = t.4;
       few = r.1;

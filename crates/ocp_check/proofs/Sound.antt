@@ -13,6 +13,7 @@ use Rattle.ocp_check.specs.Mirror.Ranges.{IsIn}
 use Rattle.ocp_check.specs.declared.certificate.Node.{Node}
 use Rattle.ocp_check.specs.Mirror.Start.{node_at_start}
 use Rattle.ocp_check.specs.Mirror.Fits.{Certificate, Matches, Fits, FitsAfter, Covers}
+use Rattle.ocp_check.proofs.Called.{unformed}
 use Rattle.ocp_check.proofs.Kept.{covered}
 
 each_start : (n : ℕ) → n ≤ 256 → (k : ℕ) → k < 11 → IsIn (get_or node_at_start.row k None) (get_or (0 ∷ 0x2000_0000 ∷ n ∷ 0 ∷ 0 ∷ 0 ∷ 0 ∷ 0 ∷ 0 ∷ 0 ∷ 0x1000_1000 ∷ []) k 0)
@@ -33,6 +34,8 @@ pub starts : ((profile : Profile) (before : List ℕ) → length before ≤ 256 
     (profile : Profile) (arguments : List ℕ) → length arguments ≤ 256 → All IsOctet arguments → Matches certificate node_at_start (machine_at_start profile arguments)
 starts new octets certificate profile arguments l are = record {
   registers = record { eleven = refl; each = each_start (length arguments) l };
+  bases = λ b. 0;
+  formed = unformed (λ b. 0) (machine_at_start profile arguments).registers;
   callers = [];
   saved = refl;
   few = omega arith;

@@ -1,5 +1,5 @@
 -- Multiples of a stride.
-use Rattle.std.proofs.Common.{◌≡◌, ℕ, ◌+◌, ◌%◌, ◌^◌, arith}
+use Rattle.std.proofs.Common.{ℕ, ◌+◌, ◌%◌, ◌^◌, arith}
 use Rattle.ocp_check.specs.declared.range.Stride.{Stride}
 use Rattle.ocp_check.specs.declared.range.Stride.TheVariants.{One, Two, Four, Eight}
 use Rattle.ocp_check.specs.Mirror.Ranges.{IsMultiple}

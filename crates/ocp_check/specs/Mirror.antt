@@ -1,4 +1,5 @@
 pub mod Ranges
+pub mod Forms
 pub mod Callers
 pub mod Fits
 pub mod Start

@@ -1,8 +1,10 @@
 //! What is known after an engine call.
-ghost use Rattle.std.specs.Prelude.{◌≡◌, ◌≢◌, ℕ, false, IsTrue, Option, List, slice_set, unsigned_abs};
+ghost use Rattle.std.specs.Prelude.{◌≡◌, ◌≢◌, ℕ, false, IsTrue, Option, unsigned_abs};
 ghost use Rattle.bpf_step.specs.Answers.{IsAnswer};
-ghost use Rattle.bpf_step.specs.Calls.{maybe_set};
-ghost use Rattle.ocp_check.specs.Mirror.Ranges.{IsIn, AreIn};
+ghost use Rattle.bpf_step.specs.Calls.{state_after_engine_call};
+ghost use Rattle.bpf_step.specs.Machine.{State};
+ghost use Rattle.ocp_check.specs.Mirror.Ranges.{IsIn};
+ghost use Rattle.ocp_check.specs.Mirror.Fits.{Certificate, Matches};
 
 use crate::certificate::Node;
 use crate::covering::with_register;
@@ -42,15 +44,13 @@ pub fn may_write_r1(number: i32) -> bool
 
 /// What is known after an engine call, whatever it answers.
 pub fn after_engine_call(node: &Node, number: i32) -> Node
-    ensures row { (registers : List ℕ) (r0 : ℕ) (r1 : Option ℕ) → AreIn node.now.row registers →
-        IsAnswer number r0 r1 →
-        AreIn result.row (maybe_set (slice_set registers 0 r0) 1 r1) }
-    ensures depth { result.depth ≡ node.now.depth }
-    ensures promise { result.promise ≡ node.now.promise }
+    ensures { (certificate : Certificate) (s : State) (r0 : ℕ) (r1 : Option ℕ) →
+        Matches certificate node.now s → IsAnswer number r0 r1 →
+        Matches certificate result (state_after_engine_call s r0 r1) }
 {
-    let answered = with_register(node, Reg::zero(), r0_after(number));
+    let answered = with_register(node, Reg::zero(), r0_after(number), None);
     if may_write_r1(number) {
-        with_register(&answered, Reg::one(), None)
+        with_register(&answered, Reg::one(), None, None)
     } else {
         answered
     }

@@ -2,6 +2,7 @@
 ghost use Rattle.std.specs.Prelude.{◌≡◌, Option, None};
 ghost use Rattle.ocp_check.specs.Mirror.Callers.{node_after_return};
 
+use crate::form::Forms;
 use crate::range::Range;
 
 /// What is known of the eleven registers.
@@ -11,6 +12,8 @@ pub type Row = [Option<Range>; 11];
 #[derive(Clone, Copy, Debug)]
 pub struct Node {
     pub row: Row,
+    /// Which registers are tied to one another.
+    pub forms: Forms,
     /// The most local calls that are open.
     pub depth: u8,
     /// What is known of R0 when the innermost of them ends.
@@ -23,9 +26,13 @@ pub fn after_return(node: &Node, promise: Option<Range>) -> Node
     ensures { result ≡ node_after_return node.now promise }
 {
     let row = node.row;
+    let forms = node.forms;
     Node {
         row: [
             promise, None, None, None, None, None, row[6], row[7], row[8], row[9], row[10],
+        ],
+        forms: [
+            None, None, None, None, None, None, forms[6], forms[7], forms[8], forms[9], forms[10],
         ],
         depth: node.depth,
         promise: node.promise,

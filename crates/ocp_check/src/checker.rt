@@ -42,6 +42,7 @@ pub fn at_start() -> Node
             zero,
             only(FRAME_POINTER),
         ],
+        forms: [None; 11],
         depth: 0,
         promise: None,
     }

@@ -3,9 +3,11 @@ ghost use Rattle.std.specs.Prelude.{◌≡◌, ◌<◌, ℕ, IsTrue, Some, None,
 ghost use Rattle.bpf_moves.specs.Moves.{operand_in};
 ghost use Rattle.ocp_check.specs.Mirror.Ranges.{IsIn, AreIn};
 ghost use Rattle.bpf_step.specs.Machine.{State};
-ghost use Rattle.ocp_check.specs.Mirror.Fits.{Covers, Fits, Matches};
+ghost use Rattle.ocp_check.specs.Mirror.Forms.{IsForm, AreFormed, bases_after};
+ghost use Rattle.ocp_check.specs.Mirror.Fits.{Certificate, Covers, Fits, Matches};
 
 use crate::certificate::{Node, Row};
+use crate::form::{BASES, Form, Forms, form_of_known, free_base, is_shifted, refined};
 use crate::range::{Range, is_within, only};
 use bpf_types::{Operand, Reg};
 
@@ -51,21 +53,161 @@ pub fn covers(certificate: &[Option<Node>], place: usize, from: &Node) -> bool
             from.depth <= node.depth
                 && is_within(node.promise, from.promise)
                 && are_within(&from.row, &node.row)
+                && are_tied(from, node)
         }
         _ => false,
     }
 }
 
+/// What becomes of the base of each form of a node, by the registers that are the base and a number
+/// more. Nothing rests on it.
+fn shifts_of(from: &Node, node: &Node) -> [Form; BASES] {
+    let mut shifts = [Form {
+        base: 0,
+        times: 0,
+        plus: 0,
+    }; BASES];
+    for k in 0..11 {
+        if let (Some(to), Some(form)) = (node.forms[k], form_of_known(from.row[k], from.forms[k])) {
+            if to.times == 1 && usize::from(to.base) < BASES {
+                shifts[usize::from(to.base)] = Form {
+                    base: form.base,
+                    times: form.times,
+                    plus: form.plus.wrapping_sub(to.plus),
+                };
+            }
+        }
+    }
+    shifts
+}
+
+/// Whether registers that are tied to one another in the second node are so by the first one.
+fn are_tied(from: &Node, node: &Node) -> bool
+    ensures { IsTrue result → (bases : ℕ → ℕ) (registers : List ℕ) →
+        AreIn from.now.row registers → AreFormed from.now.forms bases registers →
+        (next : ℕ → ℕ) × AreFormed node.now.forms next registers }
+{
+    are_shifted(&shifts_of(from, node), from, node)
+}
+
+/// The same, if the number of each base becomes the one of its shift.
+fn are_shifted(shifts: &[Form; BASES], from: &Node, node: &Node) -> bool
+    ensures { IsTrue result → (bases : ℕ → ℕ) (registers : List ℕ) →
+        AreIn from.now.row registers → AreFormed from.now.forms bases registers →
+        AreFormed node.now.forms (bases_after shifts.now bases) registers }
+{
+    for k in 0..11 {
+        if !is_shifted(
+            shifts,
+            form_of_known(from.row[k], from.forms[k]),
+            node.forms[k],
+        ) {
+            return false;
+        }
+    }
+    true
+}
+
 /// A node with one register changed.
-pub fn with_register(node: &Node, register: Reg, known: Option<Range>) -> Node
-    ensures { result ≡ record node.now { row = slice_set node.now.row register known } }
+pub fn with_register(node: &Node, register: Reg, known: Option<Range>, form: Option<Form>) -> Node
+    ensures { result ≡ record node.now {
+      row = slice_set node.now.row register known;
+      forms = slice_set node.now.forms register form;
+    } }
 {
     let mut row = node.row;
+    let mut forms = node.forms;
     row[usize::from(register.number())] = known;
+    forms[usize::from(register.number())] = form;
     Node {
         row,
+        forms,
         depth: node.depth,
         promise: node.promise,
+    }
+}
+
+/// What is known of the registers, if this is known of one of them.
+fn row_with_known(row: &Row, forms: &Forms, register: Reg, known: Option<Range>) -> Row
+    ensures { (bases : ℕ → ℕ) (registers : List ℕ) → AreIn row.now registers →
+        AreFormed forms.now bases registers → IsIn known (slice_index registers register) →
+        AreIn result registers }
+{
+    let mut changed = *row;
+    let other = forms[usize::from(register.number())];
+    for k in 0..11 {
+        changed[k] = refined(row[k], forms[k], other, known);
+    }
+    changed[usize::from(register.number())] = known;
+    changed
+}
+
+/// A node with more known of a register, and of those that are tied to it.
+pub fn with_known(node: &Node, register: Reg, known: Option<Range>) -> Node
+    ensures { (certificate : Certificate) (s : State) → Matches certificate node.now s →
+        IsIn known (slice_index s.registers register) → Matches certificate result s }
+{
+    Node {
+        row: row_with_known(&node.row, &node.forms, register, known),
+        forms: node.forms,
+        depth: node.depth,
+        promise: node.promise,
+    }
+}
+
+/// A node that has a form of a register, unless its number is known or there is no free base.
+pub fn with_base(node: &Node, register: Reg) -> Node
+    ensures { (certificate : Certificate) (s : State) → Matches certificate node.now s →
+        Matches certificate result s }
+{
+    let at = usize::from(register.number());
+    if form_of_known(node.row[at], node.forms[at]).is_some() {
+        return *node;
+    }
+    let Some(base) = free_base(&node.forms) else {
+        return *node;
+    };
+    let mut forms = node.forms;
+    forms[at] = Some(Form {
+        base,
+        times: 1,
+        plus: 0,
+    });
+    Node {
+        row: node.row,
+        forms,
+        depth: node.depth,
+        promise: node.promise,
+    }
+}
+
+/// The same of a register that an operand is.
+pub fn with_base_of_operand(node: &Node, operand: &Operand) -> Node
+    ensures { (certificate : Certificate) (s : State) → Matches certificate node.now s →
+        Matches certificate result s }
+{
+    match operand {
+        Operand::Immediate(_) => *node,
+        Operand::Register(register) => with_base(node, *register),
+    }
+}
+
+/// The form of a register.
+pub fn form_of(forms: &Forms, register: Reg) -> Option<Form>
+    ensures { (bases : ℕ → ℕ) (registers : List ℕ) → AreFormed forms.now bases registers →
+        IsForm result bases (slice_index registers register) }
+{
+    forms[usize::from(register.number())]
+}
+
+/// The form of an operand.
+pub fn form_of_operand(forms: &Forms, operand: &Operand) -> Option<Form>
+    ensures { (bases : ℕ → ℕ) (registers : List ℕ) → AreFormed forms.now bases registers →
+        IsForm result bases (operand_in registers operand.now) }
+{
+    match operand {
+        Operand::Immediate(_) => None,
+        Operand::Register(register) => form_of(forms, *register),
     }
 }
 

@@ -7,13 +7,16 @@
 
 use crate::answers::after_engine_call;
 use crate::certificate::{Node, after_return};
-use crate::checker::at_start;
-use crate::covering::{range_of, range_of_operand, with_register};
+use crate::checker::{at_start, is_kept_at};
+use crate::covering::{
+    node_at, range_of, range_of_operand, with_base_of_operand, with_known, with_register,
+};
 use crate::loading::numbers_of;
-use crate::range::{Range, follows, is_empty, lesser, only, refinement, result_of, stride_of, sum};
-use crate::steps::{at_call, target};
+use crate::range::{Range, follows, is_empty, lesser, only, refinement, stride_of, sum};
+use crate::steps::{at_call, computed, target};
+use crate::tying::{are_same_forms, narrow_by_forms, tied};
 use bpf_step::{FRAME_OCTETS, MAX_LOCAL_CALLS};
-use bpf_types::{Comparison, Line, Operand, Reg, Width};
+use bpf_types::{Comparison, Line, Operand, Operation, Reg, Width};
 use ocp_loader::Program;
 use std::alloc::{AllocError, Allocator};
 
@@ -25,6 +28,9 @@ const PLAIN_PASSES: u32 = 3;
 
 /// How often they grow to one of the landmarks.
 const WIDE_PASSES: u32 = 40;
+
+/// How often ranges are narrowed again, if they were widened too far.
+const NARROW_PASSES: u32 = 3;
 
 /// The most numbers to which ranges are widened.
 const LANDMARKS: usize = 64;
@@ -200,6 +206,11 @@ impl<A: Allocator> Search<A> {
             }
             row[k] = known;
         }
+        let forms = tied(&old, from, self.pass < WIDE_PASSES);
+        if !are_same_forms(&forms, &old.forms) {
+            has_grown = true;
+        }
+        row = narrow_by_forms(&row, &forms);
         let depth = if old.depth < from.depth {
             from.depth
         } else {
@@ -208,6 +219,7 @@ impl<A: Allocator> Search<A> {
         if has_grown || depth > old.depth {
             self.nodes[place] = Some(Node {
                 row,
+                forms,
                 depth,
                 promise: None,
             });
@@ -220,15 +232,30 @@ impl<A: Allocator> Search<A> {
         self.enter(
             slot,
             usize::from(slot).saturating_add(slots),
-            &with_register(node, dst, known),
+            &with_register(node, dst, known, None),
         );
+    }
+
+    /// The same of an operation.
+    fn compute(
+        &mut self,
+        slot: u16,
+        node: &Node,
+        width: Width,
+        operation: Operation,
+        dst: Reg,
+        operand: Operand,
+    ) {
+        let based = with_base_of_operand(node, &operand);
+        let after = computed(&based, width, operation, dst, operand);
+        self.enter(slot, usize::from(slot).saturating_add(1), &after);
     }
 
     /// The same of a jump that is taken or not, after which this is known of a register.
     fn jump(&mut self, slot: u16, distance: i32, node: &Node, register: Reg, known: Option<Range>) {
         if let Some(place) = target(slot, distance) {
             if !is_empty(known) {
-                self.enter(slot, place, &with_register(node, register, known));
+                self.enter(slot, place, &with_known(node, register, known));
             }
         }
     }
@@ -284,15 +311,7 @@ impl<A: Allocator> Search<A> {
                 operation,
                 dst,
                 operand,
-            } => {
-                let value = result_of(
-                    width,
-                    operation,
-                    range_of(&node.row, dst),
-                    range_of_operand(&node.row, operand),
-                );
-                self.write(slot, 1, node, dst, value);
-            }
+            } => self.compute(slot, node, width, operation, dst, operand),
             Line::Negate { dst, .. } => self.write(slot, 1, node, dst, None),
             Line::MoveExtended { dst, .. } => self.write(slot, 1, node, dst, None),
             Line::ByteOrder { dst, .. } => self.write(slot, 1, node, dst, None),
@@ -397,6 +416,55 @@ fn landmarks_of<A: Allocator>(
     Ok(landmarks)
 }
 
+/// Says at each slot what is promised at the ends of local calls.
+fn promise_to(nodes: &mut [Option<Node>], end: Option<Option<Range>>) {
+    let promise = end.flatten();
+    for node in nodes.iter_mut() {
+        if let Some(node) = node {
+            node.promise = promise;
+        }
+    }
+}
+
+/// How many slots a certificate does not keep.
+fn unkept<A: Allocator>(program: &Program<A>, certificate: &[Option<Node>]) -> u32 {
+    let mut count = 0u32;
+    for slot in 0..program.slots() as u16 {
+        if !is_kept_at(program, certificate, slot) {
+            count = count.saturating_add(1);
+        }
+    }
+    count
+}
+
+/// What is known at each slot by what was known at the slots before it: no more numbers than there,
+/// and fewer where a range was widened too far.
+fn narrowed<A: Allocator + Copy>(
+    alloc: A,
+    program: &Program<A>,
+    wide: &[Option<Node>],
+    end: Option<Option<Range>>,
+) -> Result<Vec<Option<Node>, A>, AllocError> {
+    let mut search = Search {
+        nodes: vec![in alloc; None; wide.len()]?,
+        landmarks: Vec::new(alloc),
+        end,
+        pass: 0,
+        has_changed: false,
+    };
+    if let Some(first) = search.nodes.first_mut() {
+        *first = Some(at_start());
+    }
+    for slot in 0..program.slots() as u16 {
+        if let Some(node) = node_at(wide, slot) {
+            if let Some(line) = program.line_at(slot) {
+                search.flow(slot, &node, line);
+            }
+        }
+    }
+    Ok(search.nodes)
+}
+
 /// What is known at each slot that may be reached: a certificate, if the search came to its end.
 pub fn find<A: Allocator + Copy>(
     alloc: A,
@@ -420,15 +488,20 @@ pub fn find<A: Allocator + Copy>(
             break;
         }
     }
-    let promise = match search.end {
-        Some(end) => end,
-        None => None,
-    };
+    let end = search.end;
     let mut nodes = search.nodes;
-    for node in nodes.iter_mut() {
-        if let Some(node) = node {
-            node.promise = promise;
+    promise_to(&mut nodes, end);
+    for _ in 0..NARROW_PASSES {
+        let least = unkept(program, &nodes);
+        if least == 0 {
+            break;
         }
+        let mut next = narrowed(alloc, program, &nodes, end)?;
+        promise_to(&mut next, end);
+        if unkept(program, &next) > least {
+            break;
+        }
+        nodes = next;
     }
     Ok(nodes)
 }

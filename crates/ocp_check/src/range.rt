@@ -174,7 +174,7 @@ fn difference(a: Option<Range>, b: Option<Range>) -> Option<Range>
 }
 
 /// What is known of a product, if none wraps.
-fn product(a: Option<Range>, b: Option<Range>) -> Option<Range>
+pub fn product(a: Option<Range>, b: Option<Range>) -> Option<Range>
     ensures { (x y : ℕ) → IsIn a x → IsIn b y → IsIn result ((x * y) % 2 ^ 64) }
 {
     let (Some(a), Some(b)) = (a, b) else {

@@ -3,23 +3,27 @@ ghost use Rattle.std.specs.Prelude.{◌≡◌, ◌<◌, ◌+◌, ◌^◌, ℕ, I
 ghost use Rattle.bpf_types.specs.Line.{octets_in};
 ghost use Rattle.ocp_regions.specs.Memory.{number_in_memory, memory_after_store};
 ghost use Rattle.bpf_moves.specs.Moves.{operand_in, address_in, load_register, store_memory, move_by_jump};
-ghost use Rattle.bpf_values.specs.Value.{is_taken};
+ghost use Rattle.bpf_values.specs.Value.{arithmetic_result, is_taken};
 ghost use Rattle.ocp_loader.specs.LineAt.{target};
 ghost use Rattle.bpf_step.specs.Machine.{State, NoInstruction, state_after_write, state_after_jump, place_by};
 ghost use Rattle.bpf_step.specs.Step.{step, outcome_by};
 ghost use Rattle.bpf_step.specs.Answers.{IsAnswer};
 ghost use Rattle.bpf_step.specs.Calls.{state_after_engine_call, local_call, exit_to, last_frame};
 ghost use Rattle.ocp_check.specs.Mirror.Ranges.{IsIn};
-ghost use Rattle.ocp_check.specs.Mirror.Fits.{Covers, Fits, Matches, FitsAfter};
+ghost use Rattle.ocp_check.specs.Mirror.Fits.{Certificate, Covers, Fits, Matches, FitsAfter};
 
 use crate::answers::after_engine_call;
 use crate::certificate::{Node, after_return};
-use crate::covering::{covers, range_of, range_of_operand, with_register};
+use crate::covering::{
+    covers, form_of, form_of_operand, range_of, range_of_operand, with_base_of_operand, with_known,
+    with_register,
+};
+use crate::form::{Form, form_of_result};
 use crate::laws::accesses_are_there;
 use crate::loading::numbers_of;
 use crate::range::{Range, is_empty, is_there, is_within, only, refinement, result_of, sum};
 use bpf_step::{FRAME_OCTETS, MAX_LOCAL_CALLS};
-use bpf_types::{Comparison, Line, Operand, Reg, Size, Width};
+use bpf_types::{Comparison, Line, Operand, Operation, Reg, Size, Width};
 use bpf_values::size_of;
 
 /// Where a distance leads to, unless that is a negative slot.
@@ -46,8 +50,42 @@ fn is_kept_writing(
         && covers(
             certificate,
             usize::from(slot) + usize::from(slots),
-            &with_register(node, dst, known),
+            &with_register(node, dst, known, None),
         )
+}
+
+/// What is known after an operation.
+pub fn computed(node: &Node, width: Width, operation: Operation, dst: Reg, operand: Operand) -> Node
+    ensures { (certificate : Certificate) (s : State) → Matches certificate node.now s →
+        Matches certificate result (state_after_write s dst (arithmetic_result width operation
+        (slice_index s.registers dst) (operand_in s.registers operand)) 1) }
+{
+    let a = form_of(&node.forms, dst);
+    let b = form_of_operand(&node.forms, &operand);
+    let first = range_of(&node.row, dst);
+    let second = range_of_operand(&node.row, operand);
+    let value = result_of(width, operation, first, second);
+    let form = form_of_result(width, operation, a, b, first, second);
+    with_register(node, dst, value, form)
+}
+
+/// Whether an operation fits the certificate.
+fn is_kept_computing(
+    certificate: &[Option<Node>],
+    slot: u16,
+    node: &Node,
+    width: Width,
+    operation: Operation,
+    dst: Reg,
+    operand: Operand,
+) -> bool
+    ensures { IsTrue result → (s : State) → s.place ≡ slot → Matches certificate.now node.now s →
+        Fits certificate.now (state_after_write s dst (arithmetic_result width operation
+        (slice_index s.registers dst) (operand_in s.registers operand)) 1) }
+{
+    let based = with_base_of_operand(node, &operand);
+    let after = computed(&based, width, operation, dst, operand);
+    covers(certificate, usize::from(slot) + 1, &after)
 }
 
 /// The place after a jump that is taken or not, unless that is a negative slot.
@@ -78,7 +116,7 @@ fn is_kept_jumping(
         return true;
     }
     match place_after(slot, distance) {
-        Some(place) => covers(certificate, place, &with_register(node, register, known)),
+        Some(place) => covers(certificate, place, &with_known(node, register, known)),
         None => false,
     }
 }
@@ -184,14 +222,18 @@ pub fn at_call(node: &Node, pointer: Option<Range>, promise: Option<Range>) -> N
     requires { node.now.depth < MAX_LOCAL_CALLS }
     ensures { result ≡ record {
       row = slice_set node.now.row 10 pointer;
+      forms = slice_set node.now.forms 10 None;
       depth = node.now.depth + 1;
       promise = promise;
     } }
 {
     let mut row = node.row;
+    let mut forms = node.forms;
     row[10] = pointer;
+    forms[10] = None;
     Node {
         row,
+        forms,
         depth: node.depth + 1,
         promise,
     }
@@ -258,17 +300,9 @@ pub fn is_kept(certificate: &[Option<Node>], slot: u16, node: &Node, line: Line)
             operation,
             dst,
             operand,
-        } => {
-            let value = result_of(
-                width,
-                operation,
-                range_of(&node.row, dst),
-                range_of_operand(&node.row, operand),
-            );
-            is_kept_writing(certificate, slot, 1, node, dst, value)
-        }
+        } => is_kept_computing(certificate, slot, node, width, operation, dst, operand),
         Line::Negate { dst, .. } => is_kept_writing(certificate, slot, 1, node, dst, None),
-        Line::MoveExtended { dst, .. } => is_kept_writing(certificate, slot, 1, node, dst, None),
+        Line::MoveExtended { dst, .. } => { is_kept_writing(certificate, slot, 1, node, dst, None) }
         Line::ByteOrder { dst, .. } => is_kept_writing(certificate, slot, 1, node, dst, None),
         Line::Jump { distance } => {
             is_kept_jumping(

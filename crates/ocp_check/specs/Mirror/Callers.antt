@@ -2,16 +2,22 @@
 use Rattle.std.specs.Prelude.{◌≡◌, ℕ, ◌+◌, List, [], ◌∷◌, ◌++◌, slice_index_or, slice_set, Option, None}
 use Rattle.bpf_step.specs.declared.frame.Frame.{Frame}
 use Rattle.ocp_check.specs.declared.range.Range.{Range}
+use Rattle.ocp_check.specs.declared.form.Form.{Form}
 use Rattle.ocp_check.specs.declared.certificate.Node.{Node}
 use Rattle.ocp_check.specs.Mirror.Ranges.{IsIn}
+use Rattle.ocp_check.specs.Mirror.Forms.{IsForm}
 
--- a local call that is open: its slot, and what was known there
+-- a local call that is open: its slot, what was known there, and the numbers of the bases
 pub record Caller : Type 0 where
   pub place : ℕ
   pub node : Node
+  pub bases : ℕ → ℕ
 
 abbrev pub range_at : Node → ℕ → Option Range
 range_at node register = slice_index_or node.row register None
+
+abbrev pub form_at : Node → ℕ → Option Form
+form_at node register = slice_index_or node.forms register None
 
 -- what it saved is known
 pub record Saves (c : Caller) (f : Frame) : Type 0 where
@@ -21,6 +27,11 @@ pub record Saves (c : Caller) (f : Frame) : Type 0 where
   pub r8 : IsIn (range_at c.node 8) f.r8
   pub r9 : IsIn (range_at c.node 9) f.r9
   pub r10 : IsIn (range_at c.node 10) f.r10
+  pub form6 : IsForm (form_at c.node 6) c.bases f.r6
+  pub form7 : IsForm (form_at c.node 7) c.bases f.r7
+  pub form8 : IsForm (form_at c.node 8) c.bases f.r8
+  pub form9 : IsForm (form_at c.node 9) c.bases f.r9
+  pub form10 : IsForm (form_at c.node 10) c.bases f.r10
 
 -- the frames are those of the callers, the latest of which is first
 abbrev pub AreSaved : List Caller → List Frame → Type 0
@@ -41,6 +52,18 @@ row_after_return node row =
     6 (range_at node 6)) 7 (range_at node 7)) 8 (range_at node 8)) 9 (range_at node 9))
     10 (range_at node 10)
 
+abbrev pub no_forms : List (Option Form)
+no_forms =
+    None ∷ None ∷ None ∷ None ∷ None ∷ None ∷ None ∷ None ∷ None ∷ None ∷ None ∷ []
+
+abbrev pub forms_after_return : Node → List (Option Form)
+forms_after_return node =
+    slice_set (slice_set (slice_set (slice_set (slice_set no_forms
+    6 (form_at node 6)) 7 (form_at node 7)) 8 (form_at node 8)) 9 (form_at node 9))
+    10 (form_at node 10)
+
 abbrev pub node_after_return : Node → Option Range → Node
-node_after_return node promise =
-    record node { row = row_after_return node (row_at_end promise) }
+node_after_return node promise = record node {
+  row = row_after_return node (row_at_end promise);
+  forms = forms_after_return node;
+}

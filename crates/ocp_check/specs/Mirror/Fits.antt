@@ -9,6 +9,7 @@ use Rattle.bpf_step.specs.Answers.{IsAnswer}
 use Rattle.ocp_check.specs.declared.range.Range.{Range}
 use Rattle.ocp_check.specs.declared.certificate.Node.{Node}
 use Rattle.ocp_check.specs.Mirror.Ranges.{IsIn, AreIn}
+use Rattle.ocp_check.specs.Mirror.Forms.{AreFormed}
 use Rattle.ocp_check.specs.Mirror.Callers.{Caller, AreSaved, range_at, node_after_return}
 
 -- what a certificate says at each slot, if the slot is ever reached
@@ -20,6 +21,8 @@ pub record Covers (certificate : Certificate) (place : ℕ) (from : Node) : Type
   pub node : Node
   pub found : slice_get certificate place ≡ Some (Some node)
   pub weaker : (k : ℕ) → k < 11 → (v : ℕ) → IsIn (range_at from k) v → IsIn (range_at node k) v
+  pub tied : (bases : ℕ → ℕ) (registers : List ℕ) → AreIn from.row registers →
+      AreFormed from.forms bases registers → (next : ℕ → ℕ) × AreFormed node.forms next registers
   pub deep : from.depth ≤ node.depth
   pub kept : (v : ℕ) → IsIn node.promise v → IsIn from.promise v
 
@@ -39,6 +42,8 @@ Returns certificate promise (c ∷ callers) =
 -- a machine is as a node says, and so it will be after each open local call
 pub record Matches (certificate : Certificate) (node : Node) (s : State) : Type 0 where
   pub registers : AreIn node.row s.registers
+  pub bases : ℕ → ℕ
+  pub formed : AreFormed node.forms bases s.registers
   pub callers : List Caller
   pub saved : AreSaved callers s.frames
   pub few : length callers ≤ node.depth

@@ -5,6 +5,7 @@ use Rattle.bpf_step.specs.declared.frame.TheConstants.{FRAME_POINTER}
 use Rattle.ocp_check.specs.declared.certificate.Node.{Node}
 use Rattle.ocp_check.specs.declared.range.Stride.TheVariants.{One}
 use Rattle.ocp_check.specs.Mirror.Ranges.{just}
+use Rattle.ocp_check.specs.Mirror.Callers.{no_forms}
 
 -- R1 is the address of the arguments, R2 their number, R10 the end of the stack, and all others are
 -- zero
@@ -13,6 +14,7 @@ node_at_start = record {
   row = just 0 ∷ just ARGUMENTS
       ∷ Some (record { low = 0; high = ARGUMENT_OCTETS; stride = One }) ∷ just 0
       ∷ just 0 ∷ just 0 ∷ just 0 ∷ just 0 ∷ just 0 ∷ just 0 ∷ just FRAME_POINTER ∷ [];
+  forms = no_forms;
   depth = 0;
   promise = None;
 }

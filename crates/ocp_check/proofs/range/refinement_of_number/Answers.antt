@@ -1,4 +1,4 @@
-use Rattle.std.proofs.Common.{◌≡◌, subst, sym, ◌∙◌, ap}
+use Rattle.std.proofs.Common.{subst, ◌∙◌, ap}
 use Rattle.bpf_values.specs.Value.{passes}
 use Rattle.ocp_check.specs.Mirror.Ranges.{IsIn}
 use Rattle.ocp_check.proofs.Signs.{same_test}

@@ -1,6 +1,4 @@
 use Rattle.std.proofs.Common.{rules, arith}
-use Rattle.bpf_step.specs.Machine.{State}
-use Rattle.bpf_step.specs.Reach.{Reaches}
 use Rattle.ocp_check.proofs.Falls.{FallsFrom, rounds, within}
 use Rattle.ocp_check.proofs.rounds.check_rounds.Goals as goal
 

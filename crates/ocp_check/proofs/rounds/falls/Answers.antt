@@ -3,10 +3,10 @@ use Rattle.std.specs.Prelude.{if◌then◌else◌}
 use Rattle.std.proofs.lemmas.Int.{ints}
 use Rattle.bpf_types.specs.declared.line.Line.{Line}
 use Rattle.bpf_types.specs.Line.{octets_in}
-use Rattle.ocp_regions.specs.Memory.{number_in_memory, memory_after_store}
+use Rattle.ocp_regions.specs.Memory.{number_in_memory}
 use Rattle.bpf_moves.specs.Moves.{operand_in, address_in, move_by_jump}
 use Rattle.bpf_values.specs.Value.{arithmetic_result, negation, sign_extension, byte_order_result, is_taken, size_of, extension_of}
-use Rattle.bpf_step.specs.Machine.{State, Next, NoInstruction, state_after_jump}
+use Rattle.bpf_step.specs.Machine.{Next, NoInstruction, state_after_jump}
 use Rattle.bpf_step.specs.Calls.{local_call}
 use Rattle.bpf_step.specs.Step.{step, outcome_by}
 use Rattle.ocp_check.specs.Mirror.Fits.{FitsAfter}

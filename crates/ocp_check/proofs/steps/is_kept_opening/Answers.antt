@@ -1,4 +1,4 @@
-use Rattle.std.proofs.Common.{rules, arith, ◌≡◌, ◌<◌, ◌+◌, ◌-◌, ◌%◌, ◌^◌, to_z, of_z, w32, set, ◌∙◌, ap, subst, length}
+use Rattle.std.proofs.Common.{rules, arith, ◌≡◌, ◌<◌, ◌+◌, ◌-◌, ◌%◌, ◌^◌, to_z, of_z, w32, set, None, ◌∙◌, ap, subst, length}
 use Rattle.ocp_loader.specs.LineAt.{target}
 use Rattle.bpf_step.specs.Machine.{read}
 use Rattle.ocp_check.specs.declared.certificate.Node.{Node}
@@ -11,6 +11,7 @@ use Rattle.ocp_check.proofs.steps.is_kept_opening.Goals as goal
 pub returns : goal.returns
 returns c = λ h s e i.
     let l : length c.args.node.now.row ≡ 11 = search (rules, c) in
+    let k : length c.args.node.now.forms ≡ 11 = search (rules, c) in
     let same : to_z w32 (of_z w32 c.args.distance) ≡ c.args.distance = search (rules, c.ranges.distance.sfits) in
     let here : c.in-Some.place ≡ target c.args.slot c.args.distance = c.in-Some.ensures ∙ ap (target c.args.slot) same in
     let down : c.wrapping_neg.result ≡ 2 ^ 64 - 512 = search (rules, c) in
@@ -18,8 +19,8 @@ returns c = λ h s e i.
     c.sum-pointer.ensures (read s 10) (2 ^ 64 - 512) (i.registers.each 10 (omega arith)) (subst (IsIn c.only.result) down c.only.ensures.holds) in
     let deep : c.args.node.now.depth < 7 = omega (arith, c.if-from-ge-MAX_LOCAL_CALLS.false, c.from.ensures) in
     let next : c.from-2.result + 1 ≡ c.args.slot + 1 = ap (λ n. n + 1) c.from-2.ensures in
-    fits_local c.args.certificate.now c.args.node.now s c.args.slot c.args.distance c.sum-pointer.result c.in-Some-Some.first.promise l deep e i pointer
-    (subst (λ p. Covers c.args.certificate.now p (record { row = set c.args.node.now.row 10 c.sum-pointer.result; depth = c.args.node.now.depth + 1; promise = c.in-Some-Some.first.promise })) here
+    fits_local c.args.certificate.now c.args.node.now s c.args.slot c.args.distance c.sum-pointer.result c.in-Some-Some.first.promise l k deep e i pointer
+    (subst (λ p. Covers c.args.certificate.now p (record { row = set c.args.node.now.row 10 c.sum-pointer.result; forms = set c.args.node.now.forms 10 None; depth = c.args.node.now.depth + 1; promise = c.in-Some-Some.first.promise })) here
     (subst (λ (n : Node). Covers c.args.certificate.now c.in-Some.place n) c.at_call-called.ensures (c.covers_both.ensures.first h)))
     (subst (λ p. Covers c.args.certificate.now p (node_after_return c.args.node.now c.in-Some-Some.first.promise)) next
     (subst (λ (n : Node). Covers c.args.certificate.now (c.from-2.result + 1) n) c.after_return-returned.ensures (c.covers_both.ensures.second h)))

@@ -1,0 +1,229 @@
+//! Which registers are tied to one another at a place to which machines come from several slots.
+//! Nothing rests on it: `check` tests what it finds.
+
+use crate::certificate::{Node, Row};
+use crate::form::{
+    BASES, Form, Forms, form_of_known, free_base, is_shifted_by, number_of, refined,
+};
+use crate::range::Range;
+
+/// The greatest factor of a tie.
+const MOST_TIMES: u64 = 4096;
+
+/// Whether two registers have the same forms, or none.
+fn is_same_form(a: Option<Form>, b: Option<Form>) -> bool {
+    match (a, b) {
+        (None, None) => true,
+        (Some(a), Some(b)) => a.base == b.base && a.times == b.times && a.plus == b.plus,
+        _ => false,
+    }
+}
+
+/// Whether all registers have the same forms.
+pub fn are_same_forms(a: &Forms, b: &Forms) -> bool {
+    for k in 0..11 {
+        if !is_same_form(a[k], b[k]) {
+            return false;
+        }
+    }
+    true
+}
+
+/// How much a number has grown, modulo 2 ^ 64, if it is known before and after and has changed.
+fn growth_of(old: Option<Range>, form: Option<Form>, from: Option<Range>) -> Option<u64> {
+    let before = number_of(old)?;
+    let after = number_of(from)?;
+    if before == after || form.is_some() {
+        None
+    } else {
+        Some(after.wrapping_sub(before))
+    }
+}
+
+/// The distance from zero of a number modulo 2 ^ 64.
+fn distance_of(number: u64) -> u64 {
+    let negative = number.wrapping_neg();
+    if negative < number { negative } else { number }
+}
+
+/// The growth that is the nearest to zero.
+fn least_growth(old: &Node, from: &Node) -> Option<u64> {
+    let mut least: Option<u64> = None;
+    for k in 0..11 {
+        if let Some(growth) = growth_of(old.row[k], old.forms[k], from.row[k]) {
+            match least {
+                Some(known) if distance_of(known) <= distance_of(growth) => {}
+                _ => least = Some(growth),
+            }
+        }
+    }
+    least
+}
+
+/// How many times a number is another one, modulo 2 ^ 64 and if both grow in the same direction.
+fn times_of(growth: u64, unit: u64) -> Option<u64> {
+    let (growth, unit) = if unit > u64::MAX / 2 {
+        (growth.wrapping_neg(), unit.wrapping_neg())
+    } else {
+        (growth, unit)
+    };
+    if unit > 0 && growth % unit == 0 && growth / unit <= MOST_TIMES {
+        Some(growth / unit)
+    } else {
+        None
+    }
+}
+
+/// The forms of a node, and those of registers whose numbers were known and have changed: the
+/// change that is the nearest to zero is their unit.
+fn with_growth(old: &Node, from: &Node) -> Forms {
+    let mut forms = old.forms;
+    if let (Some(unit), Some(base)) = (least_growth(old, from), free_base(&old.forms)) {
+        for k in 0..11 {
+            if let (Some(growth), Some(number)) = (
+                growth_of(old.row[k], old.forms[k], from.row[k]),
+                number_of(old.row[k]),
+            ) {
+                if let Some(times) = times_of(growth, unit) {
+                    forms[k] = Some(Form {
+                        base,
+                        times,
+                        plus: number,
+                    });
+                }
+            }
+        }
+    }
+    forms
+}
+
+/// What becomes of the base of a form, if it is that of its register.
+fn shift_by(from: &Node, forms: &Forms, anchor: usize) -> Option<Form> {
+    let to = (*forms.get(anchor)?)?;
+    let form = form_of_known(*from.row.get(anchor)?, *from.forms.get(anchor)?)?;
+    if to.times != 1 {
+        return None;
+    }
+    Some(Form {
+        base: form.base,
+        times: form.times,
+        plus: form.plus.wrapping_sub(to.plus),
+    })
+}
+
+/// Whether a register follows a shift of its base.
+fn follows_shift(shift: &Form, from: &Node, to: Form, k: usize) -> bool {
+    match (from.row.get(k), from.forms.get(k)) {
+        (Some(range), Some(form)) => match form_of_known(*range, *form) {
+            Some(form) => is_shifted_by(shift, form, to),
+            None => false,
+        },
+        _ => false,
+    }
+}
+
+/// How many registers of a base follow the shift of one of them.
+fn followers(from: &Node, forms: &Forms, base: u8, anchor: usize) -> u32 {
+    let Some(shift) = shift_by(from, forms, anchor) else {
+        return 0;
+    };
+    let mut count = 0u32;
+    for k in 0..11 {
+        if let Some(to) = forms[k] {
+            if to.base == base && follows_shift(&shift, from, to, k) {
+                count = count.saturating_add(1);
+            }
+        }
+    }
+    count
+}
+
+/// The register of a base whose shift most others follow.
+fn best_anchor(from: &Node, forms: &Forms, base: u8) -> usize {
+    let mut best = 0;
+    let mut most = 0;
+    for k in 0..11 {
+        if let Some(to) = forms[k] {
+            let count = followers(from, forms, base, k);
+            if to.base == base && count > most {
+                best = k;
+                most = count;
+            }
+        }
+    }
+    best
+}
+
+/// The forms that both the old node and a new one have, of those that are given.
+fn common(from: &Node, forms: &Forms) -> Forms {
+    let mut left = *forms;
+    for k in 0..11 {
+        if let Some(to) = forms[k] {
+            let anchor = best_anchor(from, forms, to.base);
+            let is_kept = match shift_by(from, forms, anchor) {
+                Some(shift) => follows_shift(&shift, from, to, k),
+                None => false,
+            };
+            if !is_kept {
+                left[k] = None;
+            }
+        }
+    }
+    left
+}
+
+/// Whether a register had one number and no form.
+fn is_plain(known: Option<Range>, form: Option<Form>) -> bool {
+    form.is_none() && number_of(known).is_some()
+}
+
+/// Forms with those of one base of the new node, of registers that had one number each.
+fn with_adopted(old: &Node, from: &Node, forms: &Forms, base: u8) -> Forms {
+    let mut more = *forms;
+    if let Some(free) = free_base(forms) {
+        for k in 0..11 {
+            if let Some(form) = from.forms[k] {
+                if form.base == base && is_plain(old.row[k], old.forms[k]) {
+                    more[k] = Some(Form {
+                        base: free,
+                        times: form.times,
+                        plus: form.plus,
+                    });
+                }
+            }
+        }
+    }
+    more
+}
+
+/// Forms with those of the new node, of registers that had one number each.
+fn with_all_adopted(old: &Node, from: &Node, forms: &Forms) -> Forms {
+    let mut more = *forms;
+    for base in 0..BASES as u8 {
+        more = with_adopted(old, from, &more, base);
+    }
+    common(old, &more)
+}
+
+/// The forms of registers at a place that is as the old node says, or as the new one.
+pub fn tied(old: &Node, from: &Node, may_grow: bool) -> Forms {
+    if may_grow {
+        let grown = with_growth(old, from);
+        common(from, &with_all_adopted(old, from, &grown))
+    } else {
+        common(from, &old.forms)
+    }
+}
+
+/// What is known of registers by others that are tied to them.
+pub fn narrow_by_forms(row: &Row, forms: &Forms) -> Row {
+    let mut narrow = *row;
+    for k in 0..11 {
+        for other in 0..11 {
+            if other != k {
+                narrow[k] = refined(narrow[k], forms[k], forms[other], row[other]);
+            }
+        }
+    }
+    narrow
+}
