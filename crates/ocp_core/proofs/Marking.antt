@@ -74,14 +74,6 @@ not_full f xs capacity free within = below (length xs) capacity (subst (λ n. (n
     below : (n m : ℕ) → (n == m) ≡ false → n ≤ m → n + 1 ≤ m
     below n m apart within = grind (arith, nat_tests)
 
--- a command that is accepted is answered that it was done
-pub commanded : (r : Result (Unit {0}) DebugFault) (answer : Answer) → Commanded r ≡ answer → is_accepted answer ≡ true → Commanded (Ok tt) ≡ answer
-commanded (Ok done) answer is taken = is
-commanded (Err fault) answer is taken = absurd (contrary (ap is_accepted is ∙ taken))
-  where
-    contrary : false ≡ true → ⊥
-    contrary e = cc
-
 module _ {A : Type 0} where
   abbrev pub stored : Profile → ℕ → ℕ → ℕ → List (N.Entry A) → Log
   stored profile apid words capacity entries = record { profile = profile; apid = apid; words = words; capacity = capacity; entries = map entry_of entries }

@@ -142,9 +142,9 @@ pub fn command<S: Store, A: Allocator>(
     if store.is_full(&Note::Command { by, id, command }) {
         return Err(DebugFault::JournalFull);
     }
-    let result = state.command(id, command);
+    state.enact(id, command);
     store.push_command(by, id, command);
-    result
+    Ok(())
 }
 
 /// Writes the pool word at an index from outside: nothing else changes, and no memory is taken.
@@ -240,6 +240,6 @@ pub fn drain<S: RequestStore, A: Allocator>(
     if store.is_full(&Note::Drain { by, time }) {
         return Err(EngineFault::JournalFull);
     }
-    let kept = state.drain(keeper, time, packets)?;
+    let kept = state.report_due(keeper, time, packets)?;
     Ok(store.push_drain(by, time, kept))
 }

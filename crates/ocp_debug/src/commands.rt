@@ -30,20 +30,13 @@ pub fn fault_of<A: Allocator>(table: &Table<A>, id: u16, command: Command) -> Op
     }
 }
 
-/// Does a command. If it is refused, nothing changes.
-pub fn apply<A: Allocator>(
-    table: &mut Table<A>,
-    id: u16,
-    command: Command,
-) -> Result<(), DebugFault>
-    ensures answer { result ≡ command_result command id table.old.records }
-    ensures table { table.new ≡ table_by_command command id table.old }
+/// Does a command that is not refused.
+pub fn enact<A: Allocator>(table: &mut Table<A>, id: u16, command: Command)
+    requires { fault_on command (get table.old.records id) ≡ None }
+    ensures { table.new ≡ table_by_command command id table.old }
 {
-    if let Some(fault) = fault_of(table, id, command) {
-        return Err(fault);
-    }
     let Some(record) = table.record(id) else {
-        return Err(DebugFault::NotLoaded);
+        return;
     };
     let breakpoints = record.breakpoints.as_slice();
     match command {
@@ -57,6 +50,21 @@ pub fn apply<A: Allocator>(
         }
         Command::SetTrace(on) => table.set_traced(id, on),
     }
+}
+
+/// Does a command. If it is refused, nothing changes.
+pub fn apply<A: Allocator>(
+    table: &mut Table<A>,
+    id: u16,
+    command: Command,
+) -> Result<(), DebugFault>
+    ensures answer { result ≡ command_result command id table.old.records }
+    ensures table { table.new ≡ table_by_command command id table.old }
+{
+    if let Some(fault) = fault_of(table, id, command) {
+        return Err(fault);
+    }
+    enact(table, id, command);
     Ok(())
 }
 

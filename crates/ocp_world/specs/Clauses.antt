@@ -9,6 +9,7 @@ pub use Rattle.ocp_table.specs.Records.{Rec}
 pub use Rattle.ocp_table.specs.Effects.{Kept, Unasked, Failed}
 pub use Rattle.ocp_table.specs.Shown.{directive_of, HasFewArguments}
 pub use Rattle.ocp_debug.specs.declared.command.Command.{Command}
+pub use Rattle.ocp_debug.specs.Commands.{fault_on}
 pub use Rattle.ocp_reports.specs.Reports.{reports_of}
 pub use Rattle.ocp_world.specs.declared.answers.EngineFault.TheVariants.{Memory, JournalFull}
 pub use Rattle.ocp_world.specs.World.{World, Request, Drain, Event, Step, Debug, Put, opening}

@@ -1,7 +1,7 @@
 //! The drain: the completions that wait are reported.
 
 ghost use Rattle.std.specs.Prelude.{◌≡◌, ℕ, true, Err, IfOk};
-ghost use Rattle.ocp_world.specs.Clauses.{DoesIn, Drain, IsUndue, IsWorld, World, after, effect_of, with_packets};
+ghost use Rattle.ocp_world.specs.Clauses.{DoesIn, Drain, IsUndue, IsWorld, World, after, effect_of, is_accepted, with_packets};
 ghost use Rattle.ocp_world.specs.declared.answers.EngineFault.TheVariants as engine;
 
 use crate::{EngineFault, Keeps, State};
@@ -34,6 +34,23 @@ impl<A: Allocator> State<A> {
         if !self.is_due() {
             return Err(EngineFault::NothingDue);
         }
+        self.report_due(keeper, time, packets)
+    }
+
+    /// `drain` of a state in which a completion waits.
+    pub fn report_due<K: Keeps>(
+        &mut self,
+        keeper: &mut K,
+        time: u32,
+        packets: &mut PacketBuffer<A>,
+    ) -> Result<K::Kept, EngineFault>
+        requires { (w : World) (by : ℕ) → IsWorld w self.old →
+            is_accepted (after w (Drain by time)).answer ≡ true }
+        ensures does { (w : World) (by : ℕ) → IsWorld w self.old →
+            DoesIn w (effect_of w (Drain by time)) (with_packets result packets.new) self.new }
+        ensures kept { IfOk result (λ kept. K.holds kept packets.new) }
+        ensures memory { result ≡ Err engine.Memory → K.refused keeper.new ≡ true }
+    {
         self.sender
             .write_drained(time, self.table.outbox(), packets);
         let kept = keeper.keep(packets.packets())?;

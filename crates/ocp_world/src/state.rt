@@ -1,7 +1,7 @@
 //! What the engine keeps of its world.
 
 ghost use Rattle.std.specs.Prelude.{◌≡◌, ◌≤◌, ◌<◌, ℕ, List, true, false, None, Ok, Err, IfOk, IfSome, length};
-ghost use Rattle.ocp_world.specs.Clauses.{Commanded, Debug, Does, DoesIn, HasFewArguments, IsDebugFault, IsPutAt, IsRefusal, IsWorld, Kept, Put, Request as Asked, Sends, Step, Stepped, Unasked, World, after, command_effect, directive_effect, directive_of, effect_of, has_no_place, opening, option_to_list, reports_of, step_ended, telecommand_of, with_packets};
+ghost use Rattle.ocp_world.specs.Clauses.{Commanded, Debug, Does, DoesIn, HasFewArguments, IsDebugFault, IsPutAt, IsRefusal, IsWorld, Kept, Put, Request as Asked, Sends, Step, Stepped, Unasked, World, after, command_effect, directive_effect, directive_of, effect_of, fault_on, get, has_no_place, opening, option_to_list, reports_of, step_ended, telecommand_of, with_packets};
 ghost use Rattle.ocp_table.specs.RequestTable as directive;
 ghost use Rattle.ocp_world.specs.declared.answers.EngineFault.TheVariants as engine;
 
@@ -51,10 +51,22 @@ impl<A: Allocator> State<A> {
 
     /// Why a debugger's command is refused, if it is.
     pub fn fault_of(&self, id: u16, command: Command) -> Option<DebugFault>
-        ensures { (w : World) (by : ℕ) → IsWorld w self.now →
+        ensures value { result ≡ fault_on command (get self.now.table.records id) }
+        ensures answer { (w : World) (by : ℕ) → IsWorld w self.now →
             IsDebugFault (after w (Debug by id command)).answer result }
     {
         ocp_debug::fault_of(&self.table, id, command)
+    }
+
+    /// Does a debugger's command that is not refused.
+    pub fn enact(&mut self, id: u16, command: Command)
+        requires { fault_on command (get self.old.table.records id) ≡ None }
+        ensures world { (w : World) (by : ℕ) → IsWorld w self.old →
+            IsWorld (after w (Debug by id command)).world self.new }
+        ensures answer { (w : World) (by : ℕ) → IsWorld w self.old →
+            Commanded (Ok tt) ≡ (after w (Debug by id command)).answer }
+    {
+        ocp_debug::enact(&mut self.table, id, command);
     }
 
     /// Does a debugger's command.

@@ -46,7 +46,7 @@ push_drain-requires-clause-accepted g c =
 pub push_drain-requires-clause-mark : goal.push_drain-requires-clause-mark
 push_drain-requires-clause-mark g c =
     let w : World = world_of (g.S.Store.log c.args.store.now) in
-    (c.drain.new.packets, c.in_ok-kept.ensures.kept, sym (c.in_ok-kept.ensures.does w c.args.by c.requires.stands).0)
+    (c.report_due.new.packets, c.in_ok-kept.ensures.kept, sym (c.in_ok-kept.ensures.does w c.args.by c.requires.stands).0)
 
 pub returns-clause-answer : goal.returns-clause-answer
 returns-clause-answer g c =
@@ -55,7 +55,7 @@ returns-clause-answer g c =
     let taken = subst (IsUndue (after w e).answer) c.if-not-is_due.false (c.is_due.ensures w c.args.by c.args.time c.requires.stands) in
     let room = sym c.is_full.ensures ∙ c.if-is_full.false in
     let does = c.in_ok-kept.ensures.does w c.args.by c.requires.stands in
-    answers_at _ w e (Ok c.drain.new.packets) taken room does.0
+    answers_at _ w e (Ok c.report_due.new.packets) taken room does.0
 
 pub returns-clause-store : goal.returns-clause-store
 returns-clause-store g c =
@@ -70,3 +70,6 @@ returns-clause-world g c =
     let w : World = world_of (g.S.Store.log c.args.store.now) in
     let does = c.in_ok-kept.ensures.does w c.args.by c.requires.stands in
     IsWorld-pushed g.S.Store.log g.S.Store.with_entry g.met.S.Store.logs_entry c.args.store.now _ _ _ c.push_drain.ensures.store does.1
+
+pub report_due-requires : goal.report_due-requires
+report_due-requires g c w by stands = subst (IsUndue (after w (Drain by c.args.time)).answer) c.if-not-is_due.false (c.is_due.ensures w by c.args.time stands)
