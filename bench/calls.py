@@ -1,29 +1,29 @@
-"""Proves and builds crates/lib_driver, which times single calls of the library, and reads what it prints."""
+"""Proves and builds crates/lib_times, which times single calls of the library, and reads what it prints."""
 import os
 import subprocess
 
 ROOT = os.path.dirname(os.path.dirname(os.path.abspath(__file__)))
-CRATE = f"{ROOT}/crates/lib_driver"
-BELOW = f"{ROOT}/crates/ocp_seats/out"
+CRATE = f"{ROOT}/crates/lib_times"
+BELOW = f"{ROOT}/crates/ocp_core/out"
 
 
 def built():
-    """Proves the program if it is not proved yet, and gives its path; or None if the seats below it are not proved."""
+    """Proves the program if it is not proved yet, and gives its path; or None if the engine below it is not proved."""
     if not os.path.isdir(BELOW):
-        print("calls: skipped, ocp_seats is not proved yet")
+        print("calls: skipped, ocp_core is not proved yet")
         return None
     made = subprocess.run(["rt", "run"], cwd=CRATE, stdin=subprocess.DEVNULL, capture_output=True, text=True, check=False)
     if made.returncode:
         print(f"calls: skipped, not proved:\n{made.stdout}{made.stderr}")
         return None
-    return f"{CRATE}/out/lib_driver"
+    return f"{CRATE}/out/lib_times"
 
 
 def nanoseconds(program, rounds):
     """The least nanoseconds a call, by what was called and for how many units."""
     least = {}
     for _ in range(rounds):
-        said = subprocess.run([program, "time"], capture_output=True, text=True, check=True).stdout
+        said = subprocess.run([program], capture_output=True, text=True, check=True).stdout
         for line in said.splitlines():
             what, units, block, calls, *_ = line.split()
             row, took = (what, int(units)), int(block) / int(calls)
