@@ -1,10 +1,8 @@
-//! How answers are shown.
+//! How answers of an engine are shown.
 
-use crate::lines::{Both, Fault, Named, Octets, add_text, dash_if_empty, text_of};
-use ocp_core::{CommitOutcome, EngineFault, Reports, Round, Slice, StepOutcome};
-use std::alloc::Global;
+use crate::lines::*;
+use ocp_core::{CommitOutcome, EngineFault, Entry, Reports, Round, Slice, StepOutcome};
 use std::fmt;
-use std::fmt::Debug;
 
 /// The packets of reports, with spaces between them; `-` for none.
 #[derive(Clone, Copy)]
@@ -36,66 +34,58 @@ impl fmt::Display for Outcome {
 }
 
 /// `Ok` and the packets, or the fault.
-pub(crate) fn show_reports(
-    alloc: Global,
-    answer: &Result<Reports, EngineFault>,
-) -> Result<String, Fault> {
+pub(crate) fn show_reports(alloc: Global, answer: &Result<Reports, EngineFault>) -> Answer {
     match answer {
-        Ok(reports) => text_of(alloc, Both("Ok", Packets(reports))),
-        Err(fault) => show_fault(alloc, *fault),
-    }
-}
-
-fn show_fault(alloc: Global, fault: EngineFault) -> Result<String, Fault> {
-    match fault {
-        EngineFault::Memory => Err(Fault::Memory),
-        EngineFault::Discarded(cause) => text_of(alloc, Both("Discarded", Named(cause))),
-        fault => text_of(alloc, Named(fault)),
+        Ok(reports) => text!(alloc; "Ok", Packets(reports)),
+        Err(EngineFault::Memory) => Err(Fault::Memory),
+        Err(EngineFault::Discarded(cause)) => text!(alloc; "Discarded", Named(*cause)),
+        Err(fault) => name_of(alloc, *fault),
     }
 }
 
 /// How many instructions, and the outcome of the last one.
-pub(crate) fn show_slice(alloc: Global, slice: Slice) -> Result<String, Fault> {
-    text_of(alloc, Both(slice.count, Outcome(slice.last)))
+pub(crate) fn show_slice(alloc: Global, slice: Slice) -> Answer {
+    text!(alloc; slice.count, Outcome(slice.last))
 }
 
-pub(crate) fn show_commit(alloc: Global, outcome: CommitOutcome) -> Result<String, Fault> {
+pub(crate) fn show_commit(alloc: Global, outcome: CommitOutcome) -> Answer {
     match outcome {
-        CommitOutcome::Committed(count) => text_of(alloc, Both("Committed", count)),
-        outcome => text_of(alloc, Named(outcome)),
-    }
-}
-
-/// `Ok`, or the fault of a debugger's call or of a write of a pool word.
-pub(crate) fn show_done<F: Copy + Debug>(
-    alloc: Global,
-    done: Result<(), F>,
-) -> Result<String, Fault> {
-    match done {
-        Ok(()) => text_of(alloc, "Ok"),
-        Err(fault) => text_of(alloc, Named(fault)),
+        CommitOutcome::Committed(count) => text!(alloc; "Committed", count),
+        outcome => name_of(alloc, outcome),
     }
 }
 
 /// A round: how many, the last outcome, and the step that ended, if one did.
-pub(crate) fn show_round(alloc: Global, round: Round) -> Result<String, Fault> {
-    let done = Both(round.count, Outcome(round.last));
+pub(crate) fn show_round(alloc: Global, round: Round) -> Answer {
     match round.step {
-        Some(step) => text_of(alloc, Both(done, Both("step", step))),
-        None => text_of(alloc, done),
+        Some(step) => text!(alloc; round.count, Outcome(round.last), "step", step),
+        None => text!(alloc; round.count, Outcome(round.last)),
     }
 }
 
-/// What an answer shows as a text.
-pub(crate) trait Shown {
-    fn show(&self, alloc: Global) -> Result<String, Fault>;
+impl Shown for ocp_core::Answer {
+    fn show(&self, alloc: Global) -> Answer {
+        match self {
+            ocp_core::Answer::Requested(answer) => show_reports(alloc, answer),
+            ocp_core::Answer::Stepped(outcome) => text_of(alloc, Outcome(*outcome)),
+            ocp_core::Answer::Commanded(done) => show_done(alloc, *done),
+            ocp_core::Answer::Written(done) => show_done(alloc, *done),
+        }
+    }
 }
 
-/// The texts of all these, with a comma between two; `-` for none.
-pub(crate) fn show_all<T: Shown>(alloc: Global, all: &[T]) -> Result<String, Fault> {
-    let mut texts = String::new(alloc);
-    for one in all {
-        add_text(&mut texts, &one.show(alloc)?)?;
+impl Shown for Entry {
+    /// An entry with its mark.
+    fn show(&self, alloc: Global) -> Answer {
+        variant! { alloc, self, Entry;
+            Request { by, time, octets, mark } =>
+                *by, *time, Octets(octets.as_slice()), Packets(mark);
+            Steps { by, id, count, mark } => *by, *id, *count, Outcome(*mark);
+            SetBreak { by, id, place } => *by, *id, *place;
+            ClearBreak { by, id, place } => *by, *id, *place;
+            Trace { by, id, on } => *by, *id, *on;
+            Drain { by, time, mark } => *by, *time, Packets(mark);
+            PutWord { by, index, value } => *by, *index, *value;
+        }
     }
-    dash_if_empty(texts)
 }

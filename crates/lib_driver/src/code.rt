@@ -2,35 +2,32 @@
 
 ghost use Rattle.std.specs.Prelude.{◌+◌, ◌*◌, ◌≤◌, length, IsTrue};
 
-use crate::lines::{Both, Fault, Named, Octets, Output, Text, number, octets, or_memory, text_of};
+use crate::lines::*;
 use bpf_canonical::{Mnemonic, Stem, read_mnemonic};
-use bpf_decode::{Slots, decode_at, encode};
+use bpf_decode::{decode_at, encode};
 use bpf_listing::{disassemble, line_text};
-use bpf_text::{LineFault, TextLine};
+use bpf_text::TextLine;
 use bpf_types::Line;
-use std::alloc::Global;
 
 /// The octets of a slot.
 const SLOT: usize = 8;
 
-/// The answer of a call, whose last word says octets, but for that of a slot.
-pub(crate) fn answer(alloc: Global, words: &[&str]) -> Result<String, Fault> {
-    match words {
-        ["bpf_decode.decode_at", code, slot] => decode(alloc, &octets(alloc, code)?, slot),
-        [name, arguments @ .., text] => call(alloc, name, arguments, &octets(alloc, text)?),
-        _ => Err(Fault::Syntax),
-    }
-}
-
-fn call(alloc: Global, name: &str, words: &[&str], text: &[u8]) -> Result<String, Fault> {
-    match (name, words) {
-        ("bpf_decode.encode", []) => spell(alloc, text),
-        ("bpf_listing.disassemble", [before]) => list(alloc, text, before),
-        ("bpf_listing.read_line", []) => read_canonical(alloc, text, "-"),
-        ("bpf_listing.read_line", [before]) => read_canonical(alloc, text, before),
-        ("bpf_canonical.read_mnemonic", []) => mnemonic(alloc, text),
-        ("bpf_text.read_line", []) => read_line(alloc, text),
-        _ => Err(Fault::Syntax),
+/// The answer of a call.
+pub(crate) fn answer(alloc: Global, words: &[&str]) -> Answer {
+    table! { alloc, words;
+        "bpf_canonical.read_mnemonic" text: octets => {
+            text_of(alloc, mnemonic_name(some!(alloc, read_mnemonic(&text))))
+        };
+        "bpf_decode.decode_at" image: octets slot: number => decode(alloc, &image, slot);
+        "bpf_decode.encode" image: octets => {
+            text_of(alloc, Octets(encode(line_of(&image)?).as_slice()))
+        };
+        "bpf_listing.disassemble" before image: octets => {
+            append!(alloc, before, Text, out => disassemble(&image, out))
+        };
+        "bpf_listing.read_line" text: octets => read_canonical(alloc, "-", &text);
+        "bpf_listing.read_line" before text: octets => read_canonical(alloc, before, &text);
+        "bpf_text.read_line" text: octets => read_line(alloc, &text);
     }
 }
 
@@ -41,14 +38,13 @@ fn has_slot(code: &[u8], slot: usize) -> bool
     slot < code.len() / SLOT
 }
 
-fn decode(alloc: Global, code: &[u8], slot: &str) -> Result<String, Fault> {
-    let slot = number(slot)?;
+fn decode(alloc: Global, code: &[u8], slot: usize) -> Answer {
     if !has_slot(code, slot) {
         return Err(Fault::Syntax);
     }
     match decode_at(code, slot) {
-        Ok(line) => text_of(alloc, Both("Ok", Named(line))),
-        Err(fault) => text_of(alloc, Named(fault)),
+        Ok(line) => text!(alloc; "Ok", Named(line)),
+        Err(fault) => name_of(alloc, fault),
     }
 }
 
@@ -63,51 +59,18 @@ pub(crate) fn line_of(code: &[u8]) -> Result<Line, Fault> {
     }
 }
 
-fn spell(alloc: Global, code: &[u8]) -> Result<String, Fault> {
-    if !has_slot(code, 0) {
-        return Err(Fault::Syntax);
-    }
-    match decode_at(code, 0) {
-        Ok(line) => show_spelling(alloc, line),
-        Err(_) => Err(Fault::Syntax),
-    }
-}
-
-fn show_spelling(alloc: Global, line: Line) -> Result<String, Fault> {
-    let slots = encode(line);
-    text_of(alloc, Octets(slots.as_slice()))
-}
-
-fn list(alloc: Global, code: &[u8], before: &str) -> Result<String, Fault> {
-    let mut output = Output::before(alloc, before)?;
-    let done = disassemble(code, &mut output.octets);
-    output.show(alloc, done, Text(&output.octets))
-}
-
 /// Reads a canonical text, and writes the line that it means behind the octets.
-fn read_canonical(alloc: Global, text: &[u8], before: &str) -> Result<String, Fault> {
-    match bpf_listing::read_line(text) {
-        Some(line) => write_canonical(alloc, line, before),
-        None => text_of(alloc, "None"),
-    }
-}
-
-fn write_canonical(alloc: Global, line: Line, before: &str) -> Result<String, Fault> {
-    let mut output = Output::before(alloc, before)?;
-    let done = or_memory(line_text(line, &mut output.octets));
-    output.show(alloc, done, Text(&output.octets))
-}
-
-fn mnemonic(alloc: Global, text: &[u8]) -> Result<String, Fault> {
-    match read_mnemonic(text) {
-        Some(mnemonic) => text_of(alloc, mnemonic_name(mnemonic)),
-        None => text_of(alloc, "None"),
-    }
+fn read_canonical(alloc: Global, before: &str, text: &[u8]) -> Answer {
+    let line = some!(alloc, bpf_listing::read_line(text));
+    append!(alloc, before, Text, out => or_memory(line_text(line, out)))
 }
 
 fn mnemonic_name(mnemonic: Mnemonic) -> &'static str {
     match mnemonic {
-        Mnemonic::Classed(stem, _) => stem_name(stem),
+        Mnemonic::Classed(Stem::Arithmetic(_), _) => "Arithmetic",
+        Mnemonic::Classed(Stem::Negate, _) => "Negate",
+        Mnemonic::Classed(Stem::MoveExtended, _) => "MoveExtended",
+        Mnemonic::Classed(Stem::JumpIf(_), _) => "Jump If",
         Mnemonic::ByteOrder(_) => "ByteOrder",
         Mnemonic::LoadWide => "LoadWide",
         Mnemonic::Load(_)
@@ -121,41 +84,18 @@ fn mnemonic_name(mnemonic: Mnemonic) -> &'static str {
     }
 }
 
-fn stem_name(stem: Stem) -> &'static str {
-    match stem {
-        Stem::Arithmetic(_) => "Arithmetic",
-        Stem::Negate => "Negate",
-        Stem::MoveExtended => "MoveExtended",
-        Stem::JumpIf(_) => "Jump If",
-    }
-}
-
-/// The label of a line, and the octets of its instruction.
-fn read_line(alloc: Global, text: &[u8]) -> Result<String, Fault> {
+/// The label of a line, and the octets of its instruction; `-` for one that it does not have.
+fn read_line(alloc: Global, text: &[u8]) -> Answer {
     match bpf_text::read_line(text) {
-        Ok(parsed) => {
-            let TextLine { label, body } = parsed;
+        Ok(TextLine { label, body }) => {
+            let label = Text(label.unwrap_or(&[]));
             match body {
-                Some(statement) => show_labelled(alloc, label, encode(statement.line)),
-                None => show_label(alloc, label),
+                Some(statement) => {
+                    text!(alloc; "Ok", label, Octets(encode(statement.line).as_slice()))
+                }
+                None => text!(alloc; "Ok", label, "-"),
             }
         }
-        Err(LineFault::Syntax) => text_of(alloc, "Syntax"),
-        Err(LineFault::Range) => text_of(alloc, "Range"),
-    }
-}
-
-fn show_label(alloc: Global, label: Option<&[u8]>) -> Result<String, Fault> {
-    match label {
-        Some(name) => text_of(alloc, Both("Ok", Both(Text(name), "-"))),
-        None => text_of(alloc, "Ok - -"),
-    }
-}
-
-fn show_labelled(alloc: Global, label: Option<&[u8]>, slots: Slots) -> Result<String, Fault> {
-    let octets = Octets(slots.as_slice());
-    match label {
-        Some(name) => text_of(alloc, Both("Ok", Both(Text(name), octets))),
-        None => text_of(alloc, Both("Ok -", octets)),
+        Err(fault) => name_of(alloc, fault),
     }
 }

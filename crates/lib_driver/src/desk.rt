@@ -1,11 +1,10 @@
-//! What lines before made: an engine, its tickets and works, and a table.
+//! What earlier lines made: an engine, its tickets and works, and a table.
 
-use crate::engines::{answer, engine_of};
-use crate::lines::{Calls, Fault, Reply, text_of};
+use crate::engines::{engine_answer, engine_of};
+use crate::lines::*;
 use crate::runs::Runs;
-use crate::tables::{Tables, table_answer};
+use crate::tables::{Tables, debug_answer, table_answer};
 use ocp_core::Engine;
-use std::alloc::Global;
 
 /// The engine made last, its tickets and works, and the table made last.
 #[derive(Drop)]
@@ -32,20 +31,21 @@ impl Desk {
         self.engine = engine;
     }
 
-    /// Makes an engine, in the place of the one before, without tickets and works.
-    fn begin(&mut self, alloc: Global, words: &[&str]) -> Result<String, Fault> {
-        self.engine = Some(engine_of(alloc, words)?);
-        self.runs = Runs::new(alloc);
-        text_of(alloc, "Ok")
-    }
-
-    /// The text that a call is answered.
-    fn text(&mut self, alloc: Global, words: &[&str]) -> Result<String, Fault> {
+    /// The text that a call is answered. A new engine replaces the one before, with its tickets and
+    /// works.
+    fn text(&mut self, alloc: Global, words: &[&str]) -> Answer {
         match words {
-            ["ocp_core.new", wanted @ ..] => self.begin(alloc, wanted),
+            ["ocp_core.new", wanted @ ..] => {
+                self.engine = Some(engine_of(alloc, wanted)?);
+                self.runs = Runs::new(alloc);
+                text_of(alloc, "Ok")
+            }
             [name, ..] if name.starts_with("ocp_core.") => {
                 let engine = self.engine.as_mut().ok_or(Fault::Syntax)?;
-                answer(engine, &mut self.runs, alloc, words)
+                engine_answer(engine, &mut self.runs, alloc, words)
+            }
+            [name, ..] if name.starts_with("ocp_debug.") => {
+                debug_answer(&mut self.tables, alloc, words)
             }
             _ => table_answer(&mut self.tables, alloc, words),
         }

@@ -1,24 +1,141 @@
-//! Calls that make an engine, or change it.
+//! Calls that make an engine, or change it: by itself, or by the book of its seats.
 
 ghost use Rattle.std.specs.Prelude.{◌≤◌, IfOk};
 
-use crate::answers::{Outcome, show_commit, show_done, show_reports, show_round, show_slice};
+use crate::answers::{Outcome, show_commit, show_reports, show_round, show_slice};
 use crate::events::run;
-use crate::lines::{Fault, flag, number, octets, or_memory, profile_of, text_of};
+use crate::lines::*;
 use crate::runs::Runs;
 use crate::views;
-use ocp_core::{Engine, Work};
+use ocp_core::input::{DebuggerCommand, Drain, PutWord, Request, Step};
+use ocp_core::{Command, CommitOutcome, Engine, Input, Slice, Work};
 use ocp_profile::{MAX_APID, MAX_CAPACITY, MAX_POOL_WORDS, Profile};
-use std::alloc::Global;
+use ocp_seats::{Book, Naming, Seat};
 
-/// An engine of a profile, an application process identifier, so many pool words, and so many
+/// What inputs are applied to, for one who asks: an engine for a number, or a book for a seat.
+pub(crate) trait Asked {
+    type By;
+
+    fn ask<I: Input<Global>>(&mut self, by: &mut Self::By, input: I) -> I::Answer;
+
+    fn ask_slice(&mut self, by: &mut Self::By, id: u16, budget: u32) -> Slice
+        requires { 1 ≤ budget };
+
+    fn ask_commit(&mut self, by: &mut Self::By, work: Work) -> CommitOutcome;
+}
+
+impl Asked for Engine {
+    type By = u16;
+
+    fn ask<I: Input<Global>>(&mut self, by: &mut u16, input: I) -> I::Answer {
+        let (answer, _receipt) = self.apply(*by, input);
+        answer
+    }
+
+    fn ask_slice(&mut self, by: &mut u16, id: u16, budget: u32) -> Slice {
+        self.slice(*by, id, budget)
+    }
+
+    fn ask_commit(&mut self, by: &mut u16, work: Work) -> CommitOutcome {
+        self.commit(*by, work)
+    }
+}
+
+impl<L: Naming> Asked for Book<L> {
+    type By = Seat<L>;
+
+    fn ask<I: Input<Global>>(&mut self, by: &mut Seat<L>, input: I) -> I::Answer {
+        self.apply(by, input)
+    }
+
+    fn ask_slice(&mut self, by: &mut Seat<L>, id: u16, budget: u32) -> Slice {
+        self.slice(by, id, budget)
+    }
+
+    fn ask_commit(&mut self, by: &mut Seat<L>, work: Work) -> CommitOutcome {
+        self.commit(by, work)
+    }
+}
+
+/// The answer of a call that asks an engine or a book for a change.
+pub(crate) fn answer<T: Asked>(
+    to: &mut T,
+    by: &mut T::By,
+    runs: &mut Runs,
+    alloc: Global,
+    words: &[&str],
+) -> Answer {
+    table! { alloc, words;
+        "ocp_core.request" | "ocp_seats.request" seat time: number packet: octets => {
+            let request = Request { alloc, time, octets: &packet };
+            show_reports(alloc, &to.ask(by, request))
+        };
+        "ocp_core.drain" | "ocp_seats.drain" seat time: number => {
+            show_reports(alloc, &to.ask(by, Drain { alloc, time }))
+        };
+        "ocp_core.step" | "ocp_seats.step" seat id: number => {
+            text_of(alloc, Outcome(to.ask(by, Step { id })))
+        };
+        "ocp_core.slice" | "ocp_seats.slice" seat id: number budget: budget_of => {
+            show_slice(alloc, to.ask_slice(by, id, budget))
+        };
+        "ocp_core.put_word" | "ocp_seats.put_word" seat index: number value: number => {
+            show_done(alloc, to.ask(by, PutWord { index, value }))
+        };
+        "ocp_core.set_break" | "ocp_seats.set_break" seat id: number slot: number => {
+            let command = Command::SetBreak(slot);
+            show_done(alloc, to.ask(by, DebuggerCommand { id, command }))
+        };
+        "ocp_core.clear_break" | "ocp_seats.clear_break" seat id: number slot: number => {
+            let command = Command::ClearBreak(slot);
+            show_done(alloc, to.ask(by, DebuggerCommand { id, command }))
+        };
+        "ocp_core.trace" | "ocp_seats.trace" seat id: number on: flag => {
+            let command = Command::SetTrace(on);
+            show_done(alloc, to.ask(by, DebuggerCommand { id, command }))
+        };
+        "ocp_core.commit" | "ocp_seats.commit" seat work: number => {
+            show_commit(alloc, to.ask_commit(by, runs.work(work)?))
+        };
+    }
+}
+
+/// The answer of a call of an engine.
+pub(crate) fn engine_answer(
+    engine: &mut Engine,
+    runs: &mut Runs,
+    alloc: Global,
+    words: &[&str],
+) -> Answer {
+    table! { alloc, words;
+        "ocp_core.run" [events] => run(engine, alloc, events);
+        "ocp_core.round" seat: number id: number budget: budget_of => {
+            show_round(alloc, engine.round(seat, id, budget))
+        };
+        else match *words {
+            ["ocp_core.run_ticket" | "ocp_core.memory", ..] | [_] | [_, _] => {
+                views::answer(engine, runs, alloc, words)
+            }
+            [_, by, ..] => answer(engine, &mut number_of(by)?, runs, alloc, words),
+            _ => Err(Fault::Syntax),
+        }
+    }
+}
+
+/// An engine of a profile, an application process identifier, and numbers of pool words and of
 /// entries, in words.
 pub(crate) fn engine_of(alloc: Global, words: &[&str]) -> Result<Engine, Fault> {
     let [profile, apid, count, capacity] = *words else {
         return Err(Fault::Syntax);
     };
-    let (apid, count) = (number(apid)?, number(count)?);
-    new_engine(alloc, profile_of(profile)?, apid, count, number(capacity)?)
+    let (apid, count) = (number_of(apid)?, number_of(count)?);
+    new_engine(
+        alloc,
+        profile_of(profile)?,
+        apid,
+        count,
+        number_of(capacity)?,
+    )
 }
 
 fn new_engine(
@@ -38,117 +155,11 @@ fn new_engine(
 }
 
 /// The budget of a word: at least one instruction.
-pub(crate) fn budget_of(word: &str) -> Result<u32, Fault>
+fn budget_of(word: &str) -> Result<u32, Fault>
     ensures { IfOk result (λ budget. 1 ≤ budget) }
 {
-    match number::<u32>(word)? {
+    match number_of::<u32>(word)? {
         0 => Err(Fault::Syntax),
         budget => Ok(budget),
-    }
-}
-
-/// The answer of a call.
-pub(crate) fn answer(
-    engine: &mut Engine,
-    runs: &mut Runs,
-    alloc: Global,
-    words: &[&str],
-) -> Result<String, Fault> {
-    match words {
-        ["ocp_core.run", events @ ..] => run(engine, alloc, events),
-        ["ocp_core.commit", by, work] => commit(engine, alloc, number(by)?, runs.work(work)?),
-        ["ocp_core.run_ticket" | "ocp_core.memory", ..] | [_] | [_, _] => {
-            views::answer(engine, runs, alloc, words)
-        }
-        [name, by, arguments @ ..] => event(engine, alloc, name, number(by)?, arguments),
-        _ => Err(Fault::Syntax),
-    }
-}
-
-/// The answer of a call that is an event of an originator.
-fn event(
-    engine: &mut Engine,
-    alloc: Global,
-    name: &str,
-    by: u16,
-    words: &[&str],
-) -> Result<String, Fault> {
-    match (name, words) {
-        ("ocp_core.request", [time, packet]) => request(engine, alloc, by, time, packet),
-        ("ocp_core.drain", [time]) => drain(engine, alloc, by, number(time)?),
-        ("ocp_core.step", [id]) => step(engine, alloc, by, number(id)?),
-        ("ocp_core.slice", [id, budget]) => {
-            slice(engine, alloc, by, number(id)?, budget_of(budget)?)
-        }
-        ("ocp_core.round", [id, budget]) => {
-            round(engine, alloc, by, number(id)?, budget_of(budget)?)
-        }
-        ("ocp_core.put_word", [index, value]) => {
-            put_word(engine, alloc, by, number(index)?, number(value)?)
-        }
-        (_, [id, argument]) => command(engine, alloc, name, by, number(id)?, argument),
-        _ => Err(Fault::Syntax),
-    }
-}
-
-fn request(
-    engine: &mut Engine,
-    alloc: Global,
-    by: u16,
-    time: &str,
-    packet: &str,
-) -> Result<String, Fault> {
-    let (time, packet) = (number(time)?, octets(alloc, packet)?);
-    show_reports(alloc, &engine.request(alloc, by, time, &packet))
-}
-
-fn drain(engine: &mut Engine, alloc: Global, by: u16, time: u32) -> Result<String, Fault> {
-    show_reports(alloc, &engine.drain(alloc, by, time))
-}
-
-fn step(engine: &mut Engine, alloc: Global, by: u16, id: u16) -> Result<String, Fault> {
-    text_of(alloc, Outcome(engine.step(by, id)))
-}
-
-fn slice(engine: &mut Engine, alloc: Global, by: u16, id: u16, budget: u32) -> Result<String, Fault>
-    requires { 1 ≤ budget }
-{
-    show_slice(alloc, engine.slice(by, id, budget))
-}
-
-fn round(engine: &mut Engine, alloc: Global, by: u16, id: u16, budget: u32) -> Result<String, Fault>
-    requires { 1 ≤ budget }
-{
-    show_round(alloc, engine.round(by, id, budget))
-}
-
-fn put_word(
-    engine: &mut Engine,
-    alloc: Global,
-    by: u16,
-    index: u64,
-    value: u64,
-) -> Result<String, Fault> {
-    show_done(alloc, engine.put_word(by, index, value))
-}
-
-fn commit(engine: &mut Engine, alloc: Global, by: u16, work: Work) -> Result<String, Fault> {
-    show_commit(alloc, engine.commit(by, work))
-}
-
-/// The answer of a debugger's call.
-fn command(
-    engine: &mut Engine,
-    alloc: Global,
-    name: &str,
-    by: u16,
-    id: u16,
-    argument: &str,
-) -> Result<String, Fault> {
-    match name {
-        "ocp_core.set_break" => show_done(alloc, engine.set_break(by, id, number(argument)?)),
-        "ocp_core.clear_break" => show_done(alloc, engine.clear_break(by, id, number(argument)?)),
-        "ocp_core.trace" => show_done(alloc, engine.trace(by, id, flag(argument)?)),
-        _ => Err(Fault::Syntax),
     }
 }

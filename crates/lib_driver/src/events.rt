@@ -1,122 +1,62 @@
 //! A list of events in words, and the run of it.
 
-use crate::answers::{Outcome, Shown, show_all, show_done, show_reports};
-use crate::lines::{Both, Fault, flag, number, octets, text_of};
-use ocp_core::{Answer, Engine, Event, RunFault};
-use std::alloc::Global;
+use crate::lines::*;
+use ocp_core::{Engine, Event, RunFault};
 
-/// Does the events of these words, with a comma between two, and shows the answers; where the run
-/// ended before one of them, the refusal and its index before the answers.
-pub(crate) fn run(engine: &mut Engine, alloc: Global, words: &[&str]) -> Result<String, Fault> {
-    let groups = groups(alloc, words)?;
-    let payloads = payloads(alloc, &groups)?;
-    let events = events(alloc, &groups, &payloads)?;
+/// Does the events of these words, with commas between them, and shows the answers. If the run
+/// ended before one of them, the refusal and its index come first.
+pub(crate) fn run(engine: &mut Engine, alloc: Global, words: &[&str]) -> Answer {
+    let mut payloads = Vec::new(alloc);
+    for group in words.split(|word| *word == ",") {
+        payloads.push(payload_of(alloc, group)?)?;
+    }
+    let events = events(alloc, words, &payloads)?;
     show_run(alloc, engine.run(alloc, &events))
 }
 
-/// The words of each event.
-fn groups<'a, 'b>(alloc: Global, words: &'b [&'a str]) -> Result<Vec<&'b [&'a str]>, Fault> {
-    let mut groups = Vec::new(alloc);
-    for group in words.split(|word| *word == ",") {
-        groups.push(group)?;
+/// The octets that an event carries: those of a request.
+fn payload_of(alloc: Global, words: &[&str]) -> Result<Vec<u8>, Fault> {
+    match *words {
+        ["Request", _, _, packet] => octets(alloc, packet),
+        _ => Ok(Vec::new(alloc)),
     }
-    Ok(groups)
-}
-
-/// The octets that each event carries: those of a request.
-fn payloads(alloc: Global, groups: &[&[&str]]) -> Result<Vec<Vec<u8>>, Fault> {
-    let mut payloads = Vec::new(alloc);
-    for group in groups {
-        payloads.push(match **group {
-            ["Request", _, _, packet] => octets(alloc, packet)?,
-            _ => Vec::new(alloc),
-        })?;
-    }
-    Ok(payloads)
 }
 
 fn events<'a>(
     alloc: Global,
-    groups: &[&[&str]],
+    words: &[&str],
     payloads: &'a [Vec<u8>],
 ) -> Result<Vec<Event<'a>>, Fault> {
     let mut events = Vec::new(alloc);
-    for (group, octets) in groups.iter().zip(payloads.iter()) {
-        events.push(event(*group, octets.as_slice())?)?;
+    for (group, octets) in words.split(|word| *word == ",").zip(payloads.iter()) {
+        events.push(event(group, octets.as_slice())?)?;
     }
     Ok(events)
 }
 
 fn event<'a>(words: &[&str], octets: &'a [u8]) -> Result<Event<'a>, Fault> {
-    let [name, by, arguments @ ..] = words else {
-        return Err(Fault::Syntax);
-    };
-    let by = number(by)?;
-    match (*name, arguments) {
-        ("Request", [time, _]) => {
-            let time = number(time)?;
-            Ok(Event::Request { by, time, octets })
-        }
-        ("Drain", [time]) => {
-            let time = number(time)?;
-            Ok(Event::Drain { by, time })
-        }
-        ("Step", [id]) => {
-            let id = number(id)?;
-            Ok(Event::Step { by, id })
-        }
-        ("PutWord", [index, value]) => {
-            let (index, value) = (number(index)?, number(value)?);
-            Ok(Event::PutWord { by, index, value })
-        }
-        (_, [id, argument]) => command(name, by, number(id)?, argument),
-        _ => Err(Fault::Syntax),
+    table! { (), words;
+        "Request" by: number time: number packet => Ok(Event::Request { by, time, octets });
+        "Drain" by: number time: number => Ok(Event::Drain { by, time });
+        "Step" by: number id: number => Ok(Event::Step { by, id });
+        "PutWord" by: number index: number value: number => Ok(Event::PutWord { by, index, value });
+        "SetBreak" by: number id: number place: number => Ok(Event::SetBreak { by, id, place });
+        "ClearBreak" by: number id: number place: number => Ok(Event::ClearBreak { by, id, place });
+        "Trace" by: number id: number on: flag => Ok(Event::Trace { by, id, on });
     }
 }
 
-/// The event of a debugger's call.
-fn command<'a>(name: &str, by: u16, id: u16, argument: &str) -> Result<Event<'a>, Fault> {
-    match name {
-        "SetBreak" => {
-            let place = number(argument)?;
-            Ok(Event::SetBreak { by, id, place })
-        }
-        "ClearBreak" => {
-            let place = number(argument)?;
-            Ok(Event::ClearBreak { by, id, place })
-        }
-        "Trace" => {
-            let on = flag(argument)?;
-            Ok(Event::Trace { by, id, on })
-        }
-        _ => Err(Fault::Syntax),
-    }
-}
-
-fn show_run(alloc: Global, ended: Result<Vec<Answer>, RunFault>) -> Result<String, Fault> {
+fn show_run(alloc: Global, ended: Result<Vec<ocp_core::Answer>, RunFault>) -> Answer {
     match ended {
-        Ok(answers) => show_answers(alloc, &answers),
-        Err(fault) => show_run_fault(alloc, &fault),
+        Ok(answers) => {
+            let texts = show_all(alloc, &answers)?;
+            text!(alloc; "Ok:", texts.as_str())
+        }
+        Err(fault) => show_fault(alloc, &fault),
     }
 }
 
-fn show_answers(alloc: Global, answers: &[Answer]) -> Result<String, Fault> {
-    let texts = show_all(alloc, answers)?;
-    text_of(alloc, Both("Ok:", texts.as_str()))
-}
-
-fn show_run_fault(alloc: Global, fault: &RunFault) -> Result<String, Fault> {
+fn show_fault(alloc: Global, fault: &RunFault) -> Answer {
     let texts = show_all(alloc, &fault.answers)?;
     Ok(format!(in alloc; "{:?} {}: {texts}", fault.refusal, fault.index)?)
-}
-
-impl Shown for Answer {
-    fn show(&self, alloc: Global) -> Result<String, Fault> {
-        match self {
-            Answer::Requested(answer) => show_reports(alloc, answer),
-            Answer::Stepped(outcome) => text_of(alloc, Outcome(*outcome)),
-            Answer::Commanded(done) => show_done(alloc, *done),
-            Answer::Written(done) => show_done(alloc, *done),
-        }
-    }
 }

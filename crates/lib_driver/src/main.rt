@@ -1,21 +1,98 @@
 //! `lib_driver`: calls of the libraries, a line each, and what they answer, a line each. The form
 //! of a line is that of `lines`.
 //!
-//! A line makes a thing, as an engine, a table, a machine or a pool, and those behind it are calls
-//! of the one made last. `ocp_seats.new` makes a book of the engine; from there on the lines are
-//! calls of the book and of what it shows of the engine, up to a `close` that gives the engine
-//! back.
-//!
-//! With the word `time` it reads no lines: it times single calls of the library, many times over,
-//! and with `time once` it does each of them once.
+//! A line makes a thing, as an engine, a table, a machine or a pool, and later lines are calls of
+//! the one made last. `ocp_seats.new` makes a book of the engine; from there on the lines are calls
+//! of the book and of what it shows of the engine, up to a `close` that gives the engine back.
 #![tactic(auto)]
+
+/// A table of names: the values of variants by their own names.
+macro_rules! names {
+    ($type:ident: $($variant:ident),+) => {
+        &[$((stringify!($variant), $type::$variant)),+]
+    };
+}
+
+/// Values, with spaces between them.
+macro_rules! words {
+    ($one:expr) => { $one };
+    ($one:expr, $($more:expr),+) => { Both($one, words!($($more),+)) };
+}
+
+/// The text of values, with spaces between them.
+macro_rules! text {
+    ($alloc:expr; $($word:expr),+) => { text_of($alloc, words!($($word),+)) };
+}
+
+/// The value of an option. Without one the answer is `None`.
+macro_rules! some {
+    ($alloc:expr, $value:expr) => {
+        match $value {
+            Some(value) => value,
+            None => return text_of($alloc, "None"),
+        }
+    };
+}
+
+/// The text of a variant: its name, and values of its fields.
+macro_rules! variant {
+    ($alloc:expr, $value:expr, $type:ident;
+            $($variant:ident { $($field:ident),+ } => $($word:expr),+;)+
+            $([$pattern:pat] => $other:expr;)*) => {
+        match $value {
+            $($type::$variant { $($field),+ } => {
+                text!($alloc; stringify!($variant), $($word),+)
+            })+
+            $($pattern => $other,)*
+        }
+    };
+}
+
+/// Has a call append to the octets of a word, and shows how it ended and what the octets are then.
+macro_rules! append {
+    ($alloc:expr, $before:expr, $form:ident, $out:ident => $done:expr) => {{
+        let mut output = Output::before($alloc, $before)?;
+        let $out = &mut output.octets;
+        let done = $done;
+        output.show($alloc, done, $form(&output.octets))
+    }};
+}
+
+/// What a word says, by the kind of the argument or by the function that reads it.
+macro_rules! read {
+    (number, $alloc:expr, $word:expr) => { number_of($word)? };
+    (flag, $alloc:expr, $word:expr) => { flag_of($word)? };
+    (profile, $alloc:expr, $word:expr) => { profile_of($word)? };
+    (octets, $alloc:expr, $word:expr) => { octets($alloc, $word)? };
+    (id, $alloc:expr, $word:expr) => { id_of($alloc, $word)? };
+    ($reader:ident, $alloc:expr, $word:expr) => { $reader($word)? };
+}
+
+/// What words say by a table. A row has names, of which the first word is one, the other words with
+/// their kinds, any further words in brackets, and what they say. Words of no row are for `else`.
+macro_rules! table {
+    ($alloc:expr, $words:expr; $($($name:literal)|+ $($word:ident $(: $kind:ident)?)*
+            $([$others:ident])? => $answer:expr;)+) => {
+        table!($alloc, $words; $($($name)|+ $($word $(: $kind)?)* $([$others])? => $answer;)+
+            else Err(Fault::Syntax))
+    };
+    ($alloc:expr, $words:expr; $($($name:literal)|+ $($word:ident $(: $kind:ident)?)*
+            $([$others:ident])? => $answer:expr;)+ else $other:expr) => {
+        match *$words {
+            $([$($name)|+, $($word,)* $(ref $others @ ..)?] => {
+                $($(let $word = read!($kind, $alloc, $word);)?)*
+                $answer
+            })+
+            _ => $other,
+        }
+    };
+}
 
 mod answers;
 mod code;
 mod command_line;
 mod desk;
 mod engines;
-mod entries;
 mod events;
 mod failures;
 mod fields;
@@ -29,31 +106,50 @@ mod requests;
 mod runs;
 mod seats;
 mod tables;
-mod times;
-mod traces;
 mod views;
 
 ghost use Rattle.std.specs.Prelude.{◌≡◌, ◌+◌, length};
 
 use crate::desk::Desk;
-use crate::lines::{Calls, End, Fault, Reply, Script, answer_lines, exit_code};
-use crate::machines::Made;
+use crate::lines::*;
+use crate::pools::Words;
 use crate::seats::Shared;
+use bpf_step::Machine;
+use ocp_regions::Regions;
 use ocp_seats::{Engine, Naming};
-use std::alloc::Global;
+use std::io;
 use std::marker::Brand;
 use std::process::ExitCode;
 use std::sync::ledger::Blank;
-use std::{env, io};
 
-/// How often a block of calls is done where the least time is wanted.
-const BLOCKS: u32 = 200;
-
-/// What lines before made.
+/// What earlier lines made. The first memory and the first machine have the number 0.
 #[derive(Drop)]
 struct Things {
     desk: Desk,
-    made: Made,
+    memories: Vec<Regions>,
+    machines: Vec<Machine>,
+    words: Words,
+}
+
+impl Things {
+    /// The answer of a call of a library below the engine.
+    fn text(&mut self, alloc: Global, library: &str, words: &[&str]) -> Answer {
+        match library {
+            "space_packet" => packets::answer(alloc, words),
+            "pus_fields" => fields::answer(alloc, words),
+            "obcp_types" | "verification" => failures::answer(alloc, words),
+            "obcp_messages" => requests::answer(alloc, words),
+            "bpf_canonical" | "bpf_decode" | "bpf_listing" | "bpf_text" => {
+                code::answer(alloc, words)
+            }
+            "bpf_assembler" | "ocp_loader" => images::answer(alloc, words),
+            "ocp_regions" => machines::memory_answer(&mut self.memories, alloc, words),
+            "bpf_step" => machines::machine_answer(&mut self.machines, alloc, words),
+            "ocp_pool" => pools::answer(&mut self.words, &mut self.machines, alloc, words),
+            "ocp_words" => command_line::answer(alloc, words),
+            _ => Err(Fault::Syntax),
+        }
+    }
 }
 
 impl Calls for Things {
@@ -61,38 +157,17 @@ impl Calls for Things {
         let [name, ..] = words else {
             return Err(Fault::Syntax);
         };
-        let Some((library, _)) = name.split_once('.') else {
-            return Err(Fault::Syntax);
-        };
-        match library {
-            "ocp_table" | "ocp_debug" | "ocp_core" | "ocp_seats" => self.desk.answer(alloc, words),
-            _ => answer(&mut self.made, alloc, library, words).map(Reply::Text),
+        match name.split_once('.') {
+            Some(("ocp_table" | "ocp_debug" | "ocp_core" | "ocp_seats", _)) => {
+                self.desk.answer(alloc, words)
+            }
+            Some((library, _)) => self.text(alloc, library, words).map(Reply::Text),
+            None => Err(Fault::Syntax),
         }
     }
 }
 
-/// The answer of a call of a library below the engine.
-fn answer(made: &mut Made, alloc: Global, library: &str, words: &[&str]) -> Result<String, Fault> {
-    let [name, arguments @ ..] = words else {
-        return Err(Fault::Syntax);
-    };
-    match library {
-        "space_packet" => packets::answer(alloc, words),
-        "pus_fields" => fields::answer(alloc, words),
-        "obcp_types" | "verification" => failures::answer(alloc, name, arguments),
-        "obcp_messages" if name.ends_with("report") => reports::answer(alloc, words),
-        "obcp_messages" => requests::answer(alloc, words),
-        "bpf_canonical" | "bpf_decode" | "bpf_listing" | "bpf_text" => code::answer(alloc, words),
-        "bpf_assembler" | "ocp_loader" => images::answer(alloc, words),
-        "ocp_regions" => machines::answer(&mut made.memories, alloc, words),
-        "bpf_step" => machines::answer(&mut made.machines, alloc, words),
-        "ocp_pool" => pools::answer(made, alloc, words),
-        "ocp_words" => command_line::answer(alloc, words),
-        _ => Err(Fault::Syntax),
-    }
-}
-
-/// Answers the lines of a book of this engine, which then is the desk's where the book was closed.
+/// Answers the lines of a book of this engine, which then is the desk's if the book was closed.
 fn answer_seats<L: Naming>(
     rt: &HostRuntime,
     script: &mut Script,
@@ -140,35 +215,14 @@ fn answer_script(rt: &HostRuntime) -> io::Result<End> {
     let mut script = Script::read(rt)?;
     let mut things = Things {
         desk: Desk::new(rt.alloc()),
-        made: Made::new(rt.alloc()),
+        memories: Vec::new(rt.alloc()),
+        machines: Vec::new(rt.alloc()),
+        words: Words::new(),
     };
     answer_all(rt, &mut script, &mut things)
 }
 
-/// How many blocks of calls these words have timed; none where they are no `time`.
-fn blocks_of(words: &[String]) -> Option<u32> {
-    match words {
-        [time] if time.as_str() == "time" => Some(BLOCKS),
-        [time, once] if time.as_str() == "time" && once.as_str() == "once" => Some(1),
-        _ => None,
-    }
-}
-
-/// Times calls, as the words behind the program's name say, or answers a script where there are
-/// none.
-fn run(rt: &HostRuntime) -> io::Result<End> {
-    let words: Vec<String> = env::args(rt)?.skip(1).collect(rt.alloc())?;
-    if words.is_empty() {
-        return answer_script(rt);
-    }
-    let Some(blocks) = blocks_of(&words) else {
-        return Ok(End::Syntax);
-    };
-    times::time_calls(rt, blocks)?;
-    Ok(End::Input)
-}
-
 fn main(rt: HostRuntime) -> ExitCode {
-    let end = run(&rt);
+    let end = answer_script(&rt);
     exit_code(&rt, end)
 }

@@ -1,80 +1,58 @@
 //! Calls of obcp_messages for reports.
 
-use crate::lines::{
-    Both, Fault, Named, Octets, Output, number, octets, or_memory, text_of, value_of,
-};
+use crate::lines::*;
 use arrayvec::ArrayVec;
 use obcp_messages::{
     BAD_CODE, MAX_ROWS, PlainCode, Report, StartFault, Status, StatusRow, StatusRows, read_report,
     write_report,
 };
-use std::alloc::Global;
-
-/// The status of a procedure, by name.
-const STATUSES: &[(&str, Status)] = &[
-    ("Inactive", Status::Inactive),
-    ("Running", Status::Running),
-    ("Held", Status::Held),
-];
 
 /// The answer of a call.
-pub(crate) fn answer(alloc: Global, words: &[&str]) -> Result<String, Fault> {
-    match words {
-        ["obcp_messages.read_report", service, subtype, data] => {
-            read(alloc, service, subtype, data)
-        }
-        ["obcp_messages.write_report", before, report @ ..] => {
-            match report_of(alloc, report)? {
-                Some(report) => write(alloc, &report, before),
-                None => text_of(alloc, "None"),
-            }
-        }
-        _ => Err(Fault::Syntax),
+pub(crate) fn answer(alloc: Global, words: &[&str]) -> Answer {
+    table! { alloc, words;
+        "obcp_messages.read_report" service: number subtype: number data: octets => {
+            read(alloc, service, subtype, &data)
+        };
+        "obcp_messages.write_report" before [report] => {
+            let report = some!(alloc, report_of(alloc, report)?);
+            append!(alloc, before, Octets, out => or_memory(write_report(&report, out)))
+        };
     }
 }
 
-fn read(alloc: Global, service: &str, subtype: &str, data: &str) -> Result<String, Fault> {
-    let (service, subtype) = (number(service)?, number(subtype)?);
-    match read_report(service, subtype, &octets(alloc, data)?) {
+fn read(alloc: Global, service: u8, subtype: u8, data: &[u8]) -> Answer {
+    match read_report(service, subtype, data) {
         Ok(report) => show_read(alloc, &report),
-        Err(fault) => text_of(alloc, Named(fault)),
+        Err(fault) => name_of(alloc, fault),
     }
 }
 
-fn show_read(alloc: Global, report: &Report) -> Result<String, Fault> {
+fn show_read(alloc: Global, report: &Report) -> Answer {
     let text = show(alloc, report)?;
-    let kind = Both(report.service(), report.subtype());
-    text_of(alloc, Both("Ok", Both(kind, text.as_str())))
+    text!(alloc; "Ok", report.service(), report.subtype(), text.as_str())
 }
 
-fn show(alloc: Global, report: &Report) -> Result<String, Fault> {
-    match report {
-        Report::Accepted { request } => text_of(alloc, Both("Accepted", Octets(request))),
-        Report::NotAccepted { request, code } => {
-            text_of(alloc, Both("NotAccepted", Both(Octets(request), *code)))
-        }
-        Report::Started { request } => text_of(alloc, Both("Started", Octets(request))),
-        Report::NotStarted { request, fault } => show_start_fault(alloc, request, *fault),
-        Report::Completed { request } => text_of(alloc, Both("Completed", Octets(request))),
-        Report::NotCompleted { request, code } => {
-            text_of(alloc, Both("NotCompleted", Both(Octets(request), *code)))
-        }
-        Report::Status { rows } => show_rows(alloc, rows.as_slice()),
+fn show(alloc: Global, report: &Report) -> Answer {
+    variant! { alloc, report, Report;
+        Accepted { request } => Octets(request);
+        NotAccepted { request, code } => Octets(request), *code;
+        Started { request } => Octets(request);
+        Completed { request } => Octets(request);
+        NotCompleted { request, code } => Octets(request), *code;
+        [Report::NotStarted { request, fault }] => show_not_started(alloc, request, *fault);
+        [Report::Status { rows }] => show_rows(alloc, rows.as_slice());
     }
 }
 
-fn show_start_fault(alloc: Global, request: &[u8], fault: StartFault) -> Result<String, Fault> {
+fn show_not_started(alloc: Global, request: &[u8], fault: StartFault) -> Answer {
     let request = Both("NotStarted", Octets(request));
     match fault {
-        StartFault::BadCode { fault, slot } => {
-            let code = Both(BAD_CODE, Both(fault, slot));
-            text_of(alloc, Both(request, code))
-        }
-        StartFault::Plain(code) => text_of(alloc, Both(request, code.code())),
+        StartFault::BadCode { fault, slot } => text!(alloc; request, BAD_CODE, fault, slot),
+        StartFault::Plain(code) => text!(alloc; request, code.code()),
     }
 }
 
-fn show_rows(alloc: Global, rows: &[StatusRow]) -> Result<String, Fault> {
+fn show_rows(alloc: Global, rows: &[StatusRow]) -> Answer {
     let mut text = String::from_str(alloc, "Status")?;
     for row in rows {
         write!(text, " {} {:?}", row.id, row.status)?;
@@ -82,63 +60,33 @@ fn show_rows(alloc: Global, rows: &[StatusRow]) -> Result<String, Fault> {
     Ok(text)
 }
 
-/// The report in words; none where its parts are no report's.
+/// The report in words; none if its parts are no report's.
 fn report_of(alloc: Global, words: &[&str]) -> Result<Option<Report>, Fault> {
-    match words {
-        ["Status", rows @ ..] => status_report(rows),
-        [kind, request, codes @ ..] => request_report(kind, id(alloc, request)?, codes),
-        _ => Err(Fault::Syntax),
+    table! { alloc, words;
+        "Accepted" request: id => Ok(Some(Report::Accepted { request }));
+        "NotAccepted" request: id code: number => Ok(Some(Report::NotAccepted { request, code }));
+        "Started" request: id => Ok(Some(Report::Started { request }));
+        "NotStarted" request: id code: number => Ok(not_started(request, code));
+        "NotStarted" request: id code: number fault: number slot: number => {
+            bad_code(request, code, StartFault::BadCode { fault, slot })
+        };
+        "Completed" request: id => Ok(Some(Report::Completed { request }));
+        "NotCompleted" request: id code: number => Ok(Some(Report::NotCompleted { request, code }));
+        "Status" [rows] => status_report(rows);
     }
-}
-
-/// The report of a request.
-fn request_report(kind: &str, request: [u8; 4], codes: &[&str]) -> Result<Option<Report>, Fault> {
-    match (kind, codes) {
-        ("NotStarted", [code, fault, slot]) => bad_code(request, code, fault, slot),
-        (_, [code]) => report_with_code(kind, request, number(code)?),
-        (_, []) => Ok(Some(plain_report(kind, request)?)),
-        _ => Err(Fault::Syntax),
-    }
-}
-
-fn bad_code(
-    request: [u8; 4],
-    code: &str,
-    fault: &str,
-    slot: &str,
-) -> Result<Option<Report>, Fault> {
-    if number::<u16>(code)? != BAD_CODE {
-        return Err(Fault::Syntax);
-    }
-    let fault = StartFault::BadCode {
-        fault: number(fault)?,
-        slot: number(slot)?,
-    };
-    Ok(Some(Report::NotStarted { request, fault }))
 }
 
 /// The first four octets of a request.
-fn id(alloc: Global, word: &str) -> Result<[u8; 4], Fault> {
+fn id_of(alloc: Global, word: &str) -> Result<[u8; 4], Fault> {
     match octets(alloc, word)?.as_slice() {
         [a, b, c, d] => Ok([*a, *b, *c, *d]),
         _ => Err(Fault::Syntax),
     }
 }
 
-fn plain_report(kind: &str, request: [u8; 4]) -> Result<Report, Fault> {
-    match kind {
-        "Accepted" => Ok(Report::Accepted { request }),
-        "Started" => Ok(Report::Started { request }),
-        "Completed" => Ok(Report::Completed { request }),
-        _ => Err(Fault::Syntax),
-    }
-}
-
-fn report_with_code(kind: &str, request: [u8; 4], code: u16) -> Result<Option<Report>, Fault> {
-    match kind {
-        "NotAccepted" => Ok(Some(Report::NotAccepted { request, code })),
-        "NotCompleted" => Ok(Some(Report::NotCompleted { request, code })),
-        "NotStarted" => Ok(not_started(request, code)),
+fn bad_code(request: [u8; 4], code: u16, fault: StartFault) -> Result<Option<Report>, Fault> {
+    match code {
+        BAD_CODE => Ok(Some(Report::NotStarted { request, fault })),
         _ => Err(Fault::Syntax),
     }
 }
@@ -166,13 +114,7 @@ fn status_row(words: &[&str]) -> Result<StatusRow, Fault> {
         return Err(Fault::Syntax);
     };
     Ok(StatusRow {
-        id: number(id)?,
-        status: value_of(STATUSES, status)?,
+        id: number_of(id)?,
+        status: value_of(names!(Status: Inactive, Running, Held), status)?,
     })
-}
-
-fn write(alloc: Global, report: &Report, before: &str) -> Result<String, Fault> {
-    let mut output = Output::before(alloc, before)?;
-    let done = or_memory(write_report(report, &mut output.octets));
-    output.show(alloc, done, Octets(&output.octets))
 }

@@ -2,15 +2,10 @@
 
 ghost use Rattle.std.specs.Prelude.{◌≡◌, ◌+◌, length};
 
-use crate::answers::{Outcome, show_all, show_commit, show_done, show_reports, show_slice};
-use crate::engines::budget_of;
-use crate::lines::{Calls, Fault, Named, Reply, flag, number, octets, text_of};
+use crate::lines::*;
 use crate::runs::Runs;
-use crate::views;
-use ocp_core::Work;
-use ocp_seats::input::{DebuggerCommand, Drain, PutWord, Request, Step};
-use ocp_seats::{Book, Command, Engine, Naming, NotClosed, Seat, SeatFault, TakeFault};
-use std::alloc::Global;
+use crate::{engines, views};
+use ocp_seats::{Book, Engine, Naming, NotClosed, Seat, SeatFault, TakeFault};
 use std::sync::ledger::Blank;
 
 /// A book, its seats in the order of their numbers, the tickets and works of its lines, and the
@@ -39,7 +34,7 @@ impl<L: Naming> Shared<L> {
         }
     }
 
-    /// The engine, where the book was closed.
+    /// The engine, if the book was closed.
     pub fn into_engine(self) -> Option<Engine> {
         self.closed
     }
@@ -66,7 +61,7 @@ impl<L: Naming> Shared<L> {
         for seat in seats {
             put_seat(&mut self.seats, seat);
         }
-        Ok(Reply::Text(text_of(alloc, Named(why))?))
+        Ok(Reply::Text(name_of(alloc, why)?))
     }
 }
 
@@ -107,36 +102,47 @@ fn place_of<'a, L: Naming>(
     seats: &'a mut [Option<Seat<L>>],
     word: &str,
 ) -> Result<&'a mut Option<Seat<L>>, Fault> {
-    let index = number::<usize>(word)?.checked_sub(1).ok_or(Fault::Syntax)?;
+    let index = number_of::<usize>(word)?
+        .checked_sub(1)
+        .ok_or(Fault::Syntax)?;
     seats.get_mut(index).ok_or(Fault::Syntax)
 }
 
-/// The answer of a call.
+/// The answer of a call of a book, or of one of its seats.
 fn book_answer<L: Naming>(
     book: &mut Book<L>,
     seats: &mut Vec<Option<Seat<L>>>,
     runs: &mut Runs,
     alloc: Global,
     words: &[&str],
-) -> Result<String, Fault> {
-    match *words {
-        ["ocp_seats.seat"] => hand_out(book, seats, alloc),
-        ["ocp_seats.take"] => take(book, runs, alloc),
-        ["ocp_seats.seat_count"] => text_of(alloc, book.seat_count()),
-        [name, number, ..] if name.starts_with("ocp_seats.") => {
-            let seat = place_of(seats, number)?.as_mut().ok_or(Fault::Syntax)?;
-            seat_answer(book, seat, runs, alloc, words)
+) -> Answer {
+    table! { alloc, words;
+        "ocp_seats.seat" => add_seat(book, seats, alloc);
+        "ocp_seats.seat_count" => text_of(alloc, book.seat_count());
+        "ocp_seats.take" => match book.take(alloc) {
+            Ok(ticket) => runs.add_ticket(alloc, ticket),
+            Err(TakeFault::Memory) => Err(Fault::Memory),
+            Err(fault) => name_of(alloc, fault),
+        };
+        "ocp_seats.receipts" seat => {
+            show_all(alloc, place_of(seats, seat)?.as_ref().ok_or(Fault::Syntax)?.receipts())
+        };
+        else match *words {
+            [name, seat, ..] if name.starts_with("ocp_seats.") => {
+                let seat = place_of(seats, seat)?.as_mut().ok_or(Fault::Syntax)?;
+                engines::answer(book, seat, runs, alloc, words)
+            }
+            _ => views::answer(book.engine(), runs, alloc, words),
         }
-        _ => views::answer(book.engine(), runs, alloc, words),
     }
 }
 
-/// The next seat's number.
-fn hand_out<L: Naming>(
+/// Adds the next seat, and shows its number.
+fn add_seat<L: Naming>(
     book: &mut Book<L>,
     seats: &mut Vec<Option<Seat<L>>>,
     alloc: Global,
-) -> Result<String, Fault> {
+) -> Answer {
     match book.seat(alloc) {
         Ok(seat) => {
             let number = seat.number();
@@ -144,137 +150,6 @@ fn hand_out<L: Naming>(
             text_of(alloc, number)
         }
         Err(SeatFault::Memory) => Err(Fault::Memory),
-        Err(fault) => text_of(alloc, Named(fault)),
+        Err(fault) => name_of(alloc, fault),
     }
-}
-
-/// The number of the next ticket, and its procedure.
-fn take<L: Naming>(book: &mut Book<L>, runs: &mut Runs, alloc: Global) -> Result<String, Fault> {
-    match book.take(alloc) {
-        Ok(ticket) => runs.add_ticket(alloc, ticket),
-        Err(TakeFault::Memory) => Err(Fault::Memory),
-        Err(fault) => text_of(alloc, Named(fault)),
-    }
-}
-
-/// The answer of a seat's call.
-fn seat_answer<L: Naming>(
-    book: &mut Book<L>,
-    seat: &mut Seat<L>,
-    runs: &mut Runs,
-    alloc: Global,
-    words: &[&str],
-) -> Result<String, Fault> {
-    match words {
-        ["ocp_seats.receipts", _] => show_all(alloc, seat.receipts()),
-        ["ocp_seats.commit", _, work] => commit(book, seat, alloc, runs.work(work)?),
-        [name, _, first, others @ ..] => event(book, seat, alloc, name, first, others),
-        _ => Err(Fault::Syntax),
-    }
-}
-
-/// The answer of a seat's call that is an event.
-fn event<L: Naming>(
-    book: &mut Book<L>,
-    seat: &mut Seat<L>,
-    alloc: Global,
-    name: &str,
-    first: &str,
-    others: &[&str],
-) -> Result<String, Fault> {
-    match (name, others) {
-        ("ocp_seats.request", [packet]) => request(book, seat, alloc, first, packet),
-        ("ocp_seats.drain", []) => drain(book, seat, alloc, number(first)?),
-        ("ocp_seats.step", []) => step(book, seat, alloc, number(first)?),
-        ("ocp_seats.slice", [budget]) => slice(book, seat, alloc, first, budget),
-        ("ocp_seats.put_word", [value]) => put_word(book, seat, alloc, number(first)?, value),
-        (_, [argument]) => debug(book, seat, alloc, first, command_of(name, argument)?),
-        _ => Err(Fault::Syntax),
-    }
-}
-
-fn request<L: Naming>(
-    book: &mut Book<L>,
-    seat: &mut Seat<L>,
-    alloc: Global,
-    time: &str,
-    packet: &str,
-) -> Result<String, Fault> {
-    let packet = octets(alloc, packet)?;
-    let request = Request {
-        alloc,
-        time: number(time)?,
-        octets: &packet,
-    };
-    show_reports(alloc, &book.apply(seat, request))
-}
-
-fn drain<L: Naming>(
-    book: &mut Book<L>,
-    seat: &mut Seat<L>,
-    alloc: Global,
-    time: u32,
-) -> Result<String, Fault> {
-    show_reports(alloc, &book.apply(seat, Drain { alloc, time }))
-}
-
-fn step<L: Naming>(
-    book: &mut Book<L>,
-    seat: &mut Seat<L>,
-    alloc: Global,
-    id: u16,
-) -> Result<String, Fault> {
-    text_of(alloc, Outcome(book.apply(seat, Step { id })))
-}
-
-fn slice<L: Naming>(
-    book: &mut Book<L>,
-    seat: &mut Seat<L>,
-    alloc: Global,
-    id: &str,
-    budget: &str,
-) -> Result<String, Fault> {
-    let budget = budget_of(budget)?;
-    show_slice(alloc, book.slice(seat, number(id)?, budget))
-}
-
-fn put_word<L: Naming>(
-    book: &mut Book<L>,
-    seat: &mut Seat<L>,
-    alloc: Global,
-    index: u64,
-    value: &str,
-) -> Result<String, Fault> {
-    let value = number(value)?;
-    show_done(alloc, book.apply(seat, PutWord { index, value }))
-}
-
-fn commit<L: Naming>(
-    book: &mut Book<L>,
-    seat: &mut Seat<L>,
-    alloc: Global,
-    work: Work,
-) -> Result<String, Fault> {
-    show_commit(alloc, book.commit(seat, work))
-}
-
-/// The debugger's command of a call.
-fn command_of(name: &str, argument: &str) -> Result<Command, Fault> {
-    match name {
-        "ocp_seats.set_break" => Ok(Command::SetBreak(number(argument)?)),
-        "ocp_seats.clear_break" => Ok(Command::ClearBreak(number(argument)?)),
-        "ocp_seats.trace" => Ok(Command::SetTrace(flag(argument)?)),
-        _ => Err(Fault::Syntax),
-    }
-}
-
-fn debug<L: Naming>(
-    book: &mut Book<L>,
-    seat: &mut Seat<L>,
-    alloc: Global,
-    id: &str,
-    command: Command,
-) -> Result<String, Fault> {
-    let id = number(id)?;
-    show_done(alloc, book.apply(seat, DebuggerCommand { id, command }))
 }

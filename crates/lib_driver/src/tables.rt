@@ -1,17 +1,14 @@
-//! Calls of ocp_table and of ocp_debug, on the table that a line before made.
+//! Calls of ocp_table and of ocp_debug, on the table that an earlier line made.
 
-use crate::answers::{Outcome, show_done};
-use crate::lines::{
-    Both, Fault, Named, Output, Text, add_text, dash_if_empty, flag, number, octets, or_memory,
-    profile_of, text_of,
-};
-use crate::pools::{numbers_of, pool_of};
-use crate::traces::write_trace;
+use crate::answers::Outcome;
+use crate::code::line_of;
+use crate::lines::*;
+use crate::pools::pool_of;
 use crate::views::show_view;
-use ocp_debug::{clear_break, set_break, set_trace, view, view_text};
+use ocp_core::StepOutcome;
+use ocp_debug::{Trace, clear_break, set_break, set_trace, trace_text, view, view_text};
 use ocp_regions::ARGUMENT_OCTETS;
-use ocp_table::{PendingOrigin, Pool, Profile, StartFailure, Table};
-use std::alloc::Global;
+use ocp_table::{PendingOrigin, Pool, Profile, StartFailure, StatusRow, Table};
 
 /// A table, and the pool of its procedures.
 #[derive(Drop)]
@@ -28,8 +25,12 @@ impl Tables {
         }
     }
 
-    /// Makes a table, and a pool of so many words.
-    fn begin(&mut self, alloc: Global, profile: Profile, count: u16) -> Result<String, Fault> {
+    fn table(&mut self) -> Result<&mut Table, Fault> {
+        self.table.as_mut().ok_or(Fault::Syntax)
+    }
+
+    /// Makes a table, and a pool of this number of words.
+    fn begin(&mut self, alloc: Global, profile: Profile, count: u16) -> Answer {
         let pool = pool_of(alloc, count)?;
         self.table = Some(or_memory(Table::new(alloc, profile))?);
         self.pool = Some(pool);
@@ -37,151 +38,100 @@ impl Tables {
     }
 
     /// The outcome of an instruction.
-    fn instruction(&mut self, alloc: Global, id: u16) -> Result<String, Fault> {
+    fn instruction(&mut self, alloc: Global, id: u16) -> Answer {
         let table = self.table.as_mut().ok_or(Fault::Syntax)?;
         let pool = self.pool.as_mut().ok_or(Fault::Syntax)?;
         text_of(alloc, Outcome(table.instruction(id, pool)))
     }
 }
 
-/// The answer of a call.
-pub(crate) fn table_answer(
-    tables: &mut Tables,
-    alloc: Global,
-    words: &[&str],
-) -> Result<String, Fault> {
-    match words {
-        ["ocp_table.new", profile, count] => {
-            tables.begin(alloc, profile_of(profile)?, number(count)?)
-        }
-        ["ocp_debug.trace_text", before, record @ ..] => write_trace(alloc, before, record),
-        ["ocp_table.instruction", id] => tables.instruction(alloc, number(id)?),
-        _ => call(tables.table.as_mut().ok_or(Fault::Syntax)?, alloc, words),
+/// The answer of a call of ocp_table.
+pub(crate) fn table_answer(tables: &mut Tables, alloc: Global, words: &[&str]) -> Answer {
+    table! { alloc, words;
+        "ocp_table.new" profile: profile words: number => tables.begin(alloc, profile, words);
+        "ocp_table.instruction" id: number => tables.instruction(alloc, id);
+        "ocp_table.load" id: number image: octets => {
+            show_start(alloc, tables.table()?.load(id, &image))
+        };
+        "ocp_table.unload" id: number => show_start(alloc, tables.table()?.unload(id));
+        "ocp_table.activate" id: number budget: number arguments: octets => {
+            activate(alloc, tables.table()?, id, budget, &arguments)
+        };
+        "ocp_table.stop" id: number step: number => {
+            show_start(alloc, tables.table()?.stop(id, step, PendingOrigin::default()))
+        };
+        "ocp_table.suspend" id: number step: number => {
+            show_start(alloc, tables.table()?.suspend(id, step, PendingOrigin::default()))
+        };
+        "ocp_table.resume" id: number => show_start(alloc, tables.table()?.resume(id));
+        "ocp_table.communicate" id: number [numbers] => {
+            let numbers = numbers_of(alloc, numbers)?;
+            show_start(alloc, tables.table()?.communicate(id, &numbers))
+        };
+        "ocp_table.abort" id: number => show_start(alloc, tables.table()?.abort(id));
+        "ocp_table.statuses" => show_all(alloc, tables.table()?.statuses().as_slice());
+        "ocp_table.outbox" => text_of(alloc, tables.table()?.outbox().len());
     }
 }
 
-/// The answer of a table's call.
-fn call(table: &mut Table, alloc: Global, words: &[&str]) -> Result<String, Fault> {
-    match words {
-        ["ocp_table.statuses"] => statuses(alloc, table),
-        ["ocp_table.outbox"] => text_of(alloc, table.outbox().len()),
-        [name, id, arguments @ ..] => request(table, alloc, name, number(id)?, arguments),
-        _ => Err(Fault::Syntax),
+/// The answer of a call of ocp_debug.
+pub(crate) fn debug_answer(tables: &mut Tables, alloc: Global, words: &[&str]) -> Answer {
+    table! { alloc, words;
+        "ocp_debug.set_break" id: number slot: number => {
+            show_done(alloc, set_break(tables.table()?, id, slot))
+        };
+        "ocp_debug.clear_break" id: number slot: number => {
+            show_done(alloc, clear_break(tables.table()?, id, slot))
+        };
+        "ocp_debug.set_trace" id: number on: flag => {
+            show_done(alloc, set_trace(tables.table()?, id, on))
+        };
+        "ocp_debug.view" id: number => show_view(alloc, view(tables.table()?, id));
+        "ocp_debug.view_text" id: number before => {
+            let view = view(tables.table()?, id);
+            append!(alloc, before, Text, out => or_memory(view_text(id, view, out)))
+        };
+        "ocp_debug.trace_text" before
+                id: number place: number outcome: outcome_of instruction: octets [registers] => {
+            let (line, registers) = (line_of(&instruction)?, registers_of(alloc, registers)?);
+            let record = Trace { id, place, outcome, registers, line };
+            append!(alloc, before, Text, out => or_memory(trace_text(&record, out)))
+        };
     }
 }
 
-/// The answer of a request or of a debugger's call.
-fn request(
-    table: &mut Table,
-    alloc: Global,
-    name: &str,
-    id: u16,
-    words: &[&str],
-) -> Result<String, Fault> {
-    match (name, words) {
-        ("ocp_table.load", [code]) => load(table, alloc, id, code),
-        ("ocp_table.activate", [budget, arguments]) => {
-            activate(table, alloc, id, number(budget)?, arguments)
-        }
-        ("ocp_table.communicate", numbers) => communicate(table, alloc, id, numbers),
-        ("ocp_table.stop", [step]) => stop(table, alloc, id, number(step)?),
-        ("ocp_table.suspend", [step]) => suspend(table, alloc, id, number(step)?),
-        (_, []) => plain_request(table, alloc, name, id),
-        (_, [argument]) => debug(table, alloc, name, id, argument),
-        _ => Err(Fault::Syntax),
-    }
-}
-
-/// The answer of a call that has no arguments.
-fn plain_request(table: &mut Table, alloc: Global, name: &str, id: u16) -> Result<String, Fault> {
-    match name {
-        "ocp_table.unload" => show_start(alloc, table.unload(id)),
-        "ocp_table.resume" => show_start(alloc, table.resume(id)),
-        "ocp_table.abort" => show_start(alloc, table.abort(id)),
-        "ocp_debug.view" => show_view(alloc, view(table, id)),
-        _ => Err(Fault::Syntax),
-    }
-}
-
-/// The answer of a stop, with an origin without flags.
-fn stop(table: &mut Table, alloc: Global, id: u16, step: u16) -> Result<String, Fault> {
-    show_start(alloc, table.stop(id, step, PendingOrigin::default()))
-}
-
-/// The answer of a suspension, with an origin without flags.
-fn suspend(table: &mut Table, alloc: Global, id: u16, step: u16) -> Result<String, Fault> {
-    show_start(alloc, table.suspend(id, step, PendingOrigin::default()))
-}
-
-fn load(table: &mut Table, alloc: Global, id: u16, code: &str) -> Result<String, Fault> {
-    let code = octets(alloc, code)?;
-    show_start(alloc, table.load(id, &code))
-}
-
-fn activate(
-    table: &mut Table,
-    alloc: Global,
-    id: u16,
-    budget: u32,
-    arguments: &str,
-) -> Result<String, Fault> {
-    let arguments = octets(alloc, arguments)?;
-    if arguments.len() > ARGUMENT_OCTETS {
+fn activate(alloc: Global, table: &mut Table, id: u16, budget: u32, arguments: &[u8]) -> Answer {
+    if arguments.len() > ARGUMENT_OCTETS || budget != 0 && table.profile() == Profile::One {
         return Err(Fault::Syntax);
     }
-    if budget != 0 && table.profile() == Profile::One {
-        return Err(Fault::Syntax);
-    }
-    show_start(alloc, table.activate(id, budget, &arguments))
+    show_start(alloc, table.activate(id, budget, arguments))
 }
 
-fn communicate(table: &mut Table, alloc: Global, id: u16, words: &[&str]) -> Result<String, Fault> {
-    let numbers = numbers_of(alloc, words)?;
-    show_start(alloc, table.communicate(id, &numbers))
-}
-
-/// The status of each procedure, with a comma between two; `-` for none.
-fn statuses(alloc: Global, table: &Table) -> Result<String, Fault> {
-    let mut texts = String::new(alloc);
-    for row in table.statuses().as_slice() {
-        add_text(
-            &mut texts,
-            &text_of(alloc, Both(row.id, Named(row.status)))?,
-        )?;
-    }
-    dash_if_empty(texts)
-}
-
-fn show_start(alloc: Global, done: Result<(), StartFailure>) -> Result<String, Fault> {
+fn show_start(alloc: Global, done: Result<(), StartFailure>) -> Answer {
     match done {
-        Ok(()) => text_of(alloc, "Ok"),
-        Err(StartFailure::BadCode { fault, slot }) => {
-            text_of(alloc, Both("BadCode", Both(fault, slot)))
-        }
-        Err(failure) => text_of(alloc, Named(failure)),
+        Err(StartFailure::BadCode { fault, slot }) => text!(alloc; "BadCode", fault, slot),
+        done => show_done(alloc, done),
     }
 }
 
-/// The answer of a debugger's call.
-fn debug(
-    table: &mut Table,
-    alloc: Global,
-    name: &str,
-    id: u16,
-    argument: &str,
-) -> Result<String, Fault> {
-    match name {
-        "ocp_debug.set_break" => show_done(alloc, set_break(table, id, number(argument)?)),
-        "ocp_debug.clear_break" => show_done(alloc, clear_break(table, id, number(argument)?)),
-        "ocp_debug.set_trace" => show_done(alloc, set_trace(table, id, flag(argument)?)),
-        "ocp_debug.view_text" => write_view(table, alloc, id, argument),
-        _ => Err(Fault::Syntax),
+impl Shown for StatusRow {
+    fn show(&self, alloc: Global) -> Answer {
+        text!(alloc; self.id, Named(self.status))
     }
 }
 
-/// Writes the view of a procedure behind the octets.
-fn write_view(table: &Table, alloc: Global, id: u16, before: &str) -> Result<String, Fault> {
-    let mut output = Output::before(alloc, before)?;
-    let done = or_memory(view_text(id, view(table, id), &mut output.octets));
-    output.show(alloc, done, Text(&output.octets))
+/// The outcome of a traced instruction: one without a number.
+fn outcome_of(word: &str) -> Result<StepOutcome, Fault> {
+    value_of(names!(StepOutcome: Ran, Called, Ended), word)
+}
+
+/// The registers of these words.
+fn registers_of(alloc: Global, words: &[&str]) -> Result<[u64; 11], Fault> {
+    let numbers = numbers_of(alloc, words)?;
+    let mut registers = [0; 11];
+    if numbers.len() != registers.len() {
+        return Err(Fault::Syntax);
+    }
+    registers.copy_from_slice(&numbers);
+    Ok(registers)
 }

@@ -1,90 +1,51 @@
 //! Calls of an engine that change nothing of it.
 
-use crate::answers::show_all;
-use crate::lines::{Both, Fault, Named, Numbers, Output, Text, number, octets, or_memory, text_of};
-use crate::packets::show_written;
+use crate::lines::*;
+use crate::machines::show_octets;
 use crate::runs::Runs;
-use bpf_step::Machine;
 use ocp_core::{Engine, replay_one};
 use ocp_table::{Cause, Pending, View};
-use std::alloc::Global;
 use std::fmt;
 
 /// The answer of a call.
-pub(crate) fn answer(
-    engine: &Engine,
-    runs: &mut Runs,
-    alloc: Global,
-    words: &[&str],
-) -> Result<String, Fault> {
-    match *words {
-        ["ocp_core.events"] => text_of(alloc, engine.events()),
-        ["ocp_core.room"] => text_of(alloc, engine.room()),
-        ["ocp_core.entries"] => show_all(alloc, engine.journal().entries()),
-        ["ocp_core.pool_word", index] => {
-            text_of(alloc, OrNone(engine.pool_word(number(index)?)))
-        }
-        ["ocp_core.memory", id, address, before] => memory(engine, alloc, id, address, before),
-        ["ocp_core.trace_lines", before] => trace_lines(engine, alloc, before),
-        ["ocp_core.run_ticket", ticket, budget] => runs.run(alloc, ticket, number(budget)?),
-        [name, id] => procedure_answer(engine, runs, alloc, name, number(id)?),
-        _ => Err(Fault::Syntax),
+pub(crate) fn answer(engine: &Engine, runs: &mut Runs, alloc: Global, words: &[&str]) -> Answer {
+    table! { alloc, words;
+        "ocp_core.events" => text_of(alloc, engine.events());
+        "ocp_core.room" => text_of(alloc, engine.room());
+        "ocp_core.entries" => show_all(alloc, engine.journal().entries());
+        "ocp_core.pool_word" index: number => text_of(alloc, OrNone(engine.pool_word(index)));
+        "ocp_core.memory" id: number address: number before: octets => {
+            let mut octets = before;
+            let done = engine.memory(id, address, &mut octets);
+            show_octets(alloc, done, &octets)
+        };
+        "ocp_core.trace_lines" before => {
+            append!(alloc, before, Text, out => or_memory(engine.trace_lines(out)))
+        };
+        "ocp_core.view" id: number => show_view(alloc, engine.view(id));
+        "ocp_core.registers" id: number => {
+            text_of(alloc, Numbers(&some!(alloc, engine.view(id)).registers))
+        };
+        "ocp_core.replay_one" id: number => replay(engine, alloc, id);
+        "ocp_core.ticket" id: number => {
+            runs.add_ticket(alloc, some!(alloc, or_memory(engine.ticket(alloc, id))?))
+        };
+        "ocp_core.run_ticket" ticket: number budget: number => runs.run(alloc, ticket, budget);
     }
 }
 
-/// The answer of a call for a procedure.
-fn procedure_answer(
-    engine: &Engine,
-    runs: &mut Runs,
-    alloc: Global,
-    name: &str,
-    id: u16,
-) -> Result<String, Fault> {
-    match name {
-        "ocp_core.view" => show_view(alloc, engine.view(id)),
-        "ocp_core.registers" => show_registers(alloc, engine.view(id)),
-        "ocp_core.replay_one" => replay(engine, alloc, id),
-        "ocp_core.ticket" => runs.add(alloc, or_memory(engine.ticket(alloc, id))?),
-        _ => Err(Fault::Syntax),
-    }
-}
-
-fn replay(engine: &Engine, alloc: Global, id: u16) -> Result<String, Fault> {
-    show_machine(alloc, or_memory(replay_one(alloc, engine.journal(), id))?)
-}
-
-/// Reads octets of a procedure's memory, as many as are handed in.
-fn memory(
-    engine: &Engine,
-    alloc: Global,
-    id: &str,
-    address: &str,
-    before: &str,
-) -> Result<String, Fault> {
-    let mut out = octets(alloc, before)?;
-    let done = engine.memory(number(id)?, number(address)?, &mut out);
-    show_written(alloc, done, &out)
-}
-
-/// Writes the lines of the trace behind the octets.
-fn trace_lines(engine: &Engine, alloc: Global, before: &str) -> Result<String, Fault> {
-    let mut output = Output::before(alloc, before)?;
-    let done = or_memory(engine.trace_lines(&mut output.octets));
-    output.show(alloc, done, Text(&output.octets))
+/// The place, the depth and the registers of a procedure's machine by itself.
+fn replay(engine: &Engine, alloc: Global, id: u16) -> Answer {
+    let machine = some!(alloc, or_memory(replay_one(alloc, engine.journal(), id))?);
+    text!(alloc; machine.place(), machine.depth(), Numbers(&machine.registers()))
 }
 
 /// The status, why it is inactive, the place, the depth, what is pending, and what remains of the
 /// budget.
-pub(crate) fn show_view(alloc: Global, view: Option<View>) -> Result<String, Fault> {
-    match view {
-        Some(view) => {
-            let status = Both(Named(view.status), Why(view.cause));
-            let place = Both(view.place, view.depth);
-            let rest = Both(Waiting(view.pending), OrNone(view.remaining));
-            text_of(alloc, Both(status, Both(place, rest)))
-        }
-        None => text_of(alloc, "None"),
-    }
+pub(crate) fn show_view(alloc: Global, view: Option<View>) -> Answer {
+    let view = some!(alloc, view);
+    let (status, why, waiting) = (Named(view.status), Why(view.cause), Waiting(view.pending));
+    text!(alloc; status, why, view.place, view.depth, waiting, OrNone(view.remaining))
 }
 
 /// Why a procedure is inactive.
@@ -124,23 +85,5 @@ impl<D: fmt::Display> fmt::Display for OrNone<D> {
             Some(ref value) => value.fmt(f),
             None => f.write_str("None"),
         }
-    }
-}
-
-fn show_registers(alloc: Global, view: Option<View>) -> Result<String, Fault> {
-    match view {
-        Some(view) => text_of(alloc, Numbers(&view.registers)),
-        None => text_of(alloc, "None"),
-    }
-}
-
-/// The place, the depth and the registers of a machine.
-fn show_machine(alloc: Global, machine: Option<Machine>) -> Result<String, Fault> {
-    match machine {
-        Some(machine) => {
-            let place = Both(machine.place(), machine.depth());
-            text_of(alloc, Both(place, Numbers(&machine.registers())))
-        }
-        None => text_of(alloc, "None"),
     }
 }

@@ -4,6 +4,7 @@ use hex::FromHexError;
 use ocp_profile::Profile;
 use std::alloc::{AllocError, AllocFailed, Global};
 use std::num::ParseIntError;
+use std::str::FromStr;
 
 /// Why a line has no answer.
 #[derive(Clone, Copy, Debug)]
@@ -51,7 +52,7 @@ pub fn or_memory<T: Drop>(done: Result<T, AllocError>) -> Result<T, Fault> {
     }
 }
 
-/// The words of a line: what stands between spaces, where those between double quotes are of the
+/// The words of a line: the parts between spaces. A space between double quotes is part of its
 /// word.
 pub fn words<'a>(alloc: Global, line: &'a str) -> Result<Vec<&'a str>, Fault> {
     let mut words = Vec::new(alloc);
@@ -70,7 +71,7 @@ pub fn words<'a>(alloc: Global, line: &'a str) -> Result<Vec<&'a str>, Fault> {
     Ok(words)
 }
 
-/// Adds a word, where there is one.
+/// Adds a word, if there is one.
 fn add_word<'a>(word: Option<&'a str>, words: &mut Vec<&'a str>) -> Result<(), Fault> {
     match word {
         Some(word) if !word.is_empty() => Ok(words.push(word)?),
@@ -90,8 +91,8 @@ pub fn octets(alloc: Global, word: &str) -> Result<Vec<u8>, Fault> {
     Ok(octets)
 }
 
-/// Adds the octets of a piece: hexadecimal digits, or a text between double quotes, and behind
-/// them `*` with a number where they come so many times.
+/// Adds the octets of a piece: hexadecimal digits, or a text between double quotes, each `N` times
+/// if `*N` follows.
 fn add_piece(alloc: Global, piece: &str, octets: &mut Vec<u8>) -> Result<(), Fault> {
     let (once, count) = match piece.rsplit_once('*') {
         Some((front, count)) => (front, count.parse::<u32>()?),
@@ -107,7 +108,7 @@ fn add_piece(alloc: Global, piece: &str, octets: &mut Vec<u8>) -> Result<(), Fau
     Ok(())
 }
 
-/// The octets of a text up to its closing quote. Behind a backslash `n`, `r` and `t` are a line
+/// The octets of a text up to its closing quote. After a backslash `n`, `r` and `t` are a line
 /// feed, a carriage return and a tab, and any other octet is itself.
 fn text_octets(alloc: Global, text: &str) -> Result<Vec<u8>, Fault> {
     let inner = text.strip_suffix('"').ok_or(Fault::Syntax)?;
@@ -124,7 +125,7 @@ fn text_octets(alloc: Global, text: &str) -> Result<Vec<u8>, Fault> {
     Ok(octets)
 }
 
-/// What an octet means behind a backslash.
+/// What an octet means after a backslash.
 fn unescape(octet: u8) -> u8 {
     match octet {
         b'n' => b'\n',
@@ -134,20 +135,36 @@ fn unescape(octet: u8) -> u8 {
     }
 }
 
-/// A word that is `true` or `false`.
-pub fn flag(word: &str) -> Result<bool, Fault> {
-    match word {
-        "true" => Ok(true),
-        "false" => Ok(false),
-        _ => Err(Fault::Syntax),
+/// The number that a word says.
+pub fn number_of<T: FromStr<Err = ParseIntError>>(word: &str) -> Result<T, Fault> {
+    Ok(word.parse()?)
+}
+
+/// The numbers that words say.
+pub fn numbers_of(alloc: Global, words: &[&str]) -> Result<Vec<u64>, Fault> {
+    let mut numbers = Vec::new(alloc);
+    for word in words {
+        numbers.push(number_of(word)?)?;
     }
+    Ok(numbers)
+}
+
+/// The value of a name, in a table of names.
+pub fn value_of<T: Copy>(rows: &[(&str, T)], name: &str) -> Result<T, Fault> {
+    for (known, value) in rows {
+        if *known == name {
+            return Ok(*value);
+        }
+    }
+    Err(Fault::Syntax)
+}
+
+/// A word that is `true` or `false`.
+pub fn flag_of(word: &str) -> Result<bool, Fault> {
+    value_of(&[("true", true), ("false", false)], word)
 }
 
 /// The profile of a word that is `1` or `2`.
 pub fn profile_of(word: &str) -> Result<Profile, Fault> {
-    match word {
-        "1" => Ok(Profile::One),
-        "2" => Ok(Profile::Two),
-        _ => Err(Fault::Syntax),
-    }
+    value_of(&[("1", Profile::One), ("2", Profile::Two)], word)
 }
