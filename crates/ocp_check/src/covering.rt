@@ -7,7 +7,7 @@ ghost use Rattle.ocp_check.specs.Mirror.Forms.{IsForm, AreFormed, bases_after};
 ghost use Rattle.ocp_check.specs.Mirror.Fits.{Certificate, Covers, Fits, Matches};
 
 use crate::certificate::{Node, Row};
-use crate::form::{BASES, Form, Forms, form_of_known, free_base, is_shifted, refined};
+use crate::form::{BASES, Form, Forms, form_of_known, free_base, is_shifted, range_by_tie};
 use crate::range::{Range, is_within, only};
 use bpf_types::{Operand, Reg};
 
@@ -136,7 +136,7 @@ fn row_with_known(row: &Row, forms: &Forms, register: Reg, known: Option<Range>)
     let mut changed = *row;
     let other = forms[usize::from(register.number())];
     for k in 0..11 {
-        changed[k] = refined(row[k], forms[k], other, known);
+        changed[k] = range_by_tie(row[k], forms[k], other, known);
     }
     changed[usize::from(register.number())] = known;
     changed

@@ -13,8 +13,8 @@ use crate::covering::{
 };
 use crate::loading::numbers_of;
 use crate::range::{Range, follows, is_empty, lesser, only, refinement, stride_of, sum};
-use crate::steps::{at_call, computed, target};
-use crate::tying::{are_same_forms, narrow_by_forms, tied};
+use crate::steps::{after_operation, at_call, target};
+use crate::tying::{are_same_forms, narrow_by_forms, ties_of};
 use bpf_step::{FRAME_OCTETS, MAX_LOCAL_CALLS};
 use bpf_types::{Comparison, Line, Operand, Operation, Reg, Width};
 use ocp_loader::Program;
@@ -206,7 +206,7 @@ impl<A: Allocator> Search<A> {
             }
             row[k] = known;
         }
-        let forms = tied(&old, from, self.pass < WIDE_PASSES);
+        let forms = ties_of(&old, from, self.pass < WIDE_PASSES);
         if !are_same_forms(&forms, &old.forms) {
             has_grown = true;
         }
@@ -247,7 +247,7 @@ impl<A: Allocator> Search<A> {
         operand: Operand,
     ) {
         let based = with_base_of_operand(node, &operand);
-        let after = computed(&based, width, operation, dst, operand);
+        let after = after_operation(&based, width, operation, dst, operand);
         self.enter(slot, usize::from(slot).saturating_add(1), &after);
     }
 
@@ -439,7 +439,7 @@ fn unkept<A: Allocator>(program: &Program<A>, certificate: &[Option<Node>]) -> u
 
 /// What is known at each slot by what was known at the slots before it: no more numbers than there,
 /// and fewer where a range was widened too far.
-fn narrowed<A: Allocator + Copy>(
+fn narrower<A: Allocator + Copy>(
     alloc: A,
     program: &Program<A>,
     wide: &[Option<Node>],
@@ -496,7 +496,7 @@ pub fn find<A: Allocator + Copy>(
         if least == 0 {
             break;
         }
-        let mut next = narrowed(alloc, program, &nodes, end)?;
+        let mut next = narrower(alloc, program, &nodes, end)?;
         promise_to(&mut next, end);
         if unkept(program, &next) > least {
             break;

@@ -176,7 +176,7 @@ fn both(a: Range, b: Range) -> Range
 }
 
 /// What is known of a number, if more is known of another one.
-pub fn refined(
+pub fn range_by_tie(
     range: Option<Range>,
     form: Option<Form>,
     other: Option<Form>,

@@ -55,7 +55,13 @@ fn is_kept_writing(
 }
 
 /// What is known after an operation.
-pub fn computed(node: &Node, width: Width, operation: Operation, dst: Reg, operand: Operand) -> Node
+pub fn after_operation(
+    node: &Node,
+    width: Width,
+    operation: Operation,
+    dst: Reg,
+    operand: Operand,
+) -> Node
     ensures { (certificate : Certificate) (s : State) → Matches certificate node.now s →
         Matches certificate result (state_after_write s dst (arithmetic_result width operation
         (slice_index s.registers dst) (operand_in s.registers operand)) 1) }
@@ -84,7 +90,7 @@ fn is_kept_computing(
         (slice_index s.registers dst) (operand_in s.registers operand)) 1) }
 {
     let based = with_base_of_operand(node, &operand);
-    let after = computed(&based, width, operation, dst, operand);
+    let after = after_operation(&based, width, operation, dst, operand);
     covers(certificate, usize::from(slot) + 1, &after)
 }
 

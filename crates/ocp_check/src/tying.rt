@@ -3,7 +3,7 @@
 
 use crate::certificate::{Node, Row};
 use crate::form::{
-    BASES, Form, Forms, form_of_known, free_base, is_shifted_by, number_of, refined,
+    BASES, Form, Forms, form_of_known, free_base, is_shifted_by, number_of, range_by_tie,
 };
 use crate::range::Range;
 
@@ -206,7 +206,7 @@ fn with_all_adopted(old: &Node, from: &Node, forms: &Forms) -> Forms {
 }
 
 /// The forms of registers at a place that is as the old node says, or as the new one.
-pub fn tied(old: &Node, from: &Node, may_grow: bool) -> Forms {
+pub fn ties_of(old: &Node, from: &Node, may_grow: bool) -> Forms {
     if may_grow {
         let grown = with_growth(old, from);
         common(from, &with_all_adopted(old, from, &grown))
@@ -221,7 +221,7 @@ pub fn narrow_by_forms(row: &Row, forms: &Forms) -> Row {
     for k in 0..11 {
         for other in 0..11 {
             if other != k {
-                narrow[k] = refined(narrow[k], forms[k], forms[other], row[other]);
+                narrow[k] = range_by_tie(narrow[k], forms[k], forms[other], row[other]);
             }
         }
     }

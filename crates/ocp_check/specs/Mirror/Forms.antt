@@ -18,5 +18,5 @@ abbrev pub bases_after : List Form → (ℕ → ℕ) → ℕ → ℕ
 bases_after shifts bases base = number_by (slice_index_or shifts base no_shift) bases
 
 -- each register is of its form
-pub record AreFormed (forms : List (Option Form)) (bases : ℕ → ℕ) (registers : List ℕ) : Type 0 where
-  pub each : (k : ℕ) → k < 11 → IsForm (slice_index_or forms k None) bases (slice_index registers k)
+pub record AreFormed (forms : List (Option Form)) (bases : ℕ → ℕ) (values : List ℕ) : Type 0 where
+  pub each : (k : ℕ) → k < 11 → IsForm (slice_index_or forms k None) bases (slice_index values k)

@@ -5,7 +5,7 @@ use Rattle.bpf_step.specs.Machine.{state_after_write}
 use Rattle.ocp_check.specs.declared.certificate.Node.{Node}
 use Rattle.ocp_check.specs.Mirror.Fits.{Matches}
 use Rattle.ocp_check.proofs.Kept.{put_stands}
-use Rattle.ocp_check.proofs.steps.computed.Goals as goal
+use Rattle.ocp_check.proofs.steps.after_operation.Goals as goal
 
 pub returns : goal.returns
 returns c = λ certificate s i.
