@@ -1,5 +1,7 @@
--- What is true of a procedure's image in flight: in any engine, after any events.
+-- What is true of a procedure's image in flight: in any engine, after any events. Their requests
+-- are made of octets, each below 256, as those that an engine is given always are.
 use Rattle.std.specs.Prelude.{◌≡◌, ◌≢◌, ◌<◌, ◌≤◌, ℕ, ◌+◌, ◌==◌, if◌then◌else◌, List, [], ◌∷◌, Some}
+use Rattle.std.specs.List.{All}
 use Rattle.std.specs.FinMap.{get}
 use Rattle.ocp_profile.specs.declared.profile.Profile.{Profile}
 use Rattle.bpf_step.specs.Reach.{Reaches}
@@ -8,9 +10,9 @@ use Rattle.ocp_table.specs.Records.{Rec}
 use Rattle.ocp_world.specs.World.{Event, Step}
 use Rattle.ocp_world.specs.After.{Stepped, after}
 use Rattle.ocp_world.specs.Replay.{replay}
-use Rattle.ocp_core.specs.Log.{Log, world_of, answer_in}
+use Rattle.ocp_core.specs.Log.{Log, expand, world_of, answer_in}
 use Rattle.ocp_core.specs.Own.{Own, Start, Local, Call, own_events, image_after}
-use Rattle.ocp_core.specs.Possible.{image_of}
+use Rattle.ocp_core.specs.Possible.{image_of, IsOfOctets}
 
 -- ---- machines
 
@@ -18,7 +20,8 @@ use Rattle.ocp_core.specs.Possible.{image_of}
 abbrev pub MachinesAreReached : Type 0
 MachinesAreReached =
     (profile : Profile) (apid words : ℕ) (es : List Event) (id : ℕ) (r : Rec) →
-    get (replay profile apid words es).records id ≡ Some r → Reaches r.image r.machine
+    All IsOfOctets es → get (replay profile apid words es).records id ≡ Some r →
+    Reaches r.image r.machine
 
 -- ---- faults
 
@@ -27,27 +30,27 @@ MachinesAreReached =
 abbrev pub NeverFaultsInFlight : List ℕ → Type 0
 NeverFaultsInFlight image =
     (profile : Profile) (apid words : ℕ) (es : List Event) (by id number : ℕ) →
-    image_after profile apid words es id ≡ Some image → number ≤ 3 →
+    All IsOfOctets es → image_after profile apid words es id ≡ Some image → number ≤ 3 →
     (after (replay profile apid words es) (Step by id)).answer ≢ Stepped (outcome.Faulted number)
 
 -- no such event is answered fault 4, if the pool has at least `asked` words
 abbrev pub AsksWellInFlight : List ℕ → ℕ → Type 0
 AsksWellInFlight image asked =
     (profile : Profile) (apid words : ℕ) (es : List Event) (by id : ℕ) →
-    image_after profile apid words es id ≡ Some image → asked ≤ words →
+    All IsOfOctets es → image_after profile apid words es id ≡ Some image → asked ≤ words →
     (after (replay profile apid words es) (Step by id)).answer ≢ Stepped (outcome.Faulted 4)
 
 -- no engine, with any journal, answers an instruction of a procedure with this image fault 1, 2 or
 -- 3
 abbrev pub NeverFaultsInJournals : List ℕ → Type 0
 NeverFaultsInJournals image =
-    (log : Log) (by id number : ℕ) →
+    (log : Log) (by id number : ℕ) → All IsOfOctets (expand log.entries) →
     image_of (get (world_of log).records id) ≡ Some image → number ≤ 3 →
     answer_in log (Step by id) ≢ Stepped (outcome.Faulted number)
 
 abbrev pub AsksWellInJournals : List ℕ → ℕ → Type 0
 AsksWellInJournals image asked =
-    (log : Log) (by id : ℕ) →
+    (log : Log) (by id : ℕ) → All IsOfOctets (expand log.entries) →
     image_of (get (world_of log).records id) ≡ Some image → asked ≤ log.words →
     answer_in log (Step by id) ≢ Stepped (outcome.Faulted 4)
 
@@ -74,6 +77,6 @@ instructions_in_round profile apid words es id =
 -- round has at most this many
 abbrev pub IsWithinInFlight : List ℕ → ℕ → Type 0
 IsWithinInFlight image most =
-    (profile : Profile) (apid words : ℕ) (es : List Event) (id : ℕ) →
+    (profile : Profile) (apid words : ℕ) (es : List Event) (id : ℕ) → All IsOfOctets es →
     image_after profile apid words es id ≡ Some image →
     instructions_in_round profile apid words es id < most

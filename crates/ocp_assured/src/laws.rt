@@ -13,7 +13,8 @@ use ocp_core::laws::{
 /// In every engine, after any requests, instructions, commands of a debugger, drains and writes of
 /// pool words in any order, the machine of each loaded procedure is one that its image reaches. It
 /// may share the image with another procedure, be loaded again under the same identifier, and be
-/// activated again with other arguments.
+/// activated again with other arguments. The octets of requests are octets, each below 256, in this
+/// law and in the others.
 pub fn machines_in_flight_are_reached()
     ensures { MachinesAreReached }
 {

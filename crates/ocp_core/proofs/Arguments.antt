@@ -1,4 +1,4 @@
--- An activation that is read has at most 256 octets of arguments.
+-- What holds of the arguments of each activation that is read: that there are at most 256, for one.
 use Rattle.std.proofs.Common.{◌≡◌, ◌≤◌, ◌+◌, ◌*◌, ℕ, Bool, true, false, cond, List, length, Result, ◌&&◌, arith}
 use Rattle.std.specs.Prelude.{IfOk, ◌==◌, nat_le, slice_index}
 use Rattle.std.proofs.lemmas.Bool.{cond_both, leb-true}
@@ -12,16 +12,23 @@ use Rattle.obcp_messages.specs.declared.request.Request.{Request}
 use Rattle.obcp_messages.specs.declared.request.Request.TheVariants.{Activate}
 use Rattle.ocp_world.specs.Requests.{command_of}
 
+-- the arguments of a request, if it is an activation, are such
+abbrev pub HasThose : (List ℕ → Type 0) → Request → Type 0
+HasThose P (Activate id budget arguments) = P arguments
+HasThose P request = Unit {0}
+
+abbrev pub ReadsThose : (List ℕ → Type 0) → Result Request RequestFault → Type 0
+ReadsThose P r = IfOk r (HasThose P)
+
+-- there are at most 256
+abbrev pub AreFew : List ℕ → Type 0
+AreFew arguments = length arguments ≤ 256
+
 abbrev pub HasFew : Request → Type 0
-HasFew (Activate id budget arguments) = length arguments ≤ 256
-HasFew request = Unit {0}
+HasFew request = HasThose AreFew request
 
 abbrev pub ReadsFew : Result Request RequestFault → Type 0
-ReadsFew r = IfOk r HasFew
-
-either : (b : Bool) (x y : Result Request RequestFault) → ReadsFew x → ReadsFew y → ReadsFew (cond b x y)
-either true x y few else = few
-either false x y few else = else
+ReadsFew r = ReadsThose AreFew r
 
 second : (a b : Bool) → (a && b) ≡ true → b ≡ true
 second true b e = e
@@ -47,21 +54,29 @@ few_activation Two octets = few_budget octets
 
 -- ---- requests
 
-few_in : (profile : Profile) (subtype : ℕ) (octets : List ℕ) → ReadsFew (request_in profile subtype octets)
-few_in profile subtype octets =
-    either (subtype == 1) _ _ (either (is_counted 2 octets && nat_le (length octets) 65539) _ _ tt tt)
-    (either (subtype == 2) _ _ (either (length octets == 2) _ _ tt tt)
-    (either (subtype == 3) _ _ (few_activation profile octets)
-    (either (subtype == 4) _ _ (either (length octets == 4) _ _ tt tt)
-    (either (subtype == 5) _ _ (either (length octets == 4) _ _ tt tt)
-    (either (subtype == 6) _ _ (either (length octets == 2) _ _ tt tt)
-    (either (subtype == 7) _ _ (either (nat_le 3 (length octets) && (length octets == 3 + 8 * slice_index octets 2) && nat_le 1 (slice_index octets 2) && nat_le (slice_index octets 2) 8) _ _ tt tt)
-    (either (subtype == 8) _ _ (either (length octets == 0) _ _ tt tt)
-    (either (subtype == 12) _ _ (either (length octets == 2) _ _ tt tt) tt))))))))
+module _ (P : List ℕ → Type 0) where
+  pub either : (b : Bool) (x y : Result Request RequestFault) → ReadsThose P x → ReadsThose P y → ReadsThose P (cond b x y)
+  either true x y those else = those
+  either false x y those else = else
 
-few_of : (profile : Profile) (service subtype : ℕ) (octets : List ℕ) → ReadsFew (request_of profile service subtype octets)
-few_of profile service subtype octets = either (service == 18) _ _ (few_in profile subtype octets) tt
+  those_in : (profile : Profile) (subtype : ℕ) (octets : List ℕ) → ReadsThose P (activation_in profile octets) → ReadsThose P (request_in profile subtype octets)
+  those_in profile subtype octets those =
+      either (subtype == 1) _ _ (either (is_counted 2 octets && nat_le (length octets) 65539) _ _ tt tt)
+      (either (subtype == 2) _ _ (either (length octets == 2) _ _ tt tt)
+      (either (subtype == 3) _ _ those
+      (either (subtype == 4) _ _ (either (length octets == 4) _ _ tt tt)
+      (either (subtype == 5) _ _ (either (length octets == 4) _ _ tt tt)
+      (either (subtype == 6) _ _ (either (length octets == 2) _ _ tt tt)
+      (either (subtype == 7) _ _ (either (nat_le 3 (length octets) && (length octets == 3 + 8 * slice_index octets 2) && nat_le 1 (slice_index octets 2) && nat_le (slice_index octets 2) 8) _ _ tt tt)
+      (either (subtype == 8) _ _ (either (length octets == 0) _ _ tt tt)
+      (either (subtype == 12) _ _ (either (length octets == 2) _ _ tt tt) tt))))))))
+
+  those_of : (profile : Profile) (service subtype : ℕ) (octets : List ℕ) → ReadsThose P (activation_in profile octets) → ReadsThose P (request_of profile service subtype octets)
+  those_of profile service subtype octets those = either (service == 18) _ _ (those_in profile subtype octets those) tt
+
+  pub those : (profile : Profile) (tc : Telecommand) → ReadsThose P (activation_in profile tc.payload) → ReadsThose P (command_of profile tc)
+  unfolding command_of
+  those profile tc is = those_of profile tc.service tc.subtype tc.payload is
 
 pub few : (profile : Profile) (tc : Telecommand) → ReadsFew (command_of profile tc)
-unfolding command_of
-few profile tc = few_of profile tc.service tc.subtype tc.payload
+few profile tc = those AreFew profile tc (few_activation profile tc.payload)

@@ -15,6 +15,7 @@ pub mod Completions
 pub mod Idle
 pub mod Turns
 pub mod Possible
+pub mod Started
 pub mod Budgets
 pub mod Exchanges
 pub mod Committing

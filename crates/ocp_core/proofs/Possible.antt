@@ -1,9 +1,10 @@
 -- The own events of a procedure are those that its image brings about, and so are the machine's faults.
-use Rattle.std.proofs.Common.{◌≡◌, ℕ, ℤ, pos, List, [], ◌∷◌, ◌++◌, Option, Some, None, true, false, cond, refl, sym, ap, subst, ◌∙◌}
-use Rattle.std.specs.Prelude.{◌==◌, ◌%◌, ◌^◌}
+use Rattle.std.proofs.Common.{◌≡◌, ℕ, ℤ, pos, Bool, arith, List, [], ◌∷◌, ◌++◌, Option, Some, None, true, false, cond, refl, sym, ap, subst, ◌∙◌}
+use Rattle.std.specs.Prelude.{◌==◌, ◌%◌, ◌^◌, if◌then◌else◌, slice_get, unsigned_abs}
 use Rattle.std.specs.Ordering.{nat_cmp}
 use Rattle.std.specs.FinMap.{get, get-empty}
 use Rattle.std.proofs.lemmas.Bool.{eqb-true}
+use Rattle.std.proofs.lemmas.Bool.Decides.{nat_tests}
 use Rattle.ocp_profile.specs.declared.profile.Profile.{Profile}
 use Rattle.obcp_types.specs.declared.failure.StartFailure.{StartFailure}
 use Rattle.obcp_types.specs.declared.failure.StartFailure.TheVariants.{NotLoaded}
@@ -12,8 +13,9 @@ use Rattle.bpf_step.specs.declared.answer.Need.TheVariants as need
 use Rattle.bpf_step.specs.Machine.{State, Outcome, Next, Needs, NoInstruction, machine_at_start, read}
 use Rattle.bpf_step.specs.Step.{one_step}
 use Rattle.ocp_pool.specs.declared.call.Called.{Called as Call}
-use Rattle.ocp_pool.specs.declared.call.Called.TheVariants.{StepEnd}
-use Rattle.ocp_pool.specs.Call.{engine_call, number_of}
+use Rattle.ocp_pool.specs.declared.call.Called.TheVariants.{NextParam, StepEnd}
+use Rattle.ocp_pool.specs.Call.{engine_call, number_of, r0_of, r1_of, was_there, pool_get, pool_set, pool_add, pool_compare_set}
+use Rattle.bpf_step.specs.Answers.{IsAnswer, was_given}
 use Rattle.ocp_table.specs.declared.answers.InstructionOutcome.{InstructionOutcome}
 use Rattle.ocp_table.specs.declared.answers.InstructionOutcome.TheVariants.{Broke, Ran, Called, Ended, Faulted}
 use Rattle.ocp_table.specs.declared.answers.StepOutcome.TheVariants as answer
@@ -52,6 +54,76 @@ ends_step called call r1 r2 r3 pool mailbox is five =
     let found : Some (StepEnd (r1 % 2 ^ 16)) ≡ Some call = subst (λ n. engine_call n r1 r2 r3 pool mailbox ≡ Some call) five is in
     sym (ap number_in found)
 
+-- what a call answers in R1, and in R0
+abbrev r1_in : Option Call → Option ℕ
+r1_in (Some call) = r1_of call
+r1_in None = None
+
+abbrev r0_in : Option Call → ℕ
+r0_in (Some call) = r0_of call
+r0_in None = 0
+
+get_keeps : (r1 : ℕ) (o : Option ℕ) → r1_in (pool_get r1 o) ≡ None
+get_keeps r1 (Some word) = refl
+get_keeps r1 None = refl
+
+set_keeps : (r1 r2 : ℕ) (o : Option ℕ) → r1_in (pool_set r1 r2 o) ≡ None
+set_keeps r1 r2 (Some word) = refl
+set_keeps r1 r2 None = refl
+
+add_keeps : (r1 r2 : ℕ) (o : Option ℕ) → r1_in (pool_add r1 r2 o) ≡ None
+add_keeps r1 r2 (Some word) = refl
+add_keeps r1 r2 None = refl
+
+compare_set_keeps : (r1 r2 r3 : ℕ) (o : Option ℕ) → r1_in (pool_compare_set r1 r2 r3 o) ≡ None
+compare_set_keeps r1 r2 r3 (Some word) = refl
+compare_set_keeps r1 r2 r3 None = refl
+
+module _ (r1 r2 r3 : ℕ) (pool mailbox : List ℕ) where
+  -- the call of a magnitude
+  abbrev call_of : ℕ → Option Call
+  call_of n =
+      if n == 1 then pool_get r1 (slice_get pool r1)
+      else if n == 2 then pool_set r1 r2 (slice_get pool r1)
+      else if n == 3 then pool_add r1 r2 (slice_get pool r1)
+      else if n == 4 then Some (NextParam (slice_get mailbox 0))
+      else if n == 6 then pool_compare_set r1 r2 r3 (slice_get pool r1)
+      else Some (StepEnd (r1 % 2 ^ 16))
+
+  keeps_if : (one two three four six : Bool) → four ≡ false →
+      r1_in (cond one (pool_get r1 (slice_get pool r1)) (cond two (pool_set r1 r2 (slice_get pool r1)) (cond three (pool_add r1 r2 (slice_get pool r1)) (cond four (Some (NextParam (slice_get mailbox 0))) (cond six (pool_compare_set r1 r2 r3 (slice_get pool r1)) (Some (StepEnd (r1 % 2 ^ 16)))))))) ≡ None
+  keeps_if true two three four six h = get_keeps r1 (slice_get pool r1)
+  keeps_if false true three four six h = set_keeps r1 r2 (slice_get pool r1)
+  keeps_if false false true four six h = add_keeps r1 r2 (slice_get pool r1)
+  keeps_if false false false true six h = absurd cc
+  keeps_if false false false false true h = compare_set_keeps r1 r2 r3 (slice_get pool r1)
+  keeps_if false false false false false h = refl
+
+  not_four : (n : ℕ) → (n ≡ 4 → ⊥) → (n == 4) ≡ false
+  not_four n h = grind (arith, nat_tests)
+
+  -- next_param alone writes R1
+  keeps : (n : ℕ) → (n ≡ 4 → ⊥) → r1_in (call_of n) ≡ None
+  keeps n h = keeps_if (n == 1) (n == 2) (n == 3) (n == 4) (n == 6) (not_four n h)
+
+  given_by : (word : Option ℕ) → was_there word ≡ was_given word
+  given_by (Some w) = refl
+  given_by None = refl
+
+  tells : (n : ℕ) → n ≡ 4 → r0_in (call_of n) ≡ was_given (r1_in (call_of n))
+  tells n e = subst (λ k. r0_in (call_of k) ≡ was_given (r1_in (call_of k))) (sym e) (given_by (slice_get mailbox 0))
+
+  ends : (n : ℕ) → n ≡ 5 → r0_in (call_of n) ≡ 0
+  ends n e = subst (λ k. r0_in (call_of k) ≡ 0) (sym e) refl
+
+  -- what is answered is an answer of the call's number
+  is_answer : (called : ℤ) (call : Call) → engine_call called r1 r2 r3 pool mailbox ≡ Some call → IsAnswer called (r0_of call) (r1_of call)
+  is_answer called call is = record {
+    keeps = λ h. sym (ap r1_in is) ∙ keeps (unsigned_abs called) h;
+    tells = λ e. sym (ap r0_in is) ∙ tells (unsigned_abs called) e ∙ ap (λ o. was_given (r1_in o)) is;
+    ends = λ e. sym (ap r0_in is) ∙ ends (unsigned_abs called) e;
+  }
+
 module _ (r : Rec) (pool : List ℕ) where
   ran : (l : Outcome) → outcome_of l r.machine pool r.mailbox ≡ Some Ran → (t : State) × (l ≡ Next t)
   ran (Next s) e = (s, refl)
@@ -68,8 +140,15 @@ module _ (r : Rec) (pool : List ℕ) where
   possible_outcome Ran is = let of = of_machine r pool Ran (λ e. cc) (λ e. cc) is in (ran (one_step r.image r.machine) of.2, tt)
   possible_outcome (Called call) is =
       let of = of_machine r pool (Called call) (λ e. cc) (λ e. cc) is in
-      let found = answered_need r pool call (one_step r.image r.machine) of.2 in
-      (record { called = found.0; next = found.1; ends_step = ends_step found.0 call (read r.machine 1) (read r.machine 2) (read r.machine 3) pool r.mailbox found.2 }, tt)
+      let found = answered_need r pool call (one_step r.image r.machine) of.2 in (
+        record {
+          called = found.0;
+          next = found.1;
+          ends_step = ends_step found.0 call (read r.machine 1) (read r.machine 2) (read r.machine 3) pool r.mailbox found.2;
+          answered = is_answer (read r.machine 1) (read r.machine 2) (read r.machine 3) pool r.mailbox found.0 call found.2;
+        },
+        tt,
+      )
   possible_outcome outcome is = tt
 
   possible_change : (change : Change) → IsHonestChange (Some r) pool change → ArePossible r.image r.machine (own_by_change change)

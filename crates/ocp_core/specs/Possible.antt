@@ -1,6 +1,7 @@
 -- A procedure's own events are events that its image brings about, and the machine's faults are
 -- those of its image.
 use Rattle.std.specs.Prelude.{◌≡◌, ◌≤◌, ◌↔◌, ℕ, ℤ, pos, false, List, [], ◌∷◌, length, Option, Some, None}
+use Rattle.std.specs.List.{All}
 use Rattle.std.specs.FinMap.{get}
 use Rattle.ocp_profile.specs.declared.profile.Profile.{Profile}
 use Rattle.obcp_types.specs.declared.status.Status.TheVariants.{Running}
@@ -10,6 +11,8 @@ use Rattle.bpf_step.specs.declared.answer.Need.TheVariants as need
 use Rattle.bpf_step.specs.Machine.{State, Next, Needs, machine_at_start}
 use Rattle.bpf_step.specs.Step.{one_step}
 use Rattle.bpf_step.specs.Runs.{breaks_at}
+use Rattle.bpf_step.specs.Reach.{IsOctet}
+use Rattle.bpf_step.specs.Answers.{IsAnswer}
 use Rattle.ocp_table.specs.declared.answers.InstructionOutcome.TheVariants.{Faulted}
 use Rattle.ocp_table.specs.declared.answers.StepOutcome.TheVariants as outcome
 use Rattle.ocp_table.specs.declared.fault.ProcedureFault.{ProcedureFault}
@@ -17,7 +20,7 @@ use Rattle.ocp_table.specs.declared.fault.ProcedureFault.TheVariants as fault
 use Rattle.ocp_table.specs.Budgets.{is_spent}
 use Rattle.ocp_table.specs.Faults.{fault_number}
 use Rattle.ocp_table.specs.Records.{Rec}
-use Rattle.ocp_world.specs.World.{World, Event, Step}
+use Rattle.ocp_world.specs.World.{World, Event, Request, Step}
 use Rattle.ocp_world.specs.After.{Stepped, after}
 use Rattle.ocp_world.specs.Replay.{replay}
 use Rattle.ocp_core.specs.History.{Does}
@@ -26,20 +29,21 @@ use Rattle.ocp_core.specs.Alone.{state_by}
 
 -- ---- own events
 
--- the image's instruction at the machine's place is an engine call, and own events name it by this
--- number: 5 if it ends a step
-pub record IsCallOf (image : List ℕ) (s : State) (number : ℕ) : Type 0 where
+-- the image's instruction at the machine's place is an engine call, own events name it by this
+-- number, 5 if it ends a step, and R0 and R1 are such as a call of its number is answered
+pub record IsCallOf (image : List ℕ) (s : State) (number r0 : ℕ) (r1 : Option ℕ) : Type 0 where
   pub called : ℤ
   pub next : one_step image s ≡ Needs (need.Call called)
   pub ends_step : called ≡ pos 5 → number ≡ 5
+  pub answered : IsAnswer called r0 r1
 
 -- an own event that may come next: a start with as many arguments as a request may have, an
 -- instruction that the image has at the machine's place and that needs no engine, or an engine call
--- that it has there
+-- that it has there, with such an answer
 abbrev pub IsPossible : List ℕ → State → Own → Type 0
 IsPossible image s (Start arguments) = length arguments ≤ MAX_ARGUMENTS_LENGTH
 IsPossible image s Local = (t : State) × (one_step image s ≡ Next t)
-IsPossible image s (Call number r0 r1) = IsCallOf image s number
+IsPossible image s (Call number r0 r1) = IsCallOf image s number r0 r1
 
 -- each of them may come next after those before it, from this machine on
 abbrev pub ArePossible : List ℕ → State → List Own → Type 0
@@ -65,6 +69,22 @@ OwnEventsArePossible =
     (profile : Profile) (apid words : ℕ) (es : List Event) (id : ℕ) (image : List ℕ) →
     image_after profile apid words es id ≡ Some image →
     ArePossible image (machine_at_start profile []) (own_events profile apid words es id)
+
+-- an event is made of octets: those of a request, since the others have none
+abbrev pub IsOfOctets : Event → Type 0
+IsOfOctets (Request by time octets) = All IsOctet octets
+IsOfOctets event = Unit {0}
+
+-- the arguments of a start are octets
+abbrev pub StartsWithOctets : Own → Type 0
+StartsWithOctets (Start arguments) = All IsOctet arguments
+StartsWithOctets own = Unit {0}
+
+-- the law: so are those of each start, if requests are made of octets
+abbrev pub StartsAreOfOctets : Type 0
+StartsAreOfOctets =
+    (profile : Profile) (apid words : ℕ) (es : List Event) (id : ℕ) → All IsOfOctets es →
+    All StartsWithOctets (own_events profile apid words es id)
 
 -- ---- faults
 

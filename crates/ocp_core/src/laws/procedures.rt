@@ -1,7 +1,7 @@
 //! One procedure by itself, over every list of events. The functions do nothing when they run:
 //! their contracts are the laws.
 ghost use Rattle.ocp_core.specs.Alone.{IsFactored};
-ghost use Rattle.ocp_core.specs.Possible.{ImagesStay, OwnEventsArePossible, FaultsOfMachine, FaultsAreAnswered};
+ghost use Rattle.ocp_core.specs.Possible.{ImagesStay, OwnEventsArePossible, StartsAreOfOctets, FaultsOfMachine, FaultsAreAnswered};
 ghost use Rattle.ocp_core.specs.Pool.{PoolIsOfOperations, CallsAreAnswered, CallsAnswerWords, FaultsOutside};
 ghost use Rattle.ocp_core.specs.Mailbox.{WordsComeInOrder, NoneIsLeft};
 ghost use Rattle.ocp_core.specs.Exchange.{MayBeExchanged, MayBeExchangedInLists};
@@ -15,10 +15,11 @@ pub fn machines_follow_from_their_own_events()
 
 /// A procedure's image is that of its last load, and its own events since then are events that this
 /// image brings about: each start has at most 256 octets of arguments, each instruction is the one
-/// at the machine's place, and so is each engine call.
+/// at the machine's place, and so is each engine call, which is answered as its number is.
 pub fn own_events_are_those_of_the_image()
     ensures image { ImagesStay }
     ensures events { OwnEventsArePossible }
+    ensures octets { StartsAreOfOctets }
 {}
 
 /// An instruction event is fault 1, 2 or 3 exactly if the image's instruction at the machine's
