@@ -1,7 +1,7 @@
 //! `ocp`: an engine for on-board control procedures on its ground console.
 #![tactic(auto)]
 
-use ocp_jobs::{Device, KeptSink, KeptSource, job_of_words, perform, refuse_words};
+use ocp_jobs::{Device, KeptSource, job_of_words, perform, refuse_words};
 use ocp_slices::Threaded;
 use std::process::ExitCode;
 
@@ -16,12 +16,11 @@ fn main(rt: HostRuntime) -> ExitCode {
                 inner: rt.stdin(),
                 failed: 0,
             };
-            let output = Device {
+            let mut writer = Device {
                 inner: rt.stdout(),
                 failed: 0,
             };
             let mut reader = KeptSource::for_job(rt.alloc(), job, input);
-            let mut writer = KeptSink::over(output);
             perform(&rt, &crew, job, &mut reader, &mut writer)
         }
         Err(fault) => refuse_words(&rt, fault),

@@ -1,22 +1,16 @@
-//! What did not fit in an input that was refused, as a person would say it. Nothing that the
-//! program answers rests on a hint.
+//! What was unexpected in an input that was refused, as a person would say it. The readers find it:
+//! a hint has examples and sentences, and asks them. Nothing that the program answers depends on a
+//! hint.
 #![tactic(auto)]
 
-mod answer;
+mod assembly;
 mod explained;
-mod form;
 mod hint;
 mod image;
-mod line;
-mod number;
-mod operand;
-mod part;
-mod rest;
+mod reader;
+mod script;
 mod sentences;
-mod shape;
-mod slot;
-mod statement;
+mod tokens;
 
-pub use answer::{Answer, answer_in};
-pub use explained::{Explained, LineFault, Refused};
+pub use explained::{Explained, Refused, ScriptFault};
 pub use hint::Hint;

@@ -2,7 +2,7 @@
 
 use crate::kept::{Keeps, Text};
 use ocp_console::MAX_LINES;
-use ocp_hints::{Explained, LineFault, Refused, answer_in};
+use ocp_hints::{Explained, Refused, ScriptFault};
 use ocp_ports::ConsoleFault;
 use ocp_profile::Profile;
 use ocp_words::Job;
@@ -27,9 +27,9 @@ fn refused_line<'a>(
     fault: &ConsoleFault,
 ) -> Option<Refused<'a>> {
     let (fault, number) = match fault {
-        ConsoleFault::Syntax(number) => (LineFault::Syntax(profile), u64::from(*number)),
-        ConsoleFault::LineTooLong(number) => (LineFault::TooLong, u64::from(*number)),
-        ConsoleFault::TooManyLines => (LineFault::TooMany, FIRST_LINE_TOO_MANY),
+        ConsoleFault::Syntax(number) => (ScriptFault::Syntax(profile), u64::from(*number)),
+        ConsoleFault::LineTooLong(number) => (ScriptFault::TooLong, u64::from(*number)),
+        ConsoleFault::TooManyLines => (ScriptFault::TooMany, FIRST_LINE_TOO_MANY),
         _ => return None,
     };
     Some(Refused::Line {
@@ -46,29 +46,29 @@ fn refusal_of<'a>(
     octets: &'a [u8],
     before: u64,
     fault: Option<&ConsoleFault>,
-    output: &[u8],
 ) -> Option<Refused<'a>> {
     match (job, fault) {
         (Job::Run(settings), Some(fault)) => refused_line(settings.profile, octets, before, fault),
-        (Job::Assemble(_), None) => Some(Refused::Text(octets, answer_in(output)?)),
-        (Job::List, None) => Some(Refused::Image(octets, answer_in(output)?)),
+        (Job::Assemble(profile), None) => Some(Refused::Text(profile, octets)),
+        (Job::List, None) => Some(Refused::Image(octets)),
         _ => None,
     }
 }
 
 /// Prints on standard error what was unexpected in an input, if that is known.
-pub(crate) fn say_hint<E: Eprint>(
+pub(crate) fn say_hint<E: Eprint + AllocGlobal>(
     rt: &E,
     job: Job,
     text: &Text,
     fault: Option<&ConsoleFault>,
-    output: &[u8],
 ) {
     let Some(octets) = text.octets() else {
         return;
     };
-    if let Some(refused) = refusal_of(job, octets, text.before(), fault, output) {
-        let explained = Explained::of(refused);
+    let Some(refused) = refusal_of(job, octets, text.before(), fault) else {
+        return;
+    };
+    if let Ok(Some(explained)) = Explained::of(rt.alloc(), refused) {
         let _ = eprint!(rt; "{explained}");
     }
 }

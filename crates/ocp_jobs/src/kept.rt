@@ -1,11 +1,10 @@
-//! What a job read and wrote, to the extent that a hint needs it.
+//! What a job read, to the extent that a hint needs it.
 
 ghost use Rattle.std.specs.Prelude.{◌≡◌, ◌≤◌, length};
 
 use crate::hint::keeps_of;
-use arrayvec::ArrayVec;
 use memchr::memrchr;
-use ocp_ports::{Sink, Source};
+use ocp_ports::Source;
 use ocp_words::Job;
 use std::alloc::{AllocError, Global};
 use std::mem::swap;
@@ -152,68 +151,6 @@ impl<S: Source + Drop> Source for KeptSource<S> {
     fn read(&mut self, buffer: &mut [u8]) -> Option<usize> {
         let count = self.inner.read(buffer)?;
         self.text.take(&buffer[..count]);
-        Some(count)
-    }
-}
-
-/// The number of octets of an output that are kept: more than the line of a fault has.
-const FRONT: usize = 64;
-
-/// The front of what was written.
-#[derive(Drop)]
-pub(crate) struct Front {
-    octets: ArrayVec<u8, FRONT>,
-}
-
-impl Front {
-    pub fn new() -> Front {
-        Front {
-            octets: ArrayVec::new(),
-        }
-    }
-
-    /// Takes octets that were written, up to the room that is left.
-    fn take(&mut self, octets: &[u8]) {
-        for octet in octets {
-            if self.octets.try_push(*octet).is_err() {
-                break;
-            }
-        }
-    }
-
-    pub fn octets(&self) -> &[u8] {
-        &self.octets
-    }
-}
-
-/// A sink that keeps the front of what it wrote.
-#[derive(Drop)]
-pub struct KeptSink<S: Sink + Drop> {
-    /// Where it writes to.
-    pub inner: S,
-    pub(crate) front: Front,
-}
-
-impl<S: Sink + Drop> KeptSink<S> {
-    /// The output of a job.
-    pub fn over(inner: S) -> KeptSink<S>
-        ensures { result.inner ≡ inner }
-    {
-        KeptSink {
-            inner,
-            front: Front::new(),
-        }
-    }
-}
-
-impl<S: Sink + Drop> Sink for KeptSink<S> {
-    ghost contents = { λ s. S.contents s.inner };
-
-    ghost failed_writes = { λ s. S.failed_writes s.inner };
-
-    fn write(&mut self, octets: &[u8]) -> Option<usize> {
-        let count = self.inner.write(octets)?;
-        self.front.take(&octets[..count]);
         Some(count)
     }
 }

@@ -8,7 +8,7 @@ mod performing;
 mod status;
 mod words;
 
-pub use kept::{KeptSink, KeptSource};
+pub use kept::KeptSource;
 pub use ocp_ports::Device;
 pub use performing::perform;
 pub use words::{job_of_words, refuse_words};

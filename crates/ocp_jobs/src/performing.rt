@@ -6,7 +6,7 @@ ghost use Rattle.ocp_ports.specs.Outcomes.{TellsReads, TellsWrites};
 ghost use Rattle.ocp_jobs.specs.Performing.{Answers, Leaves, Performs};
 
 use crate::hint::say_hint;
-use crate::kept::{KeptSink, KeptSource};
+use crate::kept::KeptSource;
 use crate::status::status_of;
 use ocp_commands::{asm, check, list};
 use ocp_console::run;
@@ -50,34 +50,34 @@ fn answer_of<R: Source, W: Sink, C: Crew<Engine>>(
 /// input has a fault, or `check` does not show all, with a hint on standard error if one is known;
 /// and 3 if a device or the workers failed or memory was refused, with its name on standard error.
 /// The text on standard error changes neither what is written nor the status.
-pub fn perform<E: Eprint + AllocGlobal, R: Source + Drop, W: Sink + Drop, C: Crew<Engine>>(
+pub fn perform<E: Eprint + AllocGlobal, R: Source + Drop, W: Sink, C: Crew<Engine>>(
     rt: &E,
     crew: &C,
     job: Job,
     reader: &mut KeptSource<R>,
-    writer: &mut KeptSink<W>,
+    writer: &mut W,
 ) -> ExitCode
     requires ready { C.ready crew.now }
     requires reads { R.failed_reads reader.old.inner < 2 ^ 64 - 1 }
-    requires writes { W.failed_writes writer.old.inner < 2 ^ 64 - 1 }
+    requires writes { W.failed_writes writer.old < 2 ^ 64 - 1 }
     ensures performs { IfSome (R.remaining reader.old.inner) (λ input.
         Performs (C.answers crew.now) job input
-        (W.contents writer.old.inner) (W.contents writer.new.inner)
+        (W.contents writer.old) (W.contents writer.new)
         (R.failed_reads reader.old.inner) (R.failed_reads reader.new.inner)
-        (W.failed_writes writer.old.inner) (W.failed_writes writer.new.inner)
+        (W.failed_writes writer.old) (W.failed_writes writer.new)
         (exit_status result)) }
     ensures left { IfSome (R.remaining reader.old.inner)
         (λ input. Leaves job input (R.remaining reader.new.inner)) }
     ensures read { R.failed_reads reader.old.inner < R.failed_reads reader.new.inner →
         exit_status result ≡ 3 }
-    ensures write { W.failed_writes writer.old.inner < W.failed_writes writer.new.inner →
+    ensures write { W.failed_writes writer.old < W.failed_writes writer.new →
         exit_status result ≡ 3 }
 {
     let answer = answer_of(rt.alloc(), crew, job, reader, writer);
     match &answer {
         Ok(true) => {}
-        Ok(false) => say_hint(rt, job, &reader.text, None, writer.front.octets()),
-        Err(fault) => say_hint(rt, job, &reader.text, Some(fault), writer.front.octets()),
+        Ok(false) => say_hint(rt, job, &reader.text, None),
+        Err(fault) => say_hint(rt, job, &reader.text, Some(fault)),
     }
     status_of(rt, answer)
 }
