@@ -7,8 +7,7 @@ ghost use Rattle.ocp_c.specs.declared.status.Status.{Status as Refusal};
 ghost use Rattle.ocp_c.specs.Opening.{opening};
 ghost use Rattle.ocp_c.specs.Sizes.{sum_of_pieces};
 
-use ocp_flight::MAX_OCTETS;
-use ocp_profile::{MAX_CAPACITY, MAX_POOL_WORDS};
+use crate::opening::profile_of;
 
 // 16 records of procedures, and 16 executions that wait for a load.
 const PROCEDURES: usize = 16 * 816 + 16 * 584;
@@ -46,21 +45,13 @@ fn round_up(octets: usize) -> usize
 /// The octets that an open takes of a block whose pieces begin at multiples of 16, or 0 if it
 /// refuses these numbers.
 #[unsafe(no_mangle)]
-#[tactic(auto, unfolding(crate::specs::Opening::opening))]
 pub extern "C" fn ocp_size(profile: u32, pool_words: u32, entries: u32, octets: u32) -> usize
     ensures refused { (why : Refusal) → opening profile 0 pool_words entries octets ≡ Err why →
         result ≡ 0 }
     ensures size { (flown : Flown) → opening profile 0 pool_words entries octets ≡ Ok flown →
         result ≡ sum_of_pieces pool_words entries octets }
 {
-    if !matches!(profile, 1 | 2)
-        || pool_words < 1
-        || pool_words > u32::from(MAX_POOL_WORDS)
-        || entries < 1
-        || entries > MAX_CAPACITY
-        || octets < 1
-        || octets > MAX_OCTETS
-    {
+    if profile_of(profile, 0, pool_words, entries, octets).is_err() {
         return 0;
     }
     FIXED
