@@ -13,7 +13,8 @@ use Rattle.ocp_ports.specs.Printing.{PrintsPrefix}
 use Rattle.ocp_ports.specs.declared.crew.CrewFault.{CrewFault}
 use Rattle.ocp_lines.specs.declared.command.Shift.{Shift}
 use Rattle.ocp_console.specs.Answering.{State, Effect, respond}
-use Rattle.ocp_console.specs.Crew.{CrewAnswers, HasDone, HasRefused, crew_fault}
+use Rattle.ocp_ports.specs.Faults.{crew_fault}
+use Rattle.ocp_console.specs.Crew.{CrewAnswers, HasDone, HasRefused}
 use Rattle.ocp_console.specs.Mirror.Replies.{works_of}
 use Rattle.ocp_console.specs.Script.{Step, Ends, Goes, step_of, Writing, IsFailure, Follows, FaultLine, AtStep, Writes, PrintsBy}
 use Rattle.ocp_console.specs.Mirror.Session.{after_line}

@@ -1,10 +1,7 @@
 -- What a line does if a crew does the work.
 use Rattle.std.specs.Prelude.{◌≡◌, ℕ, List, Result, Ok, Err}
 use Rattle.ocp_core.specs.Log.{Log}
-use Rattle.ocp_ports.specs.declared.fault.ConsoleFault.{ConsoleFault}
-use Rattle.ocp_ports.specs.declared.fault.ConsoleFault.TheVariants as faults
 use Rattle.ocp_ports.specs.declared.crew.CrewFault.{CrewFault}
-use Rattle.ocp_ports.specs.declared.crew.CrewFault.TheVariants as refusal
 use Rattle.ocp_console.specs.Answering.{State, Effect, Does, Works}
 use Rattle.ocp_console.specs.Texts.{work_line}
 
@@ -25,8 +22,3 @@ abbrev pub HasRefused : CrewAnswers → State → Effect → CrewFault → Type 
 HasRefused crew state (Does next) refused = ⊥
 HasRefused crew state (Works workers budget turns) refused =
     crew state.engine workers budget turns (Err refused)
-
--- how a run ends if its crew refused
-abbrev pub crew_fault : CrewFault → ConsoleFault
-crew_fault refusal.Memory = faults.Memory
-crew_fault refusal.Workers = faults.Workers

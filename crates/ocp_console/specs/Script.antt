@@ -11,7 +11,8 @@ use Rattle.ocp_words.specs.declared.job.Settings.{Settings}
 use Rattle.ocp_lines.specs.Grammar.{Work, command_of}
 use Rattle.ocp_ports.specs.declared.crew.CrewFault.{CrewFault}
 use Rattle.ocp_console.specs.Answering.{State, Effect, Does, Works, opening, respond}
-use Rattle.ocp_console.specs.Crew.{CrewAnswers, HasDone, HasRefused, crew_fault}
+use Rattle.ocp_ports.specs.Faults.{crew_fault}
+use Rattle.ocp_console.specs.Crew.{CrewAnswers, HasDone, HasRefused}
 use Rattle.ocp_console.specs.declared.session.TheConstants.{MAX_LINES, MAX_LINE_OCTETS}
 
 -- what is printed, and how the run ends

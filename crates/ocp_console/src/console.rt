@@ -181,7 +181,11 @@ impl<A: Allocator + Copy> Console<A> {
     }
 
     /// The console after the crew's work, or none if the crew refused: then the engine is lost.
-    pub fn work<C: Crew<Engine<A>>>(self, crew: &C, shift: Shift) -> Result<Console<A>, CrewFault>
+    pub fn work<C: Crew<Engine<A>>>(
+        mut self,
+        crew: &C,
+        shift: Shift,
+    ) -> Result<Console<A>, CrewFault>
         requires { C.ready crew.now }
         ensures done { IfOk result (λ console.
             HasDone (C.answers crew.now) (state_of self) (works_of shift)
@@ -189,23 +193,10 @@ impl<A: Allocator + Copy> Console<A> {
         ensures refused { IfErr result (λ refused.
             HasRefused (C.answers crew.now) (state_of self) (works_of shift) refused) }
     {
-        let Console {
-            profile,
-            engine,
-            apid,
-            time,
-            count,
-            output,
-        } = self;
         let workers = shift.workers.number as u16;
-        let engine = crew.work(engine, workers, shift.budget.number, shift.turns.number)?;
-        Ok(Console {
-            profile,
-            engine,
-            apid,
-            time,
-            count,
-            output,
-        })
+        let budget = shift.budget.number;
+        let turns = shift.turns.number;
+        self.engine = crew.work(self.engine, workers, budget, turns)?;
+        Ok(self)
     }
 }

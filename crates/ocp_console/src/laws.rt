@@ -12,5 +12,6 @@ use std::alloc::Allocator;
 pub fn reports_have_their_lines<A: Allocator>(reports: &Reports<A>)
     ensures { All HasLine reports.now }
 {
+    // Nothing uses the packets: the read shows the proof what the type of reports guarantees.
     let _packets = reports.packets();
 }

@@ -5,7 +5,7 @@ ghost use Rattle.ocp_console.specs.Answering.{state_of};
 ghost use Rattle.text_lines.specs.Lines.{Line, text_of, octets_of};
 ghost use Rattle.ocp_console.specs.declared.session.TheConstants.{MAX_LINES, MAX_LINE_OCTETS};
 ghost use Rattle.ocp_ports.specs.Outcomes.{TellsWrites};
-ghost use Rattle.ocp_console.specs.Crew.{crew_fault};
+ghost use Rattle.ocp_ports.specs.Faults.{fault_name};
 ghost use Rattle.ocp_console.specs.Script.{FaultLine, Writes, PrintsBy};
 ghost use Rattle.ocp_console.specs.Mirror.Session.{Answers, after_line, rest_of, rest_with, octets_so_far};
 ghost use Rattle.ocp_console.specs.Mirror.Lines.{HasTaken, TakesUpTo, CountsWrites};
@@ -15,7 +15,7 @@ use crate::session::{MAX_LINES, Session};
 use crate::texts::work_text;
 use ocp_core::Engine;
 use ocp_lines::{Shift, read_command};
-use ocp_ports::{ConsoleFault, Crew, CrewFault, Sink, error_text, write_whole};
+use ocp_ports::{ConsoleFault, Crew, Sink, error_text, write_whole};
 use std::alloc::Allocator;
 use text_lines::without_carriage_return;
 
@@ -24,32 +24,21 @@ fn refuse<W: Sink, A: Allocator + Copy>(
     alloc: A,
     writer: &mut W,
     number: u32,
-    name: &str,
     fault: ConsoleFault,
 ) -> ConsoleFault
     requires { W.failed_writes writer.old < 2 ^ 64 - 1 }
     ensures prints { PrintsBy (W.contents writer.old) (W.contents writer.new)
-        (FaultLine number name.now fault) (Err result) }
+        (FaultLine number (fault_name fault) fault) (Err result) }
     ensures write { fault ≢ ConsoleFault.Write →
         (result ≡ ConsoleFault.Write) ↔ (W.failed_writes writer.old < W.failed_writes writer.new) }
     ensures no_read { result ≡ ConsoleFault.Read → fault ≡ ConsoleFault.Read }
 {
-    match error_text(alloc, u64::from(number), name) {
-        Err(_) => ConsoleFault::Memory,
-        Ok(text) => match write_whole(writer, text.as_bytes()) {
-            Ok(()) => fault,
-            Err(failure) => failure,
-        },
-    }
-}
-
-/// How a run ends if its crew refused.
-fn fault_of(refused: CrewFault) -> ConsoleFault
-    ensures { result ≡ crew_fault refused }
-{
-    match refused {
-        CrewFault::Memory => ConsoleFault::Memory,
-        CrewFault::Workers => ConsoleFault::Workers,
+    let Ok(text) = error_text(alloc, u64::from(number), fault.name()) else {
+        return ConsoleFault::Memory;
+    };
+    match write_whole(writer, text.as_bytes()) {
+        Ok(()) => fault,
+        Err(failure) => failure,
     }
 }
 
@@ -76,13 +65,8 @@ fn line_answer<W: Sink, C: Crew<Engine<A>>, A: Allocator + Copy>(
 {
     let mut scratch = Vec::new(alloc);
     let Some(command) = read_command(&mut scratch, console.profile, text)? else {
-        return Err(refuse(
-            alloc,
-            writer,
-            before + 1,
-            "Syntax",
-            ConsoleFault::Syntax(before + 1),
-        ));
+        let fault = ConsoleFault::Syntax(before + 1);
+        return Err(refuse(alloc, writer, before + 1, fault));
     };
     match console.obey(alloc, command)? {
         Reply::Printed => {
@@ -110,14 +94,10 @@ fn work<W: Sink, C: Crew<Engine<A>>, A: Allocator + Copy>(
     ensures count { CountsWrites (W.failed_writes writer.old) (W.failed_writes writer.new) result }
     ensures no_read { IsErrOf result ConsoleFault.Read → ⊥ }
 {
-    match console.work(crew, shift) {
-        Ok(console) => {
-            let closed = work_text(shift.workers.number);
-            write_whole(writer, closed.as_slice())?;
-            Ok(console)
-        }
-        Err(refused) => Err(fault_of(refused)),
-    }
+    let console = console.work(crew, shift)?;
+    let closed = work_text(shift.workers.number);
+    write_whole(writer, closed.as_slice())?;
+    Ok(console)
 }
 
 /// Takes an octet that does not continue its line: it ends it, or there is no room for it.
@@ -142,22 +122,13 @@ fn feed<W: Sink, C: Crew<Engine<A>>, A: Allocator + Copy>(
     ensures no_read { IsErrOf result ConsoleFault.Read → ⊥ }
 {
     if session.before == MAX_LINES {
-        return Err(refuse(
-            alloc,
-            writer,
-            MAX_LINES + 1,
-            "TooManyLines",
-            ConsoleFault::TooManyLines,
-        ));
+        let fault = ConsoleFault::TooManyLines;
+        return Err(refuse(alloc, writer, MAX_LINES + 1, fault));
     }
     if octet != b'\n' {
-        return Err(refuse(
-            alloc,
-            writer,
-            session.before + 1,
-            "LineTooLong",
-            ConsoleFault::LineTooLong(session.before + 1),
-        ));
+        let number = session.before + 1;
+        let fault = ConsoleFault::LineTooLong(number);
+        return Err(refuse(alloc, writer, number, fault));
     }
     let text = without_carriage_return(&session.line);
     let asked = line_answer(
@@ -220,7 +191,7 @@ fn take_line<'a, W: Sink, C: Crew<Engine<A>>, A: Allocator + Copy>(
 
 /// Has the crew do what a `work` line asks for, in the session.
 fn hand_over<W: Sink, C: Crew<Engine<A>>, A: Allocator + Copy>(
-    session: Session<A>,
+    mut session: Session<A>,
     alloc: A,
     crew: &C,
     shift: Shift,
@@ -236,22 +207,13 @@ fn hand_over<W: Sink, C: Crew<Engine<A>>, A: Allocator + Copy>(
     ensures count { CountsWrites (W.failed_writes writer.old) (W.failed_writes writer.new) result }
     ensures no_read { IsErrOf result ConsoleFault.Read → ⊥ }
 {
-    let Session {
-        console,
-        line,
-        before,
-    } = session;
-    let console = work(alloc, console, crew, shift, writer)?;
-    Ok(Session {
-        console,
-        line,
-        before,
-    })
+    session.console = work(alloc, session.console, crew, shift, writer)?;
+    Ok(session)
 }
 
 /// Takes octets of a script.
 pub(crate) fn feed_all<W: Sink, C: Crew<Engine<A>>, A: Allocator + Copy>(
-    session: Session<A>,
+    mut session: Session<A>,
     alloc: A,
     crew: &C,
     octets: &[u8],
@@ -269,7 +231,6 @@ pub(crate) fn feed_all<W: Sink, C: Crew<Engine<A>>, A: Allocator + Copy>(
     ensures count { CountsWrites (W.failed_writes writer.old) (W.failed_writes writer.new) result }
     ensures no_read { IsErrOf result ConsoleFault.Read → ⊥ }
 {
-    let mut session = session;
     let mut rest = octets;
     while !rest.is_empty() {
         let (behind, asked) = take_line(&mut session, alloc, crew, rest, writer)?;
@@ -299,13 +260,8 @@ pub(crate) fn finish<W: Sink, C: Crew<Engine<A>>, A: Allocator + Copy>(
         return Ok(());
     }
     if session.before == MAX_LINES {
-        return Err(refuse(
-            alloc,
-            writer,
-            MAX_LINES + 1,
-            "TooManyLines",
-            ConsoleFault::TooManyLines,
-        ));
+        let fault = ConsoleFault::TooManyLines;
+        return Err(refuse(alloc, writer, MAX_LINES + 1, fault));
     }
     let Session {
         mut console,

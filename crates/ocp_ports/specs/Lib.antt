@@ -2,3 +2,4 @@ pub mod Ports
 pub mod Reading
 pub mod Printing
 pub mod Outcomes
+pub mod Faults

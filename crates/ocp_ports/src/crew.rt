@@ -3,6 +3,8 @@
 ghost use Rattle.std.specs.Prelude.{◌≤◌, ℕ, Result};
 ghost use Rattle.ocp_ports.specs.declared.crew.CrewFault.{CrewFault};
 
+use thiserror::Error;
+
 /// Who does the work of a `work` line, on engines of the type `E`.
 pub trait Crew<E> {
     // What it needs to work.
@@ -22,10 +24,12 @@ pub trait Crew<E> {
 }
 
 /// Why a crew gave no engine back.
-#[derive(Clone, Copy, Debug)]
+#[derive(Clone, Copy, Debug, Error)]
 pub enum CrewFault {
     /// Memory ran out.
+    #[error("out of memory")]
     Memory,
     /// The work could not be closed.
+    #[error("the workers failed")]
     Workers,
 }

@@ -2,7 +2,9 @@
 
 ghost use Rattle.std.specs.Prelude.{◌≡◌};
 ghost use Rattle.ocp_ports.specs.declared.fault.ConsoleFault.TheVariants.{Memory};
+ghost use Rattle.ocp_ports.specs.Faults.{fault_name, crew_fault};
 
+use crate::crew::CrewFault;
 use std::alloc::{AllocError, AllocFailed};
 use thiserror::Error;
 
@@ -30,6 +32,35 @@ pub enum ConsoleFault {
     /// The crew refused, for a reason other than memory.
     #[error("the workers failed")]
     Workers,
+}
+
+impl ConsoleFault {
+    /// Its name in what the program prints.
+    pub fn name(&self) -> &'static str
+        ensures { result.now ≡ fault_name self.now }
+    {
+        match self {
+            ConsoleFault::TooManyLines => "TooManyLines",
+            ConsoleFault::LineTooLong(_) => "LineTooLong",
+            ConsoleFault::Syntax(_) => "Syntax",
+            ConsoleFault::Read => "Read",
+            ConsoleFault::Write => "Write",
+            ConsoleFault::Memory => "Memory",
+            ConsoleFault::Workers => "Workers",
+        }
+    }
+}
+
+/// How a run ends if its crew refused.
+impl From<CrewFault> for ConsoleFault {
+    ghost from_gives = { λ refused e. e ≡ crew_fault refused };
+
+    fn from(refused: CrewFault) -> ConsoleFault {
+        match refused {
+            CrewFault::Memory => ConsoleFault::Memory,
+            CrewFault::Workers => ConsoleFault::Workers,
+        }
+    }
 }
 
 impl From<AllocError> for ConsoleFault {
