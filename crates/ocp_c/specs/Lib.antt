@@ -1,4 +1,5 @@
 pub mod Held
+pub mod With
 pub mod Statuses
 pub mod Calls
 pub mod Opening

@@ -1,6 +1,6 @@
 //! Requests and drains, whose reports go into a buffer of C's.
 
-ghost use Rattle.std.specs.Prelude.{◌≡◌, ◌≤◌, ◌==◌, if◌then◌else◌, length};
+ghost use Rattle.std.specs.Prelude.{◌≡◌, ◌≤◌, ◌==◌, if◌then◌else◌, false, length, IfOk, IfErr};
 ghost use Rattle.std.specs.declared.option.Option.TheVariants.{None, Some};
 ghost use Rattle.ocp_world.specs.World.{Request, Drain};
 ghost use Rattle.ocp_flight.specs.Flown.{Flown};
@@ -14,45 +14,55 @@ ghost use Rattle.ocp_c.specs.Replies.{replies, reports_in};
 use crate::{Handle, OpenEngine, SEAT, Status};
 use std::alloc::Global;
 
-// Writes octets to the front of a buffer, and answers how many they are.
+// Writes octets to the front of a buffer. It returns how many they are.
 fn pour(octets: &[u8], buffer: &mut [u8]) -> usize
     requires { length octets.now ≤ length buffer.old }
     ensures buffer { buffer.new ≡ buffer_after octets.now buffer.old }
     ensures length { result ≡ length octets.now }
 {
-    let (front, _back) = buffer.split_at_mut(octets.len());
-    front.copy_from_slice(octets);
+    buffer[..octets.len()].copy_from_slice(octets);
     octets.len()
 }
 
-// A request to an engine, with its reports in a buffer.
+// The octets of reports that a request writes to a buffer.
 fn request_into(
     held: &mut OpenEngine,
     time: u32,
     packet: &[u8],
     reports: &mut [u8],
-    written: &mut usize,
-) -> u32
-    ensures answer { result ≡ number_of (replies 272 (length reports.old)
-        (answer_in held.old (Request 0 time packet.now))) }
-    ensures engine { held.new ≡ (if result == 0
-        then flown_after held.old (Request 0 time packet.now) else held.old) }
-    ensures reports { reports.new ≡ (if result == 0
-        then buffer_after (reports_in (answer_in held.old (Request 0 time packet.now)))
-        reports.old else reports.old) }
-    ensures written { written.new ≡ (if result == 0 then
-        length (reports_in (answer_in held.old (Request 0 time packet.now)))
-        else written.old) }
+) -> Result<usize, Status>
+    ensures done { IfOk result (λ count.
+        (replies 272 (length reports.old) (answer_in held.old (Request 0 time packet.now))
+        ≡ status.Done)
+        × (count ≡ length (reports_in (answer_in held.old (Request 0 time packet.now))))
+        × (held.new ≡ flown_after held.old (Request 0 time packet.now))
+        × (reports.new ≡ buffer_after (reports_in (answer_in held.old (Request 0 time packet.now)))
+        reports.old)) }
+    ensures refused { IfErr result (λ why.
+        (replies 272 (length reports.old) (answer_in held.old (Request 0 time packet.now)) ≡ why)
+        × ((number_of why == 0) ≡ false) × (held.new ≡ held.old)
+        × (reports.new ≡ reports.old)) }
 {
     if reports.len() < 272 {
-        return Status::BufferTooSmall.number();
+        return Err(Status::BufferTooSmall);
     }
-    match held.engine.request(SEAT, time, packet, &mut held.packets) {
-        Ok(()) => {
-            *written = pour(held.packets.octets(), reports);
+    held.engine.request(SEAT, time, packet, &mut held.packets)?;
+    Ok(pour(held.packets.octets(), reports))
+}
+
+// Writes how many octets of reports there are. It returns the number of the answer.
+fn tell_length(given: Result<usize, Status>, written: &mut usize) -> u32
+    ensures done { IfOk given (λ count.
+        (result ≡ number_of status.Done) × (written.new ≡ count)) }
+    ensures refused { IfErr given (λ why.
+        (result ≡ number_of why) × (written.new ≡ written.old)) }
+{
+    match given {
+        Ok(count) => {
+            *written = count;
             Status::Done.number()
         }
-        Err(fault) => Status::of_fault(fault).number(),
+        Err(status) => status.number(),
     }
 }
 
@@ -81,37 +91,30 @@ pub extern "C" fn ocp_request(
         then length (reports_in (answer_in flown (Request 0 time packet.now)))
         else written.old) }
 {
-    let Some(mut held) = handle.take(alloc) else {
-        return Status::NotOpen.number();
-    };
-    let number = request_into(&mut held, time, packet, reports, written);
-    handle.put(held);
-    number
+    let given = handle.with_buffer(alloc, reports, |held, reports| {
+        request_into(held, time, packet, reports)
+    });
+    tell_length(given.unwrap_or(Err(Status::NotOpen)), written)
 }
 
-// A drain of an engine, with its reports in a buffer.
-fn drain_into(held: &mut OpenEngine, time: u32, reports: &mut [u8], written: &mut usize) -> u32
-    ensures answer { result ≡ number_of (replies 1600 (length reports.old)
-        (answer_in held.old (Drain 0 time))) }
-    ensures engine { held.new ≡ (if result == 0 then flown_after held.old (Drain 0 time)
-        else held.old) }
-    ensures reports { reports.new ≡ (if result == 0
-        then buffer_after (reports_in (answer_in held.old (Drain 0 time))) reports.old
-        else reports.old) }
-    ensures written { written.new ≡ (if result == 0 then
-        length (reports_in (answer_in held.old (Drain 0 time)))
-        else written.old) }
+// The octets of reports that a drain writes to a buffer.
+fn drain_into(held: &mut OpenEngine, time: u32, reports: &mut [u8]) -> Result<usize, Status>
+    ensures done { IfOk result (λ count.
+        (replies 1600 (length reports.old) (answer_in held.old (Drain 0 time)) ≡ status.Done)
+        × (count ≡ length (reports_in (answer_in held.old (Drain 0 time))))
+        × (held.new ≡ flown_after held.old (Drain 0 time))
+        × (reports.new ≡ buffer_after (reports_in (answer_in held.old (Drain 0 time)))
+        reports.old)) }
+    ensures refused { IfErr result (λ why.
+        (replies 1600 (length reports.old) (answer_in held.old (Drain 0 time)) ≡ why)
+        × ((number_of why == 0) ≡ false) × (held.new ≡ held.old)
+        × (reports.new ≡ reports.old)) }
 {
     if reports.len() < 1600 {
-        return Status::BufferTooSmall.number();
+        return Err(Status::BufferTooSmall);
     }
-    match held.engine.drain(SEAT, time, &mut held.packets) {
-        Ok(()) => {
-            *written = pour(held.packets.octets(), reports);
-            Status::Done.number()
-        }
-        Err(fault) => Status::of_fault(fault).number(),
-    }
+    held.engine.drain(SEAT, time, &mut held.packets)?;
+    Ok(pour(held.packets.octets(), reports))
 }
 
 /// Reports the completions that wait. It asks for no memory.
@@ -138,10 +141,8 @@ pub extern "C" fn ocp_drain(
         then length (reports_in (answer_in flown (Drain 0 time)))
         else written.old) }
 {
-    let Some(mut held) = handle.take(alloc) else {
-        return Status::NotOpen.number();
-    };
-    let number = drain_into(&mut held, time, reports, written);
-    handle.put(held);
-    number
+    let given = handle.with_buffer(alloc, reports, |held, reports| {
+        drain_into(held, time, reports)
+    });
+    tell_length(given.unwrap_or(Err(Status::NotOpen)), written)
 }

@@ -1,6 +1,7 @@
 //! What C holds of an engine.
 
 ghost use Rattle.std.specs.Prelude.{◌≡◌};
+ghost use Rattle.std.specs.Fn.{FnOnceReturnsAtMut};
 ghost use Rattle.std.specs.Option.{MatchOption};
 ghost use Rattle.std.specs.Coded.{coded_option};
 ghost use denote.RawPtr.{null_ptr};
@@ -9,9 +10,14 @@ ghost use Rattle.std.specs.declared.option.Option.TheVariants.{None, Some};
 ghost use Rattle.ocp_flight.specs.Flown.{Flown};
 ghost use Rattle.ocp_flight.specs.Mirror.Codes.{flown_code};
 ghost use Rattle.ocp_c.specs.Held.{ownership_at};
+ghost use Rattle.ocp_c.specs.With.{ReturnsAtBuffer};
+ghost use Rattle.ocp_c.specs.declared.status.Status.{Status as Answer};
+ghost use Rattle.ocp_c.specs.declared.status.Status.TheVariants as status;
+ghost use Rattle.ocp_c.specs.Statuses.{number_of};
 
-use crate::OpenEngine;
 use crate::loose::Loose;
+use crate::{OpenEngine, Status};
+use ocp_flight::Flight;
 use std::alloc::Global;
 use std::marker::Model;
 use std::mem;
@@ -96,5 +102,58 @@ impl Handle {
         ensures { self.new.held ≡ Some engine.value }
     {
         *self = Handle::full(Loose::of_box(engine));
+    }
+
+    /// What a call of the engine with a buffer returns, or none if the handle is closed.
+    pub fn with_buffer<T: Drop, F: FnOnce(&mut OpenEngine, &mut [u8]) -> T>(
+        &mut self,
+        alloc: Global,
+        buffer: &mut [u8],
+        call: F,
+    ) -> Option<T>
+        requires { F.IsAlwaysCallable call }
+        ensures closed { self.old.held ≡ None →
+            (result ≡ None) × (self.new.held ≡ None) × (buffer.new ≡ buffer.old) }
+        ensures open { (flown : Flown) → self.old.held ≡ Some flown →
+            (answer : T) × (after : Flown) ×
+            ReturnsAtBuffer F.FnOnce call flown buffer.old answer after buffer.new
+            × (result ≡ Some answer) × (self.new.held ≡ Some after) }
+    {
+        let mut held = self.take(alloc)?;
+        let answer = call(&mut held, buffer);
+        self.put(held);
+        Some(answer)
+    }
+
+    /// What a call of the engine returns, or none if the handle is closed.
+    pub fn with_engine<T: Drop, F: FnOnce(&mut Flight) -> T>(
+        &mut self,
+        alloc: Global,
+        call: F,
+    ) -> Option<T>
+        requires { F.IsAlwaysCallable call }
+        ensures closed { self.old.held ≡ None → (result ≡ None) × (self.new.held ≡ None) }
+        ensures open { (flown : Flown) → self.old.held ≡ Some flown →
+            (answer : T) × (after : Flown) × FnOnceReturnsAtMut F.FnOnce call flown answer after
+            × (result ≡ Some answer) × (self.new.held ≡ Some after) }
+    {
+        let mut held = self.take(alloc)?;
+        let answer = call(&mut held.engine);
+        self.put(held);
+        Some(answer)
+    }
+
+    /// The number of the status of a call of the engine, or that the handle is closed.
+    pub fn answer<F: FnOnce(&mut Flight) -> Status>(&mut self, alloc: Global, call: F) -> u32
+        requires { F.IsAlwaysCallable call }
+        ensures closed { self.old.held ≡ None →
+            (result ≡ number_of status.NotOpen) × (self.new.held ≡ None) }
+        ensures open { (flown : Flown) → self.old.held ≡ Some flown →
+            (answer : Answer) × (after : Flown) ×
+            FnOnceReturnsAtMut F.FnOnce call flown answer after
+            × (result ≡ number_of answer) × (self.new.held ≡ Some after) }
+    {
+        let answer = self.with_engine(alloc, call);
+        answer.unwrap_or(Status::NotOpen).number()
     }
 }

@@ -26,11 +26,9 @@ pub extern "C" fn ocp_room(
     ensures octets { octets.new ≡ writes handle.old.held octets.old
         (λ flown. (room flown).octets) }
 {
-    let Some(held) = handle.take(alloc) else {
+    let Some(room) = handle.with_engine(alloc, |engine| engine.room()) else {
         return Status::NotOpen.number();
     };
-    let room = held.engine.room();
-    handle.put(held);
     *entries = room.entries as u64;
     *octets = room.octets as u64;
     Status::Done.number()
@@ -43,11 +41,10 @@ pub extern "C" fn ocp_first_entry(alloc: Global, handle: &mut Handle, index: &mu
     ensures engine { handle.new.held ≡ handle.old.held }
     ensures index { index.new ≡ writes handle.old.held index.old (λ flown. flown.released) }
 {
-    let Some(held) = handle.take(alloc) else {
+    let Some(first) = handle.with_engine(alloc, |engine| engine.first()) else {
         return Status::NotOpen.number();
     };
-    *index = held.engine.first();
-    handle.put(held);
+    *index = first;
     Status::Done.number()
 }
 
@@ -59,12 +56,7 @@ pub extern "C" fn ocp_release(alloc: Global, handle: &mut Handle, count: u64) ->
     ensures engine { handle.new.held ≡ leaves handle.old.held
         (λ flown. release_after flown count) }
 {
-    let Some(mut held) = handle.take(alloc) else {
-        return Status::NotOpen.number();
-    };
-    let given = held.engine.release(count);
-    handle.put(held);
-    Status::of_release(given).number()
+    handle.answer(alloc, |engine| engine.release(count).into())
 }
 
 // Writes how long an entry is.
@@ -94,11 +86,11 @@ pub extern "C" fn ocp_entry(
     ensures written { written.new ≡ writes handle.old.held written.old
         (λ flown. length_or (entry_answer flown index (length octets.old)) written.old) }
 {
-    let Some(held) = handle.take(alloc) else {
+    let Some(given) = handle.with_buffer(alloc, octets, |open, octets| {
+        open.engine.entry(index, octets)
+    }) else {
         return Status::NotOpen.number();
     };
-    let given = held.engine.entry(index, octets);
-    handle.put(held);
     tell_length(given, written);
-    Status::of_entry(given).number()
+    Status::from(given).number()
 }

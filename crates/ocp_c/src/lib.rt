@@ -115,13 +115,11 @@ pub extern "C" fn ocp_step(
     ensures outcome { outcome.new ≡ writes handle.old.held outcome.old
         (λ flown. outcome_or (outcome_of (answer_in flown (Step 0 id))) outcome.old) }
 {
-    let Some(mut held) = handle.take(alloc) else {
+    let Some(done) = handle.with_engine(alloc, |engine| engine.step(SEAT, id)) else {
         return Status::NotOpen.number();
     };
-    let done = held.engine.step(SEAT, id);
-    handle.put(held);
     outcome.show(done);
-    Status::of_outcome(done).number()
+    Status::from(done).number()
 }
 
 /// Does instructions of one procedure, up to a budget.
@@ -143,18 +141,15 @@ pub extern "C" fn ocp_slice(
     ensures last { last.new ≡ writes handle.old.held last.old (λ flown. if budget == 0
         then last.old else outcome_or (slice_in flown 0 id budget).last last.old) }
 {
-    let Some(mut held) = handle.take(alloc) else {
+    if budget == 0 {
+        return handle.answer(alloc, |_| Status::NoBudget);
+    }
+    let Some(slice) = handle.with_engine(alloc, |engine| engine.slice(SEAT, id, budget)) else {
         return Status::NotOpen.number();
     };
-    if budget == 0 {
-        handle.put(held);
-        return Status::NoBudget.number();
-    }
-    let slice = held.engine.slice(SEAT, id, budget);
-    handle.put(held);
     tell(slice.last, slice.count, count);
     last.show(slice.last);
-    Status::of_outcome(slice.last).number()
+    Status::from(slice.last).number()
 }
 
 // Writes a number of a slice whose last instruction was done.
@@ -199,19 +194,16 @@ pub extern "C" fn ocp_round(
     ensures step { step.new ≡ writes handle.old.held step.old (λ flown. if budget == 0
         then step.old else step_of_round (round_in flown 0 id budget) step.old) }
 {
-    let Some(mut held) = handle.take(alloc) else {
+    if budget == 0 {
+        return handle.answer(alloc, |_| Status::NoBudget);
+    }
+    let Some(round) = handle.with_engine(alloc, |engine| engine.round(SEAT, id, budget)) else {
         return Status::NotOpen.number();
     };
-    if budget == 0 {
-        handle.put(held);
-        return Status::NoBudget.number();
-    }
-    let round = held.engine.round(SEAT, id, budget);
-    handle.put(held);
     tell(round.last, round.count, count);
     tell(round.last, step_number(round.step), step);
     last.show(round.last);
-    Status::of_outcome(round.last).number()
+    Status::from(round.last).number()
 }
 
 /// Sets a breakpoint at the slot of an instruction.
@@ -222,12 +214,7 @@ pub extern "C" fn ocp_set_break(alloc: Global, handle: &mut Handle, id: u16, pla
     ensures engine { handle.new.held ≡ leaves handle.old.held (λ flown.
         flown_after flown (Debug 0 id (command.SetBreak place))) }
 {
-    let Some(mut held) = handle.take(alloc) else {
-        return Status::NotOpen.number();
-    };
-    let given = held.engine.set_break(SEAT, id, place);
-    handle.put(held);
-    Status::of_command(given).number()
+    handle.answer(alloc, |engine| engine.set_break(SEAT, id, place).into())
 }
 
 /// Clears the breakpoint at a slot.
@@ -238,12 +225,7 @@ pub extern "C" fn ocp_clear_break(alloc: Global, handle: &mut Handle, id: u16, p
     ensures engine { handle.new.held ≡ leaves handle.old.held (λ flown.
         flown_after flown (Debug 0 id (command.ClearBreak place))) }
 {
-    let Some(mut held) = handle.take(alloc) else {
-        return Status::NotOpen.number();
-    };
-    let given = held.engine.clear_break(SEAT, id, place);
-    handle.put(held);
-    Status::of_command(given).number()
+    handle.answer(alloc, |engine| engine.clear_break(SEAT, id, place).into())
 }
 
 /// Sets whether each instruction of a procedure leaves a trace record.
@@ -254,12 +236,7 @@ pub extern "C" fn ocp_trace(alloc: Global, handle: &mut Handle, id: u16, on: boo
     ensures engine { handle.new.held ≡ leaves handle.old.held (λ flown.
         flown_after flown (Debug 0 id (command.SetTrace on))) }
 {
-    let Some(mut held) = handle.take(alloc) else {
-        return Status::NotOpen.number();
-    };
-    let given = held.engine.trace(SEAT, id, on);
-    handle.put(held);
-    Status::of_command(given).number()
+    handle.answer(alloc, |engine| engine.trace(SEAT, id, on).into())
 }
 
 /// The pool word at an index.
@@ -276,17 +253,13 @@ pub extern "C" fn ocp_pool_word(
     ensures word { word.new ≡ writes handle.old.held word.old
         (λ flown. word_or (slice_get (world_of flown.log).pool index) word.old) }
 {
-    let Some(held) = handle.take(alloc) else {
-        return Status::NotOpen.number();
-    };
-    let found = held.engine.pool_word(index);
-    handle.put(held);
-    match found {
-        Some(found) => {
+    match handle.with_engine(alloc, |engine| engine.pool_word(index)) {
+        Some(Some(found)) => {
             *word = found;
             Status::Done.number()
         }
-        None => Status::NoWord.number(),
+        Some(None) => Status::NoWord.number(),
+        None => Status::NotOpen.number(),
     }
 }
 
@@ -298,12 +271,7 @@ pub extern "C" fn ocp_put_word(alloc: Global, handle: &mut Handle, index: u64, v
     ensures engine { handle.new.held ≡ leaves handle.old.held (λ flown.
         flown_after flown (Put 0 index value)) }
 {
-    let Some(mut held) = handle.take(alloc) else {
-        return Status::NotOpen.number();
-    };
-    let given = held.engine.put_word(SEAT, index, value);
-    handle.put(held);
-    Status::of_put(given).number()
+    handle.answer(alloc, |engine| engine.put_word(SEAT, index, value).into())
 }
 
 /// How many events there were.
@@ -314,10 +282,9 @@ pub extern "C" fn ocp_events(alloc: Global, handle: &mut Handle, events: &mut u6
     ensures events { events.new ≡ writes handle.old.held events.old
         (λ flown. length (expand flown.log.entries)) }
 {
-    let Some(held) = handle.take(alloc) else {
+    let Some(count) = handle.with_engine(alloc, |engine| engine.events()) else {
         return Status::NotOpen.number();
     };
-    *events = held.engine.events();
-    handle.put(held);
+    *events = count;
     Status::Done.number()
 }

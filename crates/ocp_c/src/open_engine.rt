@@ -8,19 +8,10 @@ use ocp_reports::PacketBuffer;
 use std::marker::Model;
 
 /// An engine, and the buffer that its reports are written to. Contracts see the engine.
+#[derive(Drop)]
 pub struct OpenEngine {
     pub(crate) engine: Flight,
     pub(crate) packets: PacketBuffer,
-}
-
-/// Kept as one call: the proof of each caller is then shorter.
-impl Drop for OpenEngine {
-    fn drop(self) {
-        let Self {
-            engine: _,
-            packets: _,
-        } = self;
-    }
 }
 
 impl Model for OpenEngine {

@@ -57,11 +57,11 @@ fn budget_numbers(remaining: Option<u32>) -> (u32, u32)
     }
 }
 
-impl Procedure {
-    /// The procedure of a view.
-    pub fn of(view: View) -> Procedure
-        ensures { result ≡ procedure_of view }
-    {
+/// The procedure of a view.
+impl From<View> for Procedure {
+    ghost from_gives = { λ view procedure. procedure ≡ procedure_of view };
+
+    fn from(view: View) -> Procedure {
         let (cause, fault) = cause_numbers(view.cause);
         let (pending, pending_step) = pending_numbers(view.pending);
         let (has_budget, remaining) = budget_numbers(view.remaining);

@@ -1,6 +1,6 @@
 //! What C reads of an engine.
 
-ghost use Rattle.std.specs.Prelude.{◌≡◌, ◌≢◌, ◌≤◌, ◌++◌, ℕ, length, drop};
+ghost use Rattle.std.specs.Prelude.{◌≡◌, ◌≢◌, ℕ, length};
 ghost use Rattle.std.specs.FinMap.{get};
 ghost use Rattle.std.specs.declared.option.Option.TheVariants.{None, Some};
 ghost use Rattle.ocp_table.specs.Shown.{view_at};
@@ -47,17 +47,14 @@ pub extern "C" fn ocp_next_running(
         (id : ℕ) → Runs (world_of flown.log).records id → ⊥ }
     ensures same { result ≢ number_of status.Done → id.new ≡ id.old }
 {
-    let Some(held) = handle.take(alloc) else {
-        return Status::NotOpen.number();
-    };
-    let next = held.engine.next_running(identifier_in(after));
-    handle.put(held);
-    match next {
-        Some(next) => {
+    let after = identifier_in(after);
+    match handle.with_engine(alloc, |engine| engine.next_running(after)) {
+        Some(Some(next)) => {
             *id = next;
             Status::Done.number()
         }
-        None => Status::NoneRunning.number(),
+        Some(None) => Status::NoneRunning.number(),
+        None => Status::NotOpen.number(),
     }
 }
 
@@ -81,16 +78,7 @@ pub extern "C" fn ocp_memory(
     };
     let given = held.engine.memory(id, address, octets);
     handle.put(held);
-    Status::of_command(given).number()
-}
-
-// Writes registers to the front of a buffer.
-fn show_registers(values: &[u64; 11], registers: &mut [u64])
-    requires { 11 ≤ length registers.old }
-    ensures { registers.new ≡ values.now ++ drop 11 registers.old }
-{
-    let (front, _back) = registers.split_at_mut(11);
-    front.copy_from_slice(values);
+    Status::from(given).number()
 }
 
 /// What is shown of a procedure, and its registers.
@@ -111,21 +99,17 @@ pub extern "C" fn ocp_view(
         registers_or (length registers.old) (view_at (get (world_of flown.log).records id))
         registers.old) }
 {
-    let Some(held) = handle.take(alloc) else {
-        return Status::NotOpen.number();
-    };
-    let found = held.engine.view(id);
-    handle.put(held);
     if registers.len() < 11 {
-        return Status::BufferTooSmall.number();
+        return handle.answer(alloc, |_| Status::BufferTooSmall);
     }
-    match found {
-        Some(found) => {
-            *view = Procedure::of(found);
-            show_registers(&found.registers, registers);
+    match handle.with_engine(alloc, |engine| engine.view(id)) {
+        Some(Some(found)) => {
+            *view = found.into();
+            registers[..11].copy_from_slice(&found.registers);
             Status::Done.number()
         }
-        None => Status::NotLoaded.number(),
+        Some(None) => Status::NotLoaded.number(),
+        None => Status::NotOpen.number(),
     }
 }
 
@@ -146,20 +130,16 @@ pub extern "C" fn ocp_trace_record(
     ensures registers { registers.new ≡ writes handle.old.held registers.old
         (λ flown. traced_or (length registers.old) (kept_record flown index) registers.old) }
 {
-    let Some(held) = handle.take(alloc) else {
-        return Status::NotOpen.number();
-    };
-    let found = held.engine.trace_record(index).copied();
-    handle.put(held);
     if registers.len() < 11 {
-        return Status::BufferTooSmall.number();
+        return handle.answer(alloc, |_| Status::BufferTooSmall);
     }
-    match found {
-        Some(found) => {
+    match handle.with_engine(alloc, |engine| engine.trace_record(index).copied()) {
+        Some(Some(found)) => {
             record.show(&found);
-            show_registers(&found.registers, registers);
+            registers[..11].copy_from_slice(&found.registers);
             Status::Done.number()
         }
-        None => Status::NoRecord.number(),
+        Some(None) => Status::NoRecord.number(),
+        None => Status::NotOpen.number(),
     }
 }

@@ -1,6 +1,6 @@
 //! What calls answer to C.
 
-ghost use Rattle.std.specs.Prelude.{◌≡◌, Ok, Err};
+ghost use Rattle.std.specs.Prelude.{◌≡◌};
 ghost use Rattle.ocp_c.specs.Statuses.{number_of, status_of, status_of_command, status_of_discard, status_of_entry, status_of_fault, status_of_put, status_of_release};
 
 use ocp_flight::{DebugFault, EngineFault, EntryFault, PutFault, ReleaseFault, StepOutcome};
@@ -9,38 +9,38 @@ use pus_fields::Discard;
 /// The statuses of the header, in its order.
 #[derive(Clone, Copy, PartialEq, Eq, Debug)]
 pub enum Status {
-    Done,
-    NotOpen,
-    AlreadyOpen,
-    BadProfile,
-    BadApid,
-    BadPoolWords,
-    BadCapacity,
-    Memory,
-    BufferTooSmall,
-    JournalFull,
-    DiscardedShort,
-    DiscardedVersion,
-    DiscardedLength,
-    DiscardedNotTelecommand,
-    DiscardedOtherApid,
-    NothingDue,
-    NotLoaded,
-    NotRunning,
-    NoneRunning,
-    NoBudget,
-    NotAnInstruction,
-    AlreadySet,
-    BreaksFull,
-    NotSet,
-    OutsideMemory,
-    NoWord,
-    NoEntry,
-    BadOctets,
-    NotHeld,
-    Spent,
-    Released,
-    NoRecord,
+    Done = 0,
+    NotOpen = 1,
+    AlreadyOpen = 2,
+    BadProfile = 3,
+    BadApid = 4,
+    BadPoolWords = 5,
+    BadCapacity = 6,
+    Memory = 7,
+    BufferTooSmall = 8,
+    JournalFull = 9,
+    DiscardedShort = 10,
+    DiscardedVersion = 11,
+    DiscardedLength = 12,
+    DiscardedNotTelecommand = 13,
+    DiscardedOtherApid = 14,
+    NothingDue = 15,
+    NotLoaded = 16,
+    NotRunning = 17,
+    NoneRunning = 18,
+    NoBudget = 19,
+    NotAnInstruction = 20,
+    AlreadySet = 21,
+    BreaksFull = 22,
+    NotSet = 23,
+    OutsideMemory = 24,
+    NoWord = 25,
+    NoEntry = 26,
+    BadOctets = 27,
+    NotHeld = 28,
+    Spent = 29,
+    Released = 30,
+    NoRecord = 31,
 }
 
 impl Status {
@@ -48,46 +48,15 @@ impl Status {
     pub fn number(self) -> u32
         ensures { result ≡ number_of self }
     {
-        match self {
-            Status::Done => 0,
-            Status::NotOpen => 1,
-            Status::AlreadyOpen => 2,
-            Status::BadProfile => 3,
-            Status::BadApid => 4,
-            Status::BadPoolWords => 5,
-            Status::BadCapacity => 6,
-            Status::Memory => 7,
-            Status::BufferTooSmall => 8,
-            Status::JournalFull => 9,
-            Status::DiscardedShort => 10,
-            Status::DiscardedVersion => 11,
-            Status::DiscardedLength => 12,
-            Status::DiscardedNotTelecommand => 13,
-            Status::DiscardedOtherApid => 14,
-            Status::NothingDue => 15,
-            Status::NotLoaded => 16,
-            Status::NotRunning => 17,
-            Status::NoneRunning => 18,
-            Status::NoBudget => 19,
-            Status::NotAnInstruction => 20,
-            Status::AlreadySet => 21,
-            Status::BreaksFull => 22,
-            Status::NotSet => 23,
-            Status::OutsideMemory => 24,
-            Status::NoWord => 25,
-            Status::NoEntry => 26,
-            Status::BadOctets => 27,
-            Status::NotHeld => 28,
-            Status::Spent => 29,
-            Status::Released => 30,
-            Status::NoRecord => 31,
-        }
+        self as u32
     }
+}
 
-    /// The status of an instruction.
-    pub fn of_outcome(outcome: StepOutcome) -> Status
-        ensures { result ≡ status_of outcome }
-    {
+/// The status of an instruction.
+impl From<StepOutcome> for Status {
+    ghost from_gives = { λ outcome status. status ≡ status_of outcome };
+
+    fn from(outcome: StepOutcome) -> Status {
         match outcome {
             StepOutcome::NotLoaded => Status::NotLoaded,
             StepOutcome::NotRunning => Status::NotRunning,
@@ -95,22 +64,26 @@ impl Status {
             _ => Status::Done,
         }
     }
+}
 
-    /// The status of a write of a pool word.
-    pub fn of_put(given: Result<(), PutFault>) -> Status
-        ensures { result ≡ status_of_put given }
-    {
+/// The status of a write of a pool word.
+impl From<Result<(), PutFault>> for Status {
+    ghost from_gives = { λ given status. status ≡ status_of_put given };
+
+    fn from(given: Result<(), PutFault>) -> Status {
         match given {
             Ok(()) => Status::Done,
             Err(PutFault::BadPoolIndex) => Status::NoWord,
             Err(PutFault::JournalFull) => Status::JournalFull,
         }
     }
+}
 
-    /// The status of a debugger's command.
-    pub fn of_command(given: Result<(), DebugFault>) -> Status
-        ensures { result ≡ status_of_command given }
-    {
+/// The status of a debugger's command.
+impl From<Result<(), DebugFault>> for Status {
+    ghost from_gives = { λ given status. status ≡ status_of_command given };
+
+    fn from(given: Result<(), DebugFault>) -> Status {
         match given {
             Ok(()) => Status::Done,
             Err(DebugFault::NotLoaded) => Status::NotLoaded,
@@ -122,11 +95,13 @@ impl Status {
             Err(DebugFault::OutsideMemory) => Status::OutsideMemory,
         }
     }
+}
 
-    // The status of discarded octets.
-    fn of_discard(cause: Discard) -> Status
-        ensures { result ≡ status_of_discard cause }
-    {
+/// The status of discarded octets.
+impl From<Discard> for Status {
+    ghost from_gives = { λ cause status. status ≡ status_of_discard cause };
+
+    fn from(cause: Discard) -> Status {
         match cause {
             Discard::Short => Status::DiscardedShort,
             Discard::Version => Status::DiscardedVersion,
@@ -135,23 +110,27 @@ impl Status {
             Discard::OtherApid => Status::DiscardedOtherApid,
         }
     }
+}
 
-    /// The status of a request or a drain that is refused.
-    pub fn of_fault(fault: EngineFault) -> Status
-        ensures { result ≡ status_of_fault fault }
-    {
+/// The status of a request or a drain that is refused.
+impl From<EngineFault> for Status {
+    ghost from_gives = { λ fault status. status ≡ status_of_fault fault };
+
+    fn from(fault: EngineFault) -> Status {
         match fault {
-            EngineFault::Discarded(cause) => Status::of_discard(cause),
+            EngineFault::Discarded(cause) => cause.into(),
             EngineFault::JournalFull => Status::JournalFull,
             EngineFault::Memory => Status::Memory,
             EngineFault::NothingDue => Status::NothingDue,
         }
     }
+}
 
-    /// The status of an entry that is read.
-    pub fn of_entry(given: Result<usize, EntryFault>) -> Status
-        ensures { result ≡ status_of_entry given }
-    {
+/// The status of an entry that is read.
+impl From<Result<usize, EntryFault>> for Status {
+    ghost from_gives = { λ given status. status ≡ status_of_entry given };
+
+    fn from(given: Result<usize, EntryFault>) -> Status {
         match given {
             Ok(_) => Status::Done,
             Err(EntryFault::Released) => Status::Released,
@@ -159,11 +138,13 @@ impl Status {
             Err(EntryFault::TooShort { .. }) => Status::BufferTooSmall,
         }
     }
+}
 
-    /// The status of a release.
-    pub fn of_release(given: Result<(), ReleaseFault>) -> Status
-        ensures { result ≡ status_of_release given }
-    {
+/// The status of a release.
+impl From<Result<(), ReleaseFault>> for Status {
+    ghost from_gives = { λ given status. status ≡ status_of_release given };
+
+    fn from(given: Result<(), ReleaseFault>) -> Status {
         match given {
             Ok(()) => Status::Done,
             Err(ReleaseFault::NotHeld) => Status::NotHeld,
