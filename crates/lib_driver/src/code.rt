@@ -19,9 +19,7 @@ pub(crate) fn answer(alloc: Global, words: &[&str]) -> Answer {
             text_of(alloc, mnemonic_name(some!(alloc, read_mnemonic(&text))))
         };
         "bpf_decode.decode_at" image: octets slot: number => decode(alloc, &image, slot);
-        "bpf_decode.encode" image: octets => {
-            text_of(alloc, Octets(encode(line_of(&image)?).as_slice()))
-        };
+        "bpf_decode.encode" image: octets => spell(alloc, &image);
         "bpf_listing.disassemble" before image: octets => {
             append!(alloc, before, Text, out => disassemble(&image, out))
         };
@@ -57,6 +55,18 @@ pub(crate) fn line_of(code: &[u8]) -> Result<Line, Fault> {
         Ok(line) => Ok(line),
         Err(_) => Err(Fault::Syntax),
     }
+}
+
+fn spell(alloc: Global, code: &[u8]) -> Answer {
+    match line_of(code) {
+        Ok(line) => show_spelling(alloc, line),
+        Err(fault) => Err(fault),
+    }
+}
+
+fn show_spelling(alloc: Global, line: Line) -> Answer {
+    let slots = encode(line);
+    text_of(alloc, Octets(slots.as_slice()))
 }
 
 /// Reads a canonical text, and writes the line that it means behind the octets.

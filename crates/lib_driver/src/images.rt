@@ -20,7 +20,7 @@ pub(crate) fn answer(alloc: Global, words: &[&str]) -> Answer {
             listing(alloc, before, &program_of(alloc, profile, &image)?)
         };
         "ocp_loader.line_at" profile: profile image: octets slot: number => {
-            name_of(alloc, program_of(alloc, profile, &image)?.line_at(slot))
+            line_at(alloc, &program_of(alloc, profile, &image)?, slot)
         };
         "ocp_loader.is_same" profile: profile image: octets other: octets => {
             let (image, other) =
@@ -71,6 +71,10 @@ fn program_of(alloc: Global, profile: Profile, image: &[u8]) -> Result<Program, 
         Err(LoadFault::Memory) => Err(Fault::Memory),
         Err(_) => Err(Fault::Syntax),
     }
+}
+
+fn line_at(alloc: Global, program: &Program, slot: u16) -> Answer {
+    name_of(alloc, program.line_at(slot))
 }
 
 fn listing(alloc: Global, before: &str, program: &Program) -> Answer {

@@ -91,13 +91,35 @@ pub(crate) fn debug_answer(tables: &mut Tables, alloc: Global, words: &[&str]) -
             let view = view(tables.table()?, id);
             append!(alloc, before, Text, out => or_memory(view_text(id, view, out)))
         };
-        "ocp_debug.trace_text" before
-                id: number place: number outcome: outcome_of instruction: octets [registers] => {
-            let (line, registers) = (line_of(&instruction)?, registers_of(alloc, registers)?);
-            let record = Trace { id, place, outcome, registers, line };
-            append!(alloc, before, Text, out => or_memory(trace_text(&record, out)))
-        };
+        "ocp_debug.trace_text" before [record] => write_trace(alloc, before, record);
     }
+}
+
+/// Appends the line of the trace record that words say to the octets.
+fn write_trace(alloc: Global, before: &str, words: &[&str]) -> Answer {
+    match record_of(alloc, words) {
+        Ok(record) => show_record(alloc, before, &record),
+        Err(fault) => Err(fault),
+    }
+}
+
+fn show_record(alloc: Global, before: &str, record: &Trace) -> Answer {
+    append!(alloc, before, Text, out => or_memory(trace_text(record, out)))
+}
+
+/// The record of these words: its procedure, place and outcome, the octets of its instruction, and
+/// eleven registers.
+fn record_of(alloc: Global, words: &[&str]) -> Result<Trace, Fault> {
+    let [id, place, outcome, code, registers @ ..] = words else {
+        return Err(Fault::Syntax);
+    };
+    Ok(Trace {
+        id: number_of(id)?,
+        place: number_of(place)?,
+        outcome: outcome_of(outcome)?,
+        registers: registers_of(alloc, registers)?,
+        line: line_of(&octets(alloc, code)?)?,
+    })
 }
 
 fn activate(alloc: Global, table: &mut Table, id: u16, budget: u32, arguments: &[u8]) -> Answer {
