@@ -13,6 +13,7 @@ use Rattle.ocp_check.specs.declared.range.Range.{Range}
 use Rattle.ocp_check.specs.Mirror.Ranges.{AreIn}
 use Rattle.ocp_check.specs.declared.certificate.Node.{Node}
 use Rattle.ocp_check.specs.Mirror.Forms.{IsForm, AreFormed}
+use Rattle.ocp_check.specs.Mirror.Words.{AreWords}
 use Rattle.ocp_check.specs.Mirror.Callers.{Caller, Saves, AreSaved, row_after_return, forms_after_return, no_forms, range_at, form_at}
 use Rattle.ocp_check.proofs.Kept.{put_in, put_formed}
 
@@ -27,9 +28,9 @@ unless_full s distance false e = refl
 not_seven : (n : ℕ) → n < 7 → (n == 7) ≡ false
 not_seven n h = grind (arith, nat_tests)
 
-pub called : (callers : List Caller) (s : State) (node : Node) (bases : ℕ → ℕ) (distance : ℤ) → length callers < 7 → AreSaved callers s.frames → AreIn node.row s.registers → AreFormed node.forms bases s.registers →
-    (local_call s distance ≡ Next (state_after_call s distance)) × AreSaved (record { place = s.place; node = node; bases = bases } ∷ callers) (state_after_call s distance).frames
-called callers s node bases distance l h a g = (
+pub called : (callers : List Caller) (s : State) (node : Node) (bases : ℕ → ℕ) (distance : ℤ) → length callers < 7 → AreSaved callers s.frames → AreIn node.row s.registers → AreFormed node.forms bases s.registers → AreWords node.words bases s.memory →
+    (local_call s distance ≡ Next (state_after_call s distance)) × AreSaved (record { place = s.place; node = node; bases = bases; memory = s.memory } ∷ callers) (state_after_call s distance).frames
+called callers s node bases distance l h a g w = (
   unless_full s distance (length s.frames == 7) (not_seven (length s.frames) (omega (arith, l, as_many callers s.frames h))),
   (
     s.frames,
@@ -47,6 +48,7 @@ called callers s node bases distance l h a g = (
       form8 = g.each 8 (omega arith);
       form9 = g.each 9 (omega arith);
       form10 = g.each 10 (omega arith);
+      words = w;
     },
     h,
   ),
@@ -129,7 +131,7 @@ formed_again c f registers l v =
 
 pub ended : (c : Caller) (callers : List Caller) (s : State) (row : List (Option Range)) → length row ≡ 11 → AreSaved (c ∷ callers) s.frames → AreIn row s.registers →
     (t : State) × (exit_to s (last_frame s) ≡ Next t) × (t.place ≡ c.place + 1) × (t.memory ≡ s.memory) × AreSaved callers t.frames × AreIn (row_after_return c.node row) t.registers
-    × AreFormed (forms_after_return c.node) c.bases t.registers
+    × AreFormed (forms_after_return c.node) c.bases t.registers × AreWords c.node.words c.bases c.memory
 ended c callers s row l h a = (
   state_after_return s h.1,
   ap (exit_to s) (last_of s.frames h.0 h.1 h.2),
@@ -138,6 +140,7 @@ ended c callers s row l h a = (
   subst (AreSaved callers) (sym (rest_of s.frames h.0 h.1 h.2)) h.4,
   restored c h.1 row s.registers l h.3 a,
   formed_again c h.1 s.registers a.eleven h.3,
+  h.3.words,
 )
 
 pub last_exit : (s : State) → AreSaved [] s.frames → exit_to s (last_frame s) ≡ Needs LastExit

@@ -1,5 +1,5 @@
 -- What a row knows after a write.
-use Rattle.std.proofs.Common.{◌≡◌, ◌<◌, ◌⊎◌, inl, inr, ℕ, ◌+◌, ◌*◌, ◌%◌, ◌^◌, List, [], ◌∷◌, length, get_or, set, Option, Some, None, refl, sym, ap, subst, ◌∙◌, arith, Result, Ok, Bool, true, false, ℤ}
+use Rattle.std.proofs.Common.{◌≡◌, ◌≤◌, ◌<◌, ◌⊎◌, inl, inr, ℕ, ◌+◌, ◌*◌, ◌%◌, ◌^◌, List, [], ◌∷◌, length, get_or, set, Option, Some, None, refl, sym, ap, subst, ◌∙◌, arith, Result, Ok, Bool, true, false, ℤ}
 use Rattle.std.specs.Prelude.{slice_get, if◌then◌else◌, ◌==◌, ◌≢◌}
 use Rattle.std.proofs.lemmas.Bool.Decides.{nat_tests}
 use Rattle.ocp_profile.specs.declared.profile.Profile.{Profile}
@@ -16,7 +16,10 @@ use Rattle.ocp_check.specs.declared.form.Form.{Form}
 use Rattle.ocp_check.specs.Mirror.Forms.{IsForm, AreFormed}
 use Rattle.ocp_check.specs.Mirror.Ranges.{IsIn, AreIn, IsThere}
 use Rattle.ocp_check.specs.declared.certificate.Node.{Node}
-use Rattle.ocp_check.specs.Mirror.Callers.{Caller, AreSaved}
+use Rattle.ocp_check.specs.declared.word.Word.{Word}
+use Rattle.ocp_check.specs.Mirror.Words.{IsWord, AreWords, IsSameFrom}
+use Rattle.ocp_check.proofs.Words.{kept_later, kept_stored}
+use Rattle.ocp_check.specs.Mirror.Callers.{Caller, AreSaved, AreKept}
 use Rattle.ocp_check.specs.Mirror.Fits.{Certificate, Matches, Fits, FitsAfter, Covers, Returns}
 
 same_or_not : (j k : ℕ) → (j ≡ k) ⊎ (j ≡ k → ⊥)
@@ -64,9 +67,9 @@ put_formed forms bases registers dst v form l n d a i = record {
 }
 
 -- what is promised may be said to be more
-weaken : (certificate : Certificate) (a b : Option Range) (callers : List Caller) → ((v : ℕ) → IsIn b v → IsIn a v) → Returns certificate a callers → Returns certificate b callers
-weaken certificate a b [] h r = tt
-weaken certificate a b (c ∷ callers) h r = (record { promised = r.0.promised; kept = λ v i. r.0.kept v (h v i); covers = r.0.covers }, r.1, r.2)
+weaken : (certificate : Certificate) (a b : Option Range) (m n : ℕ) (callers : List Caller) → ((v : ℕ) → IsIn b v → IsIn a v) → n ≤ m → Returns certificate a m callers → Returns certificate b n callers
+weaken certificate a b m n [] h l r = tt
+weaken certificate a b m n (c ∷ callers) h l r = (record { promised = r.0.promised; kept = λ v i. r.0.kept v (h v i); floor = r.0.floor; above = omega (arith, l, r.0.above); covers = r.0.covers }, r.1, r.2)
 
 -- a machine at a place that a node covers fits the certificate, if it is as the node says
 pub covered : (certificate : Certificate) (place : ℕ) (from : Node) (s : State) → Covers certificate place from → s.place ≡ place → Matches certificate from s → Fits certificate s
@@ -75,12 +78,14 @@ covered certificate place from s c e i = record {
   found = ap (λ p. slice_get certificate p) e ∙ c.found;
   stands = record {
     registers = record { eleven = i.registers.eleven; each = λ k h. c.weaker k h _ (i.registers.each k h) };
-    bases = (c.tied i.bases s.registers i.registers i.formed).0;
-    formed = (c.tied i.bases s.registers i.registers i.formed).1;
+    bases = (c.tied i.bases s.registers s.memory i.registers i.formed i.words).0;
+    formed = (c.tied i.bases s.registers s.memory i.registers i.formed i.words).1;
+    words = (c.tied i.bases s.registers s.memory i.registers i.formed i.words).2;
+    kept = kept_later from.kept c.node.kept s.memory i.callers c.same i.kept;
     callers = i.callers;
     saved = i.saved;
     few = omega (arith, i.few, c.deep);
-    returns = weaken certificate from.promise c.node.promise i.callers c.kept i.returns;
+    returns = weaken certificate from.promise c.node.promise from.spared c.node.spared i.callers c.kept c.spared i.returns;
     profile = i.profile;
     memory = i.memory;
     octets = i.octets;
@@ -88,15 +93,17 @@ covered certificate place from s c e i = record {
 }
 
 -- a machine stands as another does, with other registers
-restand : (certificate : Certificate) (node next : Node) (s t : State) → (i : Matches certificate node s) → next.depth ≡ node.depth → next.promise ≡ node.promise → t.frames ≡ s.frames → t.memory ≡ s.memory → AreIn next.row t.registers → AreFormed next.forms i.bases t.registers → Matches certificate next t
-restand certificate node next s t i d p f m a g = record {
+restand : (certificate : Certificate) (node next : Node) (s t : State) → (i : Matches certificate node s) → next.depth ≡ node.depth → next.promise ≡ node.promise → next.spared ≡ node.spared → next.words ≡ node.words → next.kept ≡ node.kept → t.frames ≡ s.frames → t.memory ≡ s.memory → AreIn next.row t.registers → AreFormed next.forms i.bases t.registers → Matches certificate next t
+restand certificate node next s t i d p x w k f m a g = record {
   registers = a;
   bases = i.bases;
   formed = g;
   callers = i.callers;
   saved = subst (AreSaved i.callers) (sym f) i.saved;
   few = omega (arith, i.few, d);
-  returns = subst (λ (o : Option Range). Returns certificate o i.callers) (sym p) i.returns;
+  words = subst (λ (ws : List (Option Word)). AreWords ws i.bases t.memory) (sym w) (subst (λ (o : Octets). AreWords node.words i.bases o) (sym m) i.words);
+  kept = subst (λ n. AreKept n t.memory i.callers) (sym k) (subst (λ (o : Octets). AreKept node.kept o i.callers) (sym m) i.kept);
+  returns = subst (λ n. Returns certificate next.promise n i.callers) (sym x) (subst (λ (o : Option Range). Returns certificate o node.spared i.callers) (sym p) i.returns);
   profile = i.profile;
   memory = ap zeros_over m ∙ i.memory;
   octets = subst HasOctets (sym m) i.octets;
@@ -107,7 +114,7 @@ changed node dst known form = record node { row = set node.row dst known; forms 
 
 pub put_stands : (certificate : Certificate) (node : Node) (s t : State) (dst v : ℕ) (known : Option Range) (form : Option Form) → length node.row ≡ 11 → length node.forms ≡ 11 → dst < 11 →
     (i : Matches certificate node s) → t.registers ≡ set s.registers dst v → t.frames ≡ s.frames → t.memory ≡ s.memory → IsIn known v → IsForm form i.bases v → Matches certificate (changed node dst known form) t
-put_stands certificate node s t dst v known form l n d i r f m k h = restand certificate node (changed node dst known form) s t i refl refl f m
+put_stands certificate node s t dst v known form l n d i r f m k h = restand certificate node (changed node dst known form) s t i refl refl refl refl refl f m
     (subst (λ (rs : List ℕ). AreIn (set node.row dst known) rs) (sym r) (put_in node.row s.registers dst v known l d i.registers k))
     (subst (λ (rs : List ℕ). AreFormed (set node.forms dst form) i.bases rs) (sym r) (put_formed node.forms i.bases s.registers dst v form n i.registers.eleven d i.formed h))
 
@@ -119,7 +126,7 @@ fits_put certificate place node s dst v slots known form l n d c e i k h = cover
 pub fits_jump : (certificate : Certificate) (place : ℕ) (next : Node) (s t : State) →
     Covers certificate place next → t.place ≡ place → t.registers ≡ s.registers → t.frames ≡ s.frames → t.memory ≡ s.memory → Matches certificate next s → Fits certificate t
 fits_jump certificate place next s t c e r f m i = covered certificate place next t c e
-    (restand certificate next next s t i refl refl f m (subst (λ (rs : List ℕ). AreIn next.row rs) (sym r) i.registers) (subst (λ (rs : List ℕ). AreFormed next.forms i.bases rs) (sym r) i.formed))
+    (restand certificate next next s t i refl refl refl refl refl f m (subst (λ (rs : List ℕ). AreIn next.row rs) (sym r) i.registers) (subst (λ (rs : List ℕ). AreFormed next.forms i.bases rs) (sym r) i.formed))
 
 -- a register of which nothing is known any more
 keep_formed : (forms : List (Option Form)) (bases : ℕ → ℕ) (registers : List ℕ) (dst : ℕ) → length forms ≡ 11 → dst < 11 → AreFormed forms bases registers → AreFormed (set forms dst None) bases registers
@@ -131,7 +138,7 @@ keep_formed forms bases registers dst l d a = record {
 }
 
 forget : (certificate : Certificate) (node : Node) (s : State) (dst : ℕ) → length node.row ≡ 11 → length node.forms ≡ 11 → dst < 11 → Matches certificate node s → Matches certificate (changed node dst None None) s
-forget certificate node s dst l n d i = restand certificate node (changed node dst None None) s s i refl refl refl refl (keep_in node.row s.registers dst None l d i.registers tt) (keep_formed node.forms i.bases s.registers dst n d i.formed)
+forget certificate node s dst l n d i = restand certificate node (changed node dst None None) s s i refl refl refl refl refl refl refl (keep_in node.row s.registers dst None l d i.registers tt) (keep_formed node.forms i.bases s.registers dst n d i.formed)
 
 -- what is known after an engine call that may write R1, and after another one
 pub answered : (certificate : Certificate) (node : Node) (s : State) (r0 : ℕ) (r1 : Option ℕ) (known : Option Range) → length node.row ≡ 11 → length node.forms ≡ 11 → Matches certificate node s → IsIn known r0 → Matches certificate (changed (changed node 0 known None) 1 None None) (state_after_engine_call s r0 r1)
@@ -159,12 +166,39 @@ fits_load law certificate node s dst q n f i h k =
     let v = law i.profile s.memory false q n i.memory i.octets h in
     subst (λ (r : Result ℕ AccessFault). FitsAfter certificate s (outcome_by s (load_register s.registers s.memory dst f r) NoInstruction)) (sym v.1) (k v.0 v.2)
 
-pub fits_store : StoresAreThere → (certificate : Certificate) (node : Node) (s : State) (slot q n v : ℕ) → s.place ≡ slot → Matches certificate node s → IsThere true q n →
-    ((t : State) → t.place ≡ slot → Matches certificate node t → Fits certificate (state_after_jump t None)) → FitsAfter certificate s (outcome_by s (store_memory s.registers (memory_after_store s.memory q n v)) NoInstruction)
-fits_store law certificate node s slot q n v e i h k =
+pub fits_store : StoresAreThere → (certificate : Certificate) (place : ℕ) (node next : Node) (s : State) (q n v : ℕ) → s.place + 1 ≡ place → (i : Matches certificate node s) → IsThere true q n → Covers certificate place next →
+    ((t : Octets) → memory_after_store s.memory q n v ≡ Ok t → zeros_over t ≡ zeros i.profile → HasOctets t → Matches certificate next (record s { memory = t })) → FitsAfter certificate s (outcome_by s (store_memory s.registers (memory_after_store s.memory q n v)) NoInstruction)
+fits_store law certificate place node next s q n v e i h c k =
     let t = law i.profile s.memory q n v i.memory i.octets h in
+    let m : State = record s { memory = t.0 } in
     subst (λ (r : Result Octets AccessFault). FitsAfter certificate s (outcome_by s (store_memory s.registers r) NoInstruction)) (sym t.1)
-    (k (record s { memory = t.0 }) e (record { registers = i.registers; bases = i.bases; formed = i.formed; callers = i.callers; saved = i.saved; few = i.few; returns = i.returns; profile = i.profile; memory = t.2; octets = t.3 }))
+    (covered certificate place next (state_after_jump m None) c e
+    (restand certificate next next m (state_after_jump m None) (k t.0 t.1 t.2 t.3) refl refl refl refl refl refl refl (k t.0 t.1 t.2 t.3).registers (k t.0 t.1 t.2 t.3).formed))
+
+-- a machine after a store, as a node with the words that it leaves
+pub store_stands : (certificate : Certificate) (node next : Node) (s : State) (t : Octets) → (i : Matches certificate node s) → next.row ≡ node.row → next.forms ≡ node.forms → next.depth ≡ node.depth → next.promise ≡ node.promise → next.spared ≡ node.spared →
+    AreWords next.words i.bases t → ((from : Octets) → IsSameFrom node.kept from s.memory → IsSameFrom next.kept from t) → zeros_over t ≡ zeros i.profile → HasOctets t → Matches certificate next (record s { memory = t })
+store_stands certificate node next s t i r f d p x w k z o = record {
+  registers = subst (λ row. AreIn row s.registers) (sym r) i.registers;
+  bases = i.bases;
+  formed = subst (λ forms. AreFormed forms i.bases s.registers) (sym f) i.formed;
+  callers = i.callers;
+  saved = i.saved;
+  few = omega (arith, i.few, d);
+  words = w;
+  kept = kept_stored node.kept next.kept s.memory t i.callers k i.kept;
+  returns = subst (λ n. Returns certificate next.promise n i.callers) (sym x) (subst (λ (o : Option Range). Returns certificate o node.spared i.callers) (sym p) i.returns);
+  profile = i.profile;
+  memory = z;
+  octets = o;
+}
+
+-- a load that reads a word of which something is known
+pub fits_read : LoadsAreThere → (certificate : Certificate) (node : Node) (s : State) (dst q n : ℕ) → Matches certificate node s → IsThere false q n →
+    ((v : ℕ) → number_in_memory s.memory q n ≡ Ok v → Fits certificate (state_after_write s dst v 1)) → FitsAfter certificate s (outcome_by s (load_register s.registers s.memory dst (λ v. v) (number_in_memory s.memory q n)) NoInstruction)
+fits_read law certificate node s dst q n i h k =
+    let v = law i.profile s.memory false q n i.memory i.octets h in
+    subst (λ (r : Result ℕ AccessFault). FitsAfter certificate s (outcome_by s (load_register s.registers s.memory dst (λ v. v) r) NoInstruction)) (sym v.1) (k v.0 v.1)
 
 pub fits_either : (certificate : Certificate) (s : State) (taken : Bool) (distance : ℤ) → (taken ≡ true → Fits certificate (state_after_jump s (Some distance))) → (taken ≡ false → Fits certificate (state_after_jump s None)) →
     FitsAfter certificate s (outcome_by s (move_by_jump s.registers s.memory (if taken then Some distance else None)) NoInstruction)
@@ -185,12 +219,16 @@ still_formed : (o : Option Form) (bases : ℕ → ℕ) (base v x : ℕ) → ((f 
 still_formed None bases base v x n h = tt
 still_formed (Some f) bases base v x n h = subst (λ k. x % 2 ^ 64 ≡ (f.times * k + f.plus) % 2 ^ 64) (sym (number_of_other bases base v f.base (n f refl))) h
 
+still_word : (o : Option Word) (bases : ℕ → ℕ) (base v : ℕ) (m : Octets) → ((w : Word) (f : Form) → o ≡ Some w → w.form ≡ Some f → f.base ≢ base) → IsWord o bases m → IsWord o (with_number bases base v) m
+still_word None bases base v m n h = tt
+still_word (Some w) bases base v m n h = (h.0, h.1, h.2, h.3, still_formed w.form bases base v h.0 (λ f e. n w f refl e) h.4)
+
 formed_itself : (bases : ℕ → ℕ) (base v : ℕ) → IsForm (Some (record { base = base; times = 1; plus = 0 })) (with_number bases base v) v
 formed_itself bases base v = let e = number_itself bases base v in omega (arith, e)
 
-pub based : (certificate : Certificate) (node : Node) (s : State) (at base : ℕ) → length node.forms ≡ 11 → at < 11 → ((k : ℕ) → k < 11 → (f : Form) → get_or node.forms k None ≡ Some f → f.base ≢ base) → Matches certificate node s →
+pub based : (certificate : Certificate) (node : Node) (s : State) (at base : ℕ) → length node.forms ≡ 11 → at < 11 → ((k : ℕ) → k < 11 → (f : Form) → get_or node.forms k None ≡ Some f → f.base ≢ base) → ((k : ℕ) → k < 8 → (w : Word) (f : Form) → get_or node.words k None ≡ Some w → w.form ≡ Some f → f.base ≢ base) → Matches certificate node s →
     Matches certificate (record node { forms = set node.forms at (Some (record { base = base; times = 1; plus = 0 })) }) s
-based certificate node s at base n d free i = record {
+based certificate node s at base n d free other i = record {
   registers = i.registers;
   bases = with_number i.bases base (get_or s.registers at 0);
   formed = record {
@@ -204,6 +242,8 @@ based certificate node s at base n d free i = record {
   callers = i.callers;
   saved = i.saved;
   few = i.few;
+  words = record { each = λ k h. still_word (get_or node.words k None) i.bases base (get_or s.registers at 0) s.memory (other k h) (i.words.each k h) };
+  kept = i.kept;
   returns = i.returns;
   profile = i.profile;
   memory = i.memory;

@@ -3,6 +3,7 @@ pub mod Kept
 pub mod Called
 pub mod Opening
 pub mod Sound
+pub mod Words
 pub mod Falls
 pub mod Forms
 pub mod Counted

@@ -14,6 +14,7 @@ use Rattle.ocp_check.specs.declared.certificate.Node.{Node}
 use Rattle.ocp_check.specs.Mirror.Start.{node_at_start}
 use Rattle.ocp_check.specs.Mirror.Fits.{Certificate, Matches, Fits, FitsAfter, Covers}
 use Rattle.ocp_check.proofs.Called.{unformed}
+use Rattle.ocp_check.proofs.Words.{unknown}
 use Rattle.ocp_check.proofs.Kept.{covered}
 
 each_start : (n : ℕ) → n ≤ 256 → (k : ℕ) → k < 11 → IsIn (get_or node_at_start.row k None) (get_or (0 ∷ 0x2000_0000 ∷ n ∷ 0 ∷ 0 ∷ 0 ∷ 0 ∷ 0 ∷ 0 ∷ 0 ∷ 0x1000_1000 ∷ []) k 0)
@@ -36,6 +37,8 @@ starts new octets certificate profile arguments l are = record {
   registers = record { eleven = refl; each = each_start (length arguments) l };
   bases = λ b. 0;
   formed = unformed (λ b. 0) (machine_at_start profile arguments).registers;
+  words = unknown (λ b. 0) (machine_at_start profile arguments).memory;
+  kept = tt;
   callers = [];
   saved = refl;
   few = omega arith;

@@ -1,5 +1,6 @@
 pub mod Ranges
 pub mod Forms
+pub mod Words
 pub mod Callers
 pub mod Fits
 pub mod Start

@@ -11,6 +11,7 @@ use crate::certificate::Node;
 use crate::covering::{covers, node_at};
 use crate::range::{Range, Stride, only};
 use crate::steps::is_kept;
+use crate::word::WORDS;
 use bpf_step::frame::FRAME_POINTER;
 use bpf_step::laws::machines_started_anew_are_as_new;
 use ocp_loader::{MAX_SLOTS, Program};
@@ -43,6 +44,9 @@ pub fn at_start() -> Node
             only(FRAME_POINTER),
         ],
         forms: [None; 11],
+        words: [None; WORDS],
+        kept: 0,
+        spared: 0,
         depth: 0,
         promise: None,
     }

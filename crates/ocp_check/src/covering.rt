@@ -3,12 +3,15 @@ ghost use Rattle.std.specs.Prelude.{◌≡◌, ◌<◌, ℕ, IsTrue, Some, None,
 ghost use Rattle.bpf_moves.specs.Moves.{operand_in};
 ghost use Rattle.ocp_check.specs.Mirror.Ranges.{IsIn, AreIn};
 ghost use Rattle.bpf_step.specs.Machine.{State};
+ghost use Rattle.ocp_regions.specs.Memory.{Octets};
+ghost use Rattle.ocp_check.specs.Mirror.Words.{AreWords};
 ghost use Rattle.ocp_check.specs.Mirror.Forms.{IsForm, AreFormed, bases_after};
 ghost use Rattle.ocp_check.specs.Mirror.Fits.{Certificate, Covers, Fits, Matches};
 
 use crate::certificate::{Node, Row};
-use crate::form::{BASES, Form, Forms, form_of_known, free_base, is_shifted, range_by_tie};
+use crate::form::{BASES, Form, Forms, form_of_known, is_shifted, range_by_tie};
 use crate::range::{Range, is_within, only};
+use crate::word::{WORDS, Words, free_base, is_word_shifted};
 use bpf_types::{Operand, Reg};
 
 /// What is known of a register.
@@ -51,11 +54,26 @@ pub fn covers(certificate: &[Option<Node>], place: usize, from: &Node) -> bool
     match certificate.get(place) {
         Some(Some(node)) => {
             from.depth <= node.depth
+                && from.kept <= node.kept
+                && node.spared <= from.spared
                 && is_within(node.promise, from.promise)
                 && are_within(&from.row, &node.row)
                 && are_tied(from, node)
         }
         _ => false,
+    }
+}
+
+/// Adds what becomes of the base of a form that is one of its numbers and more.
+fn add_shift(shifts: &mut [Form; BASES], to: Option<Form>, form: Option<Form>) {
+    if let (Some(to), Some(form)) = (to, form) {
+        if to.times == 1 && usize::from(to.base) < BASES {
+            shifts[usize::from(to.base)] = Form {
+                base: form.base,
+                times: form.times,
+                plus: form.plus.wrapping_sub(to.plus),
+            };
+        }
     }
 }
 
@@ -67,27 +85,45 @@ fn shifts_of(from: &Node, node: &Node) -> [Form; BASES] {
         times: 0,
         plus: 0,
     }; BASES];
-    for k in 0..11 {
-        if let (Some(to), Some(form)) = (node.forms[k], form_of_known(from.row[k], from.forms[k])) {
-            if to.times == 1 && usize::from(to.base) < BASES {
-                shifts[usize::from(to.base)] = Form {
-                    base: form.base,
-                    times: form.times,
-                    plus: form.plus.wrapping_sub(to.plus),
-                };
-            }
+    for k in 0..WORDS {
+        if let (Some(to), Some(from)) = (node.words[k], from.words[k]) {
+            add_shift(&mut shifts, to.form, form_of_known(from.known, from.form));
         }
+    }
+    for k in 0..11 {
+        add_shift(
+            &mut shifts,
+            node.forms[k],
+            form_of_known(from.row[k], from.forms[k]),
+        );
     }
     shifts
 }
 
 /// Whether registers that are tied to one another in the second node are so by the first one.
 fn are_tied(from: &Node, node: &Node) -> bool
-    ensures { IsTrue result → (bases : ℕ → ℕ) (registers : List ℕ) →
+    ensures { IsTrue result → (bases : ℕ → ℕ) (registers : List ℕ) (m : Octets) →
         AreIn from.now.row registers → AreFormed from.now.forms bases registers →
-        (next : ℕ → ℕ) × AreFormed node.now.forms next registers }
+        AreWords from.now.words bases m →
+        (next : ℕ → ℕ) × AreFormed node.now.forms next registers
+        × AreWords node.now.words next m }
 {
-    are_shifted(&shifts_of(from, node), from, node)
+    let shifts = shifts_of(from, node);
+    are_shifted(&shifts, from, node) && are_words_shifted(&shifts, &from.words, &node.words)
+}
+
+/// Whether what is known of words in the second node follows from what is known in the first, if
+/// the number of each base becomes the one of its shift.
+fn are_words_shifted(shifts: &[Form; BASES], from: &Words, words: &Words) -> bool
+    ensures { IsTrue result → (bases : ℕ → ℕ) (m : Octets) → AreWords from.now bases m →
+        AreWords words.now (bases_after shifts.now bases) m }
+{
+    for k in 0..WORDS {
+        if !is_word_shifted(shifts, from[k], words[k]) {
+            return false;
+        }
+    }
+    true
 }
 
 /// The same, if the number of each base becomes the one of its shift.
@@ -122,8 +158,11 @@ pub fn with_register(node: &Node, register: Reg, known: Option<Range>, form: Opt
     Node {
         row,
         forms,
+        words: node.words,
+        kept: node.kept,
         depth: node.depth,
         promise: node.promise,
+        spared: node.spared,
     }
 }
 
@@ -150,8 +189,11 @@ pub fn with_known(node: &Node, register: Reg, known: Option<Range>) -> Node
     Node {
         row: row_with_known(&node.row, &node.forms, register, known),
         forms: node.forms,
+        words: node.words,
+        kept: node.kept,
         depth: node.depth,
         promise: node.promise,
+        spared: node.spared,
     }
 }
 
@@ -164,7 +206,7 @@ pub fn with_base(node: &Node, register: Reg) -> Node
     if form_of_known(node.row[at], node.forms[at]).is_some() {
         return *node;
     }
-    let Some(base) = free_base(&node.forms) else {
+    let Some(base) = free_base(&node.forms, &node.words) else {
         return *node;
     };
     let mut forms = node.forms;
@@ -176,8 +218,11 @@ pub fn with_base(node: &Node, register: Reg) -> Node
     Node {
         row: node.row,
         forms,
+        words: node.words,
+        kept: node.kept,
         depth: node.depth,
         promise: node.promise,
+        spared: node.spared,
     }
 }
 

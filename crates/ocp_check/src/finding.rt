@@ -9,14 +9,17 @@ use crate::answers::after_engine_call;
 use crate::certificate::{Node, after_return};
 use crate::checker::{at_start, is_kept_at};
 use crate::covering::{
-    node_at, range_of, range_of_operand, with_base_of_operand, with_known, with_register,
+    form_of, node_at, range_of, range_of_operand, with_base, with_base_of_operand, with_known,
+    with_register,
 };
+use crate::form::Form;
 use crate::loading::numbers_of;
 use crate::range::{Range, follows, is_empty, lesser, only, refinement, stride_of, sum};
-use crate::steps::{after_operation, at_call, target};
-use crate::tying::{are_same_forms, narrow_by_forms, ties_of};
+use crate::steps::{after_operation, after_store, at_call, target, word_read};
+use crate::tying::{CELLS, are_same_forms, cells_of, narrow_by_forms, ties_of};
+use crate::word::{WORDS, Word};
 use bpf_step::{FRAME_OCTETS, MAX_LOCAL_CALLS};
-use bpf_types::{Comparison, Line, Operand, Operation, Reg, Width};
+use bpf_types::{Comparison, Line, Operand, Operation, Reg, Size, Width};
 use ocp_loader::Program;
 use std::alloc::{AllocError, Allocator};
 
@@ -72,6 +75,8 @@ struct Search<A: Allocator> {
     landmarks: Vec<u64, A>,
     /// Of R0 at the ends of local calls, if there is one.
     end: Option<Option<Range>>,
+    /// From which address on the stack is as before at the ends of local calls.
+    spared: u64,
     pass: u32,
     has_changed: bool,
 }
@@ -179,6 +184,57 @@ fn growth(
     }
 }
 
+/// A node at which machines are as the old one says, or as the new one, with what is known of its
+/// cells. What is known of words is left out if they are not at the same address.
+fn node_of(
+    old: &Node,
+    from: &Node,
+    row: &[Option<Range>; CELLS],
+    forms: &[Option<Form>; CELLS],
+) -> Node {
+    let mut node = *old;
+    for k in 0..11 {
+        node.row[k] = row[k];
+        node.forms[k] = forms[k];
+    }
+    for k in 0..WORDS {
+        node.words[k] = match (old.words[k], from.words[k]) {
+            (Some(word), Some(same)) if word.address == same.address => Some(Word {
+                address: word.address,
+                known: row[11 + k],
+                form: forms[11 + k],
+            }),
+            _ => None,
+        };
+    }
+    node
+}
+
+/// Whether the words at an index are the same, if there are any.
+fn is_same_word(a: Option<Word>, b: Option<Word>) -> bool {
+    match (a, b) {
+        (None, None) => true,
+        (Some(a), Some(b)) => a.address == b.address,
+        _ => false,
+    }
+}
+
+/// Whether two nodes say the same, but for promises.
+fn is_same_node(a: &Node, b: &Node) -> bool {
+    let (first, second) = (cells_of(a, a), cells_of(b, b));
+    for k in 0..CELLS {
+        if !is_same(first.row[k], second.row[k]) {
+            return false;
+        }
+    }
+    for k in 0..WORDS {
+        if !is_same_word(a.words[k], b.words[k]) {
+            return false;
+        }
+    }
+    are_same_forms(&first.forms, &second.forms) && a.depth == b.depth && a.kept == b.kept
+}
+
 impl<A: Allocator> Search<A> {
     /// A machine that is as the node says may come from a slot to a place.
     fn enter(&mut self, slot: u16, place: usize, from: &Node) {
@@ -191,38 +247,32 @@ impl<A: Allocator> Search<A> {
             return;
         };
         let is_back = place <= usize::from(slot);
-        let mut row = old.row;
-        let mut has_grown = false;
-        for k in 0..11 {
-            let known = growth(
+        let before = cells_of(&old, &old);
+        let after = cells_of(from, &old);
+        let mut row = before.row;
+        for k in 0..CELLS {
+            row[k] = growth(
                 &self.landmarks,
                 self.pass,
                 is_back,
-                old.row[k],
-                hull(old.row[k], from.row[k]),
+                before.row[k],
+                hull(before.row[k], after.row[k]),
             );
-            if !is_same(known, old.row[k]) {
-                has_grown = true;
-            }
-            row[k] = known;
         }
-        let forms = ties_of(&old, from, self.pass < WIDE_PASSES);
-        if !are_same_forms(&forms, &old.forms) {
-            has_grown = true;
+        let forms = ties_of(&before, &after, self.pass < WIDE_PASSES);
+        let narrow = narrow_by_forms(&row, &forms);
+        for k in 0..CELLS {
+            row[k] = hull(narrow[k], hull(before.row[k], after.row[k]));
         }
-        row = narrow_by_forms(&row, &forms);
-        let depth = if old.depth < from.depth {
-            from.depth
-        } else {
-            old.depth
-        };
-        if has_grown || depth > old.depth {
-            self.nodes[place] = Some(Node {
-                row,
-                forms,
-                depth,
-                promise: None,
-            });
+        let mut joined = node_of(&old, from, &row, &forms);
+        if joined.depth < from.depth {
+            joined.depth = from.depth;
+        }
+        if joined.kept < from.kept {
+            joined.kept = from.kept;
+        }
+        if !is_same_node(&joined, &old) {
+            self.nodes[place] = Some(joined);
             self.has_changed = true;
         }
     }
@@ -248,6 +298,28 @@ impl<A: Allocator> Search<A> {
     ) {
         let based = with_base_of_operand(node, &operand);
         let after = after_operation(&based, width, operation, dst, operand);
+        self.enter(slot, usize::from(slot).saturating_add(1), &after);
+    }
+
+    /// The same of a load.
+    fn read(&mut self, slot: u16, node: &Node, dst: Reg, base: Reg, offset: i16, size: Size) {
+        let (known, form) = match word_read(node, base, offset, size) {
+            Some(word) => (word.known, word.form),
+            None => (numbers_of(size), None),
+        };
+        self.enter(
+            slot,
+            usize::from(slot).saturating_add(1),
+            &with_register(node, dst, known, form),
+        );
+    }
+
+    /// The same of a store of a register.
+    fn save(&mut self, slot: u16, node: &Node, base: Reg, offset: i16, size: Size, src: Reg) {
+        let based = with_base(node, src);
+        let known = range_of(&based.row, src);
+        let form = form_of(&based.forms, src);
+        let after = after_store(&based, base, offset, size, known, form);
         self.enter(slot, usize::from(slot).saturating_add(1), &after);
     }
 
@@ -277,10 +349,14 @@ impl<A: Allocator> Search<A> {
         }
         let pointer = sum(node.row[10], only(FRAME_OCTETS.wrapping_neg()));
         if let Some(place) = target(slot, distance) {
-            self.enter(slot, place, &at_call(node, pointer, None));
+            self.enter(slot, place, &at_call(node, pointer, None, 0));
         }
         if let Some(end) = self.end {
-            self.enter(slot, usize::from(slot) + 1, &after_return(node, end));
+            self.enter(
+                slot,
+                usize::from(slot) + 1,
+                &after_return(node, end, self.spared),
+            );
         }
     }
 
@@ -288,6 +364,10 @@ impl<A: Allocator> Search<A> {
     fn close(&mut self, node: &Node) {
         if node.depth == 0 {
             return;
+        }
+        if self.spared < node.kept {
+            self.spared = node.kept;
+            self.has_changed = true;
         }
         let end = match self.end {
             Some(end) => hull(end, node.row[0]),
@@ -358,11 +438,29 @@ impl<A: Allocator> Search<A> {
             Line::CallLocal { distance } => self.open(slot, distance, node),
             Line::Exit => self.close(node),
             Line::LoadWide { dst, value } => self.write(slot, 2, node, dst, only(value)),
-            Line::Load { size, dst, .. } => self.write(slot, 1, node, dst, numbers_of(size)),
+            Line::Load {
+                size,
+                dst,
+                base,
+                offset,
+            } => self.read(slot, node, dst, base, offset, size),
             Line::LoadExtended { dst, .. } => self.write(slot, 1, node, dst, None),
-            Line::StoreImmediate { .. } | Line::Store { .. } => {
-                self.jump(slot, 0, node, Reg::zero(), node.row[0]);
-            }
+            Line::StoreImmediate {
+                size,
+                base,
+                offset,
+                ..
+            } => self.enter(
+                slot,
+                usize::from(slot).saturating_add(1),
+                &after_store(node, base, offset, size, None, None),
+            ),
+            Line::Store {
+                size,
+                base,
+                offset,
+                src,
+            } => self.save(slot, node, base, offset, size, src),
         }
     }
 
@@ -417,11 +515,12 @@ fn landmarks_of<A: Allocator>(
 }
 
 /// Says at each slot what is promised at the ends of local calls.
-fn promise_to(nodes: &mut [Option<Node>], end: Option<Option<Range>>) {
+fn promise_to(nodes: &mut [Option<Node>], end: Option<Option<Range>>, spared: u64) {
     let promise = end.flatten();
     for node in nodes.iter_mut() {
         if let Some(node) = node {
             node.promise = promise;
+            node.spared = spared;
         }
     }
 }
@@ -444,11 +543,13 @@ fn narrower<A: Allocator + Copy>(
     program: &Program<A>,
     wide: &[Option<Node>],
     end: Option<Option<Range>>,
+    spared: u64,
 ) -> Result<Vec<Option<Node>, A>, AllocError> {
     let mut search = Search {
         nodes: vec![in alloc; None; wide.len()]?,
         landmarks: Vec::new(alloc),
         end,
+        spared,
         pass: 0,
         has_changed: false,
     };
@@ -475,6 +576,7 @@ pub fn find<A: Allocator + Copy>(
         nodes: vec![in alloc; None; slots]?,
         landmarks: landmarks_of(alloc, program, slots as u16)?,
         end: None,
+        spared: 0,
         pass: 0,
         has_changed: true,
     };
@@ -488,16 +590,16 @@ pub fn find<A: Allocator + Copy>(
             break;
         }
     }
-    let end = search.end;
+    let (end, spared) = (search.end, search.spared);
     let mut nodes = search.nodes;
-    promise_to(&mut nodes, end);
+    promise_to(&mut nodes, end, spared);
     for _ in 0..NARROW_PASSES {
         let least = unkept(program, &nodes);
         if least == 0 {
             break;
         }
-        let mut next = narrower(alloc, program, &nodes, end)?;
-        promise_to(&mut next, end);
+        let mut next = narrower(alloc, program, &nodes, end, spared)?;
+        promise_to(&mut next, end, spared);
         if unkept(program, &next) > least {
             break;
         }

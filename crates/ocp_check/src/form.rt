@@ -23,7 +23,7 @@ pub struct Form {
 pub type Forms = [Option<Form>; 11];
 
 /// The most bases at a slot.
-pub const BASES: usize = 16;
+pub const BASES: usize = 20;
 
 /// The form of a number that is known, and else the form that is given.
 pub fn form_of_known(known: Option<Range>, form: Option<Form>) -> Option<Form>
@@ -197,7 +197,7 @@ pub fn range_by_tie(
 }
 
 /// Whether no register is of a base.
-fn is_free(forms: &Forms, base: u8) -> bool
+pub fn is_free(forms: &Forms, base: u8) -> bool
     ensures { IsTrue result → (k : ℕ) → k < 11 → (f : Form) →
         slice_index_or forms.now k None ≡ Some f → f.base ≢ base }
 {
@@ -210,26 +210,13 @@ fn is_free(forms: &Forms, base: u8) -> bool
 }
 
 /// Whether a form is of a base.
-fn is_of_base(form: Option<Form>, base: u8) -> bool
+pub fn is_of_base(form: Option<Form>, base: u8) -> bool
     ensures { IsFalse result → (f : Form) → form ≡ Some f → f.base ≢ base }
 {
     match form {
         Some(form) => form.base == base,
         None => false,
     }
-}
-
-/// A base of which no register is, if there is one.
-pub fn free_base(forms: &Forms) -> Option<u8>
-    ensures { IfSome result (λ base. (k : ℕ) → k < 11 → (f : Form) →
-        slice_index_or forms.now k None ≡ Some f → f.base ≢ base) }
-{
-    for base in 0..BASES as u8 {
-        if is_free(forms, base) {
-            return Some(base);
-        }
-    }
-    None
 }
 
 /// Whether a form follows from another one, if the number of each base becomes the one of its

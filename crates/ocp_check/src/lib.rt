@@ -22,6 +22,7 @@ pub mod refusal;
 pub mod rounds;
 pub mod steps;
 pub mod tying;
+pub mod word;
 
 pub use asks::check_pool;
 pub use certificate::{Node, Row};
@@ -31,3 +32,4 @@ pub use form::Form;
 pub use range::{Range, Stride};
 pub use refusal::{Refusal, Why};
 pub use rounds::check_rounds;
+pub use word::Word;

@@ -1,7 +1,7 @@
 //! One instruction against a certificate.
-ghost use Rattle.std.specs.Prelude.{◌≡◌, ◌<◌, ◌+◌, ◌^◌, ℕ, IsTrue, IfSome, Some, None, if◌then◌else◌, slice_index, slice_set, Option};
+ghost use Rattle.std.specs.Prelude.{◌≡◌, ◌≤◌, ◌<◌, ◌+◌, ◌^◌, ℕ, true, slice_index_or, IsTrue, IfSome, Some, None, Ok, List, if◌then◌else◌, slice_index, slice_set, Option};
 ghost use Rattle.bpf_types.specs.Line.{octets_in};
-ghost use Rattle.ocp_regions.specs.Memory.{number_in_memory, memory_after_store};
+ghost use Rattle.ocp_regions.specs.Memory.{Octets, number_in_memory, memory_after_store, zeros, zeros_over};
 ghost use Rattle.bpf_moves.specs.Moves.{operand_in, address_in, load_register, store_memory, move_by_jump};
 ghost use Rattle.bpf_values.specs.Value.{arithmetic_result, is_taken};
 ghost use Rattle.ocp_loader.specs.LineAt.{target};
@@ -9,19 +9,23 @@ ghost use Rattle.bpf_step.specs.Machine.{State, NoInstruction, state_after_write
 ghost use Rattle.bpf_step.specs.Step.{step, outcome_by};
 ghost use Rattle.bpf_step.specs.Answers.{IsAnswer};
 ghost use Rattle.bpf_step.specs.Calls.{state_after_engine_call, local_call, exit_to, last_frame};
-ghost use Rattle.ocp_check.specs.Mirror.Ranges.{IsIn};
+ghost use Rattle.ocp_regions.specs.Access.{HasOctets};
+ghost use Rattle.ocp_check.specs.Mirror.Ranges.{IsIn, AreIn, IsThere};
+ghost use Rattle.ocp_check.specs.Mirror.Words.{IsWord, AreWords};
+ghost use Rattle.ocp_check.specs.Mirror.Forms.{IsForm};
 ghost use Rattle.ocp_check.specs.Mirror.Fits.{Certificate, Covers, Fits, Matches, FitsAfter};
 
 use crate::answers::after_engine_call;
-use crate::certificate::{Node, after_return};
+use crate::certificate::{Node, Row, after_return};
 use crate::covering::{
-    covers, form_of, form_of_operand, range_of, range_of_operand, with_base_of_operand, with_known,
-    with_register,
+    covers, form_of, form_of_operand, range_of, range_of_operand, with_base, with_base_of_operand,
+    with_known, with_register,
 };
-use crate::form::{Form, form_of_result};
+use crate::form::{Form, form_of_result, number_of};
 use crate::laws::accesses_are_there;
 use crate::loading::numbers_of;
 use crate::range::{Range, is_empty, is_there, is_within, only, refinement, result_of, sum};
+use crate::word::{Word, index_of, kept_after, words_with};
 use bpf_step::{FRAME_OCTETS, MAX_LOCAL_CALLS};
 use bpf_types::{Comparison, Line, Operand, Operation, Reg, Size, Width};
 use bpf_values::size_of;
@@ -127,6 +131,89 @@ fn is_kept_jumping(
     }
 }
 
+/// What is known of the address of an access.
+pub fn address_range(row: &Row, base: Reg, offset: i16) -> Option<Range>
+    ensures { (registers : List ℕ) → AreIn row.now registers →
+        IsIn result (address_in registers base offset) }
+{
+    sum(range_of(row, base), only(i64::from(offset).cast_unsigned()))
+}
+
+/// The word, if it is at an address.
+fn word_with_address(word: Option<Word>, address: u64) -> Option<Word>
+    ensures { IfSome result (λ found. (bases : ℕ → ℕ) (m : Octets) (v : ℕ) → IsWord word bases m →
+        number_in_memory m address 8 ≡ Ok v → IsIn found.known v × IsForm found.form bases v) }
+{
+    match word {
+        Some(word) => {
+            if word.address == address {
+                Some(word)
+            } else {
+                None
+            }
+        }
+        None => None,
+    }
+}
+
+/// The word of the stack that a load reads, if something is known of it.
+pub fn word_read(node: &Node, base: Reg, offset: i16, size: Size) -> Option<Word>
+    ensures { IfSome result (λ word. (bases : ℕ → ℕ) (registers : List ℕ) (m : Octets) (v : ℕ) →
+        AreIn node.now.row registers → AreWords node.now.words bases m →
+        number_in_memory m (address_in registers base offset) (octets_in size) ≡ Ok v →
+        IsIn word.known v × IsForm word.form bases v) }
+{
+    if size.octets() != 8 {
+        return None;
+    }
+    let Some(address) = number_of(address_range(&node.row, base, offset)) else {
+        return None;
+    };
+    word_with_address(node.words[index_of(address)], address)
+}
+
+/// Whether a load of a word of which something is known fits the certificate, and else of any.
+fn is_kept_reading(
+    certificate: &[Option<Node>],
+    slot: u16,
+    node: &Node,
+    dst: Reg,
+    base: Reg,
+    offset: i16,
+    size: Size,
+) -> bool
+    ensures { IsTrue result → (s : State) → s.place ≡ slot → Matches certificate.now node.now s →
+        FitsAfter certificate.now s (outcome_by s (load_register s.registers s.memory dst (λ v. v)
+        (number_in_memory s.memory (address_in s.registers base offset) (octets_in size)))
+        NoInstruction) }
+{
+    accesses_are_there();
+    match word_read(node, base, offset, size) {
+        Some(word) => {
+            is_there(
+                range_of(&node.row, base),
+                offset,
+                size.octets() as u64,
+                false,
+            ) && covers(
+                certificate,
+                usize::from(slot) + 1,
+                &with_register(node, dst, word.known, word.form),
+            )
+        }
+        None => is_kept_loading(
+            certificate,
+            slot,
+            node,
+            dst,
+            base,
+            offset,
+            size,
+            numbers_of(size),
+        ),
+    }
+}
+
 /// Whether a load, after which this is known of the value, is inside a region and fits the
 /// certificate.
 fn is_kept_loading(
@@ -155,8 +242,67 @@ fn is_kept_loading(
     ) && is_kept_writing(certificate, slot, 1, node, dst, known)
 }
 
+/// What is known after a store of a number.
+pub fn after_store(
+    node: &Node,
+    base: Reg,
+    offset: i16,
+    size: Size,
+    known: Option<Range>,
+    form: Option<Form>,
+) -> Node
+    ensures { (certificate : Certificate) (s : State) (t : Octets) (v : ℕ) →
+        (m : Matches certificate node.now s) → IsIn known v → IsForm form m.bases v →
+        IsThere true (address_in s.registers base offset) (octets_in size) →
+        memory_after_store s.memory (address_in s.registers base offset) (octets_in size) v ≡ Ok t →
+        zeros_over t ≡ zeros m.profile → HasOctets t →
+        Matches certificate result (record s { memory = t }) }
+{
+    let at = address_range(&node.row, base, offset);
+    let octets = size.octets() as u64;
+    Node {
+        row: node.row,
+        forms: node.forms,
+        words: words_with(&node.words, at, octets, known, form),
+        kept: kept_after(node.kept, at, octets),
+        depth: node.depth,
+        promise: node.promise,
+        spared: node.spared,
+    }
+}
+
 /// Whether a store is inside a region that may be written, and fits the certificate.
 fn is_kept_storing(
+    certificate: &[Option<Node>],
+    slot: u16,
+    node: &Node,
+    base: Reg,
+    offset: i16,
+    size: Size,
+    known: Option<Range>,
+    form: Option<Form>,
+) -> bool
+    ensures { IsTrue result → (s : State) (v : ℕ) → s.place ≡ slot →
+        (m : Matches certificate.now node.now s) → IsIn known v → IsForm form m.bases v →
+        FitsAfter certificate.now s (outcome_by s (store_memory s.registers
+        (memory_after_store s.memory (address_in s.registers base offset) (octets_in size) v))
+        NoInstruction) }
+{
+    accesses_are_there();
+    is_there(
+        range_of(&node.row, base),
+        offset,
+        size.octets() as u64,
+        true,
+    ) && covers(
+        certificate,
+        usize::from(slot) + 1,
+        &after_store(node, base, offset, size, known, form),
+    )
+}
+
+/// The same of a store of which nothing is known.
+fn is_kept_filling(
     certificate: &[Option<Node>],
     slot: u16,
     node: &Node,
@@ -170,20 +316,28 @@ fn is_kept_storing(
         (memory_after_store s.memory (address_in s.registers base offset) (octets_in size) v))
         NoInstruction) }
 {
-    accesses_are_there();
-    is_there(
-        range_of(&node.row, base),
-        offset,
-        size.octets() as u64,
-        true,
-    ) && is_kept_jumping(
-        certificate,
-        slot,
-        None,
-        node,
-        Reg::zero(),
-        range_of(&node.row, Reg::zero()),
-    )
+    is_kept_storing(certificate, slot, node, base, offset, size, None, None)
+}
+
+/// Whether a store of a register fits the certificate.
+fn is_kept_saving(
+    certificate: &[Option<Node>],
+    slot: u16,
+    node: &Node,
+    base: Reg,
+    offset: i16,
+    size: Size,
+    src: Reg,
+) -> bool
+    ensures { IsTrue result → (s : State) → s.place ≡ slot → Matches certificate.now node.now s →
+        FitsAfter certificate.now s (outcome_by s (store_memory s.registers
+        (memory_after_store s.memory (address_in s.registers base offset) (octets_in size)
+        (slice_index s.registers src))) NoInstruction) }
+{
+    let based = with_base(node, src);
+    let known = range_of(&based.row, src);
+    let form = form_of(&based.forms, src);
+    is_kept_storing(certificate, slot, &based, base, offset, size, known, form)
 }
 
 /// Whether an engine call fits the certificate, whatever it answers.
@@ -224,13 +378,16 @@ fn is_kept_branching(
 }
 
 /// What is known at the first slot of a local call: R10, and what is promised of R0 at the end.
-pub fn at_call(node: &Node, pointer: Option<Range>, promise: Option<Range>) -> Node
+pub fn at_call(node: &Node, pointer: Option<Range>, promise: Option<Range>, spared: u64) -> Node
     requires { node.now.depth < MAX_LOCAL_CALLS }
     ensures { result ≡ record {
       row = slice_set node.now.row 10 pointer;
       forms = slice_set node.now.forms 10 None;
+      words = node.now.words;
+      kept = 0;
       depth = node.now.depth + 1;
       promise = promise;
+      spared = spared;
     } }
 {
     let mut row = node.row;
@@ -240,8 +397,11 @@ pub fn at_call(node: &Node, pointer: Option<Range>, promise: Option<Range>) -> N
     Node {
         row,
         forms,
+        words: node.words,
+        kept: 0,
         depth: node.depth + 1,
         promise,
+        spared,
     }
 }
 
@@ -275,8 +435,8 @@ fn is_kept_opening(certificate: &[Option<Node>], slot: u16, distance: i32, node:
         return false;
     }
     let pointer = sum(node.row[10], only(FRAME_OCTETS.wrapping_neg()));
-    let called = at_call(node, pointer, first.promise);
-    let returned = after_return(node, first.promise);
+    let called = at_call(node, pointer, first.promise, first.spared);
+    let returned = after_return(node, first.promise, first.spared);
     covers_both(
         certificate,
         place,
@@ -286,13 +446,22 @@ fn is_kept_opening(certificate: &[Option<Node>], slot: u16, distance: i32, node:
     )
 }
 
+/// Whether R0 and the stack are as it was promised for the end of the innermost local call.
+fn keeps_promise(node: &Node) -> bool
+    ensures same { IsTrue result → node.now.kept ≤ node.now.spared }
+    ensures r0 { IsTrue result → (v : ℕ) → IsIn (slice_index_or node.now.row 0 None) v →
+        IsIn node.now.promise v }
+{
+    node.kept <= node.spared && is_within(node.row[0], node.promise)
+}
+
 /// Whether the end of a local call keeps what is promised of R0. The end of the procedure keeps
 /// everything.
 fn is_kept_ending(certificate: &[Option<Node>], node: &Node) -> bool
     ensures { IsTrue result → (s : State) → Matches certificate.now node.now s →
         FitsAfter certificate.now s (exit_to s (last_frame s)) }
 {
-    node.depth == 0 || is_within(node.row[0], node.promise)
+    node.depth == 0 || keeps_promise(node)
 }
 
 /// Whether what a machine at the slot does next fits the certificate, and is no fault.
@@ -364,16 +533,7 @@ pub fn is_kept(certificate: &[Option<Node>], slot: u16, node: &Node, line: Line)
             dst,
             base,
             offset,
-        } => is_kept_loading(
-            certificate,
-            slot,
-            node,
-            dst,
-            base,
-            offset,
-            size,
-            numbers_of(size),
-        ),
+        } => is_kept_reading(certificate, slot, node, dst, base, offset, size),
         Line::LoadExtended {
             size,
             dst,
@@ -396,12 +556,12 @@ pub fn is_kept(certificate: &[Option<Node>], slot: u16, node: &Node, line: Line)
             base,
             offset,
             ..
-        } => is_kept_storing(certificate, slot, node, base, offset, size),
+        } => is_kept_filling(certificate, slot, node, base, offset, size),
         Line::Store {
             size,
             base,
             offset,
-            ..
-        } => is_kept_storing(certificate, slot, node, base, offset, size),
+            src,
+        } => is_kept_saving(certificate, slot, node, base, offset, size, src),
     }
 }

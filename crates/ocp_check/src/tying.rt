@@ -1,14 +1,45 @@
 //! Which registers are tied to one another at a place to which machines come from several slots.
 //! Nothing rests on it: `check` tests what it finds.
 
-use crate::certificate::{Node, Row};
-use crate::form::{
-    BASES, Form, Forms, form_of_known, free_base, is_shifted_by, number_of, range_by_tie,
-};
+use crate::certificate::Node;
+use crate::form::{BASES, Form, form_of_known, is_of_base, is_shifted_by, number_of, range_by_tie};
 use crate::range::Range;
+use crate::word::WORDS;
 
 /// The greatest factor of a tie.
 const MOST_TIMES: u64 = 4096;
+
+/// How many registers and words a node has.
+pub const CELLS: usize = 11 + WORDS;
+
+/// What is known of the registers, and of the words after them.
+#[derive(Clone, Copy)]
+pub struct Cells {
+    pub row: [Option<Range>; CELLS],
+    pub forms: [Option<Form>; CELLS],
+}
+
+/// The registers and words of a node. Of words at other addresses than those of another node
+/// nothing is known.
+pub fn cells_of(node: &Node, other: &Node) -> Cells {
+    let mut cells = Cells {
+        row: [None; CELLS],
+        forms: [None; CELLS],
+    };
+    for k in 0..11 {
+        cells.row[k] = node.row[k];
+        cells.forms[k] = node.forms[k];
+    }
+    for k in 0..WORDS {
+        if let (Some(word), Some(same)) = (node.words[k], other.words[k]) {
+            if word.address == same.address {
+                cells.row[11 + k] = word.known;
+                cells.forms[11 + k] = word.form;
+            }
+        }
+    }
+    cells
+}
 
 /// Whether two registers have the same forms, or none.
 fn is_same_form(a: Option<Form>, b: Option<Form>) -> bool {
@@ -20,13 +51,29 @@ fn is_same_form(a: Option<Form>, b: Option<Form>) -> bool {
 }
 
 /// Whether all registers have the same forms.
-pub fn are_same_forms(a: &Forms, b: &Forms) -> bool {
-    for k in 0..11 {
+pub fn are_same_forms(a: &[Option<Form>; CELLS], b: &[Option<Form>; CELLS]) -> bool {
+    for k in 0..CELLS {
         if !is_same_form(a[k], b[k]) {
             return false;
         }
     }
     true
+}
+
+/// A base of which no cell is, if there is one.
+fn base_left(forms: &[Option<Form>; CELLS]) -> Option<u8> {
+    for base in 0..BASES as u8 {
+        let mut is_free = true;
+        for k in 0..CELLS {
+            if is_of_base(forms[k], base) {
+                is_free = false;
+            }
+        }
+        if is_free {
+            return Some(base);
+        }
+    }
+    None
 }
 
 /// How much a number has grown, modulo 2 ^ 64, if it is known before and after and has changed.
@@ -47,9 +94,9 @@ fn distance_of(number: u64) -> u64 {
 }
 
 /// The growth that is the nearest to zero.
-fn least_growth(old: &Node, from: &Node) -> Option<u64> {
+fn least_growth(old: &Cells, from: &Cells) -> Option<u64> {
     let mut least: Option<u64> = None;
-    for k in 0..11 {
+    for k in 0..CELLS {
         if let Some(growth) = growth_of(old.row[k], old.forms[k], from.row[k]) {
             match least {
                 Some(known) if distance_of(known) <= distance_of(growth) => {}
@@ -76,10 +123,10 @@ fn times_of(growth: u64, unit: u64) -> Option<u64> {
 
 /// The forms of a node, and those of registers whose numbers were known and have changed: the
 /// change that is the nearest to zero is their unit.
-fn with_growth(old: &Node, from: &Node) -> Forms {
+fn with_growth(old: &Cells, from: &Cells) -> [Option<Form>; CELLS] {
     let mut forms = old.forms;
-    if let (Some(unit), Some(base)) = (least_growth(old, from), free_base(&old.forms)) {
-        for k in 0..11 {
+    if let (Some(unit), Some(base)) = (least_growth(old, from), base_left(&old.forms)) {
+        for k in 0..CELLS {
             if let (Some(growth), Some(number)) = (
                 growth_of(old.row[k], old.forms[k], from.row[k]),
                 number_of(old.row[k]),
@@ -98,7 +145,7 @@ fn with_growth(old: &Node, from: &Node) -> Forms {
 }
 
 /// What becomes of the base of a form, if it is that of its register.
-fn shift_by(from: &Node, forms: &Forms, anchor: usize) -> Option<Form> {
+fn shift_by(from: &Cells, forms: &[Option<Form>; CELLS], anchor: usize) -> Option<Form> {
     let to = (*forms.get(anchor)?)?;
     let form = form_of_known(*from.row.get(anchor)?, *from.forms.get(anchor)?)?;
     if to.times != 1 {
@@ -112,7 +159,7 @@ fn shift_by(from: &Node, forms: &Forms, anchor: usize) -> Option<Form> {
 }
 
 /// Whether a register follows a shift of its base.
-fn follows_shift(shift: &Form, from: &Node, to: Form, k: usize) -> bool {
+fn follows_shift(shift: &Form, from: &Cells, to: Form, k: usize) -> bool {
     match (from.row.get(k), from.forms.get(k)) {
         (Some(range), Some(form)) => match form_of_known(*range, *form) {
             Some(form) => is_shifted_by(shift, form, to),
@@ -123,12 +170,12 @@ fn follows_shift(shift: &Form, from: &Node, to: Form, k: usize) -> bool {
 }
 
 /// How many registers of a base follow the shift of one of them.
-fn followers(from: &Node, forms: &Forms, base: u8, anchor: usize) -> u32 {
+fn followers(from: &Cells, forms: &[Option<Form>; CELLS], base: u8, anchor: usize) -> u32 {
     let Some(shift) = shift_by(from, forms, anchor) else {
         return 0;
     };
     let mut count = 0u32;
-    for k in 0..11 {
+    for k in 0..CELLS {
         if let Some(to) = forms[k] {
             if to.base == base && follows_shift(&shift, from, to, k) {
                 count = count.saturating_add(1);
@@ -139,10 +186,10 @@ fn followers(from: &Node, forms: &Forms, base: u8, anchor: usize) -> u32 {
 }
 
 /// The register of a base whose shift most others follow.
-fn best_anchor(from: &Node, forms: &Forms, base: u8) -> usize {
+fn best_anchor(from: &Cells, forms: &[Option<Form>; CELLS], base: u8) -> usize {
     let mut best = 0;
     let mut most = 0;
-    for k in 0..11 {
+    for k in 0..CELLS {
         if let Some(to) = forms[k] {
             let count = followers(from, forms, base, k);
             if to.base == base && count > most {
@@ -155,9 +202,9 @@ fn best_anchor(from: &Node, forms: &Forms, base: u8) -> usize {
 }
 
 /// The forms that both the old node and a new one have, of those that are given.
-fn common(from: &Node, forms: &Forms) -> Forms {
+fn common(from: &Cells, forms: &[Option<Form>; CELLS]) -> [Option<Form>; CELLS] {
     let mut left = *forms;
-    for k in 0..11 {
+    for k in 0..CELLS {
         if let Some(to) = forms[k] {
             let anchor = best_anchor(from, forms, to.base);
             let is_kept = match shift_by(from, forms, anchor) {
@@ -178,10 +225,15 @@ fn is_plain(known: Option<Range>, form: Option<Form>) -> bool {
 }
 
 /// Forms with those of one base of the new node, of registers that had one number each.
-fn with_adopted(old: &Node, from: &Node, forms: &Forms, base: u8) -> Forms {
+fn with_adopted(
+    old: &Cells,
+    from: &Cells,
+    forms: &[Option<Form>; CELLS],
+    base: u8,
+) -> [Option<Form>; CELLS] {
     let mut more = *forms;
-    if let Some(free) = free_base(forms) {
-        for k in 0..11 {
+    if let Some(free) = base_left(forms) {
+        for k in 0..CELLS {
             if let Some(form) = from.forms[k] {
                 if form.base == base && is_plain(old.row[k], old.forms[k]) {
                     more[k] = Some(Form {
@@ -197,7 +249,11 @@ fn with_adopted(old: &Node, from: &Node, forms: &Forms, base: u8) -> Forms {
 }
 
 /// Forms with those of the new node, of registers that had one number each.
-fn with_all_adopted(old: &Node, from: &Node, forms: &Forms) -> Forms {
+fn with_all_adopted(
+    old: &Cells,
+    from: &Cells,
+    forms: &[Option<Form>; CELLS],
+) -> [Option<Form>; CELLS] {
     let mut more = *forms;
     for base in 0..BASES as u8 {
         more = with_adopted(old, from, &more, base);
@@ -206,7 +262,7 @@ fn with_all_adopted(old: &Node, from: &Node, forms: &Forms) -> Forms {
 }
 
 /// The forms of registers at a place that is as the old node says, or as the new one.
-pub fn ties_of(old: &Node, from: &Node, may_grow: bool) -> Forms {
+pub fn ties_of(old: &Cells, from: &Cells, may_grow: bool) -> [Option<Form>; CELLS] {
     if may_grow {
         let grown = with_growth(old, from);
         common(from, &with_all_adopted(old, from, &grown))
@@ -215,11 +271,14 @@ pub fn ties_of(old: &Node, from: &Node, may_grow: bool) -> Forms {
     }
 }
 
-/// What is known of registers by others that are tied to them.
-pub fn narrow_by_forms(row: &Row, forms: &Forms) -> Row {
+/// What is known of cells by others that are tied to them.
+pub fn narrow_by_forms(
+    row: &[Option<Range>; CELLS],
+    forms: &[Option<Form>; CELLS],
+) -> [Option<Range>; CELLS] {
     let mut narrow = *row;
-    for k in 0..11 {
-        for other in 0..11 {
+    for k in 0..CELLS {
+        for other in 0..CELLS {
             if other != k {
                 narrow[k] = range_by_tie(narrow[k], forms[k], forms[other], row[other]);
             }

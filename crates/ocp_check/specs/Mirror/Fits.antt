@@ -9,8 +9,10 @@ use Rattle.bpf_step.specs.Answers.{IsAnswer}
 use Rattle.ocp_check.specs.declared.range.Range.{Range}
 use Rattle.ocp_check.specs.declared.certificate.Node.{Node}
 use Rattle.ocp_check.specs.Mirror.Ranges.{IsIn, AreIn}
+use Rattle.ocp_regions.specs.Memory.{Octets}
 use Rattle.ocp_check.specs.Mirror.Forms.{AreFormed}
-use Rattle.ocp_check.specs.Mirror.Callers.{Caller, AreSaved, range_at, node_after_return}
+use Rattle.ocp_check.specs.Mirror.Words.{AreWords}
+use Rattle.ocp_check.specs.Mirror.Callers.{Caller, AreSaved, AreKept, range_at, node_after_return}
 
 -- what a certificate says at each slot, if the slot is ever reached
 abbrev pub Certificate : Type 0
@@ -21,23 +23,29 @@ pub record Covers (certificate : Certificate) (place : ℕ) (from : Node) : Type
   pub node : Node
   pub found : slice_get certificate place ≡ Some (Some node)
   pub weaker : (k : ℕ) → k < 11 → (v : ℕ) → IsIn (range_at from k) v → IsIn (range_at node k) v
-  pub tied : (bases : ℕ → ℕ) (registers : List ℕ) → AreIn from.row registers →
-      AreFormed from.forms bases registers → (next : ℕ → ℕ) × AreFormed node.forms next registers
+  pub tied : (bases : ℕ → ℕ) (registers : List ℕ) (m : Octets) → AreIn from.row registers →
+      AreFormed from.forms bases registers → AreWords from.words bases m →
+      (next : ℕ → ℕ) × AreFormed node.forms next registers × AreWords node.words next m
+  pub same : from.kept ≤ node.kept
+  pub spared : node.spared ≤ from.spared
   pub deep : from.depth ≤ node.depth
   pub kept : (v : ℕ) → IsIn node.promise v → IsIn from.promise v
 
 -- what the certificate says after an open local call follows from what is promised of R0
-pub record Resumes (certificate : Certificate) (promise : Option Range) (c : Caller) : Type 0 where
+-- and of the stack
+pub record Resumes (all : Certificate) (r0 : Option Range) (spared : ℕ) (c : Caller) : Type 0 where
   pub promised : Option Range
-  pub kept : (v : ℕ) → IsIn promise v → IsIn promised v
-  pub covers : Covers certificate (c.place + 1) (node_after_return c.node promised)
+  pub kept : (v : ℕ) → IsIn r0 v → IsIn promised v
+  pub floor : ℕ
+  pub above : spared ≤ floor
+  pub covers : Covers all (c.place + 1) (node_after_return c.node promised floor)
 
 -- so it is after each open local call, the latest of which is first
-abbrev pub Returns : Certificate → Option Range → List Caller → Type 0
-Returns certificate promise [] = Unit {0}
-Returns certificate promise (c ∷ callers) =
-    Resumes certificate promise c × (length callers ≤ c.node.depth)
-    × Returns certificate c.node.promise callers
+abbrev pub Returns : Certificate → Option Range → ℕ → List Caller → Type 0
+Returns certificate promise spared [] = Unit {0}
+Returns certificate promise spared (c ∷ callers) =
+    Resumes certificate promise spared c × (length callers ≤ c.node.depth)
+    × Returns certificate c.node.promise c.node.spared callers
 
 -- a machine is as a node says, and so it will be after each open local call
 pub record Matches (certificate : Certificate) (node : Node) (s : State) : Type 0 where
@@ -47,7 +55,9 @@ pub record Matches (certificate : Certificate) (node : Node) (s : State) : Type 
   pub callers : List Caller
   pub saved : AreSaved callers s.frames
   pub few : length callers ≤ node.depth
-  pub returns : Returns certificate node.promise callers
+  pub words : AreWords node.words bases s.memory
+  pub kept : AreKept node.kept s.memory callers
+  pub returns : Returns certificate node.promise node.spared callers
   pub profile : Profile
   pub memory : HasMemoryOf profile s
   pub octets : HasOctets s.memory

@@ -6,6 +6,7 @@ use Rattle.ocp_check.specs.declared.certificate.Node.{Node}
 use Rattle.ocp_check.specs.declared.range.Stride.TheVariants.{One}
 use Rattle.ocp_check.specs.Mirror.Ranges.{just}
 use Rattle.ocp_check.specs.Mirror.Callers.{no_forms}
+use Rattle.ocp_check.specs.Mirror.Words.{no_words}
 
 -- R1 is the address of the arguments, R2 their number, R10 the end of the stack, and all others are
 -- zero
@@ -15,6 +16,9 @@ node_at_start = record {
       ∷ Some (record { low = 0; high = ARGUMENT_OCTETS; stride = One }) ∷ just 0
       ∷ just 0 ∷ just 0 ∷ just 0 ∷ just 0 ∷ just 0 ∷ just 0 ∷ just FRAME_POINTER ∷ [];
   forms = no_forms;
+  words = no_words;
+  kept = 0;
+  spared = 0;
   depth = 0;
   promise = None;
 }

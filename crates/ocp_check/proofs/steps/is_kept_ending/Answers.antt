@@ -6,4 +6,4 @@ pub returns-then-node-eq0 : goal.returns-then-node-eq0
 returns-then-node-eq0 c = λ h s i. fits_exit c.args.certificate.now c.args.node.now s i (inl c.if-node-eq0.true)
 
 pub returns-else-node-eq0 : goal.returns-else-node-eq0
-returns-else-node-eq0 c = λ h s i. fits_exit c.args.certificate.now c.args.node.now s i (inr (c.is_within.ensures h))
+returns-else-node-eq0 c = λ h s i. fits_exit c.args.certificate.now c.args.node.now s i (inr (c.keeps_promise.ensures.same h, c.keeps_promise.ensures.r0 h))
