@@ -5,6 +5,7 @@ use Rattle.std.specs.Result.{result_ok}
 use Rattle.hex.specs.Hex.{decode_of, hex_digit_value}
 use Rattle.ocp_lines.specs.declared.words.TheConstants.{MAX_ADDRESS_DIGITS}
 
+-- octets of a line with no space among them
 abbrev pub Word : Type 0
 Word = List ℕ
 
