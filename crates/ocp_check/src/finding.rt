@@ -525,6 +525,15 @@ fn promise_to(nodes: &mut [Option<Node>], end: Option<Option<Range>>, spared: u6
     }
 }
 
+/// Takes the depths of local calls from another certificate of the image.
+fn take_depths(nodes: &mut [Option<Node>], certificate: &[Option<Node>]) {
+    for (node, known) in nodes.iter_mut().zip(certificate) {
+        if let (Some(node), Some(known)) = (node, known) {
+            node.depth = known.depth;
+        }
+    }
+}
+
 /// How many slots a certificate does not keep.
 fn unkept<A: Allocator>(program: &Program<A>, certificate: &[Option<Node>]) -> u32 {
     let mut count = 0u32;
@@ -600,6 +609,7 @@ pub fn find<A: Allocator + Copy>(
         }
         let mut next = narrower(alloc, program, &nodes, end, spared)?;
         promise_to(&mut next, end, spared);
+        take_depths(&mut next, &nodes);
         if unkept(program, &next) > least {
             break;
         }

@@ -1,4 +1,4 @@
-use Rattle.std.proofs.Common.{rules, ◌≡◌, ◌<◌, ℕ, length, get_or, refl, sym, subst, set}
+use Rattle.std.proofs.Common.{rules, ◌≡◌, ◌<◌, ℕ, length, get_or, refl, sym, subst}
 use Rattle.bpf_moves.specs.Moves.{operand_in}
 use Rattle.bpf_values.specs.Value.{arithmetic_result}
 use Rattle.bpf_step.specs.Machine.{state_after_write}

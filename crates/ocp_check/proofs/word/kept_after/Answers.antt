@@ -1,4 +1,4 @@
-use Rattle.std.proofs.Common.{◌≡◌, ◌≤◌, ◌+◌, Option, inl, inr, subst, ◌∙◌, arith}
+use Rattle.std.proofs.Common.{◌≡◌, Option, inl, inr, subst, ◌∙◌, arith}
 use Rattle.ocp_check.specs.declared.range.Range.{Range}
 use Rattle.ocp_check.specs.Mirror.Ranges.{IsIn}
 use Rattle.ocp_check.specs.Mirror.Words.{greater}

@@ -1,4 +1,4 @@
-use Rattle.std.proofs.Common.{rules, ◌≡◌, ◌<◌, ◌+◌, length, true, Ok, subst, sym, arith}
+use Rattle.std.proofs.Common.{rules, ◌≡◌, ◌<◌, length, true, Ok, subst}
 use Rattle.ocp_regions.specs.Memory.{memory_after_store}
 use Rattle.ocp_check.specs.Mirror.Ranges.{IsThere}
 use Rattle.ocp_check.proofs.Words.{put_word}
