@@ -74,7 +74,7 @@ fn program_of(alloc: Global, profile: Profile, image: &[u8]) -> Result<Program, 
 }
 
 fn line_at(alloc: Global, program: &Program, slot: u16) -> Answer {
-    name_of(alloc, program.line_at(slot))
+    name_of(alloc, Some(some!(alloc, program.line_at(slot))))
 }
 
 fn listing(alloc: Global, before: &str, program: &Program) -> Answer {
