@@ -279,7 +279,7 @@ static void sizes(void)
                         size_of(__LINE__, profile, words[one], entries[two], octets[three]);
     for (uint32_t number = 1; number <= 100; number++)
         size_of(__LINE__, 1 + number % 2, 1 + number * 7919 % 256, 1 + number * 104729 % 1000000, 1 + number * 1299709 % 1000000);
-    HOLDS(ocp_size(1, 1, 1, 1) == 763568 && ocp_size(2, 256, 1000000, MOST_OCTETS) == 1078507392);
+    HOLDS(ocp_size(1, 1, 1, 1) == 763632 && ocp_size(2, 256, 1000000, MOST_OCTETS) == 1078507456);
 }
 
 static uint32_t load(void)
