@@ -69,7 +69,7 @@ fn show_spelling(alloc: Global, line: Line) -> Answer {
     text_of(alloc, Octets(slots.as_slice()))
 }
 
-/// Reads a canonical text, and writes the line that it means behind the octets.
+/// Reads a canonical text, and writes the line that it means after the octets.
 fn read_canonical(alloc: Global, before: &str, text: &[u8]) -> Answer {
     let line = some!(alloc, bpf_listing::read_line(text));
     append!(alloc, before, Text, out => or_memory(line_text(line, out)))

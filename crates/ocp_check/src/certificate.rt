@@ -9,7 +9,7 @@ use crate::word::{Words, above, later};
 /// What is known of the eleven registers.
 pub type Row = [Option<Range>; 11];
 
-/// What is known of each machine that stands at a slot.
+/// What is known of each machine whose place is a slot.
 #[derive(Clone, Copy, Debug)]
 pub struct Node {
     pub row: Row,

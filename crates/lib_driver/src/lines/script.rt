@@ -45,7 +45,7 @@ impl Script {
 #[derive(Drop)]
 pub enum Reply {
     Text(String),
-    /// The lines behind this one are answered by others.
+    /// The lines after this one are answered by others.
     Last(String),
 }
 
@@ -62,7 +62,7 @@ pub enum End {
     Input,
     /// A line is no call.
     Syntax,
-    /// Those behind a call are answered by others.
+    /// Those after a call are answered by others.
     Others,
 }
 
@@ -76,7 +76,7 @@ fn answer_line<C: Calls>(calls: &mut C, alloc: Global, line: &str) -> Result<Opt
 }
 
 /// Answers the lines that are left, up to the first that is no call, or has others answer those
-/// behind it.
+/// after it.
 pub fn answer_lines<C: Calls>(
     rt: &(impl Print + Alloc<A = Global>),
     script: &mut Script,

@@ -5,7 +5,7 @@ use Rattle.ocp_check.specs.declared.form.Form.{Form}
 abbrev pub no_shift : Form
 no_shift = record { base = 0; times = 0; plus = 0 }
 
--- modulo 2 ^ 64 the number is so many times the number of its base, and so much more
+-- modulo 2 ^ 64 the number is `times` times the number of its base, and `plus` more
 abbrev pub IsForm : Option Form → (ℕ → ℕ) → ℕ → Type 0
 IsForm None bases v = Unit {0}
 IsForm (Some f) bases v = v % 2 ^ 64 ≡ (f.times * bases f.base + f.plus) % 2 ^ 64
