@@ -54,7 +54,7 @@ static FORMS: [(&str, &str); 18] = [
     ("takes no operands", ""),
 ];
 
-/// What is said of a number that is out of its range, by the example's word in its place.
+/// The sentence for a number out of its range, by the example's word in its place.
 static RANGES: Sentences = &[
     (
         b"18446744073709551615",

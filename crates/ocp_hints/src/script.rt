@@ -187,7 +187,7 @@ fn are_digits(octets: &[u8]) -> bool {
     octets.iter().all(|octet| octet.is_ascii_hexdigit())
 }
 
-/// What is said of a word in place of octets.
+/// The sentence for a word in place of octets.
 fn sentence_on_octets(form: &'static str, word: &[u8]) -> &'static str {
     if begins_with_one_of(b"0x 0X", word) {
         "hexadecimal digits have no 0x in front here"
@@ -204,7 +204,7 @@ fn sentence_on_octets(form: &'static str, word: &[u8]) -> &'static str {
     }
 }
 
-/// What is said of a word after the last one that a line may have.
+/// The sentence for a word after the last one that a line may have.
 fn sentence_on_more(form: &'static str, word: &[u8]) -> &'static str {
     if begins_with_one_of(b"# ; /", word) {
         "a comment is a line of its own"
@@ -215,7 +215,7 @@ fn sentence_on_more(form: &'static str, word: &[u8]) -> &'static str {
     }
 }
 
-/// What is said of a word in place of these parts of a form.
+/// The sentence for a word in place of these parts of a form.
 fn sentence_on_part(parts: &[u8]) -> Option<&'static str> {
     for (front, sentence) in &PARTS {
         if parts.starts_with(front.as_bytes()) {
