@@ -56,6 +56,7 @@ fn wide_of(fields: Fields, octets: &[u8]) -> Option<Line>
 }
 
 /// The instruction that the octets begin with, if any.
+#[inline(always)]
 fn line_in(octets: &[u8]) -> Option<Line>
     requires short { 8 ≤ length octets.now }
     requires long { slice_index octets.now 0 ≡ 0x18 → 16 ≤ length octets.now }
@@ -90,6 +91,7 @@ fn fault_in(octets: &[u8]) -> DecodeFault
 }
 
 /// The instruction that the octets begin with, or their first fault.
+#[inline(always)]
 #[tactic(auto, unfolding(crate::specs::Mirror::Decoding::decode_result))]
 fn decode(octets: &[u8]) -> Result<Line, DecodeFault>
     requires { 8 ≤ length octets.now }
@@ -111,6 +113,7 @@ fn decode(octets: &[u8]) -> Result<Line, DecodeFault>
 /// `WritesFramePointer`.
 ///
 /// The clauses `decoded` and `only` state the answer; `exact` states it as a function.
+#[inline(always)]
 pub fn decode_at(code: &[u8], slot: usize) -> Result<Line, DecodeFault>
     requires { 8 * slot + 8 ≤ length code.now }
     ensures decoded { Decodes (drop (8 * slot) code.now) result }
