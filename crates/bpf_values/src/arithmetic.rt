@@ -1,7 +1,7 @@
 //! Arithmetic and byte order (RFC 9669, sections 4.1 and 4.2).
 ghost use Rattle.std.specs.Prelude.{◌≡◌, ◌%◌, ◌^◌};
 ghost use Rattle.std.specs.Int.{w8, w16, cast_signed};
-ghost use Rattle.bpf_types.specs.declared.line.Width.TheVariants.{W32, W64};
+ghost use Rattle.bpf_types.specs.declared.line.Width.TheVariants.{W32};
 ghost use Rattle.bpf_values.specs.Value.{operate, arithmetic_result, negation, sign_extension, byte_order_result};
 
 use bpf_types::{Extension, Operation, Order, SwapWidth, Width, low_half};
@@ -29,14 +29,6 @@ macro_rules! operate {
             Operation::Arsh => ($dst.cast_signed() >> ($src % $bits)).cast_unsigned(),
         }
     };
-}
-
-/// An operation on 64 bits.
-#[inline(always)]
-fn operate64(operation: Operation, dst: u64, src: u64) -> u64
-    ensures { result ≡ operate W64 operation dst src }
-{
-    operate!(operation, dst, src, 64)
 }
 
 /// An operation on 32 bits.
@@ -70,7 +62,7 @@ pub fn arithmetic_result(width: Width, operation: Operation, dst: u64, src: u64)
     ensures { result ≡ arithmetic_result width operation dst src }
 {
     match width {
-        Width::W64 => operate64(operation, dst, src),
+        Width::W64 => operate!(operation, dst, src, 64),
         Width::W32 => u64::from(operate32(operation, low_half(dst), low_half(src))),
     }
 }
