@@ -10,6 +10,9 @@ doubled r h = grind (arith, nat_tests)
 octupled : (r : ℕ) → r < 2 → eqb (r * 8) 8 ≡ eqb r 1
 octupled r h = grind (arith, nat_tests)
 
+pub mask_one : (n : ℕ) → eqb (bit_and n 1) 1 ≡ eqb (n % 2) 1
+mask_one n = grind (arith, nat_tests, and_pow n 0)
+
 pub mask_two : (n : ℕ) → eqb (bit_and n 2) 2 ≡ eqb (n / 2 % 2) 1
 mask_two n = let small : n / 2 % 2 < 2 = omega arith in ap (λ m. eqb m 2) (and_pow n 1) ∙ doubled (n / 2 % 2) small
 

@@ -1,28 +1,15 @@
 //! Which reports an outcome gives.
 
-ghost use Rattle.std.specs.Prelude.{◌≡◌};
-ghost use Rattle.verification.specs.Reports.{completion, reports_of_outcome, wants_acceptance, wants_completion, wants_start};
+ghost use Rattle.std.specs.Prelude.{◌≡◌, ◌<◌, ◌++◌};
+ghost use Rattle.arrayvec.specs.ArrayVec.{array_vec_len};
+ghost use Rattle.verification.specs.Reports.{completion, optional_report, reports_of_outcome, wants_completion};
 
 use crate::notice::{Notice, NoticeList};
 use crate::outcome::Outcome;
+use arrayvec::ArrayVec;
 use bitflags::Flags;
 use obcp_types::CompletionFailure;
 use pus_fields::Ack;
-
-/// Whether a report of successful acceptance is asked for.
-fn is_acceptance_asked(ack: Ack) -> bool
-    ensures { result ≡ wants_acceptance ack }
-{
-    ack.contains(Ack::ACCEPTANCE)
-}
-
-/// Whether a report of successful start is asked for.
-#[tactic(auto, using(crate::proofs::Wanted::mask_two))]
-fn is_start_asked(ack: Ack) -> bool
-    ensures { result ≡ wants_start ack }
-{
-    ack.contains(Ack::START)
-}
 
 /// Whether a report of successful completion is asked for.
 #[tactic(auto, using(crate::proofs::Wanted::mask_eight))]
@@ -32,6 +19,16 @@ pub fn is_completion_asked(ack: Ack) -> bool
     ack.contains(Ack::COMPLETION)
 }
 
+/// Adds a report of success, if it is asked for.
+fn add_if(list: &mut ArrayVec<Notice, 4>, asked: bool, notice: Notice)
+    requires { array_vec_len list.old < 4 }
+    ensures { list.new.items ≡ list.old.items ++ optional_report asked notice }
+{
+    if asked {
+        list.push(notice);
+    }
+}
+
 /// The reports of a request, in the order in which they are sent: acceptance, start, the position
 /// of the answer report, completion. A report of success is sent if its acknowledgement flag is
 /// set. A failed acceptance or start is sent whatever the flags are, and ends the list. The
@@ -39,22 +36,22 @@ pub fn is_completion_asked(ack: Ack) -> bool
 pub fn notices(ack: Ack, outcome: &Outcome) -> NoticeList
     ensures { result ≡ reports_of_outcome ack outcome.now }
 {
-    let mut list = NoticeList::new();
+    let mut list = ArrayVec::new();
     if let Outcome::Refused(failure) = outcome {
-        list.add(Notice::NotAccepted(*failure));
-        return list;
+        list.push(Notice::NotAccepted(*failure));
+        return NoticeList { notices: list };
     }
-    list.add_if(is_acceptance_asked(ack), Notice::Accepted);
+    add_if(&mut list, ack.contains(Ack::ACCEPTANCE), Notice::Accepted);
     if let Outcome::NotStarted(failure) = outcome {
-        list.add(Notice::NotStarted(*failure));
-        return list;
+        list.push(Notice::NotStarted(*failure));
+        return NoticeList { notices: list };
     }
-    list.add_if(is_start_asked(ack), Notice::Started);
+    add_if(&mut list, ack.contains(Ack::START), Notice::Started);
     if let Outcome::Done = outcome {
-        list.add(Notice::Answer);
-        list.add_if(is_completion_asked(ack), Notice::Completed);
+        list.push(Notice::Answer);
+        add_if(&mut list, is_completion_asked(ack), Notice::Completed);
     }
-    list
+    NoticeList { notices: list }
 }
 
 /// The report of a completion that comes after its request. A failed one is reported whatever the

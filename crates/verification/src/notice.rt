@@ -1,6 +1,6 @@
 //! A list of reports to send.
 
-ghost use Rattle.std.specs.Prelude.{◌≡◌, ◌<◌, ◌≤◌, [], ◌∷◌, ◌++◌, length};
+ghost use Rattle.std.specs.Prelude.{◌≡◌, ◌≤◌, length};
 
 use arrayvec::ArrayVec;
 use obcp_types::{AcceptanceFailure, CompletionFailure, StartFailure};
@@ -29,7 +29,7 @@ pub enum Notice {
 /// The reports of one request: at most three and the position of the answer report, in their order.
 #[derive(Drop)]
 pub struct NoticeList {
-    notices: ArrayVec<Notice, 4>,
+    pub(crate) notices: ArrayVec<Notice, 4>,
 }
 
 impl Model for NoticeList {
@@ -42,34 +42,6 @@ impl Model for NoticeList {
 }
 
 impl NoticeList {
-    ghost use Rattle.verification.specs.Reports.{optional_report};
-
-    pub(crate) fn new() -> NoticeList
-        ensures { result ≡ [] }
-    {
-        NoticeList {
-            notices: ArrayVec::new(),
-        }
-    }
-
-    /// Adds a notice at the end.
-    pub(crate) fn add(&mut self, notice: Notice)
-        requires { length self.old < 4 }
-        ensures { self.new ≡ self.old ++ notice ∷ [] }
-    {
-        self.notices.push(notice);
-    }
-
-    /// Adds a notice at the end, if it is wanted.
-    pub(crate) fn add_if(&mut self, wanted: bool, notice: Notice)
-        requires { length self.old < 4 }
-        ensures { self.new ≡ self.old ++ optional_report wanted notice }
-    {
-        if wanted {
-            self.add(notice);
-        }
-    }
-
     /// The notices, in the order of their reports.
     pub fn as_slice(&self) -> &[Notice]
         ensures value { result.now ≡ self.now }
