@@ -1,6 +1,6 @@
 //! Octets and reports that are kept, each with several handles.
 
-ghost use Rattle.std.specs.Prelude.{◌≡◌, ◌↔◌, ℕ, List, [], ◌∷◌, ◌++◌, ◌==◌, All, IsTrue, IfOk, OnOk, length};
+ghost use Rattle.std.specs.Prelude.{◌≡◌, ◌↔◌, ℕ, List, ◌==◌, All, IsTrue, IfOk, length};
 ghost use Rattle.std.specs.Arc.{arc_value};
 ghost use Rattle.ocp_reports.specs.Packets.{IsTelemetryPacket};
 
@@ -57,60 +57,10 @@ impl<A: Allocator> Octets<A> {
     }
 }
 
-/// Packets of reports that are kept, each of which is read as telemetry.
-#[derive(Drop)]
-struct KeptPackets<A: Allocator> {
-    list: Vec<Octets<A>, A>,
-}
-
-impl<A: Allocator> Model for KeptPackets<A> {
-    ghost Value = { List (List ℕ) };
-
-    ghost view = { λ p. p.list.items };
-
-    ghost invariant = { λ p. All IsTelemetryPacket p.list.items };
-}
-
-impl<A: Allocator> KeptPackets<A> {
-    /// A copy of packets that are lent.
-    fn copy_of(alloc: A, packets: PacketList<'_>) -> Result<Self, AllocError>
-    where
-        A: Copy,
-        ensures { IfOk result (λ copy. copy ≡ packets.entry) }
-    {
-        let mut packets = packets;
-        let mut copy = KeptPackets {
-            list: Vec::new(alloc),
-        };
-        while let Some(packet) = packets.next() {
-            copy.push(alloc, packet)?;
-        }
-        Ok(copy)
-    }
-
-    // Adds a copy of a packet.
-    fn push(&mut self, alloc: A, packet: &[u8]) -> Result<(), AllocError>
-    where
-        A: Copy,
-        requires { IsTelemetryPacket packet.now }
-        ensures { OnOk result (self.new ≡ self.old ++ packet.now ∷ []) }
-    {
-        self.list.push(Octets::copy_of(alloc, packet)?)?;
-        Ok(())
-    }
-
-    fn as_slice(&self) -> &[Octets<A>]
-        ensures value { result.now ≡ self.now }
-        ensures telemetry { All IsTelemetryPacket self.now }
-    {
-        self.list.as_slice()
-    }
-}
-
 /// The reports of one request, each a whole telemetry packet, in the order in which they are sent.
 /// All handles of the same reports share one memory.
 pub struct Reports<A: Allocator = Global> {
-    packets: Arc<KeptPackets<A>, A>,
+    packets: Arc<Vec<Octets<A>, A>, A>,
 }
 
 /// Kept as one call: the proof of each caller is then shorter.
@@ -123,7 +73,9 @@ impl<A: Allocator> Drop for Reports<A> {
 impl<A: Allocator> Model for Reports<A> {
     ghost Value = { List (List ℕ) };
 
-    ghost view = { λ r. arc_value r.packets };
+    ghost view = { λ r. (arc_value r.packets).items };
+
+    ghost invariant = { λ r. All IsTelemetryPacket (arc_value r.packets).items };
 }
 
 impl<A: Allocator> Reports<A> {
@@ -188,7 +140,12 @@ impl<A: Allocator> SharedReports<A> {
         A: Copy,
         ensures { IfOk result (λ shared. shared ≡ packets.entry) }
     {
-        let packets = Arc::new(alloc, KeptPackets::copy_of(alloc, packets)?)?;
+        let mut packets = packets;
+        let mut copies = Vec::new(alloc);
+        while let Some(packet) = packets.next() {
+            copies.push(Octets::copy_of(alloc, packet)?)?;
+        }
+        let packets = Arc::new(alloc, copies)?;
         let journal = Arc::try_clone(&packets)?;
         let receipt = Arc::try_clone(&packets)?;
         Ok(SharedReports {
