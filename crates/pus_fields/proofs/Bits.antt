@@ -1,5 +1,5 @@
 -- The bits of numbers.
-use Rattle.std.proofs.Common.{◌≡◌, ℕ, zero, suc, ◌+◌, ◌*◌, ◌/◌, ◌%◌, ◌^◌, ◌<◌, ◌≤◌, false, eqb, [], ◌∷◌, ◌++◌, length, ◌-◌, pow_pos, refl, sym, ap, subst, ◌∙◌, inl, inr, arith}
+use Rattle.std.proofs.Common.{◌≡◌, ℕ, zero, suc, ◌+◌, ◌*◌, ◌/◌, ◌%◌, ◌^◌, ◌<◌, ◌≤◌, eqb, ◌++◌, length, ◌-◌, pow_pos, refl, sym, ap, subst, ◌∙◌, inl, inr, arith}
 use Rattle.std.specs.Int.{bit_at}
 use Rattle.std.specs.Prelude.{bit_xor}
 use Rattle.std.proofs.lemmas.Nat.Bits.{bit_at_xor, bit_at-lt, same_from_bits_below, bit_at_cat_low, bit_at_cat_high, bit_at-zero}
@@ -50,9 +50,6 @@ bits-shifted (suc w) k n (suc m) e =
     let place : m - k ≡ w = omega (arith, e) in
     let same : bit_at (n * 2 ^ k) m ≡ bit_at n w = sym (ap (λ (t : ℕ). bit_at t m) whole) ∙ bit_at_cat_high n k 0 m (pow_pos k) (omega (arith, e)) ∙ ap (bit_at n) place in
     rw (same, bits-shifted w k n m (omega (arith, e))) refl
-
-pub bits-double : (n : ℕ) → bits 16 (n * 2 % 65536) ≡ bits 15 n ++ false ∷ []
-bits-double n = bits-cut 16 16 (n * 2) (omega arith) ∙ bits-shifted 15 1 n 16 refl
 
 pub bits-octet : (n : ℕ) → bits 16 (n * 256 % 65536) ≡ bits 8 n ++ zeros 8
 bits-octet n = bits-cut 16 16 (n * 256) (omega arith) ∙ bits-shifted 8 8 n 16 refl

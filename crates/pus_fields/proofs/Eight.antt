@@ -1,11 +1,11 @@
 -- The register after several octets at a time: its steps are linear.
-use Rattle.std.proofs.Common.{◌≡◌, ℕ, zero, suc, ◌+◌, ◌*◌, ◌/◌, ◌%◌, ◌^◌, ◌<◌, eqb, Bool, true, false, List, [], ◌∷◌, ◌++◌, length, get_or, take, drop, refl, sym, ap, subst, ◌∙◌, arith, append_assoc, length-append}
+use Rattle.std.proofs.Common.{◌≡◌, ℕ, zero, suc, ◌+◌, ◌*◌, ◌/◌, ◌%◌, ◌^◌, eqb, Bool, true, false, List, [], ◌∷◌, ◌++◌, length, get_or, take, drop, refl, sym, ap, subst, ◌∙◌, arith, append_assoc, length-append}
 use Rattle.std.specs.Prelude.{bit_xor}
 use Rattle.std.proofs.lemmas.List.{append-nil, take-append-drop}
 use Rattle.pus_fields.specs.ErrorControl.{IsRemainder, plus, sum_of, bits, zeros, octet_bits, multiple, low, number_of_bits}
 use Rattle.pus_fields.specs.Mirror.Register.{dividend, shifted_bits, shifts, register_after}
 use Rattle.pus_fields.proofs.Polynomials.{sum-assoc, sum-comm, length-zeros, zeros-sum, length-sum, sum-append, length-multiple}
-use Rattle.pus_fields.proofs.Bits.{bits-cut, bits-xor, length-bits}
+use Rattle.pus_fields.proofs.Bits.{bits-cut, bits-octet, bits-xor, length-bits}
 use Rattle.pus_fields.proofs.Division.{shift_step, feed_step}
 use Rattle.pus_fields.proofs.Function.{bits-number}
 
@@ -151,14 +151,12 @@ bits-split n =
     let upper : bits 8 (n / 256) ++ bits 8 n ≡ bits 16 n = rw (d7, d6, d5, d4, d3, d2, d1, d0) refl in
     sym upper ∙ ap (λ (t : List Bool). bits 8 (n / 256) ++ t) (sym (bits-cut 8 8 n (omega arith)))
 
--- a register fed two octets is an empty one fed them with the register's halves added
-halves : (n a b : ℕ) (octets : List ℕ) → n < 65536 → register_after (a ∷ b ∷ octets) (bits 16 n) ≡ register_after (bit_xor a (n / 256) ∷ bit_xor b (n % 256) ∷ octets) (zeros 16)
-unfolding register_after
-halves n a b octets lt =
+-- a register fed an octet: the remainder of the octet with the upper half added, and the lower half
+pub upper_and_lower : (n a : ℕ) → shifts 8 (sum_of (bits 16 n) (bits 8 a ++ zeros 8)) ≡ sum_of (shifts 8 (bits 8 (bit_xor a (n / 256)) ++ zeros 8)) (bits 8 (n % 256) ++ zeros 8)
+upper_and_lower n a =
     let hi = bits 8 (n / 256) in
     let lo = bits 8 (n % 256) in
     let x = bits 8 (bit_xor a (n / 256)) in
-    let y = bits 8 (bit_xor b (n % 256)) in
     let lo_len : length (zeros 8 ++ lo) ≡ 16 = omega (arith, length-append (zeros 8) lo, length-bits 8 (n % 256), length-zeros 8) in
     let first : sum_of (bits 16 n) (bits 8 a ++ zeros 8) ≡ sum_of (x ++ zeros 8) (zeros 8 ++ lo) =
     ap (λ (t : List Bool). sum_of t (bits 8 a ++ zeros 8)) (bits-split n)
@@ -167,15 +165,22 @@ halves n a b octets lt =
     ∙ ap (λ (t : List Bool). x ++ t) (sum-comm lo (zeros 8))
     ∙ ap (λ (t : List Bool). t ++ sum_of (zeros 8) lo) (sym (zeros-sum 8 x (length-bits 8 (bit_xor a (n / 256)))) ∙ sum-comm (zeros 8) x)
     ∙ sym (sum-append x (zeros 8) (zeros 8) lo (length-bits 8 (bit_xor a (n / 256)) ∙ sym (length-zeros 8))) in
-    let moved : shifts 8 (sum_of (x ++ zeros 8) (zeros 8 ++ lo)) ≡ sum_of (shifts 8 (x ++ zeros 8)) (lo ++ zeros 8) =
-    shifts-sum 8 (x ++ zeros 8) (zeros 8 ++ lo) (length-octet (bit_xor a (n / 256))) lo_len
-    ∙ ap (sum_of (shifts 8 (x ++ zeros 8))) (shifts-zeros 8 lo (omega (arith, length-bits 8 (n % 256)))) in
+    ap (shifts 8) first
+    ∙ shifts-sum 8 (x ++ zeros 8) (zeros 8 ++ lo) (length-octet (bit_xor a (n / 256))) lo_len
+    ∙ ap (sum_of (shifts 8 (x ++ zeros 8))) (shifts-zeros 8 lo (omega (arith, length-bits 8 (n % 256))))
+
+-- a register fed two octets is an empty one fed them with the register's halves added
+halves : (n a b : ℕ) (octets : List ℕ) → register_after (a ∷ b ∷ octets) (bits 16 n) ≡ register_after (bit_xor a (n / 256) ∷ bit_xor b (n % 256) ∷ octets) (zeros 16)
+unfolding register_after
+halves n a b octets =
+    let lo = bits 8 (n % 256) in
+    let x = bits 8 (bit_xor a (n / 256)) in
+    let y = bits 8 (bit_xor b (n % 256)) in
     let second : sum_of (lo ++ zeros 8) (bits 8 b ++ zeros 8) ≡ y ++ zeros 8 =
     sum-append lo (zeros 8) (bits 8 b) (zeros 8) (length-bits 8 (n % 256) ∙ sym (length-bits 8 b))
     ∙ ap (λ (t : List Bool). t ++ zeros 8) (sum-comm lo (bits 8 b) ∙ sym (bits-xor 8 b (n % 256))) in
     let empty : sum_of (zeros 16) (x ++ zeros 8) ≡ x ++ zeros 8 = zeros-sum 16 (x ++ zeros 8) (length-octet (bit_xor a (n / 256))) in
-    ap (λ (t : List Bool). register_after octets (shifts 8 (sum_of (shifts 8 t) (bits 8 b ++ zeros 8)))) first
-    ∙ ap (λ (t : List Bool). register_after octets (shifts 8 (sum_of t (bits 8 b ++ zeros 8)))) moved
+    ap (λ (t : List Bool). register_after octets (shifts 8 (sum_of t (bits 8 b ++ zeros 8)))) (upper_and_lower n a)
     ∙ ap (λ (t : List Bool). register_after octets (shifts 8 t)) (sum-assoc (shifts 8 (x ++ zeros 8)) (lo ++ zeros 8) (bits 8 b ++ zeros 8) ∙ ap (sum_of (shifts 8 (x ++ zeros 8))) second)
     ∙ ap (λ (t : List Bool). register_after octets (shifts 8 (sum_of (shifts 8 t) (y ++ zeros 8)))) (sym empty)
 
@@ -185,10 +190,10 @@ shifts-none zero = refl
 shifts-none (suc n) = shifts-none n
 
 -- the register after two octets and more
-pub fed_two : (n a b : ℕ) (octets : List ℕ) → n < 65536 → register_after (a ∷ b ∷ octets) (bits 16 n) ≡ contribution (bit_xor a (n / 256) ∷ bit_xor b (n % 256) ∷ octets)
-fed_two n a b octets lt =
+pub fed_two : (n a b : ℕ) (octets : List ℕ) → register_after (a ∷ b ∷ octets) (bits 16 n) ≡ contribution (bit_xor a (n / 256) ∷ bit_xor b (n % 256) ∷ octets)
+fed_two n a b octets =
     let all = bit_xor a (n / 256) ∷ bit_xor b (n % 256) ∷ octets in
-    halves n a b octets lt ∙ fed-sum all (zeros 16) (length-zeros 16)
+    halves n a b octets ∙ fed-sum all (zeros 16) (length-zeros 16)
     ∙ ap (λ (t : List Bool). sum_of t (contribution all)) (shifts-none (8 * length all))
     ∙ zeros-sum 16 (contribution all) (length-contribution all)
 
@@ -239,7 +244,7 @@ eight [] is = absurd (omega (arith, is))
 pub record IsRemainderOf (octet behind entry : ℕ) : Type 0 where
   pub is : bits 16 entry ≡ shifts (8 + 8 * behind) (bits 8 octet ++ zeros 8)
 
-pub after_eight : (n : ℕ) (os : List ℕ) (r7 r6 r5 r4 r3 r2 r1 r0 : ℕ) → n < 65536 → length os ≡ 8
+pub after_eight : (n : ℕ) (os : List ℕ) (r7 r6 r5 r4 r3 r2 r1 r0 : ℕ) → length os ≡ 8
     → IsRemainderOf (bit_xor (get_or os 0 0) (n / 256)) 7 r7
     → IsRemainderOf (bit_xor (get_or os 1 0) (n % 256)) 6 r6
     → IsRemainderOf (get_or os 2 0) 5 r5
@@ -250,7 +255,7 @@ pub after_eight : (n : ℕ) (os : List ℕ) (r7 r6 r5 r4 r3 r2 r1 r0 : ℕ) → 
     → IsRemainderOf (get_or os 7 0) 0 r0
     → register_after os (bits 16 n) ≡ bits 16 (bit_xor (bit_xor (bit_xor (bit_xor (bit_xor (bit_xor (bit_xor r0 r1) r2) r3) r4) r5) r6) r7)
 unfolding contribution xor_all sum_all
-after_eight n os r7 r6 r5 r4 r3 r2 r1 r0 lt len e7 e6 e5 e4 e3 e2 e1 e0 =
+after_eight n os r7 r6 r5 r4 r3 r2 r1 r0 len e7 e6 e5 e4 e3 e2 e1 e0 =
     let rest = get_or os 2 0 ∷ get_or os 3 0 ∷ get_or os 4 0 ∷ get_or os 5 0 ∷ get_or os 6 0 ∷ get_or os 7 0 ∷ [] in
     let sums : contribution (bit_xor (get_or os 0 0) (n / 256) ∷ bit_xor (get_or os 1 0) (n % 256) ∷ rest) ≡ sum_of (bits 16 r7) (sum_all (r6 ∷ r5 ∷ r4 ∷ r3 ∷ r2 ∷ r1 ∷ r0 ∷ [])) =
     λ i. sum_of (sym e7.is i) (sum_of (sym e6.is i) (sum_of (sym e5.is i) (sum_of (sym e4.is i) (sum_of (sym e3.is i) (sum_of (sym e2.is i) (sum_of (sym e1.is i) (sum_of (sym e0.is i) (zeros 16)))))))) in
@@ -263,10 +268,18 @@ after_eight n os r7 r6 r5 r4 r3 r2 r1 r0 lt len e7 e6 e5 e4 e3 e2 e1 e0 =
     (sum_last_first (r0 ∷ r1 ∷ []) r2 _
     (sum_last_first (r0 ∷ []) r1 (sum_all (r0 ∷ [])) refl)))))) in
     ap (λ (t : List ℕ). register_after t (bits 16 n)) (eight os len)
-    ∙ fed_two n (get_or os 0 0) (get_or os 1 0) rest lt
+    ∙ fed_two n (get_or os 0 0) (get_or os 1 0) rest
     ∙ sums
     ∙ sym last_first
     ∙ sym (bits-xor_all r0 (r1 ∷ r2 ∷ r3 ∷ r4 ∷ r5 ∷ r6 ∷ r7 ∷ []))
+
+-- the register after one octet, by the remainder of the octet with the register's upper half added
+pub after_one : (n a entry : ℕ) → IsRemainderOf (bit_xor a (n / 256)) 0 entry → register_after (a ∷ []) (bits 16 n) ≡ bits 16 (bit_xor (n * 256 % 65536) entry)
+unfolding register_after
+after_one n a entry e =
+    let lower : bits 16 (n * 256 % 65536) ≡ bits 8 (n % 256) ++ zeros 8 = bits-octet n ∙ ap (λ (t : List Bool). t ++ zeros 8) (sym (bits-cut 8 8 n (omega arith))) in
+    upper_and_lower n a ∙ sum-comm (shifts 8 (bits 8 (bit_xor a (n / 256)) ++ zeros 8)) (bits 8 (n % 256) ++ zeros 8)
+    ∙ (λ i. sum_of (sym lower i) (sym e.is i)) ∙ sym (bits-xor 16 (n * 256 % 65536) entry)
 
 -- ---- octets cut in two
 

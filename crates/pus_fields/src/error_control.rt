@@ -2,39 +2,11 @@
 
 ghost use Rattle.std.specs.Prelude.{◌≡◌, ◌<◌, ◌+◌, ◌*◌, ◌^◌, ℕ, [], ◌++◌, List, Bool};
 ghost use Rattle.pus_fields.specs.ErrorControl.{IsErrorControl, IsRemainder, error_control, bits, octet_bits, zeros as no_bits};
-ghost use Rattle.pus_fields.specs.Mirror.Register.{dividend, shifted_bits, shifts};
+ghost use Rattle.pus_fields.specs.Mirror.Register.{dividend, shifts};
 
 mod remainders;
 
 use remainders::REMAINDERS;
-
-/// x^12 + x^5 + 1
-const LOW: u16 = 0x1021;
-
-/// The register after one bit has left it.
-fn register_after_bit(register: u16) -> u16
-    ensures { bits 16 result ≡ shifted_bits (bits 16 register) }
-{
-    if register >> 15 == 1 {
-        (register << 1) ^ LOW
-    } else {
-        register << 1
-    }
-}
-
-/// The register after an octet.
-fn register_after_octet(register: u16, octet: u8) -> u16
-    // The remainder that the rest of a message then gives is that of the octet and the rest.
-    ensures { (rest remainder : List Bool) →
-        IsRemainder (dividend (bits 16 result) rest) remainder →
-        IsRemainder (dividend (bits 16 register) (bits 8 octet ++ rest)) remainder }
-{
-    let mut next = register ^ (u16::from(octet) << 8);
-    for _step in 0..8u8 {
-        next = register_after_bit(next);
-    }
-    next
-}
 
 /// The remainder of an octet followed by the given number of octets of zeros and 16 zero bits.
 #[inline(always)]
@@ -66,7 +38,7 @@ fn register_after_eight(register: u16, octets: &[u8; 8]) -> u16
         ^ remainder(first, 7)
 }
 
-/// The register after all the octets.
+/// The register after all the octets, one after the other.
 fn register_after_octets(register: u16, octets: &[u8]) -> u16
     ensures { (remainder : List Bool) →
         IsRemainder (dividend (bits 16 result) []) remainder →
@@ -74,7 +46,7 @@ fn register_after_octets(register: u16, octets: &[u8]) -> u16
 {
     let mut next = register;
     for octet in octets {
-        next = register_after_octet(next, *octet);
+        next = (next << 8) ^ remainder(octet ^ (next / 256) as u8, 0);
     }
     next
 }

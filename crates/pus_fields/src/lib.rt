@@ -2,7 +2,6 @@
 #![tactic(auto)]
 
 mod ack;
-mod appending;
 mod error_control;
 mod fault;
 mod laws;

@@ -1,10 +1,12 @@
 //! Writing packets.
 
-ghost use Rattle.std.specs.Prelude.{◌≡◌, ◌<◌, ◌≤◌, ◌+◌, ◌↔◌, ℕ, List, ◌++◌, length, OnOk, OnErr, IsErrOf, vec_len, vec_capacity};
+ghost use Rattle.std.specs.Prelude.{◌≡◌, ◌<◌, ◌≤◌, ◌+◌, ◌↔◌, ℕ, List, ◌++◌, length, drop, OnOk, OnErr, IsErrOf, vec_len, vec_capacity};
+ghost use Rattle.byteorder.specs.Endian.{big_bytes};
+ghost use Rattle.pus_fields.specs.ErrorControl.{error_control};
 ghost use Rattle.pus_fields.specs.Telecommand.{IsTelecommand, telecommand_octets};
 ghost use Rattle.pus_fields.specs.Telemetry.{IsTelemetry, telemetry_octets};
 
-use crate::appending::append_error_control;
+use crate::error_control::crc16;
 use crate::fault::WriteFault;
 use crate::telecommand::Tc;
 use crate::telemetry::Tm;
@@ -21,6 +23,18 @@ pub const MAX_TELECOMMAND_DATA: usize = 65_529;
 
 /// The most octets of a telemetry packet's payload: its secondary header has 11 octets.
 pub const MAX_TELEMETRY_DATA: usize = 65_523;
+
+/// Appends the error control of the octets from a place on.
+fn append_error_control<A: Allocator>(out: &mut Vec<u8, A>, start: usize)
+    requires place { start ≤ vec_len out.old }
+    requires room { vec_len out.old + 2 ≤ vec_capacity out.old }
+    ensures items { out.new.items ≡
+        out.old.items ++ big_bytes 2 (error_control (drop start out.old.items)) }
+    ensures capacity { vec_capacity out.old ≤ vec_capacity out.new }
+{
+    let control = crc16(&out[start..]);
+    out.extend_from_slice(&control.to_be_bytes()).unwrap();
+}
 
 /// Appends the packet of a telecommand (CCSDS 133.0-B, 4.1; ECSS-E-ST-70-41C, 7.4.4): 13 octets
 /// more than its payload has. Refused, with the vector and its capacity unchanged, if 1. the

@@ -1,4 +1,4 @@
-use Rattle.std.proofs.Common.{subst, sym, arith}
+use Rattle.std.proofs.Common.{subst, sym}
 use Rattle.pus_fields.specs.ErrorControl.{IsRemainder, bits}
 use Rattle.pus_fields.specs.Mirror.Register.{dividend}
 use Rattle.pus_fields.proofs.Bits.{length-bits}
@@ -7,7 +7,7 @@ use Rattle.pus_fields.proofs.error_control.register_after_eight.Goals as goal
 
 pub returns : goal.returns
 returns c rest r h =
-    let fed_is = after_eight c.args.register c.args.octets.now _ _ _ _ _ _ _ _ (omega arith) c.told-octets
+    let fed_is = after_eight c.args.register c.args.octets.now _ _ _ _ _ _ _ _ c.told-octets
     (record { is = c.remainder-8.ensures })
     (record { is = c.remainder-7.ensures })
     (record { is = c.remainder-6.ensures })
