@@ -16,32 +16,12 @@ pub const MAX_FIELDS_LENGTH: usize = 67;
 /// The fields of a report, or of a request except the octets at its end.
 pub type Fields = ArrayVec<u8, MAX_FIELDS_LENGTH>;
 
-pub(crate) fn put_octets(fields: &mut Fields, octets: &[u8])
+/// Appends octets. Of a number they are `to_be_bytes`.
+pub(crate) fn put(fields: &mut Fields, octets: &[u8])
     requires { array_vec_len fields.old + length octets.now ≤ MAX_FIELDS_LENGTH }
     ensures { fields.new.items ≡ fields.old.items ++ octets.now }
 {
     fields.try_extend_from_slice(octets).unwrap();
-}
-
-pub(crate) fn put_u8(fields: &mut Fields, number: u8)
-    requires { array_vec_len fields.old + 1 ≤ MAX_FIELDS_LENGTH }
-    ensures { fields.new.items ≡ fields.old.items ++ big_bytes 1 number }
-{
-    put_octets(fields, &number.to_be_bytes());
-}
-
-pub(crate) fn put_u16(fields: &mut Fields, number: u16)
-    requires { array_vec_len fields.old + 2 ≤ MAX_FIELDS_LENGTH }
-    ensures { fields.new.items ≡ fields.old.items ++ big_bytes 2 number }
-{
-    put_octets(fields, &number.to_be_bytes());
-}
-
-pub(crate) fn put_u32(fields: &mut Fields, number: u32)
-    requires { array_vec_len fields.old + 4 ≤ MAX_FIELDS_LENGTH }
-    ensures { fields.new.items ≡ fields.old.items ++ big_bytes 4 number }
-{
-    put_octets(fields, &number.to_be_bytes());
 }
 
 /// Words of 64 bits.
@@ -51,7 +31,7 @@ pub(crate) fn put_words(fields: &mut Fields, words: &[u64])
     ensures in_range { All (λ word. word < 2 ^ 64) words.now }
 {
     for word in words {
-        put_octets(fields, &word.to_be_bytes());
+        put(fields, &word.to_be_bytes());
     }
 }
 
@@ -62,7 +42,7 @@ pub(crate) fn put_rows(fields: &mut Fields, rows: &[StatusRow])
     ensures in_range { All (λ row. row.id < 2 ^ 16) rows.now }
 {
     for row in rows {
-        put_u16(fields, row.id);
-        put_u8(fields, row.status.code());
+        put(fields, &row.id.to_be_bytes());
+        put(fields, &[row.status.code()]);
     }
 }

@@ -5,9 +5,7 @@ ghost use Rattle.arrayvec.specs.ArrayVec.{array_vec_len};
 ghost use Rattle.obcp_messages.specs.Request.{HasFittingBudget, IsRequest, IsRequestData, budget_data, request_data, subtype_of};
 ghost use Rattle.obcp_messages.specs.Report.{IsReport, IsReportData, IsStartFault, report_data, service_of, kind_of, fault_data};
 
-use crate::fields::{
-    Fields, MAX_FIELDS_LENGTH, put_octets, put_rows, put_u8, put_u16, put_u32, put_words,
-};
+use crate::fields::{Fields, MAX_FIELDS_LENGTH, put, put_rows, put_words};
 use crate::report::{BAD_CODE, Report, StartFault};
 use crate::request::Request;
 use arrayvec::ArrayVec;
@@ -21,7 +19,7 @@ fn put_budget(profile: Profile, fields: &mut Fields, budget: u32)
 {
     match profile {
         Profile::One => {}
-        Profile::Two => put_u32(fields, budget),
+        Profile::Two => put(fields, &budget.to_be_bytes()),
     }
 }
 
@@ -34,8 +32,8 @@ fn request_parts<'a>(profile: Profile, request: &Request<'a>) -> (Fields, &'a [u
     let mut fields = ArrayVec::new();
     let octets: &[u8] = match request {
         Request::Load { id, code } => {
-            put_u16(&mut fields, *id);
-            put_u16(&mut fields, code.octets().len() as u16);
+            put(&mut fields, &id.to_be_bytes());
+            put(&mut fields, &(code.octets().len() as u16).to_be_bytes());
             code.octets()
         }
         Request::Activate {
@@ -43,23 +41,26 @@ fn request_parts<'a>(profile: Profile, request: &Request<'a>) -> (Fields, &'a [u
             budget,
             arguments,
         } => {
-            put_u16(&mut fields, *id);
+            put(&mut fields, &id.to_be_bytes());
             put_budget(profile, &mut fields, *budget);
-            put_u16(&mut fields, arguments.octets().len() as u16);
+            put(
+                &mut fields,
+                &(arguments.octets().len() as u16).to_be_bytes(),
+            );
             arguments.octets()
         }
         Request::Stop { id, step } | Request::Suspend { id, step } => {
-            put_u16(&mut fields, *id);
-            put_u16(&mut fields, *step);
+            put(&mut fields, &id.to_be_bytes());
+            put(&mut fields, &step.to_be_bytes());
             &[]
         }
         Request::Unload { id } | Request::Resume { id } | Request::Abort { id } => {
-            put_u16(&mut fields, *id);
+            put(&mut fields, &id.to_be_bytes());
             &[]
         }
         Request::Communicate { id, words } => {
-            put_u16(&mut fields, *id);
-            put_u8(&mut fields, words.as_slice().len() as u8);
+            put(&mut fields, &id.to_be_bytes());
+            put(&mut fields, &[words.as_slice().len() as u8]);
             put_words(&mut fields, words.as_slice());
             &[]
         }
@@ -102,11 +103,11 @@ fn put_fault(fields: &mut Fields, fault: &StartFault)
 {
     match fault {
         StartFault::BadCode { fault, slot } => {
-            put_u16(fields, BAD_CODE);
-            put_u8(fields, *fault);
-            put_u16(fields, *slot);
+            put(fields, &BAD_CODE.to_be_bytes());
+            put(fields, &[*fault]);
+            put(fields, &slot.to_be_bytes());
         }
-        StartFault::Plain(code) => put_u16(fields, code.code()),
+        StartFault::Plain(code) => put(fields, &code.code().to_be_bytes()),
     }
 }
 
@@ -120,18 +121,18 @@ pub fn report_fields(report: &Report) -> Fields
         Report::Accepted { request }
         | Report::Started { request }
         | Report::Completed { request } => {
-            put_octets(&mut fields, request);
+            put(&mut fields, request);
         }
         Report::NotAccepted { request, code } | Report::NotCompleted { request, code } => {
-            put_octets(&mut fields, request);
-            put_u16(&mut fields, *code);
+            put(&mut fields, request);
+            put(&mut fields, &code.to_be_bytes());
         }
         Report::NotStarted { request, fault } => {
-            put_octets(&mut fields, request);
+            put(&mut fields, request);
             put_fault(&mut fields, fault);
         }
         Report::Status { rows } => {
-            put_u8(&mut fields, rows.as_slice().len() as u8);
+            put(&mut fields, &[rows.as_slice().len() as u8]);
             put_rows(&mut fields, rows.as_slice());
         }
     }
