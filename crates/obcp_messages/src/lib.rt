@@ -10,7 +10,6 @@ mod reading_reports;
 mod reading_requests;
 mod report;
 mod request;
-mod rising;
 mod rows;
 mod writing;
 

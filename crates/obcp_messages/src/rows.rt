@@ -1,14 +1,26 @@
 //! The rows of a status report.
 
-ghost use Rattle.std.specs.Prelude.{◌≡◌, ◌≤◌, ◌↔◌, length, IfSome, IsSome};
+ghost use Rattle.std.specs.Prelude.{◌≡◌, ◌≤◌, ◌↔◌, length, IfSome, IsSome, IsTrue};
+ghost use Rattle.obcp_messages.specs.Rows.{IsRising};
 
-use crate::rising::is_rising;
 use arrayvec::ArrayVec;
 use obcp_types::StatusRow;
 use std::marker::Model;
 
 /// The most rows of a status report: as many procedures can be loaded.
 pub const MAX_ROWS: usize = 16;
+
+/// Whether each identifier is below the next.
+fn is_rising(rows: &[StatusRow]) -> bool
+    ensures { IsTrue result ↔ IsRising rows.now }
+{
+    for i in 1..rows.len() {
+        if rows[i].id <= rows[i - 1].id {
+            return false;
+        }
+    }
+    true
+}
 
 /// The rows of a status report: at most 16, by rising identifier.
 #[derive(Drop)]
@@ -29,8 +41,6 @@ impl Model for StatusRows {
 }
 
 impl StatusRows {
-    ghost use Rattle.obcp_messages.specs.Rows.{IsRising};
-
     /// These rows, if their identifiers rise.
     pub fn new(rows: ArrayVec<StatusRow, MAX_ROWS>) -> Option<StatusRows>
         ensures value { IfSome result (λ value. value ≡ rows.items) }

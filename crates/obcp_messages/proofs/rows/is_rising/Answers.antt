@@ -4,7 +4,7 @@ use Rattle.std.proofs.lemmas.Bool.{cases_lt}
 use Rattle.obcp_types.specs.declared.status.StatusRow.{StatusRow}
 use Rattle.obcp_types.specs.declared.status.Status.TheVariants.{Inactive}
 use Rattle.obcp_messages.proofs.Identifiers.{ids, rising_at}
-use Rattle.obcp_messages.proofs.rising.is_rising.Goals as goal
+use Rattle.obcp_messages.proofs.rows.is_rising.Goals as goal
 
 pub returns-then-rows-i : goal.returns-then-rows-i
 returns-then-rows-i c = (
