@@ -30,10 +30,7 @@ pub fn count_after(count: SequenceCount, packets: usize) -> SequenceCount
     ensures { result ≡ (count + packets) % SEQUENCE_COUNTS }
 {
     let more = (packets % usize::from(SEQUENCE_COUNTS)) as u16;
-    match SequenceCount::new((count.number() + more) % SEQUENCE_COUNTS) {
-        Some(count) => count,
-        None => unreachable!(),
-    }
+    SequenceCount::new((count.number() + more) % SEQUENCE_COUNTS).unwrap()
 }
 
 impl Sender {
