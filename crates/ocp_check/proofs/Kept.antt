@@ -93,7 +93,7 @@ covered certificate place from s c e i = record {
 }
 
 -- a machine stands as another does, with other registers
-restand : (certificate : Certificate) (node next : Node) (s t : State) → (i : Matches certificate node s) → next.depth ≡ node.depth → next.promise ≡ node.promise → next.spared ≡ node.spared → next.words ≡ node.words → next.kept ≡ node.kept → t.frames ≡ s.frames → t.memory ≡ s.memory → AreIn next.row t.registers → AreFormed next.forms i.bases t.registers → Matches certificate next t
+pub restand : (certificate : Certificate) (node next : Node) (s t : State) → (i : Matches certificate node s) → next.depth ≡ node.depth → next.promise ≡ node.promise → next.spared ≡ node.spared → next.words ≡ node.words → next.kept ≡ node.kept → t.frames ≡ s.frames → t.memory ≡ s.memory → AreIn next.row t.registers → AreFormed next.forms i.bases t.registers → Matches certificate next t
 restand certificate node next s t i d p x w k f m a g = record {
   registers = a;
   bases = i.bases;

@@ -245,6 +245,18 @@ pub fn form_of(forms: &Forms, register: Reg) -> Option<Form>
     forms[usize::from(register.number())]
 }
 
+/// The form of a register; that of its number, if it is known.
+pub fn tie_of(node: &Node, register: Reg) -> Option<Form>
+    ensures { (bases : ℕ → ℕ) (registers : List ℕ) → AreIn node.now.row registers →
+        AreFormed node.now.forms bases registers →
+        IsForm result bases (slice_index registers register) }
+{
+    form_of_known(
+        range_of(&node.row, register),
+        form_of(&node.forms, register),
+    )
+}
+
 /// The form of an operand.
 pub fn form_of_operand(forms: &Forms, operand: &Operand) -> Option<Form>
     ensures { (bases : ℕ → ℕ) (registers : List ℕ) → AreFormed forms.now bases registers →

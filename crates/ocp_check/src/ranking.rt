@@ -92,14 +92,14 @@ fn changes(line: Line, register: u8) -> bool {
 }
 
 /// What a line does to the register that it writes, if it adds a number.
-fn step_of_line(line: Line) -> Step {
+fn step_of_line(node: &Node, line: Line) -> Step {
     match line {
         Line::Arithmetic {
             width,
             operation,
+            dst,
             operand,
-            ..
-        } => step_by(width, operation, operand),
+        } => step_by(node, width, operation, dst, operand),
         _ => Step::Anywhere,
     }
 }
@@ -251,7 +251,7 @@ fn rank_before(
             slot,
             node,
             next,
-            &steps_with(dst, step_of_line(line)),
+            &steps_with(dst, step_of_line(node, line)),
             cut,
         ),
         _ => rank_of_jump(nodes, ranks, counters, slot, node, 0, cut),
@@ -301,7 +301,7 @@ fn is_watched(slot: usize, cut: Option<Cut>) -> bool {
 
 /// How a line counts in a register, by what is known of the register before it.
 fn counter_at(node: &Node, line: Line, register: Reg) -> Option<Counter> {
-    let Step::By(by) = step_of_line(line) else {
+    let Step::By(by) = step_of_line(node, line) else {
         return None;
     };
     let known = range_of(&node.row, register)?;

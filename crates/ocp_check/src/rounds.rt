@@ -9,8 +9,9 @@ ghost use Rattle.bpf_step.specs.Machine.{State, Next, Needs, NoInstruction, stat
 ghost use Rattle.bpf_step.specs.Step.{step, one_step, outcome_by};
 ghost use Rattle.bpf_step.specs.Calls.{local_call, exit_to, frame_of, last_frame, maybe_set};
 ghost use Rattle.ocp_check.specs.declared.counting.Counter.{Counter};
-ghost use Rattle.ocp_check.specs.Mirror.Ranges.{AreIn};
-ghost use Rattle.ocp_check.specs.Mirror.Fits.{Fits, FitsAfter, Matches};
+ghost use Rattle.ocp_check.specs.Mirror.Ranges.{IsIn, AreIn};
+ghost use Rattle.ocp_check.specs.Mirror.Forms.{IsForm};
+ghost use Rattle.ocp_check.specs.Mirror.Fits.{Certificate, Fits, FitsAfter, Matches};
 ghost use Rattle.ocp_check.specs.Rounds.{IsWithin};
 ghost use Rattle.ocp_check.specs.Mirror.Ranks.{AreMoved, AreSteady, Falls, IsMoved, IsSteady, SavedAreSame, total_share, kept_steps, registers_of, share_of, value_at};
 
@@ -18,26 +19,41 @@ use crate::answers::STEP_END;
 use crate::certificate::{Node, Row};
 use crate::checker::check;
 use crate::counting::{COUNTERS, Counter, Rank, Step, Steps, ahead_by};
-use crate::covering::{node_at, row_at};
-use crate::steps::{place_after, target};
+use crate::covering::{node_at, range_of, row_at, tie_of, with_base};
+use crate::form::Form;
+use crate::range::Range;
+use crate::steps::{after_operation, place_after, target};
 use bpf_types::{Line, Operand, Operation, Reg, Width};
 use ocp_loader::{MAX_SLOTS, Program};
 use std::alloc::Allocator;
 
-/// What an operation adds to its first operand, if it adds a number other than zero.
-pub fn step_by(width: Width, operation: Operation, operand: Operand) -> Step
-    ensures { (v : ℕ) (registers : List ℕ) →
-        IsMoved result v (arithmetic_result width operation v (operand_in registers operand)) }
+/// What becomes of a number, by its forms before and after.
+fn step_between(old: Option<Form>, new: Option<Form>, known: Option<Range>) -> Step
+    ensures { (bases : ℕ → ℕ) (v w : ℕ) → IsForm old bases v → IsForm new bases w →
+        IsIn known w → IsMoved result v w }
 {
-    let Operand::Immediate(imm) = operand else {
-        return Step::Anywhere;
-    };
-    let number = i64::from(imm).cast_unsigned();
-    match (width, operation) {
-        (Width::W64, Operation::Add) => Step::By(number),
-        (Width::W64, Operation::Sub) if number > 0 => Step::By(number.wrapping_neg()),
+    match (old, new, known) {
+        (Some(old), Some(new), Some(_)) if old.base == new.base && old.times == new.times => {
+            Step::By(new.plus.wrapping_sub(old.plus))
+        }
         _ => Step::Anywhere,
     }
+}
+
+/// What becomes of the first operand of an operation: it grows by a number if the result is tied
+/// to it, also as the copy of another register.
+pub fn step_by(node: &Node, width: Width, operation: Operation, dst: Reg, operand: Operand) -> Step
+    ensures { (certificate : Certificate) (s : State) → Matches certificate node.now s →
+        IsMoved result (slice_index s.registers dst) (arithmetic_result width operation
+        (slice_index s.registers dst) (operand_in s.registers operand)) }
+{
+    let based = with_base(node, dst);
+    let after = after_operation(&based, width, operation, dst, operand);
+    step_between(
+        tie_of(&based, dst),
+        tie_of(&after, dst),
+        range_of(&after.row, dst),
+    )
 }
 
 /// One register is changed.
@@ -501,7 +517,7 @@ fn falls(
             dst,
             operand,
         } => {
-            let step = step_by(width, operation, operand);
+            let step = step_by(node, width, operation, dst, operand);
             write_lowers(certificate, ranks, counters, slot, 1, node, dst, step)
         }
         Line::Negate { dst, .. } => {

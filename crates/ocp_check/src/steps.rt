@@ -12,7 +12,7 @@ ghost use Rattle.bpf_step.specs.Calls.{state_after_engine_call, local_call, exit
 ghost use Rattle.ocp_regions.specs.Access.{HasOctets};
 ghost use Rattle.ocp_check.specs.Mirror.Ranges.{IsIn, AreIn, IsThere};
 ghost use Rattle.ocp_check.specs.Mirror.Words.{IsWord, AreWords};
-ghost use Rattle.ocp_check.specs.Mirror.Forms.{IsForm};
+ghost use Rattle.ocp_check.specs.Mirror.Forms.{IsForm, AreFormed};
 ghost use Rattle.ocp_check.specs.Mirror.Fits.{Certificate, Covers, Fits, Matches, FitsAfter};
 
 use crate::answers::after_engine_call;
@@ -66,9 +66,14 @@ pub fn after_operation(
     dst: Reg,
     operand: Operand,
 ) -> Node
-    ensures { (certificate : Certificate) (s : State) → Matches certificate node.now s →
+    ensures stands { (certificate : Certificate) (s : State) → Matches certificate node.now s →
         Matches certificate result (state_after_write s dst (arithmetic_result width operation
         (slice_index s.registers dst) (operand_in s.registers operand)) 1) }
+    ensures tied { (bases : ℕ → ℕ) (registers : List ℕ) → AreIn node.now.row registers →
+        AreFormed node.now.forms bases registers →
+        let next = slice_set registers dst (arithmetic_result width operation
+        (slice_index registers dst) (operand_in registers operand)) in
+        AreIn result.row next × AreFormed result.forms bases next }
 {
     let a = form_of(&node.forms, dst);
     let b = form_of_operand(&node.forms, &operand);

@@ -18,7 +18,7 @@ pub returns-in-Arithmetic : goal.returns-in-Arithmetic
 returns-in-Arithmetic c = λ h s e i a f.
     let g = subst (λ (l : Line). FitsAfter c.args.certificate.now s (step l s)) c.in-Arithmetic.is f in
     subst (λ (l : Line). Falls c.args.ranks.now c.args.counters.now c.args.most s (step l s)) (sym c.in-Arithmetic.is)
-    (c.write_lowers.ensures h s c.args.most (arithmetic_result c.in-Arithmetic.width c.in-Arithmetic.operation (get_or s.registers c.in-Arithmetic.dst 0) (operand_in s.registers c.in-Arithmetic.operand)) e i a (c.step_by-step.ensures (get_or s.registers c.in-Arithmetic.dst 0) s.registers) g)
+    (c.write_lowers.ensures h s c.args.most (arithmetic_result c.in-Arithmetic.width c.in-Arithmetic.operation (get_or s.registers c.in-Arithmetic.dst 0) (operand_in s.registers c.in-Arithmetic.operand)) e i a (c.step_by-step.ensures c.args.certificate.now s i) g)
 
 pub returns-in-Negate : goal.returns-in-Negate
 returns-in-Negate c = λ h s e i a f.

@@ -6,4 +6,4 @@ pub returns : goal.returns
 returns c = λ h s e i.
     let p : s.place + 1 ≡ c.from.result + 1 = omega (arith, e, c.from.ensures) in
     covered c.args.certificate.now (c.from.result + 1) c.after_operation-after.result _ (c.covers.ensures h) p
-    (c.after_operation-after.ensures c.args.certificate.now s (c.with_base_of_operand-based.ensures c.args.certificate.now s i))
+    (c.after_operation-after.ensures.stands c.args.certificate.now s (c.with_base_of_operand-based.ensures c.args.certificate.now s i))
