@@ -1,6 +1,7 @@
 pub mod Memory
 pub mod Kept
 pub mod Called
+pub mod Quotients
 pub mod Opening
 pub mod Sound
 pub mod Words

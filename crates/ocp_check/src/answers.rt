@@ -8,7 +8,7 @@ ghost use Rattle.ocp_check.specs.Mirror.Fits.{Certificate, Matches};
 
 use crate::certificate::Node;
 use crate::covering::with_register;
-use crate::range::{Range, Stride, only};
+use crate::range::{Range, between, only};
 use bpf_types::Reg;
 
 /// The number of the engine call that takes a word from the mailbox.
@@ -22,11 +22,7 @@ fn r0_after(number: i32) -> Option<Range>
     ensures { (r0 : ℕ) (r1 : Option ℕ) → IsAnswer number r0 r1 → IsIn result r0 }
 {
     if may_write_r1(number) {
-        Some(Range {
-            low: 0,
-            high: 1,
-            stride: Stride::One,
-        })
+        between(0, 1)
     } else if number == STEP_END {
         only(0)
     } else {

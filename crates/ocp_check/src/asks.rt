@@ -12,7 +12,7 @@ use crate::answers::{NEXT_PARAM, STEP_END};
 use crate::certificate::{Node, Row};
 use crate::checker::check;
 use crate::covering::node_at;
-use crate::range::{Range, Stride, is_within};
+use crate::range::{between, is_within};
 use bpf_types::Line;
 use ocp_loader::{MAX_SLOTS, Program};
 use std::alloc::Allocator;
@@ -26,15 +26,7 @@ fn line_asks_well(row: &Row, line: Line, words: u16) -> bool
         Line::Call { number } => {
             number == NEXT_PARAM
                 || number == STEP_END
-                || (words > 0
-                    && is_within(
-                        row[1],
-                        Some(Range {
-                            low: 0,
-                            high: u64::from(words) - 1,
-                            stride: Stride::One,
-                        }),
-                    ))
+                || (words > 0 && is_within(row[1], between(0, u64::from(words) - 1)))
         }
         _ => true,
     }

@@ -9,7 +9,7 @@ ghost use Rattle.ocp_check.specs.Mirror.Fits.{Fits, FitsAfter};
 
 use crate::certificate::Node;
 use crate::covering::{covers, node_at};
-use crate::range::{Range, Stride, only};
+use crate::range::{between, only};
 use crate::steps::is_kept;
 use crate::word::WORDS;
 use bpf_step::frame::FRAME_POINTER;
@@ -24,11 +24,7 @@ pub fn at_start() -> Node
     ensures { result ≡ node_at_start }
 {
     let zero = only(0);
-    let number = Some(Range {
-        low: 0,
-        high: ARGUMENT_OCTETS as u64,
-        stride: Stride::One,
-    });
+    let number = between(0, ARGUMENT_OCTETS as u64);
     Node {
         row: [
             zero,

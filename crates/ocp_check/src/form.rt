@@ -7,7 +7,7 @@ ghost use Rattle.ocp_check.specs.Mirror.Ranges.{IsIn};
 ghost use Rattle.ocp_check.specs.declared.form.Form.{Form};
 ghost use Rattle.ocp_check.specs.Mirror.Forms.{IsForm, number_by, bases_after};
 
-use crate::range::{Range, follows, only, product, sum};
+use crate::range::{Range, follows, number_of, only, product, sum};
 use bpf_types::{Operation, Width};
 
 /// A number as `times` the number of a base and `plus` more, modulo 2 ^ 64. Numbers of one base are
@@ -37,16 +37,6 @@ pub fn form_of_known(known: Option<Range>, form: Option<Form>) -> Option<Form>
             plus: number,
         }),
         None => form,
-    }
-}
-
-/// The number that is known, if it is one.
-pub fn number_of(known: Option<Range>) -> Option<u64>
-    ensures { IfSome result (λ number. (v : ℕ) → IsIn known v → v ≡ number) }
-{
-    match known {
-        Some(range) if range.low == range.high => Some(range.low),
-        _ => None,
     }
 }
 

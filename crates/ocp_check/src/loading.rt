@@ -3,7 +3,7 @@ ghost use Rattle.std.specs.Prelude.{◌<◌, ◌^◌, ℕ};
 ghost use Rattle.bpf_types.specs.Line.{octets_in};
 ghost use Rattle.ocp_check.specs.Mirror.Ranges.{IsIn};
 
-use crate::range::{Range, Stride};
+use crate::range::{Range, between};
 use bpf_types::Size;
 
 /// The numbers that octets of a size make.
@@ -16,9 +16,5 @@ pub fn numbers_of(size: Size) -> Option<Range>
         Size::Word => 0xffff_ffff,
         Size::Double => u64::MAX,
     };
-    Some(Range {
-        low: 0,
-        high,
-        stride: Stride::One,
-    })
+    between(0, high)
 }

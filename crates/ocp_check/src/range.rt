@@ -1,7 +1,8 @@
 //! What is known of a register: a range of numbers, or nothing.
-ghost use Rattle.std.specs.Prelude.{◌*◌, ◌≡◌, ◌≤◌, ◌<◌, ◌+◌, ◌-◌, ◌/◌, ◌%◌, ◌^◌, ◌==◌, if◌then◌else◌, bit_and, ℕ, IsTrue, Some};
+ghost use Rattle.std.specs.Prelude.{◌*◌, ◌≡◌, ◌≢◌, ◌≤◌, ◌<◌, ◌+◌, ◌-◌, ◌/◌, ◌%◌, ◌^◌, ◌==◌, if◌then◌else◌, bit_and, bit_or, ℕ, IsTrue, IfSome, Some};
 ghost use Rattle.std.specs.Int.{w64, cast_unsigned};
 ghost use Rattle.bpf_types.specs.declared.line.Width.{Width};
+ghost use Rattle.ocp_check.specs.declared.range.Stride.TheVariants.{One};
 ghost use Rattle.bpf_values.specs.Value.{arithmetic_result, is_taken, modulus, passes};
 ghost use Rattle.ocp_check.specs.Mirror.Ranges.{IsIn, IsMultiple, IsThere, half_of, just, test_without_signs};
 
@@ -98,16 +99,34 @@ fn top_of(range: Range) -> u64
     }
 }
 
+/// All numbers from a least one to a greatest one.
+pub fn between(least: u64, greatest: u64) -> Option<Range>
+    ensures exact { result ≡ Some (record { low = least; high = greatest; stride = One }) }
+    ensures holds { (v : ℕ) → least ≤ v → v ≤ greatest → IsIn result v }
+{
+    Some(Range {
+        low: least,
+        high: greatest,
+        stride: Stride::One,
+    })
+}
+
 /// One number.
 pub fn only(number: u64) -> Option<Range>
     ensures exact { result ≡ just number }
     ensures holds { IsIn result number }
 {
-    Some(Range {
-        low: number,
-        high: number,
-        stride: Stride::One,
-    })
+    between(number, number)
+}
+
+/// The number that is known, if it is one.
+pub fn number_of(known: Option<Range>) -> Option<u64>
+    ensures { IfSome result (λ number. (v : ℕ) → IsIn known v → v ≡ number) }
+{
+    match known {
+        Some(range) if range.low == range.high => Some(range.low),
+        _ => None,
+    }
 }
 
 /// Whether no number is meant.
@@ -163,11 +182,7 @@ fn difference(a: Option<Range>, b: Option<Range>) -> Option<Range>
         return None;
     };
     if b.high <= a.low && b.low <= b.high && a.low <= a.high {
-        Some(Range {
-            low: a.low - b.high,
-            high: a.high - b.low,
-            stride: Stride::One,
-        })
+        between(a.low - b.high, a.high - b.low)
     } else {
         None
     }
@@ -180,70 +195,52 @@ pub fn product(a: Option<Range>, b: Option<Range>) -> Option<Range>
     let (Some(a), Some(b)) = (a, b) else {
         return None;
     };
-    let low = a.low.checked_mul(b.low)?;
-    let high = a.high.checked_mul(b.high)?;
-    Some(Range {
-        low,
-        high,
-        stride: Stride::One,
-    })
+    between(a.low.checked_mul(b.low)?, a.high.checked_mul(b.high)?)
 }
 
-/// What is known of a shift to the left by 1 to 4, which multiplies by 2 to 16.
+/// What a shift by a known number multiplies or divides by.
+fn power_of(b: Option<Range>, bits: u64) -> Option<u64>
+    requires { (0 < bits) × (bits ≤ 64) }
+    ensures { IfSome result (λ power. (y : ℕ) → IsIn b y → 2 ^ (y % bits) ≡ power) }
+{
+    Some(1 << (number_of(b)? % bits))
+}
+
+/// What is known of a shift to the left by a known number.
 fn shift_left(a: Option<Range>, b: Option<Range>) -> Option<Range>
     ensures { (x y : ℕ) → IsIn a x → IsIn b y → IsIn result ((x * 2 ^ (y % 64)) % 2 ^ 64) }
 {
-    let b = b?;
-    match (b.low, b.high) {
-        (1, 1) => product(a, only(2)),
-        (2, 2) => product(a, only(4)),
-        (3, 3) => product(a, only(8)),
-        (4, 4) => product(a, only(16)),
-        _ => None,
-    }
+    let power = power_of(b, 64)?;
+    product(a, only(power))
 }
 
-/// What is known of a shift to the right: it is no more than what is shifted.
-fn shift_right(a: Option<Range>) -> Option<Range>
-    ensures { (x n : ℕ) → IsIn a x → IsIn result (x / n) }
+/// What is known of a shift to the right.
+fn shift_right(a: Option<Range>, b: Option<Range>, bits: u64) -> Option<Range>
+    requires { (0 < bits) × (bits ≤ 64) }
+    ensures { (x y : ℕ) → IsIn a x → IsIn b y → IsIn result (x / 2 ^ (y % bits)) }
+{
+    quotient(a, power_of(b, bits))
+}
+
+/// What is known of a quotient: it is no more than the dividend, or than that by a known divisor.
+fn quotient(a: Option<Range>, divisor: Option<u64>) -> Option<Range>
+    ensures { (x y : ℕ) → IsIn a x → IfSome divisor (λ number. y ≡ number) →
+        IsIn result (if y == 0 then 0 else x / y) }
 {
     let a = a?;
-    Some(Range {
-        low: 0,
-        high: a.high,
-        stride: Stride::One,
-    })
-}
-
-/// What is known of a quotient: it is no more than the dividend.
-fn quotient(a: Option<Range>) -> Option<Range>
-    ensures { (x y : ℕ) → IsIn a x → IsIn result (if y == 0 then 0 else x / y) }
-{
-    let Some(a) = a else {
-        return None;
-    };
-    Some(Range {
-        low: 0,
-        high: a.high,
-        stride: Stride::One,
-    })
+    match divisor {
+        Some(number) if number > 0 => between(a.low / number, a.high / number),
+        _ => between(0, a.high),
+    }
 }
 
 /// What is known of a remainder: it is less than a divisor, if that is not zero.
 fn remainder(b: Option<Range>) -> Option<Range>
     ensures { (x y : ℕ) → IsIn b y → IsIn result (if y == 0 then x else x % y) }
 {
-    let Some(b) = b else {
-        return None;
-    };
-    if b.low == 0 || b.high < b.low {
-        None
-    } else {
-        Some(Range {
-            low: 0,
-            high: b.high - 1,
-            stride: Stride::One,
-        })
+    match b {
+        Some(b) if b.low > 0 => between(0, b.high.saturating_sub(1)),
+        _ => None,
     }
 }
 
@@ -251,14 +248,17 @@ fn remainder(b: Option<Range>) -> Option<Range>
 fn conjunction(b: Option<Range>) -> Option<Range>
     ensures { (x y : ℕ) → IsIn b y → IsIn result (bit_and x y) }
 {
-    let Some(b) = b else {
+    between(0, b?.high)
+}
+
+/// What is known of a disjunction: it is no less than each operand, and no more than their sum.
+fn disjunction(a: Option<Range>, b: Option<Range>) -> Option<Range>
+    ensures { (x y : ℕ) → IsIn a x → IsIn b y → IsIn result (bit_or x y) }
+{
+    let (Some(a), Some(b)) = (a, b) else {
         return None;
     };
-    Some(Range {
-        low: 0,
-        high: b.high,
-        stride: Stride::One,
-    })
+    between(a.low.max(b.low), a.high.checked_add(b.high)?)
 }
 
 /// What is known of the low 32 bits of a number.
@@ -267,11 +267,7 @@ fn low(a: Option<Range>) -> Option<Range>
 {
     match a {
         Some(a) if a.high <= 0xffff_ffff => Some(a),
-        _ => Some(Range {
-            low: 0,
-            high: 0xffff_ffff,
-            stride: Stride::One,
-        }),
+        _ => between(0, 0xffff_ffff),
     }
 }
 
@@ -298,37 +294,62 @@ pub fn result_of(
         (Width::W64, Operation::Add) => sum(a, b),
         (Width::W64, Operation::Sub) => difference(a, b),
         (Width::W64, Operation::Mul) => product(a, b),
-        (Width::W64, Operation::Div) => quotient(a),
+        (Width::W64, Operation::Div) => quotient(a, number_of(b)),
         (Width::W64, Operation::Mod) => remainder(b),
         (Width::W64, Operation::And) => conjunction(b),
         (Width::W64, Operation::Lsh) => shift_left(a, b),
-        (Width::W64, Operation::Rsh) => shift_right(a),
+        (Width::W64, Operation::Rsh) => shift_right(a, b, 64),
+        (Width::W64, Operation::Or) => disjunction(a, b),
         (Width::W32, Operation::Mov) => low(b),
         (Width::W32, Operation::And) => conjunction(low(b)),
         (Width::W32, Operation::Add) => sum_of_halves(a, b),
+        (Width::W32, Operation::Div) => quotient(low(a), number_of(low(b))),
+        (Width::W32, Operation::Mod) => remainder(low(b)),
+        (Width::W32, Operation::Rsh) => shift_right(low(a), low(b), 32),
+        (Width::W32, Operation::Or) => disjunction(low(a), low(b)),
         _ => None,
     }
 }
 
-/// What is known after a test of a number of which nothing was known.
-fn range_by_test(width: Width, comparison: Comparison, held: bool, b: Range) -> Option<Range>
-    ensures { (x y : ℕ) → IsIn (Some b) y → passes width comparison x y ≡ held → IsIn result x }
+/// What is known of a number that is at most another one.
+fn at_most(a: Option<Range>, greatest: u64) -> Option<Range>
+    ensures { (v : ℕ) → IsIn a v → v ≤ greatest → IsIn result v }
 {
-    match (comparison, held) {
-        (Comparison::Less, true) | (Comparison::GreaterOrEqual, false) if b.high > 0 => {
-            Some(Range {
-                low: 0,
-                high: b.high - 1,
-                stride: Stride::One,
-            })
-        }
-        (Comparison::LessOrEqual, true) | (Comparison::Greater, false) => Some(Range {
-            low: 0,
-            high: b.high,
-            stride: Stride::One,
+    match a {
+        None => between(0, greatest),
+        Some(a) => Some(Range {
+            low: a.low,
+            high: a.high.min(greatest),
+            stride: a.stride,
         }),
-        (Comparison::Equal, true) | (Comparison::NotEqual, false) => Some(b),
-        _ => None,
+    }
+}
+
+/// What is known of a number that is at least another one.
+fn at_least(a: Option<Range>, least: u64) -> Option<Range>
+    ensures { (v : ℕ) → IsIn a v → least ≤ v → IsIn result v }
+{
+    let a = a?;
+    Some(Range {
+        low: a.low.max(least),
+        high: a.high,
+        stride: a.stride,
+    })
+}
+
+/// What is known of a number that is not a known one: that one is not at an end of the range.
+fn other_than(a: Option<Range>, b: Range) -> Option<Range>
+    ensures { (x y : ℕ) → IsIn a x → IsIn (Some b) y → x ≢ y → IsIn result x }
+{
+    let range = a?;
+    if b.low != b.high {
+        a
+    } else if range.low == b.low && range.low < u64::MAX {
+        at_least(a, range.low + 1)
+    } else if range.high == b.low && range.high > 0 {
+        at_most(a, range.high - 1)
+    } else {
+        a
     }
 }
 
@@ -346,81 +367,18 @@ fn refinement_unsigned(
     let Some(b) = b else {
         return a;
     };
-    let Some(a) = a else {
-        return range_by_test(width, comparison, held, b);
-    };
     match (comparison, held) {
         (Comparison::Less, true) | (Comparison::GreaterOrEqual, false) => {
-            if b.high == 0 || a.high < b.high {
-                Some(a)
-            } else {
-                Some(Range {
-                    low: a.low,
-                    high: b.high - 1,
-                    stride: a.stride,
-                })
-            }
+            at_most(a, b.high.saturating_sub(1))
         }
-        (Comparison::Less, false) | (Comparison::GreaterOrEqual, true) => {
-            if b.low < a.low {
-                Some(a)
-            } else {
-                Some(Range {
-                    low: b.low,
-                    high: a.high,
-                    stride: a.stride,
-                })
-            }
-        }
-        (Comparison::LessOrEqual, true) | (Comparison::Greater, false) => {
-            if a.high <= b.high {
-                Some(a)
-            } else {
-                Some(Range {
-                    low: a.low,
-                    high: b.high,
-                    stride: a.stride,
-                })
-            }
-        }
+        (Comparison::Less, false) | (Comparison::GreaterOrEqual, true) => at_least(a, b.low),
+        (Comparison::LessOrEqual, true) | (Comparison::Greater, false) => at_most(a, b.high),
         (Comparison::LessOrEqual, false) | (Comparison::Greater, true) => {
-            if b.low < a.low || b.low == u64::MAX {
-                Some(a)
-            } else {
-                Some(Range {
-                    low: b.low + 1,
-                    high: a.high,
-                    stride: a.stride,
-                })
-            }
+            at_least(a, b.low.saturating_add(1))
         }
         (Comparison::Equal, true) | (Comparison::NotEqual, false) => Some(b),
-        (Comparison::Equal, false) | (Comparison::NotEqual, true) => {
-            if b.low != b.high {
-                Some(a)
-            } else if a.low == b.low && a.high == b.low {
-                Some(Range {
-                    low: 1,
-                    high: 0,
-                    stride: Stride::One,
-                })
-            } else if a.low == b.low && a.low < a.high {
-                Some(Range {
-                    low: a.low + 1,
-                    high: a.high,
-                    stride: a.stride,
-                })
-            } else if a.high == b.low && a.low < a.high {
-                Some(Range {
-                    low: a.low,
-                    high: a.high - 1,
-                    stride: a.stride,
-                })
-            } else {
-                Some(a)
-            }
-        }
-        _ => Some(a),
+        (Comparison::Equal, false) | (Comparison::NotEqual, true) => other_than(a, b),
+        _ => a,
     }
 }
 
@@ -441,26 +399,19 @@ fn without_signs(comparison: Comparison) -> Comparison
 fn has_no_sign(width: Width, known: Option<Range>) -> bool
     ensures { IsTrue result → (v : ℕ) → IsIn known v → v < half_of width }
 {
-    match (width, known) {
-        (Width::W32, Some(range)) => range.high <= 0x7fff_ffff,
-        (Width::W64, Some(range)) => range.high <= 0x7fff_ffff_ffff_ffff,
-        (_, None) => false,
+    match known {
+        Some(range) => range.high <= greatest_without_sign(width),
+        None => false,
     }
 }
 
 /// The greatest number without a sign.
-fn greatest_without_sign(width: Width) -> Range
-    ensures low { result.low ≡ half_of width - 1 }
-    ensures high { result.high ≡ half_of width - 1 }
+fn greatest_without_sign(width: Width) -> u64
+    ensures { result ≡ half_of width - 1 }
 {
-    let high = match width {
+    match width {
         Width::W32 => 0x7fff_ffff,
         Width::W64 => 0x7fff_ffff_ffff_ffff,
-    };
-    Range {
-        low: high,
-        high,
-        stride: Stride::One,
     }
 }
 
@@ -478,16 +429,11 @@ fn is_upward(comparison: Comparison, held: bool) -> bool
 }
 
 /// What is known of a number without a sign that is at least another.
-fn upward(width: Width, a: Range, b: Range) -> Range
+fn upward(width: Width, a: Range, b: Range) -> Option<Range>
     ensures { (x y : ℕ) → IsIn (Some a) x → IsIn (Some b) y → (y ≤ x) × (x < half_of width) →
-        IsIn (Some result) x }
+        IsIn result x }
 {
-    let half = greatest_without_sign(width).high;
-    Range {
-        low: if b.low < a.low { a.low } else { b.low },
-        high: if a.high < half { a.high } else { half },
-        stride: a.stride,
-    }
+    at_most(at_least(Some(a), b.low), greatest_without_sign(width))
 }
 
 /// What is known of a number of the width after a test of it that held, or did not.
@@ -508,7 +454,7 @@ fn refinement_of_number(
         return refinement_unsigned(width, without_signs(comparison), held, Some(a), b);
     }
     match b {
-        Some(b) if is_upward(comparison, held) => Some(upward(width, a, b)),
+        Some(b) if is_upward(comparison, held) => upward(width, a, b),
         _ => refinement_unsigned(width, comparison, held, Some(a), b),
     }
 }

@@ -21,10 +21,12 @@ use crate::covering::{
     covers, form_of, form_of_operand, range_of, range_of_operand, with_base, with_base_of_operand,
     with_known, with_register,
 };
-use crate::form::{Form, form_of_result, number_of};
+use crate::form::{Form, form_of_result};
 use crate::laws::accesses_are_there;
 use crate::loading::numbers_of;
-use crate::range::{Range, is_empty, is_there, is_within, only, refinement, result_of, sum};
+use crate::range::{
+    Range, is_empty, is_there, is_within, number_of, only, refinement, result_of, sum,
+};
 use crate::word::{Word, index_of, kept_after, words_with};
 use bpf_step::{FRAME_OCTETS, MAX_LOCAL_CALLS};
 use bpf_types::{Comparison, Line, Operand, Operation, Reg, Size, Width};

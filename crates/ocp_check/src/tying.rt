@@ -2,8 +2,8 @@
 //! Nothing rests on it: `check` tests what it finds.
 
 use crate::certificate::Node;
-use crate::form::{BASES, Form, form_of_known, is_of_base, is_shifted_by, number_of, range_by_tie};
-use crate::range::Range;
+use crate::form::{BASES, Form, form_of_known, is_of_base, is_shifted_by, range_by_tie};
+use crate::range::{Range, number_of};
 use crate::word::WORDS;
 
 /// The greatest factor of a tie.

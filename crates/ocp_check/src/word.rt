@@ -8,8 +8,8 @@ ghost use Rattle.ocp_check.specs.Mirror.Ranges.{IsIn, IsThere};
 ghost use Rattle.ocp_check.specs.Mirror.Forms.{IsForm, bases_after};
 ghost use Rattle.ocp_check.specs.Mirror.Words.{IsWord, AreWords, IsSameFrom, greater, word_above};
 
-use crate::form::{BASES, Form, Forms, form_of_known, is_free, is_of_base, is_shifted, number_of};
-use crate::range::{Range, is_within};
+use crate::form::{BASES, Form, Forms, form_of_known, is_free, is_of_base, is_shifted};
+use crate::range::{Range, is_within, number_of};
 use ocp_regions::loads_give_what_was_stored;
 
 /// How many words are known of at a slot, at most.
