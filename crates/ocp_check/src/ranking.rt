@@ -363,6 +363,14 @@ fn counter_of<A: Allocator>(
     found
 }
 
+/// Whether two counters are the same.
+fn is_same(a: &Counter, b: &Counter) -> bool {
+    a.register.number() == b.register.number()
+        && a.rises == b.rises
+        && a.limit == b.limit
+        && a.weight == b.weight
+}
+
 impl<A: Allocator> Ranking<A> {
     /// One pass over the slots, the last first: whether a rank has grown that is watched.
     fn sweep(&mut self, program: &Program<A>, nodes: &[Option<Node>], cut: Option<Cut>) -> bool {
@@ -420,15 +428,28 @@ impl<A: Allocator> Ranking<A> {
         Some(weight)
     }
 
-    /// Has a counter count in a loop, if there is room for one.
-    fn add(&mut self, counter: Counter, here: Loop) -> Result<bool, AllocError> {
+    /// The number of a counter, which may count in another loop too; of a new one if there is room.
+    fn number_of(&mut self, counter: Counter) -> Result<Option<usize>, AllocError> {
+        for (number, other) in self.counters.iter().enumerate() {
+            if is_same(&counter, other) {
+                return Ok(Some(number));
+            }
+        }
         let number = self.counters.len();
         if number >= COUNTERS {
-            return Ok(false);
+            return Ok(None);
         }
         self.counters.push(counter)?;
+        Ok(Some(number))
+    }
+
+    /// Has a counter count in a loop, if there is room for one.
+    fn add(&mut self, counter: Counter, here: Loop) -> Result<bool, AllocError> {
+        let Some(number) = self.number_of(counter)? else {
+            return Ok(false);
+        };
         for (slot, rank) in self.ranks.iter_mut().enumerate() {
-            if here.first <= slot && slot <= here.last {
+            if here.first <= slot && slot <= here.last && number < COUNTERS {
                 rank.counts[number] = true;
             }
         }
@@ -497,24 +518,26 @@ impl<A: Allocator> Ranking<A> {
     }
 }
 
-/// The distance of a jump.
-fn distance_of(line: Line) -> Option<i32> {
-    match line {
-        Line::Jump { distance } => Some(i32::from(distance)),
-        Line::LongJump { distance } => Some(distance),
-        Line::JumpIf { distance, .. } => Some(i32::from(distance)),
+/// Where the line at a slot jumps, if it is a jump.
+fn place_of_jump<A: Allocator>(program: &Program<A>, slot: u16) -> Option<usize> {
+    match program.line_at(slot)? {
+        Line::Jump { distance } => target(slot, i32::from(distance)),
+        Line::LongJump { distance } => target(slot, distance),
+        Line::JumpIf { distance, .. } => target(slot, i32::from(distance)),
         _ => None,
     }
 }
 
-/// Adds a jump back to the loops.
+/// Adds a jump back to the loops: to the one with this target if jumps are joined, else as a loop
+/// of its own, which is not tried in the first turn.
 fn note_loop<A: Allocator>(
     loops: &mut Vec<Loop, A>,
     first: usize,
     last: usize,
+    are_joined: bool,
 ) -> Result<(), AllocError> {
     for one in loops.iter_mut() {
-        if one.first == first {
+        if one.first == first && (are_joined || one.last == last) {
             one.last = one.last.max(last);
             return Ok(());
         }
@@ -524,22 +547,21 @@ fn note_loop<A: Allocator>(
             first,
             last,
             is_done: false,
-            tries: 0,
+            tries: u32::from(!are_joined),
         })?;
     }
     Ok(())
 }
 
-/// The loops of an image, up to `LOOPS`.
+/// The loops of an image, up to `LOOPS`: those of all jumps back to a place, and then, since a jump
+/// back may also begin a loop, those of one jump each.
 fn find_loops<A: Allocator>(alloc: A, program: &Program<A>) -> Result<Vec<Loop, A>, AllocError> {
     let mut loops = Vec::new(alloc);
-    for slot in 0..program.slots() as u16 {
-        if let Some(line) = program.line_at(slot) {
-            if let Some(distance) = distance_of(line) {
-                if let Some(place) = target(slot, distance) {
-                    if place <= usize::from(slot) {
-                        note_loop(&mut loops, place, usize::from(slot))?;
-                    }
+    for are_joined in [true, false] {
+        for slot in 0..program.slots() as u16 {
+            if let Some(place) = place_of_jump(program, slot) {
+                if place <= usize::from(slot) {
+                    note_loop(&mut loops, place, usize::from(slot), are_joined)?;
                 }
             }
         }
