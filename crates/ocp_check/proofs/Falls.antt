@@ -8,7 +8,8 @@ use Rattle.bpf_step.specs.declared.answer.Need.TheVariants as need
 use Rattle.bpf_moves.specs.Moves.{load_register, store_memory, move_by_jump}
 use Rattle.bpf_step.specs.Machine.{State, Outcome, Next, Needs, NoInstruction, state_after_write, state_after_jump}
 use Rattle.bpf_step.specs.Calls.{local_call, call_unless_full, state_after_call, restored_registers, frame_of, exit_to, last_frame, state_after_engine_call}
-use Rattle.bpf_step.specs.Step.{outcome_by, one_step}
+use Rattle.bpf_types.specs.declared.line.Line.{Line}
+use Rattle.bpf_step.specs.Step.{step, outcome_by, one_step}
 use Rattle.bpf_step.specs.Reach.{Reaches, Started, Stepped, Answered}
 use Rattle.bpf_step.specs.Answers.{IsAnswer}
 use Rattle.ocp_check.specs.Rounds.{Round, Here, Further, Called}
@@ -26,6 +27,11 @@ value_is ranks counters place registers rank e = ap (λ (o : Option Rank). value
 pub falls_next : (ranks : List Rank) (counters : List Counter) (most : ℕ) (s t : State) → t.frames ≡ s.frames → value_at ranks counters t.place t.registers < value_at ranks counters s.place s.registers → AreSteady ranks counters s.frames →
     Falls ranks counters most s (Next t)
 falls_next ranks counters most s t e h a = let f = ap (values_of_frames ranks counters) e in (omega (arith, h, f), subst (AreSteady ranks counters) (sym e) a)
+
+-- what is shown of a line is shown of one that is known to be the same
+pub falls_by_line : (ranks : List Rank) (counters : List Counter) (certificate : Certificate) (most : ℕ) {line same : Line} (s : State) → line ≡ same →
+    (FitsAfter certificate s (step same s) → Falls ranks counters most s (step same s)) → FitsAfter certificate s (step line s) → Falls ranks counters most s (step line s)
+falls_by_line ranks counters certificate most s e = subst (λ (l : Line). FitsAfter certificate s (step l s) → Falls ranks counters most s (step l s)) (sym e)
 
 pub falls_load : (ranks : List Rank) (counters : List Counter) (certificate : Certificate) (most : ℕ) (s : State) (dst : ℕ) (f : ℕ → ℕ) (r : Result ℕ AccessFault) →
     ((v : ℕ) → Fits certificate (state_after_write s dst v 1) → Falls ranks counters most s (Next (state_after_write s dst v 1))) →

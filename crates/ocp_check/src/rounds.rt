@@ -520,31 +520,7 @@ fn falls(
             let step = step_by(node, width, operation, dst, operand);
             write_lowers(certificate, ranks, counters, slot, 1, node, dst, step)
         }
-        Line::Negate { dst, .. } => {
-            write_lowers(
-                certificate,
-                ranks,
-                counters,
-                slot,
-                1,
-                node,
-                dst,
-                Step::Anywhere,
-            )
-        }
-        Line::MoveExtended { dst, .. } => {
-            write_lowers(
-                certificate,
-                ranks,
-                counters,
-                slot,
-                1,
-                node,
-                dst,
-                Step::Anywhere,
-            )
-        }
-        Line::ByteOrder { dst, .. } => {
+        Line::Negate { dst, .. } | Line::MoveExtended { dst, .. } | Line::ByteOrder { dst, .. } => {
             write_lowers(
                 certificate,
                 ranks,
@@ -598,12 +574,12 @@ fn falls(
                 Step::Anywhere,
             )
         }
-        Line::Load { dst, .. } => load_lowers(certificate, ranks, counters, slot, node, dst),
-        Line::LoadExtended { dst, .. } => {
+        Line::Load { dst, .. } | Line::LoadExtended { dst, .. } => {
             load_lowers(certificate, ranks, counters, slot, node, dst)
         }
-        Line::StoreImmediate { .. } => store_lowers(certificate, ranks, counters, slot, node),
-        Line::Store { .. } => store_lowers(certificate, ranks, counters, slot, node),
+        Line::StoreImmediate { .. } | Line::Store { .. } => {
+            store_lowers(certificate, ranks, counters, slot, node)
+        }
     }
 }
 
