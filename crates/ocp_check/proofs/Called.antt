@@ -1,5 +1,5 @@
 -- Local calls and their ends.
-use Rattle.std.proofs.Common.{◌≡◌, ◌<◌, ℕ, zero, suc, ◌+◌, ◌-◌, ℤ, Bool, true, false, List, [], ◌∷◌, ◌++◌, length, take, get_or, set, Option, Some, None, refl, sym, ap, subst, ◌∙◌, arith, length-append}
+use Rattle.std.proofs.Common.{◌≡◌, ◌<◌, ℕ, ◌+◌, ◌-◌, ℤ, Bool, true, false, List, [], ◌∷◌, ◌++◌, length, take, get_or, set, Option, Some, refl, sym, ap, subst, ◌∙◌, arith, length-append}
 use Rattle.std.specs.Prelude.{slice_get, ◌==◌}
 use Rattle.std.proofs.lemmas.Bool.Decides.{nat_tests}
 use Rattle.std.proofs.lemmas.List.{length-set}
@@ -12,9 +12,10 @@ use Rattle.bpf_step.specs.Calls.{call_unless_full, local_call, state_after_call,
 use Rattle.ocp_check.specs.declared.range.Range.{Range}
 use Rattle.ocp_check.specs.Mirror.Ranges.{AreIn}
 use Rattle.ocp_check.specs.declared.certificate.Node.{Node}
-use Rattle.ocp_check.specs.Mirror.Forms.{IsForm, AreFormed}
+use Rattle.ocp_check.specs.Mirror.Forms.{AreFormed}
 use Rattle.ocp_check.specs.Mirror.Words.{AreWords}
 use Rattle.ocp_check.specs.Mirror.Callers.{Caller, Saves, AreSaved, row_after_return, forms_after_return, no_forms, range_at, form_at}
+use Rattle.ocp_check.proofs.Each.{eleven}
 use Rattle.ocp_check.proofs.Kept.{put_in, put_formed}
 
 as_many : (callers : List Caller) (frames : List Frame) → AreSaved callers frames → length frames ≡ length callers
@@ -88,22 +89,8 @@ restored c f row registers l v a =
     (put_in w6 _ 7 f.r7 k7 l6 (omega arith)
     (put_in row registers 6 f.r6 k6 l (omega arith) a v.r6) v.r7) v.r8) v.r9) v.r10
 
-none_formed : (k : ℕ) → k < 11 → (bases : ℕ → ℕ) (v : ℕ) → IsForm (get_or no_forms k None) bases v
-none_formed zero h bases v = tt
-none_formed (suc zero) h bases v = tt
-none_formed (suc (suc zero)) h bases v = tt
-none_formed (suc (suc (suc zero))) h bases v = tt
-none_formed (suc (suc (suc (suc zero)))) h bases v = tt
-none_formed (suc (suc (suc (suc (suc zero))))) h bases v = tt
-none_formed (suc (suc (suc (suc (suc (suc zero)))))) h bases v = tt
-none_formed (suc (suc (suc (suc (suc (suc (suc zero))))))) h bases v = tt
-none_formed (suc (suc (suc (suc (suc (suc (suc (suc zero)))))))) h bases v = tt
-none_formed (suc (suc (suc (suc (suc (suc (suc (suc (suc zero))))))))) h bases v = tt
-none_formed (suc (suc (suc (suc (suc (suc (suc (suc (suc (suc zero)))))))))) h bases v = tt
-none_formed (suc (suc (suc (suc (suc (suc (suc (suc (suc (suc (suc k))))))))))) h bases v = absurd (omega (arith, h))
-
 pub unformed : (bases : ℕ → ℕ) (registers : List ℕ) → AreFormed no_forms bases registers
-unformed bases registers = record { each = λ k h. none_formed k h bases (get_or registers k 0) }
+unformed bases registers = record { each = eleven _ tt tt tt tt tt tt tt tt tt tt tt }
 
 formed_again : (c : Caller) (f : Frame) (registers : List ℕ) → length registers ≡ 11 → Saves c f → AreFormed (forms_after_return c.node) c.bases (restored_registers registers f)
 formed_again c f registers l v =

@@ -1,12 +1,13 @@
 -- What counters add.
-use Rattle.std.proofs.Common.{◌≡◌, ◌≤◌, ◌<◌, ◌⊎◌, inl, inr, ℕ, zero, suc, ◌+◌, ◌*◌, Bool, true, false, List, [], ◌∷◌, length, get_or, set, Option, Some, None, refl, sym, subst, ◌∙◌, arith}
+use Rattle.std.proofs.Common.{◌≡◌, ◌≤◌, ◌<◌, inl, inr, ℕ, ◌+◌, ◌*◌, Bool, true, false, List, [], ◌∷◌, length, get_or, set, Option, Some, None, refl, sym, subst, ◌∙◌, arith}
 use Rattle.std.specs.Prelude.{slice_get, IfSome}
 use Rattle.std.proofs.Math.Nat.{mul-le-mul_left}
 use Rattle.std.proofs.lemmas.List.{get_or-set_same, get_or-set_other}
 use Rattle.bpf_step.specs.Machine.{State}
 use Rattle.bpf_step.specs.Calls.{frame_of, maybe_set}
 use Rattle.ocp_check.specs.declared.range.Range.{Range}
-use Rattle.ocp_check.specs.Mirror.Ranges.{IsIn, AreIn}
+use Rattle.ocp_check.proofs.Each.{same_or_not, eleven}
+use Rattle.ocp_check.specs.Mirror.Ranges.{AreIn}
 use Rattle.ocp_check.specs.declared.counting.Counter.{Counter}
 use Rattle.ocp_check.specs.declared.counting.Shift.{Shift}
 use Rattle.ocp_check.specs.declared.counting.Step.{Step}
@@ -47,22 +48,8 @@ shift_some o c was is old new more less e t h =
     subst (λ (p : Option Counter). share_of p is new + less ≤ more + share_of p was old) (sym e)
     (subst (λ b. share c b (get_or new c.register 0) + less ≤ more + share c was (get_or old c.register 0)) (sym t) h)
 
-same_or_not : (j k : ℕ) → (j ≡ k) ⊎ (j ≡ k → ⊥)
-same_or_not j k = grind arith
-
 pub kept_each : (k : ℕ) → k < 11 → (old : List ℕ) → IsMoved (get_or kept_steps k Anywhere) (get_or old k 0) (get_or old k 0)
-kept_each zero h old = refl
-kept_each (suc zero) h old = refl
-kept_each (suc (suc zero)) h old = refl
-kept_each (suc (suc (suc zero))) h old = refl
-kept_each (suc (suc (suc (suc zero)))) h old = refl
-kept_each (suc (suc (suc (suc (suc zero))))) h old = refl
-kept_each (suc (suc (suc (suc (suc (suc zero)))))) h old = refl
-kept_each (suc (suc (suc (suc (suc (suc (suc zero))))))) h old = refl
-kept_each (suc (suc (suc (suc (suc (suc (suc (suc zero)))))))) h old = refl
-kept_each (suc (suc (suc (suc (suc (suc (suc (suc (suc zero))))))))) h old = refl
-kept_each (suc (suc (suc (suc (suc (suc (suc (suc (suc (suc zero)))))))))) h old = refl
-kept_each (suc (suc (suc (suc (suc (suc (suc (suc (suc (suc (suc k))))))))))) h old = absurd (omega (arith, h))
+kept_each k h old = eleven (λ j. IsMoved (get_or kept_steps j Anywhere) (get_or old j 0) (get_or old j 0)) refl refl refl refl refl refl refl refl refl refl refl k h
 
 pub moved_kept : (old new : List ℕ) → new ≡ old → AreMoved kept_steps old new
 moved_kept old new e k h = subst (λ (rs : List ℕ). IsMoved (get_or kept_steps k Anywhere) (get_or old k 0) (get_or rs k 0)) (sym e) (kept_each k h old)
@@ -82,87 +69,20 @@ same_below old r0 (Some v) k h = get_or-set_other (set old 0 r0) 1 k v 0 (λ e. 
 same_below old r0 None k h = get_or-set_other old 0 k r0 0 (λ e. omega (arith, e, h))
 
 pub moved_by_call : (old : List ℕ) (r0 : ℕ) (r1 : Option ℕ) → AreMoved (Anywhere ∷ Anywhere ∷ Kept ∷ Kept ∷ Kept ∷ Kept ∷ Kept ∷ Kept ∷ Kept ∷ Kept ∷ Kept ∷ []) old (maybe_set (set old 0 r0) 1 r1)
-moved_by_call old r0 r1 k h = by k h
+moved_by_call old r0 r1 = eleven _ tt tt (below 2 (omega arith)) (below 3 (omega arith)) (below 4 (omega arith)) (below 5 (omega arith)) (below 6 (omega arith)) (below 7 (omega arith)) (below 8 (omega arith)) (below 9 (omega arith)) (below 10 (omega arith))
   where
-    by : (k : ℕ) → k < 11 → IsMoved (get_or (Anywhere ∷ Anywhere ∷ Kept ∷ Kept ∷ Kept ∷ Kept ∷ Kept ∷ Kept ∷ Kept ∷ Kept ∷ Kept ∷ []) k Anywhere) (get_or old k 0) (get_or (maybe_set (set old 0 r0) 1 r1) k 0)
-    by zero h = tt
-    by (suc zero) h = tt
-    by (suc (suc zero)) h = same_below old r0 r1 2 (omega arith)
-    by (suc (suc (suc zero))) h = same_below old r0 r1 3 (omega arith)
-    by (suc (suc (suc (suc zero)))) h = same_below old r0 r1 4 (omega arith)
-    by (suc (suc (suc (suc (suc zero))))) h = same_below old r0 r1 5 (omega arith)
-    by (suc (suc (suc (suc (suc (suc zero)))))) h = same_below old r0 r1 6 (omega arith)
-    by (suc (suc (suc (suc (suc (suc (suc zero))))))) h = same_below old r0 r1 7 (omega arith)
-    by (suc (suc (suc (suc (suc (suc (suc (suc zero)))))))) h = same_below old r0 r1 8 (omega arith)
-    by (suc (suc (suc (suc (suc (suc (suc (suc (suc zero))))))))) h = same_below old r0 r1 9 (omega arith)
-    by (suc (suc (suc (suc (suc (suc (suc (suc (suc (suc zero)))))))))) h = same_below old r0 r1 10 (omega arith)
-    by (suc (suc (suc (suc (suc (suc (suc (suc (suc (suc (suc k))))))))))) h = absurd (omega (arith, h))
+    below : (k : ℕ) → 1 < k → get_or (maybe_set (set old 0 r0) 1 r1) k 0 ≡ get_or old k 0
+    below = same_below old r0 r1
 
 pub moved_to_frame : (s : State) → AreMoved (Anywhere ∷ Anywhere ∷ Anywhere ∷ Anywhere ∷ Anywhere ∷ Anywhere ∷ Kept ∷ Kept ∷ Kept ∷ Kept ∷ Kept ∷ []) s.registers (registers_of (frame_of s))
-moved_to_frame s k h = by k h
-  where
-    by : (k : ℕ) → k < 11 → IsMoved (get_or (Anywhere ∷ Anywhere ∷ Anywhere ∷ Anywhere ∷ Anywhere ∷ Anywhere ∷ Kept ∷ Kept ∷ Kept ∷ Kept ∷ Kept ∷ []) k Anywhere) (get_or s.registers k 0) (get_or (registers_of (frame_of s)) k 0)
-    by zero h = tt
-    by (suc zero) h = tt
-    by (suc (suc zero)) h = tt
-    by (suc (suc (suc zero))) h = tt
-    by (suc (suc (suc (suc zero)))) h = tt
-    by (suc (suc (suc (suc (suc zero))))) h = tt
-    by (suc (suc (suc (suc (suc (suc zero)))))) h = refl
-    by (suc (suc (suc (suc (suc (suc (suc zero))))))) h = refl
-    by (suc (suc (suc (suc (suc (suc (suc (suc zero)))))))) h = refl
-    by (suc (suc (suc (suc (suc (suc (suc (suc (suc zero))))))))) h = refl
-    by (suc (suc (suc (suc (suc (suc (suc (suc (suc (suc zero)))))))))) h = refl
-    by (suc (suc (suc (suc (suc (suc (suc (suc (suc (suc (suc k))))))))))) h = absurd (omega (arith, h))
+moved_to_frame s = eleven _ tt tt tt tt tt tt refl refl refl refl refl
 
 pub saved_in : (row : List (Option Range)) (s : State) → AreIn row s.registers →
     AreIn (None ∷ None ∷ None ∷ None ∷ None ∷ None ∷ get_or row 6 None ∷ get_or row 7 None ∷ get_or row 8 None ∷ get_or row 9 None ∷ get_or row 10 None ∷ []) (registers_of (frame_of s))
-saved_in row s i = record { eleven = refl; each = by }
-  where
-    by : (k : ℕ) → k < 11 → IsIn (get_or (None ∷ None ∷ None ∷ None ∷ None ∷ None ∷ get_or row 6 None ∷ get_or row 7 None ∷ get_or row 8 None ∷ get_or row 9 None ∷ get_or row 10 None ∷ []) k None) (get_or (registers_of (frame_of s)) k 0)
-    by zero h = tt
-    by (suc zero) h = tt
-    by (suc (suc zero)) h = tt
-    by (suc (suc (suc zero))) h = tt
-    by (suc (suc (suc (suc zero)))) h = tt
-    by (suc (suc (suc (suc (suc zero))))) h = tt
-    by (suc (suc (suc (suc (suc (suc zero)))))) h = i.each 6 (omega arith)
-    by (suc (suc (suc (suc (suc (suc (suc zero))))))) h = i.each 7 (omega arith)
-    by (suc (suc (suc (suc (suc (suc (suc (suc zero)))))))) h = i.each 8 (omega arith)
-    by (suc (suc (suc (suc (suc (suc (suc (suc (suc zero))))))))) h = i.each 9 (omega arith)
-    by (suc (suc (suc (suc (suc (suc (suc (suc (suc (suc zero)))))))))) h = i.each 10 (omega arith)
-    by (suc (suc (suc (suc (suc (suc (suc (suc (suc (suc (suc k))))))))))) h = absurd (omega (arith, h))
+saved_in row s i = record { eleven = refl; each = eleven _ tt tt tt tt tt tt (i.each 6 (omega arith)) (i.each 7 (omega arith)) (i.each 8 (omega arith)) (i.each 9 (omega arith)) (i.each 10 (omega arith)) }
 
 pub none_known : (registers : List ℕ) → length registers ≡ 11 → AreIn (None ∷ None ∷ None ∷ None ∷ None ∷ None ∷ None ∷ None ∷ None ∷ None ∷ None ∷ []) registers
-none_known registers l = record { eleven = l; each = by }
-  where
-    by : (k : ℕ) → k < 11 → IsIn (get_or (None ∷ None ∷ None ∷ None ∷ None ∷ None ∷ None ∷ None ∷ None ∷ None ∷ None ∷ []) k None) (get_or registers k 0)
-    by zero h = tt
-    by (suc zero) h = tt
-    by (suc (suc zero)) h = tt
-    by (suc (suc (suc zero))) h = tt
-    by (suc (suc (suc (suc zero)))) h = tt
-    by (suc (suc (suc (suc (suc zero))))) h = tt
-    by (suc (suc (suc (suc (suc (suc zero)))))) h = tt
-    by (suc (suc (suc (suc (suc (suc (suc zero))))))) h = tt
-    by (suc (suc (suc (suc (suc (suc (suc (suc zero)))))))) h = tt
-    by (suc (suc (suc (suc (suc (suc (suc (suc (suc zero))))))))) h = tt
-    by (suc (suc (suc (suc (suc (suc (suc (suc (suc (suc zero)))))))))) h = tt
-    by (suc (suc (suc (suc (suc (suc (suc (suc (suc (suc (suc k))))))))))) h = absurd (omega (arith, h))
+none_known registers l = record { eleven = l; each = eleven _ tt tt tt tt tt tt tt tt tt tt tt }
 
 pub moved_anywhere : (old new : List ℕ) → AreMoved (Anywhere ∷ Anywhere ∷ Anywhere ∷ Anywhere ∷ Anywhere ∷ Anywhere ∷ Anywhere ∷ Anywhere ∷ Anywhere ∷ Anywhere ∷ Anywhere ∷ []) old new
-moved_anywhere old new k h = by k h
-  where
-    by : (k : ℕ) → k < 11 → IsMoved (get_or (Anywhere ∷ Anywhere ∷ Anywhere ∷ Anywhere ∷ Anywhere ∷ Anywhere ∷ Anywhere ∷ Anywhere ∷ Anywhere ∷ Anywhere ∷ Anywhere ∷ []) k Anywhere) (get_or old k 0) (get_or new k 0)
-    by zero h = tt
-    by (suc zero) h = tt
-    by (suc (suc zero)) h = tt
-    by (suc (suc (suc zero))) h = tt
-    by (suc (suc (suc (suc zero)))) h = tt
-    by (suc (suc (suc (suc (suc zero))))) h = tt
-    by (suc (suc (suc (suc (suc (suc zero)))))) h = tt
-    by (suc (suc (suc (suc (suc (suc (suc zero))))))) h = tt
-    by (suc (suc (suc (suc (suc (suc (suc (suc zero)))))))) h = tt
-    by (suc (suc (suc (suc (suc (suc (suc (suc (suc zero))))))))) h = tt
-    by (suc (suc (suc (suc (suc (suc (suc (suc (suc (suc zero)))))))))) h = tt
-    by (suc (suc (suc (suc (suc (suc (suc (suc (suc (suc (suc k))))))))))) h = absurd (omega (arith, h))
+moved_anywhere old new = eleven _ tt tt tt tt tt tt tt tt tt tt tt

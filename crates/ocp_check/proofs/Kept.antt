@@ -1,5 +1,5 @@
 -- What a row knows after a write.
-use Rattle.std.proofs.Common.{◌≡◌, ◌≤◌, ◌<◌, ◌⊎◌, inl, inr, ℕ, ◌+◌, ◌*◌, ◌%◌, ◌^◌, List, [], ◌∷◌, length, get_or, set, Option, Some, None, refl, sym, ap, subst, ◌∙◌, arith, Result, Ok, Bool, true, false, ℤ}
+use Rattle.std.proofs.Common.{◌≡◌, ◌≤◌, ◌<◌, inl, inr, ℕ, ◌+◌, ◌*◌, ◌%◌, ◌^◌, List, [], ◌∷◌, length, get_or, set, Option, Some, None, refl, sym, ap, subst, ◌∙◌, arith, Result, Ok, Bool, true, false, ℤ}
 use Rattle.std.specs.Prelude.{slice_get, if◌then◌else◌, ◌==◌, ◌≢◌}
 use Rattle.std.proofs.lemmas.Bool.Decides.{nat_tests}
 use Rattle.ocp_profile.specs.declared.profile.Profile.{Profile}
@@ -18,12 +18,10 @@ use Rattle.ocp_check.specs.Mirror.Ranges.{IsIn, AreIn, IsThere}
 use Rattle.ocp_check.specs.declared.certificate.Node.{Node}
 use Rattle.ocp_check.specs.declared.word.Word.{Word}
 use Rattle.ocp_check.specs.Mirror.Words.{IsWord, AreWords, IsSameFrom}
+use Rattle.ocp_check.proofs.Each.{same_or_not}
 use Rattle.ocp_check.proofs.Words.{kept_later, kept_stored}
 use Rattle.ocp_check.specs.Mirror.Callers.{Caller, AreSaved, AreKept}
 use Rattle.ocp_check.specs.Mirror.Fits.{Certificate, Matches, Fits, FitsAfter, Covers, Returns}
-
-same_or_not : (j k : ℕ) → (j ≡ k) ⊎ (j ≡ k → ⊥)
-same_or_not j k = grind arith
 
 -- what holds of the machines below a slot, and of those at it, holds of those below the next one
 pub each_more : (P : State → Type 0) (n : ℕ) → ((s : State) → s.place < n → P s) → ((s : State) → s.place ≡ n → P s) → (s : State) → s.place < n + 1 → P s

@@ -1,4 +1,5 @@
 pub mod Memory
+pub mod Each
 pub mod Kept
 pub mod Called
 pub mod Quotients

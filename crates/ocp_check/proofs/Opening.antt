@@ -1,5 +1,5 @@
 -- A local call and its end, against a certificate.
-use Rattle.std.proofs.Common.{◌≡◌, ◌≤◌, ◌<◌, ◌⊎◌, inl, inr, ℕ, zero, suc, ◌+◌, ◌-◌, ◌%◌, ◌^◌, ℤ, List, [], ◌∷◌, length, get_or, set, Option, None, refl, sym, ap, subst, arith}
+use Rattle.std.proofs.Common.{◌≡◌, ◌≤◌, ◌<◌, ◌⊎◌, inl, inr, ℕ, ◌+◌, ◌-◌, ◌%◌, ◌^◌, ℤ, List, [], ◌∷◌, length, get_or, set, Option, None, refl, sym, ap, subst, arith}
 use Rattle.bpf_step.specs.Machine.{State, Outcome, read}
 use Rattle.bpf_step.specs.Calls.{local_call, state_after_call, exit_to, last_frame}
 use Rattle.ocp_loader.specs.LineAt.{target}
@@ -11,6 +11,7 @@ use Rattle.ocp_check.specs.Mirror.Fits.{Certificate, Matches, FitsAfter, Covers,
 use Rattle.ocp_regions.specs.Memory.{Octets, zeros, zeros_over}
 use Rattle.ocp_regions.specs.Access.{HasOctets}
 use Rattle.ocp_check.specs.Mirror.Words.{AreWords, IsSameFrom, greater}
+use Rattle.ocp_check.proofs.Each.{eleven}
 use Rattle.ocp_check.proofs.Words.{words_return, kept_returns, same_later}
 use Rattle.ocp_check.proofs.Kept.{put_in, put_formed, covered}
 use Rattle.ocp_check.proofs.Called.{called, ended, last_exit}
@@ -39,21 +40,7 @@ fits_local certificate node s slot distance pointer promise spared l k d e i p f
     }))
 
 at_end : (promise : Option Range) (registers : List ℕ) → length registers ≡ 11 → IsIn promise (get_or registers 0 0) → AreIn (row_at_end promise) registers
-at_end promise registers l h = record { eleven = l; each = each }
-  where
-    each : (k : ℕ) → k < 11 → IsIn (get_or (row_at_end promise) k None) (get_or registers k 0)
-    each zero i = h
-    each (suc zero) i = tt
-    each (suc (suc zero)) i = tt
-    each (suc (suc (suc zero))) i = tt
-    each (suc (suc (suc (suc zero)))) i = tt
-    each (suc (suc (suc (suc (suc zero))))) i = tt
-    each (suc (suc (suc (suc (suc (suc zero)))))) i = tt
-    each (suc (suc (suc (suc (suc (suc (suc zero))))))) i = tt
-    each (suc (suc (suc (suc (suc (suc (suc (suc zero)))))))) i = tt
-    each (suc (suc (suc (suc (suc (suc (suc (suc (suc zero))))))))) i = tt
-    each (suc (suc (suc (suc (suc (suc (suc (suc (suc (suc zero)))))))))) i = tt
-    each (suc (suc (suc (suc (suc (suc (suc (suc (suc (suc (suc k))))))))))) i = absurd (omega (arith, i))
+at_end promise registers l h = record { eleven = l; each = eleven _ h tt tt tt tt tt tt tt tt tt tt }
 
 -- by the callers of a machine that ends a local call
 ends : (certificate : Certificate) (node : Node) (s : State) (callers : List Caller) → AreSaved callers s.frames → length callers ≤ node.depth → Returns certificate node.promise node.spared callers → AreKept node.kept s.memory callers → Matches certificate node s →

@@ -1,5 +1,5 @@
 -- Words of the stack after stores, and after local calls.
-use Rattle.std.proofs.Common.{◌≡◌, ◌≤◌, ◌<◌, ◌⊎◌, inl, inr, ℕ, zero, suc, ◌+◌, ◌%◌, ◌^◌, Bool, true, false, List, [], ◌∷◌, length, get_or, set, Option, Some, None, Result, Ok, refl, sym, ap, subst, ◌∙◌, arith}
+use Rattle.std.proofs.Common.{◌≡◌, ◌≤◌, ◌<◌, inl, inr, ℕ, ◌+◌, ◌%◌, ◌^◌, Bool, true, false, List, [], ◌∷◌, length, get_or, set, Option, Some, None, Result, Ok, refl, sym, ap, subst, ◌∙◌, arith}
 use Rattle.std.specs.Prelude.{IfSome, nat_le, if◌then◌else◌}
 use Rattle.std.proofs.lemmas.Bool.Decides.{nat_tests}
 use Rattle.std.proofs.lemmas.List.{get_or-set_same, get_or-set_other}
@@ -12,23 +12,10 @@ use Rattle.ocp_check.specs.Mirror.Ranges.{IsIn, IsThere}
 use Rattle.ocp_check.specs.Mirror.Forms.{IsForm}
 use Rattle.ocp_check.specs.Mirror.Words.{IsWord, AreWords, no_words, IsSameFrom, greater, word_above}
 use Rattle.ocp_check.specs.Mirror.Callers.{Caller, AreKept, word_at, words_after_return}
-
-same_or_not : (j k : ℕ) → (j ≡ k) ⊎ (j ≡ k → ⊥)
-same_or_not j k = grind arith
-
-none_at : (k : ℕ) → k < 8 → (bases : ℕ → ℕ) (m : Octets) → IsWord (get_or no_words k None) bases m
-none_at zero h bases m = tt
-none_at (suc zero) h bases m = tt
-none_at (suc (suc zero)) h bases m = tt
-none_at (suc (suc (suc zero))) h bases m = tt
-none_at (suc (suc (suc (suc zero)))) h bases m = tt
-none_at (suc (suc (suc (suc (suc zero))))) h bases m = tt
-none_at (suc (suc (suc (suc (suc (suc zero)))))) h bases m = tt
-none_at (suc (suc (suc (suc (suc (suc (suc zero))))))) h bases m = tt
-none_at (suc (suc (suc (suc (suc (suc (suc (suc k)))))))) h bases m = absurd (omega (arith, h))
+use Rattle.ocp_check.proofs.Each.{same_or_not, eight}
 
 pub unknown : (bases : ℕ → ℕ) (m : Octets) → AreWords no_words bases m
-unknown bases m = record { each = λ k h. none_at k h bases m }
+unknown bases m = record { each = eight _ tt tt tt tt tt tt tt tt }
 
 pub put_word : (words : List (Option Word)) (bases : ℕ → ℕ) (m : Octets) (k : ℕ) (word : Option Word) → length words ≡ 8 → k < 8 → AreWords words bases m → IsWord word bases m → AreWords (set words k word) bases m
 put_word words bases m k word l d a i = record {
@@ -52,21 +39,12 @@ word_returns None floor bases old new s h = tt
 word_returns (Some w) floor bases old new s h = if_above (nat_le floor w.address) w floor bases old new refl s h
 
 pub words_return : (node : Node) (floor : ℕ) (bases : ℕ → ℕ) (old new : Octets) → IsSameFrom floor old new → AreWords node.words bases old → AreWords (words_after_return node floor) bases new
-words_return node floor bases old new s a = record { each = each }
+words_return node floor bases old new s a = record {
+  each = eight _ (at 0 (omega arith)) (at 1 (omega arith)) (at 2 (omega arith)) (at 3 (omega arith)) (at 4 (omega arith)) (at 5 (omega arith)) (at 6 (omega arith)) (at 7 (omega arith));
+}
   where
     at : (k : ℕ) → k < 8 → IsWord (word_above floor (word_at node k)) bases new
     at k h = word_returns (word_at node k) floor bases old new s (a.each k h)
-
-    each : (k : ℕ) → k < 8 → IsWord (get_or (words_after_return node floor) k None) bases new
-    each zero h = at 0 (omega arith)
-    each (suc zero) h = at 1 (omega arith)
-    each (suc (suc zero)) h = at 2 (omega arith)
-    each (suc (suc (suc zero))) h = at 3 (omega arith)
-    each (suc (suc (suc (suc zero)))) h = at 4 (omega arith)
-    each (suc (suc (suc (suc (suc zero))))) h = at 5 (omega arith)
-    each (suc (suc (suc (suc (suc (suc zero)))))) h = at 6 (omega arith)
-    each (suc (suc (suc (suc (suc (suc (suc zero))))))) h = at 7 (omega arith)
-    each (suc (suc (suc (suc (suc (suc (suc (suc k)))))))) h = absurd (omega (arith, h))
 
 -- the stack is the same from a later address on
 pub same_later : (first next : ℕ) (old new : Octets) → first ≤ next → IsSameFrom first old new → IsSameFrom next old new
