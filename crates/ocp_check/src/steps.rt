@@ -146,6 +146,19 @@ pub fn address_range(row: &Row, base: Reg, offset: i16) -> Option<Range>
     sum(range_of(row, base), only(i64::from(offset).cast_unsigned()))
 }
 
+/// Whether an access is inside a region; a store may not be to the arguments.
+fn is_inside(node: &Node, base: Reg, offset: i16, size: Size, writes: bool) -> bool
+    ensures { IsTrue result → (registers : List ℕ) → AreIn node.now.row registers →
+        IsThere writes (address_in registers base offset) (octets_in size) }
+{
+    is_there(
+        range_of(&node.row, base),
+        offset,
+        size.octets() as u64,
+        writes,
+    )
+}
+
 /// The word, if it is at an address.
 fn word_with_address(word: Option<Word>, address: u64) -> Option<Word>
     ensures { IfSome result (λ found. (bases : ℕ → ℕ) (m : Octets) (v : ℕ) → IsWord word bases m →
@@ -197,16 +210,12 @@ fn is_kept_reading(
     accesses_are_there();
     match word_read(node, base, offset, size) {
         Some(word) => {
-            is_there(
-                range_of(&node.row, base),
-                offset,
-                size.octets() as u64,
-                false,
-            ) && covers(
-                certificate,
-                usize::from(slot) + 1,
-                &with_register(node, dst, word.known, word.form),
-            )
+            is_inside(node, base, offset, size, false)
+                && covers(
+                    certificate,
+                    usize::from(slot) + 1,
+                    &with_register(node, dst, word.known, word.form),
+                )
         }
         None => is_kept_loading(
             certificate,
@@ -241,12 +250,8 @@ fn is_kept_loading(
         NoInstruction) }
 {
     accesses_are_there();
-    is_there(
-        range_of(&node.row, base),
-        offset,
-        size.octets() as u64,
-        false,
-    ) && is_kept_writing(certificate, slot, 1, node, dst, known)
+    is_inside(node, base, offset, size, false)
+        && is_kept_writing(certificate, slot, 1, node, dst, known)
 }
 
 /// What is known after a store of a number.
@@ -296,16 +301,12 @@ fn is_kept_storing(
         NoInstruction) }
 {
     accesses_are_there();
-    is_there(
-        range_of(&node.row, base),
-        offset,
-        size.octets() as u64,
-        true,
-    ) && covers(
-        certificate,
-        usize::from(slot) + 1,
-        &after_store(node, base, offset, size, known, form),
-    )
+    is_inside(node, base, offset, size, true)
+        && covers(
+            certificate,
+            usize::from(slot) + 1,
+            &after_store(node, base, offset, size, known, form),
+        )
 }
 
 /// The same of a store of which nothing is known.

@@ -7,8 +7,8 @@ use Rattle.ocp_check.specs.Mirror.Fits.{Covers}
 use Rattle.ocp_check.proofs.Kept.{fits_read, fits_put}
 use Rattle.ocp_check.proofs.steps.is_kept_reading.Goals as goal
 
-pub returns-then-is_there : goal.returns-then-is_there
-returns-then-is_there c = λ h s e i.
+pub returns-then-is_inside : goal.returns-then-is_inside
+returns-then-is_inside c = λ h s e i.
     let l : length c.args.node.now.row ≡ 11 = search (rules, c) in
     let n : length c.args.node.now.forms ≡ 11 = search (rules, c) in
     let d : c.args.dst < 11 = search (rules, c) in

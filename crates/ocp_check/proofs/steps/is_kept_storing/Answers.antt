@@ -6,8 +6,8 @@ use Rattle.ocp_check.specs.Mirror.Ranges.{IsThere}
 use Rattle.ocp_check.proofs.Kept.{fits_store}
 use Rattle.ocp_check.proofs.steps.is_kept_storing.Goals as goal
 
-pub returns-then-is_there : goal.returns-then-is_there
-returns-then-is_there c = λ h s v e m k f.
+pub returns-then-is_inside : goal.returns-then-is_inside
+returns-then-is_inside c = λ h s v e m k f.
     let same : to_z w16 (of_z w16 c.args.offset) ≡ c.args.offset = search (rules, c.ranges.offset.sfits) in
     let p : s.place + 1 ≡ c.from.result + 1 = omega (arith, e, c.from.ensures) in
     let there : IsThere true (address_in s.registers c.args.base c.args.offset) (octets_in c.args.size) = search (rules, c, m.registers.each) in
