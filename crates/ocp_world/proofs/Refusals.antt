@@ -117,19 +117,13 @@ pub is_instruction : (pool : List ℕ) (m : Records) (id : ℕ) → IsInstructio
 is_instruction pool m id = step_on pool id (get m id) (is_full_table m)
 
 kept_step : (effect : table.Effect) → IsInstruction effect → (w : World) → is_accepted (answer_by (instruction_effect effect).reply w) ≡ false → world_after (instruction_effect effect) w ≡ w
-kept_step (Loaded profile id image) is w h = absurd is
-kept_step (Unloaded id) is w h = absurd is
 kept_step (Changed id (Instructed did.Broke)) is w h = absurd (true_false h)
 kept_step (Changed id (Instructed did.Ran)) is w h = absurd (true_false h)
 kept_step (Changed id (Instructed (did.Called call))) is w h = absurd (true_false h)
 kept_step (Changed id (Instructed did.Ended)) is w h = absurd (true_false h)
 kept_step (Changed id (Instructed (did.Faulted number))) is w h = absurd (true_false h)
-kept_step (Changed id (Started budget arguments)) is w h = absurd is
-kept_step (Changed id change) is w h = absurd is
-kept_step Drained is w h = absurd is
-kept_step (WordPut index value) is w h = absurd is
-kept_step (Kept Unasked) is w h = absurd is
 kept_step (Kept (Failed failure)) is w h = λ i. record w { outbox = append-nil w.outbox i; events = cond (h i) (w.events + 1) w.events; traces = append-nil w.traces i }
+kept_step effect is w h = absurd is
 
 -- ---- a debugger's command
 
@@ -191,35 +185,9 @@ failed_outcome failure.NotLoaded = refl
 failed_outcome other = refl
 
 pub refused_step : (effect : table.Effect) → IsInstruction effect → is_some (failure_of effect) ≡ true → is_accepted (Stepped (step_outcome effect)) ≡ false
-refused_step (Loaded profile id image) is h = absurd is
-refused_step (Unloaded id) is h = absurd is
 refused_step (Changed id (Instructed outcome)) is h = absurd (true_false (sym h))
-refused_step (Changed id change) is h = absurd is
-refused_step Drained is h = absurd is
-refused_step (WordPut index value) is h = absurd is
-refused_step (Kept Unasked) is h = absurd is
 refused_step (Kept (Failed failure)) is h = failed_outcome failure
-
--- an instruction event is refused in the world as in the table
-refused_on : (effect : table.Effect) → IsInstruction effect → IsRefusal (Stepped (step_outcome effect)) (refusal_of effect)
-refused_on (Loaded profile id image) is = absurd is
-refused_on (Unloaded id) is = absurd is
-refused_on (Changed id (Instructed did.Broke)) is = refl
-refused_on (Changed id (Instructed did.Ran)) is = refl
-refused_on (Changed id (Instructed (did.Called call))) is = refl
-refused_on (Changed id (Instructed did.Ended)) is = refl
-refused_on (Changed id (Instructed (did.Faulted number))) is = refl
-refused_on (Changed id (Started budget arguments)) is = absurd is
-refused_on (Changed id change) is = absurd is
-refused_on Drained is = absurd is
-refused_on (WordPut index value) is = absurd is
-refused_on (Kept Unasked) is = absurd is
-refused_on (Kept (Failed failure)) is = (failed_outcome failure, refl)
-
-pub refused_so : (m : Records) (by id : ℕ) (w : World) → m ≡ w.records → (o : Option StepOutcome) → ((pool : List ℕ) → o ≡ refusal_of (effect_in (directive.Step pool) id m)) → IsRefusal (after w (Step by id)).answer o
-refused_so m by id w same o told =
-    let here : o ≡ refusal_of (effect_in (directive.Step w.pool) id w.records) = told w.pool ∙ ap (λ n. refusal_of (effect_in (directive.Step w.pool) id n)) same in
-    subst (IsRefusal (after w (Step by id)).answer) (sym here) (refused_on (effect_in (directive.Step w.pool) id w.records) (is_instruction w.pool w.records id))
+refused_step effect is h = absurd is
 
 -- ---- no answer is that of a full journal
 
@@ -243,20 +211,20 @@ roomy_failure : (failure : StartFailure) → is_full (Stepped (step_outcome (Kep
 roomy_failure failure.NotLoaded = refl
 roomy_failure other = refl
 
-roomy_step : (effect : table.Effect) → IsInstruction effect → is_full (Stepped (step_outcome effect)) ≡ false
-roomy_step (Loaded profile id image) is = absurd is
-roomy_step (Unloaded id) is = absurd is
-roomy_step (Changed id (Instructed did.Broke)) is = refl
-roomy_step (Changed id (Instructed did.Ran)) is = refl
-roomy_step (Changed id (Instructed (did.Called call))) is = refl
-roomy_step (Changed id (Instructed did.Ended)) is = refl
-roomy_step (Changed id (Instructed (did.Faulted number))) is = refl
-roomy_step (Changed id (Started budget arguments)) is = absurd is
-roomy_step (Changed id change) is = absurd is
-roomy_step Drained is = absurd is
-roomy_step (WordPut index value) is = absurd is
-roomy_step (Kept Unasked) is = absurd is
-roomy_step (Kept (Failed failure)) is = roomy_failure failure
+-- an instruction event is refused in the world as in the table, and for no full journal
+step_told : (effect : table.Effect) → IsInstruction effect → IsRefusal (Stepped (step_outcome effect)) (refusal_of effect) × (is_full (Stepped (step_outcome effect)) ≡ false)
+step_told (Changed id (Instructed did.Broke)) is = (refl, refl)
+step_told (Changed id (Instructed did.Ran)) is = (refl, refl)
+step_told (Changed id (Instructed (did.Called call))) is = (refl, refl)
+step_told (Changed id (Instructed did.Ended)) is = (refl, refl)
+step_told (Changed id (Instructed (did.Faulted number))) is = (refl, refl)
+step_told (Kept (Failed failure)) is = ((failed_outcome failure, refl), roomy_failure failure)
+step_told effect is = absurd is
+
+pub refused_so : (m : Records) (by id : ℕ) (w : World) → m ≡ w.records → (o : Option StepOutcome) → ((pool : List ℕ) → o ≡ refusal_of (effect_in (directive.Step pool) id m)) → IsRefusal (after w (Step by id)).answer o
+refused_so m by id w same o told =
+    let here : o ≡ refusal_of (effect_in (directive.Step w.pool) id w.records) = told w.pool ∙ ap (λ n. refusal_of (effect_in (directive.Step w.pool) id n)) same in
+    subst (IsRefusal (after w (Step by id)).answer) (sym here) (step_told (effect_in (directive.Step w.pool) id w.records) (is_instruction w.pool w.records id)).0
 
 -- a fault of a command that a world decides is not that the journal is full
 abbrev IsRoomy : Option DebugFault → Type 0
@@ -284,7 +252,7 @@ roomy_put false index value w = refl
 
 roomy : (w : World) (e : Event) → is_full (after w e).answer ≡ false
 roomy w (Request by time octets) = roomy_octets (telecommand_of w.apid octets) time w
-roomy w (Step by id) = roomy_step (effect_in (directive.Step w.pool) id w.records) (is_instruction w.pool w.records id)
+roomy w (Step by id) = (step_told (effect_in (directive.Step w.pool) id w.records) (is_instruction w.pool w.records id)).1
 roomy w (Debug by id command) = roomy_fault command (get w.records id)
 roomy w (Drain by time) = roomy_drain time w.outbox w
 roomy w (Put by index value) = roomy_put (nat_lt index (length w.pool)) index value w

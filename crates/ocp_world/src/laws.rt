@@ -101,6 +101,7 @@ pub fn only_starts_and_own_instructions_change_machines()
 
 /// A debugger's command changes at most breakpoints and trace flags of procedures. It leaves the
 /// pool, the completions that wait, the count of reports and the trace records as they are.
+#[tactic(auto, using(crate::proofs::Lawful::command_keeps_pool, crate::proofs::Lawful::command_keeps_outbox, crate::proofs::Lawful::command_keeps_traces))]
 pub fn a_debugger_changes_breakpoints_and_trace_flags_alone()
     ensures procedures { (w : World) (by own id : ℕ) (command : Asked) →
         let next = (after w (Debug by own command)).world in
