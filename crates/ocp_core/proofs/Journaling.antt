@@ -1,12 +1,14 @@
 -- What an engine's journal determines of its events.
-use Rattle.std.proofs.Common.{◌≡◌, ℕ, List, [], ◌∷◌, refl, sym, ap, ◌∙◌}
+use Rattle.std.proofs.Common.{◌≡◌, ℕ, true, List, [], ◌∷◌, Option, None, refl, sym, ap, subst, ◌∙◌}
 use Rattle.std.specs.Prelude.{Result}
+use Rattle.pus_fields.specs.declared.fault.Discard.{Discard}
 use Rattle.pus_fields.specs.declared.fault.TcFault.{TcFault}
 use Rattle.pus_fields.specs.Telecommand.{Telecommand}
 use Rattle.pus_fields.specs.TelecommandFaults.{telecommand_of}
 use Rattle.ocp_table.specs.declared.answers.StepOutcome.{StepOutcome}
-use Rattle.ocp_world.specs.World.{World, Event}
-use Rattle.ocp_world.specs.After.{Stepped, after}
+use Rattle.ocp_world.specs.World.{World, Event, Request}
+use Rattle.ocp_world.specs.After.{Stepped, after, is_accepted}
+use Rattle.ocp_world.specs.Mirror.Answering.{IsDiscard}
 use Rattle.ocp_world.specs.Replay.{replay_from}
 use Rattle.ocp_core.specs.Log.{Log, world_of, expand}
 
@@ -27,3 +29,12 @@ world_of-apid log = replay_from-apid _ (expand log.entries)
 -- octets that are read for the journal's application process are read for that of its world
 pub as_read : (log : Log) (octets : List ℕ) (apid : ℕ) → apid ≡ log.apid → (read : Result Telecommand TcFault) → read ≡ telecommand_of apid octets → read ≡ telecommand_of (world_of log).apid octets
 as_read log octets apid named read is = is ∙ ap (λ a. telecommand_of a octets) (named ∙ sym (world_of-apid log))
+
+-- why the world discards the octets that were read, if it does; if not, it accepts the request
+module _ (log : Log) (by time : ℕ) (octets : List ℕ) (apid : ℕ) (named : apid ≡ log.apid) (read : Result Telecommand TcFault) (is : read ≡ telecommand_of apid octets) (cause : Option Discard)
+    (told : (w : World) (by time : ℕ) (octets : List ℕ) → read ≡ telecommand_of w.apid octets → IsDiscard (after w (Request by time octets)).answer cause) where
+  pub discard_at : IsDiscard (after (world_of log) (Request by time octets)).answer cause
+  discard_at = told (world_of log) by time octets (as_read log octets apid named read is)
+
+  pub taken_at : cause ≡ None → is_accepted (after (world_of log) (Request by time octets)).answer ≡ true
+  taken_at none = subst (IsDiscard (after (world_of log) (Request by time octets)).answer) none discard_at

@@ -1,11 +1,10 @@
 -- The marks of a journal that gains an entry are those before and the answer that is given.
 use Rattle.std.proofs.Common.{◌≡◌, ◌≤◌, ◌+◌, ℕ, zero, suc, true, false, length, subst, arith, cond, List, [], ◌∷◌, ◌++◌, map, replicate, refl, sym, ap, ◌∙◌}
-use Rattle.std.specs.Prelude.{Result, Ok, Err, ◌==◌}
+use Rattle.std.specs.Prelude.{◌==◌}
 use Rattle.std.proofs.lemmas.Bool.Decides.{nat_tests}
 use Rattle.std.proofs.lemmas.List.{map-append, length-map}
 use Rattle.bpf_step.specs.Machine.{State as Machined}
 use Rattle.ocp_table.specs.Records.{Rec}
-use Rattle.ocp_debug.specs.declared.command.DebugFault.{DebugFault}
 use Rattle.ocp_world.specs.Settled.{RunsAlone}
 use Rattle.ocp_core.specs.Tickets.{WorkContents, IsRun}
 use Rattle.ocp_core.specs.Commits.{IsFresh}
@@ -14,7 +13,7 @@ use Rattle.ocp_table.specs.declared.answers.StepOutcome.{StepOutcome}
 use Rattle.ocp_table.specs.declared.answers.StepOutcome.TheVariants as S
 use Rattle.ocp_profile.specs.declared.profile.Profile.{Profile}
 use Rattle.ocp_world.specs.World.{World, Event, Request, Step, Debug, Drain, Put, opening}
-use Rattle.ocp_world.specs.After.{Answer, Stepped, Commanded, After, after, is_accepted}
+use Rattle.ocp_world.specs.After.{Stepped, After, after}
 use Rattle.ocp_world.specs.Replay.{replay_from, answers}
 use Rattle.ocp_world.specs.Slice.{next_outcome, goes_on, slice_count, slice_last}
 use Rattle.ocp_core.specs.Log.{Log, Entry, events_of, expand, with_entry, entry_for, world_of}

@@ -13,13 +13,13 @@ use Rattle.ocp_core.specs.Receipts.{reports_in}
 -- ---- the receipt of a journal: the reports, and the entry with them as its mark
 
 module _ {A : Type 0} (r : Result (List (List ℕ) × N.Entry A) EngineFault) (entry : Entry) (packets : List (List ℕ)) where
-  abbrev pub IsReceipted : Type 0
-  IsReceipted = IfOk r (λ x. (x.0 ≡ packets) × (entry_with_mark x.1 ≡ record { entry = entry; mark = Requested (Ok packets) }))
+  abbrev pub HasReceipt : Type 0
+  HasReceipt = IfOk r (λ x. (x.0 ≡ packets) × (entry_with_mark x.1 ≡ record { entry = entry; mark = Requested (Ok packets) }))
 
-pub answers_in : {A : Type 0} (r : Result (List (List ℕ) × N.Entry A) EngineFault) (entry : Entry) (packets : List (List ℕ)) (answer : Answer) → IsReceipted r entry packets → Answers (with_packets r packets) answer → Answers (reports_in r) answer
+pub answers_in : {A : Type 0} (r : Result (List (List ℕ) × N.Entry A) EngineFault) (entry : Entry) (packets : List (List ℕ)) (answer : Answer) → HasReceipt r entry packets → Answers (with_packets r packets) answer → Answers (reports_in r) answer
 answers_in (Ok x) entry packets answer given is = is ∙ ap (λ reports. Requested (Ok reports)) (sym given.0)
 answers_in (Err fault) entry packets answer given is = is
 
-pub entry_in : {A : Type 0} (r : Result (List (List ℕ) × N.Entry A) EngineFault) (entry : Entry) (packets : List (List ℕ)) → IsReceipted r entry packets → IfOk r (λ x. entry_with_mark x.1 ≡ record { entry = entry; mark = Requested (Ok x.0) })
+pub entry_in : {A : Type 0} (r : Result (List (List ℕ) × N.Entry A) EngineFault) (entry : Entry) (packets : List (List ℕ)) → HasReceipt r entry packets → IfOk r (λ x. entry_with_mark x.1 ≡ record { entry = entry; mark = Requested (Ok x.0) })
 entry_in (Ok x) entry packets given = given.1 ∙ ap (λ (reports : List (List ℕ)). record { entry = entry; mark = Requested (Ok reports) }) (sym given.0)
 entry_in (Err fault) entry packets given = tt

@@ -72,19 +72,13 @@ not_full_fault debug.NotSet h = refl
 not_full_fault debug.OutsideMemory h = refl
 not_full_fault debug.JournalFull h = absurd (h refl)
 
-is_full_answer-full : (e : Event) → is_full_answer (full_answer e) ≡ true
-is_full_answer-full (Request by time octets) = refl
-is_full_answer-full (Step by id) = refl
-is_full_answer-full (Debug by id command) = refl
-is_full_answer-full (Drain by time) = refl
-is_full_answer-full (Put by index value) = refl
-
-is_accepted-full : (e : Event) → is_accepted (full_answer e) ≡ false
-is_accepted-full (Request by time octets) = refl
-is_accepted-full (Step by id) = refl
-is_accepted-full (Debug by id command) = refl
-is_accepted-full (Drain by time) = refl
-is_accepted-full (Put by index value) = refl
+-- the answer of a full journal
+full_told : (e : Event) → (is_full_answer (full_answer e) ≡ true) × (is_accepted (full_answer e) ≡ false)
+full_told (Request by time octets) = (refl, refl)
+full_told (Step by id) = (refl, refl)
+full_told (Debug by id command) = (refl, refl)
+full_told (Drain by time) = (refl, refl)
+full_told (Put by index value) = (refl, refl)
 
 world_of-entry : (log : Log) (e : Event) → world_of (with_entry log (entry_for e)) ≡ (after (world_of log) e).world
 world_of-entry log (Request by time octets) = world_of-with_entry log (entry_for (Request by time octets))
@@ -101,11 +95,11 @@ module _ (log : Log) (e : Event) where
   left b f = cond b (cond f log (with_entry log (entry_for e))) log
 
   -- an event that is not answered with a full journal has its own answer
-  pub done_event : (x : Answer) → x ≡ answer_in log e → is_full_answer x ≡ false → (x ≡ answer) × (finds_full log e ≡ false)
+  done_event : (x : Answer) → x ≡ answer_in log e → is_full_answer x ≡ false → (x ≡ answer) × (finds_full log e ≡ false)
   done_event x is roomy =
       elim (is_accepted answer) as (λ b. x ≡ cond b (cond (is_full log) (full_answer e) answer) answer → (x ≡ answer) × (cond b (is_full log) false ≡ false)) [
         | true ↦ elim (is_full log) as (λ f. x ≡ cond f (full_answer e) answer → (x ≡ answer) × (f ≡ false)) [
-          | true ↦ λ a. absurd (true_false (sym (is_full_answer-full e) ∙ ap is_full_answer (sym a) ∙ roomy))
+          | true ↦ λ a. absurd (true_false (sym (full_told e).0 ∙ ap is_full_answer (sym a) ∙ roomy))
           | false ↦ λ a. (a, refl)
         ]
         | false ↦ λ a. (a, refl)
@@ -117,7 +111,7 @@ module _ (log : Log) (e : Event) where
       elim (is_accepted answer) as (λ b. is_accepted answer ≡ b → full_answer e ≡ cond b (cond (is_full log) (full_answer e) answer) answer → cond b (is_full log) false ≡ true) [
         | true ↦ λ taken. elim (is_full log) as (λ f. full_answer e ≡ cond f (full_answer e) answer → f ≡ true) [
           | true ↦ λ a. refl
-          | false ↦ λ a. absurd (true_false (sym taken ∙ ap is_accepted (sym a) ∙ is_accepted-full e))
+          | false ↦ λ a. absurd (true_false (sym taken ∙ ap is_accepted (sym a) ∙ (full_told e).1))
         ]
         | false ↦ λ taken a. absurd (never a)
       ] refl is
@@ -144,23 +138,25 @@ module _ (log : Log) (e : Event) where
         | false ↦ λ taken free. sym (keeps taken)
       ] refl
 
-pub world_done : ((w : World) (e : Event) → is_accepted (after w e).answer ≡ false → (after w e).world ≡ w) → (log : Log) (e : Event) (new : Log) → new ≡ log_after log e → finds_full log e ≡ false → world_of new ≡ (after (world_of log) e).world
+world_done : ((w : World) (e : Event) → is_accepted (after w e).answer ≡ false → (after w e).world ≡ w) → (log : Log) (e : Event) (new : Log) → new ≡ log_after log e → finds_full log e ≡ false → world_of new ≡ (after (world_of log) e).world
 world_done keeps log e new is free = ap world_of is ∙ world_left log e (keeps (world_of log) e) free
 
--- ---- a request or a drain of a run
+-- ---- an event of a run
 
 module _ (keeps : (w : World) (e : Event) → is_accepted (after w e).answer ≡ false → (after w e).world ≡ w) (log new : Log) (e : Event) where
+  pub done_so : (x : Answer) → x ≡ answer_in log e → is_full_answer x ≡ false → new ≡ log_after log e → IsDone log new e x
+  done_so x told roomy left =
+      let done = done_event log e x told roomy in
+      record { answer = done.0; world = world_done keeps log e new left done.1; journal = left; room = done.1 }
+
   -- one that is refused, but not for the journal or for memory
   refused_done : (fault : EngineFault) → is_full_answer (Requested (Err fault)) ≡ false → Requested (Err fault) ≡ answer_in log e → new ≡ log → IsDone log new e (Requested (Err fault))
   refused_done fault roomy told same =
       let done = done_event log e (Requested (Err fault)) told roomy in
-      let stays : new ≡ log_after log e = same ∙ refused_store (λ l. l) (λ l x. is_full l) with_entry log e (sym (ap is_accepted done.0)) in
-      record { answer = done.0; world = world_done keeps log e new stays done.1; journal = stays; room = done.1 }
+      done_so (Requested (Err fault)) told roomy (same ∙ refused_store (λ l. l) (λ l x. is_full l) with_entry log e (sym (ap is_accepted done.0)))
 
   pub replied_so : (A : Type 0) → full_answer e ≢ (after (world_of log) e).answer → full_answer e ≡ Requested (Err engine.JournalFull) → (is_accepted (answer_in log e) ≡ true → TakesMemory log e) → (r : Result (List (List ℕ)) EngineFault) → Answers r (answer_in log e) → OnOk r (new ≡ log_after log e) → OnErr r (new ≡ log) → Applies {A = A} log new e (reply_of r)
-  replied_so A never full takes (Ok reports) told ok err =
-      let done = done_event log e (Requested (Ok reports)) (sym told) refl in
-      record { answer = done.0; world = world_done keeps log e new ok done.1; journal = ok; room = done.1 }
+  replied_so A never full takes (Ok reports) told ok err = done_so (Requested (Ok reports)) (sym told) refl ok
   replied_so A never full takes (Err engine.JournalFull) told ok err = (full_event log e never (full ∙ sym told), err)
   replied_so A never full takes (Err engine.Memory) told ok err = (takes told, err)
   replied_so A never full takes (Err (engine.Discarded cause)) told ok err = refused_done (engine.Discarded cause) refl (sym told) err

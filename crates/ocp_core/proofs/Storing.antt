@@ -7,7 +7,7 @@ use Rattle.ocp_table.specs.declared.answers.StepOutcome.TheVariants as S
 use Rattle.ocp_table.specs.declared.answers.Slice.{Slice}
 use Rattle.ocp_debug.specs.declared.command.DebugFault.{DebugFault}
 use Rattle.ocp_world.specs.declared.state.State.{State}
-use Rattle.ocp_world.specs.World.{World, Event, Step}
+use Rattle.ocp_world.specs.World.{World, Event, Step, Drain}
 use Rattle.ocp_world.specs.declared.answers.EngineFault.{EngineFault}
 use Rattle.ocp_world.specs.declared.answers.EngineFault.TheVariants as engine
 use Rattle.ocp_world.specs.Answers.{Answers}
@@ -99,6 +99,10 @@ module _ (full : Bool) (w : World) (e : Event) where
   -- a drain of nothing
   pub undue_at : IsUndue answer false → Answers (Err engine.NothingDue) (answer_with full w e)
   undue_at is = sym (refused_at (Requested (Err engine.NothingDue)) (ap is_accepted is) (sym is))
+
+-- a drain of a state in which a completion waits
+pub due_at : {A : Type 0} (w : World) (s : State A) (by time : ℕ) → IsWorld w s → (due : Bool) → ((w : World) (by time : ℕ) → IsWorld w s → IsUndue (after w (Drain by time)).answer due) → due ≡ true → is_accepted (after w (Drain by time)).answer ≡ true
+due_at w s by time stands due told is = subst (IsUndue (after w (Drain by time)).answer) is (told w by time stands)
 
 -- ---- the answer of a slice
 

@@ -8,20 +8,21 @@ ghost use Rattle.ocp_world.specs.World as world;
 ghost use Rattle.ocp_world.specs.declared.answers.EngineFault.TheVariants as engine;
 ghost use Rattle.ocp_world.specs.Mirror.State.{IsWorld, with_packets};
 ghost use Rattle.ocp_core.specs.Log as logs;
-ghost use Rattle.ocp_core.specs.Clauses.{MAX_POOL_WORDS, Answers, Commanded, Debug, Put, Stepped, Written, answer_at, most_events, round_at, round_store, slice_at, slice_store, step_at, event_store, world_of};
+ghost use Rattle.ocp_core.specs.Clauses.{MAX_POOL_WORDS, Answers, Commanded, Debug, Put, Stepped, Written, answer_at, most_events, round_at, slice_at, slice_store, event_store, world_of};
 
 use crate::{
-    Command, DebugFault, EngineFault, Note, PutFault, RequestStore, Round, Slice, StepOutcome,
-    Store,
+    Command, DebugFault, EngineFault, Note, PutFault, RequestStore, Round, StepOutcome, Store,
 };
 use ocp_reports::PacketBuffer;
 use ocp_world::{Extent, State, discard_of};
 use pus_fields::read_tc;
 use std::alloc::Allocator;
 
-// Does instructions of one procedure, to the end of a slice or a round.
+/// Does instructions of one procedure, at least one, until the budget is used, the procedure no
+/// longer runs, or an instruction is refused, ends it or faults; a round also ends with the first
+/// instruction that ends a step. They are one entry, or none if none was done.
 #[inline(always)]
-fn instructions<S: Store, A: Allocator>(
+pub fn instructions<S: Store, A: Allocator>(
     store: &mut S,
     state: &mut State<A>,
     by: u16,
@@ -33,8 +34,8 @@ fn instructions<S: Store, A: Allocator>(
     requires stands { IsWorld (world_of (S.log store.old)) state.old }
     ensures slice { slice_of result ≡ slice_at S.log S.is_full store.old by id
         (most_events extent (world_of (S.log store.old)) by id budget) }
-    ensures step { extent ≡ extents.Round →
-        result.step ≡ step_at (world_of (S.log store.old)) by id result.count }
+    ensures round { extent ≡ extents.Round →
+        result ≡ round_at S.log S.is_full store.old by id budget }
     ensures store { store.new ≡ slice_store S.log S.is_full S.with_entry store.old by id
         (most_events extent (world_of (S.log store.old)) by id budget) }
     ensures world { IsWorld (world_of (S.log store.new)) state.new }
@@ -75,49 +76,7 @@ pub fn step<S: Store, A: Allocator>(
         event_store S.log S.is_full S.with_entry store.old (world.Step by id) }
     ensures world { IsWorld (world_of (S.log store.new)) state.new }
 {
-    slice(store, state, by, id, 1).last
-}
-
-/// Does instructions of one procedure, at least one, until the budget is used, the procedure no
-/// longer runs, or an instruction is refused, ends it or faults. They are one entry, or none if
-/// none was done.
-pub fn slice<S: Store, A: Allocator>(
-    store: &mut S,
-    state: &mut State<A>,
-    by: u16,
-    id: u16,
-    budget: u32,
-) -> Slice
-    requires some { 1 ≤ budget }
-    requires stands { IsWorld (world_of (S.log store.old)) state.old }
-    ensures within { result.count ≤ budget }
-    ensures slice { result ≡ slice_at S.log S.is_full store.old by id budget }
-    ensures store { store.new ≡
-        slice_store S.log S.is_full S.with_entry store.old by id budget }
-    ensures world { IsWorld (world_of (S.log store.new)) state.new }
-{
-    let Round { count, last, .. } = instructions(store, state, by, id, budget, Extent::Slice);
-    Slice { count, last }
-}
-
-/// Does instructions of one procedure as `slice` does, but at most up to the first that ends a
-/// step. It answers the number of that step, if one ended.
-pub fn round<S: Store, A: Allocator>(
-    store: &mut S,
-    state: &mut State<A>,
-    by: u16,
-    id: u16,
-    budget: u32,
-) -> Round
-    requires some { 1 ≤ budget }
-    requires stands { IsWorld (world_of (S.log store.old)) state.old }
-    ensures within { result.count ≤ budget }
-    ensures round { result ≡ round_at S.log S.is_full store.old by id budget }
-    ensures store { store.new ≡
-        round_store S.log S.is_full S.with_entry store.old by id budget }
-    ensures world { IsWorld (world_of (S.log store.new)) state.new }
-{
-    instructions(store, state, by, id, budget, Extent::Round)
+    instructions(store, state, by, id, 1, Extent::Slice).last
 }
 
 /// Does a debugger's command of a seat. Refused as the command is, and after that if there is no

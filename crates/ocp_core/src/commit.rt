@@ -4,7 +4,7 @@ ghost use Rattle.std.specs.Prelude.{◌≡◌, IfOk, IsTrue, Some, false};
 ghost use Rattle.ocp_core.specs.Clauses.{Commits, Grows, commit_entries, get, ticket_at, work_after, world_of};
 
 use crate::ticket::Parts;
-use crate::{CommitOutcome, Engine, Entry, StepOutcome, Ticket, Work};
+use crate::{CommitOutcome, Engine, Note, StepOutcome, Store, Ticket, Work};
 use ocp_table::Snapshot;
 use ocp_world::instructions_done_alone_are_events;
 use std::alloc::{AllocError, Allocator};
@@ -64,27 +64,23 @@ impl<A: Allocator> Engine<A> {
         ensures work { work.new ≡ work_after work.old result }
     {
         instructions_done_alone_are_events();
+        let id = work.id;
         let count = work.count;
         if count == 0 {
             return CommitOutcome::Empty;
         }
-        let Some(procedure) = self.state.table.record(work.id) else {
+        let Some(procedure) = self.state.table.record(id) else {
             return CommitOutcome::Stale;
         };
         if !work.parts.base.is_at(procedure) {
             return CommitOutcome::Stale;
         }
-        if self.journal.is_full() {
+        if self.journal.is_full(&Note::Steps { by, id, count }) {
             return CommitOutcome::JournalFull;
         }
-        self.state.settle(work.id, count, &mut work.parts.machine);
+        self.state.settle(id, count, &mut work.parts.machine);
         work.count = 0;
-        self.journal.push(Entry::Steps {
-            by,
-            id: work.id,
-            count,
-            mark: StepOutcome::Ran,
-        });
+        self.journal.push_steps(by, id, count, StepOutcome::Ran);
         CommitOutcome::Committed(count)
     }
 }

@@ -13,7 +13,7 @@ use crate::{
 use ocp_profile::Profile;
 use ocp_reports::PacketBuffer;
 use ocp_table::View;
-use ocp_world::{Heap, State};
+use ocp_world::{Extent, Heap, State};
 use space_packet::Apid;
 use std::alloc::{AllocError, Allocator, Global};
 use std::marker::Model;
@@ -131,12 +131,12 @@ impl<A: Allocator + Copy> Engine<A> {
         ensures journal { OnOk result (self.new ≡ log_after self.old (world.Drain by time)) }
         ensures err { OnErr result (self.new ≡ self.old) }
     {
-        let (reports, _receipt) = self.receipted_drain(alloc, by, time)?;
+        let (reports, _receipt) = self.drain_with_receipt(alloc, by, time)?;
         Ok(reports)
     }
 
     // `drain`, with the receipt of its entry.
-    pub(crate) fn receipted_drain(
+    pub(crate) fn drain_with_receipt(
         &mut self,
         alloc: A,
         by: u16,
@@ -191,7 +191,15 @@ impl<A: Allocator> Engine<A> {
         ensures journal { self.new ≡ slice_log self.old by id budget }
         ensures gain { Grows self.old self.new (slice_entries by id result) }
     {
-        calls::slice(&mut self.journal, &mut self.state, by, id, budget)
+        let Round { count, last, .. } = calls::instructions(
+            &mut self.journal,
+            &mut self.state,
+            by,
+            id,
+            budget,
+            Extent::Slice,
+        );
+        Slice { count, last }
     }
 
     /// Does instructions of one procedure as `slice` does, but at most up to the first that ends a
@@ -204,7 +212,14 @@ impl<A: Allocator> Engine<A> {
         ensures journal { self.new ≡ round_log self.old by id budget }
         ensures gain { Grows self.old self.new (slice_entries by id (slice_of result)) }
     {
-        calls::round(&mut self.journal, &mut self.state, by, id, budget)
+        calls::instructions(
+            &mut self.journal,
+            &mut self.state,
+            by,
+            id,
+            budget,
+            Extent::Round,
+        )
     }
 
     /// Writes the pool word at an index from outside: nothing else changes, and no memory is taken.

@@ -152,7 +152,7 @@ impl<A: Allocator + Copy> Input<A> for Drain<A> {
 
     fn enter(self, engine: &mut Engine<A>, by: u16) -> (Self::Answer, Option<Entry<A>>) {
         let Drain { alloc, time } = self;
-        match engine.receipted_drain(alloc, by, time) {
+        match engine.drain_with_receipt(alloc, by, time) {
             Ok((reports, receipt)) => (Ok(reports), Some(receipt)),
             Err(fault) => (Err(fault), None),
         }

@@ -103,12 +103,6 @@ impl<A: Allocator> Journal<A> {
         self.entries.len()
     }
 
-    pub fn is_full(&self) -> bool
-        ensures { result ≡ is_full self.now }
-    {
-        self.len() == self.capacity as usize
-    }
-
     /// The entries with their marks, oldest first. All their events were accepted.
     pub fn entries(&self) -> &[Entry<A>]
         ensures value { map entry_of result.now ≡ self.now.entries }
@@ -160,15 +154,15 @@ impl<A: Allocator> Store for Journal<A> {
     }
 
     fn events(&self) -> u64 {
-        Journal::events(self)
+        self.events
     }
 
     fn is_full(&self, _note: &Note<'_>) -> bool {
-        Journal::is_full(self)
+        let held = self.entries.len();
+        held == self.capacity as usize
     }
 
-    fn push_steps(&mut self, by: u16, id: u16, count: u32, last: StepOutcome) {
-        let mark = last;
+    fn push_steps(&mut self, by: u16, id: u16, count: u32, mark: StepOutcome) {
         self.push(Entry::Steps {
             by,
             id,

@@ -13,7 +13,7 @@ use ocp_debug::Trace;
 use ocp_profile::Profile;
 use ocp_reports::PacketBuffer;
 use ocp_table::View;
-use ocp_world::{Nothing, State};
+use ocp_world::{Extent, Nothing, State};
 use space_packet::Apid;
 use std::alloc::{AllocError, Allocator, Global};
 use std::marker::Model;
@@ -118,7 +118,15 @@ impl<A: Allocator> Flight<A> {
         ensures slice { result ≡ slice_in self.old by id budget }
         ensures log { self.new ≡ slice_after self.old by id budget }
     {
-        calls::slice(&mut self.store, &mut self.state, by, id, budget)
+        let Round { count, last, .. } = calls::instructions(
+            &mut self.store,
+            &mut self.state,
+            by,
+            id,
+            budget,
+            Extent::Slice,
+        );
+        Slice { count, last }
     }
 
     /// Does instructions of one procedure as `slice` does, but at most up to the first that ends a
@@ -129,7 +137,14 @@ impl<A: Allocator> Flight<A> {
         ensures round { result ≡ round_in self.old by id budget }
         ensures log { self.new ≡ round_after self.old by id budget }
     {
-        calls::round(&mut self.store, &mut self.state, by, id, budget)
+        calls::instructions(
+            &mut self.store,
+            &mut self.state,
+            by,
+            id,
+            budget,
+            Extent::Round,
+        )
     }
 
     /// Writes the pool word at an index from outside; nothing else changes. Refused, in this order,

@@ -5,7 +5,7 @@ use Rattle.ocp_world.specs.After.{after}
 use Rattle.ocp_world.specs.Mirror.Answering.{IsUndue}
 use Rattle.ocp_core.specs.Log.{world_of}
 use Rattle.ocp_core.proofs.Counting.{counted}
-use Rattle.ocp_core.proofs.Storing.{done_store, full_at, answers_at, undue_at, IsWorld-pushed}
+use Rattle.ocp_core.proofs.Storing.{done_store, full_at, answers_at, undue_at, due_at, IsWorld-pushed}
 use Rattle.ocp_core.proofs.calls.drain.Goals as goal
 
 pub returns-then-not-is_due-clause-answer : goal.returns-then-not-is_due-clause-answer
@@ -16,60 +16,37 @@ returns-then-not-is_due-clause-answer g c =
 
 pub returns-then-is_full-clause-answer : goal.returns-then-is_full-clause-answer
 returns-then-is_full-clause-answer g c =
-    let w : World = world_of (g.S.Store.log c.args.store.now) in
-    let e : Event = Drain c.args.by c.args.time in
-    let taken = subst (IsUndue (after w e).answer) c.if-not-is_due.false (c.is_due.ensures w c.args.by c.args.time c.requires.stands) in
-    sym (full_at _ w e taken (sym c.is_full.ensures ∙ c.if-is_full.true))
+    let taken = due_at _ _ c.args.by c.args.time c.requires.stands _ c.is_due.ensures c.if-not-is_due.false in
+    sym (full_at _ _ (Drain c.args.by c.args.time) taken (sym c.is_full.ensures ∙ c.if-is_full.true))
 
 pub returns-in_err-kept-clause-answer : goal.returns-in_err-kept-clause-answer
 returns-in_err-kept-clause-answer g c =
-    let w : World = world_of (g.S.Store.log c.args.store.now) in
-    let e : Event = Drain c.args.by c.args.time in
-    let taken = subst (IsUndue (after w e).answer) c.if-not-is_due.false (c.is_due.ensures w c.args.by c.args.time c.requires.stands) in
-    let room = sym c.is_full.ensures ∙ c.if-is_full.false in
-    let does = c.in_err-kept.ensures.does w c.args.by c.requires.stands in
-    let told = answers_at _ w e (Err c.in_err-kept.field-0.0) taken room does.0 in
+    let taken = due_at _ _ c.args.by c.args.time c.requires.stands _ c.is_due.ensures c.if-not-is_due.false in
+    let does = c.in_err-kept.ensures.does _ c.args.by c.requires.stands in
+    let told = answers_at _ _ (Drain c.args.by c.args.time) (Err c.in_err-kept.field-0.0) taken (sym c.is_full.ensures ∙ c.if-is_full.false) does.0 in
     search (rules, told)
 
 pub returns-in_err-kept-clause-world : goal.returns-in_err-kept-clause-world
-returns-in_err-kept-clause-world g c =
-    let w : World = world_of (g.S.Store.log c.args.store.now) in
-    (c.in_err-kept.ensures.does w c.args.by c.requires.stands).1
+returns-in_err-kept-clause-world g c = (c.in_err-kept.ensures.does _ c.args.by c.requires.stands).1
 
 pub push_drain-requires-clause-accepted : goal.push_drain-requires-clause-accepted
-push_drain-requires-clause-accepted g c =
-    let w : World = world_of (g.S.Store.log c.args.store.now) in
-    let e : Event = Drain c.args.by c.args.time in
-    let taken = subst (IsUndue (after w e).answer) c.if-not-is_due.false (c.is_due.ensures w c.args.by c.args.time c.requires.stands) in
-    counted w e taken
+push_drain-requires-clause-accepted g c = counted _ (Drain c.args.by c.args.time) (due_at _ _ c.args.by c.args.time c.requires.stands _ c.is_due.ensures c.if-not-is_due.false)
 
 pub push_drain-requires-clause-mark : goal.push_drain-requires-clause-mark
-push_drain-requires-clause-mark g c =
-    let w : World = world_of (g.S.Store.log c.args.store.now) in
-    (c.report_due.new.packets, c.in_ok-kept.ensures.kept, sym (c.in_ok-kept.ensures.does w c.args.by c.requires.stands).0)
+push_drain-requires-clause-mark g c = (c.report_due.new.packets, c.in_ok-kept.ensures.kept, sym (c.in_ok-kept.ensures.does _ c.args.by c.requires.stands).0)
 
 pub returns-clause-answer : goal.returns-clause-answer
 returns-clause-answer g c =
-    let w : World = world_of (g.S.Store.log c.args.store.now) in
-    let e : Event = Drain c.args.by c.args.time in
-    let taken = subst (IsUndue (after w e).answer) c.if-not-is_due.false (c.is_due.ensures w c.args.by c.args.time c.requires.stands) in
-    let room = sym c.is_full.ensures ∙ c.if-is_full.false in
-    let does = c.in_ok-kept.ensures.does w c.args.by c.requires.stands in
-    answers_at _ w e (Ok c.report_due.new.packets) taken room does.0
+    let taken = due_at _ _ c.args.by c.args.time c.requires.stands _ c.is_due.ensures c.if-not-is_due.false in
+    answers_at _ _ (Drain c.args.by c.args.time) (Ok c.report_due.new.packets) taken (sym c.is_full.ensures ∙ c.if-is_full.false) (c.in_ok-kept.ensures.does _ c.args.by c.requires.stands).0
 
 pub returns-clause-store : goal.returns-clause-store
 returns-clause-store g c =
-    let w : World = world_of (g.S.Store.log c.args.store.now) in
-    let e : Event = Drain c.args.by c.args.time in
-    let taken = subst (IsUndue (after w e).answer) c.if-not-is_due.false (c.is_due.ensures w c.args.by c.args.time c.requires.stands) in
-    let room = sym c.is_full.ensures ∙ c.if-is_full.false in
-    done_store g.S.Store.log g.S.Store.is_full g.S.Store.with_entry c.args.store.now e _ taken room c.push_drain.ensures.store
+    let taken = due_at _ _ c.args.by c.args.time c.requires.stands _ c.is_due.ensures c.if-not-is_due.false in
+    done_store g.S.Store.log g.S.Store.is_full g.S.Store.with_entry c.args.store.now (Drain c.args.by c.args.time) _ taken (sym c.is_full.ensures ∙ c.if-is_full.false) c.push_drain.ensures.store
 
 pub returns-clause-world : goal.returns-clause-world
-returns-clause-world g c =
-    let w : World = world_of (g.S.Store.log c.args.store.now) in
-    let does = c.in_ok-kept.ensures.does w c.args.by c.requires.stands in
-    IsWorld-pushed g.S.Store.log g.S.Store.with_entry g.met.S.Store.logs_entry c.args.store.now _ _ _ c.push_drain.ensures.store does.1
+returns-clause-world g c = IsWorld-pushed g.S.Store.log g.S.Store.with_entry g.met.S.Store.logs_entry c.args.store.now _ _ _ c.push_drain.ensures.store (c.in_ok-kept.ensures.does _ c.args.by c.requires.stands).1
 
 pub report_due-requires : goal.report_due-requires
-report_due-requires g c w by stands = subst (IsUndue (after w (Drain by c.args.time)).answer) c.if-not-is_due.false (c.is_due.ensures w by c.args.time stands)
+report_due-requires g c w by stands = due_at w _ by c.args.time stands _ c.is_due.ensures c.if-not-is_due.false

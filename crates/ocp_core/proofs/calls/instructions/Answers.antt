@@ -1,4 +1,4 @@
-use Rattle.std.proofs.Common.{ℕ, sym, ap, ◌∙◌, arith}
+use Rattle.std.proofs.Common.{ℕ, refl, sym, ap, ◌∙◌, arith}
 use Rattle.ocp_table.specs.declared.answers.StepOutcome.TheVariants.{Ran}
 use Rattle.ocp_table.specs.Slices.{slice_of}
 use Rattle.ocp_world.specs.World.{World}
@@ -9,7 +9,7 @@ use Rattle.ocp_core.specs.Marks.{last_outcome}
 use Rattle.ocp_core.proofs.Marking.{slice_mark}
 use Rattle.ocp_core.proofs.Counting.{counted_steps}
 use Rattle.ocp_core.proofs.Growing.{slice_count_some, slice_count_within}
-use Rattle.ocp_core.proofs.Rounds.{most_some, most_few}
+use Rattle.ocp_core.proofs.Rounds.{most_some, most_few, rounded}
 use Rattle.ocp_core.proofs.Storing.{refused_slice_store, full_slice_store, done_slice_store, refused_slice_at, full_slice_at, done_slice_at, IsWorld-pushed}
 use Rattle.ocp_core.proofs.calls.instructions.Goals as goal
 
@@ -76,3 +76,12 @@ returns-clause-within g c =
     let w : World = world_of (g.S.Store.log c.args.store.now) in
     let most : ℕ = most_events c.args.extent w c.args.by c.args.id c.args.budget in
     omega (arith, c.instructions-round.ensures.count w c.args.by c.requires.stands, slice_count_within w c.args.by c.args.id most, most_few c.args.extent w c.args.by c.args.id c.args.budget)
+
+pub returns-in-Some-clause-round : goal.returns-in-Some-clause-round
+returns-in-Some-clause-round g c is = rounded _ c.args.extent _ c.args.by c.args.id c.args.budget _ is (returns-in-Some-clause-slice g c) refl
+
+pub returns-then-is_full-clause-round : goal.returns-then-is_full-clause-round
+returns-then-is_full-clause-round g c is = rounded _ c.args.extent _ c.args.by c.args.id c.args.budget _ is (returns-then-is_full-clause-slice g c) refl
+
+pub returns-clause-round : goal.returns-clause-round
+returns-clause-round g c is = rounded _ c.args.extent _ c.args.by c.args.id c.args.budget c.instructions-round.result is (returns-clause-slice g c) (c.instructions-round.ensures.step _ c.args.by c.requires.stands is)

@@ -7,8 +7,8 @@ use Rattle.ocp_core.proofs.calls.step.Goals as goal
 
 pub returns-clause-answer : goal.returns-clause-answer
 returns-clause-answer g c =
-    ap (λ (s : Slice). Stepped s.last) c.slice.ensures.slice
+    ap (λ (s : Slice). Stepped s.last) c.instructions.ensures.slice
     ∙ step_answered (g.S.Store.is_full c.args.store.now (Steps c.args.by c.args.id 1)) (world_of (g.S.Store.log c.args.store.now)) c.args.by c.args.id
 
 pub returns-clause-store : goal.returns-clause-store
-returns-clause-store g c = c.slice.ensures.store ∙ step_left g.S.Store.log g.S.Store.is_full g.S.Store.with_entry c.args.store.now c.args.by c.args.id
+returns-clause-store g c = c.instructions.ensures.store ∙ step_left g.S.Store.log g.S.Store.is_full g.S.Store.with_entry c.args.store.now c.args.by c.args.id

@@ -5,7 +5,7 @@ use Rattle.ocp_world.specs.Answers.{Answers}
 use Rattle.ocp_core.specs.Log.{Log, entry_for, answer_in, log_after}
 use Rattle.ocp_core.specs.Receipts.{reports_in}
 use Rattle.ocp_core.proofs.Requesting.{answers_in, entry_in}
-use Rattle.ocp_core.proofs.engine.Engine.receipted_drain.Goals as goal
+use Rattle.ocp_core.proofs.engine.Engine.drain_with_receipt.Goals as goal
 
 pub returns-clause-answer : goal.returns-clause-answer
 returns-clause-answer g c =

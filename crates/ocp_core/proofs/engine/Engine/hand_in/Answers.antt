@@ -18,7 +18,7 @@ invariant_of-self g c =
     let work : WorkContents = record { id = c.work.inside.id; base = c.work.inside.parts.value.base; end = c.work.inside.parts.value.machine; count = c.work.inside.count } in
     let fresh = subst (λ p. IsFresh c.self.inside.journal (record work { base = p.base })) c.deref.ensures (fresh_at _ c.self.inside.journal _ _ c.self.invariant (ap snapshot_at c.in-Some.ensures.some ∙ c.is_at.ensures.same.0 c.if-not-is_at.false)) in
     let settled = subst (λ p. IsWorld (world_after_work work.id p.machine work.count (world_of c.self.inside.journal)) c.settle.new.self) c.deref_mut.ensures.value (c.settle.ensures.world _ c.self.invariant) in
-    IsWorld-committed c.instructions_done_alone_are_events.ensures.world c.self.inside.journal c.push.new.self c.args.by work c.settle.new.self c.if-count-eq0.false fresh c.work.invariant c.push.ensures settled
+    IsWorld-committed c.instructions_done_alone_are_events.ensures.world c.self.inside.journal c.push_steps.new.self c.args.by work c.settle.new.self c.if-count-eq0.false fresh c.work.invariant c.push_steps.ensures settled
 
 pub invariant_of-work : goal.invariant_of-work
 invariant_of-work g c =
@@ -33,10 +33,10 @@ returns-clause-commits g c =
     let work : WorkContents = record { id = c.work.inside.id; base = c.work.inside.parts.value.base; end = c.work.inside.parts.value.machine; count = c.work.inside.count } in
     let fresh = subst (λ p. IsFresh c.self.inside.journal (record work { base = p.base })) c.deref.ensures (fresh_at _ c.self.inside.journal _ _ c.self.invariant (ap snapshot_at c.in-Some.ensures.some ∙ c.is_at.ensures.same.0 c.if-not-is_at.false)) in
     let free : is_full c.self.inside.journal ≡ false = sym c.is_full.ensures ∙ c.if-is_full.false in
-    let world = world_committed c.instructions_done_alone_are_events.ensures.world c.self.inside.journal c.push.new.self c.args.by work c.if-count-eq0.false fresh c.work.invariant c.push.ensures in
-    subst (λ (log : Log). (c.args.work.now.count ≡ 0 → ⊥) × IsFresh log c.args.work.now × is_full log ≡ false × c.work.inside.count ≡ c.args.work.now.count × IsCommitted log c.push.new.self c.args.by c.args.work.now) c.self.view_is
-    (subst (λ (w : WorkContents). (w.count ≡ 0 → ⊥) × IsFresh c.self.inside.journal w × is_full c.self.inside.journal ≡ false × c.work.inside.count ≡ w.count × IsCommitted c.self.inside.journal c.push.new.self c.args.by w) c.work.view_is
-    (c.if-count-eq0.false, fresh, free, refl, record { journal = c.push.ensures; world = world }))
+    let world = world_committed c.instructions_done_alone_are_events.ensures.world c.self.inside.journal c.push_steps.new.self c.args.by work c.if-count-eq0.false fresh c.work.invariant c.push_steps.ensures in
+    subst (λ (log : Log). (c.args.work.now.count ≡ 0 → ⊥) × IsFresh log c.args.work.now × is_full log ≡ false × c.work.inside.count ≡ c.args.work.now.count × IsCommitted log c.push_steps.new.self c.args.by c.args.work.now) c.self.view_is
+    (subst (λ (w : WorkContents). (w.count ≡ 0 → ⊥) × IsFresh c.self.inside.journal w × is_full c.self.inside.journal ≡ false × c.work.inside.count ≡ w.count × IsCommitted c.self.inside.journal c.push_steps.new.self c.args.by w) c.work.view_is
+    (c.if-count-eq0.false, fresh, free, refl, record { journal = c.push_steps.ensures; world = world }))
 
 pub returns-clause-work : goal.returns-clause-work
 returns-clause-work g c =
@@ -48,14 +48,14 @@ returns-clause-work g c =
     ∙ ap (λ m. record { id = work.id; base = work.base; end = m; count = 0 }) given in
     subst (λ w. (record { id = work.id; base = c.deref_mut.result.now.base; end = c.settle.new.machine; count = 0 }) ≡ work_after w (Committed work.count)) c.work.view_is same
 
-pub push-requires-clause-accepted : goal.push-requires-clause-accepted
-push-requires-clause-accepted g c =
+pub push_steps-requires-clause-accepted : goal.push_steps-requires-clause-accepted
+push_steps-requires-clause-accepted g c =
     let work : WorkContents = record { id = c.work.inside.id; base = c.work.inside.parts.value.base; end = c.work.inside.parts.value.machine; count = c.work.inside.count } in
     let fresh = subst (λ p. IsFresh c.self.inside.journal (record work { base = p.base })) c.deref.ensures (fresh_at _ c.self.inside.journal _ _ c.self.invariant (ap snapshot_at c.in-Some.ensures.some ∙ c.is_at.ensures.same.0 c.if-not-is_at.false)) in
     counted_commit c.instructions_done_alone_are_events.ensures.world c.self.inside.journal c.args.by work c.if-count-eq0.false fresh c.work.invariant
 
-pub push-requires-clause-mark : goal.push-requires-clause-mark
-push-requires-clause-mark g c =
+pub push_steps-requires-clause-mark : goal.push_steps-requires-clause-mark
+push_steps-requires-clause-mark g c =
     let work : WorkContents = record { id = c.work.inside.id; base = c.work.inside.parts.value.base; end = c.work.inside.parts.value.machine; count = c.work.inside.count } in
     let fresh = subst (λ p. IsFresh c.self.inside.journal (record work { base = p.base })) c.deref.ensures (fresh_at _ c.self.inside.journal _ _ c.self.invariant (ap snapshot_at c.in-Some.ensures.some ∙ c.is_at.ensures.same.0 c.if-not-is_at.false)) in
     ap Stepped (sym (commit_mark c.instructions_done_alone_are_events.ensures.answers c.self.inside.journal c.args.by work c.if-count-eq0.false fresh c.work.invariant))
@@ -73,4 +73,4 @@ pub returns-then-is_full-clause-gain : goal.returns-then-is_full-clause-gain
 returns-then-is_full-clause-gain g c = grows_none _ _ _ refl refl
 
 pub returns-clause-gain : goal.returns-clause-gain
-returns-clause-gain g c = grows_commit c.instructions_done_alone_are_events.ensures.answers c.args.self.now c.push.new.self c.args.by c.args.work.now (Committed c.work.inside.count) (subst IsRun c.work.view_is c.work.invariant) (returns-clause-commits g c)
+returns-clause-gain g c = grows_commit c.instructions_done_alone_are_events.ensures.answers c.args.self.now c.push_steps.new.self c.args.by c.args.work.now (Committed c.work.inside.count) (subst IsRun c.work.view_is c.work.invariant) (returns-clause-commits g c)

@@ -1,4 +1,4 @@
-use Rattle.std.proofs.Common.{ap, ◌∙◌}
+use Rattle.std.proofs.Common.{refl, ap, ◌∙◌}
 use Rattle.ocp_table.specs.Slices.{slice_of}
 use Rattle.ocp_world.specs.Round.{round_budget}
 use Rattle.ocp_core.specs.Log.{world_of}
@@ -8,10 +8,10 @@ use Rattle.ocp_core.proofs.Rounds.{round_some}
 use Rattle.ocp_core.proofs.engine.Engine.round.Goals as goal
 
 pub returns-clause-round : goal.returns-clause-round
-returns-clause-round g c = c.round.ensures.round ∙ ap (λ log. round_in log c.args.by c.args.id c.args.budget) c.self.view_is
+returns-clause-round g c = c.instructions.ensures.round refl ∙ ap (λ log. round_in log c.args.by c.args.id c.args.budget) c.self.view_is
 
 pub returns-clause-journal : goal.returns-clause-journal
-returns-clause-journal g c = c.round.ensures.store ∙ ap (λ log. round_log log c.args.by c.args.id c.args.budget) c.self.view_is
+returns-clause-journal g c = c.instructions.ensures.store ∙ ap (λ log. round_log log c.args.by c.args.id c.args.budget) c.self.view_is
 
 pub returns-clause-gain : goal.returns-clause-gain
 returns-clause-gain g c =

@@ -4,7 +4,7 @@ use Rattle.ocp_world.specs.After.{Stepped}
 use Rattle.ocp_core.specs.Log.{world_of}
 use Rattle.ocp_core.specs.Running.{IsDone, Applies, finds_full}
 use Rattle.ocp_core.specs.Journal.{event_of}
-use Rattle.ocp_core.proofs.Runs.{done_event, full_event, full_leaves, not_full, world_done, replied_so}
+use Rattle.ocp_core.proofs.Runs.{done_so, full_event, full_leaves, not_full, replied_so}
 use Rattle.ocp_core.proofs.engine.Engine.run_event.Goals as goal
 
 pub returns-in-Request : goal.returns-in-Request
@@ -26,14 +26,8 @@ returns-in-Drain g c =
 pub returns-in_default : goal.returns-in_default
 returns-in_default g c =
     let e = Step c.in-Step.by c.in-Step.id in
-    let done = done_event c.args.self.now e (Stepped c.step.result) c.step.ensures.answer (not_full c.step.result c.in_default.not-JournalFull) in
     subst (λ x. IsDone c.args.self.now c.step.new.self (event_of x) (Stepped c.step.result)) (sym c.in-Step.is)
-    (record {
-      answer = done.0;
-      world = world_done c.refused_events_change_nothing.ensures c.args.self.now e c.step.new.self c.step.ensures.journal done.1;
-      journal = c.step.ensures.journal;
-      room = done.1;
-    })
+    (done_so c.refused_events_change_nothing.ensures c.args.self.now c.step.new.self e (Stepped c.step.result) c.step.ensures.answer (not_full c.step.result c.in_default.not-JournalFull) c.step.ensures.journal)
 
 pub returns-in-JournalFull : goal.returns-in-JournalFull
 returns-in-JournalFull g c =
