@@ -1,9 +1,10 @@
 //! The journal of an engine for flight.
 
-ghost use Rattle.std.specs.Prelude.{◌≡◌, ◌≤◌, ◌<◌, ◌+◌, ◌^◌, ◌++◌, ◌∷◌, [], true, IfOk, length};
-ghost use Rattle.ocp_tape.specs.Pieces as tapes;
+ghost use Rattle.std.specs.Prelude.{◌≡◌, ◌≤◌, ◌+◌, ◌^◌, ◌++◌, IfOk, length};
+ghost use Rattle.ocp_core.specs.Log as logs;
 ghost use Rattle.ocp_core.specs.Clauses.{MAX_APID, MAX_CAPACITY, expand, world_of};
-ghost use Rattle.ocp_flight.specs.Flown.{entry_answer, entry_written, held_count, opened_flown, release_after, release_answer, room};
+ghost use Rattle.ocp_flight.specs.Flown.{entry_answer, entry_written, held_count, opened_flown, release_after, release_answer, room, with_entry};
+ghost use Rattle.ocp_flight.specs.Mirror.Kept.{MayEnter};
 
 use crate::octets::{command_fields, length_of, steps_fields, time_fields, word_fields};
 use crate::{EntryFault, ReleaseFault};
@@ -56,18 +57,6 @@ impl<A: Allocator> Model for BoundedStore<A> {
     ghost view = { flown_of };
 
     ghost invariant = { IsKept };
-}
-
-// Adds an entry, for which there is room, given in two parts.
-fn enter<A: Allocator>(tape: &mut Tape<A>, history: &mut History, head: &[u8], packet: &[u8])
-    requires { tapes.has_room tape.old (length head.now + length packet.now) ≡ true }
-    ensures tape { tape.new ≡
-        record tape.old { pieces = tape.old.pieces ++ (head.now ++ packet.now) ∷ [] } }
-    ensures history { history.new.pieces ≡
-        history.old.pieces ++ (head.now ++ packet.now) ∷ [] }
-{
-    tape.push(head, packet);
-    history.note(head, packet);
 }
 
 impl<A: Allocator> BoundedStore<A> {
@@ -152,6 +141,17 @@ impl<A: Allocator> BoundedStore<A> {
         Ok(length)
     }
 
+    // Adds an entry, for which there is room: its octets, in two parts, and how many events it is.
+    fn enter(&mut self, head: &[u8], packet: &[u8], events: u32)
+        requires { (e : logs.Entry) × MayEnter self.old (head.now ++ packet.now) events e }
+        ensures { (e : logs.Entry) →
+            MayEnter self.old (head.now ++ packet.now) events e → self.new ≡ with_entry self.old e }
+    {
+        self.tape.push(head, packet);
+        self.history.note(head, packet);
+        self.events += u64::from(events);
+    }
+
     /// Drops the oldest `count` entries. Refused, in this order, if fewer are held, and from 2^63
     /// events on; then nothing is changed.
     pub fn release(&mut self, count: u64) -> Result<(), ReleaseFault>
@@ -197,33 +197,15 @@ impl<A: Allocator> Store for BoundedStore<A> {
     }
 
     fn push_steps(&mut self, by: u16, id: u16, count: u32, _last: StepOutcome) {
-        enter(
-            &mut self.tape,
-            &mut self.history,
-            &steps_fields(by, id, count),
-            &[],
-        );
-        self.events += u64::from(count);
+        self.enter(&steps_fields(by, id, count), &[], count);
     }
 
     fn push_command(&mut self, by: u16, id: u16, command: Command) {
-        enter(
-            &mut self.tape,
-            &mut self.history,
-            &command_fields(by, id, command),
-            &[],
-        );
-        self.events += 1;
+        self.enter(&command_fields(by, id, command), &[], 1);
     }
 
     fn push_word(&mut self, by: u16, index: u16, value: u64) {
-        enter(
-            &mut self.tape,
-            &mut self.history,
-            &word_fields(by, index, value),
-            &[],
-        );
-        self.events += 1;
+        self.enter(&word_fields(by, index, value), &[], 1);
     }
 }
 
@@ -243,22 +225,10 @@ impl<A: Allocator> RequestStore for BoundedStore<A> {
     }
 
     fn push_request(&mut self, by: u16, time: u32, octets: &[u8], _copy: (), _kept: ()) {
-        enter(
-            &mut self.tape,
-            &mut self.history,
-            &time_fields(1, by, time),
-            octets,
-        );
-        self.events += 1;
+        self.enter(&time_fields(1, by, time), octets, 1);
     }
 
     fn push_drain(&mut self, by: u16, time: u32, _kept: ()) {
-        enter(
-            &mut self.tape,
-            &mut self.history,
-            &time_fields(6, by, time),
-            &[],
-        );
-        self.events += 1;
+        self.enter(&time_fields(6, by, time), &[], 1);
     }
 }

@@ -1,9 +1,10 @@
 -- What a store keeps.
-use Rattle.std.specs.Prelude.{◌≡◌, ◌≤◌, ◌+◌, ◌*◌, ◌^◌, ℕ, List, map, drop, length, Option, Some, None}
+use Rattle.std.specs.Prelude.{◌≡◌, ◌≤◌, ◌<◌, ◌+◌, ◌*◌, ◌^◌, ℕ, List, map, drop, length, false, Option, Some, None}
 use Rattle.ocp_profile.specs.declared.limits.TheConstants.{MAX_APID, MAX_CAPACITY}
-use Rattle.ocp_core.specs.Log.{Entry, Drained, expand, world_of}
-use Rattle.ocp_flight.specs.Entries.{entry_octets, entry_in}
-use Rattle.ocp_flight.specs.Flown.{Flown}
+use Rattle.ocp_core.specs.Log.{Entry, Drained, events_of, expand, world_of}
+use Rattle.ocp_core.specs.Mirror.Counted.{AreCounted}
+use Rattle.ocp_flight.specs.Entries.{entry_octets, entry_in, IsEntryInRange}
+use Rattle.ocp_flight.specs.Flown.{Flown, is_full}
 use Rattle.ocp_flight.specs.declared.store.BoundedStore.TheInside.{Inside}
 
 abbrev pub entry_or_none : Option Entry → Entry
@@ -42,3 +43,12 @@ module _ {A : Type 0} where
     pub numbered : s.events ≡ (world_of (flown_of s).log).events
     pub bounded : s.events ≤ 2 ^ 63 + 2 ^ 32 * length s.tape.pieces
     pub long : length s.history.pieces ≤ s.events
+
+-- octets are those of an entry, for which there is room, and whose events are accepted
+pub record MayEnter (f : Flown) (octets : List ℕ) (events : ℕ) (e : Entry) : Type 0 where
+  pub are : octets ≡ entry_octets e
+  pub range : IsEntryInRange e
+  pub room : is_full f e ≡ false
+  pub count : events ≡ length (events_of e)
+  pub some : 1 ≤ events
+  pub accepted : AreCounted (world_of f.log) (events_of e)
