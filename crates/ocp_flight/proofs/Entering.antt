@@ -33,6 +33,15 @@ module _ {A : Type 0} (s : Inside A) (empty : s.tape.pieces ≡ []) (none : s.hi
     long = omega (arith, ap length none);
   }
 
+-- ---- other entries on another tape
+
+abbrev flown_with : {A : Type 0} → Inside A → TapeContents → List Entry → ℕ → Flown
+flown_with s tape entries released = record {
+  log = record { profile = s.profile; apid = s.apid; words = s.words; capacity = tape.most; entries = entries };
+  released = released;
+  octets = tape.room;
+}
+
 -- ---- one more entry
 
 module _ {A : Type 0} (s : Inside A) (e : Entry) (p : List ℕ) (is : p ≡ entry_octets e) (range : IsEntryInRange e) (tape : TapeContents) (history : History) (events : ℕ)
@@ -47,17 +56,7 @@ module _ {A : Type 0} (s : Inside A) (e : Entry) (p : List ℕ) (is : p ≡ entr
       ∙ ap (λ last. entries_read s.history.pieces ++ last ∷ []) (ap entry_read is ∙ read_back e range)
 
   pub flown_more : flown_of new ≡ with_entry (flown_of s) e
-  flown_more = λ i. record {
-    log = record {
-      profile = s.profile;
-      apid = s.apid;
-      words = s.words;
-      capacity = (taped i).most;
-      entries = entries_more i;
-    };
-    released = s.released;
-    octets = (taped i).room;
-  }
+  flown_more = λ i. flown_with s (taped i) (entries_more i) s.released
 
   pub kept_more : IsKept s → length s.tape.pieces < s.tape.most → events ≡ s.events + length (events_of e) → 1 ≤ length (events_of e) → length (events_of e) < 2 ^ 32 → AreCounted (world_of (flown_of s).log) (events_of e) → IsKept new
   kept_more kept free counted some few accepted =
@@ -108,17 +107,7 @@ module _ {A : Type 0} (s : Inside A) (count : ℕ) (tape : TapeContents) (taped 
   less = record s { tape = tape; released = s.released + count }
 
   pub flown_less : flown_of less ≡ record (flown_of s) { released = s.released + count }
-  flown_less = λ i. record {
-    log = record {
-      profile = s.profile;
-      apid = s.apid;
-      words = s.words;
-      capacity = (taped i).most;
-      entries = entries_read s.history.pieces;
-    };
-    released = s.released + count;
-    octets = (taped i).room;
-  }
+  flown_less = λ i. flown_with s (taped i) (entries_read s.history.pieces) (s.released + count)
 
   pub kept_less : IsKept s → count ≤ length s.tape.pieces → s.events < 2 ^ 63 → IsKept less
   kept_less kept there few =

@@ -6,14 +6,7 @@ use Rattle.ocp_flight.proofs.store.BoundedStoreStore.push_word.Given.{Over}
 use Rattle.ocp_flight.proofs.store.BoundedStoreStore.push_word.Goals as goal
 
 may : (g : Over) (c : goal.After-enter-arg-4-1 g) → MayEnter c.args.self.now (c.word_fields.result ++ []) 1 (Wrote c.args.by c.args.index c.args.value)
-may g c = record {
-  are = append-nil c.word_fields.result ∙ c.word_fields.ensures;
-  range = (omega arith, omega arith, omega arith);
-  room = c.requires.room;
-  count = refl;
-  some = omega arith;
-  accepted = c.requires.accepted;
-}
+may g c = record { are = append-nil c.word_fields.result ∙ c.word_fields.ensures; range = (omega arith, omega arith, omega arith); room = c.requires.room; count = refl; some = omega arith; accepted = c.requires.accepted }
 
 pub enter-requires : goal.enter-requires
 enter-requires g c = (Wrote c.args.by c.args.index c.args.value, may g c)
