@@ -1,356 +1,193 @@
 //! Hints on lines of assembly text.
 
-ghost use Rattle.std.specs.Prelude.{IfOk};
+ghost use Rattle.std.specs.Prelude.{◌≤◌, IfSome};
 ghost use Rattle.ocp_hints.specs.Columns.{IsWithin};
 
-use crate::hint::{BYTE_ORDER_MARK, C_TEXT, ELF_FILE, FAULT_LINE, Hint, WORDS_OF_C, front_of_word};
-use crate::image::sentence_on_load;
-use crate::reader::{Reader, column_of};
-use crate::sentences::{Sentences, sentence_on, sentence_on_front};
-use crate::tokens::{Scan, without_blanks};
-use bpf_assembler::Why;
-use bpf_canonical::{Text, read_mnemonic};
+use crate::hint::{Hint, Mark, Shown, front_of_word, mark_at};
+use crate::image::{TOO_LONG, sentence_on_load};
+use crate::line::{Line, MARKS, Reader, Word, line_at};
+use crate::tables::{Table, sides, text_on_front, text_on_word};
+use bpf_assembler::{AsmFault, Why, assemble};
+use bpf_canonical::read_mnemonic;
 use bpf_text::LineFault;
 use ocp_loader::LoadFault;
-use std::alloc::{AllocError, Global};
-
-const ASSEMBLER: Reader = Reader::Assembler;
-
-const JUMP_IF: &str = "<register>, <register or number>, <distance with its sign, or label>";
-
-const LOAD: &str = "<register>, [<register>+<distance>], with no blank between sign and distance";
-
-const STORE: &str = "[<register>+<distance>], <register>";
-
-const STORE_IMMEDIATE: &str = "[<register>+<distance>], <number>";
-
-const TARGET: &str = "<distance with its sign, or label>";
-
-const CALLED: &str = "<number of an engine call>, or call local <distance or label>";
+use ocp_ports::MAX_INPUT;
+use ocp_profile::Profile;
+use std::alloc::Global;
 
 /// What may follow a mnemonic, and an example of it with the greatest numbers. A mnemonic has those
 /// forms whose examples the assembler takes after it.
-static FORMS: [(&str, &str); 18] = [
-    (TARGET, "+2147483647"),
-    (TARGET, "+32767"),
-    (
-        "<register>, <number without a sign>",
-        "r0, 18446744073709551615",
-    ),
-    ("<register>, <register or number>", "r0, r0"),
-    ("<register>", "r0"),
-    ("<register>, <register>, 8 or 16 or 32", "r0, r0, 32"),
-    ("<register>, <register>, 8 or 16", "r0, r0, 16"),
-    ("<register>, 16 or 32 or 64", "r0, 64"),
-    (JUMP_IF, "r0, r0, +32767"),
-    (LOAD, "r0, [r0+32767]"),
-    (LOAD, "r0, [r0]"),
-    (STORE, "[r0+32767], r0"),
-    (STORE, "[r0], r0"),
-    (STORE_IMMEDIATE, "[r0+32767], 4294967295"),
-    (STORE_IMMEDIATE, "[r0], 4294967295"),
-    (CALLED, "4294967295"),
-    (CALLED, "local +2147483647"),
-    ("takes no operands", ""),
-];
+static FORMS: Table = b"<distance with its sign, or label>: +2147483647
+<distance with its sign, or label>: +32767
+<register>, <number without a sign>: r0, 18446744073709551615
+<register>, <register or number>: r0, r0
+<register>: r0
+<register>, <register>, 8 or 16 or 32: r0, r0, 32
+<register>, <register>, 8 or 16: r0, r0, 16
+<register>, 16 or 32 or 64: r0, 64
+<register>, <register or number>, <distance with its sign, or label>: r0, r0, +32767
+<register>, [<register>+<distance>], with no blank between sign and distance: r0, [r0+32767]
+<register>, [<register>+<distance>], with no blank between sign and distance: r0, [r0]
+[<register>+<distance>], <register>: [r0+32767], r0
+[<register>+<distance>], <register>: [r0], r0
+[<register>+<distance>], <number>: [r0+32767], 4294967295
+[<register>+<distance>], <number>: [r0], 4294967295
+<number of an engine call>, or call local <distance or label>: 4294967295
+<number of an engine call>, or call local <distance or label>: local +2147483647
+takes no operands:";
 
 /// The sentence for a number out of its range, by the example's word in its place.
-static RANGES: Sentences = &[
-    (
-        b"18446744073709551615",
-        "this number is out of its range, 0 to 18446744073709551615",
-    ),
-    (
-        b"r0 4294967295",
-        "this number is out of its range, -2147483648 to 4294967295",
-    ),
-    (
-        b"+32767",
-        "this distance is out of its range, -32768 to +32767",
-    ),
-    (
-        b"+2147483647",
-        "this distance is out of its range, -2147483648 to +2147483647",
-    ),
-    (
-        b"32",
-        "this width is out of its range, which is 8, 16 and 32",
-    ),
-    (b"16", "this width is out of its range, which is 8 and 16"),
-    (
-        b"64",
-        "this width is out of its range, which is 16, 32 and 64",
-    ),
-];
-
-const NO_LABEL: &str = "a label is a letter or _, then letters, digits and _, 32 at most";
-
-const LABEL: &str = "this label is out of its range, -32768 to +32767 slots from the next \
-                     instruction";
-
-/// The most octets of a mnemonic without its width.
-const LONGEST_STEM: usize = 6;
+static RANGES: Table = b"18446744073709551615: \
+this number is out of its range, 0 to 18446744073709551615
+r0|4294967295: this number is out of its range, -2147483648 to 4294967295
++32767: this distance is out of its range, -32768 to +32767
++2147483647: this distance is out of its range, -2147483648 to +2147483647
+32: this width is out of its range, which is 8, 16 and 32
+16: this width is out of its range, which is 8 and 16
+64: this width is out of its range, which is 16, 32 and 64";
 
 /// Words that are no mnemonics, and what to write in place of them.
-static NO_MNEMONICS: Sentences = &[
-    (b"goto", "a jump is ja +<distance> or ja <label>"),
-    (
-        b"if",
-        "a conditional jump is jeq64 <register>, <register or number>, <label>",
-    ),
-    (b"return", "a procedure ends with exit"),
-    (
-        b"le16 le32 le64 be16 be32 be64",
-        "the width is an operand here: be <register>, 16",
-    ),
-    (
-        b"r0 r1 r2 r3 r4 r5 r6 r7 r8 r9 r10",
-        "an instruction begins with its mnemonic: mov64 r1, 5; ldxw r0, [r1+4]",
-    ),
-    (
-        b"send step view mem pool drain break trace",
-        "this is a line of a script: a script goes to run",
-    ),
-    (b"error", FAULT_LINE),
-    (WORDS_OF_C, C_TEXT),
-];
+static STRAYS: Table = b"goto: a jump is ja +<distance> or ja <label>
+if: a conditional jump is jeq64 <register>, <register or number>, <label>
+return: a procedure ends with exit
+le16|le32|le64|be16|be32|be64: the width is an operand here: be <register>, 16
+r0|r1|r2|r3|r4|r5|r6|r7|r8|r9|r10: \
+an instruction begins with its mnemonic: mov64 r1, 5; ldxw r0, [r1+4]
+send|step|view|mem|pool|drain|break|trace: this is a line of a script: a script goes to run";
 
-/// What no statement may have at a place, if it is a mistake by itself.
-static FRONTS: Sentences = &[
-    (b"\xef\xbb\xbf", BYTE_ORDER_MARK),
-    (
-        b"\0",
-        "this is a zero octet: the file is UTF-16 or binary, and a text is plain ASCII",
-    ),
-    (
-        b"\xff\xfe \xfe\xff",
-        "this is the byte order mark of UTF-16, and a text is plain ASCII",
-    ),
-    (b"\x7fELF", ELF_FILE),
-    (b"#inc #def", C_TEXT),
-    (
-        b"#0 #1 #2 #3 #4 #5 #6 #7 #8 #9 #-",
-        "a number has no # in front",
-    ),
-    (b"# // /*", "a comment begins with ;"),
-    (
-        b"=",
-        "a value is set by mov64 <register>, <register or number>",
-    ),
-    (b"\r", "this is a carriage return inside of the line"),
-    (b".", "a text has no directives and no dots in names"),
-    (
-        b"( ) { } * \" ' < > & % $",
-        "no instruction, label or number has this sign",
-    ),
-];
+const NO_LABEL: &[u8] = b"a label is a letter or _, then letters, digits and _, 32 at most";
 
-/// Whether a word is a mnemonic without its width.
-fn is_without_width(word: &[u8]) -> bool {
-    if word.len() > LONGEST_STEM {
-        return false;
-    }
-    let mut with_width = Text::<8>::new();
-    with_width.push_all(word);
-    with_width.push_all(b"64");
-    read_mnemonic(with_width.as_slice()).is_some()
+const LABEL: &[u8] = b"this label is out of its range, -32768 to +32767 slots from the next \
+                       instruction";
+
+/// A form, an example of it, and the number of words of a line that fit it.
+type Fit = (&'static [u8], &'static [u8], usize);
+
+/// The number of words of a label and its colon, if the line has one.
+fn label_words(line: &Line<'_>) -> usize
+    ensures { result ≤ 2 }
+{
+    2 * usize::from(line.word(1).text == b":".as_slice())
+}
+
+/// The last word of a line.
+fn last_of<'a>(line: &Line<'a>) -> Word<'a> {
+    line.word(line.words.len().saturating_sub(1))
 }
 
 /// What to write in place of a word that is no mnemonic.
-fn sentence_on_no_mnemonic(word: &[u8]) -> &'static str {
-    if is_without_width(word) {
-        return "the width, 64 or 32, is a part of the mnemonic: add64, jeq32";
+fn sentence_on_stray(line: &Line<'_>, word: &[u8]) -> Option<&'static [u8]> {
+    let mut with_width = Vec::from_slice(line.alloc, word).ok()?;
+    with_width.extend_from_slice(b"64").ok()?;
+    if read_mnemonic(with_width.as_slice()).is_some() {
+        return Some(b"the width, 64 or 32, is a part of the mnemonic: add64, jeq32");
     }
-    if let Some(sentence) = sentence_on(word, NO_MNEMONICS) {
-        return sentence;
-    }
-    match word.first() {
-        Some(b'A'..=b'Z') => "mnemonics and registers are in lower case",
-        Some(b'0'..=b'9') => "a text has instructions; digits of an image go to list and to load",
-        _ => "this is no mnemonic; docs/CARD.md has them all",
-    }
-}
-
-/// The label before a statement, which is empty if there is none, and the statement.
-fn parts_of(line: &[u8]) -> (&[u8], &[u8]) {
-    if let Scan::Found(label, rest) = ASSEMBLER.scan(line) {
-        if let Scan::Found(b":", statement) = ASSEMBLER.scan(rest) {
-            return (label, statement);
+    Some(match (line.text_on_stray(word, STRAYS), word) {
+        (Some(sentence), _) => sentence,
+        (_, [b'A'..=b'Z', ..]) => b"mnemonics and registers are in lower case",
+        (_, [b'0'..=b'9', ..]) => {
+            b"a text has instructions; digits of an image go to list and to load"
         }
-    }
-    (&[], line)
+        _ => b"this is no mnemonic; docs/CARD.md has them all",
+    })
 }
 
-/// The form of a statement that its words fit best.
-#[derive(Clone, Copy)]
-struct Best {
-    text: &'static str,
-    example: &'static str,
-    /// The number of words that fit.
-    count: usize,
-}
-
-/// The form of a statement that its words fit best, up to this fault.
-fn best_form(
-    alloc: Global,
-    statement: &[u8],
-    fault: LineFault,
-) -> Result<Option<Best>, AllocError> {
-    let mnemonic = ASSEMBLER.word_at(statement, statement, 0).text;
-    let mut best: Option<Best> = None;
-    for (text, example) in &FORMS {
-        if ASSEMBLER
-            .fault_of(alloc, mnemonic, example.as_bytes())?
-            .is_some()
-        {
+/// The form of a statement that its words fit best, up to this fault, if its mnemonic has one.
+fn best_form(line: &Line<'_>, fault: LineFault) -> Option<Option<Fit>> {
+    let first = label_words(line);
+    let mnemonic = line.word(first).text;
+    let mut best = None;
+    for row in FORMS.split(|octet| *octet == b'\n') {
+        let (form, example) = sides(row);
+        if line.reader_refuses(mnemonic, example, LineFault::Range)? {
             continue;
         }
-        let count = ASSEMBLER.count_of_words(alloc, statement, example.as_bytes(), fault)?;
+        let count = line.count_of_words(first, example, fault)?;
         match best {
-            Some(other) if count <= other.count => {}
-            _ => best = Some(Best {
-                text,
-                example,
-                count,
-            }),
+            Some((_, _, most)) if count <= most => {}
+            _ => best = Some((form, example, count)),
         }
     }
-    Ok(best)
+    Some(best)
 }
 
-/// What was unexpected in a statement: the word in place of its mnemonic, or one of its operands.
-fn hint_of_statement<'a>(
-    alloc: Global,
-    line: &'a [u8],
-    statement: &'a [u8],
-) -> Result<Hint<'a>, AllocError>
-    ensures within { IfOk result (λ hint. IsWithin line.now hint.column) }
-{
-    let mnemonic = ASSEMBLER.word_at(line, statement, 0);
-    match best_form(alloc, statement, LineFault::Syntax)? {
-        Some(best) => {
-            let column = ASSEMBLER.word_at(line, statement, best.count).column;
-            Ok(Hint {
-                word: front_of_word(mnemonic.text),
-                end: best.text.as_bytes(),
-                ..Hint::sentence(column, "")
-            })
-        }
-        None => Ok(Hint::sentence(mnemonic.column, sentence_on_no_mnemonic(mnemonic.text))),
+/// What was unexpected in the words of a line: its labels, or the statement after them.
+fn mark_of_words(line: &Line<'_>) -> Option<Mark> {
+    let first = label_words(line);
+    let label = line.word(0);
+    let Word { column, text } = line.word(first);
+    if first != 0 && line.reader_refuses(label.text, b":", LineFault::Syntax)? {
+        return mark_at(line.alloc, label.column, NO_LABEL);
     }
-}
-
-/// What was unexpected in a line: its labels, or the statement after them.
-fn hint_of_words<'a>(alloc: Global, line: &'a [u8]) -> Result<Hint<'a>, AllocError>
-    ensures within { IfOk result (λ hint. IsWithin line.now hint.column) }
-{
-    let (label, statement) = parts_of(line);
-    if !label.is_empty() && ASSEMBLER.fault_of(alloc, label, b":")?.is_some() {
-        return Ok(Hint::sentence(ASSEMBLER.word_in(line, line, 0).column, NO_LABEL));
+    if line.word(first + 1).text == b":".as_slice() {
+        return mark_at(line.alloc, column, b"a line has one label at most");
     }
-    let (second, _) = parts_of(statement);
-    if second.is_empty() {
-        return hint_of_statement(alloc, line, statement);
-    }
-    let column = ASSEMBLER.word_in(line, statement, 0).column;
-    Ok(Hint::sentence(column, "a line has one label at most"))
-}
-
-/// A line from the first octet on that begins no word.
-fn from_bad_octet(line: &[u8]) -> &[u8] {
-    let mut rest = line;
-    for _ in 0..line.len() {
-        match ASSEMBLER.scan(rest) {
-            Scan::Found(_, after) => rest = after,
-            Scan::Bad => return without_blanks(rest),
-            Scan::End => break,
-        }
-    }
-    &[]
+    let Some((form, _, count)) = best_form(line, LineFault::Syntax)? else {
+        return mark_at(line.alloc, column, sentence_on_stray(line, text)?);
+    };
+    let sentence = format!(in line.alloc; "{} {}", front_of_word(text), Shown(form)).ok()?;
+    Some((line.word(count).column, sentence))
 }
 
 /// What was unexpected in a line that is Syntax. An octet that begins no word comes before a word
 /// after it, and a zero octet before all.
-fn hint_of_syntax<'a>(alloc: Global, line: &'a [u8]) -> Result<Hint<'a>, AllocError>
-    ensures within { IfOk result (λ hint. IsWithin line.now hint.column) }
-{
-    let hint = hint_of_words(alloc, line)?;
-    let bad = from_bad_octet(line);
-    let column = column_of(line, bad);
-    if column <= hint.column || bad.starts_with(b"\0") {
-        if let Some(sentence) = sentence_on_front(bad, FRONTS) {
-            return Ok(Hint::sentence(column, sentence));
-        }
-        if let Some(128..) = bad.first() {
-            return Ok(Hint::sentence(column, "outside of comments a text is plain ASCII"));
-        }
+fn mark_of_syntax(line: &Line<'_>) -> Option<Mark> {
+    let mark = mark_of_words(line)?;
+    let rest = line.text_from(line.end);
+    if line.end > mark.0 && !rest.starts_with(b"\0") {
+        return Some(mark);
     }
-    Ok(hint)
-}
-
-/// The column of the last word of a line.
-fn last_column(line: &[u8]) -> usize
-    ensures { IsWithin line.now result }
-{
-    let mut rest = line;
-    let mut last = line;
-    for _ in 0..line.len() {
-        let Scan::Found(_, after) = ASSEMBLER.scan(rest) else {
-            break;
-        };
-        last = rest;
-        rest = after;
-    }
-    ASSEMBLER.word_in(line, last, 0).column
+    let sentence: &[u8] = match (text_on_front(rest, MARKS), rest) {
+        (Some(sentence), _) => sentence,
+        (_, [(128..), ..]) => b"outside of comments a text is plain ASCII",
+        _ => return Some(mark),
+    };
+    mark_at(line.alloc, line.end, sentence)
 }
 
 /// What was out of its range in a line.
-fn hint_of_range<'a>(alloc: Global, line: &'a [u8]) -> Result<Hint<'a>, AllocError>
-    ensures within { IfOk result (λ hint. IsWithin line.now hint.column) }
-{
-    let (_, statement) = parts_of(line);
-    if let Some(best) = best_form(alloc, statement, LineFault::Range)? {
-        let example = best.example.as_bytes();
-        let instead = ASSEMBLER
-            .word_at(example, example, best.count.saturating_sub(1))
-            .text;
-        let word = ASSEMBLER.word_at(line, statement, best.count);
-        if let Some(sentence) = sentence_on(instead, RANGES) {
-            return Ok(Hint::sentence(word.column, sentence));
+fn mark_of_range(line: &Line<'_>) -> Option<Mark> {
+    if let Some((_, example, count)) = best_form(line, LineFault::Range)? {
+        let example = Line::new(line.alloc, line.reader, example)?;
+        let place = count.saturating_sub(label_words(line) + 1);
+        if let Some(sentence) = text_on_word(example.word(place).text, RANGES) {
+            return mark_at(line.alloc, line.word(count).column, sentence);
         }
     }
-    Ok(Hint::sentence(last_column(line), LABEL))
-}
-
-/// The column of what a fault of the image is about.
-fn column_of_load(line: &[u8], fault: LoadFault) -> usize
-    ensures { IsWithin line.now result }
-{
-    let (_, statement) = parts_of(line);
-    match fault {
-        LoadFault::BadCall(_) | LoadFault::BadTarget(_) => last_column(line),
-        LoadFault::Decode(_, _) => ASSEMBLER.word_at(line, statement, 1).column,
-        _ => ASSEMBLER.word_at(line, statement, 0).column,
-    }
+    mark_at(line.alloc, last_of(line).column, LABEL)
 }
 
 /// What was unexpected in a line of assembly text.
-pub(crate) fn hint_of_why<'a>(
-    alloc: Global,
-    line: &'a [u8],
-    why: Why,
-) -> Result<Hint<'a>, AllocError>
-    ensures within { IfOk result (λ hint. IsWithin line.now hint.column) }
-{
-    let (column, sentence) = match why {
-        Why::Syntax => return hint_of_syntax(alloc, line),
-        Why::Range => return hint_of_range(alloc, line),
-        Why::DuplicateLabel => (
-            ASSEMBLER.word_in(line, line, 0).column,
-            "this label labels another line already",
-        ),
-        Why::UnknownLabel => (last_column(line), "no line of the text has this label"),
-        Why::Load(fault) => (column_of_load(line, fault), sentence_on_load(fault)),
+fn mark_of_why(line: &Line<'_>, why: Why) -> Option<Mark> {
+    let (word, sentence): (_, &[u8]) = match why {
+        Why::Syntax => return mark_of_syntax(line),
+        Why::Range => return mark_of_range(line),
+        Why::DuplicateLabel => (line.word(0), b"this label labels another line already"),
+        Why::UnknownLabel => (last_of(line), b"no line of the text has this label"),
+        Why::Load(fault) => {
+            let word = match fault {
+                LoadFault::BadCall(_) | LoadFault::BadTarget(_) => last_of(line),
+                LoadFault::Decode(_, _) => line.word(label_words(line) + 1),
+                _ => line.word(label_words(line)),
+            };
+            (word, sentence_on_load(fault))
+        }
     };
-    Ok(Hint::sentence(column, sentence))
+    mark_at(line.alloc, word.column, sentence)
+}
+
+/// What was unexpected in an assembly text under a profile; None if nothing was, or if memory is
+/// refused.
+pub fn hint_on_text<'a>(alloc: Global, profile: Profile, text: &'a [u8]) -> Option<Hint<'a>>
+    ensures within { IfSome result (λ hint. IsWithin hint.line.now hint.column) }
+{
+    if text.len() > MAX_INPUT {
+        return Some(Hint::new(None, &[], mark_at(alloc, 0, TOO_LONG)?));
+    }
+    let Err(AsmFault::At { line: number, why }) = assemble(alloc, profile, text) else {
+        return None;
+    };
+    let line = Line::new(alloc, Reader::Assembler, line_at(text, number))?;
+    let place = (number != 0).then_some(("line", number));
+    Some(Hint::new(place, line.text, mark_of_why(&line, why)?))
 }

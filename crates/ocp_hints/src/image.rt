@@ -1,41 +1,76 @@
 //! Hints on images in hexadecimal digits, and the sentences on faults of images.
 
+ghost use Rattle.std.specs.Prelude.{IfSome};
 ghost use Rattle.ocp_hints.specs.Columns.{IsWithin};
 
-use crate::hint::{BYTE_ORDER_MARK, ELF_FILE, Hint};
-use crate::sentences::{Sentences, sentence_on_front};
+use crate::hint::{Hint, Mark, front_of, mark_at};
+use crate::tables::{Table, text_on_front};
 use bpf_decode::{DecodeFault, decode_at};
+use bpf_listing::{DisassembleFault, disassemble};
 use ocp_loader::LoadFault;
+use ocp_ports::MAX_INPUT;
+use std::alloc::Global;
+use text_lines::octets_of;
 
 /// The number of digits of a slot.
-pub(crate) const SLOT_DIGITS: usize = 16;
+const SLOT_DIGITS: usize = 16;
 
-/// The octets of the longest instruction.
-const LONGEST: usize = 16;
+/// What is said of an input that is too long.
+pub(crate) const TOO_LONG: &[u8] = b"an input has at most 1048576 octets";
 
-/// What no image may have at a place, if it is a mistake by itself.
-static FRONTS: Sentences = &[
-    (b"\xef\xbb\xbf", BYTE_ORDER_MARK),
-    (b"\x7fELF", ELF_FILE),
-    (b"0x 0X \\x", "digits come alone, with nothing before them"),
-    (
-        b"\r",
-        "this is a carriage return, and a newline alone may end the digits",
-    ),
+/// What no image may have at a place.
+static MARKS: Table = b"\xef\xbb\xbf: this is a byte order mark: save the file without it
+0x|0X|\\x: digits come alone, with nothing before them
+\x7fELF: this is an ELF file: examples/c/build makes the image of one
+\r: this is a carriage return, and a newline alone may end the digits";
+
+/// What each fault of an image means, in the order of their numbers.
+static LOAD_FAULTS: Table = b"Memory: out of memory
+EmptyCode: a procedure has at least one instruction
+RaggedCode: an image is whole slots of 8 octets
+TooLong: an image has at most 2048 slots, and lddw takes two
+CutWide: the second slot of lddw is missing
+UnknownOpcode: no instruction has the opcode in the first octet
+BadRegister: registers are 0 to 10, in the halves of the second octet
+ReservedField: a field has a value that its instruction does not allow
+WritesFramePointer: r10 is read and never written
+BadCall: engine calls are 1 to 5, and 6 under profile 2
+BadTarget: a jump or a local call ends at an instruction of the image
+FallsOffEnd: the last instruction is exit, ja or ja32";
+
+/// The columns of the fields of an instruction that are zero unless it has a use for them, and
+/// their bits. With each of them the opcode and the immediate number are kept.
+static FIELDS: [(usize, u128); 5] = [
+    (8, 0),
+    (2, 0x00f0 << 112),
+    (3, 0x000f << 112),
+    (4, 0xffff << 96),
+    (SLOT_DIGITS, 0xffff_ffff << 32),
 ];
 
+/// The bits of the opcode and of the immediate number.
+const KEPT: u128 = 0xff00_0000_ffff_ffff << 64;
+
+/// What a fault of an image means.
+pub(crate) fn sentence_on_load(fault: LoadFault) -> &'static [u8] {
+    LOAD_FAULTS
+        .split(|octet| *octet == b'\n')
+        .nth(usize::from(fault.number()))
+        .unwrap_or(&[])
+}
+
 /// What is said of an octet that is no hexadecimal digit.
-fn sentence_on_octet(octet: u8) -> &'static str {
+fn sentence_on_octet(octet: u8) -> &'static [u8] {
     match octet {
-        b' ' | b'\n' => "digits are in one row: tr -d ' \\n' takes blanks and newlines away",
-        b'\t' => "this is a tab, and digits are in one row",
-        b'!'..=b'~' => "this is no hexadecimal digit; an assembly text goes to asm",
-        _ => "this is a raw image: od -An -v -tx1 | tr -d ' \\n' makes digits of it",
+        b' ' | b'\n' => b"digits are in one row: tr -d ' \\n' takes blanks and newlines away",
+        b'\t' => b"this is a tab, and digits are in one row",
+        b'!'..=b'~' => b"this is no hexadecimal digit; an assembly text goes to asm",
+        _ => b"this is a raw image: od -An -v -tx1 | tr -d ' \\n' makes digits of it",
     }
 }
 
 /// The text without the spaces and newlines at its end.
-pub(crate) fn digits_of(text: &[u8]) -> &[u8] {
+fn digits_of(text: &[u8]) -> &[u8] {
     for end in (0..text.len()).rev() {
         if text[end] != b' ' && text[end] != b'\n' {
             return &text[..end + 1];
@@ -44,101 +79,71 @@ pub(crate) fn digits_of(text: &[u8]) -> &[u8] {
     &[]
 }
 
-/// What was unexpected in the digits of an image that is Hex.
-pub(crate) fn hint_of_digits(digits: &[u8]) -> Hint<'_>
-    ensures within { IsWithin digits.now result.column }
-{
-    for column in 0..digits.len() {
-        if let Some(sentence) = sentence_on_front(&digits[column..], FRONTS) {
-            return Hint::sentence(column, sentence);
+/// What was unexpected in digits that spell no octets.
+fn mark_of_digits(alloc: Global, digits: &[u8]) -> Option<Mark> {
+    for (column, octet) in digits.iter().enumerate() {
+        if let Some(sentence) = text_on_front(digits.get(column..).unwrap_or(&[]), MARKS) {
+            return mark_at(alloc, column, sentence);
         }
-        if !digits[column].is_ascii_hexdigit() {
-            return Hint::sentence(column, sentence_on_octet(digits[column]));
+        if !octet.is_ascii_hexdigit() {
+            return mark_at(alloc, column, sentence_on_octet(*octet));
         }
     }
-    Hint::sentence(digits.len(), "the number of hexadecimal digits is even")
-}
-
-/// A field of an instruction: the column of its digits, its first octet and the octet after it, and
-/// the bits of its octets.
-type Field = (usize, usize, usize, u8);
-
-/// The fields that an instruction may have to leave zero, with the second slot of `lddw` for one.
-static FIELDS: [Field; 4] = [
-    (2, 1, 2, 0xf0),
-    (3, 1, 2, 0x0f),
-    (4, 2, 4, 0xff),
-    (SLOT_DIGITS, 8, 12, 0xff),
-];
-
-/// The column of the immediate number.
-const IMMEDIATE: usize = 8;
-
-/// Whether the decoder has this fault with an instruction of which no field is kept but the opcode,
-/// the immediate number and these octets.
-fn has_fault(code: &[u8], field: Field, fault: DecodeFault) -> bool {
-    let (_, begin, end, bits) = field;
-    let mut alone = [0u8; LONGEST];
-    for i in 0..LONGEST {
-        let octet = *code.get(i).unwrap_or(&0);
-        alone[i] = match i {
-            0 | 4..=7 => octet,
-            _ if begin <= i && i < end => octet & bits,
-            _ => 0,
-        };
-    }
-    match decode_at(&alone, 0) {
-        Ok(_) => false,
-        Err(found) => found == fault,
-    }
+    let end = digits.len();
+    mark_at(alloc, end, b"the number of hexadecimal digits is even")
 }
 
 /// The number of digits of an instruction before the field at fault: the first with which alone the
 /// decoder has the fault.
-pub(crate) fn column_of_fault(code: &[u8], fault: DecodeFault) -> usize {
+fn column_of_fault(code: &[u8], fault: DecodeFault) -> usize {
     match fault {
         DecodeFault::CutWide => return SLOT_DIGITS,
         DecodeFault::UnknownOpcode => return 0,
-        _ if has_fault(code, (0, 0, 0, 0), fault) => return IMMEDIATE,
         _ => {}
     }
-    for field in &FIELDS {
-        if has_fault(code, *field, fault) {
-            return field.0;
+    let mut octets = [0u8; 16];
+    for (place, octet) in octets.iter_mut().zip(code) {
+        *place = *octet;
+    }
+    for (column, bits) in &FIELDS {
+        let alone = u128::from_be_bytes(octets) & (KEPT | *bits);
+        match decode_at(&alone.to_be_bytes(), 0) {
+            Err(found) if found == fault => return *column,
+            _ => {}
         }
     }
     0
 }
 
-/// What a fault of an instruction means.
-pub(crate) fn sentence_on_decode(fault: DecodeFault) -> &'static str {
-    match fault {
-        DecodeFault::CutWide => "CutWide: the second slot of lddw is missing",
-        DecodeFault::UnknownOpcode => {
-            "UnknownOpcode: no instruction has the opcode in the first octet"
-        }
-        DecodeFault::BadRegister => {
-            "BadRegister: registers are 0 to 10, in the halves of the second octet"
-        }
-        DecodeFault::ReservedField => {
-            "ReservedField: a field has a value that its instruction does not allow"
-        }
-        DecodeFault::WritesFramePointer => "WritesFramePointer: r10 is read and never written",
+/// What was unexpected in the digits of an image, which spaces and newlines may follow; None if
+/// nothing was, or if memory is refused.
+pub fn hint_on_image<'a>(alloc: Global, text: &'a [u8]) -> Option<Hint<'a>>
+    ensures within { IfSome result (λ hint. IsWithin hint.line.now hint.column) }
+{
+    if text.len() > MAX_INPUT {
+        return Some(Hint::new(None, &[], mark_at(alloc, 0, TOO_LONG)?));
     }
-}
-
-/// What a fault of an image means.
-pub(crate) fn sentence_on_load(fault: LoadFault) -> &'static str {
-    match fault {
-        LoadFault::EmptyCode => "EmptyCode: a procedure has at least one instruction",
-        LoadFault::RaggedCode => "RaggedCode: an image is whole slots of 8 octets",
-        LoadFault::TooLong => "TooLong: an image has at most 2048 slots, and lddw takes two",
-        LoadFault::Decode(fault, _) => sentence_on_decode(fault),
-        LoadFault::BadCall(_) => "BadCall: engine calls are 1 to 5, and 6 under profile 2",
-        LoadFault::BadTarget(_) => {
-            "BadTarget: a jump or a local call ends at an instruction of the image"
+    let digits = digits_of(text);
+    let mut room = Vec::new(alloc);
+    let Some(image) = octets_of(&mut room, digits).ok()? else {
+        return Some(Hint::new(None, digits, mark_of_digits(alloc, digits)?));
+    };
+    let (slot, column, sentence): (_, _, &[u8]) = match disassemble(image, &mut Vec::new(alloc)) {
+        Ok(()) | Err(DisassembleFault::Memory) => return None,
+        Err(DisassembleFault::Ragged) => {
+            let sentence = b"an image is whole slots of 16 digits";
+            (image.len() / 8, SLOT_DIGITS, sentence)
         }
-        LoadFault::FallsOffEnd(_) => "FallsOffEnd: the last instruction is exit, ja or ja32",
-        LoadFault::Memory => "out of memory",
-    }
+        Err(DisassembleFault::Decode(fault, slot)) => {
+            let code = image.get(slot.saturating_mul(8)..).unwrap_or(&[]);
+            let sentence = sentence_on_load(LoadFault::Decode(fault, 0));
+            (slot, column_of_fault(code, fault), sentence)
+        }
+    };
+    let begin = slot.saturating_mul(SLOT_DIGITS);
+    let rest = digits.get(begin..).unwrap_or(&[]);
+    let slots = if rest.starts_with(b"18") { 2 } else { 1 };
+    let line = front_of(rest, slots * SLOT_DIGITS);
+    let mark = mark_at(alloc, column, sentence)?;
+    Some(Hint::new(Some(("slot", slot as u64)), line, mark))
 }

@@ -4,13 +4,13 @@
 #![tactic(auto)]
 
 mod assembly;
-mod explained;
 mod hint;
 mod image;
-mod reader;
+mod line;
 mod script;
-mod sentences;
-mod tokens;
+mod tables;
 
-pub use explained::{Explained, Refused, ScriptFault};
+pub use assembly::hint_on_text;
 pub use hint::Hint;
+pub use image::hint_on_image;
+pub use script::hint_on_script;
