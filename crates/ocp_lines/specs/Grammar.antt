@@ -235,13 +235,9 @@ send_in profile words = first_word (λ ack rest.
 abbrev pub time_in : List Word → Option Meaning
 time_in words = one_word (λ word. option_map Time (long word)) words
 
--- `step <id> <n>`
-abbrev pub step_in : List Word → Option Meaning
-step_in words = two_words (λ id count. both (short id) (steps count) Step) words
-
--- `round <id> <n>`
-abbrev pub round_in : List Word → Option Meaning
-round_in words = two_words (λ id count. both (short id) (steps count) Round) words
+-- an identifier and a number of steps
+abbrev pub id_and_steps : List Word → Option (ℕ × ℕ)
+id_and_steps words = two_words (λ id count. both (short id) (steps count) (λ i n. (i, n))) words
 
 -- the identifier and the switch of `trace <id> on` and `trace <id> off`
 abbrev pub switch_in : List Word → Option (ℕ × Bool)
@@ -285,12 +281,14 @@ debugger_command_in name words =
     else if bytes_eq name (codes "mem") then memory_in words
     else None
 
--- the lines without octets
+-- the lines without octets, among them `step <id> <n>` and `round <id> <n>`
 abbrev pub plain_command_in : Word → List Word → Option Meaning
 plain_command_in name words =
     if bytes_eq name (codes "time") then time_in words
-    else if bytes_eq name (codes "step") then step_in words
-    else if bytes_eq name (codes "round") then round_in words
+    else if bytes_eq name (codes "step") then
+    option_map (λ p. Step p.0 p.1) (id_and_steps words)
+    else if bytes_eq name (codes "round") then
+    option_map (λ p. Round p.0 p.1) (id_and_steps words)
     else if bytes_eq name (codes "pool") then pool_in words
     else if bytes_eq name (codes "put") then put_in words
     else if bytes_eq name (codes "journal") then no_word Journal words
