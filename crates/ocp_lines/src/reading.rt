@@ -37,10 +37,8 @@ fn up<'a, A: Allocator>(
     ensures memory { OnErr result (length (words_of arguments.now) ≡ 1) }
     ensures fits { (profile : Profile) → IfOk result (λ command. IfSome command (Fits profile)) }
 {
-    match last_octets(scratch, arguments, MAX_OCTETS_LENGTH)? {
-        Some(packet) => Ok(Some(Command::Up(packet))),
-        None => Ok(None),
-    }
+    let packet = last_octets(scratch, arguments, MAX_OCTETS_LENGTH)?;
+    Ok(packet.map(|packet| Command::Up(packet)))
 }
 
 fn send<'a, A: Allocator>(

@@ -60,11 +60,7 @@ pub(crate) fn one_word(text: &[u8]) -> Option<&[u8]>
     ensures none { IfNone result (length (words_of text.now) ≢ 1) }
 {
     let (word, rest) = next_word(text)?;
-    if next_word(rest).is_none() {
-        Some(word)
-    } else {
-        None
-    }
+    next_word(rest).is_none().then_some(word)
 }
 
 /// The two words of a text.
@@ -74,11 +70,7 @@ pub(crate) fn two_words(text: &[u8]) -> Option<(&[u8], &[u8])>
 {
     let (word, rest) = next_word(text)?;
     let (next, rest) = next_word(rest)?;
-    if next_word(rest).is_none() {
-        Some((word, next))
-    } else {
-        None
-    }
+    next_word(rest).is_none().then_some((word, next))
 }
 
 /// The three words of a text.
@@ -100,13 +92,7 @@ fn word_or_none(text: &[u8]) -> Option<&[u8]>
 {
     match next_word(text) {
         None => Some(&[]),
-        Some((word, rest)) => {
-            if next_word(rest).is_none() {
-                Some(word)
-            } else {
-                None
-            }
-        }
+        Some((word, rest)) => next_word(rest).is_none().then_some(word),
     }
 }
 
