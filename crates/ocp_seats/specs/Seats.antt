@@ -28,6 +28,16 @@ pub record SeatContents : Type 0 where
   pub receipts : List MarkedEntry
   pub share : ℕ
 
+-- A shared engine may begin with a blank of this name and these parts, which are 65. Its ledger has
+-- both. It is named with the number of entries that the engine has room for, and with its journal.
+pub record Opens (blank blank_parts ledger ledger_parts entries : ℕ) (start engine : Log)
+    : Type 0 where
+  pub name : blank ≡ ledger
+  pub parts : blank_parts ≡ ledger_parts
+  pub seats : blank_parts ≡ 65
+  pub room : entries + length engine.entries ≡ engine.capacity
+  pub log : start ≡ engine
+
 -- the seat gained these receipts
 pub record Gains (old new : SeatContents) (entries : List MarkedEntry) : Type 0 where
   pub number : new.number ≡ old.number

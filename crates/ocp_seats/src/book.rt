@@ -3,7 +3,7 @@
 ghost use Rattle.std.specs.Prelude.{◌≡◌, ◌≤◌, ◌+◌, None, IfOk, IfErr, OnOk, OnErr, drop, length, map};
 ghost use Rattle.ocp_core.specs.Clauses.{entries_with_marks, entry_with_mark};
 ghost use Rattle.ocp_seats.specs.Going.{GoesOn};
-ghost use Rattle.ocp_seats.specs.Seats.{BookContents, HandsOut, RefusesSeat};
+ghost use Rattle.ocp_seats.specs.Seats.{BookContents, HandsOut, Opens, RefusesSeat};
 ghost use Rattle.ocp_seats.specs.Taking.{Takes, RefusesTake};
 ghost use Rattle.ocp_seats.specs.Mirror.Codes.{book_code};
 
@@ -12,6 +12,7 @@ use std::alloc::{Allocator, Global};
 use std::marker::Model;
 use std::sync::ledger;
 use std::sync::ledger::{Blank, Share};
+use thiserror::Error;
 
 /// An engine with the counts for its seats: the procedure taken last by any seat, the number of its
 /// entries at the start, the number of seats given out, the count of the entries since, and the
@@ -56,11 +57,7 @@ impl<L: Naming, A: Allocator> Book<L, A> {
     /// parts. Its name has the engine's room and its journal.
     #[tactic(auto, using(crate::proofs::Going::goes_on_start))]
     pub fn new(engine: Engine<A>, blank: Blank) -> Self
-        requires name { blank.name ≡ L.name }
-        requires parts { blank.parts ≡ L.parts }
-        requires seats { blank.parts ≡ 65 }
-        requires room { L.room + length engine.entries ≡ engine.capacity }
-        requires log { L.log ≡ engine }
+        requires { Opens blank.name blank.parts L.name L.parts L.room L.log engine }
         ensures engine { result.engine ≡ engine }
         ensures start { result.start ≡ length engine.entries }
         ensures seats { result.seats ≡ 0 }
@@ -182,8 +179,10 @@ impl<L: Naming, A: Allocator> Book<L, A> {
 }
 
 /// Why no procedure is taken, in this order.
-#[derive(Clone, Copy, PartialEq, Eq, Debug)]
+#[derive(Clone, Copy, PartialEq, Eq, Debug, Error)]
 pub enum TakeFault {
+    #[error("no procedure is running")]
     NoneRunning,
+    #[error("out of memory")]
     Memory,
 }

@@ -8,14 +8,17 @@ ghost use Rattle.ocp_seats.specs.History.{IsHistory};
 
 use crate::{Book, Engine, Entry, MAX_SEATS, Naming, Seat};
 use std::alloc::{Allocator, Global};
+use thiserror::Error;
 
 /// Why a book is not closed, in this order.
-#[derive(Clone, Copy, PartialEq, Eq, Debug)]
+#[derive(Clone, Copy, PartialEq, Eq, Debug, Error)]
 pub enum CloseFault {
     /// The seats are not those that the book gave out, each once.
+    #[error("the seats are not those given out")]
     MissingSeat,
     /// An entry since the start is by none of the seats, or the receipts of a seat are not its
     /// entries with their marks.
+    #[error("the receipts are not the journal")]
     ReceiptMismatch,
 }
 

@@ -10,6 +10,7 @@ use ocp_core::{Engine, Entry};
 use std::alloc::{Allocator, Global};
 use std::marker::{Brand, Model};
 use std::sync::ledger::{Book, Ledger, Share};
+use thiserror::Error;
 
 /// How many seats one book gives out at most.
 pub const MAX_SEATS: u16 = 64;
@@ -107,9 +108,11 @@ impl<L: Naming, A: Allocator> Seat<L, A> {
 }
 
 /// Why no seat is given out, in this order.
-#[derive(Clone, Copy, PartialEq, Eq, Debug)]
+#[derive(Clone, Copy, PartialEq, Eq, Debug, Error)]
 pub enum SeatFault {
     /// All are given out.
+    #[error("all seats are given out")]
     SeatsFull,
+    #[error("out of memory")]
     Memory,
 }

@@ -1,6 +1,7 @@
 //! Workers: one thread for each seat, and engines that they work on.
 
 ghost use Rattle.std.specs.Prelude.{◌≡◌, ◌≤◌, ◌+◌, [], All, length, IfOk};
+ghost use Rattle.ocp_seats.specs.Seats.{Opens};
 ghost use Rattle.ocp_slices.specs.Closed.{HasWorked};
 ghost use Rattle.ocp_slices.specs.Continuing.{AllContinue};
 ghost use Rattle.ocp_slices.specs.Instructing.{IsInstructed};
@@ -15,6 +16,7 @@ use std::sync::Wait;
 use std::sync::ledger::Blank;
 use std::thread;
 use std::thread::Threads;
+use thiserror::Error;
 
 /// Makes `turns` turns in each seat, with one thread for each seat. If no thread can be made, the
 /// seats take their turns one after another. A turn that finds no memory is spent.
@@ -81,11 +83,7 @@ fn work_as<L: Naming + Send + Sync, R: Threads + Wait + Sync, G: Gate + Sync>(
     turns: u32,
     gate: &G,
 ) -> Result<Engine, WorkFault>
-    requires name { blank.name ≡ L.name }
-    requires parts { blank.parts ≡ L.parts }
-    requires seats { blank.parts ≡ 65 }
-    requires room { L.room + length engine.entries ≡ engine.capacity }
-    requires log { L.log ≡ engine }
+    requires opens { Opens blank.name blank.parts L.name L.parts L.room L.log engine }
     requires crew { crew ≤ 64 }
     ensures { IfOk result (λ after. HasWorked engine after crew budget turns) }
 {
@@ -120,12 +118,14 @@ fn seats_of<L: Naming, B: Board<L>, R: Wait>(
 }
 
 /// Why an engine does not come back.
-#[derive(Clone, Copy, PartialEq, Eq, Debug)]
+#[derive(Clone, Copy, PartialEq, Eq, Debug, Error)]
 pub enum WorkFault {
     /// There is no memory for the seats.
+    #[error("out of memory")]
     Memory,
     /// A seat was not given out, or the shared engine was not closed. No schedule is known that
     /// leads to this.
+    #[error("the shared engine was not closed")]
     NotClosed,
 }
 

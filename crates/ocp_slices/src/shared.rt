@@ -1,9 +1,10 @@
 //! The engine behind a lock.
 
-ghost use Rattle.std.specs.Prelude.{◌≡◌, ◌≤◌, ◌+◌, [], length, IfOk};
+ghost use Rattle.std.specs.Prelude.{◌≡◌, ◌≤◌, [], IfOk};
 ghost use Rattle.ocp_debug.specs.declared.command.Command.TheVariants as command;
 ghost use Rattle.ocp_world.specs.World as world;
 ghost use Rattle.ocp_core.specs.Clauses.{Commanded, Requested, Stepped, Written};
+ghost use Rattle.ocp_seats.specs.Seats.{Opens};
 ghost use Rattle.ocp_slices.specs.Replies.{SeatReply, TakeReply, IsServed, IsSliced, IsHandedIn};
 
 use crate::input::{DebuggerCommand, Drain, PutWord, Request, Step};
@@ -37,11 +38,7 @@ impl<L: Naming> SharedEngine<L> {
     /// The book of an engine behind a lock, with the blank of a ledger of 65 parts. Its name has
     /// the engine's room and its journal.
     pub fn new(engine: Engine, blank: Blank) -> Self
-        requires name { blank.name ≡ L.name }
-        requires parts { blank.parts ≡ L.parts }
-        requires seats { blank.parts ≡ 65 }
-        requires room { L.room + length engine.entries ≡ engine.capacity }
-        requires log { L.log ≡ engine }
+        requires { Opens blank.name blank.parts L.name L.parts L.room L.log engine }
     {
         SharedEngine::over(Book::new(engine, blank))
     }

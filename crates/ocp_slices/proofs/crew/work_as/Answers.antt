@@ -14,6 +14,6 @@ returns-in-Ok g c =
     let long : length news ≡ c.in_ok-seats.seats.len = c.workers.ensures.count ∙ c.as_mut_slice-all.ensures.len in
     let same : take c.in_ok-seats.seats.len (news ++ drop (length news) c.in_ok-seats.seats.items) ≡ news = take_at news (drop (length news) c.in_ok-seats.seats.items) c.in_ok-seats.seats.len long in
     let closed : IsClosed c.args.engine c.in-Ok.engine news =
-    subst (λ (start : Log). IsClosed start c.in-Ok.engine news) c.requires.log
+    subst (λ (start : Log). IsClosed start c.in-Ok.engine news) c.requires.opens.log
     (subst (λ (seats : List SeatContents). IsClosed g.L.Naming.log c.in-Ok.engine seats) same c.in-Ok.ensures.ok) in
     worked_by c.args.engine c.in-Ok.engine c.in_ok-seats.seats.items news c.args.crew c.args.budget c.args.turns c.in_ok-seats.ensures.count c.in_ok-seats.ensures.fresh goes closed
