@@ -1,21 +1,14 @@
 //! How answers are shown.
 
-use crate::lines::Fault;
-use ocp_slices::{EngineFault, Entry, Reports};
-use std::alloc::Global;
+use driver_lines::*;
+use ocp_slices::{Entry, Reports};
 use std::fmt;
-use std::fmt::{Debug, Display};
 
-/// What a value shows.
-pub(crate) fn text_of<D: Display + Drop>(alloc: Global, value: D) -> Result<String, Fault> {
-    Ok(String::format(alloc, value)?)
-}
-
-/// Octets as hexadecimal digits.
+/// Digits as hexadecimal digits.
 #[derive(Clone, Copy)]
-struct Octets<'a>(&'a [u8]);
+struct Digits<'a>(&'a [u8]);
 
-impl fmt::Display for Octets<'_> {
+impl fmt::Display for Digits<'_> {
     fn fmt<W: fmt::Write>(&self, f: &mut fmt::Formatter<W>) -> fmt::Result {
         for octet in self.0 {
             write!(f, "{octet:02x}")?;
@@ -31,7 +24,7 @@ struct Packets<'a>(&'a Reports);
 impl fmt::Display for Packets<'_> {
     fn fmt<W: fmt::Write>(&self, f: &mut fmt::Formatter<W>) -> fmt::Result {
         for packet in self.0.packets() {
-            write!(f, " {}", Octets(packet.as_slice()))?;
+            write!(f, " {}", Digits(packet.as_slice()))?;
         }
         Ok(())
     }
@@ -50,7 +43,7 @@ impl fmt::Display for OfEntry<'_> {
                 octets,
                 mark,
             } => {
-                let octets = Octets(octets.as_slice());
+                let octets = Digits(octets.as_slice());
                 write!(f, "Request {by} {time} {octets}{}", Packets(mark))
             }
             Entry::Steps {
@@ -83,34 +76,15 @@ impl fmt::Display for Entries<'_> {
     }
 }
 
-/// A value as its `Debug` shows it.
-#[derive(Clone, Copy)]
-pub(crate) struct Named<D>(pub D);
-
-impl<D: Debug> fmt::Display for Named<D> {
-    fn fmt<W: fmt::Write>(&self, f: &mut fmt::Formatter<W>) -> fmt::Result {
-        write!(f, "{:?}", self.0)
-    }
-}
-
-/// `Ok` and the packets, or the fault.
-pub(crate) fn show_reports(
-    alloc: Global,
-    answer: &Result<Reports, EngineFault>,
-) -> Result<String, Fault> {
+/// What an event was answered: `Ok` and the packets, an outcome, or the fault.
+pub(crate) fn show_answer(alloc: Global, answer: &ocp_core::Answer) -> Answer {
     match answer {
-        Ok(reports) => Ok(format!(in alloc; "Ok{}", Packets(reports))?),
-        Err(fault) => text_of(alloc, Named(*fault)),
-    }
-}
-
-/// `Ok`, or the fault.
-pub(crate) fn show_done<F: Copy + Debug>(
-    alloc: Global,
-    done: Result<(), F>,
-) -> Result<String, Fault> {
-    match done {
-        Ok(()) => text_of(alloc, "Ok"),
-        Err(fault) => text_of(alloc, Named(fault)),
+        ocp_core::Answer::Requested(Ok(reports)) => {
+            Ok(format!(in alloc; "Ok{}", Packets(reports))?)
+        }
+        ocp_core::Answer::Requested(Err(fault)) => name_of(alloc, *fault),
+        ocp_core::Answer::Stepped(outcome) => name_of(alloc, *outcome),
+        ocp_core::Answer::Commanded(done) => show_done(alloc, *done),
+        ocp_core::Answer::Written(done) => show_done(alloc, *done),
     }
 }

@@ -120,10 +120,21 @@ impl Gate for Heard {
 /// A gate that takes a ticket each time it is called. It never returns if a lock is held then.
 #[derive(Drop)]
 pub(crate) struct Taking<'r, 's, 'h, L: Naming, R: Wait> {
-    pub rt: &'r R,
-    pub alloc: Global,
-    pub shared: &'s SharedEngine<L>,
-    pub heard: &'h Heard,
+    rt: &'r R,
+    alloc: Global,
+    shared: &'s SharedEngine<L>,
+    heard: &'h Heard,
+}
+
+impl<'r, 's, 'h, L: Naming, R: Wait> Taking<'r, 's, 'h, L, R> {
+    pub fn new(rt: &'r R, alloc: Global, shared: &'s SharedEngine<L>, heard: &'h Heard) -> Self {
+        Taking {
+            rt,
+            alloc,
+            shared,
+            heard,
+        }
+    }
 }
 
 impl<L: Naming, R: Wait> Gate for Taking<'_, '_, '_, L, R> {

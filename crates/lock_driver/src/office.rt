@@ -4,163 +4,82 @@ ghost use Rattle.std.specs.Prelude.{◌≤◌};
 
 use crate::gate::{Heard, Taking};
 use crate::turns::Turns;
+use driver_lines::{Global, apply_event};
+use ocp_core::{Answer, Event};
 use ocp_seats::NotClosed;
-use ocp_slices::input::{DebuggerCommand, Drain, PutWord, Request, Step};
 use ocp_slices::{
-    Book, CloseFault, Command, CommitOutcome, DebugFault, Engine, EngineFault, Naming, PutFault,
-    Reports, Seat, SeatFault, SharedEngine, Slice, StepOutcome, StillShared, TakeFault, Ticket,
-    Turn, Work,
+    Book, CloseFault, CommitOutcome, Engine, Naming, Seat, SeatFault, SharedEngine, Slice,
+    StillShared, TakeFault, Ticket, Turn, Work,
 };
-use std::alloc::Global;
 use std::sync::Wait;
 
 /// What answers the calls of seats.
 #[derive(Drop)]
-pub(crate) enum Office<L: Naming> {
+pub(crate) enum Office<'r, L: Naming, R: Wait> {
     Book(Book<L>),
-    Lock(SharedEngine<L>),
+    Lock(&'r R, SharedEngine<L>),
 }
 
 /// An office that was not closed, with its seats, and why.
 #[derive(Drop)]
-pub(crate) struct StillOpen<L: Naming> {
+pub(crate) struct StillOpen<'r, L: Naming, R: Wait> {
     pub why: CloseFault,
-    pub office: Office<L>,
+    pub office: Office<'r, L, R>,
     pub seats: Vec<Seat<L>>,
 }
 
-impl<L: Naming> Office<L> {
-    pub fn seat<R: Wait>(&mut self, rt: &R, alloc: Global) -> Result<Seat<L>, SeatFault> {
+impl<'r, L: Naming, R: Wait> Office<'r, L, R> {
+    pub fn seat(&mut self, alloc: Global) -> Result<Seat<L>, SeatFault> {
         match self {
             Office::Book(book) => book.seat(alloc),
-            Office::Lock(shared) => shared.seat(rt, alloc),
+            Office::Lock(rt, shared) => shared.seat(*rt, alloc),
         }
     }
 
-    pub fn take<R: Wait>(&mut self, rt: &R, alloc: Global) -> Result<Ticket, TakeFault> {
+    pub fn take(&mut self, alloc: Global) -> Result<Ticket, TakeFault> {
         match self {
             Office::Book(book) => book.take(alloc),
-            Office::Lock(shared) => shared.take(rt, alloc),
+            Office::Lock(rt, shared) => shared.take(*rt, alloc),
         }
     }
 
-    pub fn commit<R: Wait>(&mut self, rt: &R, seat: &mut Seat<L>, work: Work) -> CommitOutcome {
+    pub fn commit(&mut self, seat: &mut Seat<L>, work: Work) -> CommitOutcome {
         match self {
             Office::Book(book) => book.commit(seat, work),
-            Office::Lock(shared) => shared.commit(rt, seat, work),
+            Office::Lock(rt, shared) => shared.commit(*rt, seat, work),
         }
     }
 
-    pub fn request<R: Wait>(
-        &mut self,
-        rt: &R,
-        alloc: Global,
-        seat: &mut Seat<L>,
-        time: u32,
-        octets: &[u8],
-    ) -> Result<Reports, EngineFault> {
+    pub fn apply(&mut self, alloc: Global, seat: &mut Seat<L>, event: Event) -> Answer {
         match self {
-            Office::Book(book) => {
-                let request = Request {
-                    alloc,
-                    time,
-                    octets,
-                };
-                book.apply(seat, request)
-            }
-            Office::Lock(shared) => shared.request(rt, alloc, seat, time, octets),
+            Office::Book(book) => apply_event(book, seat, alloc, event),
+            Office::Lock(rt, shared) => apply_through(*rt, shared, alloc, seat, event),
         }
     }
 
-    pub fn drain<R: Wait>(
-        &mut self,
-        rt: &R,
-        alloc: Global,
-        seat: &mut Seat<L>,
-        time: u32,
-    ) -> Result<Reports, EngineFault> {
-        match self {
-            Office::Book(book) => book.apply(seat, Drain { alloc, time }),
-            Office::Lock(shared) => shared.drain(rt, alloc, seat, time),
-        }
-    }
-
-    pub fn step<R: Wait>(&mut self, rt: &R, seat: &mut Seat<L>, id: u16) -> StepOutcome {
-        match self {
-            Office::Book(book) => book.apply(seat, Step { id }),
-            Office::Lock(shared) => shared.step(rt, seat, id),
-        }
-    }
-
-    pub fn slice<R: Wait>(&mut self, rt: &R, seat: &mut Seat<L>, id: u16, budget: u32) -> Slice
+    pub fn slice(&mut self, seat: &mut Seat<L>, id: u16, budget: u32) -> Slice
         requires { 1 ≤ budget }
     {
         match self {
             Office::Book(book) => book.slice(seat, id, budget),
-            Office::Lock(shared) => shared.slice(rt, seat, id, budget),
-        }
-    }
-
-    pub fn put_word<R: Wait>(
-        &mut self,
-        rt: &R,
-        seat: &mut Seat<L>,
-        index: u64,
-        value: u64,
-    ) -> Result<(), PutFault> {
-        match self {
-            Office::Book(book) => book.apply(seat, PutWord { index, value }),
-            Office::Lock(shared) => shared.put_word(rt, seat, index, value),
-        }
-    }
-
-    pub fn debug<R: Wait>(
-        &mut self,
-        rt: &R,
-        seat: &mut Seat<L>,
-        id: u16,
-        command: Command,
-    ) -> Result<(), DebugFault> {
-        match self {
-            Office::Book(book) => book.apply(seat, DebuggerCommand { id, command }),
-            Office::Lock(shared) => debug_shared(rt, shared, seat, id, command),
+            Office::Lock(rt, shared) => shared.slice(*rt, seat, id, budget),
         }
     }
 
     /// One turn, whose gate tells what it hears, and takes a ticket each time it is called.
-    pub fn turn<R: Wait>(
-        &mut self,
-        rt: &R,
-        alloc: Global,
-        seat: &mut Seat<L>,
-        budget: u32,
-        heard: &Heard,
-    ) -> Turn {
+    pub fn turn(&mut self, alloc: Global, seat: &mut Seat<L>, budget: u32, heard: &Heard) -> Turn {
         match self {
-            Office::Book(book) => {
-                let turns = Turns {
-                    alloc,
-                    budget,
-                    heard,
-                };
-                turns.make_one(book, seat)
-            }
-            Office::Lock(shared) => {
-                let gate = Taking {
-                    rt,
-                    alloc,
-                    shared,
-                    heard,
-                };
-                shared.turn(rt, alloc, seat, budget, &gate)
+            Office::Book(book) => Turns::new(alloc, budget, heard).make_one(book, seat),
+            Office::Lock(rt, shared) => {
+                let gate = Taking::new(*rt, alloc, shared, heard);
+                shared.turn(*rt, alloc, seat, budget, &gate)
             }
         }
     }
 
     /// That many of these turns.
-    pub fn turns<R: Wait>(
+    pub fn turns(
         &mut self,
-        rt: &R,
         alloc: Global,
         seat: &mut Seat<L>,
         budget: u32,
@@ -168,68 +87,53 @@ impl<L: Naming> Office<L> {
         heard: &Heard,
     ) {
         match self {
-            Office::Book(book) => {
-                let all = Turns {
-                    alloc,
-                    budget,
-                    heard,
-                };
-                all.make(book, seat, turns);
-            }
-            Office::Lock(shared) => {
-                let gate = Taking {
-                    rt,
-                    alloc,
-                    shared,
-                    heard,
-                };
-                shared.turns(rt, alloc, seat, budget, turns, &gate);
+            Office::Book(book) => Turns::new(alloc, budget, heard).make(book, seat, turns),
+            Office::Lock(rt, shared) => {
+                let gate = Taking::new(*rt, alloc, shared, heard);
+                shared.turns(*rt, alloc, seat, budget, turns, &gate);
             }
         }
     }
 
     /// The engine, if all seats are these.
-    pub fn close(self, seats: Vec<Seat<L>>) -> Result<Engine, StillOpen<L>> {
-        match self {
-            Office::Book(book) => close_book(book, seats),
-            Office::Lock(shared) => close_shared(shared, seats),
-        }
+    pub fn close(self, seats: Vec<Seat<L>>) -> Result<Engine, StillOpen<'r, L, R>> {
+        let (why, office, seats) = match self {
+            Office::Book(book) => match book.close(seats) {
+                Ok(engine) => return Ok(engine),
+                Err(NotClosed { why, book, seats }) => (why, Office::Book(book), seats),
+            },
+            Office::Lock(rt, shared) => match shared.close(seats) {
+                Ok(engine) => return Ok(engine),
+                Err(StillShared { why, shared, seats }) => (why, Office::Lock(rt, shared), seats),
+            },
+        };
+        Err(StillOpen { why, office, seats })
     }
 }
 
-fn debug_shared<L: Naming, R: Wait>(
+/// What an event of a seat is answered through the lock, by the call that it is.
+fn apply_through<L: Naming, R: Wait>(
     rt: &R,
     shared: &SharedEngine<L>,
+    alloc: Global,
     seat: &mut Seat<L>,
-    id: u16,
-    command: Command,
-) -> Result<(), DebugFault> {
-    match command {
-        Command::SetBreak(place) => shared.set_break(rt, seat, id, place),
-        Command::ClearBreak(place) => shared.clear_break(rt, seat, id, place),
-        Command::SetTrace(on) => shared.trace(rt, seat, id, on),
-    }
-}
-
-fn close_book<L: Naming>(book: Book<L>, seats: Vec<Seat<L>>) -> Result<Engine, StillOpen<L>> {
-    match book.close(seats) {
-        Ok(engine) => Ok(engine),
-        Err(NotClosed { why, book, seats }) => {
-            let office = Office::Book(book);
-            Err(StillOpen { why, office, seats })
+    event: Event,
+) -> Answer {
+    match event {
+        Event::Request { time, octets, .. } => {
+            Answer::Requested(shared.request(rt, alloc, seat, time, octets))
         }
-    }
-}
-
-fn close_shared<L: Naming>(
-    shared: SharedEngine<L>,
-    seats: Vec<Seat<L>>,
-) -> Result<Engine, StillOpen<L>> {
-    match shared.close(seats) {
-        Ok(engine) => Ok(engine),
-        Err(StillShared { why, shared, seats }) => {
-            let office = Office::Lock(shared);
-            Err(StillOpen { why, office, seats })
+        Event::Drain { time, .. } => Answer::Requested(shared.drain(rt, alloc, seat, time)),
+        Event::Step { id, .. } => Answer::Stepped(shared.step(rt, seat, id)),
+        Event::PutWord { index, value, .. } => {
+            Answer::Written(shared.put_word(rt, seat, index, value))
         }
+        Event::SetBreak { id, place, .. } => {
+            Answer::Commanded(shared.set_break(rt, seat, id, place))
+        }
+        Event::ClearBreak { id, place, .. } => {
+            Answer::Commanded(shared.clear_break(rt, seat, id, place))
+        }
+        Event::Trace { id, on, .. } => Answer::Commanded(shared.trace(rt, seat, id, on)),
     }
 }

@@ -1,8 +1,7 @@
 //! Tickets, and their works, that lines made.
 
-use crate::lines::Fault;
+use driver_lines::*;
 use ocp_slices::{Ticket, Work};
-use std::alloc::Global;
 
 /// The tickets that were not run, and the works that were not committed.
 #[derive(Drop)]
@@ -20,21 +19,18 @@ impl Runs {
     }
 
     /// Adds a ticket: its procedure.
-    pub fn add(&mut self, alloc: Global, ticket: Ticket) -> Result<String, Fault> {
+    pub fn add(&mut self, alloc: Global, ticket: Ticket) -> Answer {
         let id = ticket.id();
         self.tickets.push(ticket)?;
-        Ok(format!(in alloc; "{id}")?)
+        text_of(alloc, id)
     }
 
     /// Runs one of the tickets, if there are any: the procedure and the count of its work.
-    pub fn run(&mut self, alloc: Global, which: usize, budget: u32) -> Result<String, Fault> {
-        let Some(ticket) = take_one(&mut self.tickets, which) else {
-            return Ok(format!(in alloc; "None")?);
-        };
-        let work = ticket.run(budget);
+    pub fn run(&mut self, alloc: Global, which: usize, budget: u32) -> Answer {
+        let work = some!(alloc, take_one(&mut self.tickets, which)).run(budget);
         let (id, count) = (work.id(), work.count());
         self.works.push(work)?;
-        Ok(format!(in alloc; "{id} {count}")?)
+        text!(alloc; id, count)
     }
 
     /// One of the works, if there are any.

@@ -2,31 +2,29 @@
 
 ghost use Rattle.std.specs.Prelude.{◌<◌, IfOk, length};
 
-use crate::answers::{Named, text_of};
 use crate::gate::Heard;
-use crate::lines::{Calls, Fault, Reply, number};
 use crate::office::{Office, StillOpen};
 use crate::runs::Runs;
 use crate::seats::seat_answer;
+use driver_lines::*;
 use ocp_slices::{Engine, Naming, Seat};
-use std::alloc::{AllocError, Global};
+use std::alloc::AllocError;
 use std::mem;
 use std::sync::Wait;
-use std::thread::Threads;
 
 /// An office, its seats, the tickets and works of its lines, what the gate heard, and the engine
 /// after a close.
 #[derive(Drop)]
-pub(crate) struct Session<L: Naming> {
-    office: Option<Office<L>>,
+pub(crate) struct Session<'r, L: Naming, R: Wait> {
+    office: Option<Office<'r, L, R>>,
     seats: Vec<Seat<L>>,
     runs: Runs,
     heard: Heard,
     closed: Option<Engine>,
 }
 
-impl<L: Naming> Session<L> {
-    pub fn new(alloc: Global, office: Office<L>) -> Result<Self, AllocError> {
+impl<'r, L: Naming, R: Wait> Session<'r, L, R> {
+    pub fn new(alloc: Global, office: Office<'r, L, R>) -> Result<Self, AllocError> {
         Ok(Session {
             office: Some(office),
             seats: Vec::new(alloc),
@@ -52,7 +50,7 @@ impl<L: Naming> Session<L> {
             Err(StillOpen { why, office, seats }) => {
                 self.office = Some(office);
                 self.seats = seats;
-                Ok(Reply::Text(text_of(alloc, Named(why))?))
+                Ok(Reply::Text(name_of(alloc, why)?))
             }
         }
     }
@@ -71,43 +69,35 @@ impl<L: Naming> Session<L> {
         self.seats.push(seat)?;
         reply
     }
-}
 
-impl<L: Naming> Calls for Session<L> {
-    fn answer<R: Threads + Wait + Sync>(
-        &mut self,
-        rt: &R,
-        alloc: Global,
-        words: &[&str],
-    ) -> Result<Reply, Fault> {
-        match *words {
-            ["close"] => self.close_all(alloc),
-            ["close", without] => self.close_without(alloc, number(without)?),
-            _ => Ok(Reply::Text(self.office_answer(rt, alloc, words)?)),
+    /// The answer of a call that leaves the office open.
+    fn text(&mut self, alloc: Global, words: &[&str]) -> Answer {
+        let office = self.office.as_mut().ok_or(Fault::Syntax)?;
+        table! { alloc, words;
+            "seat" => add_seat(office, &mut self.seats, alloc);
+            "take" => match office.take(alloc) {
+                Ok(ticket) => self.runs.add(alloc, ticket),
+                Err(fault) => name_of(alloc, fault),
+            };
+            "run" which: number budget: number => self.runs.run(alloc, which, budget);
+            else match *words {
+                [_, number, ..] => {
+                    let index = index_of(&self.seats, number_of(number)?)?;
+                    let seat = self.seats.get_mut(index).ok_or(Fault::Syntax)?;
+                    seat_answer(office, seat, &mut self.runs, &self.heard, alloc, words)
+                }
+                _ => Err(Fault::Syntax),
+            }
         }
     }
 }
 
-impl<L: Naming> Session<L> {
-    /// The answer of a call that leaves the office open.
-    fn office_answer<R: Wait>(
-        &mut self,
-        rt: &R,
-        alloc: Global,
-        words: &[&str],
-    ) -> Result<String, Fault> {
-        let office = self.office.as_mut().ok_or(Fault::Syntax)?;
-        match *words {
-            ["seat"] => add_seat(rt, office, &mut self.seats, alloc),
-            ["take"] => take(rt, office, &mut self.runs, alloc),
-            ["run", which, budget] => self.runs.run(alloc, number(which)?, number(budget)?),
-            [name, of_seat, ref arguments @ ..] => {
-                let index = index_of(&self.seats, number(of_seat)?)?;
-                let seat = self.seats.get_mut(index).ok_or(Fault::Syntax)?;
-                let (runs, heard) = (&mut self.runs, &self.heard);
-                seat_answer(rt, office, seat, runs, heard, alloc, name, arguments)
-            }
-            _ => Err(Fault::Syntax),
+impl<L: Naming, R: Wait> Calls for Session<'_, L, R> {
+    fn answer(&mut self, alloc: Global, words: &[&str]) -> Result<Reply, Fault> {
+        table! { alloc, words;
+            "close" => self.close_all(alloc);
+            "close" without: number => self.close_without(alloc, without);
+            else self.text(alloc, words).map(Reply::Text)
         }
     }
 }
@@ -122,30 +112,16 @@ fn index_of<L: Naming>(seats: &[Seat<L>], number: u16) -> Result<usize, Fault>
 
 /// The next seat's number.
 fn add_seat<L: Naming, R: Wait>(
-    rt: &R,
-    office: &mut Office<L>,
+    office: &mut Office<L, R>,
     seats: &mut Vec<Seat<L>>,
     alloc: Global,
-) -> Result<String, Fault> {
-    match office.seat(rt, alloc) {
+) -> Answer {
+    match office.seat(alloc) {
         Ok(seat) => {
             let number = seat.number();
             seats.push(seat)?;
             text_of(alloc, number)
         }
-        Err(fault) => text_of(alloc, Named(fault)),
-    }
-}
-
-/// The procedure of the next ticket.
-fn take<L: Naming, R: Wait>(
-    rt: &R,
-    office: &mut Office<L>,
-    runs: &mut Runs,
-    alloc: Global,
-) -> Result<String, Fault> {
-    match office.take(rt, alloc) {
-        Ok(ticket) => runs.add(alloc, ticket),
-        Err(fault) => text_of(alloc, Named(fault)),
+        Err(fault) => name_of(alloc, fault),
     }
 }

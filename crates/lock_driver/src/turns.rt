@@ -8,13 +8,21 @@ use std::alloc::Global;
 /// How turns are made.
 #[derive(Clone, Copy)]
 pub(crate) struct Turns<'a> {
-    pub alloc: Global,
-    pub budget: u32,
+    alloc: Global,
+    budget: u32,
     /// What the gate hears. It takes a ticket each time it is called.
-    pub heard: &'a Heard,
+    heard: &'a Heard,
 }
 
-impl Turns<'_> {
+impl<'a> Turns<'a> {
+    pub fn new(alloc: Global, budget: u32, heard: &'a Heard) -> Self {
+        Turns {
+            alloc,
+            budget,
+            heard,
+        }
+    }
+
     pub fn make_one<L: Naming>(&self, book: &mut Book<L>, seat: &mut Seat<L>) -> Turn {
         let taken = book.take(self.alloc);
         let (turn, _next) = self.make_by(book, seat, taken, false);
