@@ -1,8 +1,28 @@
-//! How answers of an engine are shown.
+//! How answers are shown: lists of them, and those of an engine.
 
-use crate::lines::*;
-use ocp_core::{CommitOutcome, EngineFault, Entry, Reports, Round, Slice, StepOutcome};
+use driver_lines::*;
+use ocp_core::{CommitOutcome, EngineFault, Entry, Reports, Round, RunFault, Slice, StepOutcome};
 use std::fmt;
+
+/// What is shown as a text of its own.
+pub trait Shown {
+    fn show(&self, alloc: Global) -> Answer;
+}
+
+/// The texts of all these, with commas between them; `-` for none.
+pub fn show_all<T: Shown>(alloc: Global, all: &[T]) -> Answer {
+    let mut texts = String::new(alloc);
+    for one in all {
+        if !texts.is_empty() {
+            texts.push_str(", ")?;
+        }
+        texts.push_str(&one.show(alloc)?)?;
+    }
+    if texts.is_empty() {
+        texts.push_str("-")?;
+    }
+    Ok(texts)
+}
 
 /// The packets of reports, with spaces between them; `-` for none.
 #[derive(Clone, Copy)]
@@ -37,7 +57,6 @@ impl fmt::Display for Outcome {
 pub(crate) fn show_reports(alloc: Global, answer: &Result<Reports, EngineFault>) -> Answer {
     match answer {
         Ok(reports) => text!(alloc; "Ok", Packets(reports)),
-        Err(EngineFault::Memory) => Err(Fault::Memory),
         Err(EngineFault::Discarded(cause)) => text!(alloc; "Discarded", Named(*cause)),
         Err(fault) => name_of(alloc, *fault),
     }
@@ -61,6 +80,22 @@ pub(crate) fn show_round(alloc: Global, round: Round) -> Answer {
         Some(step) => text!(alloc; round.count, Outcome(round.last), "step", step),
         None => text!(alloc; round.count, Outcome(round.last)),
     }
+}
+
+/// The answers of a run. If it ended before an event, the refusal and its index come first.
+pub(crate) fn show_run(alloc: Global, ended: Result<Vec<ocp_core::Answer>, RunFault>) -> Answer {
+    match ended {
+        Ok(answers) => {
+            let texts = show_all(alloc, &answers)?;
+            text!(alloc; "Ok:", texts.as_str())
+        }
+        Err(fault) => show_fault(alloc, &fault),
+    }
+}
+
+fn show_fault(alloc: Global, fault: &RunFault) -> Answer {
+    let texts = show_all(alloc, &fault.answers)?;
+    Ok(format!(in alloc; "{:?} {}: {texts}", fault.refusal, fault.index)?)
 }
 
 impl Shown for ocp_core::Answer {

@@ -2,12 +2,13 @@
 
 ghost use Rattle.std.specs.Prelude.{◌+◌, ◌*◌, ◌≤◌, length, IsTrue};
 
-use crate::lines::*;
+use crate::output::Output;
 use bpf_canonical::{Mnemonic, Stem, read_mnemonic};
 use bpf_decode::{decode_at, encode};
 use bpf_listing::{disassemble, line_text};
 use bpf_text::TextLine;
 use bpf_types::Line;
+use driver_lines::*;
 
 /// The octets of a slot.
 const SLOT: usize = 8;

@@ -1,6 +1,6 @@
 //! Calls of ocp_words.
 
-use crate::lines::*;
+use driver_lines::*;
 use ocp_words::{Job, Settings, WordsFault, read_words};
 
 /// The answer of a call.

@@ -1,7 +1,8 @@
 //! Calls of obcp_types and of verification.
 
+use crate::answers::{Shown, show_all};
 use crate::fields::ack_of;
-use crate::lines::*;
+use driver_lines::*;
 use obcp_types::{AcceptanceFailure, CompletionFailure, RequestFault, StartFailure};
 use pus_fields::Rejection;
 use verification::{Notice, Outcome, completion, notices};

@@ -1,8 +1,9 @@
 //! Calls of pus_fields.
 
-use crate::lines::*;
+use crate::output::Output;
 use crate::packets::{apid_of, count_of};
 use bitflags::Flags;
+use driver_lines::*;
 use pus_fields::{Ack, Tc, TcFault, Tm, crc16, read_tc, read_tm, write_tc, write_tm};
 use space_packet::{Apid, IDLE_APID};
 

@@ -1,7 +1,8 @@
 //! Calls of bpf_assembler and ocp_loader.
 
-use crate::lines::*;
+use crate::output::Output;
 use bpf_assembler::{AsmFault, Why, assemble, write_canonical};
+use driver_lines::*;
 use ocp_loader::{LoadFault, Program, load};
 use ocp_profile::Profile;
 

@@ -1,11 +1,13 @@
 //! Calls of ocp_regions and bpf_step, on memories and machines that earlier lines made.
 
-use crate::lines::*;
+ghost use Rattle.std.specs.Prelude.{◌≤◌, IfOk, length};
+
+use crate::output::Output;
 use bpf_step::{MAX_SLOTS, Machine};
 use bpf_types::Size;
+use driver_lines::*;
 use ocp_regions::{ARGUMENT_OCTETS, Regions};
 use std::alloc::AllocError;
-use std::fmt::Debug;
 
 /// The answer of a call of ocp_regions.
 pub(crate) fn memory_answer(made: &mut Vec<Regions>, alloc: Global, words: &[&str]) -> Answer {
@@ -27,15 +29,13 @@ pub(crate) fn memory_answer(made: &mut Vec<Regions>, alloc: Global, words: &[&st
         "ocp_regions.store" memory: number address: number size: size_of number: number => {
             show_done(alloc, at(made, memory)?.store(address, size, number))
         };
-        "ocp_regions.octets" memory: number address: number before: octets => {
-            let mut octets = before;
-            let done = one_of(made, memory)?.octets(address, &mut octets);
-            show_octets(alloc, done, &octets)
+        "ocp_regions.octets" memory: number address: number before => {
+            append!(alloc, before, Octets, out => one_of(made, memory)?.octets(address, out))
         };
         "ocp_regions.set_arguments" memory: number arguments: octets => {
-            set_arguments(alloc, at(made, memory)?, &arguments)
+            show_end(alloc, at(made, memory)?.set_arguments(few(&arguments)?))
         };
-        "ocp_regions.clear" memory: number => { at(made, memory)?.clear(); text_of(alloc, "Ok") };
+        "ocp_regions.clear" memory: number => show_end(alloc, at(made, memory)?.clear());
     }
 }
 
@@ -51,17 +51,15 @@ pub(crate) fn machine_answer(made: &mut Vec<Machine>, alloc: Global, words: &[&s
             text_of(alloc, one_of(made, machine)?.is_same(one_of(made, other)?))
         };
         "bpf_step.start" machine: number arguments: octets => {
-            start(alloc, at(made, machine)?, &arguments)
+            show_end(alloc, at(made, machine)?.start(few(&arguments)?))
         };
         "bpf_step.registers" machine: number => {
             text_of(alloc, Numbers(&one_of(made, machine)?.registers()))
         };
         "bpf_step.place" machine: number => text_of(alloc, one_of(made, machine)?.place());
         "bpf_step.depth" machine: number => text_of(alloc, one_of(made, machine)?.depth());
-        "bpf_step.octets" machine: number address: number before: octets => {
-            let mut octets = before;
-            let done = one_of(made, machine)?.octets(address, &mut octets);
-            show_octets(alloc, done, &octets)
+        "bpf_step.octets" machine: number address: number before => {
+            append!(alloc, before, Octets, out => one_of(made, machine)?.octets(address, out))
         };
         "bpf_step.finish_call" machine: number r0: number => {
             finish_call(alloc, at(made, machine)?, r0, None)
@@ -94,35 +92,24 @@ fn size_of(word: &str) -> Result<Size, Fault> {
     value_of(names!(Size: Byte, Half, Word, Double), word)
 }
 
-fn set_arguments(alloc: Global, memory: &mut Regions, arguments: &[u8]) -> Answer {
+/// Arguments of which a procedure takes so many.
+pub(crate) fn few(arguments: &[u8]) -> Result<&[u8], Fault>
+    ensures { IfOk result (λ few. length few.now ≤ ARGUMENT_OCTETS) }
+{
     if arguments.len() > ARGUMENT_OCTETS {
         return Err(Fault::Syntax);
     }
-    memory.set_arguments(arguments);
-    text_of(alloc, "Ok")
+    Ok(arguments)
 }
 
-fn start(alloc: Global, machine: &mut Machine, arguments: &[u8]) -> Answer {
-    if arguments.len() > ARGUMENT_OCTETS {
-        return Err(Fault::Syntax);
-    }
-    machine.start(arguments);
+/// `Ok`, after a call that has no refusal.
+pub(crate) fn show_end(alloc: Global, _done: ()) -> Answer {
     text_of(alloc, "Ok")
-}
-
-/// `Ok`, or the fault, and the octets that are there then.
-pub(crate) fn show_octets<E: Debug + Drop>(
-    alloc: Global,
-    done: Result<(), E>,
-    octets: &[u8],
-) -> Answer {
-    text!(alloc; show_done(alloc, done)?.as_str(), Octets(octets))
 }
 
 fn finish_call(alloc: Global, machine: &mut Machine, r0: u64, r1: Option<u64>) -> Answer {
     if usize::from(machine.place()) >= MAX_SLOTS {
         return Err(Fault::Syntax);
     }
-    machine.finish_call(r0, r1);
-    text_of(alloc, "Ok")
+    show_end(alloc, machine.finish_call(r0, r1))
 }

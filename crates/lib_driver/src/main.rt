@@ -1,38 +1,10 @@
 //! `lib_driver`: calls of the libraries, a line each, and what they answer, a line each. The form
-//! of a line is that of `lines`.
+//! of a line is that of driver_lines.
 //!
 //! A line makes a thing, as an engine, a table, a machine or a pool, and later lines are calls of
 //! the one made last. `ocp_seats.new` makes a book of the engine; from there on the lines are calls
 //! of the book and of what it shows of the engine, up to a `close` that gives the engine back.
 #![tactic(auto)]
-
-/// A table of names: the values of variants by their own names.
-macro_rules! names {
-    ($type:ident: $($variant:ident),+) => {
-        &[$((stringify!($variant), $type::$variant)),+]
-    };
-}
-
-/// Values, with spaces between them.
-macro_rules! words {
-    ($one:expr) => { $one };
-    ($one:expr, $($more:expr),+) => { Both($one, words!($($more),+)) };
-}
-
-/// The text of values, with spaces between them.
-macro_rules! text {
-    ($alloc:expr; $($word:expr),+) => { text_of($alloc, words!($($word),+)) };
-}
-
-/// The value of an option. Without one the answer is `None`.
-macro_rules! some {
-    ($alloc:expr, $value:expr) => {
-        match $value {
-            Some(value) => value,
-            None => return text_of($alloc, "None"),
-        }
-    };
-}
 
 /// The text of a variant: its name, and values of its fields.
 macro_rules! variant {
@@ -48,7 +20,8 @@ macro_rules! variant {
     };
 }
 
-/// Has a call append to the octets of a word, and shows how it ended and what the octets are then.
+/// Has a call append to the octets of a word, or write over them, and shows how it ended and what
+/// the octets are then.
 macro_rules! append {
     ($alloc:expr, $before:expr, $form:ident, $out:ident => $done:expr) => {{
         let mut output = Output::before($alloc, $before)?;
@@ -58,47 +31,15 @@ macro_rules! append {
     }};
 }
 
-/// What a word says, by the kind of the argument or by the function that reads it.
-macro_rules! read {
-    (number, $alloc:expr, $word:expr) => { number_of($word)? };
-    (flag, $alloc:expr, $word:expr) => { flag_of($word)? };
-    (profile, $alloc:expr, $word:expr) => { profile_of($word)? };
-    (octets, $alloc:expr, $word:expr) => { octets($alloc, $word)? };
-    (id, $alloc:expr, $word:expr) => { id_of($alloc, $word)? };
-    ($reader:ident, $alloc:expr, $word:expr) => { $reader($word)? };
-}
-
-/// What words say by a table. A row has names, of which the first word is one, the other words with
-/// their kinds, any further words in brackets, and what they say. Words of no row are for `else`.
-macro_rules! table {
-    ($alloc:expr, $words:expr; $($($name:literal)|+ $($word:ident $(: $kind:ident)?)*
-            $([$others:ident])? => $answer:expr;)+) => {
-        table!($alloc, $words; $($($name)|+ $($word $(: $kind)?)* $([$others])? => $answer;)+
-            else Err(Fault::Syntax))
-    };
-    ($alloc:expr, $words:expr; $($($name:literal)|+ $($word:ident $(: $kind:ident)?)*
-            $([$others:ident])? => $answer:expr;)+ else $other:expr) => {
-        match *$words {
-            $([$($name)|+, $($word,)* $(ref $others @ ..)?] => {
-                $($(let $word = read!($kind, $alloc, $word);)?)*
-                $answer
-            })+
-            _ => $other,
-        }
-    };
-}
-
 mod answers;
 mod code;
 mod command_line;
-mod desk;
 mod engines;
-mod events;
 mod failures;
 mod fields;
 mod images;
-mod lines;
 mod machines;
+mod output;
 mod packets;
 mod pools;
 mod reports;
@@ -108,31 +49,42 @@ mod seats;
 mod tables;
 mod views;
 
-ghost use Rattle.std.specs.Prelude.{◌≡◌, ◌+◌, length};
-
-use crate::desk::Desk;
-use crate::lines::*;
 use crate::pools::Words;
-use crate::seats::Shared;
+use crate::runs::Runs;
+use crate::seats::Seats;
+use crate::tables::Tables;
 use bpf_step::Machine;
+use driver_lines::*;
 use ocp_regions::Regions;
-use ocp_seats::{Engine, Naming};
+use ocp_seats::{Book, Engine, Naming};
 use std::io;
-use std::marker::Brand;
 use std::process::ExitCode;
-use std::sync::ledger::Blank;
 
-/// What earlier lines made. The first memory and the first machine have the number 0.
+/// What earlier lines made: the engine and the table made last, the engine's tickets and works, and
+/// memories and machines, the first of each with the number 0.
 #[derive(Drop)]
 struct Things {
-    desk: Desk,
+    engine: Option<Engine>,
+    runs: Runs,
+    tables: Tables,
     memories: Vec<Regions>,
     machines: Vec<Machine>,
     words: Words,
 }
 
 impl Things {
-    /// The answer of a call of a library below the engine.
+    fn new(alloc: Global) -> Things {
+        Things {
+            engine: None,
+            runs: Runs::new(alloc),
+            tables: Tables::new(),
+            memories: Vec::new(alloc),
+            machines: Vec::new(alloc),
+            words: Words::new(),
+        }
+    }
+
+    /// The answer of a call of a library.
     fn text(&mut self, alloc: Global, library: &str, words: &[&str]) -> Answer {
         match library {
             "space_packet" => packets::answer(alloc, words),
@@ -147,82 +99,61 @@ impl Things {
             "bpf_step" => machines::machine_answer(&mut self.machines, alloc, words),
             "ocp_pool" => pools::answer(&mut self.words, &mut self.machines, alloc, words),
             "ocp_words" => command_line::answer(alloc, words),
+            "ocp_table" => tables::table_answer(&mut self.tables, alloc, words),
+            "ocp_debug" => tables::debug_answer(&mut self.tables, alloc, words),
+            "ocp_core" => self.engine_text(alloc, words),
             _ => Err(Fault::Syntax),
+        }
+    }
+
+    /// The answer of a call of ocp_core. A new engine replaces the one before, with its tickets and
+    /// works.
+    fn engine_text(&mut self, alloc: Global, words: &[&str]) -> Answer {
+        table! { alloc, words;
+            "ocp_core.new" profile: profile apid: number words: number capacity: number => {
+                self.engine = Some(new_engine(alloc, profile, apid, words, capacity)?);
+                self.runs = Runs::new(alloc);
+                text_of(alloc, "Ok")
+            };
+            else {
+                let engine = self.engine.as_mut().ok_or(Fault::Syntax)?;
+                engines::engine_answer(engine, &mut self.runs, alloc, words)
+            }
         }
     }
 }
 
 impl Calls for Things {
     fn answer(&mut self, alloc: Global, words: &[&str]) -> Result<Reply, Fault> {
-        let [name, ..] = words else {
-            return Err(Fault::Syntax);
-        };
-        match name.split_once('.') {
-            Some(("ocp_table" | "ocp_debug" | "ocp_core" | "ocp_seats", _)) => {
-                self.desk.answer(alloc, words)
-            }
-            Some((library, _)) => self.text(alloc, library, words).map(Reply::Text),
-            None => Err(Fault::Syntax),
+        match *words {
+            ["ocp_seats.new"] if self.engine.is_some() => Ok(Reply::Last(text_of(alloc, "Ok")?)),
+            [name, ..] => match name.split_once('.') {
+                Some((library, _)) => self.text(alloc, library, words).map(Reply::Text),
+                None => Err(Fault::Syntax),
+            },
+            [] => Err(Fault::Syntax),
         }
     }
 }
 
-/// Answers the lines of a book of this engine, which then is the desk's if the book was closed.
-fn answer_seats<L: Naming>(
-    rt: &HostRuntime,
-    script: &mut Script,
-    desk: &mut Desk,
-    engine: Engine,
-    blank: Blank,
-) -> io::Result<End>
-    requires name { blank.name ≡ L.name }
-    requires parts { blank.parts ≡ L.parts }
-    requires seats { blank.parts ≡ 65 }
-    requires room { L.room + length engine.entries ≡ engine.capacity }
-    requires log { L.log ≡ engine }
-{
-    let mut shared = Shared::<L>::new(rt.alloc(), engine, blank);
-    let end = answer_lines(rt, script, &mut shared);
-    desk.put_engine(shared.into_engine());
-    end
-}
-
-/// Answers the lines of a book of the desk's engine, which then is the desk's again.
-fn share(rt: &HostRuntime, script: &mut Script, desk: &mut Desk) -> io::Result<End> {
-    let Some(engine) = desk.take_engine() else {
-        return Ok(End::Syntax);
-    };
-    let _length = engine.journal().len();
-    answer_seats::<Brand>(rt, script, desk, engine, Blank::new(65))
-}
-
-/// Answers the lines that are left.
-fn answer_all(rt: &HostRuntime, script: &mut Script, things: &mut Things) -> io::Result<End> {
-    for _line in 0..script.len() {
-        let mut end = answer_lines(rt, script, things)?;
-        if end == End::Others {
-            end = share(rt, script, &mut things.desk)?;
-        }
-        if end != End::Others {
-            return Ok(end);
-        }
+impl Sharing for Things {
+    fn take_engine(&mut self) -> Option<Engine> {
+        self.engine.take()
     }
-    Ok(End::Input)
-}
 
-/// Answers a script.
-fn answer_script(rt: &HostRuntime) -> io::Result<End> {
-    let mut script = Script::read(rt)?;
-    let mut things = Things {
-        desk: Desk::new(rt.alloc()),
-        memories: Vec::new(rt.alloc()),
-        machines: Vec::new(rt.alloc()),
-        words: Words::new(),
-    };
-    answer_all(rt, &mut script, &mut things)
+    fn answer_seats<L: Naming, R: Print + Alloc<A = Global>>(
+        &mut self,
+        rt: &R,
+        script: &mut Script,
+        book: Book<L>,
+    ) -> io::Result<End> {
+        let mut seats = Seats::new(rt.alloc(), book);
+        let end = answer_lines(rt, script, &mut seats);
+        self.engine = seats.into_engine();
+        end
+    }
 }
 
 fn main(rt: HostRuntime) -> ExitCode {
-    let end = answer_script(&rt);
-    exit_code(&rt, end)
+    answer_script(&rt, &mut Things::new(rt.alloc()))
 }

@@ -1,6 +1,7 @@
 //! Calls of space_packet.
 
-use crate::lines::*;
+use crate::output::Output;
+use driver_lines::*;
 use space_packet::{Apid, Primary, SequenceCount, SequenceFlags, read, write};
 
 /// The answer of a call.

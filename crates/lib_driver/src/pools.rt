@@ -1,8 +1,8 @@
 //! Calls of ocp_pool: a pool and a mailbox that earlier lines made, at a machine of theirs.
 
-use crate::lines::*;
-use crate::machines::at;
+use crate::machines::{at, show_end};
 use bpf_step::{MAX_SLOTS, Machine};
+use driver_lines::*;
 use ocp_pool::{Called, MAX_POOL_WORDS, Mailbox, Pool, PoolOperation, engine_call};
 
 /// The pool and the mailbox of engine calls.
@@ -58,8 +58,7 @@ fn append(alloc: Global, mailbox: &mut Mailbox, numbers: &[u64]) -> Answer {
     if !mailbox.has_room(numbers.len()) {
         return Err(Fault::Syntax);
     }
-    mailbox.append(numbers);
-    text_of(alloc, "Ok")
+    show_end(alloc, mailbox.append(numbers))
 }
 
 fn word(alloc: Global, pool: &Option<Pool>, index: usize) -> Answer {

@@ -1,7 +1,8 @@
 //! Calls of obcp_messages for reports.
 
-use crate::lines::*;
+use crate::output::Output;
 use arrayvec::ArrayVec;
+use driver_lines::*;
 use obcp_messages::{
     BAD_CODE, MAX_ROWS, PlainCode, Report, StartFault, Status, StatusRow, StatusRows, read_report,
     write_report,
@@ -73,14 +74,6 @@ fn report_of(alloc: Global, words: &[&str]) -> Result<Option<Report>, Fault> {
         "Completed" request: id => Ok(Some(Report::Completed { request }));
         "NotCompleted" request: id code: number => Ok(Some(Report::NotCompleted { request, code }));
         "Status" [rows] => status_report(rows);
-    }
-}
-
-/// The first four octets of a request.
-fn id_of(alloc: Global, word: &str) -> Result<[u8; 4], Fault> {
-    match octets(alloc, word)?.as_slice() {
-        [a, b, c, d] => Ok([*a, *b, *c, *d]),
-        _ => Err(Fault::Syntax),
     }
 }
 

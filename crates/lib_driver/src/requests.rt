@@ -1,9 +1,10 @@
 //! Calls of obcp_messages for requests.
 
-use crate::lines::*;
+use crate::output::Output;
 use crate::reports;
 use arrayvec::ArrayVec;
 use bitflags::Flags;
+use driver_lines::*;
 use obcp_messages::{Arguments, Code, MAX_WORDS, Request, Words, read_request, write_request};
 use ocp_profile::Profile;
 use pus_fields::{Ack, Tc};

@@ -1,6 +1,6 @@
 //! Tickets, and their works, that earlier lines made.
 
-use crate::lines::*;
+use driver_lines::*;
 use ocp_core::{Ticket, Work};
 
 /// The tickets that there are, the first with the number 0, and the works; none in the place of one

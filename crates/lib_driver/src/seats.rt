@@ -1,33 +1,25 @@
 //! Calls of ocp_seats, on a book and its seats.
 
-ghost use Rattle.std.specs.Prelude.{◌≡◌, ◌+◌, length};
-
-use crate::lines::*;
+use crate::answers::show_all;
 use crate::runs::Runs;
 use crate::{engines, views};
-use ocp_seats::{Book, Engine, Naming, NotClosed, Seat, SeatFault, TakeFault};
-use std::sync::ledger::Blank;
+use driver_lines::*;
+use ocp_seats::{Book, Engine, Naming, NotClosed, Seat};
 
 /// A book, its seats in the order of their numbers, the tickets and works of its lines, and the
 /// engine that it gave back.
 #[derive(Drop)]
-pub(crate) struct Shared<L: Naming> {
+pub(crate) struct Seats<L: Naming> {
     book: Option<Book<L>>,
     seats: Vec<Option<Seat<L>>>,
     runs: Runs,
     closed: Option<Engine>,
 }
 
-impl<L: Naming> Shared<L> {
-    pub fn new(alloc: Global, engine: Engine, blank: Blank) -> Self
-        requires name { blank.name ≡ L.name }
-        requires parts { blank.parts ≡ L.parts }
-        requires seats { blank.parts ≡ 65 }
-        requires room { L.room + length engine.entries ≡ engine.capacity }
-        requires log { L.log ≡ engine }
-    {
-        Shared {
-            book: Some(Book::new(engine, blank)),
+impl<L: Naming> Seats<L> {
+    pub fn new(alloc: Global, book: Book<L>) -> Self {
+        Seats {
+            book: Some(book),
             seats: Vec::new(alloc),
             runs: Runs::new(alloc),
             closed: None,
@@ -65,7 +57,7 @@ impl<L: Naming> Shared<L> {
     }
 }
 
-impl<L: Naming> Calls for Shared<L> {
+impl<L: Naming> Calls for Seats<L> {
     fn answer(&mut self, alloc: Global, words: &[&str]) -> Result<Reply, Fault> {
         if let ["ocp_seats.close", numbers @ ..] = words {
             return self.close(alloc, numbers);
@@ -121,7 +113,6 @@ fn book_answer<L: Naming>(
         "ocp_seats.seat_count" => text_of(alloc, book.seat_count());
         "ocp_seats.take" => match book.take(alloc) {
             Ok(ticket) => runs.add_ticket(alloc, ticket),
-            Err(TakeFault::Memory) => Err(Fault::Memory),
             Err(fault) => name_of(alloc, fault),
         };
         "ocp_seats.receipts" seat => {
@@ -149,7 +140,6 @@ fn add_seat<L: Naming>(
             seats.push(Some(seat))?;
             text_of(alloc, number)
         }
-        Err(SeatFault::Memory) => Err(Fault::Memory),
         Err(fault) => name_of(alloc, fault),
     }
 }

@@ -1,13 +1,14 @@
 //! Calls of ocp_table and of ocp_debug, on the table that an earlier line made.
 
-use crate::answers::Outcome;
+use crate::answers::{Outcome, Shown, show_all};
 use crate::code::line_of;
-use crate::lines::*;
+use crate::machines::few;
+use crate::output::Output;
 use crate::pools::pool_of;
 use crate::views::show_view;
+use driver_lines::*;
 use ocp_core::StepOutcome;
 use ocp_debug::{Trace, clear_break, set_break, set_trace, trace_text, view, view_text};
-use ocp_regions::ARGUMENT_OCTETS;
 use ocp_table::{PendingOrigin, Pool, Profile, StartFailure, StatusRow, Table};
 
 /// A table, and the pool of its procedures.
@@ -123,10 +124,10 @@ fn record_of(alloc: Global, words: &[&str]) -> Result<Trace, Fault> {
 }
 
 fn activate(alloc: Global, table: &mut Table, id: u16, budget: u32, arguments: &[u8]) -> Answer {
-    if arguments.len() > ARGUMENT_OCTETS || budget != 0 && table.profile() == Profile::One {
+    if budget != 0 && table.profile() == Profile::One {
         return Err(Fault::Syntax);
     }
-    show_start(alloc, table.activate(id, budget, arguments))
+    show_start(alloc, table.activate(id, budget, few(arguments)?))
 }
 
 fn show_start(alloc: Global, done: Result<(), StartFailure>) -> Answer {

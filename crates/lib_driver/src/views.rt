@@ -1,8 +1,9 @@
 //! Calls of an engine that change nothing of it.
 
-use crate::lines::*;
-use crate::machines::show_octets;
+use crate::answers::show_all;
+use crate::output::Output;
 use crate::runs::Runs;
+use driver_lines::*;
 use ocp_core::{Engine, replay_one};
 use ocp_table::{Cause, Pending, View};
 use std::fmt;
@@ -14,10 +15,8 @@ pub(crate) fn answer(engine: &Engine, runs: &mut Runs, alloc: Global, words: &[&
         "ocp_core.room" => text_of(alloc, engine.room());
         "ocp_core.entries" => show_all(alloc, engine.journal().entries());
         "ocp_core.pool_word" index: number => text_of(alloc, OrNone(engine.pool_word(index)));
-        "ocp_core.memory" id: number address: number before: octets => {
-            let mut octets = before;
-            let done = engine.memory(id, address, &mut octets);
-            show_octets(alloc, done, &octets)
+        "ocp_core.memory" id: number address: number before => {
+            append!(alloc, before, Octets, out => engine.memory(id, address, out))
         };
         "ocp_core.trace_lines" before => {
             append!(alloc, before, Text, out => or_memory(engine.trace_lines(out)))
