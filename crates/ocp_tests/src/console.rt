@@ -1,4 +1,7 @@
 //! The console and the ground commands with devices that fail, and with memory that is refused.
+
+ghost use Rattle.std.specs.Prelude.{◌≡◌};
+
 use crate::devices::{Giver, Taker};
 use crate::heap::Refusing;
 use ocp_console::{ConsoleFault, Crew, CrewFault, Device, Settings, asm, list, run};
@@ -53,41 +56,8 @@ const COMMANDS: [(Command, &[u8], &[u8]); 3] = [
     (Command::Run(CrewFault::Workers), SCRIPT, TRANSCRIPT),
 ];
 
-/// How a command ended.
-#[derive(Clone, Copy, PartialEq, Eq)]
-enum End {
-    Done,
-    Read,
-    Write,
-    Memory,
-    Workers,
-    Other,
-}
-
-fn end_by(fault: ConsoleFault) -> End {
-    match fault {
-        ConsoleFault::Read => End::Read,
-        ConsoleFault::Write => End::Write,
-        ConsoleFault::Memory => End::Memory,
-        ConsoleFault::Workers => End::Workers,
-        _ => End::Other,
-    }
-}
-
-fn end_of(ended: Result<bool, ConsoleFault>) -> End {
-    match ended {
-        Ok(true) => End::Done,
-        Ok(false) => End::Other,
-        Err(fault) => end_by(fault),
-    }
-}
-
-fn end_of_run(ended: Result<(), ConsoleFault>) -> End {
-    match ended {
-        Ok(()) => End::Done,
-        Err(fault) => end_by(fault),
-    }
-}
+/// How a command ended: whether it was done, or its fault.
+type End = Result<bool, ConsoleFault>;
 
 /// A crew that refuses each work.
 #[derive(Drop)]
@@ -103,6 +73,33 @@ impl<E: Drop> Crew<E> for Refuser {
     }
 }
 
+/// A reader or a writer that has not failed.
+fn device<D: Drop>(inner: D) -> Device<D>
+    ensures { result.failed ≡ 0 }
+{
+    Device { inner, failed: 0 }
+}
+
+/// Runs a script with a crew, and returns how it ended and what the other device holds.
+fn perform_run<A: Allocator + Copy, C: Crew<Engine<A>>>(
+    alloc: A,
+    crew: &C,
+    giver: Giver,
+    taker: Taker,
+) -> (End, Taker)
+    requires { C.ready crew.now }
+{
+    let (mut reader, mut writer) = (device(giver), device(taker));
+    let Some(settings) = Settings::new(Profile::One, 0x123, 16, 10) else {
+        return (Ok(false), writer.inner);
+    };
+    let end = match run(alloc, settings, crew, &mut reader, &mut writer) {
+        Ok(()) => Ok(true),
+        Err(fault) => Err(fault),
+    };
+    (end, writer.inner)
+}
+
 /// Does a command from one device to the other, and returns how it ended and what the other device
 /// holds.
 fn perform<A: Allocator + Copy>(
@@ -111,24 +108,14 @@ fn perform<A: Allocator + Copy>(
     giver: Giver,
     taker: Taker,
 ) -> (End, Taker) {
-    let mut reader = Device {
-        inner: giver,
-        failed: 0,
-    };
-    let mut writer = Device {
-        inner: taker,
-        failed: 0,
-    };
-    let Some(settings) = Settings::new(Profile::One, 0x123, 16, 10) else {
-        return (End::Other, writer.inner);
-    };
+    if let Command::Run(fault) = command {
+        return perform_run(alloc, &Refuser(fault), giver, taker);
+    }
+    let (mut reader, mut writer) = (device(giver), device(taker));
     let end = match command {
-        Command::Assemble => end_of(asm(alloc, Profile::One, &mut reader, &mut writer)),
-        Command::List => end_of(list(alloc, &mut reader, &mut writer)),
-        Command::Run(fault) => {
-            let crew = Refuser(fault);
-            end_of_run(run(alloc, settings, &crew, &mut reader, &mut writer))
-        }
+        Command::Assemble => asm(alloc, Profile::One, &mut reader, &mut writer),
+        Command::List => list(alloc, &mut reader, &mut writer),
+        Command::Run(_) => Ok(false),
     };
     (end, writer.inner)
 }
@@ -136,7 +123,7 @@ fn perform<A: Allocator + Copy>(
 /// Whether a command is done, and the other device holds the whole output.
 fn is_done(alloc: Global, command: Command, giver: Giver, taker: Taker, output: &[u8]) -> bool {
     let (end, taker) = perform(alloc, command, giver, taker);
-    end == End::Done && taker.kept() == output
+    matches!(end, Ok(true)) && taker.kept() == output
 }
 
 /// Whether a command whose writer takes `room` octets ends with a failed write, and the writer has
@@ -152,7 +139,9 @@ fn is_cut(
     let giver = Giver::new(input, ROOM, MOST);
     let taker = Taker::new(alloc, 50, room, fails);
     let (end, taker) = perform(alloc, command, giver, taker);
-    end == End::Write && taker.kept().len() == room && output.starts_with(taker.kept())
+    matches!(end, Err(ConsoleFault::Write))
+        && taker.kept().len() == room
+        && output.starts_with(taker.kept())
 }
 
 #[test]
@@ -179,7 +168,7 @@ fn is_unread(
 ) -> bool {
     let taker = Taker::new(alloc, ROOM, ROOM, true);
     let (end, taker) = perform(alloc, command, Giver::new(input, 1, good), taker);
-    end == End::Read && output.starts_with(taker.kept())
+    matches!(end, Err(ConsoleFault::Read)) && output.starts_with(taker.kept())
 }
 
 #[test]
@@ -213,8 +202,8 @@ fn is_refused(
         heap.allow(growths);
         let (end, taker) = perform(heap, command, Giver::new(input, 40, MOST), taker);
         match end {
-            End::Done => return growths > 0 && taker.kept() == output,
-            End::Memory if output.starts_with(taker.kept()) => {}
+            Ok(true) => return growths > 0 && taker.kept() == output,
+            Err(ConsoleFault::Memory) if output.starts_with(taker.kept()) => {}
             _ => return false,
         }
     }
@@ -232,19 +221,24 @@ fn each_growth_of_a_command_is_refused(rt: HostRuntime) {
 /// A script whose second line asks for the crew.
 const WORKED: &[u8] = b"journal\nwork 2 100 1000\njournal\n";
 
-/// Whether a script with a crew that refuses with this fault ends as wanted, with what it wrote
-/// before.
-fn is_refused_work(alloc: Global, fault: CrewFault, wanted: End) -> bool {
+/// How a script ends with a crew that refuses with this fault, if it wrote what comes before.
+fn end_with_a_refuser(alloc: Global, fault: CrewFault) -> Option<End> {
     let giver = Giver::new(WORKED, ROOM, MOST);
     let taker = Taker::new(alloc, ROOM, ROOM, true);
     let (end, taker) = perform(alloc, Command::Run(fault), giver, taker);
-    end == wanted && taker.kept() == b"journal 0\n".as_slice()
+    if taker.kept() == b"journal 0\n".as_slice() {
+        Some(end)
+    } else {
+        None
+    }
 }
 
 #[test]
 fn a_crew_that_refuses_ends_the_run(rt: HostRuntime) {
-    assert!(rt; is_refused_work(rt.alloc(), CrewFault::Workers, End::Workers));
-    assert!(rt; is_refused_work(rt.alloc(), CrewFault::Memory, End::Memory));
+    let end = end_with_a_refuser(rt.alloc(), CrewFault::Workers);
+    assert!(rt; matches!(end, Some(Err(ConsoleFault::Workers))));
+    let end = end_with_a_refuser(rt.alloc(), CrewFault::Memory);
+    assert!(rt; matches!(end, Some(Err(ConsoleFault::Memory))));
 }
 
 /// Each kind of line that leaves an entry; between them the time is set twice. The last line
@@ -279,15 +273,15 @@ const ENTRIES: [(u16, u32); 9] = [
 ];
 
 fn seat_and_time(entry: &Entry) -> (u16, u32) {
-    match entry {
-        Entry::Request { by, time, .. } => (*by, *time),
-        Entry::Drain { by, time, .. } => (*by, *time),
-        Entry::Steps { by, id, .. } => (*by, u32::from(*id)),
-        Entry::SetBreak { by, id, .. } => (*by, u32::from(*id)),
-        Entry::ClearBreak { by, id, .. } => (*by, u32::from(*id)),
-        Entry::Trace { by, id, .. } => (*by, u32::from(*id)),
-        Entry::PutWord { by, index, .. } => (*by, u32::from(*index)),
-    }
+    let time = match entry {
+        Entry::Request { time, .. } | Entry::Drain { time, .. } => *time,
+        Entry::Steps { id, .. }
+        | Entry::SetBreak { id, .. }
+        | Entry::ClearBreak { id, .. }
+        | Entry::Trace { id, .. } => u32::from(*id),
+        Entry::PutWord { index, .. } => u32::from(*index),
+    };
+    (entry.by(), time)
 }
 
 /// Whether these are the entries of the lines.
@@ -329,22 +323,15 @@ impl Crew<Engine> for Auditor {
 
 /// How a script ends whose crew looks at the journal.
 fn end_with_an_auditor(alloc: Global, script: &'static [u8]) -> End {
-    let mut reader = Device {
-        inner: Giver::new(script, ROOM, MOST),
-        failed: 0,
-    };
-    let mut writer = Device {
-        inner: Taker::new(alloc, ROOM, ROOM, true),
-        failed: 0,
-    };
-    let Some(settings) = Settings::new(Profile::One, 0x123, 16, 10) else {
-        return End::Other;
-    };
-    end_of_run(run(alloc, settings, &Auditor, &mut reader, &mut writer))
+    let giver = Giver::new(script, ROOM, MOST);
+    let (end, _taker) = perform_run(alloc, &Auditor, giver, Taker::new(alloc, ROOM, ROOM, true));
+    end
 }
 
 #[test]
 fn entries_have_seat_0_and_the_time_of_the_last_time_line(rt: HostRuntime) {
-    assert!(rt; end_with_an_auditor(rt.alloc(), JOURNALED) == End::Done);
-    assert!(rt; end_with_an_auditor(rt.alloc(), b"work 1 1 1\n") == End::Workers);
+    let end = end_with_an_auditor(rt.alloc(), JOURNALED);
+    assert!(rt; matches!(end, Ok(true)));
+    let end = end_with_an_auditor(rt.alloc(), b"work 1 1 1\n");
+    assert!(rt; matches!(end, Err(ConsoleFault::Workers)));
 }

@@ -17,4 +17,6 @@ mod packets;
 #[cfg(test)]
 mod pairs;
 #[cfg(test)]
+mod trials;
+#[cfg(test)]
 mod words;

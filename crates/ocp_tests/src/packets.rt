@@ -1,7 +1,7 @@
 //! Telecommand packets, written by a script that knows only the tables of the profile, and engines
 //! that took them.
 
-ghost use Rattle.std.specs.Prelude.{◌≤◌};
+ghost use Rattle.std.specs.Prelude.{◌≤◌, length};
 
 use ocp_profile::Profile;
 use ocp_slices::{Engine, Naming, Seat, SharedEngine};
@@ -34,13 +34,20 @@ const SUSPEND_LOOP: [u8; 17] = [
     0x16,
 ];
 
-// The load of a loop as another procedure: its id, and the error control of the octets before it.
+// Writes the error control of a packet after the octets before it.
+fn seal(packet: &mut [u8])
+    requires { 2 ≤ length packet.old }
+{
+    let end = packet.len() - 2;
+    let control = crc16(&packet[..end]).to_be_bytes();
+    packet[end..].copy_from_slice(&control);
+}
+
+// The load of a loop as another procedure.
 pub(crate) fn load_loop(id: u8) -> [u8; 49] {
     let mut packet = LOAD_LOOP;
     packet[12] = id;
-    let [high, low] = crc16(&packet[..47]).to_be_bytes();
-    packet[47] = high;
-    packet[48] = low;
+    seal(&mut packet);
     packet
 }
 
@@ -48,9 +55,7 @@ pub(crate) fn load_loop(id: u8) -> [u8; 49] {
 pub(crate) fn load_long() -> [u8; 49] {
     let mut packet = LOAD_LOOP;
     packet[22] = 0x7f;
-    let [high, low] = crc16(&packet[..47]).to_be_bytes();
-    packet[47] = high;
-    packet[48] = low;
+    seal(&mut packet);
     packet
 }
 
@@ -64,12 +69,10 @@ pub(crate) fn suspend_loop(id: u8) -> [u8; 17] {
     of_loop(SUSPEND_LOOP, id)
 }
 
-// A request for another loop: its id, and the error control of the octets before it.
+// A request for another loop.
 fn of_loop(mut packet: [u8; 17], id: u8) -> [u8; 17] {
     packet[12] = id;
-    let [high, low] = crc16(&packet[..15]).to_be_bytes();
-    packet[15] = high;
-    packet[16] = low;
+    seal(&mut packet);
     packet
 }
 
@@ -97,11 +100,7 @@ pub(crate) fn with_loops(alloc: Global, capacity: u32, count: u8) -> Option<Engi
     requires count { count ≤ 16 }
 {
     let mut engine = Engine::new(alloc, Profile::One, 0x123, 16, capacity).ok()?;
-    if takes_loops(alloc, &mut engine, count) {
-        Some(engine)
-    } else {
-        None
-    }
+    takes_loops(alloc, &mut engine, count).then_some(engine)
 }
 
 // Whether a procedure is shown as a loop at its end.
