@@ -1,6 +1,6 @@
 //! Scripts in which seats share an engine.
 
-ghost use Rattle.std.specs.Prelude.{◌≡◌, ◌+◌, length};
+ghost use Rattle.ocp_seats.specs.Seats.{Opens};
 
 use crate::script::{Calls, End, Script, answer_lines, exit_code};
 use ocp_seats::{Book, Engine, Naming};
@@ -32,11 +32,7 @@ fn share_as<L: Naming, S: Sharing, R: Print + Alloc<A = Global>>(
     engine: Engine,
     blank: Blank,
 ) -> io::Result<End>
-    requires name { blank.name ≡ L.name }
-    requires parts { blank.parts ≡ L.parts }
-    requires seats { blank.parts ≡ 65 }
-    requires room { L.room + length engine.entries ≡ engine.capacity }
-    requires log { L.log ≡ engine }
+    requires opens { Opens blank.name blank.parts L.name L.parts L.room L.log engine }
 {
     desk.answer_seats(rt, script, Book::<L>::new(engine, blank))
 }

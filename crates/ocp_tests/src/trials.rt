@@ -1,6 +1,6 @@
 //! The book of an engine for a test, and waits of its threads.
 
-ghost use Rattle.std.specs.Prelude.{◌≡◌, ◌+◌, length};
+ghost use Rattle.ocp_seats.specs.Seats.{Opens};
 
 use ocp_slices::{Book, Engine, Naming};
 use std::alloc::Global;
@@ -36,11 +36,7 @@ fn try_as<L: Naming + Send + Sync, T: Trial<R>, R: Threads + Wait + Sync>(
     engine: Engine,
     blank: Blank,
 ) -> Option<bool>
-    requires name { blank.name ≡ L.name }
-    requires parts { blank.parts ≡ L.parts }
-    requires seats { blank.parts ≡ 65 }
-    requires room { L.room + length engine.entries ≡ engine.capacity }
-    requires log { L.log ≡ engine }
+    requires opens { Opens blank.name blank.parts L.name L.parts L.room L.log engine }
 {
     trial.run(rt, alloc, Book::<L>::new(engine, blank))
 }
