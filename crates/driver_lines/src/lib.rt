@@ -90,7 +90,7 @@ pub use reading::{
     Fault, flag_of, id_of, number_of, numbers_of, octets, or_memory, profile_of, value_of,
 };
 pub use script::{Calls, End, Reply, Script, answer_lines, exit_code};
-pub use seats::{Sharing, answer_script};
+pub use seats::{Sharing, answer_script, share};
 pub use shown::{Numbers, Octets, Text};
 pub use std::alloc::Global;
 pub use texts::{Answer, Both, Named, name_of, show_done, text_of};

@@ -33,11 +33,32 @@ impl Script {
         self.lines.len()
     }
 
-    /// The next line, and its number from 1 on.
-    fn next_line(&mut self) -> Option<(usize, &str)> {
+    /// The next line.
+    fn next_line(&mut self) -> Option<&str> {
         let line = self.lines.get(self.taken)?;
         self.taken = self.taken.saturating_add(1);
-        Some((self.taken, line.as_str()))
+        Some(line.as_str())
+    }
+
+    /// Prints the answer of the line that was taken last, and says whether the lines end with it.
+    pub fn print(
+        &self,
+        rt: &impl Print,
+        reply: Result<Option<Reply>, Fault>,
+    ) -> io::Result<Option<End>> {
+        match reply {
+            Ok(Some(reply)) => print_answer(rt, reply),
+            Ok(None) => Ok(None),
+            Err(Fault::Syntax) => {
+                println!(rt; "error {} Syntax", self.taken)?;
+                Ok(Some(End::Syntax))
+            }
+            Err(Fault::Memory) => {
+                println!(rt; "Memory")?;
+                Ok(None)
+            }
+            Err(Fault::Program) => Err(AllocError.into()),
+        }
     }
 }
 
@@ -47,6 +68,8 @@ pub enum Reply {
     Text(String),
     /// The lines after this one are answered by others.
     Last(String),
+    /// This line and those after it are answered by others.
+    Later,
 }
 
 /// What answers lines.
@@ -83,42 +106,22 @@ pub fn answer_lines<C: Calls>(
     calls: &mut C,
 ) -> io::Result<End> {
     for _line in 0..script.len() {
-        let Some((number, line)) = script.next_line() else {
+        let Some(line) = script.next_line() else {
             return Ok(End::Input);
         };
         let reply = answer_line(calls, rt.alloc(), line);
-        if let Some(end) = print_reply(rt, number, reply)? {
+        if let Some(end) = script.print(rt, reply)? {
             return Ok(end);
         }
     }
     Ok(End::Input)
 }
 
-/// Prints the answer of the line with this number, and says whether the lines end with it.
-fn print_reply(
-    rt: &impl Print,
-    number: usize,
-    reply: Result<Option<Reply>, Fault>,
-) -> io::Result<Option<End>> {
-    match reply {
-        Ok(Some(reply)) => print_answer(rt, reply),
-        Ok(None) => Ok(None),
-        Err(Fault::Syntax) => {
-            println!(rt; "error {number} Syntax")?;
-            Ok(Some(End::Syntax))
-        }
-        Err(Fault::Memory) => {
-            println!(rt; "Memory")?;
-            Ok(None)
-        }
-        Err(Fault::Program) => Err(AllocError.into()),
-    }
-}
-
 fn print_answer(rt: &impl Print, reply: Reply) -> io::Result<Option<End>> {
     let (text, end) = match reply {
         Reply::Text(text) => (text, None),
         Reply::Last(text) => (text, Some(End::Others)),
+        Reply::Later => return Ok(Some(End::Others)),
     };
     println!(rt; "{text}")?;
     Ok(end)

@@ -38,7 +38,7 @@ fn share_as<L: Naming, S: Sharing, R: Print + Alloc<A = Global>>(
 }
 
 /// Answers the lines of a book of the desk's engine.
-fn share<S: Sharing, R: Print + Alloc<A = Global>>(
+pub fn share<S: Sharing, R: Print + Alloc<A = Global>>(
     rt: &R,
     script: &mut Script,
     desk: &mut S,

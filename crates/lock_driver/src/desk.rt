@@ -29,28 +29,51 @@ impl Way {
     }
 }
 
-/// The engine made last, what answers the calls of its seats, and what the gate of `work` heard
-/// last.
+/// What a line `work` asks: each of a number of workers makes `turns` turns.
+#[derive(Clone, Copy)]
+pub(crate) struct CrewWork {
+    crew: u16,
+    budget: u32,
+    turns: u32,
+}
+
+/// The engine made last, what answers the calls of its seats, the work that a crew was asked for,
+/// and what its gate heard last.
 #[derive(Drop)]
-pub(crate) struct Desk<'r, R: Threads + Wait + Sync> {
+pub(crate) struct Desk<'r, R: Wait> {
     rt: &'r R,
     way: Way,
     engine: Option<Engine>,
+    asked: Option<CrewWork>,
     heard: Option<Heard>,
 }
 
-impl<'r, R: Threads + Wait + Sync> Desk<'r, R> {
+impl<'r, R: Wait> Desk<'r, R> {
     pub fn new(rt: &'r R, way: Way) -> Self {
         Desk {
             rt,
             way,
             engine: None,
+            asked: None,
             heard: None,
         }
     }
 
-    /// Each of a number of workers makes `turns` turns.
-    fn work(&mut self, alloc: Global, crew: u16, budget: u32, turns: u32) -> Answer {
+    /// The work that the line taken last asks for, if it does.
+    pub fn take_asked(&mut self) -> Option<CrewWork> {
+        self.asked.take()
+    }
+
+    /// Has a crew do the work.
+    pub fn work(&mut self, alloc: Global, asked: CrewWork) -> Answer
+    where
+        R: Threads + Sync,
+    {
+        let CrewWork {
+            crew,
+            budget,
+            turns,
+        } = asked;
         let engine = self.engine.take().ok_or(Fault::Syntax)?;
         if crew > MAX_SEATS {
             return Err(Fault::Syntax);
@@ -81,19 +104,20 @@ impl<'r, R: Threads + Wait + Sync> Desk<'r, R> {
             "heard" seat: number => {
                 show_heard(alloc, self.heard.as_ref().ok_or(Fault::Syntax)?, seat)
             };
-            "work" crew: number budget: number turns: number => {
-                self.work(alloc, crew, budget, turns)
-            };
         }
     }
 }
 
-impl<R: Threads + Wait + Sync> Calls for Desk<'_, R> {
+impl<R: Wait> Calls for Desk<'_, R> {
     fn answer(&mut self, alloc: Global, words: &[&str]) -> Result<Reply, Fault> {
         table! { alloc, words;
             "new" profile: profile apid: number words: number capacity: number => {
                 self.engine = Some(new_engine(alloc, profile, apid, words, capacity)?);
                 Ok(Reply::Last(text_of(alloc, "Ok")?))
+            };
+            "work" crew: number budget: number turns: number => {
+                self.asked = Some(CrewWork { crew, budget, turns });
+                Ok(Reply::Later)
             };
             else match *words {
                 ["share"] if self.engine.is_some() => Ok(Reply::Last(text_of(alloc, "Ok")?)),
@@ -103,7 +127,7 @@ impl<R: Threads + Wait + Sync> Calls for Desk<'_, R> {
     }
 }
 
-impl<R: Threads + Wait + Sync> Sharing for Desk<'_, R> {
+impl<R: Wait> Sharing for Desk<'_, R> {
     fn take_engine(&mut self) -> Option<Engine> {
         self.engine.take()
     }

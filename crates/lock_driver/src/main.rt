@@ -20,6 +20,8 @@ use driver_lines::*;
 use std::env::{self, Env};
 use std::io;
 use std::process::ExitCode;
+use std::sync::Wait;
+use std::thread::Threads;
 
 /// What answers, as the one word after the program's name says.
 fn read_way(rt: &(impl Env + Alloc<A = Global>)) -> io::Result<Option<Way>> {
@@ -27,10 +29,40 @@ fn read_way(rt: &(impl Env + Alloc<A = Global>)) -> io::Result<Option<Way>> {
     Ok(Way::of_words(&words))
 }
 
-fn main(rt: HostRuntime) -> ExitCode {
-    match read_way(&rt) {
-        Ok(Some(way)) => answer_script(&rt, &mut Desk::new(&rt, way)),
-        Ok(None) => exit_code(&rt, Ok(End::Syntax)),
-        Err(error) => exit_code(&rt, Err(error)),
+/// Answers the lines of a script: a desk's, those of the seats that share its engine, and those
+/// that ask a crew to work.
+fn answer_all<R: Threads + Wait + Sync + Input + Print + Alloc<A = Global>>(
+    rt: &R,
+    way: Way,
+) -> io::Result<End> {
+    let mut script = Script::read(rt)?;
+    let mut desk = Desk::new(rt, way);
+    for _line in 0..script.len() {
+        let mut end = answer_lines(rt, &mut script, &mut desk)?;
+        if end == End::Others {
+            end = match desk.take_asked() {
+                Some(asked) => {
+                    let reply = match desk.work(rt.alloc(), asked) {
+                        Ok(text) => Ok(Some(Reply::Text(text))),
+                        Err(fault) => Err(fault),
+                    };
+                    script.print(rt, reply)?.unwrap_or(End::Others)
+                }
+                None => share(rt, &mut script, &mut desk)?,
+            };
+        }
+        if end != End::Others {
+            return Ok(end);
+        }
     }
+    Ok(End::Input)
+}
+
+fn main(rt: HostRuntime) -> ExitCode {
+    let end = match read_way(&rt) {
+        Ok(Some(way)) => answer_all(&rt, way),
+        Ok(None) => Ok(End::Syntax),
+        Err(error) => Err(error),
+    };
+    exit_code(&rt, end)
 }
