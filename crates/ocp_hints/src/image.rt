@@ -13,7 +13,7 @@ use std::alloc::Global;
 use text_lines::octets_of;
 
 /// The number of digits of a slot.
-const SLOT_DIGITS: usize = 16;
+pub(crate) const SLOT_DIGITS: usize = 16;
 
 /// What is said of an input that is too long.
 pub(crate) const TOO_LONG: &[u8] = b"an input has at most 1048576 octets";
@@ -79,18 +79,19 @@ fn digits_of(text: &[u8]) -> &[u8] {
     &[]
 }
 
-/// What was unexpected in digits that spell no octets.
+/// What was unexpected in digits that spell no octets: the first octet that is no digit, or what no
+/// image may have from the digit before it on.
 fn mark_of_digits(alloc: Global, digits: &[u8]) -> Option<Mark> {
-    for (column, octet) in digits.iter().enumerate() {
+    let Some(end) = digits.iter().position(|octet| !octet.is_ascii_hexdigit()) else {
+        let sentence = b"the number of hexadecimal digits is even";
+        return mark_at(alloc, digits.len(), sentence);
+    };
+    for column in [end.saturating_sub(1), end] {
         if let Some(sentence) = text_on_front(digits.get(column..).unwrap_or(&[]), MARKS) {
             return mark_at(alloc, column, sentence);
         }
-        if !octet.is_ascii_hexdigit() {
-            return mark_at(alloc, column, sentence_on_octet(*octet));
-        }
     }
-    let end = digits.len();
-    mark_at(alloc, end, b"the number of hexadecimal digits is even")
+    mark_at(alloc, end, sentence_on_octet(digits[end]))
 }
 
 /// The number of digits of an instruction before the field at fault: the first with which alone the

@@ -4,6 +4,7 @@ ghost use Rattle.std.specs.Prelude.{IfSome};
 ghost use Rattle.ocp_hints.specs.Columns.{IsWithin};
 
 use crate::hint::{Hint, Mark, Shown, front_of, front_of_word, mark_at};
+use crate::image::SLOT_DIGITS;
 use crate::line::{Line, MARKS, Reader, Word, line_at};
 use crate::tables::{Table, sides, text_on_front};
 use bpf_text::LineFault;
@@ -72,18 +73,13 @@ const BUDGET: &[u8] = b"profile 1 has no budget, and arguments have two digits f
 
 const NO_FLAGS: &str = "requests begin with send and the flags: send <flags>";
 
-const IMAGE: &[u8] = b"digits of an image come after send <flags> load <id>";
-
 const NO_COMMAND: &[u8] = b"a line begins with send, up, time, step, round, view, mem, break, \
                             unbreak, trace, pool, put, journal, drain, work";
 
-/// The least digits of an image.
-const SLOT_DIGITS: usize = 16;
+/// The most lines of a script, and the most octets of a line.
+const MAX_LINES: u64 = 100_000;
 
-/// The first line of a script that is too many, and the most octets of a line.
-const FIRST_LINE_TOO_MANY: u64 = 100_001;
-
-const LINE_OCTETS: usize = 40_000;
+const MAX_LINE_OCTETS: usize = 40_000;
 
 /// Whether the first word of a line or of a form is `send`.
 fn is_request(line: &Line<'_>) -> bool {
@@ -166,7 +162,9 @@ fn mark_of_stray(line: &Line<'_>) -> Option<Mark> {
     let is_image = !line.reader_refuses(b"send 0 load 0", word.text, LineFault::Syntax)?;
     let sentence = match line.text_on_stray(word.text, STRAYS) {
         Some(sentence) => sentence,
-        None if is_image && word.text.len() >= SLOT_DIGITS => IMAGE,
+        None if is_image && word.text.len() >= SLOT_DIGITS => {
+            b"digits of an image come after send <flags> load <id>"
+        }
         None => NO_COMMAND,
     };
     mark_at(line.alloc, word.column, sentence)
@@ -217,16 +215,20 @@ pub fn hint_on_script<'a>(
 {
     let number = match fault {
         ConsoleFault::Syntax(number) | ConsoleFault::LineTooLong(number) => u64::from(*number),
-        ConsoleFault::TooManyLines => FIRST_LINE_TOO_MANY,
+        ConsoleFault::TooManyLines => MAX_LINES + 1,
         _ => return None,
     };
     let line = line_at(text, number.saturating_sub(before));
     let mark = match fault {
         ConsoleFault::Syntax(_) => mark_of_line(alloc, profile, line)?,
         ConsoleFault::LineTooLong(_) => {
-            mark_at(alloc, LINE_OCTETS, b"a line has at most 40000 octets")?
+            let sentence = format!(in alloc; "a line has at most {MAX_LINE_OCTETS} octets").ok()?;
+            (MAX_LINE_OCTETS, sentence)
         }
-        _ => mark_at(alloc, 0, b"a script has at most 100000 lines")?,
+        _ => (
+            0,
+            format!(in alloc; "a script has at most {MAX_LINES} lines").ok()?,
+        ),
     };
     Some(Hint::new(Some(("line", number)), line, mark))
 }
