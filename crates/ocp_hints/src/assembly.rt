@@ -15,10 +15,9 @@ use ocp_ports::MAX_INPUT;
 use ocp_profile::Profile;
 use std::alloc::Global;
 
-/// What may follow a mnemonic, and an example of it with the greatest numbers. A mnemonic has those
-/// forms whose examples the assembler takes after it.
-static FORMS: Table = b"<distance with its sign, or label>: +2147483647
-<distance with its sign, or label>: +32767
+/// What may follow a mnemonic, and examples of it with the greatest numbers. A mnemonic has those
+/// forms of which the assembler takes an example after it.
+static FORMS: Table = b"<distance with its sign, or label>: +2147483647|+32767
 <register>, <number without a sign>: r0, 18446744073709551615
 <register>, <register or number>: r0, r0
 <register>: r0
@@ -26,14 +25,11 @@ static FORMS: Table = b"<distance with its sign, or label>: +2147483647
 <register>, <register>, 8 or 16: r0, r0, 16
 <register>, 16 or 32 or 64: r0, 64
 <register>, <register or number>, <distance with its sign, or label>: r0, r0, +32767
-<register>, [<register>+<distance>], with no blank between sign and distance: r0, [r0+32767]
-<register>, [<register>+<distance>], with no blank between sign and distance: r0, [r0]
-[<register>+<distance>], <register>: [r0+32767], r0
-[<register>+<distance>], <register>: [r0], r0
-[<register>+<distance>], <number>: [r0+32767], 4294967295
-[<register>+<distance>], <number>: [r0], 4294967295
-<number of an engine call>, or call local <distance or label>: 4294967295
-<number of an engine call>, or call local <distance or label>: local +2147483647
+<register>, [<register>+<distance>], with no blank between sign and distance: \
+r0, [r0+32767]|r0, [r0]
+[<register>+<distance>], <register>: [r0+32767], r0|[r0], r0
+[<register>+<distance>], <number>: [r0+32767], 4294967295|[r0], 4294967295
+<number of an engine call>, or call local <distance or label>: 4294967295|local +2147483647
 takes no operands:";
 
 /// The sentence for a number out of its range, by the example's word in its place.
@@ -98,14 +94,16 @@ fn best_form(line: &Line<'_>, fault: LineFault) -> Option<Option<Fit>> {
     let mnemonic = line.word(first).text;
     let mut best = None;
     for row in FORMS.split(|octet| *octet == b'\n') {
-        let (form, example) = sides(row);
-        if line.reader_refuses(mnemonic, example, LineFault::Range)? {
-            continue;
-        }
-        let count = line.count_of_words(first, example, fault)?;
-        match best {
-            Some((_, _, most)) if count <= most => {}
-            _ => best = Some((form, example, count)),
+        let (form, examples) = sides(row);
+        for example in examples.split(|octet| *octet == b'|') {
+            if line.reader_refuses(mnemonic, example, LineFault::Range)? {
+                continue;
+            }
+            let count = line.count_of_words(first, example, fault)?;
+            match best {
+                Some((_, _, most)) if count <= most => {}
+                _ => best = Some((form, example, count)),
+            }
         }
     }
     Some(best)
