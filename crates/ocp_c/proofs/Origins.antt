@@ -1,16 +1,9 @@
 -- What waits to be reported repeats a request identifier of at most four octets, after every list of events.
-use Rattle.std.proofs.Common.{◌≡◌, ◌≤◌, ℕ, ◌+◌, Bool, true, false, cond, List, [], ◌∷◌, length, Option, Some, None, refl, ap, ◌∙◌, arith}
-use Rattle.std.specs.Prelude.{Result, Ok, Err, nat_le, nat_lt}
+use Rattle.std.proofs.Common.{◌≡◌, ◌≤◌, ℕ, ◌+◌, Bool, true, false, cond, List, length, Option, Some, None, refl, ap, ◌∙◌, arith}
+use Rattle.std.specs.Prelude.{nat_le}
 use Rattle.std.specs.FinMap.{get}
 use Rattle.ocp_profile.specs.declared.profile.Profile.{Profile}
-use Rattle.pus_fields.specs.declared.fault.TcFault.{TcFault}
-use Rattle.pus_fields.specs.declared.fault.TcFault.TheVariants.{Discarded, Rejected}
-use Rattle.pus_fields.specs.Telecommand.{Telecommand}
-use Rattle.pus_fields.specs.TelecommandFaults.{telecommand_of}
-use Rattle.obcp_types.specs.declared.failure.RequestFault.{RequestFault}
-use Rattle.obcp_types.specs.declared.pending.Due.{Due}
 use Rattle.obcp_types.specs.declared.pending.PendingOrigin.{PendingOrigin}
-use Rattle.obcp_messages.specs.declared.request.Request.{Request as Command}
 use Rattle.ocp_table.specs.declared.control.Pending.{Pending}
 use Rattle.ocp_table.specs.Records.{Rec, Records}
 use Rattle.ocp_table.specs.Effects.{Change, Pended, BreakSet, BreakCleared, TraceSet, Effect, Changed}
@@ -20,20 +13,15 @@ use Rattle.ocp_table.proofs.Asked.{Asks, IsAsked, IsAskedChange, asked}
 use Rattle.ocp_table.proofs.Weighing.{entry, waiting, waiting-empty, due, pended_by_change, pended_there, pended_by, balance, files}
 use Rattle.ocp_debug.specs.declared.command.Command as debug
 use Rattle.ocp_debug.specs.declared.command.Command.TheVariants.{SetBreak, ClearBreak, SetTrace}
-use Rattle.ocp_debug.specs.declared.command.DebugFault.{DebugFault}
 use Rattle.ocp_debug.specs.Commands as commands
 use Rattle.ocp_reports.specs.declared.origin.Origin.{Origin}
-use Rattle.ocp_reports.specs.Origin.{origin_of}
-use Rattle.ocp_world.specs.World as world
 use Rattle.ocp_world.specs.World.{World, Event, opening}
-use Rattle.ocp_world.specs.Requests.{command_effect, command_of, service_effect, request_effect, next_origin}
-use Rattle.ocp_world.specs.Drains.{drain_effect}
-use Rattle.ocp_world.specs.Puts.{put_effect_if}
+use Rattle.ocp_world.specs.Requests.{next_origin}
 use Rattle.ocp_world.specs.After.{effect_of, after}
 use Rattle.ocp_world.specs.Replay.{replay}
-use Rattle.ocp_world.proofs.Asked.{IsAskedIn, each_asked}
+use Rattle.ocp_world.proofs.Asked.{IsAskedIn}
 use Rattle.std.proofs.lemmas.Bool.{leb-true}
-use Rattle.ocp_c.proofs.Few.{along}
+use Rattle.ocp_c.proofs.Events.{IsFour, each_event, along}
 
 -- a longer identifier weighs one
 abbrev pub excess : PendingOrigin → ℕ
@@ -63,9 +51,6 @@ light_effect d m effect light is = refl
 light_in : (d : Directive) (id : ℕ) (m : Records) → IsLight d → pended_by excess (effect_in d id m) m ≡ 0
 light_in d id m light = light_effect d m (effect_in d id m) light (asked d id m)
 
-abbrev IsFour : Origin → Type 0
-IsFour origin = nat_le (length origin.request) 4 ≡ true
-
 module _ (w : World) where
   abbrev Pends : Effect → Type 0
   Pends effect = pended_by excess effect w.records ≡ 0
@@ -78,42 +63,17 @@ module _ (w : World) where
   light_asked origin four (Suspend s from full) is = ap excess is.0 ∙ light_origin origin four
   light_asked origin four d is = tt
 
-  light_command : (request : Command) (origin : Origin) → IsFour origin → Pends (command_effect request origin w).on_records
-  light_command request origin four = each_asked w origin (λ effect. Pends effect.on_records) (λ d id is. light_in d id w.records (light_asked origin four d is)) refl request
-
-  light_service : (r : Result Command RequestFault) (origin : Origin) → IsFour origin → Pends (service_effect r origin w).on_records
-  light_service (Ok request) origin four = light_command request origin four
-  light_service (Err why) origin four = refl
-
-  light_request : (r : Result Telecommand TcFault) (time : ℕ) → Pends (request_effect r time w).on_records
-  light_request (Ok tc) time = light_service (command_of w.profile tc) (origin_of tc time) refl
-  light_request (Err (Rejected rejection request)) time = refl
-  light_request (Err (Discarded cause)) time = refl
-
   light_change : (change : Change) (o : Option Rec) → pended_by_change excess change ≡ 0 → pended_there excess change o ≡ 0
   light_change change None light = refl
   light_change change (Some r) light = light
 
-  light_set : (c : debug.Command) (id : ℕ) (o : Option DebugFault) → Pends (commands.effect_by o c id)
-  light_set (SetBreak place) id None = light_change (BreakSet place) (get w.records id) refl
-  light_set (ClearBreak place) id None = light_change (BreakCleared place) (get w.records id) refl
-  light_set (SetTrace on) id None = light_change (TraceSet on) (get w.records id) refl
-  light_set c id (Some fault) = refl
+  light_set : (c : debug.Command) (id : ℕ) → Pends (Changed id (commands.change_of c))
+  light_set (SetBreak place) id = light_change (BreakSet place) (get w.records id) refl
+  light_set (ClearBreak place) id = light_change (BreakCleared place) (get w.records id) refl
+  light_set (SetTrace on) id = light_change (TraceSet on) (get w.records id) refl
 
-  light_drain : (time : ℕ) (dues : List Due) → Pends (drain_effect time dues).on_records
-  light_drain time [] = refl
-  light_drain time (d ∷ ds) = refl
-
-  light_put : (there : Bool) (index value : ℕ) → Pends (put_effect_if there index value).on_records
-  light_put true index value = refl
-  light_put false index value = refl
-
-light : (w : World) (e : Event) → pended_by excess (effect_of w e).on_records w.records ≡ 0
-light w (world.Request by time octets) = light_request w (telecommand_of w.apid octets) time
-light w (world.Step by id) = light_in (Step w.pool) id w.records tt
-light w (world.Debug by id c) = light_set w c id (commands.fault_on c (get w.records id))
-light w (world.Drain by time) = light_drain w time w.outbox
-light w (world.Put by index value) = light_put w (nat_lt index (length w.pool)) index value
+  light : (e : Event) → Pends (effect_of w e).on_records
+  light = each_event w Pends (λ origin four d id is. light_in d id w.records (light_asked origin four d is)) (λ id. light_in (Step w.pool) id w.records tt) light_set (λ index value. refl) refl refl
 
 -- ---- every list of events
 
