@@ -15,11 +15,10 @@ use Rattle.pus_fields.specs.declared.fault.TcFault.{TcFault}
 use Rattle.pus_fields.specs.declared.fault.TcFault.TheVariants.{Discarded, Rejected}
 use Rattle.pus_fields.specs.declared.fault.Discard.TheVariants.{NotTelecommand, OtherApid}
 use Rattle.pus_fields.specs.declared.fault.Rejection.{Rejection}
-use Rattle.pus_fields.specs.ErrorControl.{error_control}
 use Rattle.pus_fields.specs.Rejections.{rejection_of}
 use Rattle.pus_fields.specs.Telecommand.{Telecommand}
 use Rattle.pus_fields.specs.TelecommandFaults.{telecommand_in, unless_rejected, telecommand_answer, telecommand_of}
-use Rattle.pus_fields.specs.Telemetry.{Telemetry, telemetry_covered, telemetry_octets}
+use Rattle.pus_fields.specs.Telemetry.{telemetry_octets}
 use Rattle.obcp_types.specs.declared.failure.CompletionFailure.{CompletionFailure}
 use Rattle.obcp_types.specs.declared.failure.RequestFault.{RequestFault}
 use Rattle.obcp_types.specs.declared.failure.AcceptanceFailure.{AcceptanceFailure}
@@ -46,6 +45,7 @@ use Rattle.ocp_reports.specs.Origin.{Dispatch, origin_of, origin_of_packet}
 use Rattle.ocp_reports.specs.Reports.{dispatch_of_notice, reports_of}
 use Rattle.ocp_reports.specs.Due.{origin_of_due, due_dispatches, drain_dispatches}
 use Rattle.ocp_reports.specs.Packets.{packets, telemetry_of}
+use Rattle.ocp_reports.proofs.Pieces.{length-telemetry}
 use Rattle.ocp_world.specs.World.{World}
 use Rattle.ocp_world.specs.Effect.{Reply, Sends}
 use Rattle.ocp_world.specs.Requests.{outcome_by, start_effect, status_report, command_effect, command_of, service_effect, request_effect}
@@ -63,15 +63,6 @@ AreShort most (d ∷ ds) = (length (report_data d.report) ≤ most) × AreShort 
 short-append : (most : ℕ) (xs ys : List Dispatch) → AreShort most xs → AreShort most ys → AreShort most (xs ++ ys)
 short-append most [] ys p q = q
 short-append most (x ∷ xs) ys p q = (p.0, short-append most xs ys p.1 q)
-
--- a packet has 19 octets in addition to them
-length-telemetry : (tm : Telemetry) → length (telemetry_octets tm) ≡ 19 + length tm.payload
-unfolding telemetry_octets
-length-telemetry tm =
-    let control = big_bytes 2 (error_control (telemetry_covered tm)) in
-    let whole : length (telemetry_covered tm ++ control) ≡ length (telemetry_covered tm) + 2 = length-append (telemetry_covered tm) control in
-    let covered : length (telemetry_covered tm) ≡ 17 + length tm.payload = omega arith in
-    omega (arith, whole, covered)
 
 pub short_packets : (most apid n : ℕ) (ds : List Dispatch) → AreShort most ds → All (λ (packet : List ℕ). length packet ≤ 19 + most) (packets apid n ds)
 short_packets most apid n [] p = All-nil (λ (packet : List ℕ). length packet ≤ 19 + most)
