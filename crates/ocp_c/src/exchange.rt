@@ -1,6 +1,6 @@
 //! Requests and drains, whose reports go into a buffer of C's.
 
-ghost use Rattle.std.specs.Prelude.{◌≡◌, ◌≤◌, ◌==◌, if◌then◌else◌, false, length, IfOk, IfErr};
+ghost use Rattle.std.specs.Prelude.{◌≡◌, ◌≤◌, ◌==◌, if◌then◌else◌, length, IfOk, IfErr};
 ghost use Rattle.std.specs.declared.option.Option.TheVariants.{None, Some};
 ghost use Rattle.ocp_world.specs.World.{Request, Drain};
 ghost use Rattle.ocp_flight.specs.Flown.{Flown};
@@ -9,7 +9,7 @@ ghost use Rattle.ocp_c.specs.declared.status.Status.TheVariants as status;
 ghost use Rattle.ocp_c.specs.Statuses.{number_of};
 ghost use Rattle.ocp_c.specs.Calls.{leaves, writes};
 ghost use Rattle.ocp_c.specs.Packets.{buffer_after};
-ghost use Rattle.ocp_c.specs.Replies.{replies, reports_in};
+ghost use Rattle.ocp_c.specs.Replies.{replies, reports_in, IsReplied, IsRefused};
 
 use crate::{Handle, OpenEngine, SEAT, Status};
 use std::alloc::Global;
@@ -31,17 +31,10 @@ fn request_into(
     packet: &[u8],
     reports: &mut [u8],
 ) -> Result<usize, Status>
-    ensures done { IfOk result (λ count.
-        (replies 272 (length reports.old) (answer_in held.old (Request 0 time packet.now))
-        ≡ status.Done)
-        × (count ≡ length (reports_in (answer_in held.old (Request 0 time packet.now))))
-        × (held.new ≡ flown_after held.old (Request 0 time packet.now))
-        × (reports.new ≡ buffer_after (reports_in (answer_in held.old (Request 0 time packet.now)))
-        reports.old)) }
-    ensures refused { IfErr result (λ why.
-        (replies 272 (length reports.old) (answer_in held.old (Request 0 time packet.now)) ≡ why)
-        × ((number_of why == 0) ≡ false) × (held.new ≡ held.old)
-        × (reports.new ≡ reports.old)) }
+    ensures done { IfOk result (λ count. IsReplied 272 (Request 0 time packet.now)
+        held.old reports.old count held.new reports.new) }
+    ensures refused { IfErr result (λ why. IsRefused 272 (Request 0 time packet.now)
+        held.old reports.old why held.new reports.new) }
 {
     if reports.len() < 272 {
         return Err(Status::BufferTooSmall);
@@ -99,16 +92,10 @@ pub extern "C" fn ocp_request(
 
 // The octets of reports that a drain writes to a buffer.
 fn drain_into(held: &mut OpenEngine, time: u32, reports: &mut [u8]) -> Result<usize, Status>
-    ensures done { IfOk result (λ count.
-        (replies 1600 (length reports.old) (answer_in held.old (Drain 0 time)) ≡ status.Done)
-        × (count ≡ length (reports_in (answer_in held.old (Drain 0 time))))
-        × (held.new ≡ flown_after held.old (Drain 0 time))
-        × (reports.new ≡ buffer_after (reports_in (answer_in held.old (Drain 0 time)))
-        reports.old)) }
-    ensures refused { IfErr result (λ why.
-        (replies 1600 (length reports.old) (answer_in held.old (Drain 0 time)) ≡ why)
-        × ((number_of why == 0) ≡ false) × (held.new ≡ held.old)
-        × (reports.new ≡ reports.old)) }
+    ensures done { IfOk result (λ count. IsReplied 1600 (Drain 0 time)
+        held.old reports.old count held.new reports.new) }
+    ensures refused { IfErr result (λ why. IsRefused 1600 (Drain 0 time)
+        held.old reports.old why held.new reports.new) }
 {
     if reports.len() < 1600 {
         return Err(Status::BufferTooSmall);
