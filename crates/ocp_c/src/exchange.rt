@@ -11,6 +11,7 @@ ghost use Rattle.ocp_c.specs.Calls.{leaves, writes};
 ghost use Rattle.ocp_c.specs.Packets.{buffer_after};
 ghost use Rattle.ocp_c.specs.Replies.{replies, reports_in, IsReplied, IsRefused};
 
+use crate::status::write_value;
 use crate::{Handle, OpenEngine, SEAT, Status};
 use std::alloc::Global;
 
@@ -43,22 +44,6 @@ fn request_into(
     Ok(pour(held.packets.octets(), reports))
 }
 
-// Writes how many octets of reports there are. It returns the number of the answer.
-fn tell_length(given: Result<usize, Status>, written: &mut usize) -> u32
-    ensures done { IfOk given (λ count.
-        (result ≡ number_of status.Done) × (written.new ≡ count)) }
-    ensures refused { IfErr given (λ why.
-        (result ≡ number_of why) × (written.new ≡ written.old)) }
-{
-    match given {
-        Ok(count) => {
-            *written = count;
-            Status::Done.number()
-        }
-        Err(status) => status.number(),
-    }
-}
-
 /// Takes the octets of a telecommand packet. It asks for no memory.
 #[unsafe(no_mangle)]
 pub extern "C" fn ocp_request(
@@ -87,7 +72,7 @@ pub extern "C" fn ocp_request(
     let given = handle.with_buffer(alloc, reports, |held, reports| {
         request_into(held, time, packet, reports)
     });
-    tell_length(given.unwrap_or(Err(Status::NotOpen)), written)
+    write_value(given.unwrap_or(Err(Status::NotOpen)), written)
 }
 
 // The octets of reports that a drain writes to a buffer.
@@ -131,5 +116,5 @@ pub extern "C" fn ocp_drain(
     let given = handle.with_buffer(alloc, reports, |held, reports| {
         drain_into(held, time, reports)
     });
-    tell_length(given.unwrap_or(Err(Status::NotOpen)), written)
+    write_value(given.unwrap_or(Err(Status::NotOpen)), written)
 }

@@ -7,6 +7,7 @@ ghost use Rattle.ocp_c.specs.Statuses.{status_of_entry, status_of_release};
 ghost use Rattle.ocp_c.specs.Calls.{answers, leaves, writes};
 ghost use Rattle.ocp_c.specs.Journals.{length_or};
 
+use crate::status::write_value;
 use crate::{Handle, Status};
 use ocp_flight::EntryFault;
 use std::alloc::Global;
@@ -41,11 +42,8 @@ pub extern "C" fn ocp_first_entry(alloc: Global, handle: &mut Handle, index: &mu
     ensures engine { handle.new.held ≡ handle.old.held }
     ensures index { index.new ≡ writes handle.old.held index.old (λ flown. flown.released) }
 {
-    let Some(first) = handle.with_engine(alloc, |engine| engine.first()) else {
-        return Status::NotOpen.number();
-    };
-    *index = first;
-    Status::Done.number()
+    let given = handle.with_engine(alloc, |engine| engine.first());
+    write_value(given.ok_or(Status::NotOpen), index)
 }
 
 /// Drops the oldest `count` entries.

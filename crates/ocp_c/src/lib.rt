@@ -39,6 +39,7 @@ pub use outcome::Outcome;
 pub use procedure::Procedure;
 pub use record::Record;
 pub use status::Status;
+use status::write_value;
 use std::alloc::Global;
 
 // The seat of the requests, commands and drains.
@@ -282,9 +283,6 @@ pub extern "C" fn ocp_events(alloc: Global, handle: &mut Handle, events: &mut u6
     ensures events { events.new ≡ writes handle.old.held events.old
         (λ flown. length (expand flown.log.entries)) }
 {
-    let Some(count) = handle.with_engine(alloc, |engine| engine.events()) else {
-        return Status::NotOpen.number();
-    };
-    *events = count;
-    Status::Done.number()
+    let given = handle.with_engine(alloc, |engine| engine.events());
+    write_value(given.ok_or(Status::NotOpen), events)
 }

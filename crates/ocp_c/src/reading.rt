@@ -14,6 +14,7 @@ ghost use Rattle.ocp_c.specs.Calls.{answers, writes};
 ghost use Rattle.ocp_c.specs.Reading.{identifier_in, status_of_read, octets_or, view_status, procedure_or, registers_or};
 ghost use Rattle.ocp_c.specs.Records.{kept_record, record_or, record_status, traced_or};
 
+use crate::status::write_value;
 use crate::{Handle, Procedure, Record, Status};
 use std::alloc::Global;
 
@@ -48,14 +49,10 @@ pub extern "C" fn ocp_next_running(
     ensures same { result ≢ number_of status.Done → id.new ≡ id.old }
 {
     let after = identifier_in(after);
-    match handle.with_engine(alloc, |engine| engine.next_running(after)) {
-        Some(Some(next)) => {
-            *id = next;
-            Status::Done.number()
-        }
-        Some(None) => Status::NoneRunning.number(),
-        None => Status::NotOpen.number(),
-    }
+    let given = handle.with_engine(alloc, |engine| {
+        engine.next_running(after).ok_or(Status::NoneRunning)
+    });
+    write_value(given.unwrap_or(Err(Status::NotOpen)), id)
 }
 
 /// Reads octets of a procedure's memory.

@@ -1,6 +1,7 @@
 //! What calls answer to C.
 
-ghost use Rattle.std.specs.Prelude.{◌≡◌};
+ghost use Rattle.std.specs.Prelude.{◌≡◌, IfOk, IfErr};
+ghost use Rattle.ocp_c.specs.declared.status.Status.TheVariants as status;
 ghost use Rattle.ocp_c.specs.Statuses.{number_of, status_of, status_of_command, status_of_discard, status_of_entry, status_of_fault, status_of_put, status_of_release};
 
 use ocp_flight::{DebugFault, EngineFault, EntryFault, PutFault, ReleaseFault, StepOutcome};
@@ -49,6 +50,22 @@ impl Status {
         ensures { result ≡ number_of self }
     {
         self as u32
+    }
+}
+
+/// Writes a value that was given. It returns the number of the answer.
+pub(crate) fn write_value<T: Copy>(given: Result<T, Status>, told: &mut T) -> u32
+    ensures done { IfOk given (λ value.
+        (result ≡ number_of status.Done) × (told.new ≡ value)) }
+    ensures refused { IfErr given (λ why.
+        (result ≡ number_of why) × (told.new ≡ told.old)) }
+{
+    match given {
+        Ok(value) => {
+            *told = value;
+            Status::Done.number()
+        }
+        Err(status) => status.number(),
     }
 }
 
