@@ -1,17 +1,19 @@
 //! Another board behind the lock: a call under the lock returns the board's own answer, and what a
 //! turn answers and tells its gate depends on it.
 
+ghost use Rattle.ocp_seats.specs.Seats.{Opens};
+
 use crate::packets::{STATUS, with_loops};
-use crate::trials::{Trial, try_on};
 use ocp_slices::{
-    Board, Book, CommitOutcome, DebugFault, EngineFault, Entry, Gate, Input, Naming, PutFault,
-    Seat, SeatFault, SharedEngine, Slice, StepOutcome, TakeFault, Ticket, Turn, Work,
+    Board, Book, CommitOutcome, DebugFault, Engine, EngineFault, Entry, Gate, Input, Naming,
+    PutFault, Seat, SeatFault, SharedEngine, Slice, StepOutcome, TakeFault, Ticket, Turn, Work,
 };
 use std::alloc::Global;
 use std::cell::Cell;
+use std::marker::Brand;
 use std::sync::Wait;
 use std::sync::atomic::{AtomicU64, Ordering};
-use std::thread::Threads;
+use std::sync::ledger::Blank;
 
 // What a board does with a turn.
 #[derive(Clone, Copy)]
@@ -103,30 +105,34 @@ impl<L: Naming> Board<L> for Counting<'_, L> {
 
 #[test]
 fn answers_are_the_boards(rt: HostRuntime) {
-    let engine = with_loops(rt.alloc(), 100, 1);
-    assert!(rt; try_on(&rt, rt.alloc(), &Through, engine) == Some(true));
+    assert!(rt; are_the_boards(&rt, rt.alloc()));
+}
+
+// Whether the answers are those of a board over a new engine.
+fn are_the_boards<R: Wait>(rt: &R, alloc: Global) -> bool {
+    let Some(engine) = with_loops(alloc, 100, 1) else {
+        return false;
+    };
+    let _length = engine.journal().len();
+    through::<Brand, _>(rt, alloc, engine, Blank::new(65))
 }
 
 // Whether each call through the lock is one call of the board, and each third event is refused.
-#[derive(Drop)]
-struct Through;
-
-impl<R: Threads + Wait + Sync> Trial<R> for Through {
-    fn run<L: Naming + Send + Sync>(&self, rt: &R, alloc: Global, book: Book<L>) -> Option<bool> {
-        let taken = AtomicU64::new(0);
-        let shared = SharedEngine::over(Counting::new(book, &[], &taken));
-        if !is_answered(rt, alloc, &shared) {
-            return None;
-        }
-        let board = shared.into_inner();
-        let engine = board.book.engine();
-        Some(
-            board.calls == 20
-                && board.asked == 16
-                && engine.journal().len() == 13
-                && engine.pool_word(3) == Some(7),
-        )
+fn through<L: Naming, R: Wait>(rt: &R, alloc: Global, engine: Engine, blank: Blank) -> bool
+    requires opens { Opens blank.name blank.parts L.name L.parts L.room L.log engine }
+{
+    let taken = AtomicU64::new(0);
+    let board = Counting::new(Book::<L>::new(engine, blank), &[], &taken);
+    let shared = SharedEngine::over(board);
+    if !is_answered(rt, alloc, &shared) {
+        return false;
     }
+    let board = shared.into_inner();
+    let engine = board.book.engine();
+    board.calls == 20
+        && board.asked == 16
+        && engine.journal().len() == 13
+        && engine.pool_word(3) == Some(7)
 }
 
 // All calls, by a first seat.
@@ -326,20 +332,25 @@ fn is_receipted<L: Naming>(seat: &Seat<L>) -> bool {
 
 #[test]
 fn turns_answer_and_tell_their_gate(rt: HostRuntime) {
-    let engine = with_loops(rt.alloc(), 100, 2);
-    assert!(rt; try_on(&rt, rt.alloc(), &Scripted, engine) == Some(true));
+    assert!(rt; are_told(&rt, rt.alloc()));
 }
 
-// Whether the turns of seat 2 over a board with the script answer this, and their gates hear this.
-#[derive(Drop)]
-struct Scripted;
+// Whether the turns on a new engine answer this, and their gates hear this.
+fn are_told<R: Wait>(rt: &R, alloc: Global) -> bool {
+    let Some(engine) = with_loops(alloc, 100, 2) else {
+        return false;
+    };
+    let _length = engine.journal().len();
+    by_script::<Brand, _>(rt, alloc, engine, Blank::new(65))
+}
 
-impl<R: Threads + Wait + Sync> Trial<R> for Scripted {
-    fn run<L: Naming + Send + Sync>(&self, rt: &R, alloc: Global, book: Book<L>) -> Option<bool> {
-        let taken = AtomicU64::new(0);
-        let shared = SharedEngine::over(Counting::new(book, &MEETS, &taken));
-        Some(are_met(rt, alloc, &shared))
-    }
+// The turns of seat 2 over a board with this script.
+fn by_script<L: Naming, R: Wait>(rt: &R, alloc: Global, engine: Engine, blank: Blank) -> bool
+    requires opens { Opens blank.name blank.parts L.name L.parts L.room L.log engine }
+{
+    let taken = AtomicU64::new(0);
+    let board = Counting::new(Book::<L>::new(engine, blank), &MEETS, &taken);
+    are_met(rt, alloc, &SharedEngine::over(board))
 }
 
 // The turns of the second of two seats, and its receipts.

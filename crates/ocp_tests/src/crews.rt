@@ -1,18 +1,22 @@
 //! Workers: one thread for each seat.
 
 ghost use Rattle.std.specs.Prelude.{◌≤◌};
+ghost use Rattle.ocp_seats.specs.Seats.{Opens};
 
 use crate::packets::{STATUS, activate_loop, is_done, is_taken, suspend_loop, with_loops};
-use crate::trials::{Trial, reaches, try_on};
 use ocp_core::replay_one;
 use ocp_slices::{
-    Book, CommitOutcome, Engine, Gate, Naming, Open, Seat, SharedEngine, StepOutcome, work,
+    CommitOutcome, Engine, Gate, Naming, Open, Seat, SharedEngine, StepOutcome, work,
 };
 use std::alloc::Global;
+use std::marker::Brand;
 use std::sync::Wait;
 use std::sync::atomic::{AtomicU64, Ordering};
+use std::sync::ledger::Blank;
 use std::thread;
 use std::thread::Threads;
+
+const LIMIT: u32 = 1_000_000_000;
 
 // A new engine with loops, on which `workers` workers made `turns` turns each.
 fn worked<R: Threads + Wait + Sync, G: Gate + Sync>(
@@ -70,9 +74,12 @@ impl Meeting {
     }
 
     fn wait_for(&self, word: &AtomicU64) {
-        if !reaches(word, 1) {
-            self.missed.fetch_add(1, Ordering::SeqCst);
+        for _turn in 0..LIMIT {
+            if word.load(Ordering::SeqCst) != 0 {
+                return;
+            }
         }
+        self.missed.fetch_add(1, Ordering::SeqCst);
     }
 }
 
@@ -129,9 +136,12 @@ struct Gathering {
 impl Gate for Gathering {
     fn before(&self, _seat: u16, _id: u16, _count: u32) {
         self.begun.fetch_add(1, Ordering::SeqCst);
-        if !reaches(&self.begun, self.seats) {
-            self.missed.fetch_add(1, Ordering::SeqCst);
+        for _turn in 0..LIMIT {
+            if self.begun.load(Ordering::SeqCst) >= self.seats {
+                return;
+            }
         }
+        self.missed.fetch_add(1, Ordering::SeqCst);
     }
 
     fn after(&self, _seat: u16, _id: u16, _outcome: CommitOutcome) {}
@@ -159,28 +169,39 @@ fn each_seat_has_a_thread_of_its_own(rt: HostRuntime) {
 
 #[test]
 fn sixteen_workers_with_all_calls_between(rt: HostRuntime) {
-    let engine = with_loops(rt.alloc(), 4_000, 16);
-    assert!(rt; try_on(&rt, rt.alloc(), &Mix, engine) == Some(true));
+    assert!(rt; are_mixed(&rt, rt.alloc()));
 }
 
-// Sixteen seats, each with a thread that makes turns and all other calls between them; then all are closed. They leave over 500
-// entries, and the machines that these have.
-#[derive(Drop)]
-struct Mix;
-
-impl<R: Threads + Wait + Sync> Trial<R> for Mix {
-    fn run<L: Naming + Send + Sync>(&self, rt: &R, alloc: Global, book: Book<L>) -> Option<bool> {
-        let shared = SharedEngine::over(book);
-        let mut seats = seats_of(rt, alloc, &shared, 16)?;
-        thread::for_each_mut(
-            rt,
-            seats.as_mut_slice(),
-            16,
-            &|_, seat| calls(rt, alloc, &shared, seat),
-        );
-        let engine = shared.close(seats).ok()?;
-        Some(engine.journal().len() > 500 && are_shown(alloc, &engine))
+// Whether sixteen seats leave over 500 entries, and the machines that these have.
+fn are_mixed<R: Threads + Wait + Sync>(rt: &R, alloc: Global) -> bool {
+    let Some(engine) = with_loops(alloc, 4_000, 16) else {
+        return false;
+    };
+    let _length = engine.journal().len();
+    match mixed::<Brand, _>(rt, alloc, engine, Blank::new(65)) {
+        Some(engine) => engine.journal().len() > 500 && are_shown(alloc, &engine),
+        None => false,
     }
+}
+
+// Sixteen seats, each with a thread that makes turns and all other calls between them; then all are closed.
+fn mixed<L: Naming + Send + Sync, R: Threads + Wait + Sync>(
+    rt: &R,
+    alloc: Global,
+    engine: Engine,
+    blank: Blank,
+) -> Option<Engine>
+    requires opens { Opens blank.name blank.parts L.name L.parts L.room L.log engine }
+{
+    let shared = SharedEngine::<L>::new(engine, blank);
+    let mut seats = seats_of(rt, alloc, &shared, 16)?;
+    thread::for_each_mut(
+        rt,
+        seats.as_mut_slice(),
+        16,
+        &|_, seat| calls(rt, alloc, &shared, seat),
+    );
+    shared.close(seats).ok()
 }
 
 // `count` seats.

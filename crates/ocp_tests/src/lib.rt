@@ -17,6 +17,4 @@ mod packets;
 #[cfg(test)]
 mod pairs;
 #[cfg(test)]
-mod trials;
-#[cfg(test)]
 mod words;

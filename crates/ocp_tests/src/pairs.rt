@@ -1,40 +1,37 @@
 //! Two threads of a caller, each with a seat.
 
+ghost use Rattle.ocp_seats.specs.Seats.{Opens};
+
 use crate::boards::Counting;
 use crate::packets::{STATUS, activate_loop, is_taken, load_long, takes, with_loops};
-use crate::trials::{Trial, reaches, try_on};
 use ocp_slices::{
     Board, Book, CloseFault, CommitOutcome, Engine, Gate, Naming, Seat, SharedEngine, StepOutcome,
     StillShared, Turn,
 };
 use std::alloc::Global;
+use std::marker::Brand;
 use std::sync::Wait;
 use std::sync::atomic::{AtomicU64, Ordering};
+use std::sync::ledger::Blank;
 use std::thread;
 use std::thread::Threads;
 
+const LIMIT: u32 = 1_000_000_000;
+
 #[test]
 fn two_threads_wait_for_each_other(rt: HostRuntime) {
-    let engine = with_loops(rt.alloc(), 100, 1);
-    assert!(rt; try_on(&rt, rt.alloc(), &Meeting, engine) == Some(true));
+    assert!(rt; are_waited_for(&rt, rt.alloc()));
 }
 
-// Each thread's first step of a loop is answered while the other one waits for it; one seat also makes a request.
-#[derive(Drop)]
-struct Meeting;
-
-impl<R: Threads + Wait + Sync> Trial<R> for Meeting {
-    fn run<L: Naming + Send + Sync>(&self, rt: &R, alloc: Global, book: Book<L>) -> Option<bool> {
-        let shared = SharedEngine::over(book);
-        let mut one = shared.seat(rt, alloc).ok()?;
-        let mut two = shared.seat(rt, alloc).ok()?;
-        if step_at_once(rt, &shared, &mut one, &mut two)
-            && is_taken(rt, alloc, &shared, &mut two, &STATUS)
-        {
-            Some(closed(alloc, shared, one, two)?.events() == 5)
-        } else {
-            None
-        }
+// Whether two threads step a loop, each while the other one waits for it.
+fn are_waited_for<R: Threads + Wait + Sync>(rt: &R, alloc: Global) -> bool {
+    let Some(engine) = with_loops(alloc, 100, 1) else {
+        return false;
+    };
+    let _length = engine.journal().len();
+    match both::<Brand, _>(rt, alloc, engine, Blank::new(65)) {
+        Some(engine) => engine.events() == 5,
+        None => false,
     }
 }
 
@@ -48,7 +45,33 @@ fn step_and_wait<L: Naming, R: Wait>(
 ) -> bool {
     let answer = shared.step(rt, seat, 1);
     mine.store(1, Ordering::SeqCst);
-    reaches(other, 1) && answer == StepOutcome::Ran
+    for _turn in 0..LIMIT {
+        if other.load(Ordering::SeqCst) != 0 {
+            return answer == StepOutcome::Ran;
+        }
+    }
+    false
+}
+
+// Each thread's first step is answered while the other one waits for it; one seat also makes a request.
+fn both<L: Naming + Send + Sync, R: Threads + Wait + Sync>(
+    rt: &R,
+    alloc: Global,
+    engine: Engine,
+    blank: Blank,
+) -> Option<Engine>
+    requires opens { Opens blank.name blank.parts L.name L.parts L.room L.log engine }
+{
+    let shared = SharedEngine::<L>::new(engine, blank);
+    let mut one = shared.seat(rt, alloc).ok()?;
+    let mut two = shared.seat(rt, alloc).ok()?;
+    if step_at_once(rt, &shared, &mut one, &mut two)
+        && is_taken(rt, alloc, &shared, &mut two, &STATUS)
+    {
+        closed(alloc, shared, one, two)
+    } else {
+        None
+    }
 }
 
 // Whether the first step of each of two seats, in a thread of its own, meets the other's.
@@ -154,10 +177,10 @@ fn no_lock_is_held_while_a_ticket_runs(rt: HostRuntime) {
     assert!(rt; is_met_by_a_budget(&rt, rt.alloc()));
 }
 
-// Whether seat 2 makes all its turns on a new engine while a ticket runs that has one of the budgets.
+// Whether seat 2 makes all its turns while a ticket runs that has one of the budgets.
 fn is_met_by_a_budget<R: Threads + Wait + Sync>(rt: &R, alloc: Global) -> bool {
     for budget in BUDGETS {
-        match try_on(rt, alloc, &Meanwhile { budget }, with_long_loop(alloc)) {
+        match is_met(rt, alloc, budget) {
             Some(false) => {}
             Some(true) => return true,
             None => return false,
@@ -166,12 +189,15 @@ fn is_met_by_a_budget<R: Threads + Wait + Sync>(rt: &R, alloc: Global) -> bool {
     false
 }
 
-// A new engine that took the long loop.
-fn with_long_loop(alloc: Global) -> Option<Engine> {
+// Whether the turns of seat 2 on a new engine were all made meanwhile; none if the work of seat 1
+// was not stale then.
+fn is_met<R: Threads + Wait + Sync>(rt: &R, alloc: Global, budget: u32) -> Option<bool> {
     let mut engine = with_loops(alloc, 100, 0)?;
-    let is_taken = takes(alloc, &mut engine, &load_long())
-        && takes(alloc, &mut engine, &activate_loop(1));
-    is_taken.then_some(engine)
+    if !takes(alloc, &mut engine, &load_long()) || !takes(alloc, &mut engine, &activate_loop(1)) {
+        return None;
+    }
+    let _length = engine.journal().len();
+    meanwhile::<Brand, _>(rt, alloc, engine, Blank::new(65), budget)
 }
 
 // Turns of seat 2, once a ticket was taken.
@@ -182,7 +208,11 @@ fn turns_once_taken<L: Naming, B: Board<L>, R: Wait>(
     seat: &mut Seat<L>,
     watch: &Watch,
 ) {
-    let _ = reaches(&watch.taken, 1);
+    for _turn in 0..LIMIT {
+        if watch.taken.load(Ordering::SeqCst) != 0 {
+            break;
+        }
+    }
     shared.turns(rt, alloc, seat, SHORT, TURNS, watch);
 }
 
@@ -205,27 +235,29 @@ fn at_once<L: Naming + Send + Sync, B: Board<L> + Send, R: Threads + Wait + Sync
 }
 
 // Whether all turns of seat 2 came after seat 1 took its ticket, and were answered before it had run; seat 1's work is stale then.
-#[derive(Drop)]
-struct Meanwhile {
+fn meanwhile<L: Naming + Send + Sync, R: Threads + Wait + Sync>(
+    rt: &R,
+    alloc: Global,
+    engine: Engine,
+    blank: Blank,
     budget: u32,
-}
-
-impl<R: Threads + Wait + Sync> Trial<R> for Meanwhile {
-    fn run<L: Naming + Send + Sync>(&self, rt: &R, alloc: Global, book: Book<L>) -> Option<bool> {
-        let watch = Watch {
-            taken: AtomicU64::new(0),
-            answered: AtomicU64::new(0),
-            met: AtomicU64::new(0),
-            over: AtomicU64::new(0),
-        };
-        let shared = SharedEngine::over(Counting::new(book, &[], &watch.taken));
-        let mut one = shared.seat(rt, alloc).ok()?;
-        let mut two = shared.seat(rt, alloc).ok()?;
-        let turn = at_once(rt, alloc, &shared, &mut one, &mut two, self.budget, &watch);
-        let met = watch.met.load(Ordering::SeqCst) == u64::from(TURNS);
-        if met && turn != Turn::Stale {
-            return None;
-        }
-        Some(met)
+) -> Option<bool>
+    requires opens { Opens blank.name blank.parts L.name L.parts L.room L.log engine }
+{
+    let watch = Watch {
+        taken: AtomicU64::new(0),
+        answered: AtomicU64::new(0),
+        met: AtomicU64::new(0),
+        over: AtomicU64::new(0),
+    };
+    let board = Counting::new(Book::<L>::new(engine, blank), &[], &watch.taken);
+    let shared = SharedEngine::over(board);
+    let mut one = shared.seat(rt, alloc).ok()?;
+    let mut two = shared.seat(rt, alloc).ok()?;
+    let turn = at_once(rt, alloc, &shared, &mut one, &mut two, budget, &watch);
+    let met = watch.met.load(Ordering::SeqCst) == u64::from(TURNS);
+    if met && turn != Turn::Stale {
+        return None;
     }
+    Some(met)
 }

@@ -1,14 +1,19 @@
 //! Seats that write pool words, each in a thread of its own.
 
+ghost use Rattle.ocp_seats.specs.Seats.{Opens};
+
 use crate::crews::seats_of;
 use crate::packets::with_loops;
-use crate::trials::{Trial, reaches, try_on};
-use ocp_slices::{Book, Engine, Entry, Naming, PutFault, Seat, SharedEngine, StepOutcome};
+use ocp_slices::{Engine, Entry, Naming, PutFault, Seat, SharedEngine, StepOutcome};
 use std::alloc::Global;
+use std::marker::Brand;
 use std::sync::Wait;
 use std::sync::atomic::{AtomicU64, Ordering};
+use std::sync::ledger::Blank;
 use std::thread;
 use std::thread::Threads;
+
+const LIMIT: u32 = 1_000_000_000;
 
 const SEATS: u16 = 4;
 
@@ -40,9 +45,12 @@ impl Start {
 
     fn wait(&self) {
         self.begun.fetch_add(1, Ordering::SeqCst);
-        if !reaches(&self.begun, u64::from(SEATS)) {
-            self.miss();
+        for _turn in 0..LIMIT {
+            if self.begun.load(Ordering::SeqCst) >= u64::from(SEATS) {
+                return;
+            }
         }
+        self.miss();
     }
 }
 
@@ -177,40 +185,51 @@ fn are_kept(engine: &Engine) -> bool {
     journal.len() == 52 && engine.events() == 196
 }
 
-// The rounds of four seats, each in a thread of its own, and what is refused then. What they write at once is kept in each seat's
-// order, and stays in the pool.
-#[derive(Drop)]
-struct Writes;
+// The engine after the rounds of four seats, each in a thread of its own, and after what is refused then.
+fn written<L: Naming + Send + Sync, R: Threads + Wait + Sync>(
+    rt: &R,
+    alloc: Global,
+    engine: Engine,
+    blank: Blank,
+) -> Option<Engine>
+    requires opens { Opens blank.name blank.parts L.name L.parts L.room L.log engine }
+{
+    let shared = SharedEngine::<L>::new(engine, blank);
+    let mut seats = seats_of(rt, alloc, &shared, SEATS)?;
+    let start = Start {
+        begun: AtomicU64::new(0),
+        missed: AtomicU64::new(0),
+    };
+    thread::for_each_mut(
+        rt,
+        seats.as_mut_slice(),
+        4,
+        &|_, seat| rounds(rt, &shared, seat, &start),
+    );
+    for seat in seats.as_mut_slice() {
+        if !is_full(rt, &shared, seat) {
+            start.miss();
+        }
+    }
+    if start.missed.load(Ordering::SeqCst) != 0 {
+        return None;
+    }
+    shared.close(seats).ok()
+}
 
-impl<R: Threads + Wait + Sync> Trial<R> for Writes {
-    fn run<L: Naming + Send + Sync>(&self, rt: &R, alloc: Global, book: Book<L>) -> Option<bool> {
-        let shared = SharedEngine::over(book);
-        let mut seats = seats_of(rt, alloc, &shared, SEATS)?;
-        let start = Start {
-            begun: AtomicU64::new(0),
-            missed: AtomicU64::new(0),
-        };
-        thread::for_each_mut(
-            rt,
-            seats.as_mut_slice(),
-            4,
-            &|_, seat| rounds(rt, &shared, seat, &start),
-        );
-        for seat in seats.as_mut_slice() {
-            if !is_full(rt, &shared, seat) {
-                start.miss();
-            }
-        }
-        if start.missed.load(Ordering::SeqCst) != 0 {
-            return None;
-        }
-        let engine = shared.close(seats).ok()?;
-        Some(are_kept(&engine) && are_last(&engine))
+// Whether what four seats write at once is kept in each seat's order, and stays in the pool.
+fn are_written<R: Threads + Wait + Sync>(rt: &R, alloc: Global) -> bool {
+    let Some(engine) = with_loops(alloc, CAPACITY, 2) else {
+        return false;
+    };
+    let _length = engine.journal().len();
+    match written::<Brand, _>(rt, alloc, engine, Blank::new(65)) {
+        Some(engine) => are_kept(&engine) && are_last(&engine),
+        None => false,
     }
 }
 
 #[test]
 fn seats_write_words_at_once(rt: HostRuntime) {
-    let engine = with_loops(rt.alloc(), CAPACITY, 2);
-    assert!(rt; try_on(&rt, rt.alloc(), &Writes, engine) == Some(true));
+    assert!(rt; are_written(&rt, rt.alloc()));
 }
