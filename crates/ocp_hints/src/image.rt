@@ -15,7 +15,7 @@ use text_lines::octets_of;
 /// The number of digits of a slot.
 pub(crate) const SLOT_DIGITS: usize = 16;
 
-/// What is said of an input that is too long.
+/// The sentence on an input that is too long.
 pub(crate) const TOO_LONG: &[u8] = b"an input has at most 1048576 octets";
 
 /// What no image may have at a place.

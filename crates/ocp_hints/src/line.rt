@@ -194,7 +194,7 @@ impl<'a> Line<'a> {
         Some(self.words.len())
     }
 
-    /// What is said of a word that begins no line, by the table of its reader or by the common one.
+    /// The sentence on a word that begins no line, from the given table or from the common one.
     pub fn text_on_stray(&self, word: &[u8], strays: Table) -> Option<&'static [u8]> {
         text_on_word(word, strays).or(text_on_word(word, STRAYS))
     }
