@@ -82,15 +82,20 @@ pub enum WriteFault {
     Memory,
 }
 
+/// The case of the same name of another type.
+macro_rules! same_case {
+    ($fault:ident: $from:ident to $to:ident, $($case:ident)|+) => {
+        match $fault {
+            $($from::$case => $to::$case,)+
+        }
+    };
+}
+
 impl From<PacketFault> for TcFault {
     ghost from_gives = { λ fault result. result ≡ Discarded (discard_of fault) };
 
     fn from(fault: PacketFault) -> TcFault {
-        TcFault::Discarded(match fault {
-            PacketFault::Short => Discard::Short,
-            PacketFault::Version => Discard::Version,
-            PacketFault::Length => Discard::Length,
-        })
+        TcFault::Discarded(same_case!(fault: PacketFault to Discard, Short | Version | Length))
     }
 }
 
@@ -98,11 +103,7 @@ impl From<PacketFault> for TmFault {
     ghost from_gives = { λ fault result. result ≡ fault_of_packet fault };
 
     fn from(fault: PacketFault) -> TmFault {
-        match fault {
-            PacketFault::Short => TmFault::Short,
-            PacketFault::Version => TmFault::Version,
-            PacketFault::Length => TmFault::Length,
-        }
+        same_case!(fault: PacketFault to TmFault, Short | Version | Length)
     }
 }
 
@@ -110,12 +111,6 @@ impl From<Rejection> for TmFault {
     ghost from_gives = { λ why result. result ≡ fault_of why };
 
     fn from(why: Rejection) -> TmFault {
-        match why {
-            Rejection::Segmented => TmFault::Segmented,
-            Rejection::NoSecondary => TmFault::NoSecondary,
-            Rejection::NoRoom => TmFault::NoRoom,
-            Rejection::Pec => TmFault::Pec,
-            Rejection::PusVersion => TmFault::PusVersion,
-        }
+        same_case!(why: Rejection to TmFault, Segmented | NoSecondary | NoRoom | Pec | PusVersion)
     }
 }
