@@ -2,7 +2,7 @@
 
 ghost use Rattle.std.specs.Prelude.{◌≡◌, ℕ, ◌+◌, ◌%◌, ◌<◌};
 ghost use Rattle.std.specs.Option.{SomeIff};
-ghost use Rattle.space_packet.specs.declared.range.TheConstants.{APIDS, SEQUENCE_COUNTS};
+ghost use Rattle.space_packet.specs.declared.range.TheConstants.{SEQUENCE_COUNTS};
 
 use std::marker::Model;
 
@@ -15,82 +15,54 @@ pub const IDLE_APID: u16 = 2_047;
 /// How many sequence counts there are: a count is taken modulo this number.
 pub const SEQUENCE_COUNTS: u16 = 16_384;
 
-/// An application process identifier, 0 to 2,047.
+/// A number of the primary header that is below `COUNT`.
 #[derive(Clone, Copy, PartialEq, Eq, Debug)]
-pub struct Apid {
+pub struct Below<const COUNT: u16> {
     number: u16,
 }
 
-impl Model for Apid {
+/// An application process identifier, 0 to 2,047.
+pub type Apid = Below<APIDS>;
+
+/// A packet sequence count, 0 to 16,383.
+pub type SequenceCount = Below<SEQUENCE_COUNTS>;
+
+impl<const COUNT: u16> Model for Below<COUNT> {
     ghost Value = { ℕ };
 
-    ghost view = { λ a. a.number };
+    ghost view = { λ below. below.number };
 
-    ghost invariant = { λ a. a.number < APIDS };
+    ghost invariant = { λ below. below.number < COUNT };
 
     ghost inverse = { λ n. record { number = n } };
 }
 
-impl Apid {
-    /// The identifier of this number, if the number is below 2,048.
+impl<const COUNT: u16> Below<COUNT> {
+    /// The value with this number, if the number is below `COUNT`.
     pub fn new(number: u16) -> Option<Self>
-        ensures { SomeIff result (number < APIDS) number }
+        ensures { SomeIff result (number < COUNT) number }
     {
-        if number < APIDS {
-            Some(Apid { number })
+        if number < COUNT {
+            Some(Below { number })
         } else {
             None
         }
     }
 
     pub fn number(self) -> u16
-        ensures same { result ≡ self }
-        ensures in_range { result < APIDS }
+        ensures same { result ≡ self.entry }
+        ensures in_range { result < COUNT }
     {
         self.number
     }
-}
-
-/// A packet sequence count, 0 to 16,383.
-#[derive(Clone, Copy, PartialEq, Eq, Debug)]
-pub struct SequenceCount {
-    number: u16,
-}
-
-impl Model for SequenceCount {
-    ghost Value = { ℕ };
-
-    ghost view = { λ c. c.number };
-
-    ghost invariant = { λ c. c.number < SEQUENCE_COUNTS };
-
-    ghost inverse = { λ n. record { number = n } };
 }
 
 impl SequenceCount {
-    /// The count of this number, if the number is below 16,384.
-    pub fn new(number: u16) -> Option<Self>
-        ensures { SomeIff result (number < SEQUENCE_COUNTS) number }
-    {
-        if number < SEQUENCE_COUNTS {
-            Some(SequenceCount { number })
-        } else {
-            None
-        }
-    }
-
-    pub fn number(self) -> u16
-        ensures same { result ≡ self }
-        ensures in_range { result < SEQUENCE_COUNTS }
-    {
-        self.number
-    }
-
     /// The count of the next packet: one more, and 0 after 16,383.
     pub fn next(self) -> Self
         ensures { result ≡ (self + 1) % SEQUENCE_COUNTS }
     {
-        SequenceCount {
+        Below {
             number: (self.number + 1) % SEQUENCE_COUNTS,
         }
     }

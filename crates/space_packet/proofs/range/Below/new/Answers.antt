@@ -1,5 +1,5 @@
 use Rattle.std.proofs.Common.{rules}
-use Rattle.space_packet.proofs.range.Apid.new.Goals as goal
+use Rattle.space_packet.proofs.range.Below.new.Goals as goal
 
 pub invariant_of-result : goal.invariant_of-result
 invariant_of-result c = search rules
