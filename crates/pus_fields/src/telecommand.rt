@@ -8,7 +8,7 @@ ghost use Rattle.space_packet.specs.declared.range.TheConstants.{SEQUENCE_COUNTS
 use crate::ack::Ack;
 use bitflags::Flags;
 use byteorder::{BigEndian, ByteOrder};
-use space_packet::{Apid, IDLE_APID, SequenceCount};
+use space_packet::{APIDS, Apid, IDLE_APID, SEQUENCE_COUNTS, SequenceCount};
 use std::marker::Model;
 
 /// A telecommand (ECSS-E-ST-70-41C, 7.4.4): application process identifier 0 to 2,046, sequence
@@ -16,10 +16,8 @@ use std::marker::Model;
 /// identifier and payload, which is borrowed.
 #[derive(Drop)]
 pub struct Tc<'a> {
-    // The first four octets of its packet.
+    // The first four octets of its packet: its identifier and its count are in them.
     id: [u8; 4],
-    apid: Apid,
-    count: SequenceCount,
     ack: Ack,
     service: u8,
     subtype: u8,
@@ -28,16 +26,17 @@ pub struct Tc<'a> {
 }
 
 impl<'a> Model for Tc<'a> {
-    ghost use Rattle.std.specs.Prelude.{◌≡◌, ◌<◌, ◌^◌};
+    ghost use Rattle.std.specs.Prelude.{◌≡◌, ◌<◌, ◌%◌, ◌^◌, drop};
+    ghost use Rattle.byteorder.specs.Endian.{big_number};
     ghost use Rattle.pus_fields.specs.Acknowledgement.{flags_of};
     ghost use Rattle.pus_fields.specs.Telecommand.{Telecommand, request_id};
-    ghost use Rattle.space_packet.specs.declared.range.TheConstants.{IDLE_APID, SEQUENCE_COUNTS};
+    ghost use Rattle.space_packet.specs.declared.range.TheConstants.{APIDS, IDLE_APID, SEQUENCE_COUNTS};
 
     ghost Value = { Telecommand };
 
     ghost view = { λ t. record {
-      apid = t.apid;
-      count = t.count;
+      apid = big_number 2 t.id % APIDS;
+      count = big_number 2 (drop 2 t.id) % SEQUENCE_COUNTS;
       ack = t.ack;
       service = t.service;
       subtype = t.subtype;
@@ -45,8 +44,9 @@ impl<'a> Model for Tc<'a> {
       payload = t.payload.now;
     } };
 
-    ghost invariant = { λ t. (t.apid < IDLE_APID) × (t.count < SEQUENCE_COUNTS)
-        × (flags_of t.ack < 2 ^ 4) × (t.id ≡ request_id t.apid t.count) };
+    ghost invariant = { λ t. (big_number 2 t.id % APIDS < IDLE_APID) × (flags_of t.ack < 2 ^ 4)
+        × (t.id ≡ request_id (big_number 2 t.id % APIDS)
+        (big_number 2 (drop 2 t.id) % SEQUENCE_COUNTS)) };
 }
 
 impl<'a> Tc<'a> {
@@ -79,8 +79,6 @@ impl<'a> Tc<'a> {
         BigEndian::write_u16(&mut id[2..], (3 << 14) + count.number());
         Some(Tc {
             id,
-            apid,
-            count,
             ack,
             service,
             subtype,
@@ -103,7 +101,7 @@ impl<'a> Tc<'a> {
         ensures value { result ≡ self.now.apid }
         ensures in_range { result < IDLE_APID }
     {
-        self.apid
+        Apid::new(BigEndian::read_u16(&self.id) % APIDS).unwrap()
     }
 
     /// The sequence count, 0 to 16,383.
@@ -111,7 +109,7 @@ impl<'a> Tc<'a> {
         ensures value { result ≡ self.now.count }
         ensures in_range { result < SEQUENCE_COUNTS }
     {
-        self.count
+        SequenceCount::new(BigEndian::read_u16(&self.id[2..]) % SEQUENCE_COUNTS).unwrap()
     }
 
     /// The acknowledgement flags.
