@@ -56,7 +56,7 @@ pub enum Stem {
 /// The words of the classes.
 macro_rules! widths {
     ($way:ident $value:tt) => {
-        $way!($value, [Width::W32] b"32", [Width::W64] b"64")
+        $way!($value, Width { W32 b"32", W64 b"64" })
     };
 }
 
@@ -64,33 +64,17 @@ macro_rules! widths {
 macro_rules! stems {
     ($way:ident $value:tt) => {
         $way!($value,
-            [Stem::Arithmetic(Operation::Add)] b"add",
-            [Stem::Arithmetic(Operation::Sub)] b"sub",
-            [Stem::Arithmetic(Operation::Mul)] b"mul",
-            [Stem::Arithmetic(Operation::Div)] b"div",
-            [Stem::Arithmetic(Operation::SignedDiv)] b"sdiv",
-            [Stem::Arithmetic(Operation::Or)] b"or",
-            [Stem::Arithmetic(Operation::And)] b"and",
-            [Stem::Arithmetic(Operation::Lsh)] b"lsh",
-            [Stem::Arithmetic(Operation::Rsh)] b"rsh",
-            [Stem::Arithmetic(Operation::Mod)] b"mod",
-            [Stem::Arithmetic(Operation::SignedMod)] b"smod",
-            [Stem::Arithmetic(Operation::Xor)] b"xor",
-            [Stem::Arithmetic(Operation::Mov)] b"mov",
-            [Stem::Arithmetic(Operation::Arsh)] b"arsh",
-            [Stem::Negate] b"neg",
-            [Stem::MoveExtended] b"movsx",
-            [Stem::JumpIf(Comparison::Equal)] b"jeq",
-            [Stem::JumpIf(Comparison::Greater)] b"jgt",
-            [Stem::JumpIf(Comparison::GreaterOrEqual)] b"jge",
-            [Stem::JumpIf(Comparison::Set)] b"jset",
-            [Stem::JumpIf(Comparison::NotEqual)] b"jne",
-            [Stem::JumpIf(Comparison::SignedGreater)] b"jsgt",
-            [Stem::JumpIf(Comparison::SignedGreaterOrEqual)] b"jsge",
-            [Stem::JumpIf(Comparison::Less)] b"jlt",
-            [Stem::JumpIf(Comparison::LessOrEqual)] b"jle",
-            [Stem::JumpIf(Comparison::SignedLess)] b"jslt",
-            [Stem::JumpIf(Comparison::SignedLessOrEqual)] b"jsle")
+            Stem { Negate b"neg", MoveExtended b"movsx" }
+            Arithmetic(Operation) {
+                Add b"add", Sub b"sub", Mul b"mul", Div b"div", SignedDiv b"sdiv", Or b"or",
+                And b"and", Lsh b"lsh", Rsh b"rsh", Mod b"mod", SignedMod b"smod", Xor b"xor",
+                Mov b"mov", Arsh b"arsh"
+            }
+            JumpIf(Comparison) {
+                Equal b"jeq", Greater b"jgt", GreaterOrEqual b"jge", Set b"jset",
+                NotEqual b"jne", SignedGreater b"jsgt", SignedGreaterOrEqual b"jsge",
+                Less b"jlt", LessOrEqual b"jle", SignedLess b"jslt", SignedLessOrEqual b"jsle"
+            })
     };
 }
 
@@ -98,36 +82,34 @@ macro_rules! stems {
 macro_rules! plain {
     ($way:ident $value:tt) => {
         $way!($value,
-            [Mnemonic::ByteOrder(Order::Little)] b"le",
-            [Mnemonic::ByteOrder(Order::Big)] b"be",
-            [Mnemonic::ByteOrder(Order::Swap)] b"swap",
-            [Mnemonic::LoadWide] b"lddw",
-            [Mnemonic::Jump] b"ja",
-            [Mnemonic::LongJump] b"ja32",
-            [Mnemonic::Call] b"call",
-            [Mnemonic::Exit] b"exit",
-            [Mnemonic::Load(Size::Word)] b"ldxw",
-            [Mnemonic::Load(Size::Half)] b"ldxh",
-            [Mnemonic::Load(Size::Byte)] b"ldxb",
-            [Mnemonic::Load(Size::Double)] b"ldxdw",
-            [Mnemonic::LoadExtended(SignedSize::Word)] b"ldxsw",
-            [Mnemonic::LoadExtended(SignedSize::Half)] b"ldxsh",
-            [Mnemonic::LoadExtended(SignedSize::Byte)] b"ldxsb",
-            [Mnemonic::Store(Size::Word)] b"stxw",
-            [Mnemonic::Store(Size::Half)] b"stxh",
-            [Mnemonic::Store(Size::Byte)] b"stxb",
-            [Mnemonic::Store(Size::Double)] b"stxdw",
-            [Mnemonic::StoreImmediate(Size::Word)] b"stw",
-            [Mnemonic::StoreImmediate(Size::Half)] b"sth",
-            [Mnemonic::StoreImmediate(Size::Byte)] b"stb",
-            [Mnemonic::StoreImmediate(Size::Double)] b"stdw")
+            Mnemonic {
+                LoadWide b"lddw", Jump b"ja", LongJump b"ja32", Call b"call", Exit b"exit"
+            }
+            Load(Size) { Word b"ldxw", Half b"ldxh", Byte b"ldxb", Double b"ldxdw" }
+            LoadExtended(SignedSize) { Word b"ldxsw", Half b"ldxsh", Byte b"ldxsb" }
+            Store(Size) { Word b"stxw", Half b"stxh", Byte b"stxb", Double b"stxdw" }
+            StoreImmediate(Size) { Word b"stw", Half b"sth", Byte b"stb", Double b"stdw" }
+            ByteOrder(Order) { Little b"le", Big b"be", Swap b"swap" })
     };
 }
 
 /// The rows of a table of words, each with its meaning.
 macro_rules! rows {
-    ((), $([$($meaning:tt)*] $word:literal),*) => {
-        [$(($word, $($meaning)*)),*]
+    ((), $of:ident { $($alone:ident $word:literal),* }
+        $($kind:ident($part:ident) { $($name:ident $its:literal),* })*) => {
+        [$(($word, $of::$alone),)* $($(($its, $of::$kind($part::$name)),)*)*]
+    };
+}
+
+/// From the meaning of a word to the word. Other meanings have the arms after the value.
+macro_rules! word {
+    (($value:ident $($arms:tt)*), $of:ident { $($alone:ident $word:literal),* }
+        $($kind:ident($part:ident) { $($name:ident $its:literal),* })*) => {
+        match $value {
+            $($of::$alone => $word,)*
+            $($($of::$kind($part::$name) => $its,)*)*
+            $($arms)*
+        }
     };
 }
 
@@ -139,25 +121,6 @@ static STEMS: [(&[u8], Stem); 27] = stems!(rows());
 
 /// The mnemonics that have no class.
 static PLAIN: [(&[u8], Mnemonic); 23] = plain!(rows());
-
-/// From the meaning of a word to the word.
-macro_rules! word {
-    ($value:expr, $([$($meaning:tt)*] $word:literal),*) => {
-        match $value {
-            $($($meaning)* => $word,)*
-        }
-    };
-}
-
-/// From a mnemonic that has no class to its word.
-macro_rules! plain_word {
-    ($value:expr, $([$($meaning:tt)*] $word:literal),*) => {
-        match $value {
-            Mnemonic::Classed(..) => unreachable!(),
-            $($($meaning)* => $word,)*
-        }
-    };
-}
 
 impl<const ROOM: usize> Text<ROOM> {
     /// Appends a word. Most words have three or four octets; these are copied without a call.
@@ -203,7 +166,7 @@ fn word_of_stem(stem: Stem) -> &'static [u8]
     ensures word { result.now ≡ stem_name stem }
     ensures len { length result.now ≤ 5 }
 {
-    stems!(word stem)
+    stems!(word(stem))
 }
 
 /// The word of a class.
@@ -212,7 +175,7 @@ fn word_of_width(width: Width) -> &'static [u8]
     ensures word { result.now ≡ width_name width }
     ensures len { length result.now ≡ 2 }
 {
-    widths!(word width)
+    widths!(word(width))
 }
 
 /// The word of a mnemonic that has no class.
@@ -221,7 +184,7 @@ fn word_of_plain(mnemonic: Mnemonic) -> &'static [u8]
     ensures word { result.now ≡ mnemonic_name mnemonic }
     ensures len { length result.now ≤ 5 }
 {
-    plain!(plain_word mnemonic)
+    plain!(word(mnemonic Mnemonic::Classed(..) => unreachable!()))
 }
 
 /// The meaning of this word: that of its first row, if there are several.
@@ -236,22 +199,6 @@ fn meaning_of<M: Copy>(word: &[u8], rows: &[(&'static [u8], M)]) -> Option<M>
     None
 }
 
-/// The stem that is this text.
-fn stem_of(word: &[u8]) -> Option<Stem>
-    ensures some { IfSome result (λ s. word.now ≡ stem_name s) }
-    ensures only { (s : Stem) → word.now ≡ stem_name s → result ≡ Some s }
-{
-    meaning_of(word, &STEMS)
-}
-
-/// The class that is this text.
-fn width_of(word: &[u8]) -> Option<Width>
-    ensures some { IfSome result (λ w. word.now ≡ width_name w) }
-    ensures only { (w : Width) → word.now ≡ width_name w → result ≡ Some w }
-{
-    meaning_of(word, &WIDTHS)
-}
-
 /// The stem and the class that are this text.
 fn stem_and_width(word: &[u8]) -> Option<(Stem, Width)>
     ensures some { IfSome result (λ p. word.now ≡ stem_name p.0 ++ width_name p.1) }
@@ -259,16 +206,8 @@ fn stem_and_width(word: &[u8]) -> Option<(Stem, Width)>
         result ≡ Some (s, w) }
 {
     let (stem, width) = word.split_at(word.len().saturating_sub(2));
-    let width = width_of(width)?;
-    Some((stem_of(stem)?, width))
-}
-
-/// The mnemonic without a class that is this text.
-fn plain_of(word: &[u8]) -> Option<Mnemonic>
-    ensures some { IfSome result (λ m. word.now ≡ mnemonic_name m) }
-    ensures only { (m : Mnemonic) → IsPlain m → word.now ≡ mnemonic_name m → result ≡ Some m }
-{
-    meaning_of(word, &PLAIN)
+    let width = meaning_of(width, &WIDTHS)?;
+    Some((meaning_of(stem, &STEMS)?, width))
 }
 
 /// The mnemonic of an instruction.
@@ -310,6 +249,6 @@ pub fn read_mnemonic(word: &[u8]) -> Option<Mnemonic>
 {
     match stem_and_width(word) {
         Some((stem, width)) => Some(Mnemonic::Classed(stem, width)),
-        None => plain_of(word),
+        None => meaning_of(word, &PLAIN),
     }
 }
