@@ -1,5 +1,6 @@
 -- The lengths of the parts of an instruction's text.
-use Rattle.std.proofs.Common.{◌≡◌, ◌+◌, ◌<◌, ◌≤◌, ◌^◌, ℕ, length, ap, arith}
+use Rattle.std.proofs.Common.{◌≡◌, ◌+◌, ◌<◌, ◌≤◌, ◌^◌, ℕ, ℤ, pos, negsuc, suc, length, ap, arith, w16, w32, FitsSigned}
+use Rattle.std.proofs.lemmas.Int.{ints}
 use Rattle.std.specs.Fmt.{decimal}
 use Rattle.std.proofs.lemmas.Fmt.{length-decimal-le, decimal_digit}
 use Rattle.bpf_types.specs.declared.line.Line.{Line}
@@ -12,14 +13,21 @@ use Rattle.bpf_types.specs.declared.line.SignedSize.TheVariants as signed_size
 use Rattle.bpf_types.specs.declared.line.Width.TheVariants.{W32, W64}
 use Rattle.bpf_types.specs.declared.line.Extension.TheVariants as extension
 use Rattle.bpf_canonical.specs.Mnemonics.{mnemonic_name, mnemonic_of}
+use Rattle.bpf_canonical.specs.Canonical.{with_sign}
 use Rattle.bpf_canonical.specs.Mirror.Rooms.{operands_room}
 
--- the digits of a number of 32 bits, and of the magnitude of a distance of 16 bits
+-- the digits of a number of 32 bits
 pub few_digits : (n : ℕ) → n < 2 ^ 32 → length (decimal n) ≤ 10
 few_digits n lt = length-decimal-le 10 n (omega arith) (omega arith) (omega arith)
 
-pub short_digits : (n : ℕ) → n < 2 ^ 16 → length (decimal n) ≤ 5
-short_digits n lt = length-decimal-le 5 n (omega arith) (omega arith) (omega arith)
+-- a distance of 32 bits or of 16, with its sign
+pub long_distance : (z : ℤ) → FitsSigned w32 z → length (with_sign z) ≤ 11
+long_distance (pos n) h = omega (arith, few_digits n (omega (arith, ints)))
+long_distance (negsuc n) h = omega (arith, few_digits (suc n) (omega (arith, ints)))
+
+pub short_distance : (z : ℤ) → FitsSigned w16 z → length (with_sign z) ≤ 6
+short_distance (pos n) h = omega (arith, length-decimal-le 5 n (omega arith) (omega arith) (omega (arith, ints)))
+short_distance (negsuc n) h = omega (arith, length-decimal-le 5 (suc n) (omega arith) (omega arith) (omega (arith, ints)))
 
 pub one_digit : (n : ℕ) → n < 10 → length (decimal n) ≡ 1
 one_digit n lt = ap length (decimal_digit n lt)

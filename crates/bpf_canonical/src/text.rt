@@ -85,26 +85,14 @@ impl<const ROOM: usize> Text<ROOM> {
         self.push_number(number.unsigned_abs());
     }
 
-    /// Appends a number in decimal digits, always with its sign.
-    #[tactic(auto, using(crate::proofs::Rooms::few_digits))]
-    pub(crate) fn push_with_sign(&mut self, number: i32)
-        requires { length self.old + 11 ≤ ROOM }
-        ensures items { self.new ≡ self.old ++ with_sign number }
-        ensures len { length self.new ≤ length self.old + 11 }
-    {
-        self.push_all(if number < 0 { b"-" } else { b"+" });
-        self.push_number(number.unsigned_abs());
-    }
-
-    /// Appends a distance of 16 bits in decimal digits, always with its sign.
-    #[tactic(auto, using(crate::proofs::Rooms::short_digits))]
-    pub(crate) fn push_distance(&mut self, distance: i16)
-        requires { length self.old + 6 ≤ ROOM }
+    /// Appends a distance in decimal digits, always with its sign.
+    pub(crate) fn push_distance(&mut self, distance: i32)
+        requires { length self.old + length (with_sign distance) ≤ ROOM }
         ensures items { self.new ≡ self.old ++ with_sign distance }
-        ensures len { length self.new ≤ length self.old + 6 }
+        ensures len { length self.new ≡ length self.old + length (with_sign distance) }
     {
         self.push_all(if distance < 0 { b"-" } else { b"+" });
-        self.push_number(u32::from(distance.unsigned_abs()));
+        self.push_number(distance.unsigned_abs());
     }
 
     /// Appends a number of any type in decimal digits.

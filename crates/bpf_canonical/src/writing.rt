@@ -37,6 +37,7 @@ impl<const ROOM: usize> Text<ROOM> {
     }
 
     /// Appends an operand in memory.
+    #[tactic(auto, using(crate::proofs::Rooms::short_distance))]
     fn push_place(&mut self, base: Reg, offset: i16)
         requires { length self.old + 11 ≤ ROOM }
         ensures items { self.new ≡ self.old ++ place_text base offset }
@@ -44,7 +45,7 @@ impl<const ROOM: usize> Text<ROOM> {
     {
         self.push_all(b"[");
         self.push_register(base);
-        self.push_distance(offset);
+        self.push_distance(i32::from(offset));
         self.push_all(b"]");
     }
 
@@ -72,60 +73,8 @@ impl<const ROOM: usize> Text<ROOM> {
         self.push_all(b", ");
     }
 
-    /// Appends the operands of a move that extends the sign from `bits` bits.
-    fn push_move(&mut self, dst: Reg, src: Reg, bits: u8)
-        requires { length self.old + 14 ≤ ROOM }
-        ensures items { self.new ≡ self.old
-            ++ (codes " " ++ register dst ++ codes ", " ++ register src ++ codes ", "
-            ++ decimal bits) }
-        ensures len { length self.new ≤ length self.old + 14 }
-    {
-        self.push_first_register(dst);
-        self.push_register(src);
-        self.push_all(b", ");
-        self.push_integer(bits);
-    }
-
-    /// Appends the operands of a wide load.
-    fn push_wide(&mut self, dst: Reg, value: u64)
-        requires { length self.old + 24 ≤ ROOM }
-        ensures items { self.new ≡ self.old
-            ++ (codes " " ++ register dst ++ codes ", 0x" ++ hex_digits 16 value) }
-        ensures len { length self.new ≤ length self.old + 24 }
-    {
-        self.push_first_register(dst);
-        self.push_all(b"0x");
-        self.push_hex(value);
-    }
-
-    /// Appends the operands of a load.
-    #[inline(always)]
-    fn push_load(&mut self, dst: Reg, base: Reg, offset: i16)
-        requires { length self.old + 17 ≤ ROOM }
-        ensures items { self.new ≡ self.old
-            ++ (codes " " ++ register dst ++ codes ", " ++ place_text base offset) }
-        ensures len { length self.new ≤ length self.old + 17 }
-    {
-        self.push_first_register(dst);
-        self.push_place(base, offset);
-    }
-
-    /// Appends the operands of a conditional jump.
-    fn push_jump(&mut self, dst: Reg, operand: Operand, distance: i16)
-        requires { length self.old + 25 ≤ ROOM }
-        ensures items { self.new ≡ self.old
-            ++ (codes " " ++ register dst ++ codes ", " ++ operand_text operand ++ codes ", "
-            ++ with_sign distance) }
-        ensures len { length self.new ≤ length self.old + 25 }
-    {
-        self.push_first_register(dst);
-        self.push_operand(operand);
-        self.push_all(b", ");
-        self.push_distance(distance);
-    }
-
     /// Appends the operands of an instruction, after a space.
-    #[tactic(auto, using(crate::proofs::Rooms::room_least))]
+    #[tactic(auto, using(crate::proofs::Rooms::room_least, crate::proofs::Rooms::short_distance, crate::proofs::Rooms::long_distance))]
     fn push_operands(&mut self, line: &Line)
         requires { length self.old + operands_room line.now ≤ ROOM }
         ensures items { self.new ≡ self.old ++ operands_text line.now }
@@ -144,24 +93,36 @@ impl<const ROOM: usize> Text<ROOM> {
                 extension,
                 dst,
                 src,
-            } => self.push_move(dst, src, extension.bits()),
+            } => {
+                self.push_first_register(dst);
+                self.push_register(src);
+                self.push_all(b", ");
+                self.push_integer(extension.bits());
+            }
             Line::ByteOrder { width, dst, .. } => {
                 self.push_first_register(dst);
                 self.push_integer(width.bits());
             }
-            Line::LoadWide { dst, value } => self.push_wide(dst, value),
+            Line::LoadWide { dst, value } => {
+                self.push_first_register(dst);
+                self.push_all(b"0x");
+                self.push_hex(value);
+            }
             Line::Load {
                 dst,
                 base,
                 offset,
                 ..
-            } => self.push_load(dst, base, offset),
-            Line::LoadExtended {
+            }
+            | Line::LoadExtended {
                 dst,
                 base,
                 offset,
                 ..
-            } => self.push_load(dst, base, offset),
+            } => {
+                self.push_first_register(dst);
+                self.push_place(base, offset);
+            }
             Line::StoreImmediate {
                 base,
                 offset,
@@ -185,14 +146,19 @@ impl<const ROOM: usize> Text<ROOM> {
                 operand,
                 distance,
                 ..
-            } => self.push_jump(dst, operand, distance),
+            } => {
+                self.push_first_register(dst);
+                self.push_operand(operand);
+                self.push_all(b", ");
+                self.push_distance(i32::from(distance));
+            }
             Line::Jump { distance } => {
                 self.push_all(b" ");
-                self.push_distance(distance);
+                self.push_distance(i32::from(distance));
             }
             Line::LongJump { distance } => {
                 self.push_all(b" ");
-                self.push_with_sign(distance);
+                self.push_distance(distance);
             }
             Line::Call { number } => {
                 self.push_all(b" ");
@@ -200,7 +166,7 @@ impl<const ROOM: usize> Text<ROOM> {
             }
             Line::CallLocal { distance } => {
                 self.push_all(b" local ");
-                self.push_with_sign(distance);
+                self.push_distance(distance);
             }
             Line::Exit => (),
         }

@@ -1,14 +1,24 @@
-use Rattle.std.proofs.Common.{◌≡◌, ◌++◌, ◌∙◌, List, ℕ, sym, ap, append_assoc, rules}
+use Rattle.std.proofs.Common.{◌≡◌, ◌++◌, ◌∙◌, ◌⊎◌, inl, inr, List, ℕ, ℤ, sym, ap, append_assoc, rules, w16, SFits, to_z-of_z}
 use Rattle.std.specs.Prelude.{codes}
 use Rattle.std.specs.Fmt.{decimal, signed_decimal}
 use Rattle.bpf_types.specs.declared.line.Line.{Line}
-use Rattle.bpf_types.specs.Line.{swap_width_bits}
-use Rattle.bpf_canonical.specs.Canonical.{operands_text, operand_text, place_text, register, with_sign}
+use Rattle.bpf_types.specs.declared.line.Line.TheVariants as line
+use Rattle.bpf_types.specs.declared.line.Size.{Size}
+use Rattle.bpf_types.specs.declared.line.SignedSize.{SignedSize}
+use Rattle.bpf_types.specs.Line.{swap_width_bits, extension_bits}
+use Rattle.bpf_canonical.specs.Canonical.{operands_text, operand_text, place_text, register, with_sign, hex_digits}
 use Rattle.bpf_canonical.proofs.text.Text.push_operands.Goals as goal
+use Rattle.bpf_canonical.proofs.text.Text.push_operands.Goals.{in-Load, in-Load-2}
 
 -- what is written for a line of this form
 of_line : {new : List ℕ} (old : List ℕ) {l m : Line} → l ≡ m → new ≡ old ++ operands_text m → new ≡ old ++ operands_text l
 of_line old is e = e ∙ ap (λ k. old ++ operands_text k) (sym is)
+
+-- what is written for a load
+of_load : {new : List ℕ} (old : List ℕ) {l : Line} (dst base : ℕ) (offset : ℤ) → ((size : Size) × (l ≡ line.Load size dst base offset)) ⊎ ((size : SignedSize) × (l ≡ line.LoadExtended size dst base offset))
+    → new ≡ old ++ (codes " " ++ register dst ++ codes ", " ++ place_text base offset) → new ≡ old ++ operands_text l
+of_load old dst base offset (inl plain) e = of_line old plain.1 e
+of_load old dst base offset (inr extended) e = of_line old extended.1 e
 
 -- what two calls write
 twice : {mid new : List ℕ} (old a b : List ℕ) → mid ≡ old ++ a → new ≡ mid ++ b → new ≡ old ++ (a ++ b)
@@ -24,31 +34,46 @@ returns-in-Negate-clause-items g c =
 
 pub returns-in-MoveExtended-clause-items : goal.returns-in-MoveExtended-clause-items
 returns-in-MoveExtended-clause-items g c =
-    of_line c.args.self.now c.in-MoveExtended.is (rw (sym c.bits.ensures) c.push_move.ensures.items)
+    let move = c.in-MoveExtended in
+    let old = c.args.self.now in
+    let dst = codes " " ++ register move.dst ++ codes ", " in
+    let src = twice old dst (register move.src) c.push_first_register-in-MoveExtended.ensures.items c.push_register-in-MoveExtended.ensures.items in
+    let comma = twice old (dst ++ register move.src) (codes ", ") src c.push_all-in-MoveExtended.ensures.items in
+    let bits = c.push_integer.ensures.items ∙ ap (λ n. c.push_all-in-MoveExtended.new.self ++ decimal n) c.bits.ensures in
+    of_line old move.is (twice old (dst ++ register move.src ++ codes ", ") (decimal (extension_bits move.extension)) comma bits)
 
 pub returns-in-ByteOrder-clause-items : goal.returns-in-ByteOrder-clause-items
 returns-in-ByteOrder-clause-items g c =
-    of_line c.args.self.now c.in-ByteOrder.is (twice c.args.self.now (codes " " ++ register c.in-ByteOrder.dst ++ codes ", ") (decimal (swap_width_bits c.in-ByteOrder.width)) c.push_first_register-in-ByteOrder.ensures.items (c.push_integer.ensures.items ∙ ap (λ n. c.push_first_register-in-ByteOrder.new.self ++ decimal n) c.bits-in-ByteOrder.ensures))
+    of_line c.args.self.now c.in-ByteOrder.is (twice c.args.self.now (codes " " ++ register c.in-ByteOrder.dst ++ codes ", ") (decimal (swap_width_bits c.in-ByteOrder.width)) c.push_first_register-in-ByteOrder.ensures.items (c.push_integer-in-ByteOrder.ensures.items ∙ ap (λ n. c.push_first_register-in-ByteOrder.new.self ++ decimal n) c.bits-in-ByteOrder.ensures))
 
 pub returns-in-LoadWide-clause-items : goal.returns-in-LoadWide-clause-items
 returns-in-LoadWide-clause-items g c =
-    of_line c.args.self.now c.in-LoadWide.is c.push_wide.ensures.items
+    let wide = c.in-LoadWide in
+    let old = c.args.self.now in
+    let dst = codes " " ++ register wide.dst in
+    let prefix = twice old (dst ++ codes ", ") (codes "0x") c.push_first_register-in-LoadWide.ensures.items c.push_all-in-LoadWide.ensures.items ∙ ap (λ t. old ++ t) (append_assoc dst (codes ", ") (codes "0x")) in
+    of_line old wide.is (twice old (dst ++ codes ", 0x") (hex_digits 16 wide.value) prefix c.push_hex.ensures.items)
 
 pub returns-in-Load-clause-items : goal.returns-in-Load-clause-items
 returns-in-Load-clause-items g c =
-    let written : c.push_load.new.self ≡ c.args.self.now ++ (codes " " ++ register c.in-Load.dst ++ codes ", " ++ place_text c.in-Load.base c.in-Load.offset) = search rules in
-    of_line c.args.self.now c.in-Load.is written
-
-pub returns-in-LoadExtended-clause-items : goal.returns-in-LoadExtended-clause-items
-returns-in-LoadExtended-clause-items g c =
-    let written : c.push_load-in-LoadExtended.new.self ≡ c.args.self.now ++ (codes " " ++ register c.in-LoadExtended.dst ++ codes ", " ++ place_text c.in-LoadExtended.base c.in-LoadExtended.offset) = search rules in
-    of_line c.args.self.now c.in-LoadExtended.is written
+    let load = c.in-Load-1 in
+    let old = c.args.self.now in
+    let dst = codes " " ++ register load.dst ++ codes ", " in
+    let written = twice old dst _ c.push_first_register-in-Load.ensures.items c.push_place.ensures.items in
+    elim load.branch [
+      | in-Load w ↦ let fits : SFits w16 w.in-Load.offset = search rules in of_load old w.in-Load.dst w.in-Load.base w.in-Load.offset w.in-Load.is (written ∙ (λ i. old ++ (codes " " ++ register (w.dst-is i) ++ codes ", " ++ place_text (w.base-is i) (w.offset-is i))) ∙ ap (λ (z : ℤ). old ++ (codes " " ++ register w.in-Load.dst ++ codes ", " ++ place_text w.in-Load.base z)) (to_z-of_z fits))
+      | in-Load-2 w ↦ let fits : SFits w16 w.in-Load.offset = search rules in of_load old w.in-Load.dst w.in-Load.base w.in-Load.offset w.in-Load.is (written ∙ (λ i. old ++ (codes " " ++ register (w.dst-is i) ++ codes ", " ++ place_text (w.base-is i) (w.offset-is i))) ∙ ap (λ (z : ℤ). old ++ (codes " " ++ register w.in-Load.dst ++ codes ", " ++ place_text w.in-Load.base z)) (to_z-of_z fits))
+    ]
 
 pub returns-in-JumpIf-clause-items : goal.returns-in-JumpIf-clause-items
 returns-in-JumpIf-clause-items g c =
     let jump = c.in-JumpIf in
-    let written : c.push_jump.new.self ≡ c.args.self.now ++ (codes " " ++ register jump.dst ++ codes ", " ++ operand_text jump.operand ++ codes ", " ++ with_sign jump.distance) = search rules in
-    of_line c.args.self.now c.in-JumpIf.is written
+    let old = c.args.self.now in
+    let dst = codes " " ++ register jump.dst ++ codes ", " in
+    let operand = twice old dst (operand_text jump.operand) c.push_first_register-in-JumpIf.ensures.items c.push_operand-in-JumpIf.ensures.items in
+    let comma = twice old (dst ++ operand_text jump.operand) (codes ", ") operand c.push_all-in-JumpIf.ensures.items in
+    let distance : c.push_distance.new.self ≡ c.push_all-in-JumpIf.new.self ++ with_sign jump.distance = search rules in
+    of_line old jump.is (twice old (dst ++ operand_text jump.operand ++ codes ", ") (with_sign jump.distance) comma distance)
 
 pub returns-in-StoreImmediate-clause-items : goal.returns-in-StoreImmediate-clause-items
 returns-in-StoreImmediate-clause-items g c =
@@ -63,12 +88,12 @@ returns-in-Store-clause-items g c =
 
 pub returns-in-Jump-clause-items : goal.returns-in-Jump-clause-items
 returns-in-Jump-clause-items g c =
-    let value : c.push_distance.new.self ≡ c.push_all-in-Jump.new.self ++ with_sign c.in-Jump.distance = search rules in
+    let value : c.push_distance-in-Jump.new.self ≡ c.push_all-in-Jump.new.self ++ with_sign c.in-Jump.distance = search rules in
     of_line c.args.self.now c.in-Jump.is (twice c.args.self.now (codes " ") (with_sign c.in-Jump.distance) c.push_all-in-Jump.ensures.items value)
 
 pub returns-in-LongJump-clause-items : goal.returns-in-LongJump-clause-items
 returns-in-LongJump-clause-items g c =
-    let value : c.push_with_sign.new.self ≡ c.push_all-in-LongJump.new.self ++ with_sign c.in-LongJump.distance = search rules in
+    let value : c.push_distance-in-LongJump.new.self ≡ c.push_all-in-LongJump.new.self ++ with_sign c.in-LongJump.distance = search rules in
     of_line c.args.self.now c.in-LongJump.is (twice c.args.self.now (codes " ") (with_sign c.in-LongJump.distance) c.push_all-in-LongJump.ensures.items value)
 
 pub returns-in-Call-clause-items : goal.returns-in-Call-clause-items
@@ -78,5 +103,5 @@ returns-in-Call-clause-items g c =
 
 pub returns-in-CallLocal-clause-items : goal.returns-in-CallLocal-clause-items
 returns-in-CallLocal-clause-items g c =
-    let value : c.push_with_sign-in-CallLocal.new.self ≡ c.push_all-in-CallLocal.new.self ++ with_sign c.in-CallLocal.distance = search rules in
+    let value : c.push_distance-in-CallLocal.new.self ≡ c.push_all-in-CallLocal.new.self ++ with_sign c.in-CallLocal.distance = search rules in
     of_line c.args.self.now c.in-CallLocal.is (twice c.args.self.now (codes " local ") (with_sign c.in-CallLocal.distance) c.push_all-in-CallLocal.ensures.items value)
