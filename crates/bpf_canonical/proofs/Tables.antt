@@ -1,6 +1,6 @@
 -- The tables of words are read as they are written.
 use Rattle.std.proofs.Common.{◌≡◌, List, [], ◌∷◌, ◌++◌, ℕ, Bool, true, false, refl, sym, subst, ◌∙◌, Option, Some, take, drop, length}
-use Rattle.std.specs.Prelude.{IfSome, cond, ◌&&◌, ◌-◌}
+use Rattle.std.specs.Prelude.{IfSome, cond, ◌-◌}
 use Rattle.std.specs.List.{list_all}
 use Rattle.std.specs.Map.{lookup}
 use Rattle.std.specs.Str.{bytes_eq}
@@ -19,6 +19,7 @@ use Rattle.bpf_canonical.specs.declared.mnemonic.Stem.TheVariants as stem
 use Rattle.bpf_canonical.specs.declared.mnemonic.TheConstants.{WIDTHS, STEMS, PLAIN}
 use Rattle.bpf_canonical.specs.Mnemonics.{mnemonic_name, stem_name, width_name}
 use Rattle.bpf_canonical.specs.Mirror.Words.{IsPlain}
+use Rattle.bpf_canonical.proofs.Unique.{both}
 
 -- the meaning of the first row of a word
 abbrev pub width_meaning : List ℕ → Option Width
@@ -33,10 +34,6 @@ plain_meaning w = lookup (λ known. bytes_eq known.now w) PLAIN
 at_row : {M : Type 0} (P : M → Type 0) (m : M) (others : Option M) (b : Bool) → (b ≡ true → P m) → IfSome others P → IfSome (cond b (Some m) others) P
 at_row P m others true first other = first refl
 at_row P m others false first other = other
-
-both : (a b : Bool) → (a && b) ≡ true → (a ≡ true) × (b ≡ true)
-both true b e = (refl, e)
-both false b e = absurd cc
 
 -- if each row has the name of its meaning, so has what is read
 read_by_name : {K M : Type 0} (text : K → List ℕ) (name : M → List ℕ) (w : List ℕ) (rows : List (K × M))

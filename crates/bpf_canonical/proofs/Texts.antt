@@ -1,6 +1,6 @@
 -- The octets of canonical texts, and the newlines of a listing.
-use Rattle.std.proofs.Common.{◌≡◌, ◌+◌, ◌/◌, ◌%◌, ◌<◌, ◌≤◌, ◌^◌, ℕ, zero, suc, ℤ, pos, negsuc, List, [], ◌∷◌, ◌++◌, Bool, true, false, refl, sym, ap, ◌∙◌, arith, inl, inr, w32}
-use Rattle.std.specs.Prelude.{codes, FitsSigned, ◌&&◌, ◌==◌, cond, length}
+use Rattle.std.proofs.Common.{◌≡◌, ◌+◌, ◌/◌, ◌%◌, ◌<◌, ◌≤◌, ◌^◌, ℕ, zero, suc, ℤ, pos, negsuc, List, [], ◌∷◌, ◌++◌, true, false, refl, sym, ap, ◌∙◌, arith, inl, inr, w32}
+use Rattle.std.specs.Prelude.{codes, FitsSigned, ◌==◌, cond, length}
 use Rattle.std.specs.List.{list_all, All, count_by}
 use Rattle.std.specs.Fmt.{decimal, signed_decimal, digit_glyph}
 use Rattle.std.proofs.lemmas.Fmt.{decimal_by_steps}
@@ -12,33 +12,19 @@ use Rattle.bpf_types.specs.declared.line.Line.{Line}
 use Rattle.bpf_types.specs.declared.line.Line.TheVariants as line
 use Rattle.bpf_types.specs.declared.line.Operand.{Operand}
 use Rattle.bpf_types.specs.declared.line.Operand.TheVariants.{Immediate, Register}
-use Rattle.bpf_types.specs.declared.line.Operation.{Operation}
-use Rattle.bpf_types.specs.declared.line.Operation.TheVariants as op
-use Rattle.bpf_types.specs.declared.line.Comparison.{Comparison}
-use Rattle.bpf_types.specs.declared.line.Comparison.TheVariants as comparison
 use Rattle.bpf_types.specs.declared.line.Extension.{Extension}
 use Rattle.bpf_types.specs.declared.line.Extension.TheVariants as extension
-use Rattle.bpf_types.specs.declared.line.Order.{Order}
-use Rattle.bpf_types.specs.declared.line.Order.TheVariants as order
 use Rattle.bpf_types.specs.declared.line.SwapWidth.{SwapWidth}
 use Rattle.bpf_types.specs.declared.line.SwapWidth.TheVariants as swap
-use Rattle.bpf_types.specs.declared.line.Size.{Size}
-use Rattle.bpf_types.specs.declared.line.Size.TheVariants as size
-use Rattle.bpf_types.specs.declared.line.SignedSize.{SignedSize}
-use Rattle.bpf_types.specs.declared.line.SignedSize.TheVariants as signed_size
-use Rattle.bpf_types.specs.declared.line.Width.{Width}
-use Rattle.bpf_types.specs.declared.line.Width.TheVariants.{W32, W64}
 use Rattle.bpf_types.specs.Line.{swap_width_bits, IsLine, IsOperand, extension_bits}
 use Rattle.std.specs.Prelude.{unsigned_abs}
 use Rattle.std.proofs.Common.{w16, rules}
 use Rattle.std.proofs.lemmas.Int.{ints}
 use Rattle.bpf_canonical.specs.declared.mnemonic.Mnemonic.{Mnemonic}
-use Rattle.bpf_canonical.specs.declared.mnemonic.Mnemonic.TheVariants as word
-use Rattle.bpf_canonical.specs.declared.mnemonic.Stem.{Stem}
-use Rattle.bpf_canonical.specs.declared.mnemonic.Stem.TheVariants as stem
-use Rattle.bpf_canonical.specs.Mnemonics.{operation_name, comparison_name, order_name, size_name, signed_size_name, width_name, stem_name, mnemonic_name, mnemonic_of}
+use Rattle.bpf_canonical.specs.Mnemonics.{mnemonic_name, mnemonic_of}
 use Rattle.bpf_canonical.specs.Canonical.{canonical, operands_text, listing, register, with_sign, operand_text, hex_digits}
 use Rattle.bpf_canonical.specs.Octets.{is_text_octet}
+use Rattle.bpf_canonical.proofs.Unique.{both, each_passes}
 
 fits_in : (z : ℤ) → FitsSigned w32 z → unsigned_abs z < 2 ^ 64
 fits_in (pos n) h = omega (arith, ints)
@@ -86,30 +72,6 @@ operand_is_text : (o : Operand) → IsOperand o → IsText (operand_text o)
 operand_is_text (Immediate z) h = number_text z h
 operand_is_text (Register n) h = register_text n h
 
-operation_text : (o : Operation) → IsText (operation_name o)
-operation_text op.Add = refl
-operation_text _ = refl
-
-comparison_text : (t : Comparison) → IsText (comparison_name t)
-comparison_text comparison.Equal = refl
-comparison_text _ = refl
-
-order_text : (o : Order) → IsText (order_name o)
-order_text order.Little = refl
-order_text _ = refl
-
-size_text : (s : Size) → IsText (size_name s)
-size_text size.Word = refl
-size_text _ = refl
-
-signed_size_text : (s : SignedSize) → IsText (signed_size_name s)
-signed_size_text signed_size.Word = refl
-signed_size_text _ = refl
-
-width_text : (w : Width) → IsText (width_name w)
-width_text W32 = refl
-width_text W64 = refl
-
 extension_text : (e : Extension) → IsText (decimal (extension_bits e))
 extension_text extension.From8To32 = decimal_text 8 (omega arith)
 extension_text extension.From16To32 = decimal_text 16 (omega arith)
@@ -122,24 +84,8 @@ swap_width_text swap.Bits16 = decimal_text 16 (omega arith)
 swap_width_text swap.Bits32 = decimal_text 32 (omega arith)
 swap_width_text swap.Bits64 = decimal_text 64 (omega arith)
 
-stem_text : (s : Stem) → IsText (stem_name s)
-stem_text (stem.Arithmetic o) = operation_text o
-stem_text stem.Negate = refl
-stem_text stem.MoveExtended = refl
-stem_text (stem.JumpIf t) = comparison_text t
-
 mnemonic_text : (m : Mnemonic) → IsText (mnemonic_name m)
-mnemonic_text (word.Classed s w) = joined (stem_name s) (width_name w) (stem_text s) (width_text w)
-mnemonic_text (word.ByteOrder o) = order_text o
-mnemonic_text word.LoadWide = refl
-mnemonic_text (word.Load s) = joined (codes "ldx") (size_name s) refl (size_text s)
-mnemonic_text (word.LoadExtended s) = joined (codes "ldxs") (signed_size_name s) refl (signed_size_text s)
-mnemonic_text (word.Store s) = joined (codes "stx") (size_name s) refl (size_text s)
-mnemonic_text (word.StoreImmediate s) = joined (codes "st") (size_name s) refl (size_text s)
-mnemonic_text word.Jump = refl
-mnemonic_text word.LongJump = refl
-mnemonic_text word.Call = refl
-mnemonic_text word.Exit = refl
+mnemonic_text = each_passes (λ m. list_all is_text_octet (mnemonic_name m)) refl
 
 wide_text : (dst : ℕ) (hex : List ℕ) → dst ≤ 10 → IsText hex → IsText (codes " " ++ register dst ++ codes ", 0x" ++ hex)
 wide_text dst hex le h = simp (list_all-append is_text_octet, register_text dst le, h) refl
@@ -175,20 +121,11 @@ newlines os = count_by (λ o. o == 10) os
 newlines-append : (a b : List ℕ) → newlines (a ++ b) ≡ newlines a + newlines b
 newlines-append a b = sum_by-append (λ o. cond (o == 10) 1 0) a b
 
-first_true : (a b : Bool) → (a && b) ≡ true → a ≡ true
-first_true true b e = refl
-first_true false b e = e
-
-second_true : (a b : Bool) → (a && b) ≡ true → b ≡ true
-second_true true b e = e
-second_true false b e = absurd cc
-
 none_in : (os : List ℕ) → IsText os → newlines os ≡ 0
 none_in [] h = refl
 none_in (o ∷ os) h =
-    let first = no_newline o (first_true (is_text_octet o) (list_all is_text_octet os) h) in
-    let others = none_in os (second_true (is_text_octet o) (list_all is_text_octet os) h) in
-    rw (first, others) refl
+    let passed = both (is_text_octet o) (list_all is_text_octet os) h in
+    rw (no_newline o passed.0, none_in os passed.1) refl
 
 -- a listing has one newline for each instruction
 pub newlines_of_listing : (lines : List Line) → All IsLine lines → newlines (listing lines) ≡ length lines

@@ -1,6 +1,7 @@
 -- A word is the name of one mnemonic at most.
-use Rattle.std.proofs.Common.{◌≡◌, ℕ, List, [], ◌∷◌, ◌++◌, Option, Some, None, refl, sym, ap, ◌∙◌}
-use Rattle.std.specs.Prelude.{if◌then◌else◌, map}
+use Rattle.std.proofs.Common.{◌≡◌, ℕ, List, [], ◌∷◌, ◌++◌, Option, Some, None, Bool, true, false, refl, sym, ap, ◌∙◌, subst}
+use Rattle.std.specs.Prelude.{if◌then◌else◌, map, ◌&&◌}
+use Rattle.std.specs.List.{list_all}
 use Rattle.std.specs.Str.{bytes_eq}
 use Rattle.bpf_types.specs.declared.line.Operation.TheVariants as op
 use Rattle.bpf_types.specs.declared.line.Comparison.TheVariants as comparison
@@ -53,3 +54,20 @@ named_back _ = refl
 -- a word is the name of one mnemonic
 pub one_mnemonic : (m n : Mnemonic) → mnemonic_name m ≡ mnemonic_name n → m ≡ n
 one_mnemonic m n e = let f : Some m ≡ Some n = sym (named_back m) ∙ ap (λ (w : List ℕ). named w mnemonics) e ∙ named_back n in cc
+
+pub both : (a b : Bool) → (a && b) ≡ true → (a ≡ true) × (b ≡ true)
+both true b e = (refl, e)
+both false b e = absurd cc
+
+-- what each mnemonic of a list passes, the one that is found there passes
+found_passes : (test : Mnemonic → Bool) (w : List ℕ) (m : Mnemonic) (ms : List Mnemonic) → list_all test ms ≡ true → named w ms ≡ Some m → test m ≡ true
+found_passes test w m [] h e = absurd cc
+found_passes test w m (k ∷ ms) h e = by (bytes_eq (mnemonic_name k) w) (found_passes test w m ms (both (test k) (list_all test ms) h).1) e
+  where
+    by : (b : Bool) → (named w ms ≡ Some m → test m ≡ true) → (if b then Some k else named w ms) ≡ Some m → test m ≡ true
+    by true later is = let same : k ≡ m = cc in subst (λ (x : Mnemonic). test x ≡ true) same (both (test k) (list_all test ms) h).0
+    by false later is = later is
+
+-- what each of them passes, every mnemonic passes
+pub each_passes : (test : Mnemonic → Bool) → list_all test mnemonics ≡ true → (m : Mnemonic) → test m ≡ true
+each_passes test h m = found_passes test (mnemonic_name m) m mnemonics h (named_back m)
