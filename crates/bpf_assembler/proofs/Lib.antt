@@ -2,6 +2,7 @@ pub mod UniqueTexts
 pub mod CanonicalListings
 pub mod LabelLemmas
 pub mod Places
+pub mod Progress
 pub mod FirstPass
 pub mod SecondPass
 pub mod Assembled

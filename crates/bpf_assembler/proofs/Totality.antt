@@ -1,5 +1,5 @@
 -- Each text means instructions or has a fault.
-use Rattle.std.proofs.Common.{◌≡◌, ◌≢◌, ◌<◌, ◌+◌, ◌++◌, ℕ, suc, zero, ℤ, pos, negsuc, ◌-ℤ◌, List, [], ◌∷◌, length, Option, Some, None, Result, Ok, Err, Bool, true, false, ltb, refl, sym, ap, ◌∙◌, subst, inl, inr, ◌⊎◌, arith, append_assoc, append-nil}
+use Rattle.std.proofs.Common.{◌≡◌, ◌≢◌, ◌<◌, ◌+◌, ◌++◌, ℕ, suc, zero, ℤ, pos, negsuc, ◌-ℤ◌, List, [], ◌∷◌, Option, Some, None, Result, Ok, Err, Bool, true, false, ltb, refl, sym, ap, ◌∙◌, subst, inl, inr, ◌⊎◌, arith}
 use Rattle.std.specs.Prelude.{FitsSigned}
 use Rattle.std.specs.Int.{w16, w32}
 use Rattle.std.specs.List.{All}
@@ -20,31 +20,24 @@ use Rattle.bpf_text.specs.declared.line.TextLine.{TextLine as LentLine}
 use Rattle.bpf_text.specs.declared.line.LineFault.{LineFault}
 use Rattle.bpf_text.specs.declared.line.LineFault.TheVariants.{Syntax, Range}
 use Rattle.text_lines.specs.Lines.{line_texts}
-use Rattle.bpf_assembler.specs.Text.{EachWritten, label_place, IsNew, AreDistinct, Entry, entry_of, entries_of, slots, with_distance, with_target, IsInstruction, AreInstructions, IsWritten}
+use Rattle.bpf_assembler.specs.Text.{EachWritten, label_place, IsNew, Entry, entry_of, entries_of, slots, with_distance, with_target, IsInstruction, AreInstructions, IsWritten}
 use Rattle.bpf_assembler.specs.Faults.{HasLineFault, MissesLabel, IsFirstMiss, IsLineOfSlot, IsLineOf}
 use Rattle.bpf_assembler.specs.Assembling.{HasMeaning, HasSomeFault}
 use Rattle.bpf_assembler.specs.Mirror.Passes.{IsLineUpTo}
 use Rattle.bpf_assembler.specs.declared.fault.Why.{Why}
 use Rattle.bpf_assembler.specs.declared.fault.Why.TheVariants as why
-use Rattle.bpf_assembler.proofs.Places.{written_after, distinct_after}
+use Rattle.bpf_assembler.proofs.Places.{distinct_after}
+use Rattle.bpf_assembler.proofs.Progress.{Progress, at_start, one_more, at_fault, at_end}
 use Rattle.bpf_assembler.proofs.Assembled.{line_found, OneImage}
 use Rattle.bpf_assembler.proofs.Only.{AreSound, image_or_fault}
 
 -- ---- the first pass
 
--- the lines up to the rest of the text are written so
-pub record Progress (text rest : List ℕ) : Type 0 where
-  pub done : List (List ℕ)
-  pub written : List TextLine
-  pub whole : line_texts text ≡ done ++ line_texts rest
-  pub each : EachWritten done written
-  pub distinct : AreDistinct [] written
-
 abbrev pub SomeLineFault : List ℕ → Type 0
 SomeLineFault text = (number : ℕ) × (y : Why) × HasLineFault text number y
 
 pub begun : (text : List ℕ) → Progress text text ⊎ SomeLineFault text
-begun text = inl (record { done = []; written = []; whole = refl; each = tt; distinct = tt })
+begun text = inl (at_start text)
 
 new_or_not : (label : Option (List ℕ)) (ws : List TextLine) → IsNew label ws ⊎ ¬ IsNew label ws
 new_or_not None ws = inl tt
@@ -55,61 +48,13 @@ new_or_not (Some name) ws = by (label_place name 0 ws) refl
     by (Some x) e = inr (λ n. let bad = sym e ∙ n in absurd cc)
 
 line_judged : (text rest line after : List ℕ) (r : Result LentLine LineFault) → Progress text rest → line_texts rest ≡ line ∷ line_texts after → JudgesLine line r → Progress text after ⊎ SomeLineFault text
-line_judged text rest line after (Err Syntax) t e j = inr (
-  length t.done + 1,
-  why.Syntax,
-  record {
-    before = t.done;
-    line = line;
-    after = line_texts after;
-    lines = t.written;
-    order = t.whole ∙ ap (λ (ls : List (List ℕ)). t.done ++ ls) e;
-    counted = refl;
-    each = t.each;
-    distinct = t.distinct;
-    fault = j;
-  },
-)
-line_judged text rest line after (Err Range) t e j = inr (
-  length t.done + 1,
-  why.Range,
-  record {
-    before = t.done;
-    line = line;
-    after = line_texts after;
-    lines = t.written;
-    order = t.whole ∙ ap (λ (ls : List (List ℕ)). t.done ++ ls) e;
-    counted = refl;
-    each = t.each;
-    distinct = t.distinct;
-    fault = j;
-  },
-)
+line_judged text rest line after (Err Syntax) t e j = inr (_, why.Syntax, at_fault text rest line after why.Syntax t e j)
+line_judged text rest line after (Err Range) t e j = inr (_, why.Range, at_fault text rest line after why.Range t e j)
 line_judged text rest line after (Ok p) t e j = by (new_or_not (written_line p).label t.written)
   where
     by : IsNew (written_line p).label t.written ⊎ ¬ IsNew (written_line p).label t.written → Progress text after ⊎ SomeLineFault text
-    by (inl new) = inl (record {
-      done = t.done ++ line ∷ [];
-      written = t.written ++ written_line p ∷ [];
-      whole = t.whole ∙ ap (λ (ls : List (List ℕ)). t.done ++ ls) e ∙ sym (append_assoc t.done (line ∷ []) (line_texts after));
-      each = written_after t.done t.written line (written_line p) t.each j.0 j.1;
-      distinct = distinct_after [] t.written (written_line p) t.distinct new;
-    })
-    by (inr old) = inr (
-      length t.done + 1,
-      why.DuplicateLabel,
-      record {
-        before = t.done;
-        line = line;
-        after = line_texts after;
-        lines = t.written;
-        order = t.whole ∙ ap (λ (ls : List (List ℕ)). t.done ++ ls) e;
-        counted = refl;
-        each = t.each;
-        distinct = t.distinct;
-        fault = (written_line p, j.0, j.1, old);
-      },
-    )
+    by (inl new) = inl (one_more text rest line after (written_line p) t e j.0 j.1 (distinct_after [] t.written (written_line p) t.distinct new))
+    by (inr old) = inr (_, why.DuplicateLabel, at_fault text rest line after why.DuplicateLabel t e (written_line p, j.0, j.1, old))
 
 pub line_or_fault : (text rest line after : List ℕ) (r : Result LentLine LineFault) → Progress text rest ⊎ SomeLineFault text → line_texts rest ≡ line ∷ line_texts after → JudgesLine line r → Progress text after ⊎ SomeLineFault text
 line_or_fault text rest line after r (inl t) e j = line_judged text rest line after r t e j
@@ -346,10 +291,7 @@ of_written profile may one text ws w (inr (n, y, f)) = inr (record { line = n; w
 pub all_read : (profile : Profile) → MayBeRunOf profile → OneImage → (text rest : List ℕ) → rest ≡ [] → Progress text rest ⊎ SomeLineFault text → HasMeaning profile text ⊎ HasSomeFault profile text
 all_read profile may one text rest e (inr (n, y, f)) = inr (record { line = n; why = y; fault = inl f })
 all_read profile may one text rest e (inl t) =
-    let w : IsWritten text t.written = record {
-      each = subst (λ (ls : List (List ℕ)). EachWritten ls t.written) (sym (t.whole ∙ ap (λ (r : List ℕ). t.done ++ line_texts r) e ∙ append-nil t.done)) t.each;
-      distinct = t.distinct;
-    } in
+    let w = at_end text rest t e in
     of_written profile may one text t.written w (all_entries t.written 1 0 (line_texts text) t.written w.each)
 
 -- what the law of meanings and faults states about images that may be run
