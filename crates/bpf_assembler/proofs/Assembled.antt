@@ -92,6 +92,10 @@ reported_fault profile text rows octets (load.BadCall slot) f t e first is = of_
 reported_fault profile text rows octets (load.BadTarget slot) f t e first is = of_slot profile text rows octets (load.BadTarget slot) f t (λ n h. h) (λ x. cc) first.0 (e, first) is
 reported_fault profile text rows octets (load.FallsOffEnd slot) f t e first is = of_slot profile text rows octets (load.FallsOffEnd slot) f t (λ n h. h) (λ x. cc) first.0 (e, first) is
 
+-- rows and octets that are borrowed are the same ones
+pub passed_as : {text : List ℕ} {rows rs : List Row} {octets os : List ℕ} → rs ≡ rows → os ≡ octets → ArePassed text rows octets → ArePassed text rs os
+passed_as {text} {rows} {rs} {octets} {os} r o t = subst (λ (x : List Row). ArePassed text x os) (sym r) (subst (ArePassed text rows) (sym o) t)
+
 -- the loader's answer, as it is reported
 pub judged_fault : (profile : Profile) (text : List ℕ) (rows : List Row) (octets : List ℕ) {V : Type 0} (judged : Result V LoadFault) (result : Result V AsmFault) → ArePassed text rows octets
     → IfErr judged (λ fault. (fault ≡ load.Memory) ⊎ (load_result profile octets ≡ Err fault)) → IfErr judged (IsFirstFault profile octets) → Reports (map entry rows) judged result → IfErr result (IsFaultOf profile text)
