@@ -23,7 +23,7 @@ use Rattle.bpf_canonical.specs.Mnemonics.{mnemonic_name, mnemonic_of}
 use Rattle.bpf_text.specs.Number.{IsNumeral}
 use Rattle.bpf_text.specs.Fields.{IsRegister, IsImmediate, IsSecond, IsTarget}
 use Rattle.bpf_text.specs.Mirror.Gives.{bits_in, IsWidth, HasExtension, HasSwapWidth}
-use Rattle.bpf_text.specs.Grammar.{Form, Token, Behind, Then, Memory}
+use Rattle.bpf_text.specs.Grammar.{Form, Token, Behind, Then, ◌⸴◌, Memory}
 use Rattle.bpf_text.specs.Mirror.Reads.{State, Reads, Answers, verdict}
 use Rattle.bpf_text.specs.Lines.{Statement, IsOperands, Fits}
 use Rattle.bpf_text.specs.Judged.{Gives, Judges, JudgesForm, as_statement, target_of}
@@ -46,6 +46,47 @@ judged f (Some v) (x ∷ xs, out) h = λ s k. let b = f.back s.line s.name s.unk
 judged f (Some v) ([], true) h = let o = f.out h.0 h.1 h.2 in (o.0, (o.1, o.2), o.3)
 judged f (Some v) ([], false) h = let o = f.ok v h.0 h.1 in ((o.0, o.1), (o.2, refl))
 
+-- two registers and a number
+abbrev Extended : Form (ℕ × (ℕ × Option ℕ))
+Extended = Then (Token IsRegister) (Behind (44 ∷ []) (Then (Token IsRegister) (Behind (44 ∷ []) (Token IsWidth))))
+
+-- the operands of a mnemonic, whatever their values are; those of the call are told apart below
+abbrev AreOf : Mnemonic → List (List ℕ) → Type 0
+AreOf (word.Classed (stem.Arithmetic o) w) tokens = (v : ℕ × Operand) × (Token IsRegister ⸴ Token IsSecond) tokens v []
+AreOf (word.Classed stem.Negate w) tokens = (v : ℕ) × Token IsRegister tokens v []
+AreOf (word.Classed stem.MoveExtended w) tokens = (v : ℕ × (ℕ × Option ℕ)) × Extended tokens v []
+AreOf (word.Classed (stem.JumpIf t) w) tokens = (v : ℕ × (Operand × (ℤ × Option (List ℕ)))) × (Token IsRegister ⸴ Token IsSecond ⸴ Token IsTarget) tokens v []
+AreOf (word.ByteOrder o) tokens = (v : ℕ × ℕ) × (Token IsRegister ⸴ Token IsNumeral) tokens v []
+AreOf word.LoadWide tokens = (v : ℕ × ℕ) × (Token IsRegister ⸴ Token IsNumeral) tokens v []
+AreOf (word.Load z) tokens = (v : ℕ × (ℕ × ℤ)) × (Token IsRegister ⸴ Memory) tokens v []
+AreOf (word.LoadExtended z) tokens = (v : ℕ × (ℕ × ℤ)) × (Token IsRegister ⸴ Memory) tokens v []
+AreOf (word.Store z) tokens = (v : (ℕ × ℤ) × ℕ) × (Memory ⸴ Token IsRegister) tokens v []
+AreOf (word.StoreImmediate z) tokens = (v : (ℕ × ℤ) × ℤ) × (Memory ⸴ Token IsImmediate) tokens v []
+AreOf word.Jump tokens = (v : ℤ × Option (List ℕ)) × Token IsTarget tokens v []
+AreOf word.LongJump tokens = (v : ℤ × Option (List ℕ)) × Token IsTarget tokens v []
+AreOf _ tokens = Unit {0}
+
+-- an instruction has the operands of its mnemonic
+operands_of : (l : Line) (name : Option (List ℕ)) (odd : Option ℕ) (tokens : List (List ℕ)) → IsOperands (statement l name odd) tokens → AreOf (mnemonic_of l) tokens
+operands_of (line.Arithmetic w o dst x) name odd tokens k = ((dst, x), k.2)
+operands_of (line.Negate w dst) name odd tokens k = (dst, k.2)
+operands_of (line.MoveExtended e dst src) name odd tokens k = ((dst, (src, Some k.1)), k.3)
+operands_of (line.ByteOrder o y dst) name odd tokens k = ((dst, k.1), k.3)
+operands_of (line.LoadWide dst value) name odd tokens k = ((dst, value), k.2)
+operands_of (line.Load z dst base y) name odd tokens k = ((dst, (base, y)), k.2)
+operands_of (line.LoadExtended z dst base y) name odd tokens k = ((dst, (base, y)), k.2)
+operands_of (line.Store z base y src) name odd tokens k = (((base, y), src), k.2)
+operands_of (line.StoreImmediate z base y value) name odd tokens k = (((base, y), value), k.2)
+operands_of (line.JumpIf w t dst x y) name odd tokens k = ((dst, (x, (y, name))), k.1)
+operands_of (line.Jump y) name odd tokens k = ((y, name), k.1)
+operands_of (line.LongJump y) name odd tokens k = ((y, name), k.1)
+operands_of (line.Call y) name odd tokens k = tt
+operands_of (line.CallLocal y) name odd tokens k = tt
+operands_of line.Exit name odd tokens k = tt
+
+back_of : (m : Mnemonic) (tokens : List (List ℕ)) (l : Line) (name : Option (List ℕ)) (odd : Option ℕ) → mnemonic_of l ≡ m → IsOperands (statement l name odd) tokens → AreOf m tokens
+back_of m tokens l name odd is k = subst (λ (x : Mnemonic). AreOf x tokens) is (operands_of l name odd tokens k)
+
 -- an instruction with no label's name
 abbrev pub plain : Line → LentStatement
 plain l = record { line = l; name = None }
@@ -53,106 +94,62 @@ plain l = record { line = l; name = None }
 pub arithmetic : (w : Width) (o : Operation) (s : State) (r : Option (ℕ × Operand)) (u : State) → Reads (λ (v : ℕ × Operand). (v.0, v.1)) (Then (Token IsRegister) (Behind (44 ∷ []) (Token IsSecond))) (λ (v : ℕ × Operand). IsReg v.0 × IsOperand v.1) s r u → Answers (word.Classed (stem.Arithmetic o) w) s (option_map (λ (v : ℕ × Operand). plain (line.Arithmetic w o v.0 v.1)) r) u
 arithmetic w o s r u h start = judged fits r u (gives_of (λ (v : ℕ × Operand). (v.0, v.1)) (Then (Token IsRegister) (Behind (44 ∷ []) (Token IsSecond))) (λ (v : ℕ × Operand). IsReg v.0 × IsOperand v.1) s r u start h)
   where
-    back : (l : Line) → (name : Option (List ℕ)) → (odd : Option ℕ) → mnemonic_of l ≡ word.Classed (stem.Arithmetic o) w → IsOperands (statement l name odd) s.0 → (w : ℕ × Operand) × (Then (Token IsRegister) (Behind (44 ∷ []) (Token IsSecond))) s.0 w []
-    back (line.Arithmetic w' o' dst operand) name odd m k = ((dst, operand), k.2)
-    back _ name odd m k = absurd cc
-
     fits : Fitting (word.Classed (stem.Arithmetic o) w) s.0 (λ (v : ℕ × Operand). plain (line.Arithmetic w o v.0 v.1)) (λ (v : ℕ × Operand). (v.0, v.1)) (Then (Token IsRegister) (Behind (44 ∷ []) (Token IsSecond))) (λ (v : ℕ × Operand). IsReg v.0 × IsOperand v.1)
-    fits = record { ok = λ v p f. (refl, (refl, refl, p), f); back = back; out = λ v p bad. (statement (line.Arithmetic w o v.0 v.1) None None, refl, (refl, refl, p), λ m. bad m.0) }
+    fits = record { ok = λ v p f. (refl, (refl, refl, p), f); back = back_of (word.Classed (stem.Arithmetic o) w) s.0; out = λ v p bad. (statement (line.Arithmetic w o v.0 v.1) None None, refl, (refl, refl, p), λ m. bad m.0) }
 
 pub negate : (w : Width) (s : State) (r : Option (ℕ)) (u : State) → Reads (λ (v : ℕ). v) (Token IsRegister) IsReg s r u → Answers (word.Classed stem.Negate w) s (option_map (λ (v : ℕ). plain (line.Negate w v)) r) u
 negate w s r u h start = judged fits r u (gives_of (λ (v : ℕ). v) (Token IsRegister) IsReg s r u start h)
   where
-    back : (l : Line) → (name : Option (List ℕ)) → (odd : Option ℕ) → mnemonic_of l ≡ word.Classed stem.Negate w → IsOperands (statement l name odd) s.0 → (w : ℕ) × (Token IsRegister) s.0 w []
-    back (line.Negate w' dst) name odd m k = (dst, k.2)
-    back _ name odd m k = absurd cc
-
     fits : Fitting (word.Classed stem.Negate w) s.0 (λ (v : ℕ). plain (line.Negate w v)) (λ (v : ℕ). v) (Token IsRegister) IsReg
-    fits = record { ok = λ v p f. (refl, (refl, refl, p), f); back = back; out = λ v p bad. (statement (line.Negate w v) None None, refl, (refl, refl, p), λ m. bad m.0) }
+    fits = record { ok = λ v p f. (refl, (refl, refl, p), f); back = back_of (word.Classed stem.Negate w) s.0; out = λ v p bad. (statement (line.Negate w v) None None, refl, (refl, refl, p), λ m. bad m.0) }
 
 pub load_wide : (s : State) (r : Option (ℕ × ℕ)) (u : State) → Reads (λ (v : ℕ × ℕ). (v.0, v.1)) (Then (Token IsRegister) (Behind (44 ∷ []) (Token IsNumeral))) (λ (v : ℕ × ℕ). IsReg v.0 × (v.1 < 2 ^ 64)) s r u → Answers (word.LoadWide) s (option_map (λ (v : ℕ × ℕ). plain (line.LoadWide v.0 v.1)) r) u
 load_wide s r u h start = judged fits r u (gives_of (λ (v : ℕ × ℕ). (v.0, v.1)) (Then (Token IsRegister) (Behind (44 ∷ []) (Token IsNumeral))) (λ (v : ℕ × ℕ). IsReg v.0 × (v.1 < 2 ^ 64)) s r u start h)
   where
-    back : (l : Line) → (name : Option (List ℕ)) → (odd : Option ℕ) → mnemonic_of l ≡ word.LoadWide → IsOperands (statement l name odd) s.0 → (w : ℕ × ℕ) × (Then (Token IsRegister) (Behind (44 ∷ []) (Token IsNumeral))) s.0 w []
-    back (line.LoadWide dst value) name odd m k = ((dst, value), k.2)
-    back _ name odd m k = absurd cc
-
     fits : Fitting (word.LoadWide) s.0 (λ (v : ℕ × ℕ). plain (line.LoadWide v.0 v.1)) (λ (v : ℕ × ℕ). (v.0, v.1)) (Then (Token IsRegister) (Behind (44 ∷ []) (Token IsNumeral))) (λ (v : ℕ × ℕ). IsReg v.0 × (v.1 < 2 ^ 64))
-    fits = record { ok = λ v p f. (refl, (refl, refl, p), f); back = back; out = λ w p bad. (statement (line.LoadWide w.0 w.1) None None, refl, (refl, refl, p), λ m. bad m.0) }
+    fits = record { ok = λ v p f. (refl, (refl, refl, p), f); back = back_of word.LoadWide s.0; out = λ w p bad. (statement (line.LoadWide w.0 w.1) None None, refl, (refl, refl, p), λ m. bad m.0) }
 
 pub jump : (s : State) (r : Option (ℤ × Option (Bor (List ℕ)))) (u : State) → Reads target_of (Token IsTarget) (λ (v : ℤ × Option (List ℕ)). FitsSigned w16 v.0) s r u → Answers word.Jump s (option_map (λ (v : ℤ × Option (Bor (List ℕ))). record { line = line.Jump v.0; name = v.1 }) r) u
 jump s r u h start = judged fits r u (gives_of target_of (Token IsTarget) (λ (v : ℤ × Option (List ℕ)). FitsSigned w16 v.0) s r u start h)
   where
-    back : (l : Line) → (name : Option (List ℕ)) → (odd : Option ℕ) → mnemonic_of l ≡ word.Jump → IsOperands (statement l name odd) s.0 → (w : ℤ × Option (List ℕ)) × (Token IsTarget) s.0 w []
-    back (line.Jump z) name odd m k = ((z, name), k.1)
-    back _ name odd m k = absurd cc
-
     fits : Fitting word.Jump s.0 (λ (v : ℤ × Option (Bor (List ℕ))). record { line = line.Jump v.0; name = v.1 }) target_of (Token IsTarget) (λ (v : ℤ × Option (List ℕ)). FitsSigned w16 v.0)
-    fits = record { ok = λ v p f. (refl, (refl, p), f); back = back; out = λ w p bad. (statement (line.Jump w.0) (w.1) None, refl, (refl, p), λ m. bad m.0) }
+    fits = record { ok = λ v p f. (refl, (refl, p), f); back = back_of word.Jump s.0; out = λ w p bad. (statement (line.Jump w.0) (w.1) None, refl, (refl, p), λ m. bad m.0) }
 
 pub long_jump : (s : State) (r : Option (ℤ × Option (Bor (List ℕ)))) (u : State) → Reads target_of (Token IsTarget) (λ (v : ℤ × Option (List ℕ)). FitsSigned w32 v.0) s r u → Answers word.LongJump s (option_map (λ (v : ℤ × Option (Bor (List ℕ))). record { line = line.LongJump v.0; name = v.1 }) r) u
 long_jump s r u h start = judged fits r u (gives_of target_of (Token IsTarget) (λ (v : ℤ × Option (List ℕ)). FitsSigned w32 v.0) s r u start h)
   where
-    back : (l : Line) → (name : Option (List ℕ)) → (odd : Option ℕ) → mnemonic_of l ≡ word.LongJump → IsOperands (statement l name odd) s.0 → (w : ℤ × Option (List ℕ)) × (Token IsTarget) s.0 w []
-    back (line.LongJump z) name odd m k = ((z, name), k.1)
-    back _ name odd m k = absurd cc
-
     fits : Fitting word.LongJump s.0 (λ (v : ℤ × Option (Bor (List ℕ))). record { line = line.LongJump v.0; name = v.1 }) target_of (Token IsTarget) (λ (v : ℤ × Option (List ℕ)). FitsSigned w32 v.0)
-    fits = record { ok = λ v p f. (refl, (refl, p), f); back = back; out = λ w p bad. (statement (line.LongJump w.0) (w.1) None, refl, (refl, p), λ m. bad m.0) }
+    fits = record { ok = λ v p f. (refl, (refl, p), f); back = back_of word.LongJump s.0; out = λ w p bad. (statement (line.LongJump w.0) (w.1) None, refl, (refl, p), λ m. bad m.0) }
 
 pub jump_if : (w : Width) (t : Comparison) (s : State) (r : Option (ℕ × (Operand × (ℤ × Option (Bor (List ℕ)))))) (u : State) → Reads (λ (v : ℕ × (Operand × (ℤ × Option (Bor (List ℕ))))). (v.0, (v.1.0, target_of v.1.1))) (Then (Token IsRegister) (Behind (44 ∷ []) (Then (Token IsSecond) (Behind (44 ∷ []) (Token IsTarget))))) (λ (v : ℕ × (Operand × (ℤ × Option (List ℕ)))). IsReg v.0 × (IsOperand v.1.0 × FitsSigned w16 v.1.1.0)) s r u → Answers (word.Classed (stem.JumpIf t) w) s (option_map (λ (v : ℕ × (Operand × (ℤ × Option (Bor (List ℕ))))). record { line = line.JumpIf w t v.0 v.1.0 v.1.1.0; name = v.1.1.1 }) r) u
 jump_if w t s r u h start = judged fits r u (gives_of (λ (v : ℕ × (Operand × (ℤ × Option (Bor (List ℕ))))). (v.0, (v.1.0, target_of v.1.1))) (Then (Token IsRegister) (Behind (44 ∷ []) (Then (Token IsSecond) (Behind (44 ∷ []) (Token IsTarget))))) (λ (v : ℕ × (Operand × (ℤ × Option (List ℕ)))). IsReg v.0 × (IsOperand v.1.0 × FitsSigned w16 v.1.1.0)) s r u start h)
   where
-    back : (l : Line) → (name : Option (List ℕ)) → (odd : Option ℕ) → mnemonic_of l ≡ word.Classed (stem.JumpIf t) w → IsOperands (statement l name odd) s.0 → (w : ℕ × (Operand × (ℤ × Option (List ℕ)))) × (Then (Token IsRegister) (Behind (44 ∷ []) (Then (Token IsSecond) (Behind (44 ∷ []) (Token IsTarget))))) s.0 w []
-    back (line.JumpIf w' t' dst operand z) name odd m k = ((dst, (operand, (z, name))), k.1)
-    back _ name odd m k = absurd cc
-
     fits : Fitting (word.Classed (stem.JumpIf t) w) s.0 (λ (v : ℕ × (Operand × (ℤ × Option (Bor (List ℕ))))). record { line = line.JumpIf w t v.0 v.1.0 v.1.1.0; name = v.1.1.1 }) (λ (v : ℕ × (Operand × (ℤ × Option (Bor (List ℕ))))). (v.0, (v.1.0, target_of v.1.1))) (Then (Token IsRegister) (Behind (44 ∷ []) (Then (Token IsSecond) (Behind (44 ∷ []) (Token IsTarget))))) (λ (v : ℕ × (Operand × (ℤ × Option (List ℕ)))). IsReg v.0 × (IsOperand v.1.0 × FitsSigned w16 v.1.1.0))
-    fits = record { ok = λ v p f. (refl, (refl, p), (f.0, f.1.0, f.1.1)); back = back; out = λ v p bad. (statement (line.JumpIf w t v.0 v.1.0 v.1.1.0) (v.1.1.1) None, refl, (refl, p), λ m. bad (m.0.0, (m.0.1, m.0.2))) }
+    fits = record { ok = λ v p f. (refl, (refl, p), (f.0, f.1.0, f.1.1)); back = back_of (word.Classed (stem.JumpIf t) w) s.0; out = λ v p bad. (statement (line.JumpIf w t v.0 v.1.0 v.1.1.0) (v.1.1.1) None, refl, (refl, p), λ m. bad (m.0.0, (m.0.1, m.0.2))) }
 
 pub load : (z : Size) (s : State) (r : Option (ℕ × (ℕ × ℤ))) (u : State) → Reads (λ (v : ℕ × (ℕ × ℤ)). (v.0, v.1)) (Then (Token IsRegister) (Behind (44 ∷ []) (Memory))) (λ (v : ℕ × (ℕ × ℤ)). IsReg v.0 × (IsReg v.1.0 × FitsSigned w16 v.1.1)) s r u → Answers (word.Load z) s (option_map (λ (v : ℕ × (ℕ × ℤ)). plain (line.Load z v.0 v.1.0 v.1.1)) r) u
 load z s r u h start = judged fits r u (gives_of (λ (v : ℕ × (ℕ × ℤ)). (v.0, v.1)) (Then (Token IsRegister) (Behind (44 ∷ []) (Memory))) (λ (v : ℕ × (ℕ × ℤ)). IsReg v.0 × (IsReg v.1.0 × FitsSigned w16 v.1.1)) s r u start h)
   where
-    back : (l : Line) → (name : Option (List ℕ)) → (odd : Option ℕ) → mnemonic_of l ≡ word.Load z → IsOperands (statement l name odd) s.0 → (w : ℕ × (ℕ × ℤ)) × (Then (Token IsRegister) (Behind (44 ∷ []) (Memory))) s.0 w []
-    back (line.Load z' dst base y) name odd m k = ((dst, (base, y)), k.2)
-    back _ name odd m k = absurd cc
-
     fits : Fitting (word.Load z) s.0 (λ (v : ℕ × (ℕ × ℤ)). plain (line.Load z v.0 v.1.0 v.1.1)) (λ (v : ℕ × (ℕ × ℤ)). (v.0, v.1)) (Then (Token IsRegister) (Behind (44 ∷ []) (Memory))) (λ (v : ℕ × (ℕ × ℤ)). IsReg v.0 × (IsReg v.1.0 × FitsSigned w16 v.1.1))
-    fits = record { ok = λ v p f. (refl, (refl, refl, p), (f.0, f.1.0, f.1.1)); back = back; out = λ w p bad. (statement (line.Load z w.0 w.1.0 w.1.1) None None, refl, (refl, refl, p), λ m. bad (m.0.0, (m.0.1, m.0.2))) }
+    fits = record { ok = λ v p f. (refl, (refl, refl, p), (f.0, f.1.0, f.1.1)); back = back_of (word.Load z) s.0; out = λ w p bad. (statement (line.Load z w.0 w.1.0 w.1.1) None None, refl, (refl, refl, p), λ m. bad (m.0.0, (m.0.1, m.0.2))) }
 
 pub load_extended : (z : SignedSize) (s : State) (r : Option (ℕ × (ℕ × ℤ))) (u : State) → Reads (λ (v : ℕ × (ℕ × ℤ)). (v.0, v.1)) (Then (Token IsRegister) (Behind (44 ∷ []) (Memory))) (λ (v : ℕ × (ℕ × ℤ)). IsReg v.0 × (IsReg v.1.0 × FitsSigned w16 v.1.1)) s r u → Answers (word.LoadExtended z) s (option_map (λ (v : ℕ × (ℕ × ℤ)). plain (line.LoadExtended z v.0 v.1.0 v.1.1)) r) u
 load_extended z s r u h start = judged fits r u (gives_of (λ (v : ℕ × (ℕ × ℤ)). (v.0, v.1)) (Then (Token IsRegister) (Behind (44 ∷ []) (Memory))) (λ (v : ℕ × (ℕ × ℤ)). IsReg v.0 × (IsReg v.1.0 × FitsSigned w16 v.1.1)) s r u start h)
   where
-    back : (l : Line) → (name : Option (List ℕ)) → (odd : Option ℕ) → mnemonic_of l ≡ word.LoadExtended z → IsOperands (statement l name odd) s.0 → (w : ℕ × (ℕ × ℤ)) × (Then (Token IsRegister) (Behind (44 ∷ []) (Memory))) s.0 w []
-    back (line.LoadExtended z' dst base y) name odd m k = ((dst, (base, y)), k.2)
-    back _ name odd m k = absurd cc
-
     fits : Fitting (word.LoadExtended z) s.0 (λ (v : ℕ × (ℕ × ℤ)). plain (line.LoadExtended z v.0 v.1.0 v.1.1)) (λ (v : ℕ × (ℕ × ℤ)). (v.0, v.1)) (Then (Token IsRegister) (Behind (44 ∷ []) (Memory))) (λ (v : ℕ × (ℕ × ℤ)). IsReg v.0 × (IsReg v.1.0 × FitsSigned w16 v.1.1))
-    fits = record { ok = λ v p f. (refl, (refl, refl, p), (f.0, f.1.0, f.1.1)); back = back; out = λ w p bad. (statement (line.LoadExtended z w.0 w.1.0 w.1.1) None None, refl, (refl, refl, p), λ m. bad (m.0.0, (m.0.1, m.0.2))) }
+    fits = record { ok = λ v p f. (refl, (refl, refl, p), (f.0, f.1.0, f.1.1)); back = back_of (word.LoadExtended z) s.0; out = λ w p bad. (statement (line.LoadExtended z w.0 w.1.0 w.1.1) None None, refl, (refl, refl, p), λ m. bad (m.0.0, (m.0.1, m.0.2))) }
 
 pub store : (z : Size) (s : State) (r : Option ((ℕ × ℤ) × ℕ)) (u : State) → Reads (λ (v : (ℕ × ℤ) × ℕ). (v.0, v.1)) (Then (Memory) (Behind (44 ∷ []) (Token IsRegister))) (λ (v : (ℕ × ℤ) × ℕ). (IsReg v.0.0 × FitsSigned w16 v.0.1) × IsReg v.1) s r u → Answers (word.Store z) s (option_map (λ (v : (ℕ × ℤ) × ℕ). plain (line.Store z v.0.0 v.0.1 v.1)) r) u
 store z s r u h start = judged fits r u (gives_of (λ (v : (ℕ × ℤ) × ℕ). (v.0, v.1)) (Then (Memory) (Behind (44 ∷ []) (Token IsRegister))) (λ (v : (ℕ × ℤ) × ℕ). (IsReg v.0.0 × FitsSigned w16 v.0.1) × IsReg v.1) s r u start h)
   where
-    back : (l : Line) → (name : Option (List ℕ)) → (odd : Option ℕ) → mnemonic_of l ≡ word.Store z → IsOperands (statement l name odd) s.0 → (w : (ℕ × ℤ) × ℕ) × (Then (Memory) (Behind (44 ∷ []) (Token IsRegister))) s.0 w []
-    back (line.Store z' base y value) name odd m k = (((base, y), value), k.2)
-    back _ name odd m k = absurd cc
-
     fits : Fitting (word.Store z) s.0 (λ (v : (ℕ × ℤ) × ℕ). plain (line.Store z v.0.0 v.0.1 v.1)) (λ (v : (ℕ × ℤ) × ℕ). (v.0, v.1)) (Then (Memory) (Behind (44 ∷ []) (Token IsRegister))) (λ (v : (ℕ × ℤ) × ℕ). (IsReg v.0.0 × FitsSigned w16 v.0.1) × IsReg v.1)
-    fits = record { ok = λ v p f. (refl, (refl, refl, p), (f.0.0, f.0.1, f.1)); back = back; out = λ w p bad. (statement (line.Store z w.0.0 w.0.1 w.1) None None, refl, (refl, refl, p), λ m. bad ((m.0.0, m.0.1), m.0.2)) }
+    fits = record { ok = λ v p f. (refl, (refl, refl, p), (f.0.0, f.0.1, f.1)); back = back_of (word.Store z) s.0; out = λ w p bad. (statement (line.Store z w.0.0 w.0.1 w.1) None None, refl, (refl, refl, p), λ m. bad ((m.0.0, m.0.1), m.0.2)) }
 
 pub store_immediate : (z : Size) (s : State) (r : Option ((ℕ × ℤ) × ℤ)) (u : State) → Reads (λ (v : (ℕ × ℤ) × ℤ). (v.0, v.1)) (Then (Memory) (Behind (44 ∷ []) (Token IsImmediate))) (λ (v : (ℕ × ℤ) × ℤ). (IsReg v.0.0 × FitsSigned w16 v.0.1) × FitsSigned w32 v.1) s r u → Answers (word.StoreImmediate z) s (option_map (λ (v : (ℕ × ℤ) × ℤ). plain (line.StoreImmediate z v.0.0 v.0.1 v.1)) r) u
 store_immediate z s r u h start = judged fits r u (gives_of (λ (v : (ℕ × ℤ) × ℤ). (v.0, v.1)) (Then (Memory) (Behind (44 ∷ []) (Token IsImmediate))) (λ (v : (ℕ × ℤ) × ℤ). (IsReg v.0.0 × FitsSigned w16 v.0.1) × FitsSigned w32 v.1) s r u start h)
   where
-    back : (l : Line) → (name : Option (List ℕ)) → (odd : Option ℕ) → mnemonic_of l ≡ word.StoreImmediate z → IsOperands (statement l name odd) s.0 → (w : (ℕ × ℤ) × ℤ) × (Then (Memory) (Behind (44 ∷ []) (Token IsImmediate))) s.0 w []
-    back (line.StoreImmediate z' base y value) name odd m k = (((base, y), value), k.2)
-    back _ name odd m k = absurd cc
-
     fits : Fitting (word.StoreImmediate z) s.0 (λ (v : (ℕ × ℤ) × ℤ). plain (line.StoreImmediate z v.0.0 v.0.1 v.1)) (λ (v : (ℕ × ℤ) × ℤ). (v.0, v.1)) (Then (Memory) (Behind (44 ∷ []) (Token IsImmediate))) (λ (v : (ℕ × ℤ) × ℤ). (IsReg v.0.0 × FitsSigned w16 v.0.1) × FitsSigned w32 v.1)
-    fits = record { ok = λ v p f. (refl, (refl, refl, p), (f.0.0, f.0.1, f.1)); back = back; out = λ w p bad. (statement (line.StoreImmediate z w.0.0 w.0.1 w.1) None None, refl, (refl, refl, p), λ m. bad ((m.0.0, m.0.1), m.0.2)) }
-
--- two registers and a number
-abbrev Extended : Form (ℕ × (ℕ × Option ℕ))
-Extended = Then (Token IsRegister) (Behind (44 ∷ []) (Then (Token IsRegister) (Behind (44 ∷ []) (Token IsWidth))))
+    fits = record { ok = λ v p f. (refl, (refl, refl, p), (f.0.0, f.0.1, f.1)); back = back_of (word.StoreImmediate z) s.0; out = λ w p bad. (statement (line.StoreImmediate z w.0.0 w.0.1 w.1) None None, refl, (refl, refl, p), λ m. bad ((m.0.0, m.0.1), m.0.2)) }
 
 -- an extension and a byte order instruction have one of the widths that there are, or another one
 odd_extended : (w : Width) (tokens : List (List ℕ)) (dst src : ℕ) (n : Option ℕ) → Extended tokens (dst, (src, n)) [] → ¬ HasExtension w n → (s : Statement) × (mnemonic_of s.line ≡ word.Classed stem.MoveExtended w) × IsOperands s tokens × ¬ Fits s
@@ -167,22 +164,14 @@ extended_ok w tokens e dst src p f = let k = extension_class w e f.1.1 in let q 
 pub move_extended : (w : Width) (s : State) (r : Option (ℕ × (ℕ × Extension))) (u : State) → Reads (λ (v : ℕ × (ℕ × Extension)). (v.0, (v.1.0, bits_in w v.1.1))) (Then (Token IsRegister) (Behind (44 ∷ []) (Then (Token IsRegister) (Behind (44 ∷ []) (Token IsWidth))))) (λ (v : ℕ × (ℕ × Option ℕ)). IsReg v.0 × (IsReg v.1.0 × HasExtension w v.1.1)) s r u → Answers (word.Classed stem.MoveExtended w) s (option_map (λ (v : ℕ × (ℕ × Extension)). plain (line.MoveExtended v.1.1 v.0 v.1.0)) r) u
 move_extended w s r u h start = judged fits r u (gives_of (λ (v : ℕ × (ℕ × Extension)). (v.0, (v.1.0, bits_in w v.1.1))) (Then (Token IsRegister) (Behind (44 ∷ []) (Then (Token IsRegister) (Behind (44 ∷ []) (Token IsWidth))))) (λ (v : ℕ × (ℕ × Option ℕ)). IsReg v.0 × (IsReg v.1.0 × HasExtension w v.1.1)) s r u start h)
   where
-    back : (l : Line) → (name : Option (List ℕ)) → (odd : Option ℕ) → mnemonic_of l ≡ word.Classed stem.MoveExtended w → IsOperands (statement l name odd) s.0 → (w : ℕ × (ℕ × Option ℕ)) × (Then (Token IsRegister) (Behind (44 ∷ []) (Then (Token IsRegister) (Behind (44 ∷ []) (Token IsWidth))))) s.0 w []
-    back (line.MoveExtended e dst src) name odd m k = ((dst, (src, Some k.1)), k.3)
-    back _ name odd m k = absurd cc
-
     fits : Fitting (word.Classed stem.MoveExtended w) s.0 (λ (v : ℕ × (ℕ × Extension)). plain (line.MoveExtended v.1.1 v.0 v.1.0)) (λ (v : ℕ × (ℕ × Extension)). (v.0, (v.1.0, bits_in w v.1.1))) (Then (Token IsRegister) (Behind (44 ∷ []) (Then (Token IsRegister) (Behind (44 ∷ []) (Token IsWidth))))) (λ (v : ℕ × (ℕ × Option ℕ)). IsReg v.0 × (IsReg v.1.0 × HasExtension w v.1.1))
-    fits = record { ok = λ v p f. extended_ok w s.0 v.1.1 v.0 v.1.0 p f; back = back; out = λ v p bad. odd_extended w s.0 v.0 v.1.0 v.1.1 p (λ m. bad (register_in_range p.1.0 v.0 p.1.2, (register_in_range p.2.2.1.0 v.1.0 p.2.2.1.2, m))) }
+    fits = record { ok = λ v p f. extended_ok w s.0 v.1.1 v.0 v.1.0 p f; back = back_of (word.Classed stem.MoveExtended w) s.0; out = λ v p bad. odd_extended w s.0 v.0 v.1.0 v.1.1 p (λ m. bad (register_in_range p.1.0 v.0 p.1.2, (register_in_range p.2.2.1.0 v.1.0 p.2.2.1.2, m))) }
 
 pub byte_order : (o : Order) (s : State) (r : Option (ℕ × SwapWidth)) (u : State) → Reads (λ (v : ℕ × SwapWidth). (v.0, swap_width_bits v.1)) (Then (Token IsRegister) (Behind (44 ∷ []) (Token IsNumeral))) (λ (v : ℕ × ℕ). IsReg v.0 × HasSwapWidth v.1) s r u → Answers (word.ByteOrder o) s (option_map (λ (v : ℕ × SwapWidth). plain (line.ByteOrder o v.1 v.0)) r) u
 byte_order o s r u h start = judged fits r u (gives_of (λ (v : ℕ × SwapWidth). (v.0, swap_width_bits v.1)) (Then (Token IsRegister) (Behind (44 ∷ []) (Token IsNumeral))) (λ (v : ℕ × ℕ). IsReg v.0 × HasSwapWidth v.1) s r u start h)
   where
-    back : (l : Line) → (name : Option (List ℕ)) → (odd : Option ℕ) → mnemonic_of l ≡ word.ByteOrder o → IsOperands (statement l name odd) s.0 → (w : ℕ × ℕ) × (Then (Token IsRegister) (Behind (44 ∷ []) (Token IsNumeral))) s.0 w []
-    back (line.ByteOrder o' y dst) name odd m k = ((dst, k.1), k.3)
-    back _ name odd m k = absurd cc
-
     fits : Fitting (word.ByteOrder o) s.0 (λ (v : ℕ × SwapWidth). plain (line.ByteOrder o v.1 v.0)) (λ (v : ℕ × SwapWidth). (v.0, swap_width_bits v.1)) (Then (Token IsRegister) (Behind (44 ∷ []) (Token IsNumeral))) (λ (v : ℕ × ℕ). IsReg v.0 × HasSwapWidth v.1)
-    fits = record { ok = λ v p f. (refl, (refl, swap_width_bits v.1, refl, p), f.0); back = back; out = λ w p bad. (statement (line.ByteOrder o swap.Bits16 w.0) None (Some w.1), refl, (refl, w.1, (refl, λ y same. bad (register_in_range p.1.0 w.0 p.1.2, (y, same))), p), λ m. let e = m.1 in absurd cc) }
+    fits = record { ok = λ v p f. (refl, (refl, swap_width_bits v.1, refl, p), f.0); back = back_of (word.ByteOrder o) s.0; out = λ w p bad. (statement (line.ByteOrder o swap.Bits16 w.0) None (Some w.1), refl, (refl, w.1, (refl, λ y same. bad (register_in_range p.1.0 w.0 p.1.2, (y, same))), p), λ m. let e = m.1 in absurd cc) }
 
 -- the word local is no number
 pub no_local : (t : List ℕ) (z : ℤ) → t ≡ 108 ∷ 111 ∷ 99 ∷ 97 ∷ 108 ∷ [] → IsImmediate t z → ⊥
