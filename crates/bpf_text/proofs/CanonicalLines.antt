@@ -1,5 +1,5 @@
 -- The canonical text of an instruction is written as that instruction.
-use Rattle.std.proofs.Common.{◌≡◌, ◌<◌, ◌^◌, ℕ, ℤ, pos, negsuc, List, [], ◌∷◌, ◌++◌, Some, None, refl, inr, sym, ◌∙◌, ap, subst, arith, append_assoc, w16, w32, rules}
+use Rattle.std.proofs.Common.{◌≡◌, ◌<◌, ◌≤◌, ◌^◌, ℕ, ℤ, pos, negsuc, List, [], ◌∷◌, ◌++◌, Some, None, refl, inr, sym, ◌∙◌, ap, subst, arith, append_assoc, w16, w32, rules}
 use Rattle.std.specs.Prelude.{codes, FitsSigned}
 use Rattle.std.specs.Fmt.{decimal, signed_decimal}
 use Rattle.std.proofs.lemmas.Int.{ints}
@@ -10,7 +10,8 @@ use Rattle.bpf_types.specs.declared.line.Extension.TheVariants as extension
 use Rattle.bpf_types.specs.declared.line.SwapWidth.{SwapWidth}
 use Rattle.bpf_types.specs.declared.line.SwapWidth.TheVariants as swap
 use Rattle.bpf_types.specs.Line.{IsLine, swap_width_bits, extension_bits}
-use Rattle.bpf_canonical.specs.Canonical.{canonical, register, with_sign, operand_text, hex_digits}
+use Rattle.bpf_canonical.specs.Canonical.{canonical, register, with_sign, operand_text, place_text, hex_digits}
+use Rattle.bpf_canonical.specs.declared.mnemonic.Mnemonic.TheVariants as word
 use Rattle.bpf_canonical.specs.Mnemonics.{mnemonic_name, mnemonic_of}
 use Rattle.bpf_text.specs.Tokens.{NoWord, HasTokens}
 use Rattle.bpf_text.specs.Number.{IsNumeral}
@@ -62,6 +63,25 @@ load_are a b o dst base offset p q r = ((44 ∷ []) ∷ (91 ∷ []) ∷ b ∷ o 
 
 store_are : {V : Type 0} (P : List ℕ → V → Type 0) (b o c : List ℕ) (base : ℕ) (offset : ℤ) (v : V) → IsRegister b base → IsDistance o offset → P c v → Are (Memory ⸴ Token P) ((base, offset), v) ((91 ∷ []) ∷ b ∷ o ∷ (93 ∷ []) ∷ (44 ∷ []) ∷ c ∷ [])
 store_are P b o c base offset v p q r = ((44 ∷ []) ∷ c ∷ [], memory_is b o base offset ((44 ∷ []) ∷ c ∷ []) p q, (c ∷ [], refl, (c, refl, r)))
+
+-- the tokens of a load after its word, and of a store
+loaded : (m : List ℕ) → IsRun m → (dst base : ℕ) (offset : ℤ) → dst ≤ 10 → base ≤ 10 → FitsSigned w16 offset
+    → (operands : List (List ℕ)) × HasTokens (m ++ (codes " " ++ register dst ++ codes ", " ++ place_text base offset)) (m ∷ operands) × Are (Token IsRegister ⸴ Memory) (dst, (base, offset)) operands
+loaded m run dst base offset d b o =
+    let far = wide_enough offset o in (
+      _,
+      word_and_load m (register dst) (register base) (with_sign offset) run (register_run dst d) (register_run base b) (distance_run offset far) (sign_stops offset),
+      load_are (register dst) (register base) (with_sign offset) dst base offset (register_read dst d) (register_read base b) (distance_read offset far),
+    )
+
+stored : {V : Type 0} (P : List ℕ → V → Type 0) (m : List ℕ) → IsRun m → (base : ℕ) (offset : ℤ) (a : List ℕ) (v : V) → base ≤ 10 → FitsSigned w16 offset → IsRun a → P a v
+    → (operands : List (List ℕ)) × HasTokens (m ++ (codes " " ++ place_text base offset ++ codes ", " ++ a)) (m ∷ operands) × Are (Memory ⸴ Token P) ((base, offset), v) operands
+stored P m run base offset a v b o value is =
+    let far = wide_enough offset o in (
+      _,
+      word_and_store m (register base) (with_sign offset) a run (register_run base b) (distance_run offset far) value (sign_stops offset),
+      store_are P (register base) (with_sign offset) a base offset v (register_read base b) (distance_read offset far) is,
+    )
 
 pub canonical_form : (l : Line) → IsLine l → FormOf l
 canonical_form (line.Arithmetic width operation dst operand) h =
@@ -142,45 +162,15 @@ canonical_form (line.LoadWide dst value) h =
       (a ∷ codes "," ∷ b ∷ [], refl, (refl, refl, two_are IsRegister IsNumeral a b dst value (register_read dst h.0) (value_read value h.1))),
     )
 canonical_form (line.Load size dst base offset) h =
-    let a = register dst in let b = register base in let o = with_sign offset in let m = mnemonic_name (mnemonic_of (line.Load size dst base offset)) in (
-      m ∷ a ∷ codes "," ∷ codes "[" ∷ b ∷ o ∷ codes "]" ∷ [],
-      word_and_load m a b o (word_of (line.Load size dst base offset)) (register_run dst h.0) (register_run base h.1) (distance_run offset (wide_enough offset h.2)) (sign_stops offset),
-      (
-        a ∷ codes "," ∷ codes "[" ∷ b ∷ o ∷ codes "]" ∷ [],
-        refl,
-        (refl, refl, load_are a b o dst base offset (register_read dst h.0) (register_read base h.1) (distance_read offset (wide_enough offset h.2))),
-      ),
-    )
+    let f = loaded (mnemonic_name (word.Load size)) (mnemonic_run (word.Load size)) dst base offset h.0 h.1 h.2 in (_, f.1, (f.0, refl, (refl, refl, f.2)))
 canonical_form (line.LoadExtended size dst base offset) h =
-    let a = register dst in let b = register base in let o = with_sign offset in let m = mnemonic_name (mnemonic_of (line.LoadExtended size dst base offset)) in (
-      m ∷ a ∷ codes "," ∷ codes "[" ∷ b ∷ o ∷ codes "]" ∷ [],
-      word_and_load m a b o (word_of (line.LoadExtended size dst base offset)) (register_run dst h.0) (register_run base h.1) (distance_run offset (wide_enough offset h.2)) (sign_stops offset),
-      (
-        a ∷ codes "," ∷ codes "[" ∷ b ∷ o ∷ codes "]" ∷ [],
-        refl,
-        (refl, refl, load_are a b o dst base offset (register_read dst h.0) (register_read base h.1) (distance_read offset (wide_enough offset h.2))),
-      ),
-    )
+    let f = loaded (mnemonic_name (word.LoadExtended size)) (mnemonic_run (word.LoadExtended size)) dst base offset h.0 h.1 h.2 in (_, f.1, (f.0, refl, (refl, refl, f.2)))
 canonical_form (line.StoreImmediate size base offset value) h =
-    let b = register base in let o = with_sign offset in let a = signed_decimal value in let m = mnemonic_name (mnemonic_of (line.StoreImmediate size base offset value)) in (
-      m ∷ codes "[" ∷ b ∷ o ∷ codes "]" ∷ codes "," ∷ a ∷ [],
-      word_and_store m b o a (word_of (line.StoreImmediate size base offset value)) (register_run base h.0) (distance_run offset (wide_enough offset h.1)) (integer_run value h.2) (sign_stops offset),
-      (
-        codes "[" ∷ b ∷ o ∷ codes "]" ∷ codes "," ∷ a ∷ [],
-        refl,
-        (refl, refl, store_are IsImmediate b o a base offset value (register_read base h.0) (distance_read offset (wide_enough offset h.1)) (immediate_read value h.2)),
-      ),
-    )
+    let f = stored IsImmediate (mnemonic_name (word.StoreImmediate size)) (mnemonic_run (word.StoreImmediate size)) base offset (signed_decimal value) value h.0 h.1 (integer_run value h.2) (immediate_read value h.2) in
+    (_, f.1, (f.0, refl, (refl, refl, f.2)))
 canonical_form (line.Store size base offset src) h =
-    let b = register base in let o = with_sign offset in let a = register src in let m = mnemonic_name (mnemonic_of (line.Store size base offset src)) in (
-      m ∷ codes "[" ∷ b ∷ o ∷ codes "]" ∷ codes "," ∷ a ∷ [],
-      word_and_store m b o a (word_of (line.Store size base offset src)) (register_run base h.0) (distance_run offset (wide_enough offset h.1)) (register_run src h.2) (sign_stops offset),
-      (
-        codes "[" ∷ b ∷ o ∷ codes "]" ∷ codes "," ∷ a ∷ [],
-        refl,
-        (refl, refl, store_are IsRegister b o a base offset src (register_read base h.0) (distance_read offset (wide_enough offset h.1)) (register_read src h.2)),
-      ),
-    )
+    let f = stored IsRegister (mnemonic_name (word.Store size)) (mnemonic_run (word.Store size)) base offset (register src) src h.0 h.1 (register_run src h.2) (register_read src h.2) in
+    (_, f.1, (f.0, refl, (refl, refl, f.2)))
 
 -- a line with an instruction alone
 pub canonical_written : (l : Line) → IsLine l → Writes (canonical l) (record { label = None; body = Some (record { line = l; name = None; unknown_width = None }) })
