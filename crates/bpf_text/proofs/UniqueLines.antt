@@ -26,7 +26,7 @@ use Rattle.bpf_text.proofs.Scanning.{one_tokens}
 use Rattle.bpf_text.proofs.JudgeLemmas.{no_local}
 use Rattle.bpf_text.proofs.ReadingLemmas.{no_colon}
 use Rattle.bpf_text.proofs.ReadLemmas.{statement}
-use Rattle.bpf_text.proofs.UniqueForms.{one_list, one_behind, register_form, second_form, numeral_form, immediate_form, target_form, memory_form}
+use Rattle.bpf_text.proofs.UniqueForms.{OneForm, one_list, one_behind, register_form, second_form, numeral_form, immediate_form, target_form, memory_form}
 
 -- what the law of bpf_canonical states about mnemonics
 abbrev pub AreNamed : Type 0
@@ -134,40 +134,38 @@ one_exit : IsOne line.Exit
 one_exit line.Exit a b odd tokens m h k = (refl, h.0 ∙ sym k.0, k.1)
 one_exit _ a b odd tokens m h k = absurd cc
 
+load_parts : (tokens : List (List ℕ)) (dst base dst' base' : ℕ) (z z' : ℤ) → (Token IsRegister ⸴ Memory) tokens (dst, (base, z)) [] → (Token IsRegister ⸴ Memory) tokens (dst', (base', z')) [] → (dst ≡ dst') × (base ≡ base') × (z ≡ z')
+load_parts tokens dst base dst' base' z z' h k =
+    let same = (one_list (Token IsRegister) Memory register_form memory_form tokens (dst, (base, z)) (dst', (base', z')) [] [] h k).0 in
+    (λ i. (same i).0, λ i. (same i).1.0, λ i. (same i).1.1)
+
 one_load_plain : (s : Size) (dst base : ℕ) (z : ℤ) → IsOne (line.Load s dst base z)
 one_load_plain s dst base z (line.Load s' dst' base' z') a b odd tokens m h k =
-    let same = (one_list (Token IsRegister) Memory register_form memory_form tokens (dst, (base, z)) (dst', (base', z')) [] [] h.2 k.2).0 in
-    let p : dst ≡ dst' = λ i. (same i).0 in
-    let q : base ≡ base' = λ i. (same i).1.0 in
-    let r : z ≡ z' = λ i. (same i).1.1 in
-    (cc, h.0 ∙ sym k.0, k.1)
+    let same = load_parts tokens dst base dst' base' z z' h.2 k.2 in let size : s ≡ s' = cc in
+    (λ i. line.Load (size i) (same.0 i) (same.1 i) (same.2 i), h.0 ∙ sym k.0, k.1)
 one_load_plain s dst base z _ a b odd tokens m h k = absurd cc
 
 one_load_extended : (s : SignedSize) (dst base : ℕ) (z : ℤ) → IsOne (line.LoadExtended s dst base z)
 one_load_extended s dst base z (line.LoadExtended s' dst' base' z') a b odd tokens m h k =
-    let same = (one_list (Token IsRegister) Memory register_form memory_form tokens (dst, (base, z)) (dst', (base', z')) [] [] h.2 k.2).0 in
-    let p : dst ≡ dst' = λ i. (same i).0 in
-    let q : base ≡ base' = λ i. (same i).1.0 in
-    let r : z ≡ z' = λ i. (same i).1.1 in
-    (cc, h.0 ∙ sym k.0, k.1)
+    let same = load_parts tokens dst base dst' base' z z' h.2 k.2 in let size : s ≡ s' = cc in
+    (λ i. line.LoadExtended (size i) (same.0 i) (same.1 i) (same.2 i), h.0 ∙ sym k.0, k.1)
 one_load_extended s dst base z _ a b odd tokens m h k = absurd cc
+
+store_parts : {V : Type 0} (P : List ℕ → V → Type 0) → OneForm (Token P) → (tokens : List (List ℕ)) (base base' : ℕ) (z z' : ℤ) (v w : V) → (Memory ⸴ Token P) tokens ((base, z), v) [] → (Memory ⸴ Token P) tokens ((base', z'), w) [] → (base ≡ base') × (z ≡ z') × (v ≡ w)
+store_parts P one tokens base base' z z' v w h k =
+    let same = (one_list Memory (Token P) memory_form one tokens ((base, z), v) ((base', z'), w) [] [] h k).0 in
+    (λ i. (same i).0.0, λ i. (same i).0.1, λ i. (same i).1)
 
 one_store_plain : (s : Size) (base : ℕ) (z : ℤ) (src : ℕ) → IsOne (line.Store s base z src)
 one_store_plain s base z src (line.Store s' base' z' src') a b odd tokens m h k =
-    let same = (one_list Memory (Token IsRegister) memory_form register_form tokens ((base, z), src) ((base', z'), src') [] [] h.2 k.2).0 in
-    let p : base ≡ base' = λ i. (same i).0.0 in
-    let q : z ≡ z' = λ i. (same i).0.1 in
-    let r : src ≡ src' = λ i. (same i).1 in
-    (cc, h.0 ∙ sym k.0, k.1)
+    let same = store_parts IsRegister register_form tokens base base' z z' src src' h.2 k.2 in let size : s ≡ s' = cc in
+    (λ i. line.Store (size i) (same.0 i) (same.1 i) (same.2 i), h.0 ∙ sym k.0, k.1)
 one_store_plain s base z src _ a b odd tokens m h k = absurd cc
 
 one_store_immediate : (s : Size) (base : ℕ) (z y : ℤ) → IsOne (line.StoreImmediate s base z y)
 one_store_immediate s base z y (line.StoreImmediate s' base' z' y') a b odd tokens m h k =
-    let same = (one_list Memory (Token IsImmediate) memory_form immediate_form tokens ((base, z), y) ((base', z'), y') [] [] h.2 k.2).0 in
-    let p : base ≡ base' = λ i. (same i).0.0 in
-    let q : z ≡ z' = λ i. (same i).0.1 in
-    let r : y ≡ y' = λ i. (same i).1 in
-    (cc, h.0 ∙ sym k.0, k.1)
+    let same = store_parts IsImmediate immediate_form tokens base base' z z' y y' h.2 k.2 in let size : s ≡ s' = cc in
+    (λ i. line.StoreImmediate (size i) (same.0 i) (same.1 i) (same.2 i), h.0 ∙ sym k.0, k.1)
 one_store_immediate s base z y _ a b odd tokens m h k = absurd cc
 
 -- a number that is the width of an extension is the odd width of none
