@@ -6,7 +6,7 @@ ghost use Rattle.bpf_text.specs.Number.{IsNumeral};
 ghost use Rattle.bpf_text.specs.Fields.{IsRegister, IsImmediate, IsSecond, IsTarget};
 ghost use Rattle.bpf_text.specs.Judged.{texts, target_of};
 ghost use Rattle.bpf_text.specs.Mirror.Gives.{bits_in, IsWidth, HasExtension, HasSwapWidth};
-ghost use Rattle.bpf_text.specs.Grammar.{Token, Bracket, Memory};
+ghost use Rattle.bpf_text.specs.Grammar.{Token, ◌⸴◌, Bracket, Memory};
 ghost use Rattle.bpf_text.specs.Mirror.Reads.{state, Reads, Takes, Notes};
 
 use crate::fields;
@@ -158,5 +158,17 @@ impl<'a> Operands<'_, 'a> {
         let base = self.register()?;
         let offset = self.offset()?;
         Some((base, offset))
+    }
+
+    /// The operands of a load: a register, and an operand in memory.
+    pub fn load(&mut self) -> Option<(Reg, (Reg, i16))>
+        ensures { Reads (λ p. (p.0, (p.1.0, p.1.1))) (Token IsRegister ⸴ Memory)
+            (λ w. IsReg w.0 × (IsReg w.1.0 × FitsSigned w16 w.1.1))
+            (state self.old) result (state self.new) }
+    {
+        let dst = self.register()?;
+        self.expect(b",")?;
+        let (base, offset) = self.memory()?;
+        Some((dst, (base, offset)))
     }
 }

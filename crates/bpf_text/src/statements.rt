@@ -142,9 +142,7 @@ fn load<'a>(operands: &mut Operands<'_, 'a>, size: Size) -> Option<Statement<'a>
     ensures { Answers (word.Load size)
         (state operands.old) result (state operands.new) }
 {
-    let dst = operands.register()?;
-    operands.expect(b",")?;
-    let (base, offset) = operands.memory()?;
+    let (dst, (base, offset)) = operands.load()?;
     plain(Line::Load {
         size,
         dst,
@@ -157,9 +155,7 @@ fn load_extended<'a>(operands: &mut Operands<'_, 'a>, size: SignedSize) -> Optio
     ensures { Answers (word.LoadExtended size)
         (state operands.old) result (state operands.new) }
 {
-    let dst = operands.register()?;
-    operands.expect(b",")?;
-    let (base, offset) = operands.memory()?;
+    let (dst, (base, offset)) = operands.load()?;
     plain(Line::LoadExtended {
         size,
         dst,

@@ -1,21 +1,12 @@
-use Rattle.std.proofs.Common.{ℕ, ℤ, [], ◌∷◌, Some, None, FitsSigned, SFits, to_z-of_z, rules, ap, ◌∙◌}
+use Rattle.std.proofs.Common.{ℤ, Some, None, SFits, to_z-of_z, rules, ap, ◌∙◌}
 use Rattle.std.specs.Int.{w16}
-use Rattle.bpf_types.specs.Line.{IsReg}
 use Rattle.bpf_types.specs.declared.line.Line.TheVariants as line
-use Rattle.bpf_text.specs.Grammar.{Behind, Memory}
 use Rattle.bpf_text.specs.Mirror.Reads.{state}
-use Rattle.bpf_text.proofs.ReadLemmas.{then_next, behind_next}
 use Rattle.bpf_text.proofs.JudgeLemmas.{load_extended, plain}
 use Rattle.bpf_text.proofs.statements.load_extended.Goals as goal
 
 pub returns-in_err-dst : goal.returns-in_err-dst
-returns-in_err-dst c = rw c.from_residual.ensures (load_extended c.args.size (state c.args.operands.now) None (state c.register.new.self) (λ w rest m. c.in_err-dst.ensures w.0 m.0 m.1))
-
-pub returns-in_err-expect : goal.returns-in_err-expect
-returns-in_err-expect c = rw c.from_residual-in_err-expect.ensures (load_extended c.args.size (state c.args.operands.now) None (state c.expect.new.self) (then_next c.in_ok-dst.ensures (λ (p : ℕ × ℤ). (p.0, p.1)) (Behind (44 ∷ []) (Memory)) (λ (v : ℕ × ℤ). IsReg v.0 × FitsSigned w16 v.1) None (state c.expect.new.self) (λ w rest m. c.in_err-expect.ensures.none m.0 m.1)))
-
-pub returns-in_err-base : goal.returns-in_err-base
-returns-in_err-base c = rw c.from_residual-in_err-base.ensures (load_extended c.args.size (state c.args.operands.now) None (state c.memory.new.self) (then_next c.in_ok-dst.ensures (λ (p : ℕ × ℤ). (p.0, p.1)) (Behind (44 ∷ []) (Memory)) (λ (v : ℕ × ℤ). IsReg v.0 × FitsSigned w16 v.1) None (state c.memory.new.self) (behind_next (44 ∷ []) (state c.register.new.self) (state c.expect.new.self) c.in_ok-expect.ensures.some (λ (p : ℕ × ℤ). (p.0, p.1)) (Memory) (λ (v : ℕ × ℤ). IsReg v.0 × FitsSigned w16 v.1) None (state c.memory.new.self) c.in_err-base.ensures)))
+returns-in_err-dst c = rw c.from_residual.ensures (load_extended c.args.size (state c.args.operands.now) None (state c.load.new.self) c.in_err-dst.ensures)
 
 pub returns : goal.returns
-returns c = let f : SFits w16 c.in_ok-base.offset = search rules in rw (c.plain.ensures ∙ ap (λ (y : ℤ). Some (plain (line.LoadExtended c.args.size c.in_ok-dst.dst c.in_ok-base.base y))) (to_z-of_z f)) (load_extended c.args.size (state c.args.operands.now) (Some (c.in_ok-dst.dst, (c.in_ok-base.base, c.in_ok-base.offset))) (state c.memory.new.self) (then_next c.in_ok-dst.ensures (λ (p : ℕ × ℤ). (p.0, p.1)) (Behind (44 ∷ []) (Memory)) (λ (v : ℕ × ℤ). IsReg v.0 × FitsSigned w16 v.1) (Some (c.in_ok-base.base, c.in_ok-base.offset)) (state c.memory.new.self) (behind_next (44 ∷ []) (state c.register.new.self) (state c.expect.new.self) c.in_ok-expect.ensures.some (λ (p : ℕ × ℤ). (p.0, p.1)) (Memory) (λ (v : ℕ × ℤ). IsReg v.0 × FitsSigned w16 v.1) (Some (c.in_ok-base.base, c.in_ok-base.offset)) (state c.memory.new.self) c.in_ok-base.ensures)))
+returns c = let f : SFits w16 c.in_ok-dst.offset = search rules in rw (c.plain.ensures ∙ ap (λ (y : ℤ). Some (plain (line.LoadExtended c.args.size c.in_ok-dst.dst c.in_ok-dst.base y))) (to_z-of_z f)) (load_extended c.args.size (state c.args.operands.now) (Some (c.in_ok-dst.dst, (c.in_ok-dst.base, c.in_ok-dst.offset))) (state c.load.new.self) c.in_ok-dst.ensures)
