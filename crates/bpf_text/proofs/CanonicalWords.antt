@@ -1,11 +1,8 @@
 -- The words that instructions begin with are words of assembly text.
 use Rattle.std.proofs.Common.{◌≡◌, ℕ, List, [], ◌∷◌, ◌++◌, Bool, true, false, refl, inl}
 use Rattle.std.specs.Prelude.{codes, ◌&&◌}
-use Rattle.bpf_types.specs.declared.line.Operation.{Operation}
 use Rattle.bpf_types.specs.declared.line.Operation.TheVariants as op
-use Rattle.bpf_types.specs.declared.line.Comparison.{Comparison}
 use Rattle.bpf_types.specs.declared.line.Comparison.TheVariants as comparison
-use Rattle.bpf_types.specs.declared.line.Order.{Order}
 use Rattle.bpf_types.specs.declared.line.Order.TheVariants as order
 use Rattle.bpf_types.specs.declared.line.Size.{Size}
 use Rattle.bpf_types.specs.declared.line.Size.TheVariants as size
@@ -17,7 +14,7 @@ use Rattle.bpf_canonical.specs.declared.mnemonic.Mnemonic.{Mnemonic}
 use Rattle.bpf_canonical.specs.declared.mnemonic.Mnemonic.TheVariants as word
 use Rattle.bpf_canonical.specs.declared.mnemonic.Stem.{Stem}
 use Rattle.bpf_canonical.specs.declared.mnemonic.Stem.TheVariants as stem
-use Rattle.bpf_canonical.specs.Mnemonics.{operation_name, comparison_name, order_name, size_name, signed_size_name, width_name, stem_name, mnemonic_name}
+use Rattle.bpf_canonical.specs.Mnemonics.{size_name, signed_size_name, width_name, stem_name, mnemonic_name}
 use Rattle.bpf_text.specs.Tokens.{is_word, AllWord}
 use Rattle.bpf_text.proofs.CanonicalNumbers.{IsRun, word_join}
 
@@ -45,18 +42,6 @@ run_join : (a b : List ℕ) → is_plain a ≡ true → all_word b ≡ true → 
 run_join [] b ha hb = absurd cc
 run_join (o ∷ os) b ha hb = inl (word_join (o ∷ os) b (word_by (o ∷ os) ha) (word_by b hb))
 
-operation_plain : (o : Operation) → is_plain (operation_name o) ≡ true
-operation_plain op.Add = refl
-operation_plain _ = refl
-
-comparison_plain : (t : Comparison) → is_plain (comparison_name t) ≡ true
-comparison_plain comparison.Equal = refl
-comparison_plain _ = refl
-
-order_plain : (o : Order) → is_plain (order_name o) ≡ true
-order_plain order.Little = refl
-order_plain _ = refl
-
 width_word : (w : Width) → all_word (width_name w) ≡ true
 width_word W32 = refl
 width_word W64 = refl
@@ -70,15 +55,16 @@ signed_size_word signed_size.Word = refl
 signed_size_word _ = refl
 
 stem_plain : (s : Stem) → is_plain (stem_name s) ≡ true
-stem_plain (stem.Arithmetic operation) = operation_plain operation
-stem_plain stem.Negate = refl
-stem_plain stem.MoveExtended = refl
-stem_plain (stem.JumpIf comparison) = comparison_plain comparison
+stem_plain (stem.Arithmetic op.Add) = refl
+stem_plain (stem.JumpIf comparison.Equal) = refl
+stem_plain _ = refl
 
 -- each mnemonic is one word
 pub mnemonic_run : (m : Mnemonic) → IsRun (mnemonic_name m)
 mnemonic_run (word.Classed stem width) = run_join (stem_name stem) (width_name width) (stem_plain stem) (width_word width)
-mnemonic_run (word.ByteOrder order) = plain_run (order_name order) (order_plain order)
+mnemonic_run (word.ByteOrder order.Little) = plain_run (codes "le") refl
+mnemonic_run (word.ByteOrder order.Big) = plain_run (codes "be") refl
+mnemonic_run (word.ByteOrder order.Swap) = plain_run (codes "swap") refl
 mnemonic_run word.LoadWide = plain_run (codes "lddw") refl
 mnemonic_run (word.Load size) = run_join (codes "ldx") (size_name size) refl (size_word size)
 mnemonic_run (word.LoadExtended size) = run_join (codes "ldxs") (signed_size_name size) refl (signed_size_word size)
