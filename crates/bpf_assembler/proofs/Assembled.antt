@@ -107,7 +107,7 @@ judged_ok {V} es (Ok v) P result is h = subst (λ (r : Result V AsmFault). IfOk 
 judged_ok {V} es (Err fault) P result (f, is, reported) h = subst (λ (r : Result V AsmFault). IfOk r P) (sym is) tt
 
 -- what was loaded are the octets
-pub loaded_octets : (octets : List ℕ) (Q R : Type 0) (P : List ℕ → Type 0) (loaded : Result (List ℕ) LoadFault) → (R → P octets) → IfOk loaded (λ p. (p ≡ octets) × Q) → OnOk loaded R → IfOk loaded P
+loaded_octets : (octets : List ℕ) (Q R : Type 0) (P : List ℕ → Type 0) (loaded : Result (List ℕ) LoadFault) → (R → P octets) → IfOk loaded (λ p. (p ≡ octets) × Q) → OnOk loaded R → IfOk loaded P
 loaded_octets octets Q R P (Ok p) to same h = subst P (sym same.0) (to h)
 loaded_octets octets Q R P (Err fault) to same h = tt
 
@@ -121,6 +121,12 @@ assembled profile one text rows octets t a = record {
   means = record { lines = t.lines; written = t.written; instructions = subst (λ (es : List Entry). AreInstructions t.lines es t.resolved.lines) t.rows t.resolved.instructions };
   admitted = subst (IsAdmittedAs profile octets) (one octets a.lines t.resolved.lines a.admitted.whole t.resolved.image) a.admitted;
 }
+
+-- and its program is loaded
+pub program_meant : (Q : Type 0) (profile : Profile) → OneImage → (text : List ℕ) (rows : List Row) (octets : List ℕ) (loaded : Result (List ℕ) LoadFault) (result : Result (List ℕ) AsmFault) → ArePassed text rows octets
+    → IfOk loaded (λ p. (p ≡ octets) × Q) → OnOk loaded (IsAdmitted profile octets) → Reports (map entry rows) loaded result → IfOk result (IsImageOfText profile text)
+program_meant Q profile one text rows octets loaded result passed ok admitted reports =
+    judged_ok (map entry rows) loaded (IsImageOfText profile text) result reports (loaded_octets octets Q (IsAdmitted profile octets) (IsImageOfText profile text) loaded (assembled profile one text rows octets passed) ok admitted)
 
 -- the fault of an instruction has a slot
 pub fault_reported : (entries : List Entry) (fault : LoadFault) (number : ℕ) → fault ≢ load.Memory → fault ≢ load.EmptyCode → fault ≢ load.RaggedCode → fault ≢ load.TooLong → IsLineUpTo entries (slot_of fault) number

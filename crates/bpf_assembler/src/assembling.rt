@@ -17,7 +17,7 @@ use crate::listings::admitted_images_are_meant_by_their_listings;
 use crate::resolving::{line_up_to, resolve_all};
 use crate::table::{Row, Table};
 use bpf_decode::images_are_unique;
-use ocp_loader::{LoadFault, Program, approve, load};
+use ocp_loader::{LoadFault, approve};
 use ocp_profile::Profile;
 use std::alloc::{Allocator, Global};
 use std::marker::Model;
@@ -64,7 +64,7 @@ fn fault_with_line(rows: &[Row<'_>], fault: LoadFault) -> AsmFault
 }
 
 /// The loader's answer for the image, its fault at the line of the instruction at its slot.
-fn with_line<T>(rows: &[Row<'_>], judged: Result<T, LoadFault>) -> Result<T, AsmFault>
+pub(crate) fn with_line<T>(rows: &[Row<'_>], judged: Result<T, LoadFault>) -> Result<T, AsmFault>
     ensures { Reports (map entry rows.now) judged result }
 {
     match judged {
@@ -74,7 +74,7 @@ fn with_line<T>(rows: &[Row<'_>], judged: Result<T, LoadFault>) -> Result<T, Asm
 }
 
 /// Both passes: the instructions of a text in its table, and their octets.
-fn both_passes<'a, A: Allocator + Copy>(
+pub(crate) fn both_passes<'a, A: Allocator + Copy>(
     alloc: A,
     text: &'a [u8],
 ) -> Result<(Table<'a, A>, Vec<u8, A>), AsmFault>
@@ -99,20 +99,6 @@ fn image_of<A: Allocator + Copy>(
     let (table, octets) = both_passes(alloc, text)?;
     with_line(&table.rows, approve(alloc, profile, &octets))?;
     Ok(Image { octets })
-}
-
-/// The program of that image.
-pub(crate) fn program_of<A: Allocator + Copy>(
-    alloc: A,
-    profile: Profile,
-    text: &[u8],
-) -> Result<Program<A>, AsmFault>
-    ensures means { IfOk result (IsImageOfText profile text.now) }
-    ensures fault { IfErr result (IsFaultOf profile text.now) }
-{
-    images_are_unique();
-    let (table, octets) = both_passes(alloc, text)?;
-    with_line(&table.rows, load(alloc, profile, &octets))
 }
 
 /// The image of the instructions that a text means, if it may be run under the profile.

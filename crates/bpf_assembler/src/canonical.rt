@@ -7,9 +7,11 @@ ghost use Rattle.bpf_assembler.specs.Text.{Means};
 ghost use Rattle.bpf_assembler.specs.Assembling.{IsImageOfText, IsFaultOf, HasMeaning};
 ghost use Rattle.bpf_assembler.specs.declared.fault.AsmFault.TheVariants.{Memory};
 
-use crate::assembling::program_of;
+use crate::assembling::{both_passes, with_line};
 use crate::fault::AsmFault;
 use crate::laws::meanings_exclude_faults;
+use bpf_decode::images_are_unique;
+use ocp_loader::load;
 use ocp_profile::Profile;
 use std::alloc::Allocator;
 
@@ -36,6 +38,8 @@ pub fn write_canonical<A: Allocator + Copy, B: Allocator>(
     ensures capacity { vec_capacity out.old ≤ vec_capacity out.new }
 {
     meanings_exclude_faults();
-    let program = program_of(alloc, profile, text)?;
+    images_are_unique();
+    let (table, octets) = both_passes(alloc, text)?;
+    let program = with_line(&table.rows, load(alloc, profile, &octets))?;
     Ok(program.listing(out)?)
 }
