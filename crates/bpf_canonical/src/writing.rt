@@ -1,8 +1,7 @@
 //! Instructions as text: their one spelling.
 ghost use Rattle.std.specs.Prelude.{◌≡◌, ◌++◌, ◌≤◌, ◌<◌, ◌+◌, codes, length, OnOk, OnErr, vec_capacity};
 ghost use Rattle.bpf_canonical.specs.Mirror.Rooms.{operands_room};
-ghost use Rattle.std.specs.Fmt.{decimal};
-ghost use Rattle.bpf_canonical.specs.Canonical.{canonical, hex_digits, operands_text, operand_text, place_text, register, with_sign};
+ghost use Rattle.bpf_canonical.specs.Canonical.{canonical, operands_text, operand_text, place_text, register};
 
 use crate::mnemonic::mnemonic_of;
 use crate::text::{MAX_TEXT_LENGTH, Text};
