@@ -92,7 +92,7 @@ fn size_of(word: &str) -> Result<Size, Fault> {
     value_of(names!(Size: Byte, Half, Word, Double), word)
 }
 
-/// Arguments of which a procedure takes so many.
+/// The arguments, if they are at most as many octets as a procedure takes.
 pub(crate) fn few(arguments: &[u8]) -> Result<&[u8], Fault>
     ensures { IfOk result (λ few. length few.now ≤ ARGUMENT_OCTETS) }
 {

@@ -1,5 +1,9 @@
 -- A fault that was found stays the first one.
-use Rattle.std.proofs.Common.{◌≡◌, ℕ, zero, suc, ◌+◌, ◌-◌, ◌≤◌, ◌<◌, List, Option, Some, None, Ok, Err, refl, ap, ◌∙◌, arith, false, Bool}
+use Rattle.std.proofs.Common.{◌≡◌, ℕ, zero, suc, ◌+◌, ◌-◌, ◌≤◌, ◌<◌, List, Option, Some, None, Ok, Err, refl, ap, ◌∙◌, arith, false, true, Bool, length}
+use Rattle.std.proofs.Common.{subst, sym}
+use Rattle.std.specs.Option.{option_flatten}
+use Rattle.std.proofs.Math.ListN.{get_or}
+use Rattle.std.proofs.lemmas.Option.{slice_get_read}
 use Rattle.ocp_profile.specs.declared.profile.Profile.{Profile}
 use Rattle.bpf_types.specs.declared.line.Line.{Line}
 use Rattle.ocp_loader.specs.declared.fault.LoadFault.{LoadFault}
@@ -32,3 +36,21 @@ astray_first lines k n h bad_target l =
     let e : n ≡ suc k + (n - suc k) = omega arith in
     let now : first_bad_target lines (suc k) ≡ Some k = rw (h, bad_target) refl in
     rw e (astray_more lines (suc k) (n - suc k) k now)
+
+line_there : (lines : List (Option Line)) (k : ℕ) (l : Option Line) → k < length lines → l ≡ get_or lines k l → line_in lines k ≡ l
+line_there lines k l there read = ap option_flatten (slice_get_read lines (length lines) k l refl there read)
+
+-- the same, of the line that is read there
+pub astray_here : (lines : List (Option Line)) (k : ℕ) (l : Option Line) → l ≡ get_or lines k l → k < length lines → first_bad_target lines k ≡ None → has_valid_target lines k l ≡ false →
+    first_bad_target lines (length lines) ≡ Some k
+astray_here lines k l read there h bad_target =
+    astray_first lines k (length lines) h (subst (λ o. has_valid_target lines k o ≡ false) (sym (line_there lines k l there read)) bad_target) there
+
+-- one more slot that leads to a line
+pub aimed_here : (lines : List (Option Line)) (k : ℕ) (l : Option Line) → l ≡ get_or lines k l → k < length lines → first_bad_target lines k ≡ None → has_valid_target lines k l ≡ true →
+    first_bad_target lines (k + 1) ≡ None
+aimed_here lines k l read there h aimed =
+    let here : has_valid_target lines k (line_in lines k) ≡ true = subst (λ o. has_valid_target lines k o ≡ true) (sym (line_there lines k l there read)) aimed in
+    let next : first_bad_target lines (suc k) ≡ None = rw (h, here) refl in
+    let e : k + 1 ≡ suc k = omega arith in
+    rw e next

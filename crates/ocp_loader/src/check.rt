@@ -18,10 +18,7 @@ pub fn line_in(lines: &[Option<Line>], slot: usize) -> Option<Line>
 fn is_place(lines: &[Option<Line>], place: i64) -> bool
     ensures { result ≡ is_place lines.now place }
 {
-    match usize::try_from(place) {
-        Ok(slot) => line_in(lines, slot).is_some(),
-        Err(_) => false,
-    }
+    0 <= place && line_in(lines, place as usize).is_some()
 }
 
 /// Where a jump or a local call at the slot leads to, counted in slots.
@@ -52,14 +49,14 @@ fn has_valid_target(lines: &[Option<Line>], slot: u16, line: Option<Line>) -> bo
 }
 
 /// The first slot whose line leads to no line.
-#[tactic(auto, using(crate::proofs::Stays::astray_first))]
+#[tactic(auto, using(crate::proofs::Stays::astray_here, crate::proofs::Stays::aimed_here))]
 fn first_bad_target(lines: &[Option<Line>]) -> Option<u16>
     requires { length lines.now ≤ MAX_SLOTS }
     ensures { result ≡ first_bad_target lines.now (length lines.now) }
 {
     let slots = lines.len() as u16;
     for slot in 0..slots {
-        if !has_valid_target(lines, slot, line_in(lines, usize::from(slot))) {
+        if !has_valid_target(lines, slot, lines[usize::from(slot)]) {
             return Some(slot);
         }
     }
@@ -86,6 +83,8 @@ fn end_fault(slots: u16, line: Option<Line>) -> Option<LoadFault>
 }
 
 /// The first fault of lines that were read.
+// Not inlined, so that its loop has all registers.
+#[inline(never)]
 pub fn lines_fault(lines: &[Option<Line>]) -> Option<LoadFault>
     requires { length lines.now ≤ MAX_SLOTS }
     ensures { result ≡ lines_fault lines.now (first_bad_target lines.now (length lines.now)) }
