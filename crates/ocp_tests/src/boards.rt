@@ -3,7 +3,7 @@
 
 ghost use Rattle.ocp_seats.specs.Seats.{Opens};
 
-use crate::packets::{STATUS, with_loops};
+use crate::packets::{STATUS, on_loops, with_loops};
 use ocp_slices::{
     Board, Book, CommitOutcome, DebugFault, Engine, EngineFault, Entry, Gate, Input, Naming,
     PutFault, Seat, SeatFault, SharedEngine, Slice, StepOutcome, TakeFault, Ticket, Turn, Work,
@@ -110,11 +110,7 @@ fn answers_are_the_boards(rt: HostRuntime) {
 
 // Whether the answers are those of a board over a new engine.
 fn are_the_boards<R: Wait>(rt: &R, alloc: Global) -> bool {
-    let Some(engine) = with_loops(alloc, 100, 1) else {
-        return false;
-    };
-    let _length = engine.journal().len();
-    through::<Brand, _>(rt, alloc, engine, Blank::new(65))
+    on_loops!(rt, alloc, 100, 1, through, false)
 }
 
 // Whether each call through the lock is one call of the board, and each third event is refused.
@@ -337,11 +333,7 @@ fn turns_answer_and_tell_their_gate(rt: HostRuntime) {
 
 // Whether the turns on a new engine answer this, and their gates hear this.
 fn are_told<R: Wait>(rt: &R, alloc: Global) -> bool {
-    let Some(engine) = with_loops(alloc, 100, 2) else {
-        return false;
-    };
-    let _length = engine.journal().len();
-    by_script::<Brand, _>(rt, alloc, engine, Blank::new(65))
+    on_loops!(rt, alloc, 100, 2, by_script, false)
 }
 
 // The turns of seat 2 over a board with this script.

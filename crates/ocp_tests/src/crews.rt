@@ -3,7 +3,7 @@
 ghost use Rattle.std.specs.Prelude.{◌≤◌};
 ghost use Rattle.ocp_seats.specs.Seats.{Opens};
 
-use crate::packets::{STATUS, activate_loop, is_done, is_taken, suspend_loop, with_loops};
+use crate::packets::{STATUS, activate_loop, is_done, is_taken, on_loops, suspend_loop, with_loops};
 use ocp_core::replay_one;
 use ocp_slices::{
     CommitOutcome, Engine, Gate, Naming, Open, Seat, SharedEngine, StepOutcome, work,
@@ -174,11 +174,7 @@ fn sixteen_workers_with_all_calls_between(rt: HostRuntime) {
 
 // Whether sixteen seats leave over 500 entries, and the machines that these have.
 fn are_mixed<R: Threads + Wait + Sync>(rt: &R, alloc: Global) -> bool {
-    let Some(engine) = with_loops(alloc, 4_000, 16) else {
-        return false;
-    };
-    let _length = engine.journal().len();
-    match mixed::<Brand, _>(rt, alloc, engine, Blank::new(65)) {
+    match on_loops!(rt, alloc, 4_000, 16, mixed, None) {
         Some(engine) => engine.journal().len() > 500 && are_shown(alloc, &engine),
         None => false,
     }

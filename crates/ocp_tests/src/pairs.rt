@@ -3,7 +3,7 @@
 ghost use Rattle.ocp_seats.specs.Seats.{Opens};
 
 use crate::boards::Counting;
-use crate::packets::{STATUS, activate_loop, is_taken, load_long, takes, with_loops};
+use crate::packets::{STATUS, activate_loop, is_taken, load_long, on_loops, takes, with_loops};
 use ocp_slices::{
     Board, Book, CloseFault, CommitOutcome, Engine, Gate, Naming, Seat, SharedEngine, StepOutcome,
     StillShared, Turn,
@@ -25,11 +25,7 @@ fn two_threads_wait_for_each_other(rt: HostRuntime) {
 
 // Whether two threads step a loop, each while the other one waits for it.
 fn are_waited_for<R: Threads + Wait + Sync>(rt: &R, alloc: Global) -> bool {
-    let Some(engine) = with_loops(alloc, 100, 1) else {
-        return false;
-    };
-    let _length = engine.journal().len();
-    match both::<Brand, _>(rt, alloc, engine, Blank::new(65)) {
+    match on_loops!(rt, alloc, 100, 1, both, None) {
         Some(engine) => engine.events() == 5,
         None => false,
     }

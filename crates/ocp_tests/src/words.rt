@@ -3,7 +3,7 @@
 ghost use Rattle.ocp_seats.specs.Seats.{Opens};
 
 use crate::crews::seats_of;
-use crate::packets::with_loops;
+use crate::packets::{on_loops, with_loops};
 use ocp_slices::{Engine, Entry, Naming, PutFault, Seat, SharedEngine, StepOutcome};
 use std::alloc::Global;
 use std::marker::Brand;
@@ -219,11 +219,7 @@ fn written<L: Naming + Send + Sync, R: Threads + Wait + Sync>(
 
 // Whether what four seats write at once is kept in each seat's order, and stays in the pool.
 fn are_written<R: Threads + Wait + Sync>(rt: &R, alloc: Global) -> bool {
-    let Some(engine) = with_loops(alloc, CAPACITY, 2) else {
-        return false;
-    };
-    let _length = engine.journal().len();
-    match written::<Brand, _>(rt, alloc, engine, Blank::new(65)) {
+    match on_loops!(rt, alloc, CAPACITY, 2, written, None) {
         Some(engine) => are_kept(&engine) && are_last(&engine),
         None => false,
     }
