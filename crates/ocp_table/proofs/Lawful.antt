@@ -10,12 +10,33 @@ use Rattle.obcp_types.specs.declared.status.Status.{Status}
 use Rattle.obcp_types.specs.declared.status.Status.TheVariants.{Inactive, Running, Held}
 use Rattle.ocp_profile.specs.declared.profile.Profile.{Profile}
 use Rattle.bpf_step.specs.Machine.{State, machine_at_start, machine_at_restart}
+use Rattle.obcp_types.specs.declared.failure.StartFailure.{StartFailure}
+use Rattle.ocp_table.specs.declared.answers.InstructionOutcome.{InstructionOutcome}
 use Rattle.ocp_table.specs.Records.{Rec, Records}
-use Rattle.ocp_table.specs.Effects.{Change, Changed, Started, Sent, Resumed, BreakSet, BreakCleared, TraceSet, record_by, new_record, with_change, records_by, failure_of}
-use Rattle.ocp_table.specs.RequestTable.{Directive, Step, transition}
+use Rattle.ocp_table.specs.Effects.{Effect, Change, Changed, Kept, Failed, Loaded, Unloaded, Stepped, Started, Sent, Resumed, BreakSet, BreakCleared, TraceSet, record_by, new_record, with_change, records_by, failure_of}
+use Rattle.ocp_table.specs.RequestTable.{Directive, Load, Unload, Activate, Step, transition}
 use Rattle.ocp_table.specs.Deciding.{effect_by, effect_on, effect_in, is_full, status_of}
 use Rattle.ocp_table.specs.Laws.{machine_of, run_of, IsKeptOrStarted, IsRestarted, IsRequest, IsDebugging, LeavesMachines}
 use Rattle.ocp_table.proofs.Each.{each}
+
+-- ---- the forms of effect, by what they do to machines
+
+-- a directive fails, loads, drops, starts or steps, or it makes a change that leaves machines
+machine_effects : (P : Directive → Effect → Type 0) (id : ℕ) (m : Records) → ((d : Directive) (failure : StartFailure) → P d (Kept (Failed failure))) → ((profile : Profile) (image : List ℕ) → P (Load profile image) (Loaded profile id image)) → P Unload (Unloaded id) → ((budget : ℕ) (arguments : List ℕ) → P (Activate budget arguments) (Changed id (Started budget arguments))) → ((d : Directive) (c : Change) → ((r : Rec) → (record_by c r).machine ≡ r.machine) → P d (Changed id c)) → ((pool : List ℕ) (outcome : InstructionOutcome) → P (Step pool) (Changed id (Stepped outcome))) → (d : Directive) → P d (effect_in d id m)
+machine_effects P id m failed loaded unloaded started keeps stepped d =
+    each P id (get m id) (is_full m) (record {
+      failed = failed;
+      loaded = λ profile image absent room. loaded profile image;
+      unloaded = λ r here is. unloaded;
+      started = λ budget arguments r here is. started budget arguments;
+      sends = λ words r here fits. keeps _ (Sent words) (λ r. refl);
+      stop_pends = λ s from r here is. keeps _ _ (λ r. refl);
+      suspend_pends = λ s from r here is. keeps _ _ (λ r. refl);
+      stopped = λ s from no_place r here is. keeps _ _ (λ r. refl);
+      aborted = λ r here. keeps _ _ (λ r. refl);
+      resumed = λ r here is. keeps _ Resumed (λ r. refl);
+      stepped = λ pool outcome r here is done. stepped pool outcome;
+    }) d
 
 -- ---- every other record stays
 
@@ -27,19 +48,10 @@ pub others_stay : (d : Directive) (id other : ℕ) (m : Records) → other ≢ i
 others_stay d id other m differs =
     let apart : eq_by_cmp nat_cmp other id ≡ false = unsigned_tied other id ∙ grind (arith, nat_tests, differs) in
     let by : (c : Change) → get (with_change (get m id) id c m) other ≡ get m other = λ c. with_change-other m id c (get m id) other apart in
-    each (λ d e. get (records_by e m) other ≡ get m other) id (get m id) (is_full m) (record {
-      failed = λ d failure. refl;
-      loaded = λ profile image absent room. get-insert nat_cmp_total m id (new_record profile image) other ∙ ap (λ b. cond b (Some (new_record profile image)) (get m other)) apart;
-      unloaded = λ r here is. get-remove nat_cmp_total m id other ∙ ap (λ b. cond b None (get m other)) apart;
-      started = λ budget arguments r here is. by (Started budget arguments);
-      sends = λ words r here fits. by (Sent words);
-      stop_pends = λ s from r here is. by _;
-      suspend_pends = λ s from r here is. by _;
-      stopped = λ s from no_place r here is. by _;
-      aborted = λ r here. by _;
-      resumed = λ r here is. by Resumed;
-      stepped = λ pool outcome r here is done. by _;
-    }) d
+    machine_effects (λ d e. get (records_by e m) other ≡ get m other) id m (λ d failure. refl)
+    (λ profile image. get-insert nat_cmp_total m id (new_record profile image) other ∙ ap (λ b. cond b (Some (new_record profile image)) (get m other)) apart)
+    (get-remove nat_cmp_total m id other ∙ ap (λ b. cond b None (get m other)) apart)
+    (λ budget arguments. by (Started budget arguments)) (λ d c kept. by c) (λ pool outcome. by (Stepped outcome)) d
 
 -- ---- only a running procedure steps
 
@@ -111,20 +123,10 @@ module _ (m : Records) (q : ℕ) where
 
   pub kept_or_started : (d : Directive) (id : ℕ) → IsRequest d → IsFit (records_by (effect_in d id m) m)
   kept_or_started d id asked =
-      let keeps : (c : Change) → ((r : Rec) → (record_by c r).machine ≡ r.machine) → IsFit (with_change (get m id) id c m) = λ c kept. keep_there id c kept (get m id) refl in
-      each (λ d e. IsRequest d → IsFit (records_by e m)) id (get m id) (is_full m) (record {
-        failed = λ d failure a. same;
-        loaded = λ profile image absent room a. put_new id (new_record profile image) profile refl;
-        unloaded = λ r here is a. drop_there id;
-        started = λ budget arguments r here is a. start_there id budget arguments (get m id) refl;
-        sends = λ words r here fits a. keeps (Sent words) (λ r. refl);
-        stop_pends = λ s from r here is a. keeps _ (λ r. refl);
-        suspend_pends = λ s from r here is a. keeps _ (λ r. refl);
-        stopped = λ s from no_place r here is a. keeps _ (λ r. refl);
-        aborted = λ r here a. keeps _ (λ r. refl);
-        resumed = λ r here is a. keeps Resumed (λ r. refl);
-        stepped = λ pool outcome r here is done a. absurd a;
-      }) d asked
+      machine_effects (λ d e. IsRequest d → IsFit (records_by e m)) id m (λ d failure a. same)
+      (λ profile image a. put_new id (new_record profile image) profile refl) (λ a. drop_there id)
+      (λ budget arguments a. start_there id budget arguments (get m id) refl)
+      (λ d c kept a. keep_there id c kept (get m id) refl) (λ pool outcome a. absurd a) d asked
 
 -- ---- a part of each record stays
 
@@ -143,20 +145,9 @@ module _ {X : Type 0} (part : Option Rec → X) (m : Records) (q : ℕ) where
 
 pub machines_stay : (m : Records) (q : ℕ) (d : Directive) (id : ℕ) → LeavesMachines d → machine_of (get (records_by (effect_in d id m) m) q) ≡ machine_of (get m q)
 machines_stay m q d id leaves =
-    let keeps : (c : Change) → ((r : Rec) → (record_by c r).machine ≡ r.machine) → machine_of (get (with_change (get m id) id c m) q) ≡ machine_of (get m q) = λ c kept. part_stays machine_of m q id c (λ r. ap Some (kept r)) (get m id) refl in
-    each (λ d e. LeavesMachines d → machine_of (get (records_by e m) q) ≡ machine_of (get m q)) id (get m id) (is_full m) (record {
-      failed = λ d failure a. refl;
-      loaded = λ profile image absent room a. absurd a;
-      unloaded = λ r here is a. absurd a;
-      started = λ budget arguments r here is a. absurd a;
-      sends = λ words r here fits a. keeps (Sent words) (λ r. refl);
-      stop_pends = λ s from r here is a. keeps _ (λ r. refl);
-      suspend_pends = λ s from r here is a. keeps _ (λ r. refl);
-      stopped = λ s from no_place r here is a. keeps _ (λ r. refl);
-      aborted = λ r here a. keeps _ (λ r. refl);
-      resumed = λ r here is a. keeps Resumed (λ r. refl);
-      stepped = λ pool outcome r here is done a. absurd a;
-    }) d leaves
+    machine_effects (λ d e. LeavesMachines d → machine_of (get (records_by e m) q) ≡ machine_of (get m q)) id m (λ d failure a. refl)
+    (λ profile image a. absurd a) (λ a. absurd a) (λ budget arguments a. absurd a)
+    (λ d c kept a. part_stays machine_of m q id c (λ r. ap Some (kept r)) (get m id) refl) (λ pool outcome a. absurd a) d leaves
 
 pub runs_stay : (m : Records) (q : ℕ) (c : Change) (id : ℕ) → IsDebugging c → run_of (get (records_by (Changed id c) m) q) ≡ run_of (get m q)
 runs_stay m q (BreakSet place) id is = part_stays run_of m q id (BreakSet place) (λ r. refl) (get m id) refl
