@@ -5,6 +5,9 @@ use Rattle.std.specs.FinMap as map
 use Rattle.slab.specs.Slab.{Slab, get, slab_len, with_value}
 use Rattle.obcp_types.specs.declared.pending.Due.{Due}
 use Rattle.ocp_table.specs.declared.table.TheConstants.{MAX_PROCEDURES, OUTBOX_PLACES}
+use Rattle.ocp_table.specs.declared.answers.Extent.{Extent}
+use Rattle.ocp_table.specs.declared.answers.Slice.{Slice}
+use Rattle.ocp_table.specs.Slices.{IsSlice, Store, most_events}
 use Rattle.ocp_table.specs.Records.{Rec, Records}
 use Rattle.ocp_table.specs.Outbox.{places_in, HasPlaces}
 use Rattle.ocp_table.specs.Effects.{Effect, records_by, records_with, outbox_by}
@@ -78,3 +81,10 @@ module _ {T : Type 0} (id_of : T → ℕ) (shown : T → Rec) where
         subst (λ x. IsHolding id_of shown x outbox) (sym is) (holds-none s outbox none room nothing),
         record { all = omega (arith, empty, all); room = fits },
       )
+
+-- a slice of a record is one of what the table holds under its id
+pub slice_found : {T : Type 0} (id_of : T → ℕ) (shown : T → Rec) (s : Slab T) (key id : ℕ) → IsUnder id_of shown s key id → (old : T) → get s key ≡ Some old → (extent : Extent) (budget : ℕ) (outbox filed : List Due) (pool words : List ℕ) (slice : Slice) (r : Rec) → ((m : Records) → map.get m (id_of old) ≡ Some (shown old) → IsSlice (id_of old) (record { records = m; outbox = outbox; pool = pool }) (most_events extent (id_of old) (record { records = m; outbox = outbox; pool = pool }) budget) slice r filed words) → IsSlice id (record { records = contents id_of shown s; outbox = outbox; pool = pool }) (most_events extent id (record { records = contents id_of shown s; outbox = outbox; pool = pool }) budget) slice r filed words
+slice_found id_of shown s key id found old at extent budget outbox filed pool words slice r sliced =
+    let start : Store = record { records = contents id_of shown s; outbox = outbox; pool = pool } in
+    subst (λ i. IsSlice i start (most_events extent i start budget) slice r filed words) (found.named old at)
+    (sliced start.records (ap (map.get start.records) (found.named old at) ∙ found.there old at))

@@ -1,11 +1,10 @@
 use Rattle.std.proofs.Common.{◌≡◌, true, false, refl, sym, ap, ◌∙◌}
 use Rattle.std.specs.FinMap as map
-use Rattle.ocp_table.specs.declared.answers.StepOutcome.TheVariants as S
 use Rattle.ocp_table.specs.Shown.{id_of, record_of}
-use Rattle.ocp_table.specs.Slices.{is_traced, is_running, slice_count, slice_last, store_after_events, most_events, slice_of, step_at}
+use Rattle.ocp_table.specs.Slices.{is_traced, is_running, most_events, slice_of, step_at}
 use Rattle.ocp_table.specs.Mirror.Contents.{contents}
 use Rattle.ocp_table.proofs.Fitting.{fits-sliced}
-use Rattle.ocp_table.proofs.Held.{place_at, records_at, stocked-at}
+use Rattle.ocp_table.proofs.Held.{place_at, records_at, slice_found, stocked-at}
 use Rattle.ocp_table.proofs.Slicing.{absent-count, absent-last, absent-store, absent-step-ended, most-some}
 use Rattle.ocp_table.proofs.table.Table.instructions.Goals as goal
 
@@ -33,52 +32,29 @@ pub instructions-requires-clause-place : goal.instructions-requires-clause-place
 instructions-requires-clause-place g c = place_at id_of record_of c.self.inside.records c.self.inside.outbox.items _ c.args.id _ c.in-Some.ensures.found c.index_mut.ensures.value c.self.invariant.0
 
 pub invariant_of-self : goal.invariant_of-self
-invariant_of-self g c =
-    let m = contents id_of record_of c.self.inside.records in
-    let found = c.in-Some.ensures.found in
-    let named = found.named _ c.index_mut.ensures.value in
-    let sliced = c.instructions.ensures.slice m (ap (map.get m) named ∙ found.there _ c.index_mut.ensures.value) in
-    let moved = sliced.store ∙ ap (λ i. record { records = map.insert m i (record_of c.instructions.new.self); outbox = c.instructions.new.outbox.items; pool = c.instructions.new.pool }) named ∙ ap (λ x. record { records = x; outbox = c.instructions.new.outbox.items; pool = c.instructions.new.pool }) (sym (records_at id_of record_of c.self.inside.records c.self.inside.outbox.items _ c.args.id _ c.in-Some.ensures.found c.index_mut.ensures.value c.self.invariant.0 _ c.instructions.ensures.id _ refl)) in (
-      record {
-        sound = found.sound _ (c.instructions.ensures.id ∙ named);
-        places = fits-sliced (slice_of c.instructions.result) _ (record { records = m; outbox = c.self.inside.outbox.items; pool = c.args.pool.now }) _ c.self.invariant.0.places moved;
-      },
-      stocked-at _ _ _ _ _ c.index_mut.ensures.value c.self.invariant.1,
-    )
+invariant_of-self g c = (
+  record {
+    sound = c.in-Some.ensures.found.sound _ (c.instructions.ensures.id ∙ c.in-Some.ensures.found.named _ c.index_mut.ensures.value);
+    places = fits-sliced (slice_of c.instructions.result) _ (record { records = contents id_of record_of c.self.inside.records; outbox = c.self.inside.outbox.items; pool = c.args.pool.now }) _ c.self.invariant.0.places ((slice_found id_of record_of c.self.inside.records _ c.args.id c.in-Some.ensures.found _ c.index_mut.ensures.value c.args.extent c.args.budget c.self.inside.outbox.items _ c.args.pool.now _ _ _ c.instructions.ensures.slice).store ∙ ap (λ x. record { records = x; outbox = c.instructions.new.outbox.items; pool = c.instructions.new.pool }) (sym (records_at id_of record_of c.self.inside.records c.self.inside.outbox.items _ c.args.id _ c.in-Some.ensures.found c.index_mut.ensures.value c.self.invariant.0 _ c.instructions.ensures.id _ refl)));
+  },
+  stocked-at _ _ _ _ _ c.index_mut.ensures.value c.self.invariant.1,
+)
 
 pub returns-clause-untraced : goal.returns-clause-untraced
 returns-clause-untraced g c = rw (← c.self.view_is) (ap is_traced (c.in-Some.ensures.found.there _ c.index.ensures) ∙ c.if-index.false)
 
 pub returns-clause-count : goal.returns-clause-count
-returns-clause-count g c =
-    let m = contents id_of record_of c.self.inside.records in
-    let found = c.in-Some.ensures.found in
-    let named = found.named _ c.index_mut.ensures.value in
-    let sliced = c.instructions.ensures.slice m (ap (map.get m) named ∙ found.there _ c.index_mut.ensures.value) in
-    rw (← c.self.view_is) (sliced.count ∙ ap (λ i. slice_count i (record { records = m; outbox = c.self.inside.outbox.items; pool = c.args.pool.now }) (most_events c.args.extent i (record { records = m; outbox = c.self.inside.outbox.items; pool = c.args.pool.now }) c.args.budget)) named)
+returns-clause-count g c = rw (← c.self.view_is) (slice_found id_of record_of c.self.inside.records _ c.args.id c.in-Some.ensures.found _ c.index_mut.ensures.value c.args.extent c.args.budget c.self.inside.outbox.items _ c.args.pool.now _ _ _ c.instructions.ensures.slice).count
 
 pub returns-clause-last : goal.returns-clause-last
-returns-clause-last g c =
-    let m = contents id_of record_of c.self.inside.records in
-    let found = c.in-Some.ensures.found in
-    let named = found.named _ c.index_mut.ensures.value in
-    let sliced = c.instructions.ensures.slice m (ap (map.get m) named ∙ found.there _ c.index_mut.ensures.value) in
-    rw (← c.self.view_is) (sliced.last ∙ ap (λ i. slice_last i (record { records = m; outbox = c.self.inside.outbox.items; pool = c.args.pool.now }) S.Ran (most_events c.args.extent i (record { records = m; outbox = c.self.inside.outbox.items; pool = c.args.pool.now }) c.args.budget)) named)
+returns-clause-last g c = rw (← c.self.view_is) (slice_found id_of record_of c.self.inside.records _ c.args.id c.in-Some.ensures.found _ c.index_mut.ensures.value c.args.extent c.args.budget c.self.inside.outbox.items _ c.args.pool.now _ _ _ c.instructions.ensures.slice).last
 
 pub returns-clause-done : goal.returns-clause-done
 returns-clause-done g c = rw (← c.self.view_is) (λ on.
     c.instructions.ensures.done (sym (ap is_running (c.in-Some.ensures.found.there _ c.index_mut.ensures.value)) ∙ on))
 
 pub returns-clause-store : goal.returns-clause-store
-returns-clause-store g c =
-    let m = contents id_of record_of c.self.inside.records in
-    let found = c.in-Some.ensures.found in
-    let named = found.named _ c.index_mut.ensures.value in
-    let sliced = c.instructions.ensures.slice m (ap (map.get m) named ∙ found.there _ c.index_mut.ensures.value) in
-    rw (← c.self.view_is) (ap (λ i. store_after_events i c.instructions.result.count (record { records = m; outbox = c.self.inside.outbox.items; pool = c.args.pool.now })) (sym named)
-    ∙ sliced.store
-    ∙ ap (λ i. record { records = map.insert m i (record_of c.instructions.new.self); outbox = c.instructions.new.outbox.items; pool = c.instructions.new.pool }) named
-    ∙ ap (λ x. record { records = x; outbox = c.instructions.new.outbox.items; pool = c.instructions.new.pool }) (sym (records_at id_of record_of c.self.inside.records c.self.inside.outbox.items _ c.args.id _ c.in-Some.ensures.found c.index_mut.ensures.value c.self.invariant.0 _ c.instructions.ensures.id _ refl)))
+returns-clause-store g c = rw (← c.self.view_is) ((slice_found id_of record_of c.self.inside.records _ c.args.id c.in-Some.ensures.found _ c.index_mut.ensures.value c.args.extent c.args.budget c.self.inside.outbox.items _ c.args.pool.now _ _ _ c.instructions.ensures.slice).store ∙ ap (λ x. record { records = x; outbox = c.instructions.new.outbox.items; pool = c.instructions.new.pool }) (sym (records_at id_of record_of c.self.inside.records c.self.inside.outbox.items _ c.args.id _ c.in-Some.ensures.found c.index_mut.ensures.value c.self.invariant.0 _ c.instructions.ensures.id _ refl)))
 
 pub returns-in_default-clause-step : goal.returns-in_default-clause-step
 returns-in_default-clause-step g c = rw (← c.self.view_is) (λ is. absent-step-ended c.args.id _ c.self.inside.outbox.items c.args.pool.now c.in_default.ensures.absent)
