@@ -2,7 +2,7 @@
 ghost use Rattle.std.specs.Prelude.{◌≡◌, ◌≤◌, ◌↔◌, ℕ, List, [], Err, Some, IfErr, IfOk, IsOk, IsSome, IsTrue, OnErr, OnOk, length};
 ghost use Rattle.ocp_table.specs.Clauses.{HasAddressesOf, StandsIn, load_result, local_count, local_run, machine_at_restart, machine_at_start, machine_by_outcome, mailbox_by_outcome, one_step, outcome_of, pool_by_outcome};
 
-use crate::InstructionOutcome;
+use crate::{InstructionOutcome, ProcedureFault};
 use bpf_step::{Local, Machine, Need};
 use ocp_loader::{Lines, LoadFault, Program, places_lead_to_places};
 use ocp_pool::{Mailbox, Pool, engine_call};
@@ -151,11 +151,13 @@ impl<A: Allocator> Execution<A> {
         match self.machine.local_step(&self.program) {
             Local::Stepped => InstructionOutcome::Ran,
             Local::NeedsEngine(Need::LastExit) => InstructionOutcome::Ended,
-            Local::NeedsEngine(Need::Fault(fault)) => InstructionOutcome::Faulted(fault.into()),
+            Local::NeedsEngine(Need::Fault(fault)) => {
+                InstructionOutcome::Faulted(ProcedureFault::Machine(fault))
+            }
             Local::NeedsEngine(Need::Call(number)) => {
                 match engine_call(number, &mut self.machine, pool, mailbox) {
                     Ok(called) => InstructionOutcome::Called(called),
-                    Err(fault) => InstructionOutcome::Faulted(fault.into()),
+                    Err(fault) => InstructionOutcome::Faulted(ProcedureFault::Pool(fault)),
                 }
             }
         }

@@ -1,7 +1,6 @@
 //! Why a procedure ends in a fault.
 ghost use Rattle.std.specs.Prelude.{◌≡◌};
 ghost use Rattle.ocp_table.specs.Clauses.{fault_number};
-ghost use Rattle.ocp_table.specs.declared.fault.ProcedureFault.TheVariants as fault;
 
 use bpf_step::MachineFault;
 use ocp_pool::PoolFault;
@@ -27,21 +26,5 @@ impl ProcedureFault {
             ProcedureFault::Pool(fault) => fault.number(),
             ProcedureFault::BudgetSpent => 5,
         }
-    }
-}
-
-impl From<MachineFault> for ProcedureFault {
-    ghost from_gives = { λ why r. r ≡ fault.Machine why };
-
-    fn from(fault: MachineFault) -> Self {
-        ProcedureFault::Machine(fault)
-    }
-}
-
-impl From<PoolFault> for ProcedureFault {
-    ghost from_gives = { λ why r. r ≡ fault.Pool why };
-
-    fn from(fault: PoolFault) -> Self {
-        ProcedureFault::Pool(fault)
     }
 }
