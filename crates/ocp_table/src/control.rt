@@ -41,7 +41,7 @@ pub(crate) fn matches(wanted: u16, step: u16) -> bool
 }
 
 ghost use Rattle.std.specs.Prelude.{◌≡◌};
-ghost use Rattle.ocp_table.specs.Clauses.{control_at_step_end, control_by_outcome, control_on_hold, inactive, matches, without_pass};
+ghost use Rattle.ocp_table.specs.Clauses.{control_by_outcome, control_on_hold, inactive, matches, without_pass};
 
 impl Control {
     /// The control of a procedure that became inactive: nothing is pending.
@@ -75,19 +75,6 @@ impl Control {
         self.pass = false;
     }
 
-    // The end of a step: what is pending for it is done.
-    fn end_step(&mut self, step: u16)
-        ensures { self.new ≡ control_at_step_end self.old.pending step self.old }
-    {
-        match self.pending {
-            Pending::Stop(wanted, _) if matches(wanted, step) => {
-                *self = Control::inactive(Cause::Stopped);
-            }
-            Pending::Suspend(wanted, _) if matches(wanted, step) => self.hold(Pending::Nothing),
-            _ => self.pass = false,
-        }
-    }
-
     /// Updates the control after an instruction event with this outcome.
     #[inline(always)]
     pub(crate) fn follow(&mut self, outcome: InstructionOutcome)
@@ -95,7 +82,13 @@ impl Control {
     {
         match outcome {
             InstructionOutcome::Broke => self.hold(self.pending),
-            InstructionOutcome::Called(Called::StepEnd(step)) => self.end_step(step),
+            InstructionOutcome::Called(Called::StepEnd(step)) => match self.pending {
+                Pending::Stop(wanted, _) if matches(wanted, step) => {
+                    *self = Control::inactive(Cause::Stopped);
+                }
+                Pending::Suspend(wanted, _) if matches(wanted, step) => self.hold(Pending::Nothing),
+                _ => self.pass = false,
+            },
             InstructionOutcome::Ran | InstructionOutcome::Called(_) => self.pass = false,
             InstructionOutcome::Ended => *self = Control::inactive(Cause::Exited),
             InstructionOutcome::Faulted(fault) => {
