@@ -55,47 +55,50 @@ impl<A: Allocator> Record<A> {
             IfChanges decided (λ change. FitsIn change (Some (record_of self.now)))) }
         ensures place { IfOk result (λ decided. IfChanges decided (HasPlaceFor full)) }
     {
-        match (directive, self.control.status) {
-            (Directive::Unload, Status::Inactive) => Ok(Decision::Unloads),
+        let change = match (directive, self.control.status) {
+            (Directive::Unload, Status::Inactive) => return Ok(Decision::Unloads),
             (Directive::Activate { budget, arguments }, Status::Inactive) => {
-                Ok(Decision::Changes(Change::Started { budget, arguments }))
+                Change::Started { budget, arguments }
             }
             (Directive::Unload | Directive::Activate { .. }, Status::Running | Status::Held) => {
-                Err(StartFailure::NotInactive)
+                return Err(StartFailure::NotInactive);
             }
-            (Directive::Stop(_, _), Status::Inactive) => Err(StartFailure::NotActive),
-            (Directive::Stop(_, _), Status::Running) if full => Err(StartFailure::OutboxFull),
+            (Directive::Stop(_, _) | Directive::Abort, Status::Inactive) => {
+                return Err(StartFailure::NotActive);
+            }
+            (Directive::Stop(_, _), Status::Running) if full => {
+                return Err(StartFailure::OutboxFull);
+            }
             (Directive::Stop(step, origin), Status::Running) => {
-                Ok(Decision::Changes(Change::Pended(Pending::Stop(step, origin))))
+                Change::Pended(Pending::Stop(step, origin))
             }
-            (Directive::Stop(_, _), Status::Held) => {
-                Ok(Decision::Changes(Change::Quit(Cause::Stopped)))
-            }
+            (Directive::Stop(_, _), Status::Held) => Change::Quit(Cause::Stopped),
             (Directive::Suspend(step, origin), Status::Running) => match self.control.pending {
-                Pending::Stop(_, _) => Err(StartFailure::StopPending),
-                Pending::Nothing | Pending::Suspend(_, _) if full => Err(StartFailure::OutboxFull),
+                Pending::Stop(_, _) => return Err(StartFailure::StopPending),
+                Pending::Nothing | Pending::Suspend(_, _) if full => {
+                    return Err(StartFailure::OutboxFull);
+                }
                 Pending::Nothing | Pending::Suspend(_, _) => {
-                    Ok(Decision::Changes(Change::Pended(Pending::Suspend(step, origin))))
+                    Change::Pended(Pending::Suspend(step, origin))
                 }
             },
             (Directive::Suspend(_, _), Status::Inactive | Status::Held) => {
-                Err(StartFailure::NotRunning)
+                return Err(StartFailure::NotRunning);
             }
-            (Directive::Resume, Status::Inactive | Status::Running) => Err(StartFailure::NotHeld),
-            (Directive::Resume, Status::Held) => Ok(Decision::Changes(Change::Resumed)),
-            (Directive::Abort, Status::Inactive) => Err(StartFailure::NotActive),
-            (Directive::Abort, Status::Running | Status::Held) => {
-                Ok(Decision::Changes(Change::Quit(Cause::Aborted)))
+            (Directive::Resume, Status::Inactive | Status::Running) => {
+                return Err(StartFailure::NotHeld);
             }
-            (Directive::Communicate(_), Status::Inactive) => Err(StartFailure::NotActive),
+            (Directive::Resume, Status::Held) => Change::Resumed,
+            (Directive::Abort, Status::Running | Status::Held) => Change::Quit(Cause::Aborted),
+            (Directive::Communicate(_), Status::Inactive) => return Err(StartFailure::NotActive),
             (Directive::Communicate(words), Status::Running | Status::Held) => {
-                if self.mailbox.has_room(words.len()) {
-                    Ok(Decision::Changes(Change::Sent(words)))
-                } else {
-                    Err(StartFailure::MailboxFull)
+                if !self.mailbox.has_room(words.len()) {
+                    return Err(StartFailure::MailboxFull);
                 }
+                Change::Sent(words)
             }
-        }
+        };
+        Ok(Decision::Changes(change))
     }
 
     /// Makes the change. The completion that it overtakes goes to the outbox.
@@ -113,12 +116,8 @@ impl<A: Allocator> Record<A> {
                 overtake(outbox, self.control.pending);
                 self.execution.start(arguments);
                 self.mailbox.clear();
-                self.control = Control {
-                    status: Status::Running,
-                    pending: Pending::Nothing,
-                    pass: false,
-                    cause: Cause::Nothing,
-                };
+                self.control = Control::inactive(Cause::Nothing);
+                self.control.status = Status::Running;
                 self.remaining = if budget == 0 { None } else { Some(budget) };
             }
             Change::Sent(words) => self.mailbox.append(words),
