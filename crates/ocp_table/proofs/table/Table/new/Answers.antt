@@ -4,4 +4,4 @@ use Rattle.ocp_table.proofs.Held.{opened}
 use Rattle.ocp_table.proofs.table.Table.new.Goals as goal
 
 pub invariant_of-result-2 : goal.invariant_of-result-2
-invariant_of-result-2 g c = opened id_of record_of _ _ _ _ c.records.view_is (ap (λ s. s.slots) c.reserve.ensures.rest_kept ∙ c.new-records.ensures.empty) (omega (arith, c.in_ok-reserve.ensures.room)) c.new-2.ensures c.in_ok-spares.ensures.len c.in_ok-spares.ensures.room
+invariant_of-result-2 g c = opened id_of record_of _ _ _ _ c.records.view_is (ap (λ s. s.slots) c.reserve.ensures.rest_kept ∙ c.new-records.ensures.empty) (omega (arith, c.in_ok-reserve.ensures.room)) c.new.ensures c.in_ok-spares.ensures.len c.in_ok-spares.ensures.room
