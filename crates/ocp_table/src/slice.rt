@@ -4,8 +4,12 @@ ghost use Rattle.ocp_table.specs.Clauses.{HasPlaceBeside, IsSlice, IsWithin, Rec
 ghost use Rattle.ocp_table.specs.declared.answers.Extent.TheVariants as extents;
 
 use crate::budget::{less, within};
-use crate::outbox::Outbox;
-use crate::{Extent, InstructionAnswer, Pool, Record, Round, Status, StepOutcome};
+use crate::outbox::{Outbox, file};
+use crate::{
+    Extent, InstructionAnswer, InstructionOutcome, Pool, ProcedureFault, Record, Round, Status,
+    StepOutcome,
+};
+use bpf_step::breaks_at;
 use std::alloc::Allocator;
 
 impl<A: Allocator> Record<A> {
@@ -42,7 +46,7 @@ impl<A: Allocator> Record<A> {
         count
     }
 
-    /// One instruction event.
+    /// One instruction event. What it completes or overtakes goes to the outbox.
     #[inline(never)]
     pub(crate) fn event(&mut self, pool: &mut Pool<A>, outbox: &mut Outbox) -> InstructionAnswer
         requires { HasPlaceBeside outbox.old.items self.old.control.pending }
@@ -58,18 +62,31 @@ impl<A: Allocator> Record<A> {
         ensures pool { pool.new ≡ pool_by (effect_of_record (Step pool.old) self.old) pool.old }
         ensures id { self.new.id ≡ self.old.id }
     {
-        match self.control.status {
-            Status::Running => {
-                let outcome = self.instruction(pool, outbox);
-                InstructionAnswer {
-                    outcome: StepOutcome::of(outcome),
-                    step: outcome.step_ended(),
-                }
-            }
-            Status::Inactive | Status::Held => InstructionAnswer {
+        if !self.is_running() {
+            return InstructionAnswer {
                 outcome: StepOutcome::NotRunning,
                 step: None,
-            },
+            };
+        }
+        let place = self.execution.machine().place();
+        let outcome = if breaks_at(self.control.pass, self.breakpoints.as_slice(), place) {
+            InstructionOutcome::Broke
+        } else if let Some(0) = self.remaining {
+            InstructionOutcome::Faulted(ProcedureFault::BudgetSpent)
+        } else {
+            self.execution.step(pool, &mut self.mailbox)
+        };
+        match outcome {
+            InstructionOutcome::Broke | InstructionOutcome::Faulted(_) => {}
+            InstructionOutcome::Ran | InstructionOutcome::Called(_) | InstructionOutcome::Ended => {
+                self.remaining = less(1, self.remaining);
+            }
+        }
+        file(outbox, &self.control.pending, outcome);
+        self.control.follow(outcome);
+        InstructionAnswer {
+            outcome: StepOutcome::of(outcome),
+            step: outcome.step_ended(),
         }
     }
 
