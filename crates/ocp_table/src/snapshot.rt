@@ -80,9 +80,7 @@ impl<A: Allocator> Snapshot<A> {
         self.execution.copy_from(&procedure.execution);
         self.breakpoints.clear();
         let places = procedure.breakpoints.as_slice();
-        let Ok(()) = self.breakpoints.try_extend_from_slice(places) else {
-            unreachable!()
-        };
+        let _fits = self.breakpoints.try_extend_from_slice(places);
         self.pass = procedure.control.pass;
         self.traced = procedure.traced;
         self.remaining = procedure.remaining;
