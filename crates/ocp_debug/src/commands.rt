@@ -39,17 +39,12 @@ pub fn enact<A: Allocator>(table: &mut Table<A>, id: u16, command: Command)
         return;
     };
     let breakpoints = record.breakpoints.as_slice();
-    match command {
-        Command::SetBreak(place) => {
-            let breakpoints = with_breakpoint(place, breakpoints);
-            table.set_breakpoints(id, breakpoints);
-        }
-        Command::ClearBreak(place) => {
-            let breakpoints = without_breakpoint(place, breakpoints);
-            table.set_breakpoints(id, breakpoints);
-        }
-        Command::SetTrace(on) => table.set_traced(id, on),
-    }
+    let places = match command {
+        Command::SetBreak(place) => with_breakpoint(place, breakpoints),
+        Command::ClearBreak(place) => without_breakpoint(place, breakpoints),
+        Command::SetTrace(on) => return table.set_traced(id, on),
+    };
+    table.set_breakpoints(id, places);
 }
 
 /// Does a command. If it is refused, nothing changes.

@@ -32,16 +32,12 @@ fn note<A: Allocator>(
 {
     // There are no more records than are kept, by the contract of `len`.
     let _few = ring.len();
-    let Some(place) = place else {
+    let (
+        Some(place),
+        StepOutcome::Ran | StepOutcome::Called | StepOutcome::Ended | StepOutcome::Faulted(_),
+    ) = (place, outcome) else {
         return;
     };
-    match outcome {
-        StepOutcome::Ran | StepOutcome::Called | StepOutcome::Ended | StepOutcome::Faulted(_) => {}
-        StepOutcome::Broke
-        | StepOutcome::NotLoaded
-        | StepOutcome::NotRunning
-        | StepOutcome::JournalFull => return,
-    }
     let Some(record) = table.record_at(id, at) else {
         return;
     };
