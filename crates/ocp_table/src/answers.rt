@@ -1,6 +1,6 @@
 //! What became of an event of a procedure.
 ghost use Rattle.std.specs.Prelude.{◌≡◌, true};
-ghost use Rattle.ocp_table.specs.Clauses.{ends_with, is_done, is_on, step_ended_by, step_outcome_of};
+ghost use Rattle.ocp_table.specs.Clauses.{ends_with, is_done, is_on, step_outcome_of};
 
 use crate::ProcedureFault;
 use ocp_pool::Called;
@@ -71,19 +71,6 @@ pub struct Round {
     pub last: StepOutcome,
     /// The number of the step that it ended, if it ended one.
     pub step: Option<u16>,
-}
-
-impl InstructionOutcome {
-    /// The number of the step that it ended, if it ended one.
-    #[inline(always)]
-    pub(crate) fn step_ended(self) -> Option<u16>
-        ensures { result ≡ step_ended_by self }
-    {
-        match self {
-            InstructionOutcome::Called(Called::StepEnd(step)) => Some(step),
-            _ => None,
-        }
-    }
 }
 
 impl Extent {

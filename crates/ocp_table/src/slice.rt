@@ -6,8 +6,8 @@ ghost use Rattle.ocp_table.specs.declared.answers.Extent.TheVariants as extents;
 use crate::budget::{less, within};
 use crate::outbox::{Outbox, file};
 use crate::{
-    Extent, InstructionAnswer, InstructionOutcome, Pool, ProcedureFault, Record, Round, Status,
-    StepOutcome,
+    Called, Extent, InstructionAnswer, InstructionOutcome, Pool, ProcedureFault, Record, Round,
+    Status, StepOutcome,
 };
 use bpf_step::breaks_at;
 use std::alloc::Allocator;
@@ -84,10 +84,12 @@ impl<A: Allocator> Record<A> {
         }
         file(outbox, &self.control.pending, outcome);
         self.control.follow(outcome);
-        InstructionAnswer {
-            outcome: StepOutcome::of(outcome),
-            step: outcome.step_ended(),
-        }
+        let step = match outcome {
+            InstructionOutcome::Called(Called::StepEnd(step)) => Some(step),
+            _ => None,
+        };
+        let outcome = StepOutcome::of(outcome);
+        InstructionAnswer { outcome, step }
     }
 
     /// Does instructions until the budget is used or they go no further. Instructions that need no
