@@ -25,6 +25,7 @@ pub fn stores_keep_the_addresses()
 
 /// Which octet is at an address of the three regions: the first octet of each is at the region's
 /// first address.
+#[tactic(auto, using(crate::proofs::Accesses::in_stack, crate::proofs::Accesses::in_arguments, crate::proofs::Accesses::in_work))]
 pub fn octets_stand_at_their_addresses()
     ensures stack { (stack arguments work : List ℕ) (i : ℕ) → i < length stack →
         get (memory_of stack arguments work) (STACK + i) ≡ Some (slice_index stack i) }
@@ -49,6 +50,7 @@ pub fn accesses_inside_a_region_are_there()
 
 /// A load of n octets gives the number that was stored there last, modulo 256 ^ n, and a store
 /// elsewhere does not change it.
+#[tactic(auto, using(crate::proofs::Accesses::load_stored, crate::proofs::Accesses::load_apart))]
 pub fn loads_give_what_was_stored()
     ensures same { (old new : Octets) (address n number : ℕ) → address + n < 2 ^ 64 →
         memory_after_store old address n number ≡ Ok new →
@@ -61,6 +63,7 @@ pub fn loads_give_what_was_stored()
 
 /// A memory that is started with octets as arguments keeps octets at its addresses, so that a load
 /// of n octets gives a number below 256 ^ n.
+#[tactic(auto, using(crate::proofs::Accesses::octets_started, crate::proofs::Accesses::octets_stored, crate::proofs::Accesses::number_below))]
 pub fn memories_have_octets()
     ensures started { (profile : Profile) (arguments : List ℕ) →
         All (λ octet. octet < 256) arguments →
