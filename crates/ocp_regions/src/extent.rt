@@ -66,21 +66,6 @@ pub(crate) fn set_len<A: Allocator>(region: &mut Vec<u8, A>, end: &mut usize, oc
 }
 
 /// Whether two regions have the same octets.
-pub(crate) fn are_same_from(
-    left: &[u8],
-    left_index: usize,
-    right: &[u8],
-    right_index: usize,
-) -> bool
-    requires left { IsZeroBelow left_index left.now }
-    requires right { IsZeroBelow right_index right.now }
-    ensures { IsTrue result ↔ (left.now ≡ right.now) }
-{
-    let first = left_index.min(right_index);
-    are_same(&left[first..], &right[first..])
-}
-
-/// Whether two regions have the same octets.
 pub(crate) fn are_same_below(
     left: &[u8],
     left_index: usize,
