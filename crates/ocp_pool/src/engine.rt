@@ -1,38 +1,16 @@
 //! The engine calls.
-ghost use Rattle.std.specs.Prelude.{◌≡◌, ◌<◌, true, IfOk, OnErr, slice_get};
+ghost use Rattle.std.specs.Prelude.{◌≡◌, ◌<◌, true, IfOk, OnErr};
 ghost use Rattle.ocp_loader.specs.Image.{is_engine_call};
 ghost use Rattle.ocp_profile.specs.declared.profile.Profile.TheVariants.{Two};
 ghost use Rattle.bpf_step.specs.Machine.{read};
 ghost use Rattle.bpf_step.specs.Calls.{state_after_engine_call};
-ghost use Rattle.ocp_pool.specs.Call.{r0_of, r1_of, engine_call, result_of, pool_after, mailbox_after, pool_by, mailbox_by, pool_compare_set};
+ghost use Rattle.ocp_pool.specs.Call.{r0_of, r1_of, engine_call, result_of, pool_after, mailbox_after, pool_by, mailbox_by};
 
 use crate::call::{Called, PoolFault};
 use crate::mailbox::Mailbox;
 use crate::pool::Pool;
 use bpf_step::{MAX_SLOTS, Machine};
 use std::alloc::Allocator;
-
-/// Call 6: writes the word at the index if it equals what is expected.
-fn compare_set<A: Allocator>(
-    pool: &mut Pool<A>,
-    index: u64,
-    expected: u64,
-    value: u64,
-) -> Option<Called>
-    ensures result { result ≡ pool_compare_set index expected value (slice_get pool.old index) }
-    ensures pool { pool.new ≡ pool_by result pool.old }
-{
-    let old = pool.get(index)?;
-    if old == expected {
-        pool.set(index as usize, value);
-    }
-    Some(Called::PoolCompareSet {
-        index,
-        expected,
-        value,
-        old,
-    })
-}
 
 /// What the call of a number does, with what it does to pool and mailbox.
 fn call_of<A: Allocator>(
@@ -72,7 +50,18 @@ fn call_of<A: Allocator>(
             })
         }
         4 => Some(Called::NextParam(mailbox.take())),
-        6 => compare_set(pool, r1, r2, r3),
+        6 => {
+            let old = pool.get(r1)?;
+            if old == r2 {
+                pool.set(r1 as usize, r3);
+            }
+            Some(Called::PoolCompareSet {
+                index: r1,
+                expected: r2,
+                value: r3,
+                old,
+            })
+        }
         _ => Some(Called::StepEnd((r1 % 0x1_0000) as u16)),
     }
 }
