@@ -9,6 +9,10 @@ use Rattle.bpf_moves.specs.Moves.{load_register, store_memory, move_by_jump}
 use Rattle.bpf_step.specs.Machine.{State, Outcome, Next, Needs, NoInstruction, state_after_write, state_after_jump}
 use Rattle.bpf_step.specs.Calls.{local_call, call_unless_full, state_after_call, restored_registers, frame_of, exit_to, last_frame, state_after_engine_call}
 use Rattle.bpf_types.specs.declared.line.Line.{Line}
+use Rattle.bpf_types.specs.declared.line.Line.TheVariants as line
+use Rattle.bpf_types.specs.declared.line.Operand.{Operand}
+use Rattle.bpf_types.specs.declared.line.Operation.{Operation}
+use Rattle.bpf_types.specs.declared.line.Width.{Width}
 use Rattle.bpf_step.specs.Step.{step, outcome_by, one_step}
 use Rattle.bpf_step.specs.Reach.{Reaches, Started, Stepped, Answered}
 use Rattle.bpf_step.specs.Answers.{IsAnswer}
@@ -32,6 +36,14 @@ falls_next ranks counters most s t e h a = let f = ap (values_of_frames ranks co
 pub falls_by_line : (ranks : List Rank) (counters : List Counter) (certificate : Certificate) (most : ℕ) {line same : Line} (s : State) → line ≡ same →
     (FitsAfter certificate s (step same s) → Falls ranks counters most s (step same s)) → FitsAfter certificate s (step line s) → Falls ranks counters most s (step line s)
 falls_by_line ranks counters certificate most s e = subst (λ (l : Line). FitsAfter certificate s (step l s) → Falls ranks counters most s (step l s)) (sym e)
+
+-- a line of arithmetic is the same as another one only if its fields are
+abbrev of_arithmetic : (Width → Operation → ℕ → Operand → Type 0) → Line → Type 0
+of_arithmetic P (line.Arithmetic width operation dst operand) = P width operation dst operand
+of_arithmetic P l = Unit {0}
+
+pub same_arithmetic : (P : Width → Operation → ℕ → Operand → Type 0) {w v : Width} {o p : Operation} {d e : ℕ} {a b : Operand} → line.Arithmetic w o d a ≡ line.Arithmetic v p e b → P w o d a → P v p e b
+same_arithmetic P h = subst (of_arithmetic P) h
 
 pub falls_load : (ranks : List Rank) (counters : List Counter) (certificate : Certificate) (most : ℕ) (s : State) (dst : ℕ) (f : ℕ → ℕ) (r : Result ℕ AccessFault) →
     ((v : ℕ) → Fits certificate (state_after_write s dst v 1) → Falls ranks counters most s (Next (state_after_write s dst v 1))) →

@@ -6,11 +6,13 @@ use Rattle.ocp_profile.specs.declared.profile.Profile.{Profile}
 use Rattle.ocp_regions.specs.declared.fault.AccessFault.{AccessFault}
 use Rattle.ocp_regions.specs.Memory.{Octets, zeros, zeros_over, number_in_memory, memory_after_store}
 use Rattle.ocp_regions.specs.Access.{HasOctets}
+use Rattle.bpf_types.specs.declared.line.Line.{Line}
+use Rattle.bpf_types.specs.Line.{slots_in}
 use Rattle.bpf_moves.specs.Moves.{load_register, store_memory, move_by_jump}
 use Rattle.bpf_step.specs.Calls.{maybe_set, state_after_engine_call}
-use Rattle.bpf_step.specs.Step.{outcome_by}
+use Rattle.bpf_step.specs.Step.{outcome_by, step}
 use Rattle.std.proofs.lemmas.List.{length-set, get_or-set_same, get_or-set_other}
-use Rattle.bpf_step.specs.Machine.{State, NoInstruction, state_after_write, state_after_jump}
+use Rattle.bpf_step.specs.Machine.{State, Outcome, Next, Needs, NoInstruction, state_after_write, state_after_jump}
 use Rattle.ocp_check.specs.declared.range.Range.{Range}
 use Rattle.ocp_check.specs.declared.form.Form.{Form}
 use Rattle.ocp_check.specs.Mirror.Forms.{IsForm, AreFormed}
@@ -18,10 +20,10 @@ use Rattle.ocp_check.specs.Mirror.Ranges.{IsIn, AreIn, IsThere}
 use Rattle.ocp_check.specs.declared.certificate.Node.{Node}
 use Rattle.ocp_check.specs.declared.word.Word.{Word}
 use Rattle.ocp_check.specs.Mirror.Words.{IsWord, AreWords, IsSameFrom}
-use Rattle.ocp_check.proofs.Each.{same_or_not}
+use Rattle.ocp_check.proofs.Each.{put_each, same_or_not}
 use Rattle.ocp_check.proofs.Words.{kept_later, kept_stored}
 use Rattle.ocp_check.specs.Mirror.Callers.{Caller, AreSaved, AreKept}
-use Rattle.ocp_check.specs.Mirror.Fits.{Certificate, Matches, Fits, FitsAfter, Covers, Returns}
+use Rattle.ocp_check.specs.Mirror.Fits.{Certificate, AccessIsThere, LeadsTo, Matches, Fits, FitsAfter, Covers, Returns}
 
 -- what holds of the machines below a slot, and of those at it, holds of those below the next one
 pub each_more : (P : State → Type 0) (n : ℕ) → ((s : State) → s.place < n → P s) → ((s : State) → s.place ≡ n → P s) → (s : State) → s.place < n + 1 → P s
@@ -31,16 +33,7 @@ each_more P n below here s h = elim (same_or_not s.place n) [
 ]
 
 pub put_in : (row : List (Option Range)) (registers : List ℕ) (dst v : ℕ) (known : Option Range) → length row ≡ 11 → dst < 11 → AreIn row registers → IsIn known v → AreIn (set row dst known) (set registers dst v)
-put_in row registers dst v known l d a i = record {
-  eleven = length-set registers dst v ∙ a.eleven;
-  each = λ k h. elim (same_or_not k dst) [
-    | inl e ↦ subst (λ j. IsIn (get_or (set row dst known) j None) (get_or (set registers dst v) j 0)) (sym e)
-        (subst (λ o. IsIn o (get_or (set registers dst v) dst 0)) (sym (get_or-set_same row dst known None (omega (arith, l, d))))
-        (subst (IsIn known) (sym (get_or-set_same registers dst v 0 (omega (arith, a.eleven, d)))) i))
-    | inr n ↦ subst (λ o. IsIn o (get_or (set registers dst v) k 0)) (sym (get_or-set_other row dst k known None n))
-        (subst (IsIn (get_or row k None)) (sym (get_or-set_other registers dst k v 0 n)) (a.each k h))
-  ];
-}
+put_in row registers dst v known l d a i = record { eleven = length-set registers dst v ∙ a.eleven; each = put_each IsIn None row registers dst v known l a.eleven d a.each i }
 
 pub keep_in : (row : List (Option Range)) (registers : List ℕ) (dst : ℕ) (known : Option Range) → length row ≡ 11 → dst < 11 → AreIn row registers → IsIn known (get_or registers dst 0) → AreIn (set row dst known) registers
 keep_in row registers dst known l d a i = record {
@@ -54,15 +47,7 @@ keep_in row registers dst known l d a i = record {
 
 -- a register is changed together with its form
 pub put_formed : (forms : List (Option Form)) (bases : ℕ → ℕ) (registers : List ℕ) (dst v : ℕ) (form : Option Form) → length forms ≡ 11 → length registers ≡ 11 → dst < 11 → AreFormed forms bases registers → IsForm form bases v → AreFormed (set forms dst form) bases (set registers dst v)
-put_formed forms bases registers dst v form l n d a i = record {
-  each = λ k h. elim (same_or_not k dst) [
-    | inl e ↦ subst (λ j. IsForm (get_or (set forms dst form) j None) bases (get_or (set registers dst v) j 0)) (sym e)
-        (subst (λ o. IsForm o bases (get_or (set registers dst v) dst 0)) (sym (get_or-set_same forms dst form None (omega (arith, l, d))))
-        (subst (IsForm form bases) (sym (get_or-set_same registers dst v 0 (omega (arith, n, d)))) i))
-    | inr m ↦ subst (λ o. IsForm o bases (get_or (set registers dst v) k 0)) (sym (get_or-set_other forms dst k form None m))
-        (subst (IsForm (get_or forms k None) bases) (sym (get_or-set_other registers dst k v 0 m)) (a.each k h))
-  ];
-}
+put_formed forms bases registers dst v form l n d a i = record { each = put_each (λ o. IsForm o bases) None forms registers dst v form l n d a.each i }
 
 -- what is promised may be said to be more
 weaken : (certificate : Certificate) (a b : Option Range) (m n : ℕ) (callers : List Caller) → ((v : ℕ) → IsIn b v → IsIn a v) → n ≤ m → Returns certificate a m callers → Returns certificate b n callers
@@ -116,9 +101,10 @@ put_stands certificate node s t dst v known form l n d i r f m k h = restand cer
     (subst (λ (rs : List ℕ). AreIn (set node.row dst known) rs) (sym r) (put_in node.row s.registers dst v known l d i.registers k))
     (subst (λ (rs : List ℕ). AreFormed (set node.forms dst form) i.bases rs) (sym r) (put_formed node.forms i.bases s.registers dst v form n i.registers.eleven d i.formed h))
 
-pub fits_put : (certificate : Certificate) (place : ℕ) (node : Node) (s : State) (dst v slots : ℕ) (known : Option Range) (form : Option Form) → length node.row ≡ 11 → length node.forms ≡ 11 → dst < 11 →
-    Covers certificate place (record node { row = set node.row dst known; forms = set node.forms dst form }) → s.place + slots ≡ place → (i : Matches certificate node s) → IsIn known v → IsForm form i.bases v → Fits certificate (state_after_write s dst v slots)
-fits_put certificate place node s dst v slots known form l n d c e i k h = covered certificate place (changed node dst known form) (state_after_write s dst v slots) c e
+-- a register is written
+pub put_next : (certificate : Certificate) (node next : Node) (s : State) (dst v slots : ℕ) (known : Option Range) (form : Option Form) → next ≡ changed node dst known form → length node.row ≡ 11 → length node.forms ≡ 11 → dst < 11 →
+    (i : Matches certificate node s) → IsIn known v → IsForm form i.bases v → Matches certificate next (state_after_write s dst v slots)
+put_next certificate node next s dst v slots known form e l n d i k h = subst (λ (m : Node). Matches certificate m (state_after_write s dst v slots)) (sym e)
     (put_stands certificate node s (state_after_write s dst v slots) dst v known form l n d i refl refl refl k h)
 
 pub fits_jump : (certificate : Certificate) (place : ℕ) (next : Node) (s t : State) →
@@ -158,20 +144,29 @@ LoadsAreThere = (profile : Profile) (m : Octets) (writes : Bool) (q n : ℕ) →
 abbrev pub StoresAreThere : Type 0
 StoresAreThere = (profile : Profile) (m : Octets) (q n v : ℕ) → zeros_over m ≡ zeros profile → HasOctets m → IsThere true q n → (t : Octets) × (memory_after_store m q n v ≡ Ok t) × (zeros_over t ≡ zeros profile) × HasOctets t
 
-pub fits_load : LoadsAreThere → (certificate : Certificate) (node : Node) (s : State) (dst q n : ℕ) (f : ℕ → ℕ) → Matches certificate node s → IsThere false q n →
-    ((v : ℕ) → v < 256 ^ n → Fits certificate (state_after_write s dst (f v) 1)) → FitsAfter certificate s (outcome_by s (load_register s.registers s.memory dst f (number_in_memory s.memory q n)) NoInstruction)
-fits_load law certificate node s dst q n f i h k =
+pub leads_load : LoadsAreThere → (certificate : Certificate) (node next : Node) (s : State) (dst q n : ℕ) (f : ℕ → ℕ) → Matches certificate node s → IsThere false q n →
+    ((v : ℕ) → number_in_memory s.memory q n ≡ Ok v → v < 256 ^ n → Matches certificate next (state_after_write s dst (f v) 1)) → LeadsTo certificate next (s.place + 1) (outcome_by s (load_register s.registers s.memory dst f (number_in_memory s.memory q n)) NoInstruction)
+leads_load law certificate node next s dst q n f i h k =
     let v = law i.profile s.memory false q n i.memory i.octets h in
-    subst (λ (r : Result ℕ AccessFault). FitsAfter certificate s (outcome_by s (load_register s.registers s.memory dst f r) NoInstruction)) (sym v.1) (k v.0 v.2)
+    subst (λ (r : Result ℕ AccessFault). LeadsTo certificate next (s.place + 1) (outcome_by s (load_register s.registers s.memory dst f r) NoInstruction)) (sym v.1) (refl, k v.0 v.1 v.2)
 
-pub fits_store : StoresAreThere → (certificate : Certificate) (place : ℕ) (node next : Node) (s : State) (q n v : ℕ) → s.place + 1 ≡ place → (i : Matches certificate node s) → IsThere true q n → Covers certificate place next →
-    ((t : Octets) → memory_after_store s.memory q n v ≡ Ok t → zeros_over t ≡ zeros i.profile → HasOctets t → Matches certificate next (record s { memory = t })) → FitsAfter certificate s (outcome_by s (store_memory s.registers (memory_after_store s.memory q n v)) NoInstruction)
-fits_store law certificate place node next s q n v e i h c k =
+pub leads_store : StoresAreThere → (certificate : Certificate) (node next : Node) (s : State) (q n v : ℕ) → (i : Matches certificate node s) → IsThere true q n →
+    ((t : Octets) → memory_after_store s.memory q n v ≡ Ok t → zeros_over t ≡ zeros i.profile → HasOctets t → Matches certificate next (record s { memory = t })) → LeadsTo certificate next (s.place + 1) (outcome_by s (store_memory s.registers (memory_after_store s.memory q n v)) NoInstruction)
+leads_store law certificate node next s q n v i h k =
     let t = law i.profile s.memory q n v i.memory i.octets h in
     let m : State = record s { memory = t.0 } in
-    subst (λ (r : Result Octets AccessFault). FitsAfter certificate s (outcome_by s (store_memory s.registers r) NoInstruction)) (sym t.1)
-    (covered certificate place next (state_after_jump m None) c e
-    (restand certificate next next m (state_after_jump m None) (k t.0 t.1 t.2 t.3) refl refl refl refl refl refl refl (k t.0 t.1 t.2 t.3).registers (k t.0 t.1 t.2 t.3).formed))
+    let j = k t.0 t.1 t.2 t.3 in
+    subst (λ (r : Result Octets AccessFault). LeadsTo certificate next (s.place + 1) (outcome_by s (store_memory s.registers r) NoInstruction)) (sym t.1)
+    (refl, restand certificate next next m (state_after_jump m None) j refl refl refl refl refl refl refl j.registers j.formed)
+
+-- what is shown of a line is shown of one that is known to be the same
+pub leads_by_line : (certificate : Certificate) (next : Node) (s : State) {line same : Line} → line ≡ same → (AccessIsThere same s.registers → LeadsTo certificate next (s.place + slots_in same) (step same s)) → AccessIsThere line s.registers → LeadsTo certificate next (s.place + slots_in line) (step line s)
+leads_by_line certificate next s e = subst (λ (l : Line). AccessIsThere l s.registers → LeadsTo certificate next (s.place + slots_in l) (step l s)) (sym e)
+
+pub fits_led : (certificate : Certificate) (place : ℕ) (next : Node) (s : State) (o : Outcome) → Covers certificate place next → LeadsTo certificate next place o → FitsAfter certificate s o
+fits_led certificate place next s (Next t) c h = covered certificate place next t c h.0 h.1
+fits_led certificate place next s (Needs n) c h = absurd h
+fits_led certificate place next s NoInstruction c h = absurd h
 
 -- a machine after a store, as a node with the words that it leaves
 pub store_stands : (certificate : Certificate) (node next : Node) (s : State) (t : Octets) → (i : Matches certificate node s) → next.row ≡ node.row → next.forms ≡ node.forms → next.depth ≡ node.depth → next.promise ≡ node.promise → next.spared ≡ node.spared →
@@ -190,13 +185,6 @@ store_stands certificate node next s t i r f d p x w k z o = record {
   memory = z;
   octets = o;
 }
-
--- a load that reads a word of which something is known
-pub fits_read : LoadsAreThere → (certificate : Certificate) (node : Node) (s : State) (dst q n : ℕ) → Matches certificate node s → IsThere false q n →
-    ((v : ℕ) → number_in_memory s.memory q n ≡ Ok v → Fits certificate (state_after_write s dst v 1)) → FitsAfter certificate s (outcome_by s (load_register s.registers s.memory dst (λ v. v) (number_in_memory s.memory q n)) NoInstruction)
-fits_read law certificate node s dst q n i h k =
-    let v = law i.profile s.memory false q n i.memory i.octets h in
-    subst (λ (r : Result ℕ AccessFault). FitsAfter certificate s (outcome_by s (load_register s.registers s.memory dst (λ v. v) r) NoInstruction)) (sym v.1) (k v.0 v.1)
 
 pub fits_either : (certificate : Certificate) (s : State) (taken : Bool) (distance : ℤ) → (taken ≡ true → Fits certificate (state_after_jump s (Some distance))) → (taken ≡ false → Fits certificate (state_after_jump s None)) →
     FitsAfter certificate s (outcome_by s (move_by_jump s.registers s.memory (if taken then Some distance else None)) NoInstruction)

@@ -53,8 +53,6 @@ pub fn after_return(node: &Node, promise: Option<Range>, floor: u64) -> Node
             above(floor, words[7]),
         ],
         kept: later(node.kept, floor),
-        depth: node.depth,
-        promise: node.promise,
-        spared: node.spared,
+        ..*node
     }
 }

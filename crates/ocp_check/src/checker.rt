@@ -24,20 +24,12 @@ pub fn at_start() -> Node
     ensures { result ≡ node_at_start }
 {
     let zero = only(0);
+    let address = only(ARGUMENTS);
     let number = between(0, ARGUMENT_OCTETS as u64);
+    let end = only(FRAME_POINTER);
     Node {
         row: [
-            zero,
-            only(ARGUMENTS),
-            number,
-            zero,
-            zero,
-            zero,
-            zero,
-            zero,
-            zero,
-            zero,
-            only(FRAME_POINTER),
+            zero, address, number, zero, zero, zero, zero, zero, zero, zero, end,
         ],
         forms: [None; 11],
         words: [None; WORDS],

@@ -151,19 +151,10 @@ pub fn with_register(node: &Node, register: Reg, known: Option<Range>, form: Opt
       forms = slice_set node.now.forms register form;
     } }
 {
-    let mut row = node.row;
-    let mut forms = node.forms;
-    row[usize::from(register.number())] = known;
-    forms[usize::from(register.number())] = form;
-    Node {
-        row,
-        forms,
-        words: node.words,
-        kept: node.kept,
-        depth: node.depth,
-        promise: node.promise,
-        spared: node.spared,
-    }
+    let mut changed = *node;
+    changed.row[usize::from(register.number())] = known;
+    changed.forms[usize::from(register.number())] = form;
+    changed
 }
 
 /// What is known of the registers, if this is known of one of them.
@@ -188,12 +179,7 @@ pub fn with_known(node: &Node, register: Reg, known: Option<Range>) -> Node
 {
     Node {
         row: row_with_known(&node.row, &node.forms, register, known),
-        forms: node.forms,
-        words: node.words,
-        kept: node.kept,
-        depth: node.depth,
-        promise: node.promise,
-        spared: node.spared,
+        ..*node
     }
 }
 
@@ -209,21 +195,13 @@ pub fn with_base(node: &Node, register: Reg) -> Node
     let Some(base) = free_base(&node.forms, &node.words) else {
         return *node;
     };
-    let mut forms = node.forms;
-    forms[at] = Some(Form {
+    let mut based = *node;
+    based.forms[at] = Some(Form {
         base,
         times: 1,
         plus: 0,
     });
-    Node {
-        row: node.row,
-        forms,
-        words: node.words,
-        kept: node.kept,
-        depth: node.depth,
-        promise: node.promise,
-        spared: node.spared,
-    }
+    based
 }
 
 /// The same of a register that an operand is.

@@ -7,10 +7,9 @@ ghost use Rattle.ocp_check.specs.Never.{AsksWell};
 use crate::asks::{check_pool, slot_asks_well, words_asked};
 use crate::certificate::Node;
 use crate::checker::{check, is_kept_at};
-use crate::counting::{Counter, Rank};
 use crate::covering::node_at;
 use crate::finding::find;
-use crate::ranking::{cycle, find_ranks, most_of};
+use crate::ranking::{Ranking, cycle, find_ranks, most_of};
 use crate::refusal::{Refusal, Why, reason};
 use crate::rounds::check_rounds;
 use ocp_loader::Program;
@@ -115,13 +114,12 @@ fn words<A: Allocator>(program: &Program<A>, certificate: &[Option<Node>]) -> Op
 fn round<A: Allocator>(
     program: &Program<A>,
     certificate: &[Option<Node>],
-    ranks: &[Rank],
-    counters: &[Counter],
+    found: &Ranking<A>,
 ) -> Option<u32>
     ensures { IfSome result (IsWithin program.now) }
 {
-    let most = most_of(program, certificate, ranks, counters)?;
-    if check_rounds(program, certificate, ranks, counters, most) {
+    let most = most_of(program, &found.by(certificate))?;
+    if check_rounds(program, certificate, &found.ranks, &found.counters, most) {
         Some(most)
     } else {
         None
@@ -145,13 +143,12 @@ pub fn examine<A: Allocator + Copy>(
 {
     let certificate = find(alloc, program)?;
     let found = find_ranks(alloc, program, &certificate)?;
-    let (ranks, counters) = (found.ranks, found.counters);
     Ok(Findings {
         never_faults: check(program, &certificate),
         faults: faults(alloc, program, &certificate)?,
         asks: asks(alloc, program, &certificate, pool_words)?,
         words: words(program, &certificate),
-        round: round(program, &certificate, &ranks, &counters),
-        cycle: cycle(alloc, program, &certificate, &ranks)?,
+        round: round(program, &certificate, &found),
+        cycle: cycle(alloc, program, &found.by(&certificate))?,
     })
 }

@@ -8,18 +8,14 @@
 use crate::answers::after_engine_call;
 use crate::certificate::{Node, after_return};
 use crate::checker::{at_start, is_kept_at};
-use crate::covering::{
-    form_of, node_at, range_of, range_of_operand, with_base, with_base_of_operand, with_known,
-    with_register,
-};
+use crate::covering::{node_at, with_known};
 use crate::form::Form;
-use crate::loading::numbers_of;
-use crate::range::{Range, follows, is_empty, lesser, only, refinement, stride_of, sum};
-use crate::steps::{after_operation, after_store, at_call, target, word_read};
+use crate::range::{Range, follows, is_empty, lesser, only, stride_of, sum};
+use crate::steps::{after_line, at_call, range_by_test, target};
 use crate::tying::{CELLS, are_same_forms, cells_of, narrow_by_forms, ties_of};
 use crate::word::{WORDS, Word};
 use bpf_step::{FRAME_OCTETS, MAX_LOCAL_CALLS};
-use bpf_types::{Comparison, Line, Operand, Operation, Reg, Size, Width};
+use bpf_types::{Line, Operand, Reg};
 use ocp_loader::Program;
 use std::alloc::{AllocError, Allocator};
 
@@ -58,16 +54,6 @@ const FIRST_LANDMARKS: [u64; 16] = [
     0x3000_0400,
 ];
 
-/// The test of a conditional jump.
-#[derive(Clone, Copy)]
-struct Test {
-    width: Width,
-    comparison: Comparison,
-    dst: Reg,
-    operand: Operand,
-    distance: i32,
-}
-
 /// What is known at each slot so far.
 #[derive(Drop)]
 struct Search<A: Allocator> {
@@ -91,8 +77,8 @@ fn hull(a: Option<Range>, b: Option<Range>) -> Option<Range> {
     }
     match (a, b) {
         (Some(a), Some(b)) => Some(Range {
-            low: if a.low < b.low { a.low } else { b.low },
-            high: if a.high > b.high { a.high } else { b.high },
+            low: a.low.min(b.low),
+            high: a.high.max(b.high),
             stride: lesser(stride_of(a), stride_of(b)),
         }),
         _ => None,
@@ -134,21 +120,16 @@ fn widening(landmarks: &[u64], old: Option<Range>, new: Option<Range>) -> Option
     } else {
         new.low
     };
-    if new.high <= old.high {
-        return Some(Range {
-            low,
-            high: new.high,
-            stride: new.stride,
-        });
-    }
-    match landmark_above(landmarks, new.high) {
-        Some(high) => Some(Range {
-            low,
-            high,
-            stride: new.stride,
-        }),
-        None => None,
-    }
+    let high = if new.high <= old.high {
+        new.high
+    } else {
+        landmark_above(landmarks, new.high)?
+    };
+    Some(Range {
+        low,
+        high,
+        stride: new.stride,
+    })
 }
 
 /// Whether two ranges are the same.
@@ -265,62 +246,12 @@ impl<A: Allocator> Search<A> {
             row[k] = hull(narrow[k], hull(before.row[k], after.row[k]));
         }
         let mut joined = node_of(&old, from, &row, &forms);
-        if joined.depth < from.depth {
-            joined.depth = from.depth;
-        }
-        if joined.kept < from.kept {
-            joined.kept = from.kept;
-        }
+        joined.depth = joined.depth.max(from.depth);
+        joined.kept = joined.kept.max(from.kept);
         if !is_same_node(&joined, &old) {
             self.nodes[place] = Some(joined);
             self.has_changed = true;
         }
-    }
-
-    /// The same of a write to a register.
-    fn write(&mut self, slot: u16, slots: usize, node: &Node, dst: Reg, known: Option<Range>) {
-        self.enter(
-            slot,
-            usize::from(slot).saturating_add(slots),
-            &with_register(node, dst, known, None),
-        );
-    }
-
-    /// The same of an operation.
-    fn compute(
-        &mut self,
-        slot: u16,
-        node: &Node,
-        width: Width,
-        operation: Operation,
-        dst: Reg,
-        operand: Operand,
-    ) {
-        let based = with_base_of_operand(node, &operand);
-        let after = after_operation(&based, width, operation, dst, operand);
-        self.enter(slot, usize::from(slot).saturating_add(1), &after);
-    }
-
-    /// The same of a load.
-    fn read(&mut self, slot: u16, node: &Node, dst: Reg, base: Reg, offset: i16, size: Size) {
-        let (known, form) = match word_read(node, base, offset, size) {
-            Some(word) => (word.known, word.form),
-            None => (numbers_of(size), None),
-        };
-        self.enter(
-            slot,
-            usize::from(slot).saturating_add(1),
-            &with_register(node, dst, known, form),
-        );
-    }
-
-    /// The same of a store of a register.
-    fn save(&mut self, slot: u16, node: &Node, base: Reg, offset: i16, size: Size, src: Reg) {
-        let based = with_base(node, src);
-        let known = range_of(&based.row, src);
-        let form = form_of(&based.forms, src);
-        let after = after_store(&based, base, offset, size, known, form);
-        self.enter(slot, usize::from(slot).saturating_add(1), &after);
     }
 
     /// The same of a jump that is taken or not, after which this is known of a register.
@@ -330,16 +261,6 @@ impl<A: Allocator> Search<A> {
                 self.enter(slot, place, &with_known(node, register, known));
             }
         }
-    }
-
-    /// The same of both ways of a conditional jump.
-    fn branch(&mut self, slot: u16, node: &Node, test: Test) {
-        let first = range_of(&node.row, test.dst);
-        let second = range_of_operand(&node.row, test.operand);
-        let taken = refinement(test.width, test.comparison, true, first, second);
-        let passed = refinement(test.width, test.comparison, false, first, second);
-        self.jump(slot, test.distance, node, test.dst, taken);
-        self.jump(slot, 0, node, test.dst, passed);
     }
 
     /// The same of a local call that is not too deep, and of what follows its end.
@@ -385,82 +306,27 @@ impl<A: Allocator> Search<A> {
 
     /// What a machine at a slot does next.
     fn flow(&mut self, slot: u16, node: &Node, line: Line) {
+        let next = usize::from(slot) + usize::from(line.slots());
+        let r0 = Reg::zero();
         match line {
-            Line::Arithmetic {
-                width,
-                operation,
-                dst,
-                operand,
-            } => self.compute(slot, node, width, operation, dst, operand),
-            Line::Negate { dst, .. } => self.write(slot, 1, node, dst, None),
-            Line::MoveExtended { dst, .. } => self.write(slot, 1, node, dst, None),
-            Line::ByteOrder { dst, .. } => self.write(slot, 1, node, dst, None),
-            Line::Jump { distance } => self.jump(
-                slot,
-                i32::from(distance),
-                node,
-                Reg::zero(),
-                node.row[0],
-            ),
-            Line::LongJump { distance } => self.jump(
-                slot,
-                distance,
-                node,
-                Reg::zero(),
-                node.row[0],
-            ),
-            Line::JumpIf {
-                width,
-                comparison,
-                dst,
-                operand,
-                distance,
-            } => {
-                self.branch(
-                    slot,
-                    node,
-                    Test {
-                        width,
-                        comparison,
-                        dst,
-                        operand,
-                        distance: i32::from(distance),
-                    },
-                );
+            Line::Jump { distance } => {
+                self.jump(slot, i32::from(distance), node, r0, node.row[0]);
             }
-            Line::Call { number } => {
-                self.enter(
-                    slot,
-                    usize::from(slot) + 1,
-                    &after_engine_call(node, number),
-                );
+            Line::LongJump { distance } => self.jump(slot, distance, node, r0, node.row[0]),
+            Line::JumpIf { dst, distance, .. } => {
+                let taken = range_by_test(&node.row, &line, true);
+                let passed = range_by_test(&node.row, &line, false);
+                self.jump(slot, i32::from(distance), node, dst, taken);
+                self.jump(slot, 0, node, dst, passed);
             }
+            Line::Call { number } => self.enter(slot, next, &after_engine_call(node, number)),
             Line::CallLocal { distance } => self.open(slot, distance, node),
             Line::Exit => self.close(node),
-            Line::LoadWide { dst, value } => self.write(slot, 2, node, dst, only(value)),
-            Line::Load {
-                size,
-                dst,
-                base,
-                offset,
-            } => self.read(slot, node, dst, base, offset, size),
-            Line::LoadExtended { dst, .. } => self.write(slot, 1, node, dst, None),
-            Line::StoreImmediate {
-                size,
-                base,
-                offset,
-                ..
-            } => self.enter(
-                slot,
-                usize::from(slot).saturating_add(1),
-                &after_store(node, base, offset, size, None, None),
-            ),
-            Line::Store {
-                size,
-                base,
-                offset,
-                src,
-            } => self.save(slot, node, base, offset, size, src),
+            _ => {
+                if let Some(after) = after_line(node, &line) {
+                    self.enter(slot, next, &after);
+                }
+            }
         }
     }
 
@@ -468,11 +334,8 @@ impl<A: Allocator> Search<A> {
     fn sweep(&mut self, program: &Program<A>, slots: u16) {
         self.has_changed = false;
         for slot in 0..slots {
-            if let Some(Some(node)) = self.nodes.get(usize::from(slot)) {
-                let node = *node;
-                if let Some(line) = program.line_at(slot) {
-                    self.flow(slot, &node, line);
-                }
+            if let (Some(node), Some(line)) = (node_at(&self.nodes, slot), program.line_at(slot)) {
+                self.flow(slot, &node, line);
             }
         }
     }
@@ -545,6 +408,28 @@ fn unkept<A: Allocator>(program: &Program<A>, certificate: &[Option<Node>]) -> u
     count
 }
 
+/// A search at its begin: what is known of a machine that is started is known at the first slot.
+fn search_from<A: Allocator + Copy>(
+    alloc: A,
+    slots: usize,
+    landmarks: Vec<u64, A>,
+    end: Option<Option<Range>>,
+    spared: u64,
+) -> Result<Search<A>, AllocError> {
+    let mut nodes = vec![in alloc; None; slots]?;
+    if let Some(first) = nodes.first_mut() {
+        *first = Some(at_start());
+    }
+    Ok(Search {
+        nodes,
+        landmarks,
+        end,
+        spared,
+        pass: 0,
+        has_changed: true,
+    })
+}
+
 /// What is known at each slot by what was known at the slots before it: no more numbers than there,
 /// and fewer where a range was widened too far.
 fn narrower<A: Allocator + Copy>(
@@ -554,22 +439,10 @@ fn narrower<A: Allocator + Copy>(
     end: Option<Option<Range>>,
     spared: u64,
 ) -> Result<Vec<Option<Node>, A>, AllocError> {
-    let mut search = Search {
-        nodes: vec![in alloc; None; wide.len()]?,
-        landmarks: Vec::new(alloc),
-        end,
-        spared,
-        pass: 0,
-        has_changed: false,
-    };
-    if let Some(first) = search.nodes.first_mut() {
-        *first = Some(at_start());
-    }
+    let mut search = search_from(alloc, wide.len(), Vec::new(alloc), end, spared)?;
     for slot in 0..program.slots() as u16 {
-        if let Some(node) = node_at(wide, slot) {
-            if let Some(line) = program.line_at(slot) {
-                search.flow(slot, &node, line);
-            }
+        if let (Some(node), Some(line)) = (node_at(wide, slot), program.line_at(slot)) {
+            search.flow(slot, &node, line);
         }
     }
     Ok(search.nodes)
@@ -581,17 +454,8 @@ pub fn find<A: Allocator + Copy>(
     program: &Program<A>,
 ) -> Result<Vec<Option<Node>, A>, AllocError> {
     let slots = program.slots();
-    let mut search = Search {
-        nodes: vec![in alloc; None; slots]?,
-        landmarks: landmarks_of(alloc, program, slots as u16)?,
-        end: None,
-        spared: 0,
-        pass: 0,
-        has_changed: true,
-    };
-    if let Some(first) = search.nodes.first_mut() {
-        *first = Some(at_start());
-    }
+    let landmarks = landmarks_of(alloc, program, slots as u16)?;
+    let mut search = search_from(alloc, slots, landmarks, None, 0)?;
     for pass in 0..PASSES {
         search.pass = pass;
         search.sweep(program, slots as u16);

@@ -33,6 +33,14 @@ pub struct Range {
     pub stride: Stride,
 }
 
+/// A test of numbers of a width that held, or did not.
+#[derive(Clone, Copy)]
+pub struct Test {
+    pub width: Width,
+    pub comparison: Comparison,
+    pub held: bool,
+}
+
 /// The greatest stride of which a number is a multiple.
 fn stride_of_number(number: u64) -> Stride
     ensures { IsMultiple result number }
@@ -354,20 +362,14 @@ fn other_than(a: Option<Range>, b: Range) -> Option<Range>
 }
 
 /// What is known of the first operand after a test of unsigned numbers that held, or did not.
-fn refinement_unsigned(
-    width: Width,
-    comparison: Comparison,
-    held: bool,
-    a: Option<Range>,
-    b: Option<Range>,
-) -> Option<Range>
-    ensures { (x y : ℕ) → IsIn a x → IsIn b y → passes width comparison x y ≡ held →
-        IsIn result x }
+fn refinement_unsigned(test: Test, a: Option<Range>, b: Option<Range>) -> Option<Range>
+    ensures { (x y : ℕ) → IsIn a x → IsIn b y →
+        passes test.width test.comparison x y ≡ test.held → IsIn result x }
 {
     let Some(b) = b else {
         return a;
     };
-    match (comparison, held) {
+    match (test.comparison, test.held) {
         (Comparison::Less, true) | (Comparison::GreaterOrEqual, false) => {
             at_most(a, b.high.saturating_sub(1))
         }
@@ -417,11 +419,12 @@ fn greatest_without_sign(width: Width) -> u64
 
 /// Whether the first operand of a test of signed numbers is the second one or greater, if the test
 /// held, or did not.
-fn is_upward(comparison: Comparison, held: bool) -> bool
-    ensures { IsTrue result → (width : Width) (x y : ℕ) → x < modulus width → y < half_of width →
-        passes width comparison x y ≡ held → (y ≤ x) × (x < half_of width) }
+fn is_upward(test: Test) -> bool
+    ensures { IsTrue result → (x y : ℕ) → x < modulus test.width → y < half_of test.width →
+        passes test.width test.comparison x y ≡ test.held →
+        (y ≤ x) × (x < half_of test.width) }
 {
-    match (comparison, held) {
+    match (test.comparison, test.held) {
         (Comparison::SignedGreater, true) | (Comparison::SignedGreaterOrEqual, true) => true,
         (Comparison::SignedLess, false) | (Comparison::SignedLessOrEqual, false) => true,
         _ => false,
@@ -437,46 +440,33 @@ fn upward(width: Width, a: Range, b: Range) -> Option<Range>
 }
 
 /// What is known of a number of the width after a test of it that held, or did not.
-fn refinement_of_number(
-    width: Width,
-    comparison: Comparison,
-    held: bool,
-    a: Range,
-    b: Option<Range>,
-) -> Option<Range>
-    ensures { (x y : ℕ) → x < modulus width → IsIn (Some a) x → IsIn b y →
-        passes width comparison x y ≡ held → IsIn result x }
+fn refinement_of_number(test: Test, a: Range, b: Option<Range>) -> Option<Range>
+    ensures { (x y : ℕ) → x < modulus test.width → IsIn (Some a) x → IsIn b y →
+        passes test.width test.comparison x y ≡ test.held → IsIn result x }
 {
-    if !has_no_sign(width, b) {
-        return refinement_unsigned(width, comparison, held, Some(a), b);
+    if !has_no_sign(test.width, b) {
+        return refinement_unsigned(test, Some(a), b);
     }
-    if has_no_sign(width, Some(a)) {
-        return refinement_unsigned(width, without_signs(comparison), held, Some(a), b);
+    if has_no_sign(test.width, Some(a)) {
+        let comparison = without_signs(test.comparison);
+        return refinement_unsigned(Test { comparison, ..test }, Some(a), b);
     }
     match b {
-        Some(b) if is_upward(comparison, held) => upward(width, a, b),
-        _ => refinement_unsigned(width, comparison, held, Some(a), b),
+        Some(b) if is_upward(test) => upward(test.width, a, b),
+        _ => refinement_unsigned(test, Some(a), b),
     }
 }
 
 /// What is known of the first operand after a test that held, or did not. A test of 32 bits shows
 /// something of a number that has no more.
-pub fn refinement(
-    width: Width,
-    comparison: Comparison,
-    held: bool,
-    a: Option<Range>,
-    b: Option<Range>,
-) -> Option<Range>
-    ensures { (x y : ℕ) → IsIn a x → IsIn b y → is_taken width comparison x y ≡ held →
-        IsIn result x }
+pub fn refinement(test: Test, a: Option<Range>, b: Option<Range>) -> Option<Range>
+    ensures { (x y : ℕ) → IsIn a x → IsIn b y →
+        is_taken test.width test.comparison x y ≡ test.held → IsIn result x }
 {
-    match (width, a) {
-        (Width::W64, Some(a)) => refinement_of_number(width, comparison, held, a, b),
-        (Width::W64, None) => refinement_unsigned(width, comparison, held, None, b),
-        (Width::W32, Some(a)) if a.high <= 0xffff_ffff => {
-            refinement_of_number(width, comparison, held, a, low(b))
-        }
+    match (test.width, a) {
+        (Width::W64, Some(a)) => refinement_of_number(test, a, b),
+        (Width::W64, None) => refinement_unsigned(test, None, b),
+        (Width::W32, Some(a)) if a.high <= 0xffff_ffff => refinement_of_number(test, a, low(b)),
         (Width::W32, _) => a,
     }
 }

@@ -8,7 +8,9 @@ use crate::answers::{STEP_END, may_write_r1};
 use crate::certificate::Node;
 use crate::counting::{COUNTERS, Counter, Rank, Step, Steps};
 use crate::covering::{node_at, range_of};
-use crate::rounds::{ahead_after, ahead_at, most_at, step_by, steps_of_call, steps_with};
+use crate::rounds::{
+    Ranks, ahead_after, ahead_at, most_at, step_of_line, steps_of_call, steps_with,
+};
 use crate::steps::target;
 use bpf_types::{Line, Reg};
 use ocp_loader::Program;
@@ -32,11 +34,24 @@ const TRIES: u32 = 2;
 /// Ranks do not grow further.
 const HIGHEST: u64 = 1 << 40;
 
+/// The slots from a first to a last one.
+#[derive(Clone, Copy)]
+struct Span {
+    first: usize,
+    last: usize,
+}
+
+impl Span {
+    /// A place is among them.
+    fn holds(self, place: usize) -> bool {
+        self.first <= place && place <= self.last
+    }
+}
+
 /// The slots from a place to the last jump back to it.
 #[derive(Clone, Copy)]
 struct Loop {
-    first: usize,
-    last: usize,
+    span: Span,
     /// It is known to end.
     is_done: bool,
     /// In how many turns it was tried.
@@ -46,8 +61,7 @@ struct Loop {
 /// Where the search for a weight ends: at the ends of a loop, and at changes of a register.
 #[derive(Clone, Copy)]
 struct Cut {
-    first: usize,
-    last: usize,
+    span: Span,
     /// The register's number.
     register: Option<u8>,
 }
@@ -78,29 +92,12 @@ fn counts_of(ranks: &[Rank], place: usize) -> [bool; COUNTERS] {
 /// Whether a line changes the register of a number.
 fn changes(line: Line, register: u8) -> bool {
     match line {
-        Line::Arithmetic { dst, .. }
-        | Line::Negate { dst, .. }
-        | Line::MoveExtended { dst, .. }
-        | Line::ByteOrder { dst, .. }
-        | Line::LoadWide { dst, .. }
-        | Line::Load { dst, .. }
-        | Line::LoadExtended { dst, .. } => dst.number() == register,
         Line::Call { number } => register == 0 || (register == 1 && may_write_r1(number)),
         Line::CallLocal { .. } => register <= 5,
-        _ => false,
-    }
-}
-
-/// What a line does to the register that it writes, if it adds a number.
-fn step_of_line(node: &Node, line: Line) -> Step {
-    match line {
-        Line::Arithmetic {
-            width,
-            operation,
-            dst,
-            operand,
-        } => step_by(node, width, operation, dst, operand),
-        _ => Step::Anywhere,
+        _ => match line.written_dst() {
+            Some(dst) => dst.number() == register,
+            None => false,
+        },
     }
 }
 
@@ -114,9 +111,7 @@ fn over(ahead: Option<u64>) -> u64 {
 
 /// What one way of a line leaves ahead, and one more; 0 if it leaves the loop of a cut.
 fn rank_by(
-    nodes: &[Option<Node>],
-    ranks: &[Rank],
-    counters: &[Counter],
+    all: &Ranks<'_>,
     slot: u16,
     node: &Node,
     place: usize,
@@ -125,145 +120,66 @@ fn rank_by(
 ) -> u64 {
     let here = usize::from(slot);
     if let Some(cut) = cut {
-        let is_inside = cut.first <= here && here <= cut.last;
-        if is_inside && (place < cut.first || cut.last < place) {
+        if cut.span.holds(here) && !cut.span.holds(place) {
             return 0;
         }
     }
-    over(ahead_at(
-        nodes,
-        ranks,
-        counters,
-        &counts_of(ranks, here),
-        &node.row,
-        place,
-        steps,
-    ))
+    let counts = counts_of(all.ranks, here);
+    over(ahead_at(all, &counts, &node.row, place, steps))
 }
 
 /// The same of a jump by a distance.
-fn rank_of_jump(
-    nodes: &[Option<Node>],
-    ranks: &[Rank],
-    counters: &[Counter],
-    slot: u16,
-    node: &Node,
-    distance: i32,
-    cut: Option<Cut>,
-) -> u64 {
+fn rank_of_jump(all: &Ranks<'_>, slot: u16, node: &Node, distance: i32, cut: Option<Cut>) -> u64 {
     match target(slot, distance) {
-        Some(place) => rank_by(
-            nodes,
-            ranks,
-            counters,
-            slot,
-            node,
-            place,
-            &[Step::Kept; 11],
-            cut,
-        ),
+        Some(place) => rank_by(all, slot, node, place, &[Step::Kept; 11], cut),
         None => 0,
     }
 }
 
 /// The same of a local call, with what follows its end.
-fn rank_of_call(
-    nodes: &[Option<Node>],
-    ranks: &[Rank],
-    counters: &[Counter],
-    slot: u16,
-    node: &Node,
-    distance: i32,
-) -> u64 {
+fn rank_of_call(all: &Ranks<'_>, slot: u16, node: &Node, distance: i32) -> u64 {
     let here = usize::from(slot);
     let Some(place) = target(slot, distance) else {
         return 0;
     };
-    let first = over(most_at(nodes, ranks, counters, place));
-    let counts = counts_of(ranks, here);
-    match ahead_after(ranks, counters, &counts, &node.row, here + 1) {
+    let first = over(most_at(all, place));
+    let counts = counts_of(all.ranks, here);
+    match ahead_after(all, &counts, &node.row, here + 1) {
         Some(after) => first.saturating_add(after).min(HIGHEST),
         None => HIGHEST,
     }
 }
 
 /// The rank of a slot by those of the slots that may follow.
-fn rank_before(
-    nodes: &[Option<Node>],
-    ranks: &[Rank],
-    counters: &[Counter],
-    slot: u16,
-    node: &Node,
-    line: Line,
-    cut: Option<Cut>,
-) -> u64 {
-    let next = usize::from(slot) + 1;
+fn rank_before(all: &Ranks<'_>, slot: u16, node: &Node, line: Line, cut: Option<Cut>) -> u64 {
+    let next = usize::from(slot) + usize::from(line.slots());
     match line {
-        Line::Jump { distance } => rank_of_jump(
-            nodes,
-            ranks,
-            counters,
-            slot,
-            node,
-            i32::from(distance),
-            cut,
-        ),
-        Line::LongJump { distance } => rank_of_jump(
-            nodes, ranks, counters, slot, node, distance, cut,
-        ),
+        Line::Jump { distance } => rank_of_jump(all, slot, node, i32::from(distance), cut),
+        Line::LongJump { distance } => rank_of_jump(all, slot, node, distance, cut),
         Line::JumpIf { distance, .. } => {
-            let taken = rank_of_jump(nodes, ranks, counters, slot, node, i32::from(distance), cut);
-            let passed = rank_of_jump(nodes, ranks, counters, slot, node, 0, cut);
+            let taken = rank_of_jump(all, slot, node, i32::from(distance), cut);
+            let passed = rank_of_jump(all, slot, node, 0, cut);
             taken.max(passed)
         }
         Line::Call { number } if number == STEP_END && node.depth == 0 => 0,
-        Line::Call { .. } => rank_by(
-            nodes,
-            ranks,
-            counters,
-            slot,
-            node,
-            next,
-            &steps_of_call(),
-            cut,
-        ),
-        Line::CallLocal { distance } => rank_of_call(nodes, ranks, counters, slot, node, distance),
+        Line::Call { .. } => rank_by(all, slot, node, next, &steps_of_call(), cut),
+        Line::CallLocal { distance } => rank_of_call(all, slot, node, distance),
         Line::Exit => u64::from(node.depth > 0),
-        Line::LoadWide { dst, .. } => rank_by(
-            nodes,
-            ranks,
-            counters,
-            slot,
-            node,
-            next + 1,
-            &steps_with(dst, Step::Anywhere),
-            cut,
-        ),
-        Line::Arithmetic { dst, .. }
-        | Line::Negate { dst, .. }
-        | Line::MoveExtended { dst, .. }
-        | Line::ByteOrder { dst, .. }
-        | Line::Load { dst, .. }
-        | Line::LoadExtended { dst, .. } => rank_by(
-            nodes,
-            ranks,
-            counters,
-            slot,
-            node,
-            next,
-            &steps_with(dst, step_of_line(node, line)),
-            cut,
-        ),
-        _ => rank_of_jump(nodes, ranks, counters, slot, node, 0, cut),
+        _ => match line.written_dst() {
+            Some(dst) => {
+                let steps = steps_with(dst, step_of_line(node, &line));
+                rank_by(all, slot, node, next, &steps, cut)
+            }
+            None => rank_of_jump(all, slot, node, 0, cut),
+        },
     }
 }
 
 /// Whether a slot is where the search for a weight ends: its line changes the register of the cut.
 fn is_cut<A: Allocator>(program: &Program<A>, slot: u16, cut: Option<Cut>) -> bool {
-    let here = usize::from(slot);
     match (cut, program.line_at(slot)) {
         (Some(cut), Some(line)) => match cut.register {
-            Some(register) => cut.first <= here && here <= cut.last && changes(line, register),
+            Some(register) => cut.span.holds(usize::from(slot)) && changes(line, register),
             None => false,
         },
         _ => false,
@@ -273,19 +189,13 @@ fn is_cut<A: Allocator>(program: &Program<A>, slot: u16, cut: Option<Cut>) -> bo
 /// The rank of a slot that may be reached; else 0.
 fn rank_here<A: Allocator>(
     program: &Program<A>,
-    nodes: &[Option<Node>],
-    ranks: &[Rank],
-    counters: &[Counter],
+    all: &Ranks<'_>,
     slot: u16,
     cut: Option<Cut>,
 ) -> u64 {
-    match (node_at(nodes, slot), program.line_at(slot)) {
-        (Some(node), Some(line)) => {
-            if is_cut(program, slot, cut) {
-                0
-            } else {
-                rank_before(nodes, ranks, counters, slot, &node, line, cut)
-            }
+    match (node_at(all.nodes, slot), program.line_at(slot)) {
+        (Some(node), Some(line)) if !is_cut(program, slot, cut) => {
+            rank_before(all, slot, &node, line, cut)
         }
         _ => 0,
     }
@@ -294,14 +204,14 @@ fn rank_here<A: Allocator>(
 /// Whether a slot is in the loop of a cut; every slot is if there is none.
 fn is_watched(slot: usize, cut: Option<Cut>) -> bool {
     match cut {
-        Some(cut) => cut.first <= slot && slot <= cut.last,
+        Some(cut) => cut.span.holds(slot),
         None => true,
     }
 }
 
 /// How a line counts in a register, by what is known of the register before it.
 fn counter_at(node: &Node, line: Line, register: Reg) -> Option<Counter> {
-    let Step::By(by) = step_of_line(node, line) else {
+    let Step::By(by) = step_of_line(node, &line) else {
         return None;
     };
     let known = range_of(&node.row, register)?;
@@ -332,26 +242,17 @@ fn wider(first: Counter, second: Counter) -> Option<Counter> {
     Some(if is_farther { second } else { first })
 }
 
-/// Whether the line at a slot changes a register.
-fn is_changed<A: Allocator>(program: &Program<A>, slot: u16, register: Reg) -> bool {
-    match program.line_at(slot) {
-        Some(line) => changes(line, register.number()),
-        None => false,
-    }
-}
-
 /// How a register counts in a loop, if it only rises or only falls there.
 fn counter_of<A: Allocator>(
     program: &Program<A>,
     nodes: &[Option<Node>],
-    here: Loop,
+    span: Span,
     register: Reg,
 ) -> Option<Counter> {
     let mut found = None;
     for slot in 0..program.slots() as u16 {
-        let is_inside = here.first <= usize::from(slot) && usize::from(slot) <= here.last;
-        if is_inside && is_changed(program, slot, register) {
-            if let (Some(node), Some(line)) = (node_at(nodes, slot), program.line_at(slot)) {
+        if let (Some(node), Some(line)) = (node_at(nodes, slot), program.line_at(slot)) {
+            if span.holds(usize::from(slot)) && changes(line, register.number()) {
                 let one = counter_at(&node, line, register)?;
                 found = Some(match found {
                     Some(other) => wider(other, one)?,
@@ -372,11 +273,20 @@ fn is_same(a: &Counter, b: &Counter) -> bool {
 }
 
 impl<A: Allocator> Ranking<A> {
+    /// The ranks, with what is known at the slots.
+    pub fn by<'a>(&'a self, nodes: &'a [Option<Node>]) -> Ranks<'a> {
+        Ranks {
+            nodes,
+            ranks: &self.ranks,
+            counters: &self.counters,
+        }
+    }
+
     /// One pass over the slots, the last first: whether a rank has grown that is watched.
     fn sweep(&mut self, program: &Program<A>, nodes: &[Option<Node>], cut: Option<Cut>) -> bool {
         let mut has_grown = false;
         for slot in (0..program.slots() as u16).rev() {
-            let base = rank_here(program, nodes, &self.ranks, &self.counters, slot, cut);
+            let base = rank_here(program, &self.by(nodes), slot, cut);
             if let Some(rank) = self.ranks.get_mut(usize::from(slot)) {
                 if rank.base < base {
                     rank.base = base;
@@ -412,15 +322,7 @@ impl<A: Allocator> Ranking<A> {
         for slot in 0..program.slots() as u16 {
             if let (Some(node), Some(line)) = (node_at(nodes, slot), program.line_at(slot)) {
                 if is_cut(program, slot, Some(cut)) {
-                    let ahead = rank_before(
-                        nodes,
-                        &self.ranks,
-                        &self.counters,
-                        slot,
-                        &node,
-                        line,
-                        Some(cut),
-                    );
+                    let ahead = rank_before(&self.by(nodes), slot, &node, line, Some(cut));
                     weight = weight.max(u32::try_from(ahead).ok()?);
                 }
             }
@@ -444,12 +346,12 @@ impl<A: Allocator> Ranking<A> {
     }
 
     /// Has a counter count in a loop, if there is room for one.
-    fn add(&mut self, counter: Counter, here: Loop) -> Result<bool, AllocError> {
+    fn add(&mut self, counter: Counter, span: Span) -> Result<bool, AllocError> {
         let Some(number) = self.number_of(counter)? else {
             return Ok(false);
         };
         for (slot, rank) in self.ranks.iter_mut().enumerate() {
-            if here.first <= slot && slot <= here.last && number < COUNTERS {
+            if span.holds(slot) && number < COUNTERS {
                 rank.counts[number] = true;
             }
         }
@@ -461,27 +363,18 @@ impl<A: Allocator> Ranking<A> {
         &mut self,
         program: &Program<A>,
         nodes: &[Option<Node>],
-        here: Loop,
+        span: Span,
         counter: Counter,
     ) -> Result<bool, AllocError> {
         let cut = Cut {
-            first: here.first,
-            last: here.last,
+            span,
             register: Some(counter.register.number()),
         };
         if !self.settle(program, nodes, Some(cut), LOOP_PASSES) {
             return Ok(false);
         }
         match self.weight(program, nodes, cut) {
-            Some(weight) => {
-                let weighed = Counter {
-                    register: counter.register,
-                    rises: counter.rises,
-                    limit: counter.limit,
-                    weight,
-                };
-                self.add(weighed, here)
-            }
+            Some(weight) => self.add(Counter { weight, ..counter }, span),
             None => Ok(false),
         }
     }
@@ -491,11 +384,10 @@ impl<A: Allocator> Ranking<A> {
         &mut self,
         program: &Program<A>,
         nodes: &[Option<Node>],
-        here: Loop,
+        span: Span,
     ) -> Result<bool, AllocError> {
         let cut = Cut {
-            first: here.first,
-            last: here.last,
+            span,
             register: None,
         };
         if self.settle(program, nodes, Some(cut), LOOP_PASSES) {
@@ -504,10 +396,10 @@ impl<A: Allocator> Ranking<A> {
         let mut tries = 0;
         for number in 0..10 {
             if let Some(register) = Reg::new(number) {
-                if let Some(counter) = counter_of(program, nodes, here, register) {
+                if let Some(counter) = counter_of(program, nodes, span, register) {
                     if tries < TRIES {
                         tries += 1;
-                        if self.count_by(program, nodes, here, counter)? {
+                        if self.count_by(program, nodes, span, counter)? {
                             return Ok(true);
                         }
                     }
@@ -537,15 +429,14 @@ fn note_loop<A: Allocator>(
     are_joined: bool,
 ) -> Result<(), AllocError> {
     for one in loops.iter_mut() {
-        if one.first == first && (are_joined || one.last == last) {
-            one.last = one.last.max(last);
+        if one.span.first == first && (are_joined || one.span.last == last) {
+            one.span.last = one.span.last.max(last);
             return Ok(());
         }
     }
     if loops.len() < LOOPS {
         loops.push(Loop {
-            first,
-            last,
+            span: Span { first, last },
             is_done: false,
             tries: u32::from(!are_joined),
         })?;
@@ -574,7 +465,7 @@ fn shortest(loops: &[Loop], turn: u32) -> Option<usize> {
     let mut found = None;
     let mut length = usize::MAX;
     for (k, one) in loops.iter().enumerate() {
-        let its = one.last.saturating_sub(one.first);
+        let its = one.span.last.saturating_sub(one.span.first);
         if !one.is_done && one.tries <= turn && its < length {
             length = its;
             found = Some(k);
@@ -604,7 +495,7 @@ pub fn find_ranks<A: Allocator + Copy>(
             if let Some(k) = shortest(&loops, turn) {
                 if let Some(one) = loops.get_mut(k) {
                     one.tries = turn + 1;
-                    one.is_done = ranking.count(program, nodes, *one)?;
+                    one.is_done = ranking.count(program, nodes, one.span)?;
                 }
             }
         }
@@ -614,20 +505,15 @@ pub fn find_ranks<A: Allocator + Copy>(
 }
 
 /// The most instructions from a start or the end of a step on, by the ranks.
-pub fn most_of<A: Allocator>(
-    program: &Program<A>,
-    nodes: &[Option<Node>],
-    ranks: &[Rank],
-    counters: &[Counter],
-) -> Option<u32> {
-    let mut most = most_at(nodes, ranks, counters, 0)?;
+pub fn most_of<A: Allocator>(program: &Program<A>, all: &Ranks<'_>) -> Option<u32> {
+    let mut most = most_at(all, 0)?;
     for slot in 0..program.slots() as u16 {
         if let (Some(node), Some(Line::Call { number })) = (
-            node_at(nodes, slot),
+            node_at(all.nodes, slot),
             program.line_at(slot),
         ) {
             if number == STEP_END && node.depth == 0 {
-                most = most.max(most_at(nodes, ranks, counters, usize::from(slot) + 1)?);
+                most = most.max(most_at(all, usize::from(slot) + 1)?);
             }
         }
     }
@@ -662,15 +548,10 @@ fn place_after(ranks: &[Rank], slot: u16, line: Line, depth: u8) -> Option<usize
 }
 
 /// The same of a slot.
-fn slot_after<A: Allocator>(
-    program: &Program<A>,
-    nodes: &[Option<Node>],
-    ranks: &[Rank],
-    slot: u16,
-) -> Option<u16> {
-    let node = node_at(nodes, slot)?;
+fn slot_after<A: Allocator>(program: &Program<A>, all: &Ranks<'_>, slot: u16) -> Option<u16> {
+    let node = node_at(all.nodes, slot)?;
     let line = program.line_at(slot)?;
-    u16::try_from(place_after(ranks, slot, line, node.depth)?).ok()
+    u16::try_from(place_after(all.ranks, slot, line, node.depth)?).ok()
 }
 
 /// The slot with the greatest rank.
@@ -689,13 +570,12 @@ fn highest<A: Allocator>(program: &Program<A>, ranks: &[Rank]) -> u16 {
 pub fn cycle<A: Allocator>(
     alloc: A,
     program: &Program<A>,
-    nodes: &[Option<Node>],
-    ranks: &[Rank],
+    all: &Ranks<'_>,
 ) -> Result<Vec<u16, A>, AllocError> {
     let mut slots = Vec::new(alloc);
-    let mut first = highest(program, ranks);
+    let mut first = highest(program, all.ranks);
     for _ in 0..program.slots() {
-        match slot_after(program, nodes, ranks, first) {
+        match slot_after(program, all, first) {
             Some(next) => first = next,
             None => return Ok(slots),
         }
@@ -703,7 +583,7 @@ pub fn cycle<A: Allocator>(
     let mut slot = first;
     for _ in 0..program.slots() {
         slots.push(slot)?;
-        match slot_after(program, nodes, ranks, slot) {
+        match slot_after(program, all, slot) {
             Some(next) if next != first => slot = next,
             _ => break,
         }

@@ -3,6 +3,10 @@ ghost use Rattle.std.specs.Prelude.{◌≡◌, ◌≤◌, ◌<◌, ◌+◌, ℕ,
 ghost use Rattle.ocp_regions.specs.declared.fault.AccessFault.{AccessFault};
 ghost use Rattle.ocp_regions.specs.Memory.{Octets};
 ghost use Rattle.bpf_moves.specs.Moves.{operand_in, load_register, store_memory, move_by_jump};
+ghost use Rattle.bpf_types.specs.declared.line.Line.TheVariants as kind;
+ghost use Rattle.bpf_types.specs.declared.line.Operand.{Operand};
+ghost use Rattle.bpf_types.specs.declared.line.Operation.{Operation};
+ghost use Rattle.bpf_types.specs.declared.line.Width.{Width};
 ghost use Rattle.bpf_values.specs.Value.{arithmetic_result};
 ghost use Rattle.bpf_step.specs.declared.answer.Need.TheVariants as need;
 ghost use Rattle.bpf_step.specs.Machine.{State, Next, Needs, NoInstruction, state_after_write, state_after_jump};
@@ -18,6 +22,7 @@ ghost use Rattle.ocp_check.specs.Mirror.Ranks.{AreMoved, AreSteady, Falls, IsMov
 use crate::answers::STEP_END;
 use crate::certificate::{Node, Row};
 use crate::checker::check;
+use crate::counting::Step::{Anywhere, By, Kept};
 use crate::counting::{COUNTERS, Counter, Rank, Step, Steps, ahead_by};
 use crate::covering::{node_at, range_of, row_at, tie_of, with_base};
 use crate::form::Form;
@@ -27,6 +32,14 @@ use bpf_types::{Line, Operand, Operation, Reg, Width};
 use ocp_loader::{MAX_SLOTS, Program};
 use std::alloc::Allocator;
 
+/// Ranks of the slots, the counters to which they refer, and what is known at each slot.
+#[derive(Clone, Copy)]
+pub struct Ranks<'a> {
+    pub nodes: &'a [Option<Node>],
+    pub ranks: &'a [Rank],
+    pub counters: &'a [Counter],
+}
+
 /// What becomes of a number, by its forms before and after.
 fn step_between(old: Option<Form>, new: Option<Form>, known: Option<Range>) -> Step
     ensures { (bases : ℕ → ℕ) (v w : ℕ) → IsForm old bases v → IsForm new bases w →
@@ -34,15 +47,15 @@ fn step_between(old: Option<Form>, new: Option<Form>, known: Option<Range>) -> S
 {
     match (old, new, known) {
         (Some(old), Some(new), Some(_)) if old.base == new.base && old.times == new.times => {
-            Step::By(new.plus.wrapping_sub(old.plus))
+            By(new.plus.wrapping_sub(old.plus))
         }
-        _ => Step::Anywhere,
+        _ => Anywhere,
     }
 }
 
 /// What becomes of the first operand of an operation: it grows by a number if the result is tied
 /// to it, also as the copy of another register.
-pub fn step_by(node: &Node, width: Width, operation: Operation, dst: Reg, operand: Operand) -> Step
+fn step_by(node: &Node, width: Width, operation: Operation, dst: Reg, operand: Operand) -> Step
     ensures { (certificate : Certificate) (s : State) → Matches certificate node.now s →
         IsMoved result (slice_index s.registers dst) (arithmetic_result width operation
         (slice_index s.registers dst) (operand_in s.registers operand)) }
@@ -56,11 +69,30 @@ pub fn step_by(node: &Node, width: Width, operation: Operation, dst: Reg, operan
     )
 }
 
+/// What becomes of the register that a line writes.
+pub fn step_of_line(node: &Node, line: &Line) -> Step
+    ensures { (certificate : Certificate) (s : State) (width : Width) (operation : Operation)
+        (dst : ℕ) (operand : Operand) → line.now ≡ kind.Arithmetic width operation dst operand →
+        Matches certificate node.now s → IsMoved result (slice_index s.registers dst)
+        (arithmetic_result width operation (slice_index s.registers dst)
+        (operand_in s.registers operand)) }
+{
+    match *line {
+        Line::Arithmetic {
+            width,
+            operation,
+            dst,
+            operand,
+        } => step_by(node, width, operation, dst, operand),
+        _ => Anywhere,
+    }
+}
+
 /// One register is changed.
 pub fn steps_with(register: Reg, step: Step) -> Steps
     ensures { result ≡ slice_set kept_steps register step }
 {
-    let mut steps = [Step::Kept; 11];
+    let mut steps = [Kept; 11];
     steps[usize::from(register.number())] = step;
     steps
 }
@@ -71,36 +103,16 @@ pub fn steps_of_call() -> Steps
         AreMoved result old (maybe_set (slice_set old 0 r0) 1 r1) }
 {
     [
-        Step::Anywhere,
-        Step::Anywhere,
-        Step::Kept,
-        Step::Kept,
-        Step::Kept,
-        Step::Kept,
-        Step::Kept,
-        Step::Kept,
-        Step::Kept,
-        Step::Kept,
-        Step::Kept,
+        Anywhere, Anywhere, Kept, Kept, Kept, Kept, Kept, Kept, Kept, Kept, Kept,
     ]
 }
 
 /// What becomes of the registers from a local call to its end: R0 to R5 may be any numbers.
-pub fn steps_of_return() -> Steps
+fn steps_of_return() -> Steps
     ensures { (s : State) → AreMoved result s.registers (registers_of (frame_of s)) }
 {
     [
-        Step::Anywhere,
-        Step::Anywhere,
-        Step::Anywhere,
-        Step::Anywhere,
-        Step::Anywhere,
-        Step::Anywhere,
-        Step::Kept,
-        Step::Kept,
-        Step::Kept,
-        Step::Kept,
-        Step::Kept,
+        Anywhere, Anywhere, Anywhere, Anywhere, Anywhere, Anywhere, Kept, Kept, Kept, Kept, Kept,
     ]
 }
 
@@ -125,22 +137,20 @@ fn rank_at(ranks: &[Rank], place: usize) -> Option<Rank>
 
 /// How many instructions may follow at a place to which an instruction leads.
 pub fn ahead_at(
-    certificate: &[Option<Node>],
-    ranks: &[Rank],
-    counters: &[Counter],
+    all: &Ranks<'_>,
     was: &[bool; COUNTERS],
     before: &Row,
     place: usize,
     steps: &Steps,
 ) -> Option<u64>
     ensures { IfSome result (λ most. (old : List ℕ) (t : State) → AreIn before.now old →
-        t.place ≡ place → Fits certificate.now t → AreMoved steps.now old t.registers →
-        value_at ranks.now counters.now t.place t.registers
-        ≤ most + total_share counters.now was.now old 8) }
+        t.place ≡ place → Fits all.now.nodes.now t → AreMoved steps.now old t.registers →
+        value_at all.now.ranks.now all.now.counters.now t.place t.registers
+        ≤ most + total_share all.now.counters.now was.now old 8) }
 {
-    match row_at(certificate, place) {
-        Some(after) => match ranks.get(place) {
-            Some(rank) => ahead_by(counters, was, rank, before, &after, steps),
+    match row_at(all.nodes, place) {
+        Some(after) => match all.ranks.get(place) {
+            Some(rank) => ahead_by(all.counters, was, rank, before, &after, steps),
             None => None,
         },
         None => Some(0),
@@ -148,41 +158,27 @@ pub fn ahead_at(
 }
 
 /// How many instructions may follow at a place, whatever leads there.
-pub fn most_at(
-    certificate: &[Option<Node>],
-    ranks: &[Rank],
-    counters: &[Counter],
-    place: usize,
-) -> Option<u64>
-    ensures { IfSome result (λ most. (t : State) → t.place ≡ place → Fits certificate.now t →
-        value_at ranks.now counters.now t.place t.registers ≤ most) }
+pub fn most_at(all: &Ranks<'_>, place: usize) -> Option<u64>
+    ensures { IfSome result (λ most. (t : State) → t.place ≡ place → Fits all.now.nodes.now t →
+        value_at all.now.ranks.now all.now.counters.now t.place t.registers ≤ most) }
 {
-    ahead_at(
-        certificate,
-        ranks,
-        counters,
-        &[false; COUNTERS],
-        &[None; 11],
-        place,
-        &[Step::Anywhere; 11],
-    )
+    ahead_at(all, &[false; COUNTERS], &[None; 11], place, &[Anywhere; 11])
 }
 
 /// How many instructions may follow after a local call has ended.
 pub fn ahead_after(
-    ranks: &[Rank],
-    counters: &[Counter],
+    all: &Ranks<'_>,
     was: &[bool; COUNTERS],
     before: &Row,
     place: usize,
 ) -> Option<u64>
     ensures { IfSome result (λ most. (s : State) → AreIn before.now s.registers →
-        value_at ranks.now counters.now place (registers_of (frame_of s))
-        ≤ most + total_share counters.now was.now s.registers 8) }
+        value_at all.now.ranks.now all.now.counters.now place (registers_of (frame_of s))
+        ≤ most + total_share all.now.counters.now was.now s.registers 8) }
 {
-    match ranks.get(place) {
+    match all.ranks.get(place) {
         Some(rank) => ahead_by(
-            counters,
+            all.counters,
             was,
             rank,
             before,
@@ -194,182 +190,101 @@ pub fn ahead_after(
 }
 
 /// Whether an instruction at a slot that leads to a place leaves fewer instructions ahead.
-fn lowers(
-    certificate: &[Option<Node>],
-    ranks: &[Rank],
-    counters: &[Counter],
-    slot: u16,
-    place: usize,
-    node: &Node,
-    steps: &Steps,
-) -> bool
-    ensures { IsTrue result → (s t : State) → s.place ≡ slot → Matches certificate.now node.now s →
-        t.place ≡ place → Fits certificate.now t → AreMoved steps.now s.registers t.registers →
-        value_at ranks.now counters.now t.place t.registers
-        < value_at ranks.now counters.now s.place s.registers }
+fn lowers(all: &Ranks<'_>, slot: u16, node: &Node, place: usize, steps: &Steps) -> bool
+    ensures { IsTrue result → (s t : State) → s.place ≡ slot →
+        Matches all.now.nodes.now node.now s → t.place ≡ place → Fits all.now.nodes.now t →
+        AreMoved steps.now s.registers t.registers →
+        value_at all.now.ranks.now all.now.counters.now t.place t.registers
+        < value_at all.now.ranks.now all.now.counters.now s.place s.registers }
 {
-    let Some(here) = ranks.get(usize::from(slot)) else {
+    let Some(here) = all.ranks.get(usize::from(slot)) else {
         return false;
     };
-    match ahead_at(
-        certificate,
-        ranks,
-        counters,
-        &here.counts,
-        &node.row,
-        place,
-        steps,
-    ) {
+    match ahead_at(all, &here.counts, &node.row, place, steps) {
         Some(most) => most < here.base,
         None => false,
     }
 }
 
 /// The same of a write to a register, of which this becomes.
-fn write_lowers(
-    certificate: &[Option<Node>],
-    ranks: &[Rank],
-    counters: &[Counter],
-    slot: u16,
-    slots: u16,
-    node: &Node,
-    dst: Reg,
-    step: Step,
-) -> bool
+fn write_lowers(all: &Ranks<'_>, slot: u16, slots: u16, node: &Node, dst: Reg, step: Step) -> bool
     ensures { IsTrue result → (s : State) (most v : ℕ) → s.place ≡ slot →
-        Matches certificate.now node.now s → AreSteady ranks.now counters.now s.frames →
+        Matches all.now.nodes.now node.now s →
+        AreSteady all.now.ranks.now all.now.counters.now s.frames →
         IsMoved step (slice_index s.registers dst) v →
-        Fits certificate.now (state_after_write s dst v slots) →
-        Falls ranks.now counters.now most s (Next (state_after_write s dst v slots)) }
+        Fits all.now.nodes.now (state_after_write s dst v slots) →
+        Falls all.now.ranks.now all.now.counters.now most s
+        (Next (state_after_write s dst v slots)) }
 {
     slots <= 2
         && lowers(
-            certificate,
-            ranks,
-            counters,
+            all,
             slot,
-            usize::from(slot) + usize::from(slots),
             node,
+            usize::from(slot) + usize::from(slots),
             &steps_with(dst, step),
         )
 }
 
 /// The same of a jump that is taken or not.
-fn jump_lowers(
-    certificate: &[Option<Node>],
-    ranks: &[Rank],
-    counters: &[Counter],
-    slot: u16,
-    distance: Option<i32>,
-    node: &Node,
-) -> bool
+fn jump_lowers(all: &Ranks<'_>, slot: u16, distance: Option<i32>, node: &Node) -> bool
     ensures { IsTrue result → (s : State) (most : ℕ) → s.place ≡ slot →
-        Matches certificate.now node.now s → AreSteady ranks.now counters.now s.frames →
-        Fits certificate.now (state_after_jump s distance) →
-        Falls ranks.now counters.now most s (Next (state_after_jump s distance)) }
+        Matches all.now.nodes.now node.now s →
+        AreSteady all.now.ranks.now all.now.counters.now s.frames →
+        Fits all.now.nodes.now (state_after_jump s distance) →
+        Falls all.now.ranks.now all.now.counters.now most s (Next (state_after_jump s distance)) }
 {
     match place_after(slot, distance) {
-        Some(place) => lowers(
-            certificate,
-            ranks,
-            counters,
-            slot,
-            place,
-            node,
-            &[Step::Kept; 11],
-        ),
+        Some(place) => lowers(all, slot, node, place, &[Kept; 11]),
         None => false,
     }
 }
 
 /// The same of a load, whatever it reads.
-fn load_lowers(
-    certificate: &[Option<Node>],
-    ranks: &[Rank],
-    counters: &[Counter],
-    slot: u16,
-    node: &Node,
-    dst: Reg,
-) -> bool
+fn load_lowers(all: &Ranks<'_>, slot: u16, node: &Node, dst: Reg) -> bool
     ensures { IsTrue result → (s : State) (most : ℕ) (f : ℕ → ℕ) (read : Result ℕ AccessFault) →
-        s.place ≡ slot → Matches certificate.now node.now s →
-        AreSteady ranks.now counters.now s.frames →
-        FitsAfter certificate.now s
+        s.place ≡ slot → Matches all.now.nodes.now node.now s →
+        AreSteady all.now.ranks.now all.now.counters.now s.frames →
+        FitsAfter all.now.nodes.now s
         (outcome_by s (load_register s.registers s.memory dst f read) NoInstruction) →
-        Falls ranks.now counters.now most s
+        Falls all.now.ranks.now all.now.counters.now most s
         (outcome_by s (load_register s.registers s.memory dst f read) NoInstruction) }
 {
-    write_lowers(
-        certificate,
-        ranks,
-        counters,
-        slot,
-        1,
-        node,
-        dst,
-        Step::Anywhere,
-    )
+    write_lowers(all, slot, 1, node, dst, Anywhere)
 }
 
 /// The same of a store.
-fn store_lowers(
-    certificate: &[Option<Node>],
-    ranks: &[Rank],
-    counters: &[Counter],
-    slot: u16,
-    node: &Node,
-) -> bool
+fn store_lowers(all: &Ranks<'_>, slot: u16, node: &Node) -> bool
     ensures { IsTrue result → (s : State) (most : ℕ) (written : Result Octets AccessFault) →
-        s.place ≡ slot → Matches certificate.now node.now s →
-        AreSteady ranks.now counters.now s.frames →
-        FitsAfter certificate.now s
+        s.place ≡ slot → Matches all.now.nodes.now node.now s →
+        AreSteady all.now.ranks.now all.now.counters.now s.frames →
+        FitsAfter all.now.nodes.now s
         (outcome_by s (store_memory s.registers written) NoInstruction) →
-        Falls ranks.now counters.now most s
+        Falls all.now.ranks.now all.now.counters.now most s
         (outcome_by s (store_memory s.registers written) NoInstruction) }
 {
-    lowers(
-        certificate,
-        ranks,
-        counters,
-        slot,
-        usize::from(slot) + 1,
-        node,
-        &[Step::Kept; 11],
-    )
+    lowers(all, slot, node, usize::from(slot) + 1, &[Kept; 11])
 }
 
 /// The same of both ways of a conditional jump.
-fn branch_lowers(
-    certificate: &[Option<Node>],
-    ranks: &[Rank],
-    counters: &[Counter],
-    slot: u16,
-    node: &Node,
-    distance: i32,
-) -> bool
+fn branch_lowers(all: &Ranks<'_>, slot: u16, node: &Node, distance: i32) -> bool
     ensures { IsTrue result → (s : State) (most : ℕ) (taken : Bool) → s.place ≡ slot →
-        Matches certificate.now node.now s → AreSteady ranks.now counters.now s.frames →
-        FitsAfter certificate.now s (outcome_by s (move_by_jump s.registers s.memory
+        Matches all.now.nodes.now node.now s →
+        AreSteady all.now.ranks.now all.now.counters.now s.frames →
+        FitsAfter all.now.nodes.now s (outcome_by s (move_by_jump s.registers s.memory
         (if taken then Some distance else None)) NoInstruction) →
-        Falls ranks.now counters.now most s (outcome_by s (move_by_jump s.registers s.memory
-        (if taken then Some distance else None)) NoInstruction) }
+        Falls all.now.ranks.now all.now.counters.now most s (outcome_by s (move_by_jump s.registers
+        s.memory (if taken then Some distance else None)) NoInstruction) }
 {
-    jump_lowers(certificate, ranks, counters, slot, Some(distance), node)
-        && jump_lowers(certificate, ranks, counters, slot, None, node)
+    jump_lowers(all, slot, Some(distance), node) && jump_lowers(all, slot, None, node)
 }
 
 /// Whether fewer instructions than the most may follow at a place.
-fn is_under(
-    certificate: &[Option<Node>],
-    ranks: &[Rank],
-    counters: &[Counter],
-    place: usize,
-    most: u32,
-) -> bool
-    ensures { IsTrue result → (t : State) → t.place ≡ place → Fits certificate.now t →
-        value_at ranks.now counters.now t.place t.registers < most }
+fn is_under(all: &Ranks<'_>, place: usize, most: u32) -> bool
+    ensures { IsTrue result → (t : State) → t.place ≡ place → Fits all.now.nodes.now t →
+        value_at all.now.ranks.now all.now.counters.now t.place t.registers < most }
 {
-    match most_at(certificate, ranks, counters, place) {
+    match most_at(all, place) {
         Some(ahead) => ahead < u64::from(most),
         None => false,
     }
@@ -377,42 +292,26 @@ fn is_under(
 
 /// Whether an engine call leaves fewer instructions ahead, or is the end of a step outside of all
 /// local calls after which there are fewer than the most.
-fn call_lowers(
-    certificate: &[Option<Node>],
-    ranks: &[Rank],
-    counters: &[Counter],
-    slot: u16,
-    node: &Node,
-    number: i32,
-    most: u32,
-) -> bool
-    ensures { IsTrue result → (s : State) → s.place ≡ slot → Matches certificate.now node.now s →
-        AreSteady ranks.now counters.now s.frames →
-        FitsAfter certificate.now s (Needs (need.Call number)) →
-        Falls ranks.now counters.now most s (Needs (need.Call number)) }
+fn call_lowers(all: &Ranks<'_>, slot: u16, node: &Node, number: i32, most: u32) -> bool
+    ensures { IsTrue result → (s : State) → s.place ≡ slot → Matches all.now.nodes.now node.now s →
+        AreSteady all.now.ranks.now all.now.counters.now s.frames →
+        FitsAfter all.now.nodes.now s (Needs (need.Call number)) →
+        Falls all.now.ranks.now all.now.counters.now most s (Needs (need.Call number)) }
 {
     let next = usize::from(slot) + 1;
     if number == STEP_END && node.depth == 0 {
-        is_under(certificate, ranks, counters, next, most)
+        is_under(all, next, most)
     } else {
-        lowers(
-            certificate,
-            ranks,
-            counters,
-            slot,
-            next,
-            node,
-            &steps_of_call(),
-        )
+        lowers(all, slot, node, next, &steps_of_call())
     }
 }
 
 /// Whether the rank at a place goes by registers alone that a local call keeps.
-fn is_steady(ranks: &[Rank], counters: &[Counter], place: usize) -> bool
-    ensures { IsTrue result → IsSteady ranks.now counters.now place }
+fn is_steady(all: &Ranks<'_>, place: usize) -> bool
+    ensures { IsTrue result → IsSteady all.now.ranks.now all.now.counters.now place }
 {
-    match ranks.get(place) {
-        Some(rank) => are_saved(counters, &rank.counts),
+    match all.ranks.get(place) {
+        Some(rank) => are_saved(all.counters, &rank.counts),
         None => false,
     }
 }
@@ -443,33 +342,27 @@ fn is_saved(counters: &[Counter], k: usize) -> bool
 }
 
 /// Whether a local call leaves fewer instructions ahead, those after its end among them.
-fn open_lowers(
-    certificate: &[Option<Node>],
-    ranks: &[Rank],
-    counters: &[Counter],
-    slot: u16,
-    distance: i32,
-    node: &Node,
-) -> bool
+fn open_lowers(all: &Ranks<'_>, slot: u16, distance: i32, node: &Node) -> bool
     ensures { IsTrue result → (s : State) (most : ℕ) → s.place ≡ slot →
-        Matches certificate.now node.now s → AreSteady ranks.now counters.now s.frames →
-        FitsAfter certificate.now s (local_call s distance) →
-        Falls ranks.now counters.now most s (local_call s distance) }
+        Matches all.now.nodes.now node.now s →
+        AreSteady all.now.ranks.now all.now.counters.now s.frames →
+        FitsAfter all.now.nodes.now s (local_call s distance) →
+        Falls all.now.ranks.now all.now.counters.now most s (local_call s distance) }
 {
     let Some(place) = target(slot, distance) else {
         return false;
     };
-    let Some(here) = rank_at(ranks, usize::from(slot)) else {
+    let Some(here) = rank_at(all.ranks, usize::from(slot)) else {
         return false;
     };
     let next = usize::from(slot) + 1;
-    if !is_steady(ranks, counters, next) {
+    if !is_steady(all, next) {
         return false;
     }
-    let Some(first) = most_at(certificate, ranks, counters, place) else {
+    let Some(first) = most_at(all, place) else {
         return false;
     };
-    let Some(after) = ahead_after(ranks, counters, &here.counts, &node.row, next) else {
+    let Some(after) = ahead_after(all, &here.counts, &node.row, next) else {
         return false;
     };
     first < here.base && after < here.base - first
@@ -497,110 +390,44 @@ fn end_lowers(ranks: &[Rank], slot: u16, depth: u8) -> bool
 }
 
 /// Whether the line at a slot leaves fewer instructions ahead, or ends a step.
-fn falls(
-    certificate: &[Option<Node>],
-    ranks: &[Rank],
-    counters: &[Counter],
-    slot: u16,
-    node: &Node,
-    line: Line,
-    most: u32,
-) -> bool
-    ensures { IsTrue result → (s : State) → s.place ≡ slot → Matches certificate.now node.now s →
-        AreSteady ranks.now counters.now s.frames → FitsAfter certificate.now s (step line s) →
-        Falls ranks.now counters.now most s (step line s) }
+fn falls(all: &Ranks<'_>, slot: u16, node: &Node, line: Line, most: u32) -> bool
+    ensures { IsTrue result → (s : State) → s.place ≡ slot → Matches all.now.nodes.now node.now s →
+        AreSteady all.now.ranks.now all.now.counters.now s.frames →
+        FitsAfter all.now.nodes.now s (step line s) →
+        Falls all.now.ranks.now all.now.counters.now most s (step line s) }
 {
     match line {
-        Line::Arithmetic {
-            width,
-            operation,
-            dst,
-            operand,
-        } => {
-            let step = step_by(node, width, operation, dst, operand);
-            write_lowers(certificate, ranks, counters, slot, 1, node, dst, step)
+        Line::Arithmetic { dst, .. } => {
+            write_lowers(all, slot, 1, node, dst, step_of_line(node, &line))
         }
         Line::Negate { dst, .. } | Line::MoveExtended { dst, .. } | Line::ByteOrder { dst, .. } => {
-            write_lowers(
-                certificate,
-                ranks,
-                counters,
-                slot,
-                1,
-                node,
-                dst,
-                Step::Anywhere,
-            )
+            write_lowers(all, slot, 1, node, dst, Anywhere)
         }
-        Line::Jump { distance } => {
-            jump_lowers(
-                certificate,
-                ranks,
-                counters,
-                slot,
-                Some(i32::from(distance)),
-                node,
-            )
-        }
-        Line::LongJump { distance } => {
-            jump_lowers(certificate, ranks, counters, slot, Some(distance), node)
-        }
-        Line::JumpIf { distance, .. } => {
-            branch_lowers(
-                certificate,
-                ranks,
-                counters,
-                slot,
-                node,
-                i32::from(distance),
-            )
-        }
-        Line::Call { number } => {
-            call_lowers(certificate, ranks, counters, slot, node, number, most)
-        }
-        Line::CallLocal { distance } => {
-            open_lowers(certificate, ranks, counters, slot, distance, node)
-        }
-        Line::Exit => end_lowers(ranks, slot, node.depth),
-        Line::LoadWide { dst, .. } => {
-            write_lowers(
-                certificate,
-                ranks,
-                counters,
-                slot,
-                2,
-                node,
-                dst,
-                Step::Anywhere,
-            )
-        }
+        Line::Jump { distance } => jump_lowers(all, slot, Some(i32::from(distance)), node),
+        Line::LongJump { distance } => jump_lowers(all, slot, Some(distance), node),
+        Line::JumpIf { distance, .. } => branch_lowers(all, slot, node, i32::from(distance)),
+        Line::Call { number } => call_lowers(all, slot, node, number, most),
+        Line::CallLocal { distance } => open_lowers(all, slot, distance, node),
+        Line::Exit => end_lowers(all.ranks, slot, node.depth),
+        Line::LoadWide { dst, .. } => write_lowers(all, slot, 2, node, dst, Anywhere),
         Line::Load { dst, .. } | Line::LoadExtended { dst, .. } => {
-            load_lowers(certificate, ranks, counters, slot, node, dst)
+            load_lowers(all, slot, node, dst)
         }
-        Line::StoreImmediate { .. } | Line::Store { .. } => {
-            store_lowers(certificate, ranks, counters, slot, node)
-        }
+        Line::StoreImmediate { .. } | Line::Store { .. } => store_lowers(all, slot, node),
     }
 }
 
 /// The same of a slot of the image. No machine comes to a slot of which the certificate says
 /// nothing.
-fn falls_at<A: Allocator>(
-    program: &Program<A>,
-    certificate: &[Option<Node>],
-    ranks: &[Rank],
-    counters: &[Counter],
-    slot: u16,
-    most: u32,
-) -> bool
-    ensures { IsTrue result → (s : State) → s.place ≡ slot → Fits certificate.now s →
-        AreSteady ranks.now counters.now s.frames →
-        FitsAfter certificate.now s (one_step program.now s) →
-        Falls ranks.now counters.now most s (one_step program.now s) }
+fn falls_at<A: Allocator>(program: &Program<A>, all: &Ranks<'_>, slot: u16, most: u32) -> bool
+    ensures { IsTrue result → (s : State) → s.place ≡ slot → Fits all.now.nodes.now s →
+        AreSteady all.now.ranks.now all.now.counters.now s.frames →
+        FitsAfter all.now.nodes.now s (one_step program.now s) →
+        Falls all.now.ranks.now all.now.counters.now most s (one_step program.now s) }
 {
-    match node_at(certificate, slot) {
+    match node_at(all.nodes, slot) {
         Some(node) => match program.line_at(slot) {
-            Some(line) => falls(certificate, ranks, counters, slot, &node, line, most),
+            Some(line) => falls(all, slot, &node, line, most),
             None => true,
         },
         None => true,
@@ -619,14 +446,16 @@ pub fn check_rounds<A: Allocator>(
 ) -> bool
     ensures { IsTrue result → IsWithin program.now most }
 {
-    if !check(program, certificate)
-        || certificate.len() > MAX_SLOTS
-        || !is_under(certificate, ranks, counters, 0, most)
-    {
+    let all = Ranks {
+        nodes: certificate,
+        ranks,
+        counters,
+    };
+    if !check(program, certificate) || certificate.len() > MAX_SLOTS || !is_under(&all, 0, most) {
         return false;
     }
     for slot in 0..certificate.len() as u16 {
-        if !falls_at(program, certificate, ranks, counters, slot, most) {
+        if !falls_at(program, &all, slot, most) {
             return false;
         }
     }

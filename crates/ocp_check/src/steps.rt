@@ -1,19 +1,23 @@
 //! One instruction against a certificate.
-ghost use Rattle.std.specs.Prelude.{◌≡◌, ◌≤◌, ◌<◌, ◌+◌, ◌^◌, ℕ, true, slice_index_or, IsTrue, IfSome, Some, None, Ok, List, if◌then◌else◌, slice_index, slice_set, Option};
-ghost use Rattle.bpf_types.specs.Line.{octets_in};
+ghost use Rattle.std.specs.Prelude.{◌≡◌, ◌≤◌, ◌<◌, ◌+◌, ◌^◌, ℕ, ℤ, true, slice_index_or, IsTrue, IfSome, Some, None, Ok, List, slice_index, slice_set, Option};
+ghost use Rattle.bpf_types.specs.Line.{octets_in, slots_in};
+ghost use Rattle.bpf_types.specs.declared.line.Line.TheVariants as kind;
+ghost use Rattle.bpf_types.specs.declared.line.Comparison.{Comparison};
+ghost use Rattle.bpf_types.specs.declared.line.Operand.{Operand};
+ghost use Rattle.bpf_types.specs.declared.line.Width.{Width};
 ghost use Rattle.ocp_regions.specs.Memory.{Octets, number_in_memory, memory_after_store, zeros, zeros_over};
-ghost use Rattle.bpf_moves.specs.Moves.{operand_in, address_in, load_register, store_memory, move_by_jump};
+ghost use Rattle.bpf_moves.specs.Moves.{operand_in, address_in};
 ghost use Rattle.bpf_values.specs.Value.{arithmetic_result, is_taken};
 ghost use Rattle.ocp_loader.specs.LineAt.{target};
-ghost use Rattle.bpf_step.specs.Machine.{State, NoInstruction, state_after_write, state_after_jump, place_by};
-ghost use Rattle.bpf_step.specs.Step.{step, outcome_by};
+ghost use Rattle.bpf_step.specs.Machine.{State, state_after_write, state_after_jump, place_by};
+ghost use Rattle.bpf_step.specs.Step.{step};
 ghost use Rattle.bpf_step.specs.Answers.{IsAnswer};
 ghost use Rattle.bpf_step.specs.Calls.{state_after_engine_call, local_call, exit_to, last_frame};
 ghost use Rattle.ocp_regions.specs.Access.{HasOctets};
 ghost use Rattle.ocp_check.specs.Mirror.Ranges.{IsIn, AreIn, IsThere};
 ghost use Rattle.ocp_check.specs.Mirror.Words.{IsWord, AreWords};
 ghost use Rattle.ocp_check.specs.Mirror.Forms.{IsForm, AreFormed};
-ghost use Rattle.ocp_check.specs.Mirror.Fits.{Certificate, Covers, Fits, Matches, FitsAfter};
+ghost use Rattle.ocp_check.specs.Mirror.Fits.{Certificate, AccessIsThere, Fits, LeadsTo, Matches, FitsAfter};
 
 use crate::answers::after_engine_call;
 use crate::certificate::{Node, Row, after_return};
@@ -25,11 +29,11 @@ use crate::form::{Form, form_of_result};
 use crate::laws::accesses_are_there;
 use crate::loading::numbers_of;
 use crate::range::{
-    Range, is_empty, is_there, is_within, number_of, only, refinement, result_of, sum,
+    Range, Test, is_empty, is_there, is_within, number_of, only, refinement, result_of, sum,
 };
 use crate::word::{Word, index_of, kept_after, words_with};
 use bpf_step::{FRAME_OCTETS, MAX_LOCAL_CALLS};
-use bpf_types::{Comparison, Line, Operand, Operation, Reg, Size, Width};
+use bpf_types::{Line, Operand, Operation, Reg, Size, Width};
 use bpf_values::size_of;
 
 /// Where a distance leads to, unless that is a negative slot.
@@ -39,25 +43,13 @@ pub fn target(slot: u16, distance: i32) -> Option<usize>
     usize::try_from(i64::from(slot) + 1 + i64::from(distance)).ok()
 }
 
-/// Whether a write to a register, of which this is known afterwards, fits the certificate.
-fn is_kept_writing(
-    certificate: &[Option<Node>],
-    slot: u16,
-    slots: u16,
-    node: &Node,
-    dst: Reg,
-    known: Option<Range>,
-) -> bool
-    ensures { IsTrue result → (s : State) (v : ℕ) → s.place ≡ slot →
-        Matches certificate.now node.now s → IsIn known v →
-        Fits certificate.now (state_after_write s dst v slots) }
+/// What is known after a write to a register, of which this is known afterwards.
+fn after_write(node: &Node, dst: Reg, known: Option<Range>) -> Node
+    ensures { (certificate : Certificate) (s : State) (v slots : ℕ) →
+        Matches certificate node.now s → IsIn known v →
+        Matches certificate result (state_after_write s dst v slots) }
 {
-    slots <= 2
-        && covers(
-            certificate,
-            usize::from(slot) + usize::from(slots),
-            &with_register(node, dst, known, None),
-        )
+    with_register(node, dst, known, None)
 }
 
 /// What is known after an operation.
@@ -84,25 +76,6 @@ pub fn after_operation(
     let value = result_of(width, operation, first, second);
     let form = form_of_result(width, operation, a, b, first, second);
     with_register(node, dst, value, form)
-}
-
-/// Whether an operation fits the certificate.
-fn is_kept_computing(
-    certificate: &[Option<Node>],
-    slot: u16,
-    node: &Node,
-    width: Width,
-    operation: Operation,
-    dst: Reg,
-    operand: Operand,
-) -> bool
-    ensures { IsTrue result → (s : State) → s.place ≡ slot → Matches certificate.now node.now s →
-        Fits certificate.now (state_after_write s dst (arithmetic_result width operation
-        (slice_index s.registers dst) (operand_in s.registers operand)) 1) }
-{
-    let based = with_base_of_operand(node, &operand);
-    let after = after_operation(&based, width, operation, dst, operand);
-    covers(certificate, usize::from(slot) + 1, &after)
 }
 
 /// The place after a jump that is taken or not, unless that is a negative slot.
@@ -147,7 +120,7 @@ pub fn address_range(row: &Row, base: Reg, offset: i16) -> Option<Range>
 }
 
 /// Whether an access is inside a region; a store may not be to the arguments.
-fn is_inside(node: &Node, base: Reg, offset: i16, size: Size, writes: bool) -> bool
+fn is_inside_at(node: &Node, base: Reg, offset: i16, size: Size, writes: bool) -> bool
     ensures { IsTrue result → (registers : List ℕ) → AreIn node.now.row registers →
         IsThere writes (address_in registers base offset) (octets_in size) }
 {
@@ -157,6 +130,40 @@ fn is_inside(node: &Node, base: Reg, offset: i16, size: Size, writes: bool) -> b
         size.octets() as u64,
         writes,
     )
+}
+
+/// The same of the access of a line, if it has one.
+fn is_inside(node: &Node, line: &Line) -> bool
+    ensures { IsTrue result → (registers : List ℕ) → AreIn node.now.row registers →
+        AccessIsThere line.now registers }
+{
+    match *line {
+        Line::Load {
+            size,
+            base,
+            offset,
+            ..
+        } => is_inside_at(node, base, offset, size, false),
+        Line::LoadExtended {
+            size,
+            base,
+            offset,
+            ..
+        } => is_inside_at(node, base, offset, size_of(size), false),
+        Line::StoreImmediate {
+            size,
+            base,
+            offset,
+            ..
+        } => is_inside_at(node, base, offset, size, true),
+        Line::Store {
+            size,
+            base,
+            offset,
+            ..
+        } => is_inside_at(node, base, offset, size, true),
+        _ => true,
+    }
 }
 
 /// The word, if it is at an address.
@@ -192,66 +199,16 @@ pub fn word_read(node: &Node, base: Reg, offset: i16, size: Size) -> Option<Word
     word_with_address(node.words[index_of(address)], address)
 }
 
-/// Whether a load of a word of which something is known fits the certificate, and else of any.
-fn is_kept_reading(
-    certificate: &[Option<Node>],
-    slot: u16,
-    node: &Node,
-    dst: Reg,
-    base: Reg,
-    offset: i16,
-    size: Size,
-) -> bool
-    ensures { IsTrue result → (s : State) → s.place ≡ slot → Matches certificate.now node.now s →
-        FitsAfter certificate.now s (outcome_by s (load_register s.registers s.memory dst (λ v. v)
-        (number_in_memory s.memory (address_in s.registers base offset) (octets_in size)))
-        NoInstruction) }
+/// What is known after a load.
+fn after_load(node: &Node, dst: Reg, base: Reg, offset: i16, size: Size) -> Node
+    ensures { (certificate : Certificate) (s : State) (v : ℕ) → Matches certificate node.now s →
+        number_in_memory s.memory (address_in s.registers base offset) (octets_in size) ≡ Ok v →
+        v < 256 ^ octets_in size → Matches certificate result (state_after_write s dst v 1) }
 {
-    accesses_are_there();
     match word_read(node, base, offset, size) {
-        Some(word) => {
-            is_inside(node, base, offset, size, false)
-                && covers(
-                    certificate,
-                    usize::from(slot) + 1,
-                    &with_register(node, dst, word.known, word.form),
-                )
-        }
-        None => is_kept_loading(
-            certificate,
-            slot,
-            node,
-            dst,
-            base,
-            offset,
-            size,
-            numbers_of(size),
-        ),
+        Some(word) => with_register(node, dst, word.known, word.form),
+        None => with_register(node, dst, numbers_of(size), None),
     }
-}
-
-/// Whether a load, after which this is known of the value, is inside a region and fits the
-/// certificate.
-fn is_kept_loading(
-    certificate: &[Option<Node>],
-    slot: u16,
-    node: &Node,
-    dst: Reg,
-    base: Reg,
-    offset: i16,
-    size: Size,
-    known: Option<Range>,
-) -> bool
-    ensures { IsTrue result → (s : State) (f : ℕ → ℕ) → s.place ≡ slot →
-        Matches certificate.now node.now s →
-        ((v : ℕ) → v < 256 ^ octets_in size → IsIn known (f v)) →
-        FitsAfter certificate.now s (outcome_by s (load_register s.registers s.memory dst f
-        (number_in_memory s.memory (address_in s.registers base offset) (octets_in size)))
-        NoInstruction) }
-{
-    accesses_are_there();
-    is_inside(node, base, offset, size, false)
-        && is_kept_writing(certificate, slot, 1, node, dst, known)
 }
 
 /// What is known after a store of a number.
@@ -273,79 +230,72 @@ pub fn after_store(
     let at = address_range(&node.row, base, offset);
     let octets = size.octets() as u64;
     Node {
-        row: node.row,
-        forms: node.forms,
         words: words_with(&node.words, at, octets, known, form),
         kept: kept_after(node.kept, at, octets),
-        depth: node.depth,
-        promise: node.promise,
-        spared: node.spared,
+        ..*node
     }
 }
 
-/// Whether a store is inside a region that may be written, and fits the certificate.
-fn is_kept_storing(
-    certificate: &[Option<Node>],
-    slot: u16,
-    node: &Node,
-    base: Reg,
-    offset: i16,
-    size: Size,
-    known: Option<Range>,
-    form: Option<Form>,
-) -> bool
-    ensures { IsTrue result → (s : State) (v : ℕ) → s.place ≡ slot →
-        (m : Matches certificate.now node.now s) → IsIn known v → IsForm form m.bases v →
-        FitsAfter certificate.now s (outcome_by s (store_memory s.registers
-        (memory_after_store s.memory (address_in s.registers base offset) (octets_in size) v))
-        NoInstruction) }
+/// What is known at the next slot after a line that writes a register or the memory.
+pub fn after_line(node: &Node, line: &Line) -> Option<Node>
+    ensures { IfSome result (λ next. (certificate : Certificate) (s : State) →
+        Matches certificate node.now s → AccessIsThere line.now s.registers →
+        LeadsTo certificate next (s.place + slots_in line.now) (step line.now s)) }
 {
     accesses_are_there();
-    is_inside(node, base, offset, size, true)
-        && covers(
-            certificate,
-            usize::from(slot) + 1,
-            &after_store(node, base, offset, size, known, form),
-        )
+    match *line {
+        Line::Negate { dst, .. } => Some(after_write(node, dst, None)),
+        Line::MoveExtended { dst, .. } => Some(after_write(node, dst, None)),
+        Line::ByteOrder { dst, .. } => Some(after_write(node, dst, None)),
+        Line::LoadExtended { dst, .. } => Some(after_write(node, dst, None)),
+        Line::LoadWide { dst, value } => Some(after_write(node, dst, only(value))),
+        Line::Arithmetic {
+            width,
+            operation,
+            dst,
+            operand,
+        } => {
+            let based = with_base_of_operand(node, &operand);
+            Some(after_operation(&based, width, operation, dst, operand))
+        }
+        Line::Load {
+            size,
+            dst,
+            base,
+            offset,
+        } => Some(after_load(node, dst, base, offset, size)),
+        Line::StoreImmediate {
+            size,
+            base,
+            offset,
+            ..
+        } => Some(after_store(node, base, offset, size, None, None)),
+        Line::Store {
+            size,
+            base,
+            offset,
+            src,
+        } => {
+            let based = with_base(node, src);
+            let known = range_of(&based.row, src);
+            let form = form_of(&based.forms, src);
+            Some(after_store(&based, base, offset, size, known, form))
+        }
+        _ => None,
+    }
 }
 
-/// The same of a store of which nothing is known.
-fn is_kept_filling(
-    certificate: &[Option<Node>],
-    slot: u16,
-    node: &Node,
-    base: Reg,
-    offset: i16,
-    size: Size,
-) -> bool
-    ensures { IsTrue result → (s : State) (v : ℕ) → s.place ≡ slot →
-        Matches certificate.now node.now s →
-        FitsAfter certificate.now s (outcome_by s (store_memory s.registers
-        (memory_after_store s.memory (address_in s.registers base offset) (octets_in size) v))
-        NoInstruction) }
-{
-    is_kept_storing(certificate, slot, node, base, offset, size, None, None)
-}
-
-/// Whether a store of a register fits the certificate.
-fn is_kept_saving(
-    certificate: &[Option<Node>],
-    slot: u16,
-    node: &Node,
-    base: Reg,
-    offset: i16,
-    size: Size,
-    src: Reg,
-) -> bool
+/// Whether a line that writes a register or the memory fits the certificate, and its access is
+/// inside a region.
+fn is_kept_moving(certificate: &[Option<Node>], slot: u16, node: &Node, line: &Line) -> bool
     ensures { IsTrue result → (s : State) → s.place ≡ slot → Matches certificate.now node.now s →
-        FitsAfter certificate.now s (outcome_by s (store_memory s.registers
-        (memory_after_store s.memory (address_in s.registers base offset) (octets_in size)
-        (slice_index s.registers src))) NoInstruction) }
+        FitsAfter certificate.now s (step line.now s) }
 {
-    let based = with_base(node, src);
-    let known = range_of(&based.row, src);
-    let form = form_of(&based.forms, src);
-    is_kept_storing(certificate, slot, &based, base, offset, size, known, form)
+    let next = usize::from(slot) + usize::from(line.slots());
+    match after_line(node, line) {
+        Some(after) => is_inside(node, line) && covers(certificate, next, &after),
+        None => false,
+    }
 }
 
 /// Whether an engine call fits the certificate, whatever it answers.
@@ -361,26 +311,44 @@ fn is_kept_calling(certificate: &[Option<Node>], slot: u16, node: &Node, number:
     )
 }
 
-/// Whether both ways of a conditional jump fit the certificate, by what its test shows.
-fn is_kept_branching(
-    certificate: &[Option<Node>],
-    slot: u16,
-    node: &Node,
-    width: Width,
-    comparison: Comparison,
-    dst: Reg,
-    operand: Operand,
-    distance: i32,
-) -> bool
-    ensures { IsTrue result → (s : State) → s.place ≡ slot → Matches certificate.now node.now s →
-        FitsAfter certificate.now s (outcome_by s (move_by_jump s.registers s.memory
-        (if is_taken width comparison (slice_index s.registers dst) (operand_in s.registers operand)
-        then Some distance else None)) NoInstruction) }
+/// What is known of the first operand of a conditional jump after a test that held, or did not.
+pub fn range_by_test(row: &Row, line: &Line, held: bool) -> Option<Range>
+    ensures { (width : Width) (comparison : Comparison) (dst : ℕ) (operand : Operand)
+        (distance : ℤ) (registers : List ℕ) →
+        line.now ≡ kind.JumpIf width comparison dst operand distance → AreIn row.now registers →
+        is_taken width comparison (slice_index registers dst) (operand_in registers operand)
+        ≡ held → IsIn result (slice_index registers dst) }
 {
-    let first = range_of(&node.row, dst);
-    let second = range_of_operand(&node.row, operand);
-    let taken = refinement(width, comparison, true, first, second);
-    let passed = refinement(width, comparison, false, first, second);
+    match *line {
+        Line::JumpIf {
+            width,
+            comparison,
+            dst,
+            operand,
+            ..
+        } => {
+            let test = Test {
+                width,
+                comparison,
+                held,
+            };
+            refinement(test, range_of(row, dst), range_of_operand(row, operand))
+        }
+        _ => None,
+    }
+}
+
+/// Whether both ways of a conditional jump fit the certificate, by what its test shows.
+fn is_kept_branching(certificate: &[Option<Node>], slot: u16, node: &Node, line: &Line) -> bool
+    ensures { IsTrue result → (s : State) → s.place ≡ slot → Matches certificate.now node.now s →
+        FitsAfter certificate.now s (step line.now s) }
+{
+    let Line::JumpIf { dst, distance, .. } = *line else {
+        return false;
+    };
+    let taken = range_by_test(&node.row, line, true);
+    let passed = range_by_test(&node.row, line, false);
+    let distance = i32::from(distance);
     is_kept_jumping(certificate, slot, Some(distance), node, dst, taken)
         && is_kept_jumping(certificate, slot, None, node, dst, passed)
 }
@@ -405,26 +373,12 @@ pub fn at_call(node: &Node, pointer: Option<Range>, promise: Option<Range>, spar
     Node {
         row,
         forms,
-        words: node.words,
         kept: 0,
         depth: node.depth + 1,
         promise,
         spared,
+        ..*node
     }
-}
-
-/// Whether what the certificate says at two places follows from a node each.
-fn covers_both(
-    certificate: &[Option<Node>],
-    first: usize,
-    from_first: &Node,
-    second: usize,
-    from_second: &Node,
-) -> bool
-    ensures first { IsTrue result → Covers certificate.now first from_first.now }
-    ensures second { IsTrue result → Covers certificate.now second from_second.now }
-{
-    covers(certificate, first, from_first) && covers(certificate, second, from_second)
 }
 
 /// Whether a local call is not too deep, and fits the certificate both at its first slot and after
@@ -445,13 +399,7 @@ fn is_kept_opening(certificate: &[Option<Node>], slot: u16, distance: i32, node:
     let pointer = sum(node.row[10], only(FRAME_OCTETS.wrapping_neg()));
     let called = at_call(node, pointer, first.promise, first.spared);
     let returned = after_return(node, first.promise, first.spared);
-    covers_both(
-        certificate,
-        place,
-        &called,
-        usize::from(slot) + 1,
-        &returned,
-    )
+    covers(certificate, place, &called) && covers(certificate, usize::from(slot) + 1, &returned)
 }
 
 /// Whether R0 and the stack are as it was promised for the end of the innermost local call.
@@ -477,99 +425,26 @@ pub fn is_kept(certificate: &[Option<Node>], slot: u16, node: &Node, line: Line)
     ensures { IsTrue result → (s : State) → s.place ≡ slot → Matches certificate.now node.now s →
         FitsAfter certificate.now s (step line s) }
 {
+    let r0 = Reg::zero();
+    let known = range_of(&node.row, r0);
     match line {
-        Line::Arithmetic {
-            width,
-            operation,
-            dst,
-            operand,
-        } => is_kept_computing(certificate, slot, node, width, operation, dst, operand),
-        Line::Negate { dst, .. } => is_kept_writing(certificate, slot, 1, node, dst, None),
-        Line::MoveExtended { dst, .. } => { is_kept_writing(certificate, slot, 1, node, dst, None) }
-        Line::ByteOrder { dst, .. } => is_kept_writing(certificate, slot, 1, node, dst, None),
         Line::Jump { distance } => {
             is_kept_jumping(
                 certificate,
                 slot,
                 Some(i32::from(distance)),
                 node,
-                Reg::zero(),
-                range_of(&node.row, Reg::zero()),
+                r0,
+                known,
             )
         }
         Line::LongJump { distance } => {
-            is_kept_jumping(
-                certificate,
-                slot,
-                Some(distance),
-                node,
-                Reg::zero(),
-                range_of(&node.row, Reg::zero()),
-            )
+            is_kept_jumping(certificate, slot, Some(distance), node, r0, known)
         }
-        Line::JumpIf {
-            width,
-            comparison,
-            dst,
-            operand,
-            distance,
-        } => {
-            is_kept_branching(
-                certificate,
-                slot,
-                node,
-                width,
-                comparison,
-                dst,
-                operand,
-                i32::from(distance),
-            )
-        }
+        Line::JumpIf { .. } => is_kept_branching(certificate, slot, node, &line),
         Line::Call { number } => is_kept_calling(certificate, slot, node, number),
         Line::CallLocal { distance } => is_kept_opening(certificate, slot, distance, node),
         Line::Exit => is_kept_ending(certificate, node),
-        Line::LoadWide { dst, value } => is_kept_writing(
-            certificate,
-            slot,
-            2,
-            node,
-            dst,
-            only(value),
-        ),
-        Line::Load {
-            size,
-            dst,
-            base,
-            offset,
-        } => is_kept_reading(certificate, slot, node, dst, base, offset, size),
-        Line::LoadExtended {
-            size,
-            dst,
-            base,
-            offset,
-        } => {
-            is_kept_loading(
-                certificate,
-                slot,
-                node,
-                dst,
-                base,
-                offset,
-                size_of(size),
-                None,
-            )
-        }
-        Line::StoreImmediate {
-            size,
-            base,
-            offset,
-            ..
-        } => is_kept_filling(certificate, slot, node, base, offset, size),
-        Line::Store {
-            size,
-            base,
-            offset,
-            src,
-        } => is_kept_saving(certificate, slot, node, base, offset, size, src),
+        _ => is_kept_moving(certificate, slot, node, &line),
     }
 }

@@ -1,6 +1,11 @@
 -- What a certificate says of an image.
-use Rattle.std.specs.Prelude.{◌≡◌, ◌≤◌, ◌<◌, ℕ, ◌+◌, List, [], ◌∷◌, length, slice_get, Option, Some}
+use Rattle.std.specs.Prelude.{◌≡◌, ◌≤◌, ◌<◌, ℕ, ◌+◌, List, [], ◌∷◌, length, slice_get, Option, Some, true, false}
 use Rattle.ocp_profile.specs.declared.profile.Profile.{Profile}
+use Rattle.bpf_types.specs.declared.line.Line.{Line}
+use Rattle.bpf_types.specs.declared.line.Line.TheVariants as line
+use Rattle.bpf_types.specs.Line.{octets_in}
+use Rattle.bpf_values.specs.Value.{size_of}
+use Rattle.bpf_moves.specs.Moves.{address_in}
 use Rattle.ocp_regions.specs.Access.{HasOctets}
 use Rattle.bpf_step.specs.declared.answer.Need.TheVariants as need
 use Rattle.bpf_step.specs.Machine.{State, Outcome, Next, Needs, NoInstruction, HasMemoryOf}
@@ -8,7 +13,7 @@ use Rattle.bpf_step.specs.Calls.{state_after_engine_call}
 use Rattle.bpf_step.specs.Answers.{IsAnswer}
 use Rattle.ocp_check.specs.declared.range.Range.{Range}
 use Rattle.ocp_check.specs.declared.certificate.Node.{Node}
-use Rattle.ocp_check.specs.Mirror.Ranges.{IsIn, AreIn}
+use Rattle.ocp_check.specs.Mirror.Ranges.{IsIn, AreIn, IsThere}
 use Rattle.ocp_regions.specs.Memory.{Octets}
 use Rattle.ocp_check.specs.Mirror.Forms.{AreFormed}
 use Rattle.ocp_check.specs.Mirror.Words.{AreWords}
@@ -67,6 +72,23 @@ pub record Fits (certificate : Certificate) (s : State) : Type 0 where
   pub node : Node
   pub found : slice_get certificate s.place ≡ Some (Some node)
   pub stands : Matches certificate node s
+
+-- the access of a line is in a region, if it has one
+abbrev pub AccessIsThere : Line → List ℕ → Type 0
+AccessIsThere (line.Load size dst base offset) rs =
+    IsThere false (address_in rs base offset) (octets_in size)
+AccessIsThere (line.LoadExtended size dst base offset) rs =
+    IsThere false (address_in rs base offset) (octets_in (size_of size))
+AccessIsThere (line.StoreImmediate size base offset value) rs =
+    IsThere true (address_in rs base offset) (octets_in size)
+AccessIsThere (line.Store size base offset src) rs =
+    IsThere true (address_in rs base offset) (octets_in size)
+AccessIsThere _ rs = Unit {0}
+
+-- a machine goes on at a place, and is as a node says
+abbrev pub LeadsTo : Certificate → Node → ℕ → Outcome → Type 0
+LeadsTo certificate node place (Next t) = (t.place ≡ place) × Matches certificate node t
+LeadsTo certificate node place _ = ⊥
 
 -- so are those that come next, and there is no fault
 abbrev pub FitsAfter : Certificate → State → Outcome → Type 0

@@ -8,7 +8,7 @@ use Rattle.ocp_check.proofs.rounds.branch_lowers.Goals as goal
 pub returns-then-jump_lowers : goal.returns-then-jump_lowers
 returns-then-jump_lowers c = λ h s most taken e i a f.
     let same : to_z w32 (of_z w32 c.args.distance) ≡ c.args.distance = search (rules, c.ranges.distance.sfits) in
-    falls_either c.args.ranks.now c.args.counters.now c.args.certificate.now most s taken c.args.distance
-    (λ j. subst (λ z. Falls c.args.ranks.now c.args.counters.now most s (Next (state_after_jump s (Some z)))) same
-    (c.jump_lowers.ensures c.if-jump_lowers.true s most e i a (subst (λ z. Fits c.args.certificate.now (state_after_jump s (Some z))) (sym same) j)))
+    falls_either c.args.all.now.ranks.now c.args.all.now.counters.now c.args.all.now.nodes.now most s taken c.args.distance
+    (λ j. subst (λ z. Falls c.args.all.now.ranks.now c.args.all.now.counters.now most s (Next (state_after_jump s (Some z)))) same
+    (c.jump_lowers.ensures c.if-jump_lowers.true s most e i a (subst (λ z. Fits c.args.all.now.nodes.now (state_after_jump s (Some z))) (sym same) j)))
     (λ j. c.jump_lowers-then-jump_lowers.ensures h s most e i a j) f

@@ -5,5 +5,5 @@ use Rattle.ocp_check.proofs.rounds.store_lowers.Goals as goal
 
 pub returns : goal.returns
 returns c = λ h s most written e i a f.
-    falls_store c.args.ranks.now c.args.counters.now c.args.certificate.now most s written
+    falls_store c.args.all.now.ranks.now c.args.all.now.counters.now c.args.all.now.nodes.now most s written
     (λ t p r k. let q : t.place ≡ c.from.result + 1 = omega (arith, p, e, c.from.ensures) in c.lowers.ensures h s t e i q k (moved_kept s.registers t.registers r)) a f
