@@ -91,22 +91,6 @@ fn form_with_number(operation: Operation, a: Form, number: u64) -> Option<Form>
     }
 }
 
-/// The form of a sum of 64 bits, if one of its numbers is known.
-fn form_of_addition(
-    a: Option<Form>,
-    b: Option<Form>,
-    first: Option<Range>,
-    second: Option<Range>,
-) -> Option<Form>
-    ensures { (bases : ℕ → ℕ) (x y : ℕ) → IsIn first x → IsIn second y → IsForm a bases x →
-        IsForm b bases y → IsForm result bases ((x + y) % 2 ^ 64) }
-{
-    match (number_of(second), a) {
-        (Some(number), Some(a)) => Some(form_of_sum(a, number)),
-        _ => form_of_sum_with(number_of(first), b),
-    }
-}
-
 /// The form of a sum whose first number may be known.
 fn form_of_sum_with(first: Option<u64>, b: Option<Form>) -> Option<Form>
     ensures { (bases : ℕ → ℕ) (x y : ℕ) → IfSome first (λ number. x ≡ number) →
@@ -132,7 +116,10 @@ pub fn form_of_result(
 {
     match (width, operation) {
         (_, Operation::Mov) => form_of_move(width, b?, second?),
-        (Width::W64, Operation::Add) => form_of_addition(a, b, first, second),
+        (Width::W64, Operation::Add) => match (number_of(second), a) {
+            (Some(number), Some(a)) => Some(form_of_sum(a, number)),
+            _ => form_of_sum_with(number_of(first), b),
+        },
         (Width::W64, _) => form_with_number(operation, a?, number_of(second)?),
         _ => None,
     }

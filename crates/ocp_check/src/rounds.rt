@@ -77,15 +77,16 @@ pub fn step_of_line(node: &Node, line: &Line) -> Step
         (arithmetic_result width operation (slice_index s.registers dst)
         (operand_in s.registers operand)) }
 {
-    match *line {
-        Line::Arithmetic {
-            width,
-            operation,
-            dst,
-            operand,
-        } => step_by(node, width, operation, dst, operand),
-        _ => Anywhere,
-    }
+    let Line::Arithmetic {
+        width,
+        operation,
+        dst,
+        operand,
+    } = *line
+    else {
+        return Anywhere;
+    };
+    step_by(node, width, operation, dst, operand)
 }
 
 /// One register is changed.
