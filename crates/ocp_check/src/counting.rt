@@ -12,7 +12,7 @@ use bpf_types::Reg;
 pub const COUNTERS: usize = 8;
 
 /// A register that comes nearer to a limit, from below or from above.
-#[derive(Clone, Copy, Debug)]
+#[derive(Clone, Copy, PartialEq, Eq, Debug)]
 pub struct Counter {
     pub register: Reg,
     pub rises: bool,

@@ -10,7 +10,7 @@ use crate::certificate::{Node, after_return};
 use crate::checker::{at_start, is_kept_at};
 use crate::covering::{node_at, with_known};
 use crate::form::Form;
-use crate::range::{Range, follows, is_empty, lesser, only, stride_of, sum};
+use crate::range::{Range, is_empty, lesser, only, stride_of, sum};
 use crate::steps::{after_line, at_call, range_by_test, target};
 use crate::tying::{CELLS, are_same_forms, cells_of, narrow_by_forms, ties_of};
 use crate::word::{WORDS, Word};
@@ -132,20 +132,6 @@ fn widening(landmarks: &[u64], old: Option<Range>, new: Option<Range>) -> Option
     })
 }
 
-/// Whether two ranges are the same.
-fn is_same(a: Option<Range>, b: Option<Range>) -> bool {
-    match (a, b) {
-        (None, None) => true,
-        (Some(a), Some(b)) => {
-            a.low == b.low
-                && a.high == b.high
-                && follows(a.stride, b.stride)
-                && follows(b.stride, a.stride)
-        }
-        _ => false,
-    }
-}
-
 /// What becomes of a range that grows to `new` at a slot.
 fn growth(
     landmarks: &[u64],
@@ -154,7 +140,7 @@ fn growth(
     old: Option<Range>,
     new: Option<Range>,
 ) -> Option<Range> {
-    if is_same(old, new) {
+    if old == new {
         old
     } else if pass >= WIDE_PASSES {
         None
@@ -204,7 +190,7 @@ fn is_same_word(a: Option<Word>, b: Option<Word>) -> bool {
 fn is_same_node(a: &Node, b: &Node) -> bool {
     let (first, second) = (cells_of(a, a), cells_of(b, b));
     for k in 0..CELLS {
-        if !is_same(first.row[k], second.row[k]) {
+        if first.row[k] != second.row[k] {
             return false;
         }
     }
@@ -294,11 +280,7 @@ impl<A: Allocator> Search<A> {
             Some(end) => hull(end, node.row[0]),
             None => node.row[0],
         };
-        let is_known = match self.end {
-            Some(old) => is_same(old, end),
-            None => false,
-        };
-        if !is_known {
+        if self.end != Some(end) {
             self.end = Some(if self.pass < WIDE_PASSES { end } else { None });
             self.has_changed = true;
         }

@@ -12,7 +12,7 @@ use bpf_types::{Operation, Width};
 
 /// A number as `times` the number of a base and `plus` more, modulo 2 ^ 64. Numbers of one base are
 /// tied to one another.
-#[derive(Clone, Copy, Debug)]
+#[derive(Clone, Copy, PartialEq, Eq, Debug)]
 pub struct Form {
     pub base: u8,
     pub times: u64,

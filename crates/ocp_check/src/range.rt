@@ -16,7 +16,7 @@ const WORK: u64 = 0x3000_0000;
 const WORK_OCTETS: u64 = 1024;
 
 /// Numbers of which each is a multiple of one, two, four or eight.
-#[derive(Clone, Copy, Debug)]
+#[derive(Clone, Copy, PartialEq, Eq, Debug)]
 pub enum Stride {
     One,
     Two,
@@ -26,7 +26,7 @@ pub enum Stride {
 
 /// The numbers from `low` to `high` that are multiples of the stride. If `high` is less there is
 /// none: a machine of which this is known never comes about.
-#[derive(Clone, Copy, Debug)]
+#[derive(Clone, Copy, PartialEq, Eq, Debug)]
 pub struct Range {
     pub low: u64,
     pub high: u64,

@@ -264,14 +264,6 @@ fn counter_of<A: Allocator>(
     found
 }
 
-/// Whether two counters are the same.
-fn is_same(a: &Counter, b: &Counter) -> bool {
-    a.register.number() == b.register.number()
-        && a.rises == b.rises
-        && a.limit == b.limit
-        && a.weight == b.weight
-}
-
 impl<A: Allocator> Ranking<A> {
     /// The ranks, with what is known at the slots.
     pub fn by<'a>(&'a self, nodes: &'a [Option<Node>]) -> Ranks<'a> {
@@ -333,7 +325,7 @@ impl<A: Allocator> Ranking<A> {
     /// The number of a counter, which may count in another loop too; of a new one if there is room.
     fn number_of(&mut self, counter: Counter) -> Result<Option<usize>, AllocError> {
         for (number, other) in self.counters.iter().enumerate() {
-            if is_same(&counter, other) {
+            if counter == *other {
                 return Ok(Some(number));
             }
         }

@@ -41,19 +41,10 @@ pub fn cells_of(node: &Node, other: &Node) -> Cells {
     cells
 }
 
-/// Whether two registers have the same forms, or none.
-fn is_same_form(a: Option<Form>, b: Option<Form>) -> bool {
-    match (a, b) {
-        (None, None) => true,
-        (Some(a), Some(b)) => a.base == b.base && a.times == b.times && a.plus == b.plus,
-        _ => false,
-    }
-}
-
 /// Whether all registers have the same forms.
 pub fn are_same_forms(a: &[Option<Form>; CELLS], b: &[Option<Form>; CELLS]) -> bool {
     for k in 0..CELLS {
-        if !is_same_form(a[k], b[k]) {
+        if a[k] != b[k] {
             return false;
         }
     }
