@@ -10,7 +10,7 @@ use crate::word::{Words, above, later};
 pub type Row = [Option<Range>; 11];
 
 /// What is known of each machine whose place is a slot.
-#[derive(Clone, Copy, Debug)]
+#[derive(Clone, Copy, PartialEq, Eq, Debug)]
 pub struct Node {
     pub row: Row,
     /// Which registers are tied to one another.

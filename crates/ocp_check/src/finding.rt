@@ -12,7 +12,7 @@ use crate::covering::{node_at, with_known};
 use crate::form::Form;
 use crate::range::{Range, is_empty, lesser, only, stride_of, sum};
 use crate::steps::{after_line, at_call, range_by_test, target};
-use crate::tying::{CELLS, are_same_forms, cells_of, narrow_by_forms, ties_of};
+use crate::tying::{CELLS, cells_of, narrow_by_forms, ties_of};
 use crate::word::{WORDS, Word};
 use bpf_step::{FRAME_OCTETS, MAX_LOCAL_CALLS};
 use bpf_types::{Line, Operand, Reg};
@@ -177,31 +177,6 @@ fn node_of(
     node
 }
 
-/// Whether the words at an index are the same, if there are any.
-fn is_same_word(a: Option<Word>, b: Option<Word>) -> bool {
-    match (a, b) {
-        (None, None) => true,
-        (Some(a), Some(b)) => a.address == b.address,
-        _ => false,
-    }
-}
-
-/// Whether two nodes say the same, but for promises.
-fn is_same_node(a: &Node, b: &Node) -> bool {
-    let (first, second) = (cells_of(a, a), cells_of(b, b));
-    for k in 0..CELLS {
-        if first.row[k] != second.row[k] {
-            return false;
-        }
-    }
-    for k in 0..WORDS {
-        if !is_same_word(a.words[k], b.words[k]) {
-            return false;
-        }
-    }
-    are_same_forms(&first.forms, &second.forms) && a.depth == b.depth && a.kept == b.kept
-}
-
 impl<A: Allocator> Search<A> {
     /// A machine that is as the node says may come from a slot to a place.
     fn enter(&mut self, slot: u16, place: usize, from: &Node) {
@@ -234,7 +209,7 @@ impl<A: Allocator> Search<A> {
         let mut joined = node_of(&old, from, &row, &forms);
         joined.depth = joined.depth.max(from.depth);
         joined.kept = joined.kept.max(from.kept);
-        if !is_same_node(&joined, &old) {
+        if joined != old {
             self.nodes[place] = Some(joined);
             self.has_changed = true;
         }

@@ -41,16 +41,6 @@ pub fn cells_of(node: &Node, other: &Node) -> Cells {
     cells
 }
 
-/// Whether all registers have the same forms.
-pub fn are_same_forms(a: &[Option<Form>; CELLS], b: &[Option<Form>; CELLS]) -> bool {
-    for k in 0..CELLS {
-        if a[k] != b[k] {
-            return false;
-        }
-    }
-    true
-}
-
 /// A base of which no cell is, if there is one.
 fn base_left(forms: &[Option<Form>; CELLS]) -> Option<u8> {
     for base in 0..BASES as u8 {

@@ -19,7 +19,7 @@ pub const WORDS: usize = 8;
 const STACK_END: u64 = 0x1000_1000;
 
 /// A word of the stack: what is known of the number there, and its form.
-#[derive(Clone, Copy, Debug)]
+#[derive(Clone, Copy, PartialEq, Eq, Debug)]
 pub struct Word {
     pub address: u64,
     pub known: Option<Range>,
