@@ -9,7 +9,7 @@ ghost use Rattle.ocp_check.specs.Mirror.Forms.{IsForm, AreFormed, bases_after};
 ghost use Rattle.ocp_check.specs.Mirror.Fits.{Certificate, Covers, Fits, Matches};
 
 use crate::certificate::{Node, Row};
-use crate::form::{BASES, Form, Forms, form_of_known, is_shifted, range_by_tie};
+use crate::form::{BASES, Form, Forms, form_of_known, form_of_sum, is_shifted, range_by_tie};
 use crate::range::{Range, is_within, only};
 use crate::word::{WORDS, Words, free_base, is_word_shifted};
 use bpf_types::{Operand, Reg};
@@ -68,11 +68,7 @@ pub fn covers(certificate: &[Option<Node>], place: usize, from: &Node) -> bool
 fn add_shift(shifts: &mut [Form; BASES], to: Option<Form>, form: Option<Form>) {
     if let (Some(to), Some(form)) = (to, form) {
         if to.times == 1 && usize::from(to.base) < BASES {
-            shifts[usize::from(to.base)] = Form {
-                base: form.base,
-                times: form.times,
-                plus: form.plus.wrapping_sub(to.plus),
-            };
+            shifts[usize::from(to.base)] = form_of_sum(form, to.plus.wrapping_neg());
         }
     }
 }

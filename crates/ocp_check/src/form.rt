@@ -41,14 +41,13 @@ pub fn form_of_known(known: Option<Range>, form: Option<Form>) -> Option<Form>
 }
 
 /// The form of a sum with a number.
-fn form_of_sum(a: Form, number: u64) -> Form
+pub fn form_of_sum(a: Form, number: u64) -> Form
     ensures { (bases : ℕ → ℕ) (x : ℕ) → IsForm (Some a) bases x →
         IsForm (Some result) bases ((x + number) % 2 ^ 64) }
 {
     Form {
-        base: a.base,
-        times: a.times,
         plus: a.plus.wrapping_add(number),
+        ..a
     }
 }
 

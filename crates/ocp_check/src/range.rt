@@ -167,9 +167,7 @@ pub fn is_within(inner: Option<Range>, outer: Option<Range>) -> bool
 pub fn sum(a: Option<Range>, b: Option<Range>) -> Option<Range>
     ensures { (x y : ℕ) → IsIn a x → IsIn b y → IsIn result ((x + y) % 2 ^ 64) }
 {
-    let (Some(a), Some(b)) = (a, b) else {
-        return None;
-    };
+    let (a, b) = (a?, b?);
     let stride = lesser(stride_of(a), stride_of(b));
     match (a.low.checked_add(b.low), a.high.checked_add(b.high)) {
         (Some(low), Some(high)) => Some(Range { low, high, stride }),
@@ -186,9 +184,7 @@ pub fn sum(a: Option<Range>, b: Option<Range>) -> Option<Range>
 fn difference(a: Option<Range>, b: Option<Range>) -> Option<Range>
     ensures { (x y : ℕ) → IsIn a x → IsIn b y → IsIn result ((x + (2 ^ 64 - y)) % 2 ^ 64) }
 {
-    let (Some(a), Some(b)) = (a, b) else {
-        return None;
-    };
+    let (a, b) = (a?, b?);
     if b.high <= a.low && b.low <= b.high && a.low <= a.high {
         between(a.low - b.high, a.high - b.low)
     } else {
@@ -200,9 +196,7 @@ fn difference(a: Option<Range>, b: Option<Range>) -> Option<Range>
 pub fn product(a: Option<Range>, b: Option<Range>) -> Option<Range>
     ensures { (x y : ℕ) → IsIn a x → IsIn b y → IsIn result ((x * y) % 2 ^ 64) }
 {
-    let (Some(a), Some(b)) = (a, b) else {
-        return None;
-    };
+    let (a, b) = (a?, b?);
     between(a.low.checked_mul(b.low)?, a.high.checked_mul(b.high)?)
 }
 
@@ -263,9 +257,7 @@ fn conjunction(b: Option<Range>) -> Option<Range>
 fn disjunction(a: Option<Range>, b: Option<Range>) -> Option<Range>
     ensures { (x y : ℕ) → IsIn a x → IsIn b y → IsIn result (bit_or x y) }
 {
-    let (Some(a), Some(b)) = (a, b) else {
-        return None;
-    };
+    let (a, b) = (a?, b?);
     between(a.low.max(b.low), a.high.checked_add(b.high)?)
 }
 
@@ -326,9 +318,8 @@ fn at_most(a: Option<Range>, greatest: u64) -> Option<Range>
     match a {
         None => between(0, greatest),
         Some(a) => Some(Range {
-            low: a.low,
             high: a.high.min(greatest),
-            stride: a.stride,
+            ..a
         }),
     }
 }
@@ -340,8 +331,7 @@ fn at_least(a: Option<Range>, least: u64) -> Option<Range>
     let a = a?;
     Some(Range {
         low: a.low.max(least),
-        high: a.high,
-        stride: a.stride,
+        ..a
     })
 }
 

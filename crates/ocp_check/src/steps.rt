@@ -172,14 +172,8 @@ fn word_with_address(word: Option<Word>, address: u64) -> Option<Word>
         number_in_memory m address 8 ≡ Ok v → IsIn found.known v × IsForm found.form bases v) }
 {
     match word {
-        Some(word) => {
-            if word.address == address {
-                Some(word)
-            } else {
-                None
-            }
-        }
-        None => None,
+        Some(word) if word.address == address => Some(word),
+        _ => None,
     }
 }
 

@@ -2,7 +2,9 @@
 //! Nothing rests on it: `check` tests what it finds.
 
 use crate::certificate::Node;
-use crate::form::{BASES, Form, form_of_known, is_of_base, is_shifted_by, range_by_tie};
+use crate::form::{
+    BASES, Form, form_of_known, form_of_sum, is_of_base, is_shifted_by, range_by_tie,
+};
 use crate::range::{Range, number_of};
 use crate::word::WORDS;
 
@@ -132,11 +134,7 @@ fn shift_by(from: &Cells, forms: &[Option<Form>; CELLS], anchor: usize) -> Optio
     if to.times != 1 {
         return None;
     }
-    Some(Form {
-        base: form.base,
-        times: form.times,
-        plus: form.plus.wrapping_sub(to.plus),
-    })
+    Some(form_of_sum(form, to.plus.wrapping_neg()))
 }
 
 /// Whether a register follows a shift of its base.
@@ -217,11 +215,7 @@ fn with_adopted(
         for k in 0..CELLS {
             if let Some(form) = from.forms[k] {
                 if form.base == base && is_plain(old.row[k], old.forms[k]) {
-                    more[k] = Some(Form {
-                        base: free,
-                        times: form.times,
-                        plus: form.plus,
-                    });
+                    more[k] = Some(Form { base: free, ..form });
                 }
             }
         }

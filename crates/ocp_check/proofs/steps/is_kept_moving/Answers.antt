@@ -1,4 +1,4 @@
-use Rattle.std.proofs.Common.{rules, ◌≡◌, ◌+◌, sym, subst, arith}
+use Rattle.std.proofs.Common.{◌≡◌, ◌+◌, subst, arith}
 use Rattle.bpf_types.specs.Line.{slots_in}
 use Rattle.bpf_step.specs.Step.{step}
 use Rattle.ocp_check.specs.Mirror.Fits.{LeadsTo}
