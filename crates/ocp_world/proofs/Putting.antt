@@ -13,26 +13,15 @@ use Rattle.ocp_world.specs.declared.state.State.{State}
 pub there : (index n : ℕ) → index < n → nat_lt index n ≡ true
 there index n is = grind (arith, nat_tests)
 
--- what it leaves and whether it is accepted, by whether the index is there
+-- whether it is accepted, by whether the index is there
 accepted_if : (b : Bool) (index value : ℕ) (w : World) → is_accepted (answer_by (put_effect_if b index value).reply w) ≡ b
 accepted_if true index value w = refl
 accepted_if false index value w = refl
 
-records_if : (b : Bool) (index value : ℕ) (w : World) → (world_after (put_effect_if b index value) w).records ≡ w.records
-records_if true index value w = refl
-records_if false index value w = refl
-
-outbox_if : (b : Bool) (index value : ℕ) (w : World) → (world_after (put_effect_if b index value) w).outbox ≡ w.outbox
-outbox_if true index value w = append-nil w.outbox
-outbox_if false index value w = append-nil w.outbox
-
-reports_if : (b : Bool) (index value : ℕ) (w : World) → (world_after (put_effect_if b index value) w).reports ≡ w.reports
-reports_if true index value w = refl
-reports_if false index value w = refl
-
-traces_if : (b : Bool) (index value : ℕ) (w : World) → (world_after (put_effect_if b index value) w).traces ≡ w.traces
-traces_if true index value w = append-nil w.traces
-traces_if false index value w = append-nil w.traces
+-- what it leaves as it was, whether the index is there or not
+kept_if : (b : Bool) (index value : ℕ) (w : World) → let left = world_after (put_effect_if b index value) w in (left.records ≡ w.records) × (left.outbox ≡ w.outbox) × (left.reports ≡ w.reports) × (left.traces ≡ w.traces)
+kept_if true index value w = (refl, append-nil w.outbox, refl, append-nil w.traces)
+kept_if false index value w = (refl, append-nil w.outbox, refl, append-nil w.traces)
 
 module _ (w : World) (by index value : ℕ) where
   abbrev test : Bool
@@ -45,16 +34,16 @@ module _ (w : World) (by index value : ℕ) where
   put_word_set is = ap (λ b. (world_after (put_effect_if b index value) w).pool) (there index (length w.pool) is)
 
   pub put_keeps_records : (after w (Put by index value)).world.records ≡ w.records
-  put_keeps_records = records_if test index value w
+  put_keeps_records = (kept_if test index value w).0
 
   pub put_keeps_outbox : (after w (Put by index value)).world.outbox ≡ w.outbox
-  put_keeps_outbox = outbox_if test index value w
+  put_keeps_outbox = (kept_if test index value w).1
 
   pub put_keeps_reports : (after w (Put by index value)).world.reports ≡ w.reports
-  put_keeps_reports = reports_if test index value w
+  put_keeps_reports = (kept_if test index value w).2
 
   pub put_keeps_traces : (after w (Put by index value)).world.traces ≡ w.traces
-  put_keeps_traces = traces_if test index value w
+  put_keeps_traces = (kept_if test index value w).3
 
 module _ {A : Type 0} (w : World) (s : State A) (stands : IsWorld w s) (by index value : ℕ) (low : index < length s.pool) (pool : List ℕ) (is : pool ≡ slice_set s.pool index value) where
   put_here : IsWorld (world_after (put_effect_if true index value) w) (record s { pool = pool })
