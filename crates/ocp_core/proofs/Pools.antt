@@ -27,6 +27,7 @@ use Rattle.ocp_world.specs.Replay.{replay}
 use Rattle.ocp_core.specs.History.{Does}
 use Rattle.ocp_core.specs.Pool.{operation_by, operation_by_change, operation_by_outcome, with_operation, add_operation, operations, pool_from, pool_after, PoolIsOfOperations, IsAnswered, CallsAreAnswered, AnswersWord, CallsAnswerWords, is_pool_call, IsOutside, FaultsOutside}
 use Rattle.ocp_core.proofs.Honest.{IsNext, IsHonest, honest_in}
+use Rattle.ocp_core.proofs.Arguments.{AreFew}
 use Rattle.ocp_core.proofs.Carried.{carried}
 
 -- ---- the pool
@@ -61,7 +62,7 @@ pool_is profile apid words es = carried {T = ℕ} add_operation (λ effect t. t)
 
 -- it is that of the record's next instruction
 pub next_of : (w : World) (by id : ℕ) (outcome : InstructionOutcome) → Does w by id outcome → IsNext (get w.records id) w.pool outcome
-next_of w by id outcome is = subst (IsHonest w.profile w.records w.pool) is (honest_in w.profile w.records w.pool (Step w.pool) id refl)
+next_of w by id outcome is = subst (IsHonest w.profile w.records w.pool) is (honest_in AreFew w.profile w.records w.pool (Step w.pool) id refl)
 
 -- and that instruction is done
 pub does_next : (w : World) (by id : ℕ) (outcome : InstructionOutcome) → IsNext (get w.records id) w.pool outcome → Does w by id outcome
