@@ -90,7 +90,7 @@ module _ (images : ImagesStay) (reached : MachinesAreReached) (machine_faults : 
   no_machine_fault image never profile apid words es by id f has loaded does =
       let met = (machine_faults profile apid words es by id f).0 does in
       let at = reached_at image profile apid words es id met.rec has loaded met.is in
-      never met.rec.machine f at.1 (subst (λ code. one_step code met.rec.machine ≡ Needs (need.Fault f)) at.0 met.meets)
+      never met.rec.machine f at.1 (subst (λ code. one_step code met.rec.machine ≡ Needs (need.Fault f)) at.0 met.needs)
 
   no_fault : (image : List ℕ) → NeverFaults image → (profile : Profile) (apid words : ℕ) (es : List Event) (by id number : ℕ) (f : ProcedureFault) → All IsOfOctets es → image_after profile apid words es id ≡ Some image → number ≤ 3 → Does (replay profile apid words es) by id (Faulted f) → fault_number f ≡ number → ⊥
   no_fault image never profile apid words es by id number (fault.Machine f) has loaded low does is = no_machine_fault image never profile apid words es by id f has loaded does
@@ -117,7 +117,7 @@ module _ (images : ImagesStay) (reached : MachinesAreReached) (machine_faults : 
         let at = reached_at image profile apid words es id r has loaded out.calls.is in
         let not_four : out.number ≢ pos 4 = λ e. let no : false ≡ true = subst (λ n. is_pool_call (unsigned_abs n) ≡ true) e out.of_pool in absurd cc in
         let not_five : out.number ≢ pos 5 = λ e. let no : false ≡ true = subst (λ n. is_pool_call (unsigned_abs n) ≡ true) e out.of_pool in absurd cc in
-        let within : read r.machine 1 < asked = asks r.machine out.number at.1 (subst (λ code. one_step code r.machine ≡ Needs (need.Call out.number)) at.0 out.calls.calls) not_four not_five in
+        let within : read r.machine 1 < asked = asks r.machine out.number at.1 (subst (λ code. one_step code r.machine ≡ Needs (need.Call out.number)) at.0 out.calls.needs) not_four not_five in
         let beyond : length (pool_after words (operations profile apid words es)) ≤ read r.machine 1 = out.outside in
         let long = length-after words (operations profile apid words es) in
         omega (arith, within, beyond, long, enough)

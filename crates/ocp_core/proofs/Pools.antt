@@ -111,7 +111,7 @@ pub answered : (o : Option Rec) (pool : List ℕ) (call : Call) → IsNext o poo
 answered o pool call is =
     let of : IsOfMachine is.rec pool (Called call) = of_machine is.rec pool (Called call) (λ e. cc) (λ e. cc) is.next in
     let found = answered_need is.rec pool call (one_step is.rec.image is.rec.machine) of.2 in
-    record { number = found.0; calls = record { rec = is.rec; is = is.is; runs = is.runs; passes = of.0; unspent = of.1; calls = found.1 }; given = found.2 }
+    record { number = found.0; calls = record { rec = is.rec; is = is.is; runs = is.runs; passes = of.0; unspent = of.1; needs = found.1 }; given = found.2 }
 
 pub calls_are_answered : CallsAreAnswered
 calls_are_answered profile apid words es by id call does =
@@ -247,7 +247,7 @@ outside o pool is =
     let of : IsOfMachine is.rec pool (Faulted (Pool BadPoolIndex)) = of_machine is.rec pool (Faulted (Pool BadPoolIndex)) (λ e. cc) (λ e. cc) is.next in
     let found = outside_need is.rec pool (one_step is.rec.image is.rec.machine) of.2 in
     let none = finds_none (read is.rec.machine 1) (read is.rec.machine 2) (read is.rec.machine 3) pool is.rec.mailbox found.0 found.2 in
-    record { number = found.0; calls = record { rec = is.rec; is = is.is; runs = is.runs; passes = of.0; unspent = of.1; calls = found.1 }; of_pool = none.of_pool; outside = past pool (read is.rec.machine 1) none.none }
+    record { number = found.0; calls = record { rec = is.rec; is = is.is; runs = is.runs; passes = of.0; unspent = of.1; needs = found.1 }; of_pool = none.of_pool; outside = past pool (read is.rec.machine 1) none.none }
 
 faults : (o : Option Rec) (pool : List ℕ) → IsOutside o pool → IsNext o pool (Faulted (Pool BadPoolIndex))
 faults o pool is =
@@ -257,7 +257,7 @@ faults o pool is =
       rec = r;
       is = is.calls.is;
       runs = is.calls.runs;
-      next = ap (λ b. cond b (Some Broke) (outcome_unheld r pool)) is.calls.passes ∙ ap (λ b. cond b (Some (Faulted BudgetSpent)) (outcome_of (one_step r.image r.machine) r.machine pool r.mailbox)) is.calls.unspent ∙ ap (λ l. outcome_of l r.machine pool r.mailbox) is.calls.calls ∙ ap (λ c. Some (outcome_of_call c)) none;
+      next = ap (λ b. cond b (Some Broke) (outcome_unheld r pool)) is.calls.passes ∙ ap (λ b. cond b (Some (Faulted BudgetSpent)) (outcome_of (one_step r.image r.machine) r.machine pool r.mailbox)) is.calls.unspent ∙ ap (λ l. outcome_of l r.machine pool r.mailbox) is.calls.needs ∙ ap (λ c. Some (outcome_of_call c)) none;
     }
 
 pub faults_outside : FaultsOutside

@@ -237,14 +237,14 @@ module _ (r : Rec) (pool : List ℕ) (f : MachineFault) where
 met : (o : Option Rec) (pool : List ℕ) (f : MachineFault) → IsNext o pool (Faulted (fault.Machine f)) → Meets o f
 met o pool f is =
     let of = of_machine is.rec pool (Faulted (fault.Machine f)) (λ e. cc) (λ e. cc) is.next in
-    record { rec = is.rec; is = is.is; runs = is.runs; passes = of.0; unspent = of.1; meets = met_need is.rec pool f (one_step is.rec.image is.rec.machine) of.2 }
+    record { rec = is.rec; is = is.is; runs = is.runs; passes = of.0; unspent = of.1; needs = met_need is.rec pool f (one_step is.rec.image is.rec.machine) of.2 }
 
 faults : (o : Option Rec) (pool : List ℕ) (f : MachineFault) → Meets o f → IsNext o pool (Faulted (fault.Machine f))
 faults o pool f is = record {
   rec = is.rec;
   is = is.is;
   runs = is.runs;
-  next = ap (λ b. cond b (Some Broke) (outcome_unheld is.rec pool)) is.passes ∙ ap (λ b. cond b (Some (Faulted fault.BudgetSpent)) (outcome_of (one_step is.rec.image is.rec.machine) is.rec.machine pool is.rec.mailbox)) is.unspent ∙ ap (λ l. outcome_of l is.rec.machine pool is.rec.mailbox) is.meets;
+  next = ap (λ b. cond b (Some Broke) (outcome_unheld is.rec pool)) is.passes ∙ ap (λ b. cond b (Some (Faulted fault.BudgetSpent)) (outcome_of (one_step is.rec.image is.rec.machine) is.rec.machine pool is.rec.mailbox)) is.unspent ∙ ap (λ l. outcome_of l is.rec.machine pool is.rec.mailbox) is.needs;
 }
 
 pub faults_of_machine : FaultsOfMachine

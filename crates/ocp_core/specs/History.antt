@@ -1,5 +1,12 @@
 -- What the events of a list did to the records of a world, one effect each, in order.
-use Rattle.std.specs.Prelude.{◌≡◌, ℕ, List, [], ◌∷◌}
+use Rattle.std.specs.Prelude.{◌≡◌, ℕ, false, List, [], ◌∷◌, Option, Some}
+use Rattle.obcp_types.specs.declared.status.Status.TheVariants.{Running}
+use Rattle.bpf_step.specs.declared.answer.Need.{Need}
+use Rattle.bpf_step.specs.Machine.{Needs}
+use Rattle.bpf_step.specs.Step.{one_step}
+use Rattle.bpf_step.specs.Runs.{breaks_at}
+use Rattle.ocp_table.specs.Budgets.{is_spent}
+use Rattle.ocp_table.specs.Records.{Rec}
 use Rattle.ocp_profile.specs.declared.profile.Profile.{Profile}
 use Rattle.ocp_table.specs.declared.answers.InstructionOutcome.{InstructionOutcome}
 use Rattle.ocp_table.specs.Effects.{Effect, Changed, Stepped}
@@ -27,3 +34,13 @@ gather_along add s w (e ∷ es) = gather_along add (add w e s) (after w e).world
 -- an instruction event of the procedure, by this seat, has this outcome
 abbrev pub Does : World → ℕ → ℕ → InstructionOutcome → Type 0
 Does w by id outcome = (effect_of w (Step by id)).on_records ≡ Changed id (Stepped outcome)
+
+-- the next instruction of a procedure has this need: the procedure runs, no breakpoint holds it,
+-- and its budget is not spent
+pub record NeedsNext (o : Option Rec) (need : Need) : Type 0 where
+  pub rec : Rec
+  pub is : o ≡ Some rec
+  pub runs : rec.control.status ≡ Running
+  pub passes : breaks_at rec.control.pass rec.breakpoints rec.machine.place ≡ false
+  pub unspent : is_spent rec.remaining ≡ false
+  pub needs : one_step rec.image rec.machine ≡ Needs need

@@ -2,10 +2,8 @@
 use Rattle.std.specs.Prelude.{◌≡◌, ◌==◌, ◌||◌, ◌≤◌, ◌↔◌, ℕ, ℤ, unsigned_abs, Bool, true, false, List, [], ◌∷◌, ◌++◌, length, replicate, slice_get, Option, Some, None}
 use Rattle.std.specs.FinMap.{get}
 use Rattle.ocp_profile.specs.declared.profile.Profile.{Profile}
-use Rattle.obcp_types.specs.declared.status.Status.TheVariants.{Running}
 use Rattle.bpf_step.specs.declared.answer.Need.TheVariants as need
-use Rattle.bpf_step.specs.Machine.{Needs, read}
-use Rattle.bpf_step.specs.Step.{one_step}
+use Rattle.bpf_step.specs.Machine.{read}
 use Rattle.ocp_pool.specs.declared.call.Called.{Called as Call}
 use Rattle.ocp_pool.specs.declared.call.Called.TheVariants.{PoolGet, PoolSet, PoolAdd, PoolCompareSet}
 use Rattle.ocp_pool.specs.declared.call.PoolOperation.{PoolOperation}
@@ -15,13 +13,11 @@ use Rattle.ocp_pool.specs.Call.{engine_call, operation_of, pool_with}
 use Rattle.ocp_table.specs.declared.answers.InstructionOutcome.{InstructionOutcome}
 use Rattle.ocp_table.specs.declared.answers.InstructionOutcome.TheVariants.{Called, Faulted}
 use Rattle.ocp_table.specs.declared.fault.ProcedureFault.TheVariants as fault
-use Rattle.ocp_table.specs.Budgets.{is_spent}
 use Rattle.ocp_table.specs.Records.{Rec}
 use Rattle.ocp_table.specs.Effects.{Effect, Changed, Change, Stepped, WordPut}
-use Rattle.bpf_step.specs.Runs.{breaks_at}
 use Rattle.ocp_world.specs.World.{Event}
 use Rattle.ocp_world.specs.Replay.{replay}
-use Rattle.ocp_core.specs.History.{history, gather, Does}
+use Rattle.ocp_core.specs.History.{history, gather, Does, NeedsNext}
 
 -- ---- the operations
 
@@ -69,15 +65,9 @@ PoolIsOfOperations =
 
 -- ---- engine calls
 
--- the next instruction of a procedure is an engine call: it runs, no breakpoint holds it, and its
--- budget is not spent
-pub record Calls (o : Option Rec) (number : ℤ) : Type 0 where
-  pub rec : Rec
-  pub is : o ≡ Some rec
-  pub runs : rec.control.status ≡ Running
-  pub passes : breaks_at rec.control.pass rec.breakpoints rec.machine.place ≡ false
-  pub unspent : is_spent rec.remaining ≡ false
-  pub calls : one_step rec.image rec.machine ≡ Needs (need.Call number)
+-- the next instruction of a procedure is an engine call of this number
+abbrev pub Calls : Option Rec → ℤ → Type 0
+Calls o number = NeedsNext o (need.Call number)
 
 -- the call is answered by the table of the engine calls, from R1, R2, R3, this pool and its mailbox
 pub record IsAnswered (o : Option Rec) (pool : List ℕ) (call : Call) : Type 0 where

@@ -4,26 +4,23 @@ use Rattle.std.specs.Prelude.{◌≡◌, ◌≤◌, ◌↔◌, ℕ, ℤ, pos, fa
 use Rattle.std.specs.List.{All}
 use Rattle.std.specs.FinMap.{get}
 use Rattle.ocp_profile.specs.declared.profile.Profile.{Profile}
-use Rattle.obcp_types.specs.declared.status.Status.TheVariants.{Running}
 use Rattle.obcp_messages.specs.declared.payload.TheConstants.{MAX_ARGUMENTS_LENGTH}
 use Rattle.bpf_step.specs.declared.answer.MachineFault.{MachineFault}
 use Rattle.bpf_step.specs.declared.answer.Need.TheVariants as need
 use Rattle.bpf_step.specs.Machine.{State, Next, Needs, machine_at_start}
 use Rattle.bpf_step.specs.Step.{one_step}
-use Rattle.bpf_step.specs.Runs.{breaks_at}
 use Rattle.bpf_step.specs.Reach.{IsOctet}
 use Rattle.bpf_step.specs.Answers.{IsAnswer}
 use Rattle.ocp_table.specs.declared.answers.InstructionOutcome.TheVariants.{Faulted}
 use Rattle.ocp_table.specs.declared.answers.StepOutcome.TheVariants as outcome
 use Rattle.ocp_table.specs.declared.fault.ProcedureFault.{ProcedureFault}
 use Rattle.ocp_table.specs.declared.fault.ProcedureFault.TheVariants as fault
-use Rattle.ocp_table.specs.Budgets.{is_spent}
 use Rattle.ocp_table.specs.Faults.{fault_number}
 use Rattle.ocp_table.specs.Records.{Rec}
 use Rattle.ocp_world.specs.World.{World, Event, Request, Step}
 use Rattle.ocp_world.specs.After.{Stepped, after}
 use Rattle.ocp_world.specs.Replay.{replay}
-use Rattle.ocp_core.specs.History.{Does}
+use Rattle.ocp_core.specs.History.{Does, NeedsNext}
 use Rattle.ocp_core.specs.Own.{Own, Start, Local, Call, own_events, image_after}
 use Rattle.ocp_core.specs.Alone.{state_by}
 
@@ -88,15 +85,9 @@ StartsAreOfOctets =
 
 -- ---- faults
 
--- the next instruction of a procedure meets this fault of the machine: it runs, no breakpoint holds
--- it, and its budget is not spent
-pub record Meets (o : Option Rec) (f : MachineFault) : Type 0 where
-  pub rec : Rec
-  pub is : o ≡ Some rec
-  pub runs : rec.control.status ≡ Running
-  pub passes : breaks_at rec.control.pass rec.breakpoints rec.machine.place ≡ false
-  pub unspent : is_spent rec.remaining ≡ false
-  pub meets : one_step rec.image rec.machine ≡ Needs (need.Fault f)
+-- the next instruction of a procedure meets this fault of the machine
+abbrev pub Meets : Option Rec → MachineFault → Type 0
+Meets o f = NeedsNext o (need.Fault f)
 
 -- the law: faults 1 to 3 are those of the machine, and of nothing else
 abbrev pub FaultsOfMachine : Type 0
