@@ -6,7 +6,6 @@ use Rattle.ocp_debug.specs.declared.command.DebugFault.{DebugFault}
 use Rattle.ocp_world.specs.declared.answers.PutFault.{PutFault}
 use Rattle.ocp_world.specs.declared.answers.PutFault.TheVariants as put
 use Rattle.ocp_debug.specs.declared.command.DebugFault.TheVariants as debug
-use Rattle.pus_fields.specs.declared.fault.Discard.{Discard}
 use Rattle.pus_fields.specs.declared.fault.Discard.TheVariants as discard
 use Rattle.ocp_world.specs.declared.answers.EngineFault.{EngineFault}
 use Rattle.ocp_world.specs.declared.answers.EngineFault.TheVariants as engine
@@ -80,17 +79,13 @@ status_of_command (Err debug.NotSet) = status.NotSet
 status_of_command (Err debug.JournalFull) = status.JournalFull
 status_of_command (Err debug.OutsideMemory) = status.OutsideMemory
 
--- the status of discarded octets
-abbrev pub status_of_discard : Discard → Status
-status_of_discard discard.Short = status.DiscardedShort
-status_of_discard discard.Version = status.DiscardedVersion
-status_of_discard discard.Length = status.DiscardedLength
-status_of_discard discard.NotTelecommand = status.DiscardedNotTelecommand
-status_of_discard discard.OtherApid = status.DiscardedOtherApid
-
 -- the status of a request or a drain that is refused
 abbrev pub status_of_fault : EngineFault → Status
-status_of_fault (engine.Discarded cause) = status_of_discard cause
+status_of_fault (engine.Discarded discard.Short) = status.DiscardedShort
+status_of_fault (engine.Discarded discard.Version) = status.DiscardedVersion
+status_of_fault (engine.Discarded discard.Length) = status.DiscardedLength
+status_of_fault (engine.Discarded discard.NotTelecommand) = status.DiscardedNotTelecommand
+status_of_fault (engine.Discarded discard.OtherApid) = status.DiscardedOtherApid
 status_of_fault engine.JournalFull = status.JournalFull
 status_of_fault engine.Memory = status.Memory
 status_of_fault engine.NothingDue = status.NothingDue

@@ -2,7 +2,7 @@
 
 ghost use Rattle.std.specs.Prelude.{◌≡◌, IfOk, IfErr};
 ghost use Rattle.ocp_c.specs.declared.status.Status.TheVariants as status;
-ghost use Rattle.ocp_c.specs.Statuses.{number_of, status_of, status_of_command, status_of_discard, status_of_entry, status_of_fault, status_of_put, status_of_release};
+ghost use Rattle.ocp_c.specs.Statuses.{number_of, status_of, status_of_command, status_of_entry, status_of_fault, status_of_put, status_of_release};
 
 use ocp_flight::{DebugFault, EngineFault, EntryFault, PutFault, ReleaseFault, StepOutcome};
 use pus_fields::Discard;
@@ -114,28 +114,17 @@ impl From<Result<(), DebugFault>> for Status {
     }
 }
 
-/// The status of discarded octets.
-impl From<Discard> for Status {
-    ghost from_gives = { λ cause status. status ≡ status_of_discard cause };
-
-    fn from(cause: Discard) -> Status {
-        match cause {
-            Discard::Short => Status::DiscardedShort,
-            Discard::Version => Status::DiscardedVersion,
-            Discard::Length => Status::DiscardedLength,
-            Discard::NotTelecommand => Status::DiscardedNotTelecommand,
-            Discard::OtherApid => Status::DiscardedOtherApid,
-        }
-    }
-}
-
 /// The status of a request or a drain that is refused.
 impl From<EngineFault> for Status {
     ghost from_gives = { λ fault status. status ≡ status_of_fault fault };
 
     fn from(fault: EngineFault) -> Status {
         match fault {
-            EngineFault::Discarded(cause) => cause.into(),
+            EngineFault::Discarded(Discard::Short) => Status::DiscardedShort,
+            EngineFault::Discarded(Discard::Version) => Status::DiscardedVersion,
+            EngineFault::Discarded(Discard::Length) => Status::DiscardedLength,
+            EngineFault::Discarded(Discard::NotTelecommand) => Status::DiscardedNotTelecommand,
+            EngineFault::Discarded(Discard::OtherApid) => Status::DiscardedOtherApid,
             EngineFault::JournalFull => Status::JournalFull,
             EngineFault::Memory => Status::Memory,
             EngineFault::NothingDue => Status::NothingDue,
