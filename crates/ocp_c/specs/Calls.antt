@@ -1,20 +1,23 @@
 -- What a call through a handle answers and leaves: nothing if the handle is closed, else what the
 -- engine's call does to what it holds: the log of all entries, and how many were released.
-use Rattle.std.specs.Prelude.{ℕ, Option, Some, None, Result, Err}
+use Rattle.std.specs.Prelude.{◌≡◌, ℕ, Option, Some, None, Result, Err}
 use Rattle.ocp_table.specs.declared.answers.Slice.{Slice}
 use Rattle.ocp_table.specs.declared.answers.Round.{Round}
 use Rattle.ocp_world.specs.declared.answers.PutFault.{PutFault}
 use Rattle.ocp_world.specs.declared.answers.PutFault.TheVariants as put
 use Rattle.ocp_table.specs.declared.answers.StepOutcome.{StepOutcome}
 use Rattle.ocp_table.specs.declared.answers.StepOutcome.TheVariants as S
+use Rattle.ocp_debug.specs.declared.command.Command.{Command}
 use Rattle.ocp_debug.specs.declared.command.DebugFault.{DebugFault}
 use Rattle.ocp_debug.specs.declared.command.DebugFault.TheVariants as debug
+use Rattle.ocp_world.specs.World.{Debug}
 use Rattle.ocp_world.specs.After.{Answer, Requested, Stepped, Commanded, Written}
 use Rattle.ocp_flight.specs.Flown.{Flown}
+use Rattle.ocp_flight.specs.Calls.{answer_in, flown_after}
 use Rattle.ocp_c.specs.declared.outcome.Outcome.{Outcome}
 use Rattle.ocp_c.specs.declared.status.Status.{Status}
 use Rattle.ocp_c.specs.declared.status.Status.TheVariants as status
-use Rattle.ocp_c.specs.Statuses.{number_of}
+use Rattle.ocp_c.specs.Statuses.{number_of, status_of_command}
 
 -- the number of the answer
 abbrev pub answers : Option Flown → (Flown → Status) → ℕ
@@ -59,6 +62,15 @@ result_of (Commanded result) = result
 result_of (Requested reports) = Err debug.JournalFull
 result_of (Stepped outcome) = Err debug.JournalFull
 result_of (Written result) = Err debug.JournalFull
+
+-- a debugger's command to a procedure: what is answered, and what is held then
+abbrev pub Obeys : Option Flown → ℕ → Command → ℕ → Option Flown → Type 0
+Obeys held id command number left =
+    (number ≡ answers held (λ flown.
+    status_of_command (result_of (answer_in flown (Debug 0 id command)))))
+    × (left ≡ leaves held (λ flown. flown_after flown (Debug 0 id command)))
+
+-- ---- slices
 
 -- a number of a slice whose last instruction was done; a refusal leaves the one before
 abbrev pub number_by_outcome : StepOutcome → ℕ → ℕ → ℕ

@@ -6,14 +6,14 @@ ghost use Rattle.std.specs.Prelude.{◌≡◌, ◌==◌, if◌then◌else◌, le
 ghost use Rattle.std.specs.declared.option.Option.TheVariants.{None, Some};
 ghost use Rattle.ocp_debug.specs.declared.command.Command.TheVariants as command;
 ghost use Rattle.ocp_table.specs.Slices.{slice_of};
-ghost use Rattle.ocp_world.specs.World.{Step, Debug, Put};
+ghost use Rattle.ocp_world.specs.World.{Step, Put};
 ghost use Rattle.ocp_core.specs.Log.{expand, world_of};
 ghost use Rattle.ocp_flight.specs.Flown.{Flown};
 ghost use Rattle.ocp_flight.specs.Calls.{answer_in, flown_after, slice_in, slice_after, round_in, round_after};
 ghost use Rattle.ocp_c.specs.declared.status.Status.{Status as Refusal};
 ghost use Rattle.ocp_c.specs.declared.status.Status.TheVariants as status;
-ghost use Rattle.ocp_c.specs.Statuses.{number_of, status_of, status_of_command, status_of_put};
-ghost use Rattle.ocp_c.specs.Calls.{answers, leaves, writes, outcome_of, outcome_or, count_of_slice, number_by_outcome, put_result_of, result_of, step_number, step_of_round, word_status, word_or};
+ghost use Rattle.ocp_c.specs.Statuses.{number_of, status_of, status_of_put};
+ghost use Rattle.ocp_c.specs.Calls.{Obeys, answers, leaves, writes, outcome_of, outcome_or, count_of_slice, number_by_outcome, put_result_of, step_number, step_of_round, word_status, word_or};
 ghost use Rattle.ocp_c.specs.Opening.{opening, IsOpened};
 
 mod exchange;
@@ -210,10 +210,7 @@ pub extern "C" fn ocp_round(
 /// Sets a breakpoint at the slot of an instruction.
 #[unsafe(no_mangle)]
 pub extern "C" fn ocp_set_break(alloc: Global, handle: &mut Handle, id: u16, place: u16) -> u32
-    ensures status { result ≡ answers handle.old.held (λ flown.
-        status_of_command (result_of (answer_in flown (Debug 0 id (command.SetBreak place))))) }
-    ensures engine { handle.new.held ≡ leaves handle.old.held (λ flown.
-        flown_after flown (Debug 0 id (command.SetBreak place))) }
+    ensures does { Obeys handle.old.held id (command.SetBreak place) result handle.new.held }
 {
     handle.answer(alloc, |engine| engine.set_break(SEAT, id, place).into())
 }
@@ -221,10 +218,7 @@ pub extern "C" fn ocp_set_break(alloc: Global, handle: &mut Handle, id: u16, pla
 /// Clears the breakpoint at a slot.
 #[unsafe(no_mangle)]
 pub extern "C" fn ocp_clear_break(alloc: Global, handle: &mut Handle, id: u16, place: u16) -> u32
-    ensures status { result ≡ answers handle.old.held (λ flown.
-        status_of_command (result_of (answer_in flown (Debug 0 id (command.ClearBreak place))))) }
-    ensures engine { handle.new.held ≡ leaves handle.old.held (λ flown.
-        flown_after flown (Debug 0 id (command.ClearBreak place))) }
+    ensures does { Obeys handle.old.held id (command.ClearBreak place) result handle.new.held }
 {
     handle.answer(alloc, |engine| engine.clear_break(SEAT, id, place).into())
 }
@@ -232,10 +226,7 @@ pub extern "C" fn ocp_clear_break(alloc: Global, handle: &mut Handle, id: u16, p
 /// Sets whether each instruction of a procedure leaves a trace record.
 #[unsafe(no_mangle)]
 pub extern "C" fn ocp_trace(alloc: Global, handle: &mut Handle, id: u16, on: bool) -> u32
-    ensures status { result ≡ answers handle.old.held (λ flown.
-        status_of_command (result_of (answer_in flown (Debug 0 id (command.SetTrace on))))) }
-    ensures engine { handle.new.held ≡ leaves handle.old.held (λ flown.
-        flown_after flown (Debug 0 id (command.SetTrace on))) }
+    ensures does { Obeys handle.old.held id (command.SetTrace on) result handle.new.held }
 {
     handle.answer(alloc, |engine| engine.trace(SEAT, id, on).into())
 }
