@@ -1,14 +1,13 @@
 //! The program's commands.
 
-ghost use Rattle.std.specs.Prelude.{◌≡◌, ℕ, IfOk, codes, pos, false};
+ghost use Rattle.std.specs.Prelude.{◌≡◌, IfOk, codes, false};
 ghost use Rattle.clap.specs.Words.{app_of, rule_of, new_app};
 ghost use Rattle.clap.specs.declared.builder.command.Command.TheViews.{out-Command};
-ghost use Rattle.clap.specs.declared.builder.value_parser.ValueParser.TheVariants.{Signed};
-ghost use Rattle.ocp_words.specs.Words.{ocp, program, asm, check, run, number_option, profile_option as profile_rule, apid_option as apid_rule, pool_option as pool_rule, journal_option as journal_rule};
+ghost use Rattle.ocp_words.specs.Words.{ocp, program, asm, check, run, number_option};
 
 use crate::help;
 use clap::builder::ValueParser;
-use clap::{Arg, Command, value_parser};
+use clap::{Arg, Command};
 use ocp_lines::SCRIPT_HELP;
 use ocp_profile::{MAX_APID, MAX_CAPACITY, MAX_POOL_WORDS};
 use std::alloc::{AllocError, Global};
@@ -30,73 +29,56 @@ fn plain_command<'a>(
         .after_help(more)
 }
 
-/// An option that takes a number, with a default.
-fn option<'a>(
-    alloc: Global,
-    name: &'a str,
-    default: &'a str,
-    parser: ValueParser<'a>,
-    help: &'a str,
-) -> Arg<'a>
-    ensures rule { (low high : ℕ) → parser.entry ≡ Signed (pos low) (pos high) →
-        rule_of result ≡ number_option name.entry.now default.entry.now low high }
-    ensures global { result.global ≡ false }
-{
-    Arg::new(alloc, name)
-        .long(name)
-        .value_parser(parser)
-        .default_value(default)
-        .help(help)
+/// An option that takes a number: its name, its default, its least and its greatest number, and its
+/// help.
+#[derive(Clone, Copy)]
+struct Numbered {
+    name: &'static str,
+    default: &'static str,
+    range: (u32, u32),
+    help: &'static str,
 }
 
-fn profile_option<'a>(alloc: Global) -> Arg<'a>
-    ensures rule { rule_of result ≡ profile_rule }
-    ensures global { result.global ≡ false }
-{
-    let help = "The profile of procedures and requests, 1 or 2";
-    option(alloc, "profile", "1", value_parser!(u8).range(1..=2), help)
-}
+const PROFILE: Numbered = Numbered {
+    name: "profile",
+    default: "1",
+    range: (1, 2),
+    help: "The profile of procedures and requests, 1 or 2",
+};
 
-fn apid_option<'a>(alloc: Global) -> Arg<'a>
-    ensures rule { rule_of result ≡ apid_rule }
-    ensures global { result.global ≡ false }
-{
-    let help = "Application process identifier of the engine, 0 to 2046";
-    option(
-        alloc,
-        "apid",
-        "291",
-        value_parser!(u16).range(0..=i64::from(MAX_APID)),
-        help,
-    )
-}
+const APID: Numbered = Numbered {
+    name: "apid",
+    default: "291",
+    range: (0, MAX_APID as u32),
+    help: "Application process identifier of the engine, 0 to 2046",
+};
 
-fn pool_option<'a>(alloc: Global) -> Arg<'a>
-    ensures rule { rule_of result ≡ pool_rule }
-    ensures global { result.global ≡ false }
-{
-    let help = "Number of pool words, 1 to 256";
-    option(
-        alloc,
-        "pool",
-        "16",
-        value_parser!(u16).range(1..=i64::from(MAX_POOL_WORDS)),
-        help,
-    )
-}
+const POOL: Numbered = Numbered {
+    name: "pool",
+    default: "16",
+    range: (1, MAX_POOL_WORDS as u32),
+    help: "Number of pool words, 1 to 256",
+};
 
-fn journal_option<'a>(alloc: Global) -> Arg<'a>
-    ensures rule { rule_of result ≡ journal_rule }
+const JOURNAL: Numbered = Numbered {
+    name: "journal",
+    default: "100000",
+    range: (1, MAX_CAPACITY),
+    help: "Room of the journal, 1 to 1000000 entries",
+};
+
+/// The option of a number.
+fn option<'a>(alloc: Global, number: Numbered) -> Arg<'a>
+    ensures rule { rule_of result ≡
+        number_option number.name.now number.default.now number.range.0 number.range.1 }
     ensures global { result.global ≡ false }
 {
-    let help = "Room of the journal, 1 to 1000000 entries";
-    option(
-        alloc,
-        "journal",
-        "100000",
-        value_parser!(u32).range(1..=i64::from(MAX_CAPACITY)),
-        help,
-    )
+    let (low, high) = number.range;
+    Arg::new(alloc, number.name)
+        .long(number.name)
+        .value_parser(ValueParser::signed(i64::from(low), i64::from(high)))
+        .default_value(number.default)
+        .help(number.help)
 }
 
 /// The command `asm` and its option.
@@ -105,7 +87,7 @@ fn asm_command<'a>(alloc: Global) -> Result<Command<'a>, AllocError>
     ensures global { IfOk result (λ c. (out-Command c).has_globals ≡ false) }
 {
     let plain = plain_command(alloc, "asm", help::ASM_USAGE, help::ASM, help::ASM_HELP);
-    plain.arg(profile_option(alloc))
+    plain.arg(option(alloc, PROFILE))
 }
 
 /// The command `check` and its options.
@@ -120,8 +102,8 @@ fn check_command<'a>(alloc: Global) -> Result<Command<'a>, AllocError>
         help::CHECK,
         help::CHECK_HELP,
     )
-    .arg(profile_option(alloc))?
-    .arg(pool_option(alloc))
+    .arg(option(alloc, PROFILE))?
+    .arg(option(alloc, POOL))
 }
 
 /// The command `run` and its options.
@@ -130,10 +112,10 @@ fn run_command<'a>(alloc: Global) -> Result<Command<'a>, AllocError>
     ensures global { IfOk result (λ c. (out-Command c).has_globals ≡ false) }
 {
     plain_command(alloc, "run", help::RUN_USAGE, help::RUN, SCRIPT_HELP)
-        .arg(profile_option(alloc))?
-        .arg(apid_option(alloc))?
-        .arg(pool_option(alloc))?
-        .arg(journal_option(alloc))
+        .arg(option(alloc, PROFILE))?
+        .arg(option(alloc, APID))?
+        .arg(option(alloc, POOL))?
+        .arg(option(alloc, JOURNAL))
 }
 
 /// The program's command without its subcommands.

@@ -5,10 +5,10 @@ use Rattle.ocp_words.proofs.command.run_command.Goals as goal
 
 pub returns-clause-app : goal.returns-clause-app
 returns-clause-app c =
-    with_option _ _ _ _ _ c.arg-4.ensures (c.in_ok-arg-3.ensures.shape c.pool_option.ensures.global
-    ∙ ap₂ with_rule (c.in_ok-arg-2.ensures.shape c.apid_option.ensures.global
-    ∙ ap₂ with_rule (c.in_ok-arg.ensures.shape c.profile_option.ensures.global ∙ ap₂ with_rule c.plain_command.ensures.app c.profile_option.ensures.rule) c.apid_option.ensures.rule) c.pool_option.ensures.rule) c.journal_option.ensures.rule c.journal_option.ensures.global
+    with_option _ _ _ _ _ c.arg-4.ensures (c.in_ok-arg-3.ensures.shape c.option-3.ensures.global
+    ∙ ap₂ with_rule (c.in_ok-arg-2.ensures.shape c.option-2.ensures.global
+    ∙ ap₂ with_rule (c.in_ok-arg.ensures.shape c.option.ensures.global ∙ ap₂ with_rule c.plain_command.ensures.app c.option.ensures.rule) c.option-2.ensures.rule) c.option-3.ensures.rule) c.option-4.ensures.rule c.option-4.ensures.global
 
 pub returns-clause-global : goal.returns-clause-global
 returns-clause-global c =
-    without_globals _ _ _ c.arg-4.ensures (rw (c.in_ok-arg-3.ensures.globals, c.in_ok-arg-2.ensures.globals, c.in_ok-arg.ensures.globals, c.plain_command.ensures.global, c.profile_option.ensures.global, c.apid_option.ensures.global, c.pool_option.ensures.global) refl) c.journal_option.ensures.global
+    without_globals _ _ _ c.arg-4.ensures (rw (c.in_ok-arg-3.ensures.globals, c.in_ok-arg-2.ensures.globals, c.in_ok-arg.ensures.globals, c.plain_command.ensures.global, c.option.ensures.global, c.option-2.ensures.global, c.option-3.ensures.global) refl) c.option-4.ensures.global
