@@ -32,7 +32,7 @@ fn job_of(alloc: Global, given: &[String]) -> Result<Job, WordsFault>
 {
     let mut words = Vec::new(alloc);
     for word in given {
-        words.push(word.as_str())?;
+        words.push(word.as_str()).map_err(|_| WordsFault::Memory)?;
     }
     read_words(alloc, words.as_slice())
 }
@@ -41,7 +41,10 @@ fn job_of(alloc: Global, given: &[String]) -> Result<Job, WordsFault>
 pub fn job_of_words<R: Env + AllocGlobal>(rt: &R) -> Result<Job, WordsFault> {
     let alloc = rt.alloc();
     let given: Vec<String> = match env::args(rt) {
-        Ok(given) => given.skip(1).collect(alloc)?,
+        Ok(given) => given
+            .skip(1)
+            .collect(alloc)
+            .map_err(|_| WordsFault::Memory)?,
         Err(error) if error.kind() == io::ErrorKind::OutOfMemory => return Err(WordsFault::Memory),
         Err(_) => return Err(not_utf8(alloc)),
     };

@@ -2,11 +2,9 @@
 
 ghost use Rattle.std.specs.Prelude.{◌≡◌, ◌≤◌, ◌↔◌, IsSome, IfSome};
 ghost use Rattle.ocp_profile.specs.declared.limits.TheConstants.{MAX_APID, MAX_POOL_WORDS, MAX_CAPACITY};
-ghost use Rattle.ocp_words.specs.declared.job.WordsFault.TheVariants.{Memory};
 
 use clap::Error;
 use ocp_profile::{MAX_APID, MAX_CAPACITY, MAX_POOL_WORDS, Profile};
-use std::alloc::{AllocError, AllocFailed};
 
 /// The settings of a run of the console.
 #[derive(Clone, Copy)]
@@ -79,20 +77,4 @@ pub enum WordsFault {
     Usage(Error),
     #[error("out of memory")]
     Memory,
-}
-
-impl From<AllocError> for WordsFault {
-    ghost from_gives = { λ _ e. e ≡ Memory };
-
-    fn from(_e: AllocError) -> WordsFault {
-        WordsFault::Memory
-    }
-}
-
-impl<T: Drop> From<AllocFailed<T>> for WordsFault {
-    ghost from_gives = { λ _ e. e ≡ Memory };
-
-    fn from(_e: AllocFailed<T>) -> WordsFault {
-        WordsFault::Memory
-    }
 }

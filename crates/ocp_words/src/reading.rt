@@ -55,34 +55,18 @@ fn check_settings_of(matches: &ArgMatches<'_>) -> Option<CheckSettings>
     })
 }
 
-/// A mistake that is not `clap`'s to find: its kind, and what it is.
-type Mistake = (ErrorKind, &'static str);
-
-const NUMBER_IS_MISSING: Mistake = (ErrorKind::ValueValidation, "a number is missing");
-
-const NO_SUCH_COMMAND: Mistake = (ErrorKind::InvalidSubcommand, "no such command");
-
 /// The job of the subcommand and the numbers in the matches of the program; without a subcommand it
-/// is `run` with the defaults.
-fn job_of(matches: &ArgMatches<'_>) -> Result<Job, Mistake>
-    ensures { IfOk result (IsJob (subcommand_rows_of matches.now)) }
+/// is `run` with the defaults. `None` if a number is not there, which `clap` does not let happen.
+fn job_of(matches: &ArgMatches<'_>) -> Option<Job>
+    ensures { IfSome result (IsJob (subcommand_rows_of matches.now)) }
 {
     match matches.subcommand() {
-        None => Ok(Job::Run(DEFAULTS)),
-        Some(("asm", inner)) => match profile_of(inner) {
-            Some(profile) => Ok(Job::Assemble(profile)),
-            None => Err(NUMBER_IS_MISSING),
-        },
-        Some(("check", inner)) => match check_settings_of(inner) {
-            Some(settings) => Ok(Job::Check(settings)),
-            None => Err(NUMBER_IS_MISSING),
-        },
-        Some(("list", _)) => Ok(Job::List),
-        Some(("run", inner)) => match settings_of(inner) {
-            Some(settings) => Ok(Job::Run(settings)),
-            None => Err(NUMBER_IS_MISSING),
-        },
-        Some(_) => Err(NO_SUCH_COMMAND),
+        None => Some(Job::Run(DEFAULTS)),
+        Some(("asm", inner)) => Some(Job::Assemble(profile_of(inner)?)),
+        Some(("check", inner)) => Some(Job::Check(check_settings_of(inner)?)),
+        Some(("list", _)) => Some(Job::List),
+        Some(("run", inner)) => Some(Job::Run(settings_of(inner)?)),
+        Some(_) => None,
     }
 }
 
@@ -114,8 +98,11 @@ fn job_of_words<'a>(command: &mut Command<'a>, words: &'a [&'a str]) -> Result<J
         Err(error) => return Err(fault_of_error(error)),
     };
     match job_of(&matches) {
-        Ok(job) => Ok(job),
-        Err((kind, text)) => Err(fault_of_mistake(command, kind, text)),
+        Some(job) => Ok(job),
+        None => {
+            let (kind, text) = (ErrorKind::ValueValidation, "a number is missing");
+            Err(fault_of_mistake(command, kind, text))
+        }
     }
 }
 
@@ -131,8 +118,10 @@ pub fn read_words<'a>(alloc: Global, words: &'a [&'a str]) -> Result<Job, WordsF
     if words.is_empty() {
         return Ok(Job::Run(DEFAULTS));
     }
-    let mut command = ocp_command(alloc)?;
-    job_of_words(&mut command, words)
+    match ocp_command(alloc) {
+        Ok(mut command) => job_of_words(&mut command, words),
+        Err(_) => Err(WordsFault::Memory),
+    }
 }
 
 /// The fault of words that are no UTF-8, which `read_words` can't be given, as `clap` words it.
