@@ -1,7 +1,5 @@
 -- A text that is cut into lines.
-use Rattle.std.proofs.Common.{◌≡◌, ◌++◌, ◌<◌, ◌≤◌, List, [], ◌∷◌, ℕ, zero, suc, Bool, true, false, eqb, cond, length, take, get_or, Some, None, refl, arith}
-use Rattle.std.proofs.lemmas.Bool.{eqb-true}
-use Rattle.memchr.specs.Find.{IsFirstByte, Passes, is_byte}
+use Rattle.std.proofs.Common.{◌≡◌, ◌++◌, ◌<◌, ◌≤◌, List, [], ◌∷◌, ℕ, zero, suc, Bool, true, false, eqb, not, ◌&&◌, cond, length, take, get_or, Some, None, refl, arith}
 use Rattle.text_lines.specs.Lines.{Line, Ended, Open, onto, lines_of, octets_of}
 use Rattle.ocp_console.specs.Mirror.Lines.{is_one_line}
 
@@ -9,7 +7,7 @@ use Rattle.ocp_console.specs.Mirror.Lines.{is_one_line}
 one_line-cons : (c : ℕ) (p : List ℕ) → is_one_line (c ∷ p) ≡ true → (eqb c 10 ≡ false) × (is_one_line p ≡ true)
 one_line-cons c p e = split (eqb c 10) refl e
   where
-    split : (b : Bool) → eqb c 10 ≡ b → cond b false (is_one_line p) ≡ true → (eqb c 10 ≡ false) × (is_one_line p ≡ true)
+    split : (b : Bool) → eqb c 10 ≡ b → (not b && is_one_line p) ≡ true → (eqb c 10 ≡ false) × (is_one_line p ≡ true)
     split true h g = absurd cc
     split false h g = (h, g)
 
@@ -32,27 +30,6 @@ one_line-take zero n text le e = refl
 one_line-take (suc m) n [] le e = refl
 one_line-take (suc m) zero (a ∷ text) le e = absurd (omega (arith, le))
 one_line-take (suc m) (suc n) (a ∷ text) le e = let s = one_line-cons a (take n text) e in rw s.0 (one_line-take m n text (omega (arith, le)) s.1)
-
-not_true : (b : Bool) → (b ≡ true → ⊥) → b ≡ false
-not_true true h = absurd (h refl)
-not_true false h = refl
-
--- octets of which none is a newline
-none_is_newline : (text : List ℕ) (n : ℕ) → n ≤ length text → ((k : ℕ) → 0 ≤ k → k < n → Passes (is_byte 10) text k → ⊥) → is_one_line (take n text) ≡ true
-none_is_newline [] zero le h = refl
-none_is_newline [] (suc n) le h = absurd (omega (arith, le))
-none_is_newline (a ∷ text) zero le h = refl
-none_is_newline (a ∷ text) (suc n) le h =
-    let first : eqb a 10 ≡ false = not_true (eqb a 10) (h 0 (omega arith) (omega arith)) in
-    rw first (none_is_newline text n (omega (arith, le)) (λ k low lt passes. h (suc k) (omega arith) (omega (arith, lt)) passes))
-
--- the place of the first newline
-pub first_newline : (text : List ℕ) (n : ℕ) → IsFirstByte (is_byte 10) text (Some n) → (n < length text) × (is_one_line (take n text) ≡ true) × (get_or text n 0 ≡ 10)
-first_newline text n h = (h.0.high, none_is_newline text n (omega (arith, h.0.high)) h.0.before, eqb-true (get_or text n 0) 10 h.1)
-
--- a text without a newline
-pub no_newline : (text : List ℕ) → IsFirstByte (is_byte 10) text None → is_one_line (take (length text) text) ≡ true
-no_newline text h = none_is_newline text (length text) (omega arith) h
 
 pub ended_line : (p rest : List ℕ) → is_one_line p ≡ true → lines_of (p ++ 10 ∷ rest) ≡ Ended p ∷ lines_of rest
 ended_line [] rest e = refl

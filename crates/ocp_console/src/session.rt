@@ -5,7 +5,7 @@ ghost use Rattle.ocp_console.specs.declared.session.TheConstants.{MAX_LINES, MAX
 ghost use Rattle.ocp_console.specs.Mirror.Lines.{is_one_line};
 
 use crate::console::Console;
-use memchr::memchr;
+use ocp_lines::length_before;
 use std::alloc::{AllocError, Allocator};
 
 /// The most lines of a script.
@@ -24,18 +24,6 @@ pub(crate) struct Session<A: Allocator> {
     pub ghost one_line: { is_one_line line.items ≡ true },
     pub ghost short: { vec_len line ≤ MAX_LINE_OCTETS },
     pub ghost few: { before ≤ MAX_LINES },
-}
-
-/// How many octets are before the first newline.
-fn line_length(octets: &[u8]) -> usize
-    ensures bound { result ≤ length octets.now }
-    ensures line { is_one_line (take result octets.now) ≡ true }
-    ensures newline { result < length octets.now → slice_index octets.now result ≡ 10 }
-{
-    match memchr(b'\n', octets) {
-        Some(length) => length,
-        None => octets.len(),
-    }
 }
 
 impl<A: Allocator> Session<A> {
@@ -64,7 +52,7 @@ impl<A: Allocator> Session<A> {
         if self.before == MAX_LINES || !self.line.is_empty() {
             return None;
         }
-        let count = line_length(octets);
+        let count = length_before(b'\n', octets);
         if count == octets.len() || count > MAX_LINE_OCTETS {
             return None;
         }
@@ -87,7 +75,7 @@ impl<A: Allocator> Session<A> {
         if self.before == MAX_LINES {
             return Ok(0);
         }
-        let count = line_length(octets).min(MAX_LINE_OCTETS - self.line.len());
+        let count = length_before(b'\n', octets).min(MAX_LINE_OCTETS - self.line.len());
         self.line.extend_from_slice(&octets[..count])?;
         Ok(count)
     }

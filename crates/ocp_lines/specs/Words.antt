@@ -23,9 +23,9 @@ abbrev pub pieces : List ℕ → List Word
 pieces [] = [] ∷ []
 pieces (octet ∷ octets) = if octet == 32 then [] ∷ pieces octets else onto octet (pieces octets)
 
--- an octet of a word
-abbrev pub is_solid : ℕ → Bool
-is_solid octet = not (octet == 32)
+-- whether none of the octets is the given one
+abbrev pub is_free_of : ℕ → List ℕ → Bool
+is_free_of end octets = list_all (λ octet. not (octet == end)) octets
 
 -- the words of a text, which are separated by spaces
 abbrev pub words_of : List ℕ → List Word

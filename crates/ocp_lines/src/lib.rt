@@ -13,3 +13,4 @@ pub use command::{
 };
 pub use help::SCRIPT_HELP;
 pub use reading::read_command;
+pub use words::length_before;

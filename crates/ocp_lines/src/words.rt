@@ -1,10 +1,9 @@
 //! The words of a line, and their values.
 
 ghost use Rattle.std.specs.Prelude.{◌≡◌, ◌<◌, ◌≤◌, ◌-◌, ◌/◌, ◌∷◌, [], length, vec_capacity, true, take, slice_index, IfOk, OnErr, IfSome, IfNone, MatchOption, ◌≢◌, ◌⊎◌};
-ghost use Rattle.std.specs.List.{list_all};
 ghost use Rattle.std.specs.Option.{option_map};
 ghost use Rattle.hex.specs.Hex.{hex_digit_value};
-ghost use Rattle.ocp_lines.specs.Words.{words_of, is_solid, number_up_to, octets_up_to, hexadecimal, address_in};
+ghost use Rattle.ocp_lines.specs.Words.{words_of, is_free_of, number_up_to, octets_up_to, hexadecimal, address_in};
 ghost use Rattle.ocp_lines.specs.Grammar.{short, long, id_in, two_shorts, word_or_none};
 
 use memchr::memchr;
@@ -14,24 +13,24 @@ use text_lines::octets_of;
 /// The most hexadecimal digits of an address.
 const MAX_ADDRESS_DIGITS: usize = 16;
 
-/// The most octets of a text of which each is looked at by itself for a space.
+/// The most octets of a text of which each is looked at by itself.
 const SHORT_TEXT: usize = 64;
 
-/// The number of octets before the first space.
+/// The number of octets before the first that is `end`, or of all octets if none is.
 #[inline(always)]
-fn word_length(text: &[u8]) -> usize
+pub fn length_before(end: u8, text: &[u8]) -> usize
     ensures bound { result ≤ length text.now }
-    ensures word { list_all is_solid (take result text.now) ≡ true }
-    ensures space { result < length text.now → slice_index text.now result ≡ 32 }
+    ensures free { is_free_of end (take result text.now) ≡ true }
+    ensures end { result < length text.now → slice_index text.now result ≡ end }
 {
     if text.len() > SHORT_TEXT {
-        return match memchr(b' ', text) {
+        return match memchr(end, text) {
             Some(length) => length,
             None => text.len(),
         };
     }
     for (index, octet) in text.iter().enumerate() {
-        if *octet == b' ' {
+        if *octet == end {
             return index;
         }
     }
@@ -47,7 +46,7 @@ pub(crate) fn next_word(text: &[u8]) -> Option<(&[u8], &[u8])>
     while let [b' ', behind @ ..] = rest {
         rest = behind;
     }
-    let length = word_length(rest);
+    let length = length_before(b' ', rest);
     if length == 0 {
         return None;
     }

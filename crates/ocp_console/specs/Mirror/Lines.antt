@@ -1,6 +1,7 @@
 -- The octets of a script that were taken so far.
-use Rattle.std.specs.Prelude.{◌≡◌, ◌≢◌, ◌<◌, ℕ, ◌==◌, Bool, true, false, if◌then◌else◌, List, [], ◌∷◌, ◌++◌, length, Result, MatchResult, ◌↔◌}
+use Rattle.std.specs.Prelude.{◌≡◌, ◌≢◌, ◌<◌, ℕ, Bool, List, [], ◌∷◌, ◌++◌, length, Result, MatchResult, ◌↔◌}
 use Rattle.text_lines.specs.Lines.{Line, lines_of}
+use Rattle.ocp_lines.specs.Words.{is_free_of}
 use Rattle.ocp_ports.specs.declared.fault.ConsoleFault.{ConsoleFault}
 use Rattle.ocp_ports.specs.declared.fault.ConsoleFault.TheVariants.{Write}
 use Rattle.ocp_console.specs.Reading.{AreShort}
@@ -8,8 +9,7 @@ use Rattle.ocp_console.specs.declared.session.TheConstants.{MAX_LINES}
 
 -- a line so far: it has no newline
 abbrev pub is_one_line : List ℕ → Bool
-is_one_line [] = true
-is_one_line (octet ∷ octets) = if octet == 10 then false else is_one_line octets
+is_one_line octets = is_free_of 10 octets
 
 -- the octets that were taken are `before` lines, each of them short, and this line that has not
 -- ended

@@ -7,4 +7,4 @@ invariant_of-self-clause-one_line g c =
     let s = c.args.self.now in
     let octets = c.args.octets.now in
     let n = c.min-count.result in
-    rw c.extend_from_slice.ensures.items (longer _ s.line.items (take n octets) s.one_line (one_line-take n c.line_length.result octets (omega (arith, c.min-count.ensures)) c.line_length.ensures.line))
+    rw c.extend_from_slice.ensures.items (longer _ s.line.items (take n octets) s.one_line (one_line-take n c.length_before.result octets (omega (arith, c.min-count.ensures)) c.length_before.ensures.free))
