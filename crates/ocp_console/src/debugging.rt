@@ -3,7 +3,7 @@
 ghost use Rattle.std.specs.Prelude.{◌≡◌, ◌≤◌, length, Ok, Err, OnOk};
 ghost use Rattle.ocp_console.specs.Texts.{ending_text, place_line, break_line, unbreak_line, switch_line, memory_line};
 
-use crate::text::{Text, write_text};
+use crate::text::{Text, text_of, write_text};
 use ocp_debug::{DebugFault, fault_name};
 use std::alloc::{AllocError, Allocator};
 
@@ -29,15 +29,7 @@ fn place_text(
     requires word { length word.now ≤ 16 }
     ensures { result ≡ place_line front.now id place (ending_text word.now answer) }
 {
-    let mut text = Text::new();
-    text.push_all(front);
-    text.push_integer(id);
-    text.push_all(b" ");
-    text.push_integer(place);
-    text.push_all(b" ");
-    text.push_all(ending(word, answer).as_bytes());
-    text.push_all(b"\n");
-    text
+    text_of!(front => id, b" " => place; b" "; ending(word, answer).as_bytes(); b"\n")
 }
 
 /// Writes the line of a `break` command.
@@ -75,13 +67,11 @@ pub(crate) fn switch_text<A: Allocator>(
 ) -> Result<(), AllocError>
     ensures { OnOk result (output.new.items ≡ switch_line id on answer) }
 {
-    let mut text = Text::new();
-    text.push_all(b"trace ");
-    text.push_integer(id);
-    text.push_all(b" ");
-    text.push_all(ending(if on { "on" } else { "off" }, answer).as_bytes());
-    text.push_all(b"\n");
-    write_text(&text, output)
+    let word = ending(if on { "on" } else { "off" }, answer);
+    write_text(
+        &text_of!(b"trace " => id; b" "; word.as_bytes(); b"\n"),
+        output,
+    )
 }
 
 /// Writes the line of a procedure's octets from an address on.
@@ -93,10 +83,7 @@ pub(crate) fn octets_text<A: Allocator + Copy>(
 ) -> Result<(), AllocError>
     ensures { OnOk result (output.new.items ≡ memory_line id address (Ok octets.now)) }
 {
-    let mut text = Text::new();
-    text.push_all(b"mem ");
-    text.push_integer(id);
-    text.push_all(b" 0x");
+    let mut text = text_of!(b"mem " => id; b" 0x");
     text.push_hex(address);
     text.push_all(b" ");
     write_text(&text, output)?;
@@ -115,11 +102,6 @@ pub(crate) fn no_octets_text<A: Allocator>(
 ) -> Result<(), AllocError>
     ensures { OnOk result (output.new.items ≡ memory_line id address (Err fault)) }
 {
-    let mut text = Text::new();
-    text.push_all(b"mem ");
-    text.push_integer(id);
-    text.push_all(b" ");
-    text.push_all(fault_name(fault).as_bytes());
-    text.push_all(b"\n");
+    let text = text_of!(b"mem " => id; b" "; fault_name(fault).as_bytes(); b"\n");
     write_text(&text, output)
 }

@@ -1,11 +1,11 @@
 //! What is printed of reports, steps, rounds, the pool and the journal.
 
-ghost use Rattle.std.specs.Prelude.{◌≡◌, ◌≢◌, ◌≤◌, ◌+◌, ◌++◌, Err, length, OnOk};
+ghost use Rattle.std.specs.Prelude.{◌≡◌, ◌≢◌, ◌≤◌, ◌+◌, ◌++◌, Err, codes, length, OnOk};
 ghost use Rattle.ocp_world.specs.After.{Requested};
 ghost use Rattle.ocp_console.specs.Answering.{answer_text};
-ghost use Rattle.ocp_console.specs.Texts.{report_line, discard_name, discard_line, refusal_line, step_line, step_end_text, round_line, pool_line, put_ending, put_line, journal_line, work_line};
+ghost use Rattle.ocp_console.specs.Texts.{report_line, discard_name, step_line, step_end_text, round_line, pool_line, put_ending, put_line, journal_line, work_line};
 
-use crate::text::{Text, write_text};
+use crate::text::{Text, text_of, write_text};
 use ocp_core::{EngineFault, PutFault, Reports, Round, Slice};
 use ocp_debug::{push_outcome, push_spaced_word};
 use pus_fields::{Discard, read_tm};
@@ -21,16 +21,11 @@ fn push_report<A: Allocator + Copy>(
     let Ok(tm) = read_tm(packet) else {
         return Ok(());
     };
-    let mut front = Text::new();
-    front.push_all(b"tm ");
-    front.push_integer(tm.service());
-    front.push_all(b" ");
-    front.push_integer(tm.subtype());
-    front.push_all(b" seq ");
-    front.push_integer(tm.count().number());
-    front.push_all(b" dest ");
-    front.push_integer(tm.destination());
-    front.push_all(b" data ");
+    let count = tm.count().number();
+    let front = text_of!(
+        b"tm " => tm.service(), b" " => tm.subtype(), b" seq " => count, b" dest " => tm.destination();
+        b" data "
+    );
     output.extend_from_slice(front.as_slice())?;
     let payload = hex::encode(*output.allocator(), tm.payload())?;
     output.extend_from_slice(payload.as_bytes())?;
@@ -50,25 +45,15 @@ fn name_of_discard(why: Discard) -> &'static str
     }
 }
 
-/// The line of a request or a drain that is refused for the reason with this name.
-fn refusal_text(name: &str) -> Text
-    requires { length name.now ≤ 11 }
-    ensures { result ≡ refusal_line name.now }
+/// The line of a packet that is discarded, or of a request or a drain that is refused, for the reason
+/// with this name.
+fn reason_text(front: &[u8], name: &str) -> Text
+    requires { length front.now + length name.now ≤ 63 }
+    ensures { result ≡ front.now ++ name.now ++ codes "\n" }
 {
     let mut text = Text::new();
-    text.push_all(b"refused ");
+    text.push_all(front);
     text.push_all(name.as_bytes());
-    text.push_all(b"\n");
-    text
-}
-
-/// The line of a packet that is discarded.
-fn discard_text(why: Discard) -> Text
-    ensures { result ≡ discard_line why }
-{
-    let mut text = Text::new();
-    text.push_all(b"discarded ");
-    text.push_all(name_of_discard(why).as_bytes());
     text.push_all(b"\n");
     text
 }
@@ -89,9 +74,13 @@ pub(crate) fn answer_text<A: Allocator + Copy>(
             }
             Ok(())
         }
-        Err(EngineFault::Discarded(why)) => write_text(&discard_text(why), output),
-        Err(EngineFault::NothingDue) => write_text(&refusal_text("NothingDue"), output),
-        Err(EngineFault::JournalFull) => write_text(&refusal_text("JournalFull"), output),
+        Err(EngineFault::Discarded(why)) => {
+            write_text(&reason_text(b"discarded ", name_of_discard(why)), output)
+        }
+        Err(EngineFault::NothingDue) => write_text(&reason_text(b"refused ", "NothingDue"), output),
+        Err(EngineFault::JournalFull) => {
+            write_text(&reason_text(b"refused ", "JournalFull"), output)
+        }
         Err(EngineFault::Memory) => Err(AllocError),
     }
 }
@@ -104,12 +93,7 @@ pub(crate) fn step_text<A: Allocator>(
 ) -> Result<(), AllocError>
     ensures { OnOk result (output.new.items ≡ step_line id slice.count slice.last) }
 {
-    let mut text = Text::new();
-    text.push_all(b"step ");
-    text.push_integer(id);
-    text.push_all(b" ");
-    text.push_integer(slice.count);
-    text.push_all(b" ");
+    let mut text = text_of!(b"step " => id, b" " => slice.count; b" ");
     push_outcome(&mut text, slice.last);
     text.push_all(b"\n");
     write_text(&text, output)
@@ -135,12 +119,7 @@ pub(crate) fn round_text<A: Allocator>(
 ) -> Result<(), AllocError>
     ensures { OnOk result (output.new.items ≡ round_line id round) }
 {
-    let mut text = Text::new();
-    text.push_all(b"round ");
-    text.push_integer(id);
-    text.push_all(b" ");
-    text.push_integer(round.count);
-    text.push_all(b" ");
+    let mut text = text_of!(b"round " => id, b" " => round.count; b" ");
     push_outcome(&mut text, round.last);
     push_step_end(&mut text, round.step);
     text.push_all(b"\n");
@@ -167,15 +146,11 @@ pub(crate) fn put_text<A: Allocator>(
 ) -> Result<(), AllocError>
     ensures { OnOk result (output.new.items ≡ put_line index value answer) }
 {
-    let mut text = Text::new();
-    text.push_all(b"put ");
-    text.push_integer(index);
-    text.push_all(b" ");
-    text.push_integer(value);
-    text.push_all(b" ");
-    text.push_all(put_ending(answer).as_bytes());
-    text.push_all(b"\n");
-    write_text(&text, output)
+    let end = put_ending(answer).as_bytes();
+    write_text(
+        &text_of!(b"put " => index, b" " => value; b" "; end; b"\n"),
+        output,
+    )
 }
 
 /// Writes the line of a word of the pool.
@@ -186,9 +161,7 @@ pub(crate) fn pool_text<A: Allocator>(
 ) -> Result<(), AllocError>
     ensures { OnOk result (output.new.items ≡ pool_line index word) }
 {
-    let mut text = Text::new();
-    text.push_all(b"pool ");
-    text.push_integer(index);
+    let mut text = text_of!(b"pool " => index);
     match word {
         None => text.push_all(b" BadPoolIndex\n"),
         Some(word) => {
@@ -206,20 +179,12 @@ pub(crate) fn journal_text<A: Allocator>(
 ) -> Result<(), AllocError>
     ensures { OnOk result (output.new.items ≡ journal_line events) }
 {
-    let mut text = Text::new();
-    text.push_all(b"journal ");
-    text.push_integer(events);
-    text.push_all(b"\n");
-    write_text(&text, output)
+    write_text(&text_of!(b"journal " => events; b"\n"), output)
 }
 
 /// The line of workers whose work was closed.
 pub(crate) fn work_text(workers: u32) -> Text
     ensures { result ≡ work_line workers }
 {
-    let mut text = Text::new();
-    text.push_all(b"work ");
-    text.push_integer(workers);
-    text.push_all(b" closed\n");
-    text
+    text_of!(b"work " => workers; b" closed\n")
 }
