@@ -45,8 +45,8 @@ fn name_of_discard(why: Discard) -> &'static str
     }
 }
 
-/// The line of a packet that is discarded, or of a request or a drain that is refused, for the reason
-/// with this name.
+/// The line of a packet that is discarded, or of a request or a drain that is refused, for the
+/// reason with this name.
 fn reason_text(front: &[u8], name: &str) -> Text
     requires { length front.now + length name.now ≤ 63 }
     ensures { result ≡ front.now ++ name.now ++ codes "\n" }
