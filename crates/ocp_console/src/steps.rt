@@ -15,7 +15,7 @@ use crate::session::{MAX_LINES, Session};
 use crate::texts::work_text;
 use ocp_core::Engine;
 use ocp_lines::{Shift, read_command};
-use ocp_ports::{ConsoleFault, Crew, Sink, error_text, write_whole};
+use ocp_ports::{ConsoleFault, Crew, CrewFault, Sink, error_text, write_whole};
 use std::alloc::Allocator;
 use text_lines::without_carriage_return;
 
@@ -94,7 +94,11 @@ fn work<W: Sink, C: Crew<Engine<A>>, A: Allocator + Copy>(
     ensures count { CountsWrites (W.failed_writes writer.old) (W.failed_writes writer.new) result }
     ensures no_read { IsErrOf result ConsoleFault.Read → ⊥ }
 {
-    let console = console.work(crew, shift)?;
+    let console = match console.work(crew, shift) {
+        Ok(console) => console,
+        Err(CrewFault::Memory) => return Err(ConsoleFault::Memory),
+        Err(CrewFault::Workers) => return Err(ConsoleFault::Workers),
+    };
     let closed = work_text(shift.workers.number);
     write_whole(writer, closed.as_slice())?;
     Ok(console)

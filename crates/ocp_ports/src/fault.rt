@@ -2,10 +2,9 @@
 
 ghost use Rattle.std.specs.Prelude.{◌≡◌};
 ghost use Rattle.ocp_ports.specs.declared.fault.ConsoleFault.TheVariants.{Memory};
-ghost use Rattle.ocp_ports.specs.Faults.{fault_name, crew_fault};
+ghost use Rattle.ocp_ports.specs.Faults.{fault_name};
 
-use crate::crew::CrewFault;
-use std::alloc::{AllocError, AllocFailed};
+use std::alloc::AllocError;
 use thiserror::Error;
 
 /// Why a run ended. The first three are the script's, in this order for each line in turn.
@@ -51,30 +50,10 @@ impl ConsoleFault {
     }
 }
 
-/// How a run ends if its crew refused.
-impl From<CrewFault> for ConsoleFault {
-    ghost from_gives = { λ refused e. e ≡ crew_fault refused };
-
-    fn from(refused: CrewFault) -> ConsoleFault {
-        match refused {
-            CrewFault::Memory => ConsoleFault::Memory,
-            CrewFault::Workers => ConsoleFault::Workers,
-        }
-    }
-}
-
 impl From<AllocError> for ConsoleFault {
     ghost from_gives = { λ _ e. e ≡ Memory };
 
     fn from(_e: AllocError) -> ConsoleFault {
-        ConsoleFault::Memory
-    }
-}
-
-impl<T: Drop> From<AllocFailed<T>> for ConsoleFault {
-    ghost from_gives = { λ _ e. e ≡ Memory };
-
-    fn from(_e: AllocFailed<T>) -> ConsoleFault {
         ConsoleFault::Memory
     }
 }
