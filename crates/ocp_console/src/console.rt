@@ -3,7 +3,7 @@
 ghost use Rattle.std.specs.Prelude.{◌≡◌, ◌<◌, length, IfOk, IfErr, OnOk};
 ghost use Rattle.space_packet.specs.declared.range.TheConstants.{IDLE_APID};
 
-use crate::debugging::{break_text, no_octets_text, octets_text, switch_text, unbreak_text};
+use crate::debugging::{no_octets_text, octets_text, place_text, switch_text};
 use crate::texts::{answer_text, journal_text, pool_text, put_text, round_text, step_text};
 use ocp_core::Engine;
 use ocp_debug::view_text;
@@ -149,11 +149,11 @@ impl<A: Allocator + Copy> Console<A> {
             }
             Command::Break { id, place } => {
                 let answer = self.engine.set_break(0, id, place);
-                break_text(id, place, answer, &mut self.output)?;
+                place_text(b"break ", id, place, "set", answer, &mut self.output)?;
             }
             Command::Unbreak { id, place } => {
                 let answer = self.engine.clear_break(0, id, place);
-                unbreak_text(id, place, answer, &mut self.output)?;
+                place_text(b"unbreak ", id, place, "cleared", answer, &mut self.output)?;
             }
             Command::Trace { id, on } => {
                 let answer = self.engine.trace(0, id, on);

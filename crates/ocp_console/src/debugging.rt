@@ -1,7 +1,7 @@
 //! What is printed of the debugger's commands.
 
 ghost use Rattle.std.specs.Prelude.{◌≡◌, ◌≤◌, length, Ok, Err, OnOk};
-ghost use Rattle.ocp_console.specs.Texts.{ending_text, place_line, break_line, unbreak_line, switch_line, memory_line};
+ghost use Rattle.ocp_console.specs.Texts.{ending_text, place_line, switch_line, memory_line};
 
 use crate::text::{Text, text_of, write_text};
 use ocp_debug::{DebugFault, fault_name};
@@ -17,45 +17,26 @@ fn ending(word: &'static str, answer: Result<(), DebugFault>) -> &'static str
     }
 }
 
-/// The line of a command at a place: it begins with `front`, and has this word if it was done.
-fn place_text(
+/// Writes the line of a command at a place: it begins with `front`, and has this word if it was
+/// done.
+pub(crate) fn place_text<A: Allocator>(
     front: &[u8],
     id: u16,
     place: u16,
     word: &'static str,
     answer: Result<(), DebugFault>,
-) -> Text
+    output: &mut Vec<u8, A>,
+) -> Result<(), AllocError>
     requires front { length front.now ≤ 8 }
     requires word { length word.now ≤ 16 }
-    ensures { result ≡ place_line front.now id place (ending_text word.now answer) }
+    ensures { OnOk result
+        (output.new.items ≡ place_line front.now id place (ending_text word.now answer)) }
 {
-    text_of!(front => id, b" " => place; b" "; ending(word, answer).as_bytes(); b"\n")
-}
-
-/// Writes the line of a `break` command.
-pub(crate) fn break_text<A: Allocator>(
-    id: u16,
-    place: u16,
-    answer: Result<(), DebugFault>,
-    output: &mut Vec<u8, A>,
-) -> Result<(), AllocError>
-    ensures { OnOk result (output.new.items ≡ break_line id place answer) }
-{
-    let text = place_text(b"break ", id, place, "set", answer);
-    write_text(&text, output)
-}
-
-/// Writes the line of an `unbreak` command.
-pub(crate) fn unbreak_text<A: Allocator>(
-    id: u16,
-    place: u16,
-    answer: Result<(), DebugFault>,
-    output: &mut Vec<u8, A>,
-) -> Result<(), AllocError>
-    ensures { OnOk result (output.new.items ≡ unbreak_line id place answer) }
-{
-    let text = place_text(b"unbreak ", id, place, "cleared", answer);
-    write_text(&text, output)
+    let end = ending(word, answer).as_bytes();
+    write_text(
+        &text_of!(front => id, b" " => place; b" "; end; b"\n"),
+        output,
+    )
 }
 
 /// Writes the line of a `trace` command that sets or clears a trace flag.
