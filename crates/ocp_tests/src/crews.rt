@@ -3,7 +3,9 @@
 ghost use Rattle.std.specs.Prelude.{◌≤◌};
 ghost use Rattle.ocp_seats.specs.Seats.{Opens};
 
-use crate::packets::{STATUS, activate_loop, is_done, is_taken, on_loops, suspend_loop, with_loops};
+use crate::packets::{
+    STATUS, activate_loop, is_done, is_taken, on_loops, suspend_loop, with_loops,
+};
 use ocp_core::replay_one;
 use ocp_slices::{
     CommitOutcome, Engine, Gate, Naming, Open, Seat, SharedEngine, StepOutcome, work,
@@ -223,23 +225,6 @@ fn calls<L: Naming, R: Wait>(rt: &R, alloc: Global, shared: &SharedEngine<L>, se
     }
 }
 
-// A call of the debugger, or an instruction: whether it is answered.
-fn is_debugged<L: Naming, R: Wait>(
-    rt: &R,
-    shared: &SharedEngine<L>,
-    seat: &mut Seat<L>,
-    kind: u16,
-    id: u16,
-) -> bool {
-    match kind {
-        0 => shared.set_break(rt, seat, id, 2).is_ok(),
-        2 => shared.trace(rt, seat, id, true).is_ok(),
-        4 => shared.clear_break(rt, seat, id, 2).is_ok(),
-        5 => shared.trace(rt, seat, id, false).is_ok(),
-        _ => shared.step(rt, seat, id) == StepOutcome::Ran,
-    }
-}
-
 // A call of one of ten kinds: whether it is answered.
 fn is_called<L: Naming, R: Wait>(
     rt: &R,
@@ -249,13 +234,18 @@ fn is_called<L: Naming, R: Wait>(
     kind: u16,
     id: u8,
 ) -> bool {
+    let procedure = u16::from(id);
     match kind {
+        0 => shared.set_break(rt, seat, procedure, 2).is_ok(),
         1 => is_taken(rt, alloc, shared, seat, &STATUS),
-        3 => shared.slice(rt, seat, u16::from(id), 10).count > 0,
+        2 => shared.trace(rt, seat, procedure, true).is_ok(),
+        3 => shared.slice(rt, seat, procedure, 10).count > 0,
+        4 => shared.clear_break(rt, seat, procedure, 2).is_ok(),
+        5 => shared.trace(rt, seat, procedure, false).is_ok(),
         6 => is_taken(rt, alloc, shared, seat, &activate_loop(id)),
         7 => is_taken(rt, alloc, shared, seat, &suspend_loop(id)),
         8 => shared.drain(rt, alloc, seat, 0).is_ok(),
-        _ => is_debugged(rt, shared, seat, kind, u16::from(id)),
+        _ => shared.step(rt, seat, procedure) == StepOutcome::Ran,
     }
 }
 

@@ -105,7 +105,7 @@ pub(crate) fn with_loops(alloc: Global, capacity: u32, count: u8) -> Option<Engi
 
 // What a function answers under a new brand, on a new engine with loops; `$none` if there is none.
 macro_rules! on_loops {
-    ($rt:ident, $alloc:ident, $capacity:expr, $count:expr, $run:ident, $none:expr) => {
+    ($rt:expr, $alloc:expr, $capacity:expr, $count:expr, $run:ident, $none:expr) => {
         match with_loops($alloc, $capacity, $count) {
             Some(engine) => {
                 let _length = engine.journal().len();
@@ -115,6 +115,7 @@ macro_rules! on_loops {
         }
     };
 }
+
 pub(crate) use on_loops;
 
 // Whether a procedure is shown as a loop at its end.
