@@ -3,7 +3,7 @@
 ghost use Rattle.std.specs.Prelude.{◌≡◌, ◌≤◌, length, Ok, Err, OnOk};
 ghost use Rattle.ocp_console.specs.Texts.{ending_text, place_line, switch_line, memory_line};
 
-use crate::text::{Text, text_of, write_text};
+use crate::text::{Text, push_parts, write_text};
 use ocp_debug::{DebugFault, fault_name};
 use std::alloc::{AllocError, Allocator};
 
@@ -33,10 +33,9 @@ pub(crate) fn place_text<A: Allocator>(
         (output.new.items ≡ place_line front.now id place (ending_text word.now answer)) }
 {
     let end = ending(word, answer).as_bytes();
-    write_text(
-        &text_of!(front => id, b" " => place; b" "; end; b"\n"),
-        output,
-    )
+    let mut text = Text::new();
+    push_parts!(text; front => id, b" " => place; b" "; end; b"\n");
+    write_text(&text, output)
 }
 
 /// Writes the line of a `trace` command that sets or clears a trace flag.
@@ -49,10 +48,9 @@ pub(crate) fn switch_text<A: Allocator>(
     ensures { OnOk result (output.new.items ≡ switch_line id on answer) }
 {
     let word = ending(if on { "on" } else { "off" }, answer);
-    write_text(
-        &text_of!(b"trace " => id; b" "; word.as_bytes(); b"\n"),
-        output,
-    )
+    let mut text = Text::new();
+    push_parts!(text; b"trace " => id; b" "; word.as_bytes(); b"\n");
+    write_text(&text, output)
 }
 
 /// Writes the line of a procedure's octets from an address on.
@@ -64,7 +62,8 @@ pub(crate) fn octets_text<A: Allocator + Copy>(
 ) -> Result<(), AllocError>
     ensures { OnOk result (output.new.items ≡ memory_line id address (Ok octets.now)) }
 {
-    let mut text = text_of!(b"mem " => id; b" 0x");
+    let mut text = Text::new();
+    push_parts!(text; b"mem " => id; b" 0x");
     text.push_hex(address);
     text.push_all(b" ");
     write_text(&text, output)?;
@@ -83,6 +82,7 @@ pub(crate) fn no_octets_text<A: Allocator>(
 ) -> Result<(), AllocError>
     ensures { OnOk result (output.new.items ≡ memory_line id address (Err fault)) }
 {
-    let text = text_of!(b"mem " => id; b" "; fault_name(fault).as_bytes(); b"\n");
+    let mut text = Text::new();
+    push_parts!(text; b"mem " => id; b" "; fault_name(fault).as_bytes(); b"\n");
     write_text(&text, output)
 }

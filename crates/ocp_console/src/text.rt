@@ -7,20 +7,20 @@ use std::alloc::{AllocError, Allocator};
 /// A line, or the front of one. Without pairs of hexadecimal digits it has at most 64 octets.
 pub(crate) type Text = bpf_canonical::Text<64>;
 
-/// A text of pieces and numbers in turn, and of the pieces after them.
-macro_rules! text_of {
-    ($($front:expr => $number:expr),* $(; $end:expr)*) => {{
-        let mut text = Text::new();
-        $(
-            text.push_all($front);
-            text.push_integer($number);
-        )*
-        $(text.push_all($end);)*
-        text
-    }};
+/// Appends pieces and numbers in turn to a text, and then pieces.
+macro_rules! push_parts {
+    ($text:ident; $($front:expr => $number:expr),* $(; $end:expr)*) => {
+        {
+            $(
+                $text.push_all($front);
+                $text.push_integer($number);
+            )*
+            $($text.push_all($end);)*
+        }
+    };
 }
 
-pub(crate) use text_of;
+pub(crate) use push_parts;
 
 /// Writes the text to a vector, in place of what it held.
 pub(crate) fn write_text<A: Allocator>(

@@ -5,7 +5,7 @@ ghost use Rattle.ocp_world.specs.After.{Requested};
 ghost use Rattle.ocp_console.specs.Answering.{answer_text};
 ghost use Rattle.ocp_console.specs.Texts.{report_line, discard_name, step_line, step_end_text, round_line, pool_line, put_ending, put_line, journal_line, work_line};
 
-use crate::text::{Text, text_of, write_text};
+use crate::text::{Text, push_parts, write_text};
 use ocp_core::{EngineFault, PutFault, Reports, Round, Slice};
 use ocp_debug::{push_outcome, push_spaced_word};
 use pus_fields::{Discard, read_tm};
@@ -22,9 +22,10 @@ fn push_report<A: Allocator + Copy>(
         return Ok(());
     };
     let count = tm.count().number();
-    let front = text_of!(
-        b"tm " => tm.service(), b" " => tm.subtype(), b" seq " => count, b" dest " => tm.destination();
-        b" data "
+    let mut front = Text::new();
+    push_parts!(
+        front; b"tm " => tm.service(), b" " => tm.subtype(), b" seq " => count,
+        b" dest " => tm.destination(); b" data "
     );
     output.extend_from_slice(front.as_slice())?;
     let payload = hex::encode(*output.allocator(), tm.payload())?;
@@ -93,7 +94,8 @@ pub(crate) fn step_text<A: Allocator>(
 ) -> Result<(), AllocError>
     ensures { OnOk result (output.new.items ≡ step_line id slice.count slice.last) }
 {
-    let mut text = text_of!(b"step " => id, b" " => slice.count; b" ");
+    let mut text = Text::new();
+    push_parts!(text; b"step " => id, b" " => slice.count; b" ");
     push_outcome(&mut text, slice.last);
     text.push_all(b"\n");
     write_text(&text, output)
@@ -119,7 +121,8 @@ pub(crate) fn round_text<A: Allocator>(
 ) -> Result<(), AllocError>
     ensures { OnOk result (output.new.items ≡ round_line id round) }
 {
-    let mut text = text_of!(b"round " => id, b" " => round.count; b" ");
+    let mut text = Text::new();
+    push_parts!(text; b"round " => id, b" " => round.count; b" ");
     push_outcome(&mut text, round.last);
     push_step_end(&mut text, round.step);
     text.push_all(b"\n");
@@ -147,10 +150,9 @@ pub(crate) fn put_text<A: Allocator>(
     ensures { OnOk result (output.new.items ≡ put_line index value answer) }
 {
     let end = put_ending(answer).as_bytes();
-    write_text(
-        &text_of!(b"put " => index, b" " => value; b" "; end; b"\n"),
-        output,
-    )
+    let mut text = Text::new();
+    push_parts!(text; b"put " => index, b" " => value; b" "; end; b"\n");
+    write_text(&text, output)
 }
 
 /// Writes the line of a word of the pool.
@@ -161,7 +163,8 @@ pub(crate) fn pool_text<A: Allocator>(
 ) -> Result<(), AllocError>
     ensures { OnOk result (output.new.items ≡ pool_line index word) }
 {
-    let mut text = text_of!(b"pool " => index);
+    let mut text = Text::new();
+    push_parts!(text; b"pool " => index);
     match word {
         None => text.push_all(b" BadPoolIndex\n"),
         Some(word) => {
@@ -179,12 +182,16 @@ pub(crate) fn journal_text<A: Allocator>(
 ) -> Result<(), AllocError>
     ensures { OnOk result (output.new.items ≡ journal_line events) }
 {
-    write_text(&text_of!(b"journal " => events; b"\n"), output)
+    let mut text = Text::new();
+    push_parts!(text; b"journal " => events; b"\n");
+    write_text(&text, output)
 }
 
 /// The line of workers whose work was closed.
 pub(crate) fn work_text(workers: u32) -> Text
     ensures { result ≡ work_line workers }
 {
-    text_of!(b"work " => workers; b" closed\n")
+    let mut text = Text::new();
+    push_parts!(text; b"work " => workers; b" closed\n");
+    text
 }

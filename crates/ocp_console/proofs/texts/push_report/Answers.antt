@@ -7,7 +7,7 @@ use Rattle.ocp_console.proofs.texts.push_report.Goals as goal
 pub returns : goal.returns
 returns g c =
     let tm = c.in-Ok.tm in
-    let one : c.push_all.new.self ≡ codes "tm " = rw c.new-text.ensures at c.push_all.ensures.items in
+    let one : c.push_all.new.self ≡ codes "tm " = rw c.new-front.ensures at c.push_all.ensures.items in
     let two : c.push_all-2.new.self ≡ (codes "tm " ++ decimal tm.service) ++ codes " " = cc in
     let three : c.push_all-3.new.self ≡ (c.push_all-2.new.self ++ decimal tm.subtype) ++ codes " seq " = cc in
     let four : c.push_all-4.new.self ≡ (c.push_all-3.new.self ++ decimal tm.count) ++ codes " dest " = cc in
