@@ -56,20 +56,20 @@ pub enum Stem {
 /// The words of the classes.
 macro_rules! widths {
     ($way:ident $value:tt) => {
-        $way!($value, Width { W32 b"32", W64 b"64" })
+        $way!($value, Width: { W32 b"32", W64 b"64" })
     };
 }
 
 /// The words that a class follows.
 macro_rules! stems {
     ($way:ident $value:tt) => {
-        $way!($value,
-            Stem { Negate b"neg", MoveExtended b"movsx" }
+        $way!($value, Stem:
             Arithmetic(Operation) {
                 Add b"add", Sub b"sub", Mul b"mul", Div b"div", SignedDiv b"sdiv", Or b"or",
                 And b"and", Lsh b"lsh", Rsh b"rsh", Mod b"mod", SignedMod b"smod", Xor b"xor",
                 Mov b"mov", Arsh b"arsh"
             }
+            { Negate b"neg", MoveExtended b"movsx" }
             JumpIf(Comparison) {
                 Equal b"jeq", Greater b"jgt", GreaterOrEqual b"jge", Set b"jset",
                 NotEqual b"jne", SignedGreater b"jsgt", SignedGreaterOrEqual b"jsge",
@@ -81,33 +81,39 @@ macro_rules! stems {
 /// The mnemonics that have no class.
 macro_rules! plain {
     ($way:ident $value:tt) => {
-        $way!($value,
-            Mnemonic {
-                LoadWide b"lddw", Jump b"ja", LongJump b"ja32", Call b"call", Exit b"exit"
-            }
+        $way!($value, Mnemonic:
+            ByteOrder(Order) { Little b"le", Big b"be", Swap b"swap" }
+            { LoadWide b"lddw", Jump b"ja", LongJump b"ja32", Call b"call", Exit b"exit" }
             Load(Size) { Word b"ldxw", Half b"ldxh", Byte b"ldxb", Double b"ldxdw" }
             LoadExtended(SignedSize) { Word b"ldxsw", Half b"ldxsh", Byte b"ldxsb" }
             Store(Size) { Word b"stxw", Half b"stxh", Byte b"stxb", Double b"stxdw" }
-            StoreImmediate(Size) { Word b"stw", Half b"sth", Byte b"stb", Double b"stdw" }
-            ByteOrder(Order) { Little b"le", Big b"be", Swap b"swap" })
+            StoreImmediate(Size) { Word b"stw", Half b"sth", Byte b"stb", Double b"stdw" })
     };
 }
 
 /// The rows of a table of words, each with its meaning.
 macro_rules! rows {
-    ((), $of:ident { $($alone:ident $word:literal),* }
-        $($kind:ident($part:ident) { $($name:ident $its:literal),* })*) => {
-        [$(($word, $of::$alone),)* $($(($its, $of::$kind($part::$name)),)*)*]
+    ((), $of:ident: $($first:ident($its:ident) { $($name:ident $known:literal),* })*
+        { $($alone:ident $word:literal),* }
+        $($kind:ident($part:ident) { $($inner:ident $text:literal),* })*) => {
+        [
+            $($(($known, $of::$first($its::$name)),)*)*
+            $(($word, $of::$alone),)*
+            $($(($text, $of::$kind($part::$inner)),)*)*
+        ]
     };
 }
 
 /// From the meaning of a word to the word. Other meanings have the arms after the value.
 macro_rules! word {
-    (($value:ident $($arms:tt)*), $of:ident { $($alone:ident $word:literal),* }
-        $($kind:ident($part:ident) { $($name:ident $its:literal),* })*) => {
+    (($value:ident $($arms:tt)*), $of:ident:
+        $($first:ident($its:ident) { $($name:ident $known:literal),* })*
+        { $($alone:ident $word:literal),* }
+        $($kind:ident($part:ident) { $($inner:ident $text:literal),* })*) => {
         match $value {
+            $($($of::$first($its::$name) => $known,)*)*
             $($of::$alone => $word,)*
-            $($($of::$kind($part::$name) => $its,)*)*
+            $($($of::$kind($part::$inner) => $text,)*)*
             $($arms)*
         }
     };
