@@ -27,12 +27,13 @@ pub fn check_length(code: &[u8]) -> Result<(), LoadFault>
         ((profile : Profile) →
         load_result profile code.now
         ≡ lines_result (read_slots profile code.now (length code.now / 8))) }
-    ensures err { IfErr result
-        (λ fault. (profile : Profile) → load_result profile code.now ≡ Err fault) }
-    ensures first { IfErr result
-        (λ fault. (profile : Profile) → IsFirstFault profile code.now fault) }
+    ensures err { (profile : Profile) →
+        IfErr result (λ fault. load_result profile code.now ≡ Err fault) }
+    ensures refused { (profile : Profile) → OnErr result (¬ IsAdmitted profile code.now) }
+    ensures first { (profile : Profile) → IfErr result (IsFirstFault profile code.now) }
     ensures memory { result ≡ Err Memory → ⊥ }
 {
+    faults_are_of_images_that_may_not_be_run();
     if code.is_empty() {
         return Err(LoadFault::EmptyCode);
     }
