@@ -72,6 +72,18 @@ impl<const ROOM: usize> Text<ROOM> {
         self.push_all(b", ");
     }
 
+    /// Appends the operands of a load.
+    #[inline(always)]
+    fn push_load(&mut self, dst: Reg, base: Reg, offset: i16)
+        requires { length self.old + 17 ≤ ROOM }
+        ensures items { self.new ≡ self.old
+            ++ (codes " " ++ register dst ++ codes ", " ++ place_text base offset) }
+        ensures len { length self.new ≤ length self.old + 17 }
+    {
+        self.push_first_register(dst);
+        self.push_place(base, offset);
+    }
+
     /// Appends the operands of an instruction, after a space.
     #[tactic(auto, using(crate::proofs::Rooms::room_least, crate::proofs::Rooms::short_distance, crate::proofs::Rooms::long_distance))]
     fn push_operands(&mut self, line: &Line)
@@ -112,16 +124,13 @@ impl<const ROOM: usize> Text<ROOM> {
                 base,
                 offset,
                 ..
-            }
-            | Line::LoadExtended {
+            } => self.push_load(dst, base, offset),
+            Line::LoadExtended {
                 dst,
                 base,
                 offset,
                 ..
-            } => {
-                self.push_first_register(dst);
-                self.push_place(base, offset);
-            }
+            } => self.push_load(dst, base, offset),
             Line::StoreImmediate {
                 base,
                 offset,

@@ -1,24 +1,14 @@
-use Rattle.std.proofs.Common.{◌≡◌, ◌++◌, ◌∙◌, ◌⊎◌, inl, inr, List, ℕ, ℤ, sym, ap, append_assoc, rules, w16, SFits, to_z-of_z}
+use Rattle.std.proofs.Common.{◌≡◌, ◌++◌, ◌∙◌, List, ℕ, sym, ap, append_assoc, rules}
 use Rattle.std.specs.Prelude.{codes}
 use Rattle.std.specs.Fmt.{decimal, signed_decimal}
 use Rattle.bpf_types.specs.declared.line.Line.{Line}
-use Rattle.bpf_types.specs.declared.line.Line.TheVariants as line
-use Rattle.bpf_types.specs.declared.line.Size.{Size}
-use Rattle.bpf_types.specs.declared.line.SignedSize.{SignedSize}
 use Rattle.bpf_types.specs.Line.{swap_width_bits, extension_bits}
 use Rattle.bpf_canonical.specs.Canonical.{operands_text, operand_text, place_text, register, with_sign, hex_digits}
 use Rattle.bpf_canonical.proofs.text.Text.push_operands.Goals as goal
-use Rattle.bpf_canonical.proofs.text.Text.push_operands.Goals.{in-Load, in-Load-2}
 
 -- what is written for a line of this form
 of_line : {new : List ℕ} (old : List ℕ) {l m : Line} → l ≡ m → new ≡ old ++ operands_text m → new ≡ old ++ operands_text l
 of_line old is e = e ∙ ap (λ k. old ++ operands_text k) (sym is)
-
--- what is written for a load
-of_load : {new : List ℕ} (old : List ℕ) {l : Line} (dst base : ℕ) (offset : ℤ) → ((size : Size) × (l ≡ line.Load size dst base offset)) ⊎ ((size : SignedSize) × (l ≡ line.LoadExtended size dst base offset))
-    → new ≡ old ++ (codes " " ++ register dst ++ codes ", " ++ place_text base offset) → new ≡ old ++ operands_text l
-of_load old dst base offset (inl plain) e = of_line old plain.1 e
-of_load old dst base offset (inr extended) e = of_line old extended.1 e
 
 -- what two calls write
 twice : {mid new : List ℕ} (old a b : List ℕ) → mid ≡ old ++ a → new ≡ mid ++ b → new ≡ old ++ (a ++ b)
@@ -56,14 +46,13 @@ returns-in-LoadWide-clause-items g c =
 
 pub returns-in-Load-clause-items : goal.returns-in-Load-clause-items
 returns-in-Load-clause-items g c =
-    let load = c.in-Load-1 in
-    let old = c.args.self.now in
-    let dst = codes " " ++ register load.dst ++ codes ", " in
-    let written = twice old dst _ c.push_first_register-in-Load.ensures.items c.push_place.ensures.items in
-    elim load.branch [
-      | in-Load w ↦ let fits : SFits w16 w.in-Load.offset = search rules in of_load old w.in-Load.dst w.in-Load.base w.in-Load.offset w.in-Load.is (written ∙ (λ i. old ++ (codes " " ++ register (w.dst-is i) ++ codes ", " ++ place_text (w.base-is i) (w.offset-is i))) ∙ ap (λ (z : ℤ). old ++ (codes " " ++ register w.in-Load.dst ++ codes ", " ++ place_text w.in-Load.base z)) (to_z-of_z fits))
-      | in-Load-2 w ↦ let fits : SFits w16 w.in-Load.offset = search rules in of_load old w.in-Load.dst w.in-Load.base w.in-Load.offset w.in-Load.is (written ∙ (λ i. old ++ (codes " " ++ register (w.dst-is i) ++ codes ", " ++ place_text (w.base-is i) (w.offset-is i))) ∙ ap (λ (z : ℤ). old ++ (codes " " ++ register w.in-Load.dst ++ codes ", " ++ place_text w.in-Load.base z)) (to_z-of_z fits))
-    ]
+    let load = c.in-Load in
+    let written : c.push_load.new.self ≡ c.args.self.now ++ (codes " " ++ register load.dst ++ codes ", " ++ place_text load.base load.offset) = search rules in of_line c.args.self.now load.is written
+
+pub returns-in-LoadExtended-clause-items : goal.returns-in-LoadExtended-clause-items
+returns-in-LoadExtended-clause-items g c =
+    let load = c.in-LoadExtended in
+    let written : c.push_load-in-LoadExtended.new.self ≡ c.args.self.now ++ (codes " " ++ register load.dst ++ codes ", " ++ place_text load.base load.offset) = search rules in of_line c.args.self.now load.is written
 
 pub returns-in-JumpIf-clause-items : goal.returns-in-JumpIf-clause-items
 returns-in-JumpIf-clause-items g c =
