@@ -1,5 +1,5 @@
 -- The instruction that the fields of one slot lead to is spelled by them.
-use Rattle.std.proofs.Common.{◌≡◌, ℕ, ℤ, pos, negsuc, ◌/◌, ◌%◌, ◌<◌, ◌≤◌, List, [], ◌∷◌, Bool, true, false, Option, Some, None, refl, sym, ap, ◌∙◌, subst, arith}
+use Rattle.std.proofs.Common.{◌≡◌, ℕ, ℤ, pos, negsuc, ◌+◌, ◌*◌, ◌/◌, ◌%◌, ◌<◌, ◌≤◌, List, [], ◌∷◌, Bool, true, false, Option, Some, None, refl, sym, ap, ◌∙◌, subst, arith}
 use Rattle.std.specs.Prelude.{◌==◌, if◌then◌else◌, not, ◌&&◌, ◌||◌, nat_lt}
 use Rattle.std.specs.Bool.{then_some}
 use Rattle.std.specs.Ordering.{int_eq}
@@ -233,23 +233,23 @@ jump width f l false false false false false p q r s t class h = jump_if width f
 jumps : (width : Width) (f : Fields) (l : Line) → f.opcode % 8 ≡ jump_class width → jump_at width f ≡ Some l → first_slot l ≡ f
 jumps width f l class h = jump width f l _ _ _ _ _ refl refl refl refl refl class h
 
+-- a load of a mode, whose size is one of several
+load_row : {S : Type 0} (row : S → Line) (code : S → ℕ) (all : List S) (mode : ℕ) (f : Fields) (l : Line) → ((f.opcode / 32 == mode) && no_imm f) ≡ true → f.opcode % 8 ≡ 1 →
+    ((s : S) → first_slot (row s) ≡ record { opcode = code s * 8 + (mode * 32 + 1); dst = f.dst; src = f.src; offset = f.offset; imm = pos 0 }) →
+    (find (λ s. f.opcode / 8 % 4 == code s) all >>= λ s. Some (row s)) ≡ Some l → first_slot l ≡ f
+load_row row code all mode f l test class is h =
+    let t = both (f.opcode / 32 == mode) (no_imm f) test in
+    let a = bind_some (find (λ s. f.opcode / 8 % 4 == code s) all) (λ s. Some (row s)) l h in
+    let size = equal (f.opcode / 8 % 4) (code a.0) (found (λ s. f.opcode / 8 % 4 == code s) all a.0 a.1) in
+    let of_mode = equal (f.opcode / 32) mode t.0 in
+    subst (λ l. first_slot l ≡ f) (same_Some (row a.0) l a.2)
+    (is a.0 ∙ same_fields (record { opcode = code a.0 * 8 + (mode * 32 + 1); dst = f.dst; src = f.src; offset = f.offset; imm = pos 0 }) f (omega (arith, size, of_mode, class)) refl refl refl (sym (equal_int f.imm (pos 0) t.1)))
+
 load : (f : Fields) (l : Line) (a b : Bool) → ((f.opcode / 32 == 3) && no_imm f) ≡ a → ((f.opcode / 32 == 4) && no_imm f) ≡ b → f.opcode % 8 ≡ 1 →
     (if a then (size_at (f.opcode / 8 % 4) >>= λ size. Some (line.Load size f.dst f.src f.offset))
     else if b then (signed_size_at (f.opcode / 8 % 4) >>= λ size. Some (line.LoadExtended size f.dst f.src f.offset)) else None) ≡ Some l → first_slot l ≡ f
-load f l true b p q class h =
-    let t = both (f.opcode / 32 == 3) (no_imm f) p in
-    let a = bind_some (size_at (f.opcode / 8 % 4)) (λ size. Some (line.Load size f.dst f.src f.offset)) l h in
-    let size = equal (f.opcode / 8 % 4) (size_code a.0) (found (λ s. f.opcode / 8 % 4 == size_code s) sizes a.0 a.1) in
-    let mode = equal (f.opcode / 32) 3 t.0 in
-    subst (λ l. first_slot l ≡ f) (same_Some (line.Load a.0 f.dst f.src f.offset) l a.2)
-    (same_fields (first_slot (line.Load a.0 f.dst f.src f.offset)) f (omega (arith, size, mode, class)) refl refl refl (sym (equal_int f.imm (pos 0) t.1)))
-load f l false true p q class h =
-    let t = both (f.opcode / 32 == 4) (no_imm f) q in
-    let a = bind_some (signed_size_at (f.opcode / 8 % 4)) (λ size. Some (line.LoadExtended size f.dst f.src f.offset)) l h in
-    let size = equal (f.opcode / 8 % 4) (signed_size_code a.0) (found (λ s. f.opcode / 8 % 4 == signed_size_code s) signed_sizes a.0 a.1) in
-    let mode = equal (f.opcode / 32) 4 t.0 in
-    subst (λ l. first_slot l ≡ f) (same_Some (line.LoadExtended a.0 f.dst f.src f.offset) l a.2)
-    (same_fields (first_slot (line.LoadExtended a.0 f.dst f.src f.offset)) f (omega (arith, size, mode, class)) refl refl refl (sym (equal_int f.imm (pos 0) t.1)))
+load f l true b p q class h = load_row (λ size. line.Load size f.dst f.src f.offset) size_code sizes 3 f l p class (λ size. refl) h
+load f l false true p q class h = load_row (λ size. line.LoadExtended size f.dst f.src f.offset) signed_size_code signed_sizes 4 f l q class (λ size. refl) h
 load f l false false p q class h = cc
 
 store_row : (f : Fields) (l : Line) (s : Size) (a b : Bool) → f.opcode / 32 ≡ 3 → f.opcode / 8 % 4 ≡ size_code s → ((f.opcode % 8 == 2) && no_src f) ≡ a → ((f.opcode % 8 == 3) && no_imm f) ≡ b →
