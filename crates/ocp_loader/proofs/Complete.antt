@@ -1,5 +1,5 @@
 -- An admitted image is judged to be fine.
-use Rattle.std.proofs.Common.{◌≡◌, ℕ, zero, suc, ◌+◌, ◌-◌, ◌*◌, ◌/◌, ◌%◌, ◌≤◌, ◌<◌, ◌⊎◌, inl, inr, Bool, true, false, not, List, [], ◌∷◌, ◌++◌, length, drop, Option, Some, None, Result, Ok, Err, refl, ap, sym, ◌∙◌, subst, arith, length-append, append_assoc}
+use Rattle.std.proofs.Common.{◌≡◌, ℕ, zero, suc, ◌+◌, ◌-◌, ◌*◌, ◌/◌, ◌%◌, ◌≤◌, ◌<◌, Bool, true, false, not, List, [], ◌∷◌, ◌++◌, length, drop, Option, Some, None, Result, Ok, Err, refl, ap, sym, ◌∙◌, subst, arith, length-append, append_assoc}
 use Rattle.std.specs.Prelude.{if◌then◌else◌, ◌==◌, nat_lt}
 use Rattle.std.specs.List.{All}
 use Rattle.std.proofs.lemmas.Bool.Decides.{nat_tests}
@@ -10,7 +10,7 @@ use Rattle.bpf_types.specs.Line.{is_wide, spelling, WritesFramePointer}
 use Rattle.bpf_decode.specs.Decoding.{BeginsWith}
 use Rattle.bpf_decode.specs.Mirror.Decoding.{decode_result}
 use Rattle.ocp_loader.specs.declared.fault.LoadFault.{LoadFault}
-use Rattle.ocp_loader.specs.declared.fault.LoadFault.TheVariants.{EmptyCode, RaggedCode, TooLong, BadCall, FallsOffEnd, Memory}
+use Rattle.ocp_loader.specs.declared.fault.LoadFault.TheVariants.{EmptyCode, RaggedCode, TooLong, BadCall, FallsOffEnd}
 use Rattle.bpf_decode.specs.Images.{image_of}
 use Rattle.ocp_loader.specs.Image.{line_in, second_of, slots_of, by_slot, target_of, calls_well}
 use Rattle.ocp_loader.specs.Mirror.Reading.{line_or_fault, reading_with_line, read_slot, read_slots}
@@ -108,7 +108,3 @@ complete profile decodes image lines a = complete_by_slot profile decodes image 
 -- an image with a fault is not admitted
 pub not_admitted : (profile : Profile) → AreDecoded → (image : List ℕ) (fault : LoadFault) → load_result profile image ≡ Err fault → IsAdmitted profile image → ⊥
 not_admitted profile decodes image fault h a = let ok : load_result profile image ≡ Ok (by_slot a.lines) = complete profile decodes image a.lines a.admitted in absurd cc
-
-pub refused : (profile : Profile) (image : List ℕ) (fault : LoadFault) → (load_result profile image ≡ Err fault → ¬ IsAdmitted profile image) → (fault ≡ Memory) ⊎ (load_result profile image ≡ Err fault) → (fault ≡ Memory) ⊎ ¬ IsAdmitted profile image
-refused profile image fault never (inl e) = inl e
-refused profile image fault never (inr e) = inr (never e)
